@@ -1,0 +1,80 @@
+-- The front of a text, and the pieces one by one.
+use Rattle.std.proofs.Common.{◌≡◌, ◌≢◌, ◌<◌, ◌≤◌, ℕ, zero, suc, List, [], ◌∷◌, length, take, drop, nat_lt, refl, ap, sym, subst, inl, inr, arith, length-drop}
+use Rattle.std.proofs.lemmas.Bool.{cases_lt, cond-true, cond-false, lt-ltb, le-ltb}
+use Rattle.std.proofs.lemmas.List.Sums.{prefix_len-le-length}
+use Rattle.ansi_scan.specs.declared.items.Kind.{Kind}
+use Rattle.ansi_scan.specs.declared.items.Kind.TheVariants.{Text}
+use Rattle.ansi_scan.specs.Sequences.{Piece, is_plain}
+use Rattle.ansi_scan.specs.Pieces.{text_len, at_escape, front, first_pieces, pieces}
+
+-- where the text does not begin with an ESC
+pub front-text : (bytes : List ℕ) → 0 < text_len bytes → front bytes ≡ (Text, text_len bytes)
+unfolding front
+front-text bytes some = cond-true (nat_lt 0 (text_len bytes)) (Text, text_len bytes) (at_escape bytes) (lt-ltb 0 (text_len bytes) some)
+
+-- where it does, or is empty
+pub front-escape : (bytes : List ℕ) → text_len bytes ≡ 0 → front bytes ≡ at_escape bytes
+unfolding front
+front-escape bytes none = cond-false (nat_lt 0 (text_len bytes)) (Text, text_len bytes) (at_escape bytes) (le-ltb 0 (text_len bytes) (omega arith))
+
+-- a piece that begins with an ESC has a byte, is no longer than the text, and is no Text piece
+pub at_escape-some : (bytes : List ℕ) → 0 < (at_escape bytes).1
+unfolding at_escape
+at_escape-some bytes = omega arith
+
+pub at_escape-in_range : (bytes : List ℕ) → 0 < length bytes → (at_escape bytes).1 ≤ length bytes
+unfolding at_escape
+at_escape-in_range bytes some = omega arith
+
+pub at_escape-kind : (bytes : List ℕ) → (at_escape bytes).0 ≢ Text
+unfolding at_escape
+at_escape-kind bytes same = cc
+
+-- the first piece has a byte
+pub front-some : (bytes : List ℕ) → 0 < (front bytes).1
+front-some bytes =
+    let Some_ : (Kind × ℕ) → Type 0 = λ f. 0 < f.1 in
+    elim (cases_lt 0 (text_len bytes)) [
+      | inl some ↦ subst Some_ (sym (front-text bytes some)) some
+      | inr none ↦ subst Some_ (sym (front-escape bytes (omega arith))) (at_escape-some bytes)
+    ]
+
+-- the first piece is no longer than the text
+pub front-in_range : (bytes : List ℕ) → 0 < length bytes → (front bytes).1 ≤ length bytes
+front-in_range bytes nonempty =
+    let Fits_ : (Kind × ℕ) → Type 0 = λ f. f.1 ≤ length bytes in
+    elim (cases_lt 0 (text_len bytes)) [
+      | inl some ↦ subst Fits_ (sym (front-text bytes some)) (prefix_len-le-length is_plain bytes)
+      | inr none ↦ subst Fits_ (sym (front-escape bytes (omega arith))) (at_escape-in_range bytes nonempty)
+    ]
+
+-- the first piece, as `first_pieces` makes it
+abbrev pub first_piece : List ℕ → Piece
+first_piece bytes = record { kind = (front bytes).0; bytes = take (front bytes).1 bytes }
+
+-- what is left behind the first piece
+abbrev pub behind_first : List ℕ → List ℕ
+behind_first bytes = drop (front bytes).1 bytes
+
+-- fewer bytes are left
+pub length-behind_first : (b : ℕ) (bs : List ℕ) (n : ℕ) → length (b ∷ bs) ≤ suc n → length (behind_first (b ∷ bs)) ≤ n
+length-behind_first b bs n enough = omega (arith, length-drop (front (b ∷ bs)).1 (b ∷ bs), front-some (b ∷ bs))
+
+-- more turns than bytes change nothing
+pub first_pieces-enough : (n m : ℕ) (bytes : List ℕ) → length bytes ≤ n → length bytes ≤ m → first_pieces n bytes ≡ first_pieces m bytes
+unfolding first_pieces
+first_pieces-enough zero zero bytes in_n in_m = refl
+first_pieces-enough zero (suc m) [] in_n in_m = refl
+first_pieces-enough zero (suc m) (b ∷ bs) in_n in_m = absurd (omega arith)
+first_pieces-enough (suc n) zero [] in_n in_m = refl
+first_pieces-enough (suc n) zero (b ∷ bs) in_n in_m = absurd (omega arith)
+first_pieces-enough (suc n) (suc m) [] in_n in_m = refl
+first_pieces-enough (suc n) (suc m) (b ∷ bs) in_n in_m =
+    ap (λ ps. first_piece (b ∷ bs) ∷ ps) (first_pieces-enough n m (behind_first (b ∷ bs)) (length-behind_first b bs n in_n) (length-behind_first b bs m in_m))
+
+-- the pieces are the first one and those of what is left
+pub pieces-step : (bytes : List ℕ) → 0 < length bytes → pieces bytes ≡ first_piece bytes ∷ pieces (behind_first bytes)
+unfolding pieces first_pieces
+pieces-step [] nonempty = absurd (omega arith)
+pieces-step (b ∷ bs) nonempty =
+    ap (λ ps. first_piece (b ∷ bs) ∷ ps) (first_pieces-enough (length bs) (length (behind_first (b ∷ bs))) (behind_first (b ∷ bs)) (length-behind_first b bs (length bs) (omega arith)) (omega arith))

@@ -1,0 +1,21 @@
+-- A step takes the front off what is left.
+use Rattle.std.proofs.Common.{rules, length, ◌<◌, ◌≡◌, arith}
+use Rattle.ansi_scan.proofs.Stepping.{placed-none, placed-step}
+use Rattle.ansi_scan.proofs.items.ScanIterator.next.Goals as goal
+
+pub returns-then-is_empty-clause-steps : goal.returns-then-is_empty-clause-steps
+returns-then-is_empty-clause-steps c =
+    let empty : length c.args.self.now.rest.now ≡ 0 = grind arith in
+    let none = placed-none c.args.self.now.place c.args.self.now.rest.now empty in
+    (none, none)
+
+pub returns-clause-steps : goal.returns-clause-steps
+returns-clause-steps c =
+    let nonempty : 0 < length c.args.self.now.rest.now = omega arith in
+    placed-step c.args.self.now.place c.args.self.now.rest.now c.front-kind.result _ nonempty c.front-kind.ensures.kind c.split_at.ensures.back
+
+pub returns-clause-goes : goal.returns-clause-goes
+returns-clause-goes c =
+    let nonempty : 0 < length c.args.self.now.rest.now = omega arith in
+    let step = placed-step c.args.self.now.place c.args.self.now.rest.now c.front-kind.result _ nonempty c.front-kind.ensures.kind c.split_at.ensures.back in
+    search (rules, step)

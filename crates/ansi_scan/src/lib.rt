@@ -1,0 +1,54 @@
+//! The items of a text that may hold control sequences (ECMA-48): what is text, and what is a
+//! control sequence.
+#![tactic(auto)]
+
+ghost use Rattle.std.specs.Prelude.{◌≡◌, ◌≤◌, ◌↔◌, All, IfSome, IsNone, IsTrue, find, length};
+ghost use Rattle.std.specs.Option.{option_map};
+ghost use Rattle.ansi_scan.specs.Sequences.{IsWhole, IsFirstBroken};
+ghost use Rattle.ansi_scan.specs.Places.{AreItemsOf, IsCut, is_broken};
+ghost use Rattle.ansi_scan.specs.Scan.{items_left};
+
+mod items;
+pub mod laws;
+mod sequences;
+
+pub use items::{Item, Kind, Scan};
+
+/// The items of a text in order, each with the bytes at which it begins and ends.
+/// Together they cover the text, and a text can be cut at each place. Takes no memory.
+/// The forms are those of ECMA-48 where a code has seven bits.
+pub fn scan(text: &str) -> Scan<'_>
+    ensures items { AreItemsOf text.now (items_left result) }
+    ensures cuts { All (IsCut text.now) (items_left result) }
+    ensures count { length (items_left result) ≤ length text.now }
+{
+    Scan::new(text.as_bytes())
+}
+
+/// Whether no item of the text is `Kind::Broken`. Takes no memory.
+pub fn is_whole(text: &str) -> bool
+    ensures { IsTrue result ↔ IsWhole text.now }
+{
+    first_broken(text).is_none()
+}
+
+/// The byte at which the first `Kind::Broken` item of the text begins, or `None` where the text is
+/// whole. Takes no memory.
+pub fn first_broken(text: &str) -> Option<usize>
+    ensures broken { IfSome result (IsFirstBroken text.now) }
+    ensures whole { IsNone result ↔ IsWhole text.now }
+{
+    first_broken_start(scan(text))
+}
+
+// Where the first `Kind::Broken` of the items begins.
+fn first_broken_start(mut items: Scan<'_>) -> Option<usize>
+    ensures { result ≡ option_map (λ item. item.start) (find is_broken (items_left items.entry)) }
+{
+    items
+        .find(|item| item.kind == Kind::Broken)
+        .map(|item| item.start)
+}
+
+#[cfg(test)]
+mod tests;
