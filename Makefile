@@ -1,0 +1,50 @@
+# `rt` proves, builds and tests; `rt help` tells its commands. What follows only calls it.
+
+PROGRAM := crates/columns/out/columns
+INPUT ?= examples/nightly.tsv
+PREFIX ?= /usr/local
+
+# Folders count too, so that a file that went away is noticed.
+SOURCES := crates.txt HANDLES $(shell find crates -name out -prune -o \
+	\( -path '*/src*' -o -path '*/specs*' -o -path '*/proofs*' \) -print)
+# Standard input is taken as it comes and not opened anew.
+FROM = $(if $(filter /dev/stdin -,$(INPUT)),,< '$(INPUT)')
+
+.NOTPARALLEL:
+.PHONY: run test check fmt bench attack install clean help
+
+run: $(PROGRAM)     ## print the table of INPUT (INPUT=/dev/stdin reads standard input)
+	@$(PROGRAM) $(FROM)
+
+test:               ## the gate: every proof, every test, then the built program from outside
+	@tests/run
+
+check:              ## prove what has changed
+	@rt all check
+
+fmt:                ## lay out the source files
+	@for crate in crates/*/; do (cd "$$crate" && rt fmt) || exit 1; done
+
+bench: $(PROGRAM)   ## instructions and memory per input byte (BENCH='--kinds wide' and the like)
+	@bench/run $(BENCH)
+
+attack:             ## try the wrong bodies of attacks/ (ATTACK='CRATE' or 'CRATE/NAME' for some)
+	@attacks/run $(ATTACK)
+
+install: $(PROGRAM) ## put the program into PREFIX/bin
+	install -d '$(DESTDIR)$(PREFIX)/bin'
+	install -m 755 $(PROGRAM) '$(DESTDIR)$(PREFIX)/bin/columns'
+
+clean:              ## remove everything that was built or generated
+	rm -rf crates/*/out bench/data
+	find . -name __pycache__ -prune -exec rm -rf {} +
+
+help:               ## this list
+	@sed -n 's/^\([a-z]*\):.*## /\1|/p' Makefile | while IFS='|' read -r name what; do \
+		printf '  make %-9s %s\n' "$$name" "$$what"; done
+
+# `rt run` proves, compiles and runs: on no input the program writes nothing, and what rt says goes
+# to standard error. It goes by contents, so a file that was only touched costs no proof.
+$(PROGRAM): $(SOURCES)
+	@cd crates/columns && rt run < /dev/null > /dev/null
+	@touch $@

@@ -1,0 +1,12 @@
+pub mod FrameLemmas
+pub mod Maps
+pub mod MeasureLemmas
+pub mod PrintLemmas
+pub mod PrintingLemmas
+pub mod Ranges
+pub mod ReadingLemmas
+pub mod RowLemmas
+pub mod SizeLemmas
+pub mod TextLemmas
+pub mod TilingLemmas
+pub mod Written

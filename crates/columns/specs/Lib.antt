@@ -1,0 +1,14 @@
+pub mod Counts
+pub mod Estimates
+pub mod Fault
+pub mod Frame
+pub mod Glyphs
+pub mod Layout
+pub mod Measures
+pub mod Picture
+pub mod Printing
+pub mod Readings
+pub mod Rows
+pub mod Run
+pub mod Streams
+pub mod Totals

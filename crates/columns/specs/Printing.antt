@@ -1,0 +1,70 @@
+-- What the printing functions append, line by line, in a table whose rows are one line high. That this is the picture
+-- is proved in `proofs/PrintingLemmas`.
+use Rattle.std.specs.Prelude.{◌*◌, ◌<◌, sum_by, ℕ, ◌+◌, ◌-◌, ◌≤◌, List, [], ◌∷◌, ◌++◌, map, flat_map, length, take, drop, replicate, slice_index, slice_index_or, vec_items, chars, ◌==◌, if◌then◌else◌}
+use Rattle.std.specs.List.{range_with_len}
+use Rattle.columns.specs.Rows.{line_feed}
+use Rattle.columns.specs.Measures.{measure}
+use Rattle.columns.specs.Estimates.{Line, empty_line, greatest}
+use Rattle.columns.specs.declared.rows.Cell.{Cell}
+use Rattle.columns.specs.declared.rows.Rows.{Rows}
+
+-- a cell as a line of bytes
+abbrev pub shown : Cell → Line ℕ
+shown cell = record { measure = cell.width; items = cell.text.now }
+
+-- bytes of a text with the columns that they measure
+abbrev pub byte_line : List ℕ → Line ℕ
+byte_line bytes = record { measure = measure (chars bytes); items = bytes }
+
+-- the list without a line feed at its end
+abbrev pub without_final_line_feed : List ℕ → List ℕ
+without_final_line_feed xs = if slice_index xs (length xs - 1) == line_feed then take (length xs - 1) xs else xs
+
+-- a list in pieces of these lengths
+abbrev pub cut : {X : Type 0} → List ℕ → List X → List (List X)
+cut [] xs = []
+cut (n ∷ ns) xs = take n xs ∷ cut ns (drop n xs)
+
+-- the rows of cells, each of one line
+abbrev pub rows_shown : Rows → List (List (Line ℕ))
+rows_shown rows = cut (vec_items rows.counts) (map shown (vec_items rows.cells))
+
+-- the greatest measure in column j
+abbrev pub content_width : List (List (Line ℕ)) → ℕ → ℕ
+content_width rows j = greatest (map (λ row. (slice_index_or row j empty_line).measure) rows)
+
+abbrev pub content_widths : List (List (Line ℕ)) → List ℕ
+content_widths rows = map (content_width rows) (range_with_len 0 (greatest (map (λ row. length row) rows)))
+
+abbrev pub cell_text : ℕ → Line ℕ → List ℕ
+cell_text content line = 0x7c ∷ 0x20 ∷ (line.items ++ (replicate (content - line.measure) 0x20 ++ 0x20 ∷ []))
+
+abbrev pub cells_text : List ℕ → List (Line ℕ) → ℕ → List ℕ
+cells_text contents row n = flat_map (λ j. cell_text (slice_index contents j) (slice_index_or row j empty_line)) (range_with_len 0 n)
+
+abbrev pub row_text : List ℕ → List (Line ℕ) → List ℕ
+row_text contents row = cells_text contents row (length contents) ++ 0x7c ∷ 0x0a ∷ []
+
+abbrev pub border_part : ℕ → List ℕ
+border_part content = 0x2b ∷ 0x2d ∷ 0x2d ∷ replicate content 0x2d
+
+abbrev pub border_text : List ℕ → List ℕ
+border_text contents = flat_map border_part contents ++ 0x2b ∷ 0x0a ∷ []
+
+abbrev pub rows_text : List ℕ → List (List (Line ℕ)) → List ℕ
+rows_text contents rows = flat_map (λ row. row_text contents row ++ border_text contents) rows
+
+-- the columns of the contents, each with its padding and the boundary before it, and the last boundary
+abbrev pub table_width : List ℕ → ℕ
+table_width contents = 1 + sum_by (λ content. content + 3) contents
+
+-- each row and the boundary before it, and the last boundary
+abbrev pub table_height : ℕ → ℕ
+table_height rows = rows * 2 + 1
+
+abbrev pub grid_text : List ℕ → List (List (Line ℕ)) → List ℕ
+grid_text contents rows = border_text contents ++ rows_text contents rows
+
+-- each cell of a row measures at most its column's content
+abbrev pub Fits : List ℕ → List (Line ℕ) → Type 0
+Fits contents row = (j : ℕ) → j < length contents → (slice_index_or row j empty_line).measure ≤ slice_index contents j

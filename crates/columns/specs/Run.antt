@@ -1,0 +1,51 @@
+-- What one run promises, of an input: which answer it calls for, and what is written.
+use Rattle.std.specs.Prelude.{◌≡◌, ℕ, ◌^◌, ◌≤◌, List, length, ⊤, Option, Result, Ok, Err, IsUtf8}
+use Rattle.std.specs.Str.Lossy.{utf8_valid_len}
+use Rattle.std.specs.Io.KnownBytes.{Appends, Keeps}
+use Rattle.columns.specs.declared.fault.RunFault.{RunFault}
+use Rattle.columns.specs.declared.fault.RunFault.TheVariants.{Read, ReadTooLong, NotUtf8, Escape, Range, LineTooWide, Write, WriteZero, Memory}
+use Rattle.columns.specs.Layout.{output_of, TableFits}
+use Rattle.ansi_scan.specs.Sequences.{IsWhole, IsFirstBroken}
+use Rattle.columns.specs.Streams.{AppendsFront}
+
+-- how many reads without an end are too many
+abbrev pub read_limit : ℕ
+read_limit = 2 ^ 40
+
+-- the input has a table: it is text, no sequence in it is broken, and its width and height are in range
+abbrev pub HasTable : List ℕ → Type 0
+HasTable input = IsUtf8 input × IsWhole input × TableFits input
+
+-- an input may be answered so. The cases exclude one another, but for the faults of reading, writing
+-- and memory, which the counts of the reader and the writer tell
+abbrev pub MayAnswer : {T : Type 0} → List ℕ → Result T RunFault → Type 0
+MayAnswer input (Ok _) = HasTable input
+MayAnswer input (Err Read) = ⊤
+MayAnswer input (Err ReadTooLong) = read_limit ≤ length input
+MayAnswer input (Err (NotUtf8 at)) = ¬ (IsUtf8 input) × (at ≡ utf8_valid_len input)
+MayAnswer input (Err (Escape at)) = IsUtf8 input × IsFirstBroken input at
+MayAnswer input (Err Range) = IsUtf8 input × IsWhole input × ¬ (TableFits input)
+MayAnswer input (Err (LineTooWide row column)) = ⊥
+MayAnswer input (Err Write) = HasTable input
+MayAnswer input (Err WriteZero) = HasTable input
+MayAnswer input (Err Memory) = ⊤
+
+-- what is written of the text with an answer: all of it, or a front of it where writing was cut
+-- short, or nothing
+abbrev pub Writes : {T : Type 0} → List ℕ → Result T RunFault → Option (List ℕ) → Option (List ℕ) → Type 0
+Writes text (Ok _) old new = Appends old new text
+Writes text (Err Write) old new = AppendsFront old new text
+Writes text (Err WriteZero) old new = AppendsFront old new text
+Writes text (Err Memory) old new = AppendsFront old new text
+Writes text (Err _) old new = Keeps old new
+
+-- an answer that comes only once the reader told its end
+abbrev pub HasReadAll : {T : Type 0} → Result T RunFault → Type 0
+HasReadAll (Err Read) = ⊥
+HasReadAll (Err ReadTooLong) = ⊥
+HasReadAll (Err Memory) = ⊥
+HasReadAll _ = ⊤
+
+-- the answer is one that the input calls for, and of its table that much was written
+abbrev pub Serves : {T : Type 0} → List ℕ → Result T RunFault → Option (List ℕ) → Option (List ℕ) → Type 0
+Serves input result old new = MayAnswer input result × Writes (output_of input) result old new

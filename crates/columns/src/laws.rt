@@ -1,0 +1,49 @@
+//! Laws over the definitions, each the contract of a function that does nothing.
+ghost use Rattle.std.specs.Prelude.{◌≡◌, ℕ, ◌+◌, ◌<◌, ◌≤◌, codes, length, slice_index, All, List, ◌∷◌, [], ◌++◌, flat_map};
+ghost use Rattle.columns.specs.Estimates.{Line, column_widths, row_heights};
+ghost use Rattle.columns.specs.Totals.{total};
+ghost use Rattle.columns.specs.Frame.{boundary_at, place, RowBoundary, RowLine};
+ghost use Rattle.columns.specs.Picture.{Tiles, picture_line, picture_items};
+ghost use Rattle.columns.specs.Readings.{read_rows};
+ghost use Rattle.columns.specs.Layout.{one_each, grid_of, character_rows, table_characters};
+ghost use Rattle.columns.specs.Measures.{measure};
+
+/// Tables worked out by hand.
+#[tactic(auto, unfolding(unicode_width::specs::Width::str_width, unicode_width::specs::Width::step, unicode_width::specs::Width::past_emoji))]
+pub fn worked_tables()
+    ensures empty { table_characters [] ≡ [] }
+    ensures two_by_two { table_characters (codes "a\tb\n1\t2\n") ≡ codes "+---+---+\n| a | b |\n+---+---+\n| 1 | 2 |\n+---+---+\n" }
+    ensures short_row { table_characters (codes "a\tb\nc\n") ≡ codes "+---+---+\n| a | b |\n+---+---+\n| c |   |\n+---+---+\n" }
+    ensures longer_row { table_characters (codes "a\nbcd\te\tf\n") ≡ codes "+-----+---+---+\n| a   |   |   |\n+-----+---+---+\n| bcd | e | f |\n+-----+---+---+\n" }
+    ensures empty_row { table_characters (codes "\n") ≡ codes "+--+\n|  |\n+--+\n" }
+    ensures two_empty_rows { table_characters (codes "\n\n") ≡ codes "+--+\n|  |\n+--+\n|  |\n+--+\n" }
+    ensures empty_last_row { table_characters (codes "a\n\n") ≡ codes "+---+\n| a |\n+---+\n|   |\n+---+\n" }
+    ensures empty_middle_row { table_characters (codes "a\n\nb") ≡ codes "+---+\n| a |\n+---+\n|   |\n+---+\n| b |\n+---+\n" }
+    ensures lone_tab { table_characters (codes "\t") ≡ codes "+--+--+\n|  |  |\n+--+--+\n" }
+    ensures tab_at_end { table_characters (codes "a\t\n") ≡ codes "+---+--+\n| a |  |\n+---+--+\n" }
+    ensures no_final_line_feed { table_characters (codes "a\tb") ≡ codes "+---+---+\n| a | b |\n+---+---+\n" }
+    ensures carriage_return { table_characters (codes "a\r\n") ≡ codes "+----+\n| a\r |\n+----+\n" }
+{}
+
+/// A table's picture in other items is the picture of the table read in those items: bytes, characters and styled
+/// characters are readings of one picture.
+pub fn readings<X, Y>()
+    ensures { (f : X → List Y) (item : ℕ → List X) (rows : List (List (List (Line X)))) → flat_map f (picture_items item (grid_of rows)) ≡ picture_items (λ c. flat_map f (item c)) (grid_of (read_rows f rows)) }
+{}
+
+/// Boundary i of the rows and line k of row i stand where the sums of the heights and boundaries before them say.
+pub fn frame()
+    ensures boundaries { (heights : List ℕ) (i : ℕ) → i ≤ length heights → place 0 heights (boundary_at heights i) ≡ RowBoundary i }
+    ensures rows { (heights : List ℕ) (i k : ℕ) → i < length heights → k < slice_index heights i → place 0 heights (boundary_at heights i + 1 + k) ≡ RowLine i k }
+{}
+
+/// In each line of a picture the pieces stand side by side from column 0 to the table's width, with no gap and no overlap.
+pub fn tiling<X>()
+    ensures { (item : ℕ → List X) (rows : List (List (List (Line X)))) (y : ℕ) → y < total (row_heights rows)
+        → Tiles 0 (picture_line item (grid_of rows) y) (total (column_widths one_each rows)) }
+{}
+
+/// In the picture of a text each piece measures the columns that it stands on.
+pub fn measured_pieces()
+    ensures { (characters : List ℕ) (y : ℕ) → All (λ piece. measure piece.items ≡ piece.width) (picture_line (λ c. c ∷ []) (grid_of (character_rows characters)) y) }
+{}
