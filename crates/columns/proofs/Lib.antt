@@ -1,6 +1,8 @@
 pub mod FrameLemmas
 pub mod Maps
 pub mod MeasureLemmas
+pub mod PassLemmas
+pub mod PlainLemmas
 pub mod PrintLemmas
 pub mod PrintingLemmas
 pub mod Ranges

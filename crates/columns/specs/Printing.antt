@@ -1,8 +1,8 @@
 -- What the printing functions append, line by line, in a table whose rows are one line high. That this is the picture
 -- is proved in `proofs/PrintingLemmas`.
-use Rattle.std.specs.Prelude.{◌*◌, ◌<◌, sum_by, ℕ, ◌+◌, ◌-◌, ◌≤◌, List, [], ◌∷◌, ◌++◌, map, flat_map, length, take, drop, replicate, slice_index, slice_index_or, vec_items, chars, ◌==◌, if◌then◌else◌}
-use Rattle.std.specs.List.{range_with_len}
-use Rattle.columns.specs.Rows.{line_feed}
+use Rattle.std.specs.Prelude.{◌*◌, ◌<◌, sum_by, ℕ, ◌+◌, ◌-◌, ◌≤◌, Bool, List, [], ◌∷◌, ◌++◌, map, flat_map, length, take, drop, replicate, slice_index, slice_index_or, vec_items, chars}
+use Rattle.std.specs.Int.{is_in_range}
+use Rattle.std.specs.List.{range_with_len, list_all}
 use Rattle.columns.specs.Measures.{measure}
 use Rattle.columns.specs.Estimates.{Line, empty_line, greatest}
 use Rattle.columns.specs.declared.rows.Cell.{Cell}
@@ -16,9 +16,9 @@ shown cell = record { measure = cell.width; items = cell.text.now }
 abbrev pub byte_line : List ℕ → Line ℕ
 byte_line bytes = record { measure = measure (chars bytes); items = bytes }
 
--- the list without a line feed at its end
-abbrev pub without_final_line_feed : List ℕ → List ℕ
-without_final_line_feed xs = if slice_index xs (length xs - 1) == line_feed then take (length xs - 1) xs else xs
+-- each byte is a printable ASCII character, which takes one column
+abbrev pub is_plain : List ℕ → Bool
+is_plain bytes = list_all (is_in_range 0x20 0x7E) bytes
 
 -- a list in pieces of these lengths
 abbrev pub cut : {X : Type 0} → List ℕ → List X → List (List X)

@@ -1,20 +1,23 @@
 -- What one run promises, of an input: which answer it calls for, and what is written.
-use Rattle.std.specs.Prelude.{◌≡◌, ℕ, ◌^◌, ◌≤◌, List, length, ⊤, Option, Result, Ok, Err, IsUtf8}
+use Rattle.std.specs.Prelude.{◌≡◌, ℕ, ◌^◌, ◌≤◌, ◌==◌, List, length, position, ⊤, Option, None, Some, Result, Ok, Err, IsUtf8}
 use Rattle.std.specs.Str.Lossy.{utf8_valid_len}
 use Rattle.std.specs.Io.KnownBytes.{Appends, Keeps}
 use Rattle.columns.specs.declared.fault.RunFault.{RunFault}
 use Rattle.columns.specs.declared.fault.RunFault.TheVariants.{Read, ReadTooLong, NotUtf8, Escape, Range, LineTooWide, Write, WriteZero, Memory}
 use Rattle.columns.specs.Layout.{output_of, TableFits}
-use Rattle.ansi_scan.specs.Sequences.{IsWhole, IsFirstBroken}
 use Rattle.columns.specs.Streams.{AppendsFront}
 
 -- how many reads without an end are too many
 abbrev pub read_limit : ℕ
 read_limit = 2 ^ 40
 
--- the input has a table: it is text, no sequence in it is broken, and its width and height are in range
+-- where the first ESCAPE (ECMA-48, 8.3.48) stands. For now each is refused, also one that begins a whole sequence
+abbrev pub first_escape : List ℕ → Option ℕ
+first_escape input = position (λ byte. byte == 0x1b) input
+
+-- the input has a table: it is text, without an escape, and its width and height are in range
 abbrev pub HasTable : List ℕ → Type 0
-HasTable input = IsUtf8 input × IsWhole input × TableFits input
+HasTable input = IsUtf8 input × (first_escape input ≡ None) × TableFits input
 
 -- an input may be answered so. The cases exclude one another, but for the faults of reading, writing
 -- and memory, which the counts of the reader and the writer tell
@@ -23,8 +26,8 @@ MayAnswer input (Ok _) = HasTable input
 MayAnswer input (Err Read) = ⊤
 MayAnswer input (Err ReadTooLong) = read_limit ≤ length input
 MayAnswer input (Err (NotUtf8 at)) = ¬ (IsUtf8 input) × (at ≡ utf8_valid_len input)
-MayAnswer input (Err (Escape at)) = IsUtf8 input × IsFirstBroken input at
-MayAnswer input (Err Range) = IsUtf8 input × IsWhole input × ¬ (TableFits input)
+MayAnswer input (Err (Escape at)) = IsUtf8 input × (first_escape input ≡ Some at)
+MayAnswer input (Err Range) = IsUtf8 input × (first_escape input ≡ None) × ¬ (TableFits input)
 MayAnswer input (Err (LineTooWide row column)) = ⊥
 MayAnswer input (Err Write) = HasTable input
 MayAnswer input (Err WriteZero) = HasTable input

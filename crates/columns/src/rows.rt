@@ -1,8 +1,9 @@
 //! The rows and cells of a text, which borrow it.
-ghost use Rattle.std.specs.Prelude.{◌≡◌, ◌<◌, ℕ, ◌==◌, map, length, sum, vec_len, IfOk, OnOk, ◌++◌, []};
-ghost use Rattle.std.specs.List.{slice_split};
-ghost use Rattle.columns.specs.Rows.{rows_of, tab};
-ghost use Rattle.columns.specs.Printing.{shown, byte_line, rows_shown, without_final_line_feed};
+ghost use Rattle.std.specs.Prelude.{◌≡◌, [], ◌∷◌, ◌++◌, map, sum, vec_len, IfOk, OnOk, IsTrue, chars};
+ghost use Rattle.std.specs.Int.{is_in_range};
+ghost use Rattle.columns.specs.Measures.{measure};
+ghost use Rattle.columns.specs.Rows.{rows_of};
+ghost use Rattle.columns.specs.Printing.{shown, byte_line, is_plain, rows_shown};
 
 use std::alloc::{AllocError, Global};
 use unicode_width::UnicodeWidthStr;
@@ -28,38 +29,56 @@ pub fn rows_of<'a>(alloc: Global, text: &'a str) -> Result<Rows<'a>, AllocError>
 {
     let mut cells = Vec::new(alloc);
     let mut counts = Vec::new(alloc);
-    if text.is_empty() {
-        return Ok(Rows { cells, counts });
+    let mut count = 0;
+    let mut start = 0;
+    let mut plain = true;
+    let bytes = text.as_bytes();
+    for (end, byte) in bytes.iter().enumerate() {
+        match *byte {
+            byte if is_printable(byte) => {}
+            b'\t' | b'\n' => {
+                push_cell(&mut cells, &text[start..end], plain)?;
+                count += 1;
+                start = end + 1;
+                plain = true;
+                if *byte == b'\n' {
+                    counts.push(count)?;
+                    count = 0;
+                }
+            }
+            _ => plain = false,
+        }
     }
-    for line in without_final_line_feed(text).split('\n') {
-        let count = push_cells(&mut cells, line)?;
-        counts.push(count)?;
+    // A last row without characters is none.
+    if count > 0 || start < text.len() {
+        push_cell(&mut cells, &text[start..], plain)?;
+        counts.push(count + 1)?;
     }
     Ok(Rows { cells, counts })
 }
 
-/// The text without the line feed that ends it.
-fn without_final_line_feed(text: &str) -> &str
-    requires { 0 < length text.now }
-    ensures { result.now ≡ without_final_line_feed text.now }
+/// Whether a byte is a printable ASCII character, which takes one column.
+fn is_printable(byte: u8) -> bool
+    ensures { result ≡ is_in_range 0x20 0x7E byte }
 {
-    let last = text.len() - 1;
-    if text.as_bytes()[last] == b'\n' {
-        &text[..last]
-    } else {
-        text
-    }
+    matches!(byte, b' '..=b'~')
 }
 
-/// Appends the cells of a line, and answers how many they are.
-fn push_cells<'a>(cells: &mut Vec<Cell<'a>>, line: &'a str) -> Result<usize, AllocError>
-    ensures count { IfOk result (λ n. n ≡ length (slice_split (λ b. b == tab) line.now)) }
-    ensures cells { OnOk result (map shown cells.new.items ≡ map shown cells.old.items ++ map byte_line (slice_split (λ b. b == tab) line.now)) }
+/// Appends a cell, measured. Where it is `plain`, it has printable ASCII alone, and a byte takes a column.
+fn push_cell<'a>(cells: &mut Vec<Cell<'a>>, text: &'a str, plain: bool) -> Result<(), AllocError>
+    requires { IsTrue plain → IsTrue (is_plain text.now) }
+    ensures { OnOk result (map shown cells.new.items ≡ map shown cells.old.items ++ byte_line text.now ∷ []) }
 {
-    let before = cells.len();
-    for text in line.split('\t') {
-        let width = text.width();
-        cells.push(Cell { text, width })?;
-    }
-    Ok(cells.len() - before)
+    let width = if plain { text.len() } else { measure(text) };
+    cells.push(Cell { text, width })?;
+    Ok(())
+}
+
+/// The columns that a text takes.
+// Few cells come here, and without it `push_cell` is short enough to stand in the loop.
+#[inline(never)]
+fn measure(text: &str) -> usize
+    ensures { result ≡ measure (chars text.now) }
+{
+    text.width()
 }

@@ -5,14 +5,13 @@ ghost use Rattle.columns.specs.Counts.{inner_of, HasFailed, HasTakenNothing, Has
 ghost use Rattle.columns.specs.Fault.{IsOfInput, MayFollowWrites};
 ghost use Rattle.columns.specs.Layout.{output_of};
 ghost use Rattle.columns.specs.Streams.{ConsumesSome};
-ghost use Rattle.columns.specs.Run.{MayAnswer, Serves, HasReadAll, read_limit};
+ghost use Rattle.columns.specs.Run.{MayAnswer, Serves, HasReadAll, first_escape, read_limit};
 
 use crate::counted::Counted;
 use crate::fault::RunFault;
 use crate::input::{read_all, text_of};
 use crate::layout::{LayoutFault, table_text};
 use crate::output::write_all;
-use ansi_scan::first_broken;
 use std::alloc::Global;
 use std::io::{Read, Write};
 
@@ -75,7 +74,7 @@ fn table_of(alloc: Global, _options: &Options, bytes: &[u8]) -> Result<String, R
     ensures faults { IfErr result IsOfInput }
 {
     let text = text_of(bytes)?;
-    if let Some(at) = first_broken(text) {
+    if let Some(at) = first_escape(text) {
         return Err(RunFault::Escape { at });
     }
     match table_text(alloc, text) {
@@ -83,6 +82,13 @@ fn table_of(alloc: Global, _options: &Options, bytes: &[u8]) -> Result<String, R
         Err(LayoutFault::Range) => Err(RunFault::Range),
         Err(LayoutFault::Memory) => Err(RunFault::Memory),
     }
+}
+
+// The byte at which the first ESC stands.
+fn first_escape(text: &str) -> Option<usize>
+    ensures { result ≡ first_escape text.now }
+{
+    text.as_bytes().iter().position(|byte| *byte == 0x1b)
 }
 
 #[cfg(test)]
