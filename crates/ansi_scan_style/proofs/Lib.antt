@@ -1,0 +1,11 @@
+pub mod Writing
+pub mod Numbers
+pub mod Reading
+pub mod Ranges
+pub mod Merging
+pub mod Kept
+pub mod Lengths
+pub mod Forms
+pub mod Effects
+pub mod Equality
+pub mod Names

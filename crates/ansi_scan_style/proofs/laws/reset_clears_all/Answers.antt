@@ -1,0 +1,8 @@
+use Rattle.std.proofs.Common.{refl}
+use Rattle.ansi_scan_style.specs.Attributes.{plain_attributes}
+use Rattle.ansi_scan_style.specs.Rendition.{after_parameters, applied}
+use Rattle.ansi_scan_style.proofs.laws.reset_clears_all.Goals as goal
+
+pub returns : goal.returns
+unfolding applied after_parameters plain_attributes
+returns c = λ a. refl

@@ -1,0 +1,9 @@
+pub mod Attributes
+pub mod Rendition
+pub mod Digits
+pub mod Sequences
+pub mod Flags
+pub mod Style
+pub mod ColorForms
+pub mod Color
+pub mod Equality

@@ -1,0 +1,95 @@
+//! Laws of the definitions that the other contracts cite.
+
+ghost use Rattle.std.specs.Prelude.{◌≡◌, ◌≢◌, ◌<◌, ◌≤◌, ◌↔◌, ℕ, All, IsSome, IsTrue, false, List, Option, None, Some, [], ◌∷◌, ◌++◌, fold, length};
+ghost use Rattle.std.specs.Fmt.{decimal};
+ghost use Rattle.std.specs.List.{concat, list_all};
+ghost use Rattle.std.specs.declared.cmp.Ordering.TheVariants.{Equal};
+ghost use Rattle.ansi_scan_style.specs.declared.color.AnsiColor.{AnsiColor};
+ghost use Rattle.ansi_scan_style.specs.declared.color.Color.TheVariants.{BrightPurple, Purple};
+ghost use Rattle.ansi_scan_style.specs.declared.next.Layer.{Layer};
+ghost use Rattle.ansi_scan_style.specs.Attributes.{Attributes, IsRendition, after_code, plain_attributes};
+ghost use Rattle.ansi_scan_style.specs.Color.{color_of};
+ghost use Rattle.ansi_scan_style.specs.Rendition.{after_parameters, applied, is_parameter_byte, number, sgr_parameters};
+ghost use Rattle.ansi_scan_style.specs.ColorForms.{after_color, color_at_front, is_color_code};
+ghost use Rattle.ansi_scan_style.specs.Equality.{compared, equal};
+ghost use Rattle.ansi_scan_style.specs.Sequences.{layer_code, start_sequences, start_bytes, end_sequences, end_bytes};
+
+use crate::RESET_ALL;
+
+/// A start reads as its style: from plain it gives it, and from the style itself it leaves it.
+pub fn start_reads_as_its_style()
+    ensures from_plain { (a : Attributes) → IsRendition a → fold applied plain_attributes (start_sequences a) ≡ a }
+    ensures from_itself { (a : Attributes) → IsRendition a → fold applied a (start_sequences a) ≡ a }
+{}
+
+/// An end clears its style.
+pub fn end_clears_its_style()
+    ensures { (a : Attributes) → fold applied a (end_sequences a) ≡ plain_attributes }
+{}
+
+/// A style in which nothing is set writes nothing.
+pub fn plain_writes_nothing()
+    ensures start { start_bytes plain_attributes ≡ [] }
+    ensures end { end_bytes plain_attributes ≡ [] }
+{}
+
+/// `RESET_ALL` clears every style.
+pub fn reset_clears_all()
+    ensures { (a : Attributes) → applied a RESET_ALL.now ≡ plain_attributes }
+{}
+
+/// The bytes of a start and of an end are those of such sequences alone.
+pub fn bytes_are_sequences()
+    ensures start { (a : Attributes) → start_bytes a ≡ concat (start_sequences a) }
+    ensures start_read { (a : Attributes) → IsRendition a → All (λ bytes. IsSome (sgr_parameters bytes)) (start_sequences a) }
+    ensures end { (a : Attributes) → end_bytes a ≡ concat (end_sequences a) }
+    ensures end_read { (a : Attributes) → All (λ bytes. IsSome (sgr_parameters bytes)) (end_sequences a) }
+{}
+
+/// A start takes at most 163 bytes, and an end at most 80.
+pub fn bytes_are_few()
+    ensures start { (a : Attributes) → IsRendition a → length (start_bytes a) ≤ 163 }
+    ensures end { (a : Attributes) → length (end_bytes a) ≤ 80 }
+{}
+
+/// What sequences set from plain on is what a style can be.
+pub fn sequences_give_renditions()
+    ensures plain { IsRendition plain_attributes }
+    ensures one { (a : Attributes) (bytes : List ℕ) → IsRendition a → IsRendition (applied a bytes) }
+    ensures all { (sequences : List (List ℕ)) → IsRendition (fold applied plain_attributes sequences) }
+{}
+
+/// A sequence with parameters is `ESC [`, these parameters, and `m`; other bytes change nothing.
+pub fn sequence_form()
+    ensures form { (bytes parameters : List ℕ) → (sgr_parameters bytes ≡ Some parameters) ↔ ((bytes ≡ 27 ∷ 91 ∷ (parameters ++ 109 ∷ [])) × IsTrue (list_all is_parameter_byte parameters)) }
+    ensures other { (a : Attributes) (bytes : List ℕ) → sgr_parameters bytes ≡ None → applied a bytes ≡ a }
+{}
+
+/// An empty parameter is 0, leading zeros do not count, and the digits of a number up to 255 are
+/// that number.
+pub fn parameters_are_numbers()
+    ensures empty { number [] ≡ Some 0 }
+    ensures leading_zero { (digits : List ℕ) → number (48 ∷ digits) ≡ number digits }
+    ensures digits { (n : ℕ) → n < 256 → number (decimal n) ≡ Some n }
+{}
+
+/// Parameters have their effects in order. One that is no number has none; a code that a colour
+/// follows sets it, and ends the reading where none follows.
+pub fn parameters_in_order()
+    ensures none_left { (a : Attributes) → after_parameters a [] ≡ a }
+    ensures no_number { (a : Attributes) (others : List (Option ℕ)) → after_parameters a (None ∷ others) ≡ after_parameters a others }
+    ensures code { (a : Attributes) (code : ℕ) (others : List (Option ℕ)) → is_color_code code ≡ false → after_parameters a (Some code ∷ others) ≡ after_parameters (after_code a code) others }
+    ensures color { (a : Attributes) (layer : Layer) (others : List (Option ℕ)) → after_parameters a (Some (layer_code layer) ∷ others) ≡ after_color a layer (color_at_front others) }
+{}
+
+/// `==` of styles is equality of all attributes, and `cmp` finds the same ones equal.
+pub fn equal_styles_set_the_same()
+    ensures equality { (a b : Attributes) → IsTrue (equal a b) ↔ (a ≡ b) }
+    ensures order { (a b : Attributes) → (compared a b ≡ Equal) ↔ (a ≡ b) }
+{}
+
+/// No colour is read as purple.
+pub fn no_color_is_purple()
+    ensures dark { (color : AnsiColor) → color_of color ≢ Purple }
+    ensures bright { (color : AnsiColor) → color_of color ≢ BrightPurple }
+{}

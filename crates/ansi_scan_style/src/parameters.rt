@@ -1,0 +1,66 @@
+ghost use Rattle.std.specs.Prelude.{◌≡◌};
+ghost use Rattle.std.specs.List.{list_all};
+ghost use Rattle.std.specs.Option.{option_copied};
+ghost use Rattle.ansi_scan_style.specs.Rendition.{is_parameter_byte, number, sgr_parameters};
+ghost use Rattle.ansi_scan_style.specs.Digits.{number_after};
+
+/// The parameter bytes of a sequence: what stands between `ESC [` and the `m` at its end.
+/// `None` where the bytes are no such sequence.
+pub fn sgr_parameters(sequence: &[u8]) -> Option<&[u8]>
+    ensures { option_copied result ≡ sgr_parameters sequence.now }
+{
+    if sequence.len() < 3 {
+        return None;
+    }
+    let last = sequence.len() - 1;
+    if sequence[0] != 0x1b || sequence[1] != b'[' || sequence[last] != b'm' {
+        return None;
+    }
+    let parameters = &sequence[2..last];
+    if !are_parameter_bytes(parameters) {
+        return None;
+    }
+    Some(parameters)
+}
+
+fn are_parameter_bytes(bytes: &[u8]) -> bool
+    ensures { result ≡ list_all is_parameter_byte bytes.now }
+{
+    bytes.iter().all(|byte| is_parameter_byte(*byte))
+}
+
+// A digit, `:` or `;`.
+fn is_parameter_byte(byte: u8) -> bool
+    ensures { result ≡ is_parameter_byte byte }
+{
+    0x30 <= byte && byte <= 0x3b
+}
+
+/// The number of a parameter, 0 where it is empty.
+/// `None` where it holds anything but digits, and past 255.
+pub fn number(parameter: &[u8]) -> Option<u8>
+    ensures { result ≡ number parameter.now }
+{
+    parameter
+        .iter()
+        .fold(Some(0), |number, byte| number_after(number, *byte))
+}
+
+// The number so far with one digit more.
+fn number_after(number: Option<u8>, byte: u8) -> Option<u8>
+    ensures { result ≡ number_after number byte }
+{
+    match number {
+        None => None,
+        Some(number) => {
+            if byte < b'0' || byte > b'9' {
+                return None;
+            }
+            let longer = 10 * u16::from(number) + u16::from(byte - b'0');
+            if longer > 255 {
+                return None;
+            }
+            Some(longer as u8)
+        }
+    }
+}

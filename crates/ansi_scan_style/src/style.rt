@@ -1,0 +1,302 @@
+ghost use Rattle.std.specs.Prelude.{◌≡◌, ◌↔◌, IsTrue, Some};
+ghost use Rattle.std.specs.Option.{option_map};
+ghost use Rattle.ansi_scan_style.specs.Attributes.{IsColor, IsRendition, after_code, is_no_code, plain_attributes};
+ghost use Rattle.ansi_scan_style.specs.Color.{color_of};
+ghost use Rattle.ansi_scan_style.specs.Rendition.{after_parameter, after_parameter_bytes, applied, with_color};
+ghost use Rattle.ansi_scan_style.specs.Sequences.{end_parameters, has_ideogram_mark, start_parameters};
+
+use crate::codes::{background_after, font_after, foreground_after, underline_color_after};
+use crate::color::{AnsiColor, Color};
+use crate::flags::Flags;
+use crate::next::{Layer, Next};
+use crate::parameters::{number, sgr_parameters};
+use crate::sequences::{
+    AnsiSequenceEnd, AnsiSequenceStart, Parameters, code_if, color_parameters, font_parameters,
+};
+use std::marker::Model;
+
+/// What sequences of SELECT GRAPHIC RENDITION have set: which attributes, and to which font and
+/// colours.
+#[derive(Clone, Copy, Debug, PartialEq, Eq, PartialOrd, Ord, Hash)]
+pub struct Style {
+    flags: Flags,
+    font: Option<u8>,
+    foreground: Option<AnsiColor>,
+    background: Option<AnsiColor>,
+    underline_color: Option<AnsiColor>,
+}
+
+impl Model for Style {
+    ghost use Rattle.ansi_scan_style.specs.Attributes.{Attributes, IsRendition};
+
+    ghost Value = { Attributes };
+
+    ghost use Rattle.ansi_scan_style.specs.Style.{attributes_of, fields_of};
+
+    ghost view = { attributes_of };
+
+    ghost invariant = { λ fields. IsRendition (attributes_of fields) };
+
+    ghost inverse = { fields_of };
+}
+
+impl Style {
+    /// The style in which nothing is set.
+    #[tactic(auto, using(crate::proofs::Kept::kept), unfolding(crate::specs::Attributes::plain_attributes))]
+    pub fn plain() -> Style
+        ensures { result ≡ plain_attributes }
+    {
+        Style {
+            flags: Flags::NONE,
+            font: None,
+            foreground: None,
+            background: None,
+            underline_color: None,
+        }
+    }
+
+    /// Whether nothing is set.
+    pub fn is_plain(&self) -> bool
+        ensures { IsTrue result ↔ (self.now ≡ plain_attributes) }
+    {
+        *self == Style::plain()
+    }
+
+    /// The style after one sequence `ESC [ .. m`.
+    /// Any other text, also such a sequence with text beside it, leaves the style as it is.
+    #[tactic(auto, unfolding(crate::specs::Rendition::applied))]
+    pub fn apply(self, sequence: &str) -> Style
+        ensures { result ≡ applied self sequence.now }
+    {
+        match sgr_parameters(sequence.as_bytes()) {
+            None => self,
+            Some(parameters) => self.after_parameters(parameters),
+        }
+    }
+
+    // The style after the parameters of a sequence, which are parted by `;`.
+    fn after_parameters(self, parameters: &[u8]) -> Style
+        ensures { result ≡ after_parameter_bytes self (Some parameters.now) }
+    {
+        let (style, _) = parameters
+            .split(|byte| *byte == b';')
+            .map(number)
+            .fold((self, Next::Code), |(style, next), parameter| {
+                (
+                    style.after_parameter(next, parameter),
+                    next.after(parameter),
+                )
+            });
+        style
+    }
+
+    // The style after a parameter, where `next` says what that one is.
+    fn after_parameter(self, next: Next, parameter: Option<u8>) -> Style
+        ensures { result ≡ after_parameter self next parameter }
+    {
+        match (next, parameter) {
+            (Next::Code, Some(code)) => self.after_code(code),
+            (Next::Index(layer), Some(n)) => self.with_color(layer, AnsiColor::Bit8(n)),
+            (Next::Blue(layer, r, g), Some(b)) => self.with_color(
+                layer,
+                AnsiColor::Bit24 { r, g, b },
+            ),
+            (_, _) => self,
+        }
+    }
+
+    // The style with one colour set by numbers.
+    #[tactic(auto, using(crate::proofs::Kept::kept))]
+    fn with_color(mut self, layer: Layer, color: AnsiColor) -> Style
+        requires { IsColor is_no_code color }
+        ensures { result ≡ with_color self layer color }
+    {
+        match layer {
+            Layer::Foreground => self.foreground = Some(color),
+            Layer::Background => self.background = Some(color),
+            Layer::Underline => self.underline_color = Some(color),
+        }
+        self
+    }
+
+    // The style after one code of the table.
+    fn after_code(self, code: u8) -> Style
+        ensures { result ≡ after_code self code }
+    {
+        Style {
+            flags: self.flags.after_code(code),
+            font: font_after(code, self.font),
+            foreground: foreground_after(code, self.foreground),
+            background: background_after(code, self.background),
+            underline_color: underline_color_after(code, self.underline_color),
+        }
+    }
+
+    /// What writes the start of this style: a sequence for each attribute that is set.
+    pub fn start(&self) -> AnsiSequenceStart
+        ensures style { result ≡ self.now }
+        ensures rendition { IsRendition self.now }
+    {
+        AnsiSequenceStart::new(*self)
+    }
+
+    /// What writes the end of this style: the codes that clear what is set.
+    pub fn end(&self) -> AnsiSequenceEnd
+        ensures { result ≡ self.now }
+    {
+        AnsiSequenceEnd::new(*self)
+    }
+
+    /// The foreground, where one is set.
+    pub fn foreground(&self) -> Option<Color>
+        ensures { result ≡ option_map color_of self.now.foreground }
+    {
+        self.foreground.map(Color::from)
+    }
+
+    /// The background, where one is set.
+    pub fn background(&self) -> Option<Color>
+        ensures { result ≡ option_map color_of self.now.background }
+    {
+        self.background.map(Color::from)
+    }
+
+    /// Whether bold (code 1) is set.
+    pub fn is_bold(&self) -> bool
+        ensures { result ≡ self.now.bold }
+    {
+        self.flags.bold
+    }
+
+    /// Whether faint (code 2) is set.
+    pub fn is_faint(&self) -> bool
+        ensures { result ≡ self.now.faint }
+    {
+        self.flags.faint
+    }
+
+    /// Whether italic (code 3) is set.
+    pub fn is_italic(&self) -> bool
+        ensures { result ≡ self.now.italic }
+    {
+        self.flags.italic
+    }
+
+    /// Whether underline (code 4, and not the double underline of 21) is set.
+    pub fn is_underline(&self) -> bool
+        ensures { result ≡ self.now.underline }
+    {
+        self.flags.underline
+    }
+
+    /// Whether slow blink (code 5) is set.
+    pub fn is_slow_blink(&self) -> bool
+        ensures { result ≡ self.now.slow_blink }
+    {
+        self.flags.slow_blink
+    }
+
+    /// Whether rapid blink (code 6) is set.
+    pub fn is_rapid_blink(&self) -> bool
+        ensures { result ≡ self.now.rapid_blink }
+    {
+        self.flags.rapid_blink
+    }
+
+    /// Whether inverse (code 7) is set.
+    pub fn is_inverse(&self) -> bool
+        ensures { result ≡ self.now.inverted }
+    {
+        self.flags.inverted
+    }
+
+    /// Whether hidden (code 8) is set.
+    pub fn is_hide(&self) -> bool
+        ensures { result ≡ self.now.hidden }
+    {
+        self.flags.hidden
+    }
+
+    /// Whether crossed out (code 9) is set.
+    pub fn is_crossedout(&self) -> bool
+        ensures { result ≡ self.now.crossed_out }
+    {
+        self.flags.crossed_out
+    }
+
+    /// Whether fraktur (code 20) is set.
+    pub fn is_fraktur(&self) -> bool
+        ensures { result ≡ self.now.fraktur }
+    {
+        self.flags.fraktur
+    }
+
+    /// What sets each attribute that is set, in ascending order of the codes.
+    pub(crate) fn start_parameters(&self) -> [Option<Parameters>; 26]
+        ensures { result ≡ start_parameters self.now }
+    {
+        [
+            code_if(self.flags.bold, 1),
+            code_if(self.flags.faint, 2),
+            code_if(self.flags.italic, 3),
+            code_if(self.flags.underline, 4),
+            code_if(self.flags.slow_blink, 5),
+            code_if(self.flags.rapid_blink, 6),
+            code_if(self.flags.inverted, 7),
+            code_if(self.flags.hidden, 8),
+            code_if(self.flags.crossed_out, 9),
+            font_parameters(self.font),
+            code_if(self.flags.fraktur, 20),
+            code_if(self.flags.double_underline, 21),
+            code_if(self.flags.proportional_spacing, 26),
+            color_parameters(Layer::Foreground, self.foreground),
+            color_parameters(Layer::Background, self.background),
+            code_if(self.flags.framed, 51),
+            code_if(self.flags.encircled, 52),
+            code_if(self.flags.overlined, 53),
+            color_parameters(Layer::Underline, self.underline_color),
+            code_if(self.flags.ideogram_underline, 60),
+            code_if(self.flags.ideogram_double_underline, 61),
+            code_if(self.flags.ideogram_overline, 62),
+            code_if(self.flags.ideogram_double_overline, 63),
+            code_if(self.flags.ideogram_stress, 64),
+            code_if(self.flags.superscript, 73),
+            code_if(self.flags.subscript, 74),
+        ]
+    }
+
+    /// What clears each attribute that is set, in ascending order of the codes.
+    pub(crate) fn end_parameters(&self) -> [Option<Parameters>; 16]
+        ensures { result ≡ end_parameters self.now }
+    {
+        [
+            code_if(self.font.is_some(), 10),
+            code_if(self.flags.bold || self.flags.faint, 22),
+            code_if(self.flags.italic || self.flags.fraktur, 23),
+            code_if(self.flags.underline || self.flags.double_underline, 24),
+            code_if(self.flags.slow_blink || self.flags.rapid_blink, 25),
+            code_if(self.flags.inverted, 27),
+            code_if(self.flags.hidden, 28),
+            code_if(self.flags.crossed_out, 29),
+            code_if(self.foreground.is_some(), 39),
+            code_if(self.background.is_some(), 49),
+            code_if(self.flags.proportional_spacing, 50),
+            code_if(self.flags.framed || self.flags.encircled, 54),
+            code_if(self.flags.overlined, 55),
+            code_if(self.underline_color.is_some(), 59),
+            code_if(self.has_ideogram_mark(), 65),
+            code_if(self.flags.superscript || self.flags.subscript, 75),
+        ]
+    }
+
+    // Whether one of the five marks is set that 65 clears.
+    fn has_ideogram_mark(&self) -> bool
+        ensures { result ≡ has_ideogram_mark self.now }
+    {
+        self.flags.ideogram_underline
+            || self.flags.ideogram_double_underline
+            || self.flags.ideogram_overline
+            || self.flags.ideogram_double_overline
+            || self.flags.ideogram_stress
+    }
+}
