@@ -8,23 +8,17 @@ use Rattle.ansi_scan.specs.declared.items.Kind.{Kind}
 use Rattle.ansi_scan.specs.declared.items.Kind.TheVariants.{Text, Sgr, Csi, Osc, Esc, Str, Broken}
 use Rattle.ansi_scan.specs.Sequences.{Piece, escape, joined, NoTextFirst, Stands, EachStands, ArePiecesOf}
 use Rattle.ansi_scan.specs.Places.{placed, IsCut}
+use Rattle.ansi_scan.proofs.Forms.{EndsAscii, EndsAscii-HasForm}
 use Rattle.ansi_scan.proofs.Uniqueness.{begins_with_escape, Stands-some}
-
--- the last of the bytes is ASCII
-pub record EndsAscii (bytes : List ℕ) : Type 0 where
-  pub body : List ℕ
-  pub last : ℕ
-  pub spelled : bytes ≡ body ++ last ∷ []
-  pub ascii : last < 128
 
 -- every piece but a text ends with an ASCII byte
 pub EndsAscii-Stands : (kind : Kind) (bytes : List ℕ) (after : List Piece) → Stands kind bytes after → kind ≢ Text → EndsAscii bytes
 EndsAscii-Stands Text bytes after stands other = absurd (other refl)
-EndsAscii-Stands Sgr bytes after stands other = absurd stands
-EndsAscii-Stands Csi bytes after stands other = absurd stands
-EndsAscii-Stands Osc bytes after stands other = absurd stands
-EndsAscii-Stands Esc bytes after stands other = absurd stands
-EndsAscii-Stands Str bytes after stands other = absurd stands
+EndsAscii-Stands Sgr bytes after stands other = EndsAscii-HasForm Sgr bytes stands
+EndsAscii-Stands Csi bytes after stands other = EndsAscii-HasForm Csi bytes stands
+EndsAscii-Stands Osc bytes after stands other = EndsAscii-HasForm Osc bytes stands
+EndsAscii-Stands Esc bytes after stands other = EndsAscii-HasForm Esc bytes stands
+EndsAscii-Stands Str bytes after stands other = EndsAscii-HasForm Str bytes stands
 EndsAscii-Stands Broken bytes after stands other = record { body = []; last = escape; spelled = stands.spelled; ascii = omega arith }
 
 -- the byte behind some others

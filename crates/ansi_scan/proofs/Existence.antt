@@ -1,14 +1,17 @@
 -- The pieces that the function makes are pieces of the text.
-use Rattle.std.proofs.Common.{◌≡◌, ◌≢◌, ◌≤◌, ℕ, zero, suc, List, [], ◌∷◌, ◌++◌, length, take, drop, nat_eq, refl, ap, sym, ◌∙◌, subst, inl, inr, arith}
+use Rattle.std.proofs.Common.{◌≡◌, ◌≢◌, ◌≤◌, ℕ, zero, suc, Option, Some, None, unwrap_or, List, [], ◌∷◌, ◌++◌, length, take, drop, nat_eq, refl, ap, sym, ◌∙◌, subst, inl, inr, arith}
 use Rattle.std.proofs.lemmas.List.{take-append-drop}
+use Rattle.std.proofs.Math.Seq.{take-append_seam}
 use Rattle.std.proofs.lemmas.List.Folds.{length-prefix_len}
 use Rattle.std.proofs.lemmas.Bool.{cases_lt, cases_Bool, not-false, eqb-true}
 use Rattle.ansi_scan.specs.declared.items.Kind.{Kind}
-use Rattle.ansi_scan.specs.declared.items.Kind.TheVariants.{Text}
-use Rattle.ansi_scan.specs.Sequences.{Piece, escape, joined, is_plain, NoTextFirst, Stands, EachStands, ArePiecesOf}
-use Rattle.ansi_scan.specs.Pieces.{text_len, at_escape, front, first_pieces, pieces}
+use Rattle.ansi_scan.specs.declared.items.Kind.TheVariants.{Text, Broken}
+use Rattle.ansi_scan.specs.Sequences.{Piece, escape, joined, is_plain, NoTextFirst, NoFormBegins, Stands, EachStands, ArePiecesOf}
+use Rattle.ansi_scan.specs.Pieces.{text_len, sequence_front, at_escape, front, first_pieces, pieces}
+use Rattle.ansi_scan.proofs.Sound.{FormAtFront, FormAtFront-sequence_front}
+use Rattle.ansi_scan.proofs.Forms.{Stands-HasForm, NoFormBegins-None}
 use Rattle.ansi_scan.proofs.Runs.{prefix_len-pass, list_all-take_run, prefix_len-drop_run}
-use Rattle.ansi_scan.proofs.Fronts.{front-text, front-escape, at_escape-kind, behind_first, length-behind_first}
+use Rattle.ansi_scan.proofs.Fronts.{front-text, front-escape, IsAtEscape-at_escape, behind_first, length-behind_first}
 
 -- joined the pieces are the text
 pub joined-first_pieces : (n : ℕ) (bytes : List ℕ) → length bytes ≤ n → joined (first_pieces n bytes) ≡ bytes
@@ -27,7 +30,7 @@ NoTextFirst-first_pieces zero bytes stops = tt
 NoTextFirst-first_pieces (suc n) [] stops = tt
 NoTextFirst-first_pieces (suc n) (b ∷ bs) stops =
     let IsOther : (Kind × ℕ) → Type 0 = λ f. f.0 ≢ Text in
-    subst IsOther (sym (front-escape (b ∷ bs) stops)) (at_escape-kind (b ∷ bs))
+    subst IsOther (sym (front-escape (b ∷ bs) stops)) (IsAtEscape-at_escape (b ∷ bs)).other
 
 -- a text before which no other byte stands begins with an ESC
 pub starts_with_escape : (b : ℕ) (bs : List ℕ) → text_len (b ∷ bs) ≡ 0 → b ≡ escape
@@ -38,9 +41,22 @@ starts_with_escape b bs stops =
     ]
 
 -- the piece at an ESC stands rightly
+pub Stands-found : (bs : List ℕ) (after : List Piece) (found : Option (Kind × ℕ)) → sequence_front (escape ∷ bs) ≡ found → joined after ≡ drop (unwrap_or found (Broken, 1)).1 (escape ∷ bs) → Stands (unwrap_or found (Broken, 1)).0 (take (unwrap_or found (Broken, 1)).1 (escape ∷ bs)) after
+Stands-found bs after None is rest =
+    let No : List ℕ → Type 0 = λ cs. NoFormBegins (escape ∷ cs) in
+    record { spelled = refl; no_form = subst No (sym rest) (NoFormBegins-None (escape ∷ bs) is) }
+Stands-found bs after (Some found) is rest =
+    let at : FormAtFront (escape ∷ bs) found = FormAtFront-sequence_front bs found is in
+    let own : take found.1 (escape ∷ bs) ≡ at.form =
+    ap (λ n. take n (escape ∷ bs)) at.counted ∙ ap (λ cs. take (length at.form) cs) at.spelled ∙ take-append_seam at.form at.after in
+    let Right : List ℕ → Type 0 = λ cs. Stands found.0 cs after in
+    subst Right (sym own) (Stands-HasForm found.0 at.form after at.has)
+
 pub Stands-at_escape : (b : ℕ) (bs : List ℕ) (after : List Piece) → b ≡ escape → joined after ≡ drop (at_escape (b ∷ bs)).1 (b ∷ bs) → Stands (at_escape (b ∷ bs)).0 (take (at_escape (b ∷ bs)).1 (b ∷ bs)) after
 unfolding at_escape
-Stands-at_escape b bs after is_escape rest = record { spelled = ap (λ c. c ∷ []) is_escape }
+Stands-at_escape b bs after is_escape rest =
+    let Right : ℕ → Type 0 = λ c. joined after ≡ drop (at_escape (c ∷ bs)).1 (c ∷ bs) → Stands (at_escape (c ∷ bs)).0 (take (at_escape (c ∷ bs)).1 (c ∷ bs)) after in
+    subst Right (sym is_escape) (λ left. Stands-found bs after (sequence_front (escape ∷ bs)) refl left) rest
 
 -- the first piece stands rightly
 pub Stands-front : (b : ℕ) (bs : List ℕ) (after : List Piece) → joined after ≡ behind_first (b ∷ bs) → (text_len (joined after) ≡ 0 → NoTextFirst after) → Stands (front (b ∷ bs)).0 (take (front (b ∷ bs)).1 (b ∷ bs)) after

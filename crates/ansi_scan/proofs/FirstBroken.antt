@@ -106,3 +106,22 @@ IsFirstBrokenAnswer-items text items r are is =
     let found : IsFoundFrom 0 are.pieces (find is_broken (placed 0 are.pieces)) = IsFoundFrom-find 0 are.pieces in
     subst (λ o. IsFirstBrokenAnswer text o) (ap (λ xs. option_map (λ (item : Item). item.start) (find is_broken xs)) (sym are.at_places) ∙ sym is)
     (IsFirstBrokenAnswer-find text are.pieces (find is_broken (placed 0 are.pieces)) are.of_text found)
+
+-- a list falls apart in one way at its first Broken piece
+pub same_before : (before : List Piece) (broken : Piece) (after before' : List Piece) (broken' : Piece) (after' : List Piece) → before ++ broken ∷ after ≡ before' ++ broken' ∷ after' → NoneBroken before → broken.kind ≡ Broken → NoneBroken before' → broken'.kind ≡ Broken → length (joined before) ≡ length (joined before')
+same_before [] broken after [] broken' after' same none is none' is' = refl
+same_before [] broken after (q ∷ before') broken' after' same none is none' is' = let first : broken ≡ q = cc same in absurd (none'.0 (ap (λ p. p.kind) (sym first) ∙ is))
+same_before (p ∷ before) broken after [] broken' after' same none is none' is' = let first : p ≡ broken' = cc same in absurd (none.0 (ap (λ q. q.kind) first ∙ is'))
+same_before (p ∷ before) broken after (q ∷ before') broken' after' same none is none' is' =
+    let first : p ≡ q = cc same in
+    let rest : before ++ broken ∷ after ≡ before' ++ broken' ∷ after' = cc same in
+    let len : length p.bytes ≡ length q.bytes = ap (λ p. length p.bytes) first in
+    let lens : length (joined before) ≡ length (joined before') = same_before before broken after before' broken' after' rest none.1 is none'.1 is' in
+    omega (arith, len, lens, length-append p.bytes (joined before), length-append q.bytes (joined before'))
+
+-- a text has one first Broken piece at most
+pub IsFirstBroken-same : (text : List ℕ) (at at' : ℕ) → IsFirstBroken text at → IsFirstBroken text at' → at ≡ at'
+IsFirstBroken-same text at at' one other =
+    let same : one.before ++ one.broken ∷ one.after ≡ other.before ++ other.broken ∷ other.after =
+    sym (pieces-ArePiecesOf text (one.before ++ one.broken ∷ one.after) one.of_text) ∙ pieces-ArePiecesOf text (other.before ++ other.broken ∷ other.after) other.of_text in
+    one.place ∙ same_before one.before one.broken one.after other.before other.broken other.after same one.none_before one.is_broken other.none_before other.is_broken ∙ sym other.place

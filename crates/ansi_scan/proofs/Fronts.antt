@@ -1,11 +1,13 @@
 -- The front of a text, and the pieces one by one.
-use Rattle.std.proofs.Common.{◌≡◌, ◌≢◌, ◌<◌, ◌≤◌, ℕ, zero, suc, List, [], ◌∷◌, length, take, drop, nat_lt, refl, ap, sym, subst, inl, inr, arith, length-drop}
+use Rattle.std.proofs.Common.{◌≡◌, ◌≢◌, ◌+◌, ◌<◌, ◌≤◌, ℕ, zero, suc, Option, Some, None, unwrap_or, List, [], ◌∷◌, length, take, drop, nat_lt, refl, ap, sym, ◌∙◌, subst, inl, inr, arith, length-append, length-drop}
 use Rattle.std.proofs.lemmas.Bool.{cases_lt, cond-true, cond-false, lt-ltb, le-ltb}
 use Rattle.std.proofs.lemmas.List.Sums.{prefix_len-le-length}
 use Rattle.ansi_scan.specs.declared.items.Kind.{Kind}
-use Rattle.ansi_scan.specs.declared.items.Kind.TheVariants.{Text}
-use Rattle.ansi_scan.specs.Sequences.{Piece, is_plain}
-use Rattle.ansi_scan.specs.Pieces.{text_len, at_escape, front, first_pieces, pieces}
+use Rattle.ansi_scan.specs.declared.items.Kind.TheVariants.{Text, Broken}
+use Rattle.ansi_scan.specs.Sequences.{Piece, escape, is_plain}
+use Rattle.ansi_scan.specs.Pieces.{text_len, sequence_front, at_escape, front, first_pieces, pieces}
+use Rattle.ansi_scan.proofs.Sound.{FormAtFront, FormAtFront-sequence_front}
+use Rattle.ansi_scan.proofs.Forms.{HasForm-some, HasForm-other}
 
 -- where the text does not begin with an ESC
 pub front-text : (bytes : List ℕ) → 0 < text_len bytes → front bytes ≡ (Text, text_len bytes)
@@ -17,18 +19,34 @@ pub front-escape : (bytes : List ℕ) → text_len bytes ≡ 0 → front bytes �
 unfolding front
 front-escape bytes none = cond-false (nat_lt 0 (text_len bytes)) (Text, text_len bytes) (at_escape bytes) (le-ltb 0 (text_len bytes) (omega arith))
 
+-- the byte that is an ESC is not looked at again
+pub sequence_front-first : (b c : ℕ) (bs : List ℕ) → sequence_front (b ∷ bs) ≡ sequence_front (c ∷ bs)
+unfolding sequence_front
+sequence_front-first b c [] = refl
+sequence_front-first b c (opener ∷ rest) = refl
+
 -- a piece that begins with an ESC has a byte, is no longer than the text, and is no Text piece
-pub at_escape-some : (bytes : List ℕ) → 0 < (at_escape bytes).1
-unfolding at_escape
-at_escape-some bytes = omega arith
+pub record IsAtEscape (bytes : List ℕ) (found : Kind × ℕ) : Type 0 where
+  pub some : 0 < found.1
+  pub in_range : 0 < length bytes → found.1 ≤ length bytes
+  pub other : found.0 ≢ Text
 
-pub at_escape-in_range : (bytes : List ℕ) → 0 < length bytes → (at_escape bytes).1 ≤ length bytes
-unfolding at_escape
-at_escape-in_range bytes some = omega arith
+pub IsAtEscape-found : (bytes : List ℕ) (found : Option (Kind × ℕ)) → sequence_front bytes ≡ found → IsAtEscape bytes (unwrap_or found (Broken, 1))
+unfolding sequence_front
+IsAtEscape-found bytes None is = record { some = omega arith; in_range = λ nonempty. nonempty; other = λ same. cc same }
+IsAtEscape-found [] (Some found) is = absurd (let none : None ≡ Some found = is in cc none)
+IsAtEscape-found (b ∷ bs) (Some found) is =
+    let at : FormAtFront (escape ∷ bs) found = FormAtFront-sequence_front bs found (sequence_front-first escape b bs ∙ is) in
+    let len : suc (length bs) ≡ length at.form + length at.after = ap length at.spelled ∙ length-append at.form at.after in
+    record {
+      some = omega (arith, at.counted, HasForm-some found.0 at.form at.has);
+      in_range = λ nonempty. (let within : found.1 ≤ suc (length bs) = omega (arith, at.counted, len) in within);
+      other = HasForm-other found.0 at.form at.has;
+    }
 
-pub at_escape-kind : (bytes : List ℕ) → (at_escape bytes).0 ≢ Text
+pub IsAtEscape-at_escape : (bytes : List ℕ) → IsAtEscape bytes (at_escape bytes)
 unfolding at_escape
-at_escape-kind bytes same = cc
+IsAtEscape-at_escape bytes = IsAtEscape-found bytes (sequence_front bytes) refl
 
 -- the first piece has a byte
 pub front-some : (bytes : List ℕ) → 0 < (front bytes).1
@@ -36,7 +54,7 @@ front-some bytes =
     let Some_ : (Kind × ℕ) → Type 0 = λ f. 0 < f.1 in
     elim (cases_lt 0 (text_len bytes)) [
       | inl some ↦ subst Some_ (sym (front-text bytes some)) some
-      | inr none ↦ subst Some_ (sym (front-escape bytes (omega arith))) (at_escape-some bytes)
+      | inr none ↦ subst Some_ (sym (front-escape bytes (omega arith))) (IsAtEscape-at_escape bytes).some
     ]
 
 -- the first piece is no longer than the text
@@ -45,7 +63,7 @@ front-in_range bytes nonempty =
     let Fits_ : (Kind × ℕ) → Type 0 = λ f. f.1 ≤ length bytes in
     elim (cases_lt 0 (text_len bytes)) [
       | inl some ↦ subst Fits_ (sym (front-text bytes some)) (prefix_len-le-length is_plain bytes)
-      | inr none ↦ subst Fits_ (sym (front-escape bytes (omega arith))) (at_escape-in_range bytes nonempty)
+      | inr none ↦ subst Fits_ (sym (front-escape bytes (omega arith))) ((IsAtEscape-at_escape bytes).in_range nonempty)
     ]
 
 -- the first piece, as `first_pieces` makes it

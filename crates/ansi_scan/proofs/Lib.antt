@@ -1,4 +1,8 @@
 pub mod Runs
+pub mod ByteClasses
+pub mod Complete
+pub mod Sound
+pub mod Forms
 pub mod Fronts
 pub mod Existence
 pub mod Uniqueness
@@ -6,3 +10,5 @@ pub mod Reading
 pub mod Stepping
 pub mod Boundaries
 pub mod FirstBroken
+pub mod Joins
+pub mod Renditions

@@ -1,6 +1,9 @@
 -- The pieces of a text read again at their places.
 use Rattle.std.proofs.Common.{◌≡◌, ◌+◌, ◌-◌, ℕ, List, [], ◌∷◌, ◌++◌, length, take, drop, map, slice_range, refl, ap, sym, ◌∙◌, arith, append_assoc, length-append}
 use Rattle.std.proofs.Math.Seq.{take-append_seam, drop-append_seam}
+use Rattle.std.specs.List.{flat_map, fold}
+use Rattle.std.proofs.lemmas.List.{map-id}
+use Rattle.std.proofs.lemmas.List.Folds.{flat_map-map, fold-map}
 use Rattle.ansi_scan.specs.Sequences.{Piece, joined}
 use Rattle.ansi_scan.specs.Places.{placed, piece_at}
 
@@ -29,10 +32,13 @@ map-placed_behind f text before (p ∷ ps) joins =
 pub map-placed : {X : Type 0} (f : Piece → X) (text : List ℕ) (ps : List Piece) → joined ps ≡ text → map (λ item. f (piece_at text item)) (placed 0 ps) ≡ map f ps
 map-placed f text ps joins = map-placed_behind f text [] ps joins
 
-pub map-same : (ps : List Piece) → map (λ p. p) ps ≡ ps
-map-same [] = refl
-map-same (p ∷ ps) = ap (λ qs. p ∷ qs) (map-same ps)
-
 -- the pieces of a text stand in it at their places
 pub map-piece_at : (text : List ℕ) (ps : List Piece) → joined ps ≡ text → map (piece_at text) (placed 0 ps) ≡ ps
-map-piece_at text ps joins = map-placed (λ p. p) text ps joins ∙ map-same ps
+map-piece_at text ps joins = map-placed (λ p. p) text ps joins ∙ map-id ps
+
+-- the same for lists that are made of each piece, and for a fold over the pieces
+pub flat_map-placed : {X : Type 0} (f : Piece → List X) (text : List ℕ) (ps : List Piece) → joined ps ≡ text → flat_map (λ item. f (piece_at text item)) (placed 0 ps) ≡ flat_map f ps
+flat_map-placed f text ps joins = sym (flat_map-map f (piece_at text) (placed 0 ps)) ∙ ap (λ qs. flat_map f qs) (map-piece_at text ps joins)
+
+pub fold-placed : {X : Type 0} (f : X → Piece → X) (x : X) (text : List ℕ) (ps : List Piece) → joined ps ≡ text → fold (λ y item. f y (piece_at text item)) x (placed 0 ps) ≡ fold f x ps
+fold-placed f x text ps joins = sym (fold-map f (piece_at text) x (placed 0 ps)) ∙ ap (λ qs. fold f x qs) (map-piece_at text ps joins)

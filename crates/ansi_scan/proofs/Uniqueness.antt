@@ -1,21 +1,22 @@
 -- A text has no other pieces than those that the function makes.
-use Rattle.std.proofs.Common.{◌≡◌, ◌≢◌, ◌<◌, ℕ, List, [], ◌∷◌, ◌++◌, length, take, drop, refl, ap, sym, ◌∙◌, arith, length-append}
+use Rattle.std.proofs.Common.{◌≡◌, ◌≢◌, ◌<◌, ℕ, unwrap_or, List, [], ◌∷◌, ◌++◌, length, take, drop, refl, ap, sym, ◌∙◌, arith, length-append}
 use Rattle.std.proofs.Math.Seq.{take-append_seam, drop-append_seam}
 use Rattle.ansi_scan.specs.declared.items.Kind.{Kind}
 use Rattle.ansi_scan.specs.declared.items.Kind.TheVariants.{Text, Sgr, Csi, Osc, Esc, Str, Broken}
-use Rattle.ansi_scan.specs.Sequences.{Piece, escape, joined, is_plain, NoTextFirst, Stands, EachStands, ArePiecesOf}
-use Rattle.ansi_scan.specs.Pieces.{text_len, at_escape, front, first_pieces, pieces}
+use Rattle.ansi_scan.specs.Sequences.{Piece, escape, joined, is_plain, NoTextFirst, HasForm, NoFormBegins, Stands, EachStands, ArePiecesOf}
+use Rattle.ansi_scan.specs.Pieces.{text_len, sequence_front, at_escape, front, first_pieces, pieces}
+use Rattle.ansi_scan.proofs.Forms.{HasForm-starts, HasForm-some, sequence_front-HasForm, found-NoFormBegins}
 use Rattle.ansi_scan.proofs.Runs.{prefix_len-run}
 use Rattle.ansi_scan.proofs.Fronts.{front-text, front-escape, pieces-step}
 
 -- every piece but a text begins with an ESC
 pub begins_with_escape : (kind : Kind) (bytes : List ℕ) (after : List Piece) → Stands kind bytes after → kind ≢ Text → (rest : List ℕ) × (bytes ≡ escape ∷ rest)
 begins_with_escape Text bytes after stands other = absurd (other refl)
-begins_with_escape Sgr bytes after stands other = absurd stands
-begins_with_escape Csi bytes after stands other = absurd stands
-begins_with_escape Osc bytes after stands other = absurd stands
-begins_with_escape Esc bytes after stands other = absurd stands
-begins_with_escape Str bytes after stands other = absurd stands
+begins_with_escape Sgr bytes after stands other = HasForm-starts Sgr bytes stands
+begins_with_escape Csi bytes after stands other = HasForm-starts Csi bytes stands
+begins_with_escape Osc bytes after stands other = HasForm-starts Osc bytes stands
+begins_with_escape Esc bytes after stands other = HasForm-starts Esc bytes stands
+begins_with_escape Str bytes after stands other = HasForm-starts Str bytes stands
 begins_with_escape Broken bytes after stands other = ([], stands.spelled)
 
 -- where no Text piece stands first, the pieces begin with an ESC or are none
@@ -28,23 +29,35 @@ text_len-joined (p ∷ ps) each none_first =
 -- a piece is never empty
 pub Stands-some : (kind : Kind) (bytes : List ℕ) (after : List Piece) → Stands kind bytes after → 0 < length bytes
 Stands-some Text bytes after stands = stands.some
-Stands-some Sgr bytes after stands = absurd stands
-Stands-some Csi bytes after stands = absurd stands
-Stands-some Osc bytes after stands = absurd stands
-Stands-some Esc bytes after stands = absurd stands
-Stands-some Str bytes after stands = absurd stands
+Stands-some Sgr bytes after stands = HasForm-some Sgr bytes stands
+Stands-some Csi bytes after stands = HasForm-some Csi bytes stands
+Stands-some Osc bytes after stands = HasForm-some Osc bytes stands
+Stands-some Esc bytes after stands = HasForm-some Esc bytes stands
+Stands-some Str bytes after stands = HasForm-some Str bytes stands
 Stands-some Broken bytes after stands = let len : length bytes ≡ 1 = ap length stands.spelled in omega (arith, len)
+
+-- at an ESC the function finds the sequence that stands there
+pub at_escape-HasForm : (kind : Kind) (bytes after : List ℕ) → HasForm kind bytes → at_escape (bytes ++ after) ≡ (kind, length bytes)
+unfolding at_escape
+at_escape-HasForm kind bytes after has = ap (λ found. unwrap_or found (Broken, 1)) (sequence_front-HasForm kind bytes after has)
+
+-- or that none does
+pub at_escape-NoFormBegins : (bytes rest : List ℕ) → bytes ≡ escape ∷ [] → NoFormBegins (escape ∷ rest) → at_escape (bytes ++ rest) ≡ (Broken, length bytes)
+unfolding at_escape
+at_escape-NoFormBegins bytes rest spelled none =
+    ap (λ bs. at_escape (bs ++ rest)) spelled
+    ∙ ap (λ found. unwrap_or found (Broken, 1)) (found-NoFormBegins rest (sequence_front (escape ∷ rest)) refl none)
+    ∙ ap (λ bs. (Broken, length bs)) (sym spelled)
 
 -- at an ESC the function finds the piece that stands there
 pub at_escape-stands : (kind : Kind) (bytes : List ℕ) (after : List Piece) → Stands kind bytes after → EachStands after → kind ≢ Text → at_escape (bytes ++ joined after) ≡ (kind, length bytes)
-unfolding at_escape
 at_escape-stands Text bytes after stands each other = absurd (other refl)
-at_escape-stands Sgr bytes after stands each other = absurd stands
-at_escape-stands Csi bytes after stands each other = absurd stands
-at_escape-stands Osc bytes after stands each other = absurd stands
-at_escape-stands Esc bytes after stands each other = absurd stands
-at_escape-stands Str bytes after stands each other = absurd stands
-at_escape-stands Broken bytes after stands each other = ap (λ bs. (Broken, length bs)) (sym stands.spelled)
+at_escape-stands Sgr bytes after stands each other = at_escape-HasForm Sgr bytes (joined after) stands
+at_escape-stands Csi bytes after stands each other = at_escape-HasForm Csi bytes (joined after) stands
+at_escape-stands Osc bytes after stands each other = at_escape-HasForm Osc bytes (joined after) stands
+at_escape-stands Esc bytes after stands each other = at_escape-HasForm Esc bytes (joined after) stands
+at_escape-stands Str bytes after stands each other = at_escape-HasForm Str bytes (joined after) stands
+at_escape-stands Broken bytes after stands each other = at_escape-NoFormBegins bytes (joined after) stands.spelled stands.no_form
 
 -- a piece other than a text is found at the front
 pub front-other : (kind : Kind) (bytes : List ℕ) (after : List Piece) → Stands kind bytes after → EachStands after → kind ≢ Text → front (bytes ++ joined after) ≡ (kind, length bytes)
@@ -86,3 +99,7 @@ pieces-joined (p ∷ ps) each =
 -- pieces of a text are those that the function makes of it
 pub pieces-ArePiecesOf : (text : List ℕ) (ps : List Piece) → ArePiecesOf text ps → pieces text ≡ ps
 pieces-ArePiecesOf text ps are = ap pieces (sym are.joins) ∙ pieces-joined ps are.stand
+
+-- a text has one list of pieces
+pub ArePiecesOf-unique : (text : List ℕ) (ps qs : List Piece) → ArePiecesOf text ps → ArePiecesOf text qs → ps ≡ qs
+ArePiecesOf-unique text ps qs first second = sym (pieces-ArePiecesOf text ps first) ∙ pieces-ArePiecesOf text qs second

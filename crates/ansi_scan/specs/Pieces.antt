@@ -1,17 +1,68 @@
 -- The pieces of a text as a function, the tool by which the relation of `Sequences` is proved.
-use Rattle.std.specs.Prelude.{ℕ, zero, suc, List, [], ◌∷◌, length, take, drop, nat_lt, cond}
+use Rattle.std.specs.Prelude.{◌+◌, ◌==◌, ℕ, zero, suc, Bool, true, false, ◌&&◌, ◌||◌, not, List, [], ◌∷◌, Option, Some, None, length, take, drop, nat_lt, cond, slice_index, unwrap_or}
 use Rattle.std.specs.List.{prefix_len}
+use Rattle.std.specs.Option.{option_map}
 use Rattle.ansi_scan.specs.declared.items.Kind.{Kind}
-use Rattle.ansi_scan.specs.declared.items.Kind.TheVariants.{Text, Broken}
-use Rattle.ansi_scan.specs.Sequences.{Piece, is_plain}
+use Rattle.ansi_scan.specs.declared.items.Kind.TheVariants.{Text, Sgr, Csi, Osc, Esc, Str, Broken}
+use Rattle.ansi_scan.specs.Sequences.{Piece, escape, bell, is_plain, is_parameter, is_intermediate, is_final, is_numeric, is_escape_final, is_string_byte, opens_string}
 
 -- how many bytes stand before the first ESC
 abbrev pub text_len : List ℕ → ℕ
 text_len bytes = prefix_len is_plain bytes
 
+-- behind `len` bytes of a control sequence, of which `numeric` says that all are numeric, and
+-- `parameters` that all are parameter bytes: what it is, and its length
+unfoldable pub control_from : ℕ → Bool → Bool → List ℕ → Option (Kind × ℕ)
+control_from len numeric parameters [] = None
+control_from len numeric parameters (b ∷ bs) =
+    cond (parameters && is_parameter b || is_intermediate b)
+    (control_from (len + 1) (numeric && is_numeric b) (parameters && is_parameter b) bs)
+    (cond (is_final b) (Some (cond (numeric && b == 0x6d) Sgr Csi, len + 1)) None)
+
+-- a byte of the string, where BELL may end it
+abbrev pub is_inside : Bool → ℕ → Bool
+is_inside bell_ends b = not (bell_ends && b == bell) && is_string_byte b
+
+-- behind `len` bytes of a string: its length with the end, where this byte ends it
+abbrev pub string_end : ℕ → Bool → ℕ → List ℕ → Option ℕ
+string_end len bell_ends b bs =
+    cond (bell_ends && b == bell) (Some (len + 1))
+    (cond (b == escape && slice_index bs 0 == 0x5c) (Some (len + 2)) None)
+
+-- behind `len` bytes of a string: its length with the end
+unfoldable pub string_from : ℕ → Bool → List ℕ → Option ℕ
+string_from len bell_ends [] = None
+string_from len bell_ends (b ∷ bs) =
+    cond (is_inside bell_ends b) (string_from (len + 1) bell_ends bs) (string_end len bell_ends b bs)
+
+-- behind `len` intermediate bytes of an escape sequence: their length with the final byte
+unfoldable pub escape_from : ℕ → List ℕ → Option ℕ
+escape_from len [] = None
+escape_from len (b ∷ bs) =
+    cond (is_intermediate b) (escape_from (len + 1) bs) (cond (is_escape_final b) (Some (len + 1)) None)
+
+-- the sequence of this kind, of which two bytes are known
+abbrev pub behind_opener : Kind → Option ℕ → Option (Kind × ℕ)
+behind_opener kind len = option_map (λ n. (kind, n + 2)) len
+
+-- the sequence that ESC and this byte begin
+unfoldable pub opened : ℕ → List ℕ → Option (Kind × ℕ)
+opened opener rest =
+    cond (opener == 0x5b) (option_map (λ found. (found.0, found.1 + 2)) (control_from 0 true true rest))
+    (cond (opener == 0x5d) (behind_opener Osc (string_from 0 true rest))
+    (cond (opens_string opener) (behind_opener Str (string_from 0 false rest))
+    (cond (is_intermediate opener) (behind_opener Esc (escape_from 0 rest))
+    (cond (is_escape_final opener) (Some (Esc, 2)) None))))
+
+-- the kind and the length of the sequence at the front of bytes that begin with an ESC
+unfoldable pub sequence_front : List ℕ → Option (Kind × ℕ)
+sequence_front [] = None
+sequence_front (b ∷ []) = None
+sequence_front (b ∷ opener ∷ rest) = opened opener rest
+
 -- the kind and the length of the piece that begins with an ESC
 unfoldable pub at_escape : List ℕ → Kind × ℕ
-at_escape bytes = (Broken, 1)
+at_escape bytes = unwrap_or (sequence_front bytes) (Broken, 1)
 
 -- the kind and the length of the first piece
 unfoldable pub front : List ℕ → Kind × ℕ

@@ -9,15 +9,18 @@ use crate::sequences::front;
 pub enum Kind {
     /// Characters other than ESC, up to the next ESC or the end of the text.
     Text,
-    /// SELECT GRAPHIC RENDITION, a control sequence.
+    /// SELECT GRAPHIC RENDITION: ESC and `[`, digits, `;` and `:`, then `m` (ECMA-48, 8.3.117).
     Sgr,
-    /// Any other control sequence.
+    /// Any other control sequence: ESC and `[`, parameter bytes 0x30 to 0x3f, intermediate bytes
+    /// 0x20 to 0x2f, one final byte 0x40 to 0x7e (ECMA-48, 5.4).
     Csi,
-    /// An operating system command.
+    /// An operating system command: ESC and `]`, a string, then BEL or ESC and `\` (ECMA-48, 8.3.89).
     Osc,
-    /// Any other escape sequence.
+    /// An escape sequence: ESC, intermediate bytes 0x20 to 0x2f, one final byte 0x30 to 0x7e that
+    /// without intermediate bytes opens nothing longer (ECMA-35).
     Esc,
-    /// Any other control string.
+    /// Any other control string: ESC and `P`, `X`, `^` or `_`, a string, then ESC and `\`
+    /// (ECMA-48, 5.6). No string holds ESC, CANCEL or SUBSTITUTE.
     Str,
     /// An ESC by which no sequence begins.
     Broken,

@@ -1,16 +1,43 @@
 //! Laws of the definitions that the other contracts cite.
 
-ghost use Rattle.std.specs.Prelude.{◌≡◌, ℕ, List, map};
-ghost use Rattle.ansi_scan.specs.Sequences.{Piece, ArePiecesOf};
+ghost use Rattle.std.specs.Prelude.{◌≡◌, ◌↔◌, ℕ, List, map, ◌++◌, IsSome};
+ghost use Rattle.ansi_scan.specs.Sequences.{Piece, ArePiecesOf, IsWhole, IsFirstBroken, IsSgr, NoneBroken};
 ghost use Rattle.ansi_scan.specs.Places.{placed, piece_at};
+ghost use Rattle.ansi_scan.specs.Joining.{put_all_before};
+ghost use Rattle.ansi_scan_style.specs.Attributes.{Attributes};
+ghost use Rattle.ansi_scan_style.specs.Rendition.{applied, sgr_parameters};
 
 /// Every list of bytes has one list of pieces.
 pub fn one_list()
     ensures exists { (text : List ℕ) → (ps : List Piece) × ArePiecesOf text ps }
-    ensures unique { (text : List ℕ) (ps qs : List Piece) → ArePiecesOf text ps → ArePiecesOf text qs → ps ≡ qs }
+    ensures unique { (text : List ℕ) (ps qs : List Piece) →
+        ArePiecesOf text ps → ArePiecesOf text qs → ps ≡ qs }
+{}
+
+/// A text has one first Broken piece at most, and a whole text has none.
+pub fn one_first_broken()
+    ensures unique { (text : List ℕ) (at other : ℕ) →
+        IsFirstBroken text at → IsFirstBroken text other → at ≡ other }
+    ensures not_whole { (text : List ℕ) (at : ℕ) → IsFirstBroken text at → ¬ IsWhole text }
 {}
 
 /// Read again at their places, the pieces of a text are what they were.
 pub fn read_at_places()
-    ensures { (text : List ℕ) (ps : List Piece) → ArePiecesOf text ps → map (piece_at text) (placed 0 ps) ≡ ps }
+    ensures { (text : List ℕ) (ps : List Piece) →
+        ArePiecesOf text ps → map (piece_at text) (placed 0 ps) ≡ ps }
+{}
+
+/// The pieces of a whole text and of any text behind it are the pieces of both together, where
+/// neighbouring Text pieces are made one. So two whole texts make a whole text.
+pub fn whole_texts_join()
+    ensures joins { (text other : List ℕ) (ps qs : List Piece) →
+        ArePiecesOf text ps → NoneBroken ps → ArePiecesOf other qs →
+        ArePiecesOf (text ++ other) (put_all_before ps qs) }
+    ensures whole { (text other : List ℕ) → IsWhole text → IsWhole other → IsWhole (text ++ other) }
+{}
+
+/// The sequences that a style reads are those of the kind Sgr, and no other bytes change it.
+pub fn renditions_apply()
+    ensures same { (bytes : List ℕ) → IsSgr bytes ↔ IsSome (sgr_parameters bytes) }
+    ensures other { (a : Attributes) (bytes : List ℕ) → ¬ IsSgr bytes → applied a bytes ≡ a }
 {}

@@ -1,5 +1,5 @@
 //! The items of a text that may hold control sequences (ECMA-48): what is text, and what is a
-//! control sequence.
+//! control sequence; and the styles that its sequences of SELECT GRAPHIC RENDITION set.
 #![tactic(auto)]
 
 ghost use Rattle.std.specs.Prelude.{◌≡◌, ◌≤◌, ◌↔◌, All, IfSome, IsNone, IsTrue, find, length};
@@ -12,6 +12,7 @@ mod items;
 pub mod laws;
 mod sequences;
 
+pub use ansi_scan_style::{AnsiColor, AnsiSequenceEnd, AnsiSequenceStart, Style};
 pub use items::{Item, Kind, Scan};
 
 /// The items of a text in order, each with the bytes at which it begins and ends.

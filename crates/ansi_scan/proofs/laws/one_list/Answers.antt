@@ -1,12 +1,11 @@
 -- The function makes pieces of every text, and there are no others.
-use Rattle.std.proofs.Common.{sym, ◌∙◌}
 use Rattle.ansi_scan.specs.Pieces.{pieces}
 use Rattle.ansi_scan.proofs.Existence.{ArePiecesOf-pieces}
-use Rattle.ansi_scan.proofs.Uniqueness.{pieces-ArePiecesOf}
+use Rattle.ansi_scan.proofs.Uniqueness.{ArePiecesOf-unique}
 use Rattle.ansi_scan.proofs.laws.one_list.Goals as goal
 
 pub returns-clause-exists : goal.returns-clause-exists
 returns-clause-exists c = λ text. (pieces text, ArePiecesOf-pieces text)
 
 pub returns-clause-unique : goal.returns-clause-unique
-returns-clause-unique c = λ text ps qs first second. sym (pieces-ArePiecesOf text ps first) ∙ pieces-ArePiecesOf text qs second
+returns-clause-unique c = ArePiecesOf-unique
