@@ -1,0 +1,4 @@
+pub mod FirstItem
+pub mod FirstBlock
+pub mod Stripping
+pub mod Shown

@@ -1,0 +1,2 @@
+pub mod StyledText
+pub mod Blocks

@@ -1,0 +1,28 @@
+//! Text with escape sequences, read as what it shows (ECMA-48).
+#![tactic(auto)]
+
+ghost use Rattle.std.specs.Prelude.{◌≡◌, ◌≤◌, List, length};
+ghost use Rattle.ansi_scan.specs.Sequences.{Piece, ArePiecesOf};
+ghost use Rattle.ansi_scan.specs.Attributes.{plain_attributes};
+ghost use Rattle.ansi_str.specs.Blocks.{blocks_from};
+
+mod blocks;
+pub mod laws;
+mod strip;
+mod text;
+
+pub use blocks::{AnsiBlock, AnsiBlockIter};
+pub use text::AnsiStr;
+
+/// The blocks of a text: one for each of its items of text, with the style known before it. Takes
+/// no memory.
+pub fn get_blocks(text: &str) -> AnsiBlockIter<'_>
+    ensures blocks { (pieces : List Piece) → ArePiecesOf text.now pieces →
+        result ≡ blocks_from plain_attributes pieces }
+    ensures count { length result ≤ length text.now }
+{
+    AnsiBlockIter::new(text)
+}
+
+#[cfg(test)]
+mod tests;
