@@ -5,3 +5,4 @@ pub mod Joining
 pub mod Scan
 pub use Rattle.ansi_scan_style.specs.Attributes
 pub use Rattle.ansi_scan_style.specs.Rendition
+pub use Rattle.ansi_scan_style.specs.Sequences as StartsAndEnds

@@ -1,2 +1,4 @@
 pub mod StyledText
 pub mod Blocks
+pub mod Parts
+pub mod WorkedParts

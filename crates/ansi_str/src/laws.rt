@@ -1,9 +1,11 @@
 //! Laws of the definitions that the other contracts cite.
 
-ghost use Rattle.std.specs.Prelude.{◌≡◌, ℕ, List, false, flat_map};
-ghost use Rattle.ansi_scan.specs.Sequences.{Piece, ArePiecesOf};
+ghost use Rattle.std.specs.Prelude.{◌≡◌, ◌≤◌, ◌-◌, ℕ, List, [], ◌∷◌, ◌++◌, codes, drop, false, flat_map};
+ghost use Rattle.ansi_scan.specs.Sequences.{Piece, ArePiecesOf, joined};
 ghost use Rattle.ansi_scan.specs.Attributes.{plain_attributes};
-ghost use Rattle.ansi_str.specs.StyledText.{has_escape, strip, styled};
+ghost use Rattle.ansi_str.specs.StyledText.{has_escape, strip, style_after_all, styled};
+ghost use Rattle.ansi_str.specs.Parts.{before_place, dressed, from_place, split_part, through_place};
+ghost use Rattle.ansi_str.specs.WorkedParts.{black_text, two_lines};
 ghost use Rattle.ansi_str.specs.Blocks.{blocks_from, text_of_block, styled_of_block};
 
 /// Without its sequences a text has no ESC, and without its sequences once more it is the same.
@@ -27,4 +29,33 @@ pub fn blocks_in_order()
         flat_map text_of_block (blocks_from plain_attributes pieces) ≡ strip pieces }
     ensures characters { (pieces : List Piece) →
         flat_map styled_of_block (blocks_from plain_attributes pieces) ≡ styled pieces }
+{}
+
+/// A text is cut at a place into two: joined they are the text, what is behind the place are pieces
+/// of a text, and it shows what the text shows from there on.
+pub fn cut_at_places()
+    ensures joined { (n : ℕ) (pieces : List Piece) →
+        joined pieces ≡ joined (before_place n pieces) ++ joined (from_place n pieces) }
+    ensures pieces { (text : List ℕ) (pieces : List Piece) (n : ℕ) →
+        ArePiecesOf text pieces → ArePiecesOf (joined (from_place n pieces)) (from_place n pieces) }
+    ensures strip { (n : ℕ) (pieces : List Piece) →
+        strip (from_place n pieces) ≡ drop n (strip pieces) }
+{}
+
+/// A part of a split is one slice of the text, between the start of the style known at the slice
+/// and the end of the style then open.
+pub fn parts_are_slices()
+    ensures { (a b : ℕ) (pieces : List Piece) → a ≤ b →
+        split_part a b pieces ≡ dressed (style_after_all plain_attributes (before_place a pieces))
+        (through_place (b - a) (from_place a pieces)) }
+{}
+
+/// Parts worked out by hand: a text split at `456`, and one split at its line feed.
+pub fn worked_parts()
+    ensures before { split_part 0 4 black_text ≡ codes "\u{1b}[30m123:\u{1b}[39m" }
+    ensures behind { split_part 7 7 black_text ≡ codes "\u{1b}[30m\u{1b}[39m" }
+    ensures first_line { split_part 0 3 two_lines ≡
+        codes "\u{1b}[2;48;5;10m\u{1b}[38;5;20mDar\u{1b}[22m\u{1b}[39m\u{1b}[49m" }
+    ensures second_line { split_part 4 7 two_lines ≡
+        codes "\u{1b}[2m\u{1b}[38;5;20m\u{1b}[48;5;10mren\u{1b}[0m" }
 {}
