@@ -12,3 +12,5 @@ pub mod Boundaries
 pub mod FirstBroken
 pub mod Joins
 pub mod Renditions
+pub use Rattle.ansi_scan_style.proofs.Effects
+pub use Rattle.ansi_scan_style.proofs.Kept

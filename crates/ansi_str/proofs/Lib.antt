@@ -5,3 +5,4 @@ pub mod Shown
 pub mod PartLemmas
 pub mod StyleLemmas
 pub mod PlaceLemmas
+pub mod DressedLemmas

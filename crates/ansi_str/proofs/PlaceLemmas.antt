@@ -13,7 +13,7 @@ use Rattle.ansi_str.specs.Parts.{piece_from, from_place, front_of, before_place,
 use Rattle.ansi_str.proofs.PartLemmas.{below, not_below, not_zero, text_of-text, text_of-sequence}
 
 -- how a number of bytes of text compares with a piece
-data Reach (n : ℕ) (piece : Piece) : Type 0 where
+pub data Reach (n : ℕ) (piece : Piece) : Type 0 where
   none : n ≡ 0 → Reach n piece
   inside : 0 < n → n < length (text_of piece) → Reach n piece
   past : 0 < n → length (text_of piece) ≤ n → Reach n piece
@@ -23,7 +23,7 @@ reach-at n piece true cut e f = none (eqb-true n 0 e)
 reach-at n piece false true e f = let some : 0 < n = grind (arith, nat_tests) in let short : n < length (text_of piece) = grind (arith, nat_tests) in inside some short
 reach-at n piece false false e f = let some : 0 < n = grind (arith, nat_tests) in let long : length (text_of piece) ≤ n = grind (arith, nat_tests) in past some long
 
-reach : (n : ℕ) (piece : Piece) → Reach n piece
+pub reach : (n : ℕ) (piece : Piece) → Reach n piece
 reach n piece = reach-at n piece (n == 0) (nat_lt n (length (text_of piece))) refl refl
 
 -- a piece with text is one of text
@@ -31,7 +31,7 @@ text_kind : (piece : Piece) (n : ℕ) (text : Bool) → n < length (text_of piec
 text_kind piece n true h e = e
 text_kind piece n false h e = let gone : length (text_of piece) ≡ 0 = ap length (text_of-sequence piece e) in absurd (omega arith)
 
-has_text : (piece : Piece) (n : ℕ) → n < length (text_of piece) → is_text_kind piece.kind ≡ true
+pub has_text : (piece : Piece) (n : ℕ) → n < length (text_of piece) → is_text_kind piece.kind ≡ true
 has_text piece n h = text_kind piece n (is_text_kind piece.kind) h refl
 
 module _ (n : ℕ) (piece : Piece) (pieces : List Piece) where

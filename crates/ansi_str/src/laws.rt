@@ -1,9 +1,9 @@
 //! Laws of the definitions that the other contracts cite.
 
 ghost use Rattle.std.specs.Prelude.{◌≡◌, ◌≤◌, ◌-◌, ℕ, List, [], ◌∷◌, ◌++◌, codes, drop, false, flat_map};
-ghost use Rattle.ansi_scan.specs.Sequences.{Piece, ArePiecesOf, joined};
+ghost use Rattle.ansi_scan.specs.Sequences.{Piece, ArePiecesOf, NoneBroken, joined};
 ghost use Rattle.ansi_scan.specs.Attributes.{plain_attributes};
-ghost use Rattle.ansi_str.specs.StyledText.{has_escape, strip, style_after_all, styled};
+ghost use Rattle.ansi_str.specs.StyledText.{IsClosed, has_escape, strip, style_after_all, styled, styled_from};
 ghost use Rattle.ansi_str.specs.Parts.{before_place, dressed, from_place, split_part, through_place};
 ghost use Rattle.ansi_str.specs.WorkedParts.{black_text, two_lines};
 ghost use Rattle.ansi_str.specs.Blocks.{blocks_from, text_of_block, styled_of_block};
@@ -48,6 +48,19 @@ pub fn parts_are_slices()
     ensures { (a b : ℕ) (pieces : List Piece) → a ≤ b →
         split_part a b pieces ≡ dressed (style_after_all plain_attributes (before_place a pieces))
         (through_place (b - a) (from_place a pieces)) }
+{}
+
+/// A part of a split of a whole text shows the characters of its slice, in the styles that they have
+/// in the text, and it is closed.
+pub fn parts_show_their_slices()
+    ensures shown { (text : List ℕ) (pieces of_part : List Piece) (a b : ℕ) → a ≤ b →
+        ArePiecesOf text pieces → NoneBroken pieces →
+        ArePiecesOf (split_part a b pieces) of_part →
+        styled of_part ≡ styled_from (style_after_all plain_attributes (before_place a pieces))
+        (through_place (b - a) (from_place a pieces)) }
+    ensures closed { (text : List ℕ) (pieces of_part : List Piece) (a b : ℕ) → a ≤ b →
+        ArePiecesOf text pieces → NoneBroken pieces →
+        ArePiecesOf (split_part a b pieces) of_part → IsClosed of_part }
 {}
 
 /// Parts worked out by hand: a text split at `456`, and one split at its line feed.
