@@ -12,7 +12,7 @@ mod items;
 pub mod laws;
 mod sequences;
 
-pub use ansi_scan_style::{AnsiColor, AnsiSequenceEnd, AnsiSequenceStart, Style};
+pub use ansi_scan_style::{AnsiColor, AnsiSequenceEnd, AnsiSequenceStart, Color, RESET_ALL, Style};
 pub use items::{Item, Kind, Scan};
 
 /// The items of a text in order, each with the bytes at which it begins and ends.

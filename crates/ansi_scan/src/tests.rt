@@ -181,3 +181,11 @@ fn one_behind_the_other(rt: HostRuntime) {
         ],
     );
 }
+
+#[test]
+fn styles_are_given_out(rt: HostRuntime) {
+    let style = Style::plain().apply("\x1b[31;44m");
+    assert_eq!(rt; style.foreground(), Some(Color::Red));
+    assert_eq!(rt; style.background(), Some(Color::from(AnsiColor::Bit4(44))));
+    assert_eq!(rt; style.apply(RESET_ALL), Style::plain());
+}
