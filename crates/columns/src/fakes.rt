@@ -13,10 +13,12 @@ pub struct ByteReader<'a> {
 }
 
 impl<'a> ByteReader<'a> {
+    /// A reader that never fails.
     pub fn new(bytes: &'a [u8]) -> ByteReader<'a> {
         ByteReader::failing(bytes, 0, ErrorKind::Other)
     }
 
+    /// A reader that fails once, with an error of this kind.
     pub fn failing(bytes: &'a [u8], bad_call: usize, kind: ErrorKind) -> ByteReader<'a> {
         ByteReader {
             rest: bytes,
@@ -71,10 +73,12 @@ pub struct StepWriter {
 }
 
 impl StepWriter {
+    /// A writer that never fails.
     pub fn new(alloc: Global, step: usize) -> StepWriter {
         StepWriter::failing(alloc, step, 0, ErrorKind::Other)
     }
 
+    /// A writer that fails once, with an error of this kind.
     pub fn failing(alloc: Global, step: usize, bad_call: usize, kind: ErrorKind) -> StepWriter {
         StepWriter {
             taken: Vec::new(alloc),
