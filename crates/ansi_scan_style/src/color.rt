@@ -25,7 +25,9 @@ pub enum Color {
     BrightYellow,
     Blue,
     BrightBlue,
+    /// No sequence is read as this colour: 35 and 45 are `Magenta`.
     Purple,
+    /// No sequence is read as this colour: 95 and 105 are `BrightMagenta`.
     BrightPurple,
     Magenta,
     BrightMagenta,

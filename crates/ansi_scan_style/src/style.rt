@@ -132,7 +132,8 @@ impl Style {
         }
     }
 
-    /// What writes the start of this style: a sequence for each attribute that is set.
+    /// What writes the start of this style: a sequence for each attribute that is set, in ascending
+    /// order of their codes. At most 163 bytes; takes no memory.
     pub fn start(&self) -> AnsiSequenceStart
         ensures style { result ≡ self.now }
         ensures rendition { IsRendition self.now }
@@ -140,7 +141,8 @@ impl Style {
         AnsiSequenceStart::new(*self)
     }
 
-    /// What writes the end of this style: the codes that clear what is set.
+    /// What writes the end of this style: a sequence for each code that clears what is set, ascending
+    /// and each once. At most 80 bytes; takes no memory.
     pub fn end(&self) -> AnsiSequenceEnd
         ensures { result ≡ self.now }
     {

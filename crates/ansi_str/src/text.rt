@@ -14,8 +14,8 @@ pub trait AnsiStr {
     // The bytes of the text.
     ghost text: { Self → List ℕ };
 
-    /// The text without its sequences. A text without ESC is answered by a borrow, without memory; else the only
-    /// refusal is for memory.
+    /// The text without its sequences: its items of text, joined. A text without ESC is answered by a
+    /// borrow, without memory; else the only refusal is for memory.
     fn ansi_strip(&self, alloc: Global) -> Result<CowStr<'_>, AllocError>
         ensures strips { IfOk result (λ out. (pieces : List Piece) → ArePiecesOf (text self.now) pieces → cow_str_bytes out ≡ strip pieces) }
         ensures answers { has_escape (text self.now) ≡ false → IsOk result }
