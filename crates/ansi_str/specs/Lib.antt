@@ -1,4 +1,6 @@
 pub mod StyledText
 pub mod Blocks
 pub mod Parts
+pub mod Matches
+pub mod PartsLeft
 pub mod WorkedParts
