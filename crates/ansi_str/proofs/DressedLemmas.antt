@@ -64,7 +64,7 @@ style_after_all-renditions style (bytes ∷ others) = style_after_all-renditions
 
 -- ---- pieces behind pieces
 
-joined-append : (ps qs : List Piece) → joined (ps ++ qs) ≡ joined ps ++ joined qs
+pub joined-append : (ps qs : List Piece) → joined (ps ++ qs) ≡ joined ps ++ joined qs
 joined-append [] qs = refl
 joined-append (p ∷ ps) qs = ap (λ rest. p.bytes ++ rest) (joined-append ps qs) ∙ sym (append_assoc p.bytes (joined ps) (joined qs))
 
