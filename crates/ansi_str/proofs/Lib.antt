@@ -6,4 +6,5 @@ pub mod PartLemmas
 pub mod StyleLemmas
 pub mod PlaceLemmas
 pub mod DressedLemmas
+pub mod Walks
 pub mod PlaceSums

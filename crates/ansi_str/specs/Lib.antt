@@ -1,6 +1,7 @@
 pub mod StyledText
 pub mod Blocks
 pub mod Parts
+pub mod Walking
 pub mod Matches
 pub mod PartsLeft
 pub mod WorkedParts

@@ -1,0 +1,111 @@
+//! Places in a text: what stands behind them, and the style known there.
+ghost use Rattle.std.specs.Prelude.{◌≡◌, ◌<◌, [], ◌∷◌, take, length, MatchOption};
+ghost use Rattle.std.specs.List.{prefix_len};
+ghost use Rattle.std.specs.Str.{IsCharBoundary};
+ghost use Rattle.ansi_scan.specs.Sequences.{is_plain};
+ghost use Rattle.ansi_scan.specs.Pieces.{pieces};
+ghost use Rattle.ansi_str.specs.StyledText.{strip, style_after_all};
+ghost use Rattle.ansi_str.specs.Parts.{before_place, from_place, through_place};
+ghost use Rattle.ansi_str.specs.Walking.{from_text, begins_with_escape, AreFirstAndRest};
+
+use ansi_scan::{Kind, Style, scan};
+
+const ESC: u8 = 0x1b;
+
+/// A place in a text.
+#[derive(Debug, Drop)]
+pub(crate) struct Place<'a> {
+    pub(crate) rest: &'a str,
+    pub(crate) style: Style,
+}
+
+impl<'a> Place<'a> {
+    /// Behind so many bytes of stripped text and the sequences among and before them, or at the end.
+    pub(crate) fn after(&self, n: usize) -> Place<'a>
+        requires { n < length (strip (pieces self.now.rest.now)) → IsCharBoundary (strip (pieces self.now.rest.now)) n }
+        ensures rest { pieces result.rest.now ≡ from_place n (pieces self.now.rest.now) }
+        ensures style { result.style ≡ style_after_all self.now.style (before_place n (pieces self.now.rest.now)) }
+    {
+        let mut place = self.same();
+        let mut left = n;
+        while left > 0 && !place.rest.is_empty() {
+            let len = text_len(place.rest, left);
+            if len > 0 {
+                place.rest = &place.rest[len..];
+                left -= len;
+            } else {
+                place = place.past_item();
+            }
+        }
+        place
+    }
+
+    /// Behind the sequences that stand here.
+    pub(crate) fn past_sequences(&self) -> Place<'a>
+        ensures rest { pieces result.rest.now ≡ from_text (pieces self.now.rest.now) }
+        ensures style { result.style ≡ style_after_all self.now.style (through_place 0 (pieces self.now.rest.now)) }
+    {
+        let mut place = self.same();
+        while begins_with_escape(place.rest) {
+            place = place.past_item();
+        }
+        place
+    }
+
+    // The same place.
+    fn same(&self) -> Place<'a>
+        ensures rest { result.rest.now ≡ self.now.rest.now }
+        ensures style { result.style ≡ self.now.style }
+    {
+        Place {
+            rest: self.rest,
+            style: self.style,
+        }
+    }
+
+    // Behind the first item.
+    fn past_item(&self) -> Place<'a>
+        requires { 0 < length self.now.rest.now }
+        ensures first { AreFirstAndRest self.now.style (pieces self.now.rest.now) result.style (pieces result.rest.now) }
+        ensures shorter { length result.rest.now < length self.now.rest.now }
+    {
+        let Some((kind, bytes, rest)) = split_item(self.rest) else {
+            return self.same();
+        };
+        let style = match kind {
+            Kind::Sgr => self.style.apply(bytes),
+            _ => self.style,
+        };
+        Place { rest, style }
+    }
+}
+
+/// The first item of a text, as its kind and its bytes, and the text behind it.
+pub(crate) fn split_item(text: &str) -> Option<(Kind, &str, &str)>
+    ensures { MatchOption result (pieces text.now ≡ []) (λ found.
+        pieces text.now ≡ record { kind = found.0; bytes = found.1.now } ∷ pieces found.2.now) }
+{
+    let item = scan(text).next()?;
+    Some((item.kind, &text[..item.end], &text[item.end..]))
+}
+
+// Whether the first byte is ESC.
+fn begins_with_escape(text: &str) -> bool
+    ensures { result ≡ begins_with_escape text.now }
+{
+    matches!(text.as_bytes(), [ESC, ..])
+}
+
+// How many of the first bytes stand before the first ESC among them.
+fn text_len(text: &str, most: usize) -> usize
+    ensures value { result ≡ prefix_len is_plain (take most text.now) }
+{
+    let bytes = text.as_bytes();
+    let bytes = &bytes[..bytes.len().min(most)];
+    for (i, byte) in bytes.iter().enumerate() {
+        if *byte == ESC {
+            return i;
+        }
+    }
+    bytes.len()
+}
