@@ -66,7 +66,7 @@ pub from-none : (pieces : List Piece) → from_place 0 pieces ≡ pieces
 from-none [] = refl
 from-none (piece ∷ pieces) = refl
 
-before-none : (pieces : List Piece) → before_place 0 pieces ≡ []
+pub before-none : (pieces : List Piece) → before_place 0 pieces ≡ []
 before-none [] = refl
 before-none (piece ∷ pieces) = refl
 
