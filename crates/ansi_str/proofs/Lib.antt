@@ -8,3 +8,4 @@ pub mod PlaceLemmas
 pub mod DressedLemmas
 pub mod Walks
 pub mod PlaceSums
+pub mod MatchLemmas
