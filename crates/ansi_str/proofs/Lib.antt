@@ -7,5 +7,6 @@ pub mod StyleLemmas
 pub mod PlaceLemmas
 pub mod DressedLemmas
 pub mod Walks
+pub mod FindLemmas
 pub mod PlaceSums
 pub mod MatchLemmas

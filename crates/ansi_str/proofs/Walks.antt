@@ -5,7 +5,7 @@ use Rattle.std.specs.Str.{IsCharBoundary}
 use Rattle.std.proofs.Math.ListN.{get_or, get_or-append}
 use Rattle.std.proofs.Math.Seq.{drop-append_seam}
 use Rattle.std.proofs.lemmas.Bool.Decides.{nat_tests}
-use Rattle.std.proofs.lemmas.List.{length-take, length-drop, get_or-drop}
+use Rattle.std.proofs.lemmas.List.{length-take, length-drop, get_or-drop, take-append-le}
 use Rattle.std.proofs.lemmas.Str.{IsCharBoundary-end, IsCharBoundary-before_ascii}
 use Rattle.ansi_scan.specs.declared.items.Kind.{Kind}
 use Rattle.ansi_scan.specs.declared.items.Kind.TheVariants.{Text, Sgr, Csi, Osc, Esc, Str, Broken}
@@ -128,7 +128,20 @@ module _ (t : List ℕ) (k : ℕ) (within : k ≤ text_len t) where
 -- ---- where a text that begins with text can be cut
 
 -- the stripped text begins with the same bytes
-strip_byte : (t : List ℕ) (k : ℕ) → k < text_len t → (get_or (strip (pieces t)) k 0 ≡ get_or t k 0) × (k < length (strip (pieces t)))
+pub take-strip : (t : List ℕ) (k : ℕ) → k ≤ text_len t → take k (strip (pieces t)) ≡ take k t
+take-strip t k within = by (k == 0) refl
+  where
+    by : (is_zero : Bool) → (k == 0) ≡ is_zero → take k (strip (pieces t)) ≡ take k t
+    by true e = let gone = eqb-true k 0 e in ap (λ m. take m (strip (pieces t))) gone ∙ ap (λ m. take m t) (sym gone)
+    by false e =
+        let some : 0 < text_len t = grind (arith, nat_tests) in
+        let begins = BeginsWithText-some t some in
+        let fits : k ≤ length begins.first.bytes = omega (arith, begins.len) in
+        ap (λ ps. take k (strip ps)) begins.read ∙ ap (λ bytes. take k (bytes ++ strip begins.after)) (text_of-text begins.first begins.is_text)
+        ∙ take-append-le k begins.first.bytes (strip begins.after) fits
+        ∙ sym (take-append-le k begins.first.bytes (joined begins.after) fits) ∙ ap (take k) begins.joins
+
+pub strip_byte : (t : List ℕ) (k : ℕ) → k < text_len t → (get_or (strip (pieces t)) k 0 ≡ get_or t k 0) × (k < length (strip (pieces t)))
 strip_byte t k within =
     let some : 0 < text_len t = omega arith in
     let begins = BeginsWithText-some t some in

@@ -8,6 +8,7 @@ ghost use Rattle.ansi_str.specs.Blocks.{blocks_from};
 
 mod blocks;
 pub mod laws;
+mod matches;
 mod places;
 mod strip;
 mod text;

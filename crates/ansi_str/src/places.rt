@@ -6,11 +6,12 @@ ghost use Rattle.ansi_scan.specs.Sequences.{is_plain};
 ghost use Rattle.ansi_scan.specs.Pieces.{pieces};
 ghost use Rattle.ansi_str.specs.StyledText.{strip, style_after_all};
 ghost use Rattle.ansi_str.specs.Parts.{before_place, from_place, through_place};
-ghost use Rattle.ansi_str.specs.Walking.{from_text, begins_with_escape, AreFirstAndRest};
+ghost use Rattle.ansi_str.specs.Walking.{from_text, begins_with_escape, AreFirstAndRest, IsBehindFirst};
 
 use ansi_scan::{Kind, Style, scan};
 
-const ESC: u8 = 0x1b;
+/// ESCAPE (ECMA-48, 8.3.48).
+pub(crate) const ESC: u8 = 0x1b;
 
 /// A place in a text.
 #[derive(Debug, Drop)]
@@ -89,8 +90,20 @@ pub(crate) fn split_item(text: &str) -> Option<(Kind, &str, &str)>
     Some((item.kind, &text[..item.end], &text[item.end..]))
 }
 
-// Whether the first byte is ESC.
-fn begins_with_escape(text: &str) -> bool
+/// The text behind the first item.
+pub(crate) fn behind_item(text: &str) -> &str
+    requires { 0 < length text.now }
+    ensures parted { IsBehindFirst (pieces text.now) (pieces result.now) }
+    ensures shorter { length result.now < length text.now }
+{
+    match split_item(text) {
+        Some((_, _, rest)) => rest,
+        None => text,
+    }
+}
+
+/// Whether the first byte is ESC.
+pub(crate) fn begins_with_escape(text: &str) -> bool
     ensures { result ≡ begins_with_escape text.now }
 {
     matches!(text.as_bytes(), [ESC, ..])
