@@ -6,3 +6,4 @@ pub mod PartLemmas
 pub mod StyleLemmas
 pub mod PlaceLemmas
 pub mod DressedLemmas
+pub mod SliceLemmas

@@ -1,6 +1,6 @@
 //! Laws of the definitions that the other contracts cite.
 
-ghost use Rattle.std.specs.Prelude.{◌≡◌, ◌≤◌, ◌-◌, ℕ, List, [], ◌∷◌, ◌++◌, codes, drop, false, flat_map};
+ghost use Rattle.std.specs.Prelude.{◌≡◌, ◌≤◌, ◌-◌, ℕ, List, [], ◌∷◌, ◌++◌, codes, drop, false, flat_map, slice_range};
 ghost use Rattle.ansi_scan.specs.Sequences.{Piece, ArePiecesOf, NoneBroken, joined};
 ghost use Rattle.ansi_scan.specs.Attributes.{plain_attributes};
 ghost use Rattle.ansi_str.specs.StyledText.{IsClosed, has_escape, strip, style_after_all, styled, styled_from};
@@ -61,6 +61,14 @@ pub fn parts_show_their_slices()
     ensures closed { (text : List ℕ) (pieces of_part : List Piece) (a b : ℕ) → a ≤ b →
         ArePiecesOf text pieces → NoneBroken pieces →
         ArePiecesOf (split_part a b pieces) of_part → IsClosed of_part }
+{}
+
+/// Without its sequences a part of a split of a whole text is the slice of the text without its own.
+pub fn parts_are_stripped_slices()
+    ensures { (text : List ℕ) (pieces of_part : List Piece) (a b : ℕ) → a ≤ b →
+        ArePiecesOf text pieces → NoneBroken pieces →
+        ArePiecesOf (split_part a b pieces) of_part →
+        strip of_part ≡ slice_range (strip pieces) a b }
 {}
 
 /// Parts worked out by hand: a text split at `456`, and one split at its line feed.
