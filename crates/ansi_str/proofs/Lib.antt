@@ -7,3 +7,4 @@ pub mod StyleLemmas
 pub mod PlaceLemmas
 pub mod DressedLemmas
 pub mod SliceLemmas
+pub mod PlaceSums
