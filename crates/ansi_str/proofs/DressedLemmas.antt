@@ -200,7 +200,7 @@ module _ (style : Attributes) (slice : List Piece) where
   abbrev ends : List (List ℕ)
   ends = end_sequences open_style
 
-  joined-dressed : joined (dressed_pieces style slice) ≡ dressed style slice
+  pub joined-dressed : joined (dressed_pieces style slice) ≡ dressed style slice
   joined-dressed =
       joined-append (renditions starts) (slice ++ renditions ends)
       ∙ ap (λ bytes. bytes ++ joined (slice ++ renditions ends)) (joined-renditions starts ∙ sym (start_bytes-sequences style))

@@ -8,3 +8,6 @@ pub mod PlaceLemmas
 pub mod DressedLemmas
 pub mod SliceLemmas
 pub mod PlaceSums
+pub mod CharLemmas
+pub mod Utf8Lemmas
+pub mod CutLemmas
