@@ -10,3 +10,7 @@ pub mod Walks
 pub mod FindLemmas
 pub mod PlaceSums
 pub mod MatchLemmas
+pub mod SliceLemmas
+pub mod CharLemmas
+pub mod Utf8Lemmas
+pub mod CutLemmas

@@ -88,7 +88,7 @@ joined-places n (piece ∷ pieces) = elim (reach n piece) [
       ∙ ap (λ found. joined (before_place n (piece ∷ pieces)) ++ joined found) (sym (from-past n piece pieces some h))
 ]
 
-drop-append_past : (xs ys : List ℕ) (n : ℕ) → length xs ≤ n → drop n (xs ++ ys) ≡ drop (n - length xs) ys
+pub drop-append_past : (xs ys : List ℕ) (n : ℕ) → length xs ≤ n → drop n (xs ++ ys) ≡ drop (n - length xs) ys
 drop-append_past [] ys n h = let same : n ≡ n - 0 = omega arith in ap (λ m. drop m ys) same
 drop-append_past (x ∷ xs) ys zero h = absurd (omega arith)
 drop-append_past (x ∷ xs) ys (suc n) h =

@@ -4,4 +4,5 @@ pub mod Parts
 pub mod Walking
 pub mod Matches
 pub mod PartsLeft
+pub mod Lines
 pub mod WorkedParts
