@@ -3,16 +3,17 @@ use Rattle.std.proofs.Common.{◌≡◌, ◌⊎◌, inl, inr, ℕ, zero, suc, �
 use Rattle.std.specs.List.{prefix_len, list_all}
 use Rattle.std.specs.Option.{option_map}
 use Rattle.std.specs.Prelude.{MatchOption}
-use Rattle.std.specs.Str.{IsCharBoundary}
+use Rattle.std.specs.Str.{IsUtf8, IsCharBoundary}
 use Rattle.std.specs.Str.Pattern.{FindsText, HasTextAt, MatchBeginsAt}
 use Rattle.std.proofs.Math.ListN.{get_or, get_or-append}
 use Rattle.std.proofs.lemmas.Bool.{and_parts}
 use Rattle.std.proofs.lemmas.Bool.Decides.{nat_tests}
 use Rattle.std.proofs.lemmas.List.{length-take, length-drop, take-append-drop}
 use Rattle.std.proofs.lemmas.List.Sums.{prefix_len-le-length, prefix_len_stops}
-use Rattle.std.proofs.lemmas.Str.{IsCharBoundary-end, IsCharBoundary-before_ascii}
+use Rattle.std.proofs.lemmas.Str.{IsUtf8-drop, IsCharBoundary-end, IsCharBoundary-before_ascii, IsCharBoundary-from_drop}
 use Rattle.ansi_scan.specs.Sequences.{escape, is_plain, joined}
 use Rattle.ansi_scan.specs.Pieces.{pieces, text_len}
+use Rattle.ansi_scan.proofs.Existence.{ArePiecesOf-pieces}
 use Rattle.ansi_scan.proofs.Uniqueness.{pieces-joined}
 use Rattle.ansi_scan.proofs.Runs.{prefix_len-pass, prefix_len-fail, list_all-take_run, prefix_len-drop_run}
 use Rattle.ansi_str.specs.StyledText.{strip}
@@ -21,7 +22,8 @@ use Rattle.ansi_str.specs.PartsLeft.{matches_first, first_match}
 use Rattle.ansi_str.specs.Matches.{Occurs, IsFirstMatch}
 use Rattle.ansi_str.proofs.MatchLemmas.{IsFirstOrNone, first_match-unique}
 use Rattle.ansi_str.proofs.PlaceLemmas.{strip-from}
-use Rattle.ansi_str.proofs.Walks.{BeginsWithText-some, from-plain, strip_byte, take-strip, strip-sequence, escape_first}
+use Rattle.ansi_str.proofs.Walks.{BeginsWithText-some, from-plain, strip_byte, take-strip, strip-sequence, escape_first, escape_ends}
+use Rattle.ansi_str.proofs.Utf8Lemmas.{EachUtf8-pieces, IsUtf8-strip}
 
 -- ---- the first match of one byte
 
@@ -219,3 +221,63 @@ found_text pattern text (Some i) begins = record {
 
 pub first_match-found : (pattern text : List ℕ) (r : Option ℕ) → MatchOption r (FindsText pattern text None) (MatchBeginsAt (FindsText pattern) text) → r ≡ first_match pattern 0 text
 first_match-found pattern text r found = sym (first_match-unique pattern 0 text r (found_text pattern text r found))
+
+-- ---- the first character
+
+text_end : (t : List ℕ) → IsCharBoundary t (text_len t)
+text_end t = by (nat_lt (text_len t) (length t)) refl
+  where
+    by : (some : Bool) → nat_lt (text_len t) (length t) ≡ some → IsCharBoundary t (text_len t)
+    by true e = let inside_t : text_len t < length t = grind (arith, nat_tests) in IsCharBoundary-before_ascii t (text_len t) inside_t (escape_ends t (text_len t) inside_t refl)
+    by false e =
+        let over : length t ≤ text_len t = grind (arith, nat_tests) in
+        let end : length t ≡ text_len t = omega (arith, over, prefix_len-le-length is_plain t) in
+        subst (IsCharBoundary t) end (IsCharBoundary-end t)
+
+module _ (t : List ℕ) (k : ℕ) (utf8 : IsUtf8 t) (text : 0 < text_len t) (some : 1 ≤ k) (boundary : IsCharBoundary t k) (nearest : (i : ℕ) → 1 ≤ i → i < k → ¬ (IsCharBoundary t i)) where
+  char_within : k ≤ text_len t
+  char_within = by (nat_lt (text_len t) k) refl
+    where
+      by : (short : Bool) → nat_lt (text_len t) k ≡ short → k ≤ text_len t
+      by true e = let less : text_len t < k = grind (arith, nat_tests) in absurd (nearest (text_len t) (omega arith) less (text_end t))
+      by false e = grind (arith, nat_tests)
+
+  strip_fits : k ≤ length (strip (pieces t))
+  strip_fits =
+      let len : length (take k (strip (pieces t))) ≡ length (take k t) = ap length (take-strip t k char_within) in
+      omega (arith, len, length-take k (strip (pieces t)), length-take k t, boundary.0)
+
+  strip_behind : IsUtf8 (drop k (strip (pieces t)))
+  strip_behind =
+      let behind = ArePiecesOf-pieces (drop k t) in
+      let left = subst IsUtf8 (sym behind.joins) (IsUtf8-drop t k utf8 boundary) in
+      subst IsUtf8 (ap strip (sym (from-plain t k char_within)) ∙ strip-from k (pieces t)) (IsUtf8-strip (pieces (drop k t)) (EachUtf8-pieces (pieces (drop k t)) behind.stand left))
+
+  none_inside : (i : ℕ) → 1 ≤ i → i < k → ¬ (Occurs [] (strip (pieces t)) i)
+  none_inside i low high occurs =
+      let fits = char_within in
+      let inside_text : i < text_len t = omega (arith, high, fits) in
+      let byte = strip_byte t i inside_text in
+      let len = prefix_len-le-length is_plain t in
+      nearest i low high (omega (arith, inside_text, len), λ _. subst (λ b. 128 ≤ b → 192 ≤ b) byte.0 (occurs.boundary.1 byte.1))
+
+  first_character-is : IsFirstOrNone [] (strip (pieces t)) 1 (Some k)
+  first_character-is = record {
+    not_before = some;
+    occurs = record { behind = drop k (strip (pieces t)); stands = refl; boundary = IsCharBoundary-from_drop (strip (pieces t)) k strip_fits strip_behind };
+    first = none_inside;
+  }
+
+  pub first_match-character : Some k ≡ first_match [] 1 (strip (pieces t))
+  first_match-character = sym (first_match-unique [] 1 (strip (pieces t)) (Some k) first_character-is)
+
+-- an empty text has none
+pub first_match-no_character : (t : List ℕ) → length t ≡ 0 → None ≡ first_match [] 1 (strip (pieces t))
+unfolding first_match
+first_match-no_character [] gone = ap (λ ps. first_match [] 1 (strip ps)) (sym (pieces-joined [] tt))
+first_match-no_character (b ∷ bs) gone = absurd (omega (arith, gone))
+
+-- a text that does not begin with a sequence begins with text
+pub text_some : (t : List ℕ) → begins_with_escape t ≡ false → 0 < length t → 0 < text_len t
+text_some [] plain some = absurd (omega (arith, some))
+text_some (b ∷ bs) plain some = let pass = prefix_len-pass is_plain b bs (ap not plain) in omega (arith, pass)

@@ -269,7 +269,7 @@ not_plain b true e plain = let same = eqb-true b escape e in omega (arith, same)
 not_plain b false e plain = let both : true ≡ false = ap not (sym e) ∙ plain in cc both
 
 -- the byte behind all bytes of text is ESC
-escape_ends : (t : List ℕ) (k : ℕ) → k < length t → k ≡ text_len t → get_or t k 0 < 128
+pub escape_ends : (t : List ℕ) (k : ℕ) → k < length t → k ≡ text_len t → get_or t k 0 < 128
 escape_ends t k some all =
     let inside_t : text_len t < length t = omega (arith, some, all) in
     subst (λ m. get_or t m 0 < 128) (sym all) (not_plain (get_or t (text_len t) 0) (get_or t (text_len t) 0 == escape) refl (prefix_len_stops is_plain t 0 inside_t))

@@ -53,5 +53,8 @@ pub(crate) fn first_character(text: &str) -> Option<usize>
     requires { begins_with_escape text.now ≡ false }
     ensures { result ≡ first_match [] 1 (strip (pieces text.now)) }
 {
-    text.chars().next().map(char::len_utf8)
+    if text.is_empty() {
+        return None;
+    }
+    Some(text.ceil_char_boundary(1))
 }

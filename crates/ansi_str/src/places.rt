@@ -1,14 +1,19 @@
 //! Places in a text: what stands behind them, and the style known there.
-ghost use Rattle.std.specs.Prelude.{◌≡◌, ◌<◌, [], ◌∷◌, take, length, MatchOption};
+ghost use Rattle.std.specs.Prelude.{◌≡◌, ◌<◌, ℕ, List, [], ◌∷◌, ◌++◌, take, length, MatchOption, IfOk, IsOk};
+ghost use Rattle.std.specs.Cow.{IsOwnedStr, cow_str_bytes};
 ghost use Rattle.std.specs.List.{prefix_len};
 ghost use Rattle.std.specs.Str.{IsCharBoundary};
 ghost use Rattle.ansi_scan.specs.Sequences.{is_plain};
 ghost use Rattle.ansi_scan.specs.Pieces.{pieces};
+ghost use Rattle.ansi_scan.specs.Attributes.{plain_attributes};
+ghost use Rattle.ansi_scan.specs.StartsAndEnds.{start_bytes, end_bytes};
 ghost use Rattle.ansi_str.specs.StyledText.{strip, style_after_all};
 ghost use Rattle.ansi_str.specs.Parts.{before_place, from_place, through_place};
 ghost use Rattle.ansi_str.specs.Walking.{from_text, begins_with_escape, AreFirstAndRest, IsBehindFirst};
 
 use ansi_scan::{Kind, Style, scan};
+use std::alloc::{AllocError, Global};
+use std::borrow::CowStr;
 
 /// ESCAPE (ECMA-48, 8.3.48).
 pub(crate) const ESC: u8 = 0x1b;
@@ -51,6 +56,24 @@ impl<'a> Place<'a> {
             place = place.past_item();
         }
         place
+    }
+
+    /// What stands from here to the end of a slice, between the start of the style known here and the
+    /// end of the style known there: a borrow where both styles are plain.
+    pub(crate) fn part_to(&self, alloc: Global, end: &Place<'a>) -> Result<CowStr<'a>, AllocError>
+        requires { (slice : List ℕ) × (self.now.rest.now ≡ slice ++ end.now.rest.now) }
+        ensures part { IfOk result (λ part. (slice : List ℕ) → self.now.rest.now ≡ slice ++ end.now.rest.now →
+            cow_str_bytes part ≡ start_bytes self.now.style ++ (slice ++ end_bytes end.now.style)) }
+        ensures answers { self.now.style ≡ plain_attributes → end.now.style ≡ plain_attributes → IsOk result }
+        ensures borrows { IfOk result (λ part. self.now.style ≡ plain_attributes → end.now.style ≡ plain_attributes → ¬ (IsOwnedStr part)) }
+    {
+        let slice = &self.rest[..self.rest.len() - end.rest.len()];
+        if self.style.is_plain() && end.style.is_plain() {
+            return Ok(CowStr::Borrowed(slice));
+        }
+        let start = self.style.start();
+        let end = end.style.end();
+        Ok(CowStr::Owned(format!(in alloc; "{start}{slice}{end}")?))
     }
 
     // The same place.
