@@ -8,3 +8,5 @@ pub mod PlaceLemmas
 pub mod DressedLemmas
 pub mod PlaceSums
 pub mod MatchLemmas
+pub mod MatchLists
+pub mod StdSplits
