@@ -26,11 +26,12 @@ AreMatches-unique pattern text ms ns of_ms of_ns = AreMatchesFrom-unique pattern
 
 -- ---- the list that is found
 
--- the first matches from a place on, at most this many
+-- a match and the others behind it, or none
 abbrev pub match_and_others : Option ℕ → (ℕ → List ℕ) → List ℕ
 match_and_others None others = []
 match_and_others (Some at) others = at ∷ others at
 
+-- the first matches from a place on, at most this many
 unfoldable pub matches_from : ℕ → List ℕ → List ℕ → ℕ → List ℕ
 matches_from zero pattern text from = []
 matches_from (suc n) pattern text from = match_and_others (first_match pattern from text) (λ at. matches_from n pattern text (behind_match pattern at))
