@@ -14,3 +14,5 @@ pub mod SliceLemmas
 pub mod CharLemmas
 pub mod Utf8Lemmas
 pub mod CutLemmas
+pub mod MatchLists
+pub mod StdSplits

@@ -130,7 +130,7 @@ first_match-sound pattern (suc passed) (b ∷ bs) =
 
 -- ---- and it is the one answer
 
-two_firsts : (pattern text : List ℕ) (from a b : ℕ) → IsFirstMatch pattern text from a → IsFirstMatch pattern text from b → a < b → ⊥
+pub two_firsts : (pattern text : List ℕ) (from a b : ℕ) → IsFirstMatch pattern text from a → IsFirstMatch pattern text from b → a < b → ⊥
 two_firsts pattern text from a b of_a of_b h = of_b.first a of_a.not_before h of_a.occurs
 
 one_first : (pattern text : List ℕ) (from : ℕ) (r s : Option ℕ) → IsFirstOrNone pattern text from r → IsFirstOrNone pattern text from s → r ≡ s
@@ -198,6 +198,23 @@ Occurs-back pattern text from at o = record {
         subst (λ b. 192 ≤ b) (sym (get_or-drop from text at 0)) (o.boundary.1 (omega (arith, length-drop from text)) (subst (λ b. 128 ≤ b) (get_or-drop from text at 0) high)),
   );
 }
+
+module _ (pattern text : List ℕ) (from passed : ℕ) (fits : from ≤ length text) where
+  pub first_match-none_left : ((at : ℕ) → from + passed ≤ at → ¬ (Occurs pattern text at)) → first_match pattern passed (drop from text) ≡ None
+  first_match-none_left none =
+      first_match-unique pattern passed (drop from text) None (λ at low o. none (from + at) (omega arith) (Occurs-on pattern text from at fits o))
+
+  first-left : (at : ℕ) → IsFirstMatch pattern text (from + passed) at → IsFirstMatch pattern (drop from text) passed (at - from)
+  first-left at first =
+      let same : at ≡ from + (at - from) = omega (arith, first.not_before) in
+      record {
+        not_before = omega (arith, first.not_before);
+        occurs = Occurs-back pattern text from (at - from) (subst (Occurs pattern text) same first.occurs);
+        first = λ other low high o. first.first (from + other) (omega arith) (omega arith) (Occurs-on pattern text from other fits o);
+      }
+
+  pub first_match-left : (at : ℕ) → IsFirstMatch pattern text (from + passed) at → first_match pattern passed (drop from text) ≡ Some (at - from)
+  first_match-left at first = first_match-unique pattern passed (drop from text) (Some (at - from)) (first-left at first)
 
 -- ---- how many parts are looked for
 
@@ -311,27 +328,6 @@ behind_match-passed : (pattern : List ℕ) (at : ℕ) → behind_match pattern a
 behind_match-passed [] at = omega arith
 behind_match-passed (p ∷ ps) at = omega arith
 
-module _ (pattern : List ℕ) (ps : List Piece) (from : ℕ) (fits : from ≤ length (strip ps)) where
-  abbrev left : List Piece
-  left = from_place from ps
-
-  none-left : (passed : ℕ) → ((at : ℕ) → from + passed ≤ at → ¬ (Occurs pattern (strip ps) at)) → first_match pattern passed (strip left) ≡ None
-  none-left passed none = ap (first_match pattern passed) (strip-from from ps)
-      ∙ first_match-unique pattern passed (drop from (strip ps)) None (λ at low o. none (from + at) (omega arith) (Occurs-on pattern (strip ps) from at fits o))
-
-  first-left : (passed at : ℕ) → IsFirstMatch pattern (strip ps) (from + passed) at → IsFirstMatch pattern (drop from (strip ps)) passed (at - from)
-  first-left passed at first =
-      let same : at ≡ from + (at - from) = omega (arith, first.not_before) in
-      record {
-        not_before = omega (arith, first.not_before);
-        occurs = Occurs-back pattern (strip ps) from (at - from) (subst (Occurs pattern (strip ps)) same first.occurs);
-        first = λ other low high o. first.first (from + other) (omega arith) (omega arith) (Occurs-on pattern (strip ps) from other fits o);
-      }
-
-  some-left : (passed at : ℕ) → IsFirstMatch pattern (strip ps) (from + passed) at → first_match pattern passed (strip left) ≡ Some (at - from)
-  some-left passed at first = ap (first_match pattern passed) (strip-from from ps)
-      ∙ first_match-unique pattern passed (drop from (strip ps)) (Some (at - from)) (first-left passed at first)
-
 module _ (pattern : List ℕ) (ps : List Piece) where
   -- the style before a place
   abbrev style_at : ℕ → Attributes
@@ -352,13 +348,19 @@ module _ (pattern : List ℕ) (ps : List Piece) where
       (sym (style-before_sum from (at - from + length pattern) plain_attributes ps) ∙ ap style_at same)
       ∙ ap (parts_left pattern true (style_at (at + length pattern))) (sym (from-from from (at - from + length pattern) ps) ∙ ap (λ n. from_place n ps) same)
 
+  -- what is left from a place, where the first match in the text behind it is known
+  left-found : (begun : Bool) (from : ℕ) (r : Option ℕ) → first_match pattern (passed_over begun pattern) (drop from (strip ps)) ≡ r
+      → parts_left pattern begun (style_at from) (from_place from ps) ≡ part_and_others (style_at from) (from_place from ps) r (parts_behind pattern (style_at from) (from_place from ps))
+  left-found begun from r e =
+      parts_left-found pattern begun (style_at from) (from_place from ps) r (ap (first_match pattern (passed_over begun pattern)) (strip-from from ps) ∙ e)
+
   abbrev Bridge : Bool → ℕ → List ℕ → Type 0
   Bridge begun from ms = styled_parts ps (bounds_between (length pattern) from (length (strip ps)) ms) ≡ parts_left pattern begun (style_at from) (from_place from ps)
 
   bridge : (begun : Bool) (from : ℕ) (ms : List ℕ) → from ≤ length (strip ps) → AreMatchesFrom pattern (strip ps) (from + passed_over begun pattern) ms → Bridge begun from ms
   bridge begun from [] fits none =
       ap (λ part. part ∷ []) (last-part from fits)
-      ∙ sym (parts_left-found pattern begun (style_at from) (from_place from ps) None (none-left pattern ps from fits (passed_over begun pattern) none))
+      ∙ sym (left-found begun from None (first_match-none_left pattern (strip ps) from (passed_over begun pattern) fits none))
   bridge begun from (at ∷ others) fits found =
       let first = found.0 in
       let order : from ≤ at = omega (arith, first.not_before) in
@@ -366,7 +368,7 @@ module _ (pattern : List ℕ) (ps : List Piece) where
       let next = subst (λ n. AreMatchesFrom pattern (strip ps) n others) (behind_match-passed pattern at) found.1 in
       ap (λ part. part ∷ styled_parts ps (bounds_between (length pattern) (at + length pattern) (length (strip ps)) others)) (split_part-slice from at ps order)
       ∙ ap (λ rest. dressed (style_at from) (through_place (at - from) (from_place from ps)) ∷ rest) (bridge true (at + length pattern) others within next ∙ sym (behind-part from at order))
-      ∙ sym (parts_left-found pattern begun (style_at from) (from_place from ps) (Some (at - from)) (some-left pattern ps from fits (passed_over begun pattern) at first))
+      ∙ sym (left-found begun from (Some (at - from)) (first_match-left pattern (strip ps) from (passed_over begun pattern) fits at first))
 
   pub styled_parts-parts_left : (ms : List ℕ) → AreMatches pattern (strip ps) ms → styled_parts ps (split_bounds pattern (strip ps) ms) ≡ parts_left pattern false plain_attributes ps
   styled_parts-parts_left ms are =
