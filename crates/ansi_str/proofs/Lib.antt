@@ -16,3 +16,4 @@ pub mod Utf8Lemmas
 pub mod CutLemmas
 pub mod MatchLists
 pub mod StdSplits
+pub mod PlainParts

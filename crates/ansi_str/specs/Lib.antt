@@ -2,6 +2,7 @@ pub mod StyledText
 pub mod Blocks
 pub mod Parts
 pub mod Walking
+pub mod Splitting
 pub mod Matches
 pub mod PartsLeft
 pub mod Lines

@@ -11,6 +11,7 @@ pub mod laws;
 mod matches;
 mod places;
 mod strip;
+mod stripped;
 mod text;
 
 pub use blocks::{AnsiBlock, AnsiBlockIter};

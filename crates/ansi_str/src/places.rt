@@ -1,5 +1,5 @@
 //! Places in a text: what stands behind them, and the style known there.
-ghost use Rattle.std.specs.Prelude.{◌≡◌, ◌<◌, ℕ, List, [], ◌∷◌, ◌++◌, take, length, MatchOption, IfOk, IsOk};
+ghost use Rattle.std.specs.Prelude.{◌≡◌, ◌<◌, ◌-◌, ℕ, List, [], ◌∷◌, ◌++◌, take, length, MatchOption, IfOk, IsOk};
 ghost use Rattle.std.specs.Cow.{IsOwnedStr, cow_str_bytes};
 ghost use Rattle.std.specs.List.{prefix_len};
 ghost use Rattle.std.specs.Str.{IsCharBoundary};
@@ -62,12 +62,12 @@ impl<'a> Place<'a> {
     /// end of the style known there: a borrow where both styles are plain.
     pub(crate) fn part_to(&self, alloc: Global, end: &Place<'a>) -> Result<CowStr<'a>, AllocError>
         requires { (slice : List ℕ) × (self.now.rest.now ≡ slice ++ end.now.rest.now) }
-        ensures part { IfOk result (λ part. (slice : List ℕ) → self.now.rest.now ≡ slice ++ end.now.rest.now →
-            cow_str_bytes part ≡ start_bytes self.now.style ++ (slice ++ end_bytes end.now.style)) }
+        ensures part { IfOk result (λ part. cow_str_bytes part ≡ start_bytes self.now.style
+            ++ (take (length self.now.rest.now - length end.now.rest.now) self.now.rest.now ++ end_bytes end.now.style)) }
         ensures answers { self.now.style ≡ plain_attributes → end.now.style ≡ plain_attributes → IsOk result }
         ensures borrows { IfOk result (λ part. self.now.style ≡ plain_attributes → end.now.style ≡ plain_attributes → ¬ (IsOwnedStr part)) }
     {
-        let slice = &self.rest[..self.rest.len() - end.rest.len()];
+        let slice = front(self.rest, end.rest);
         if self.style.is_plain() && end.style.is_plain() {
             return Ok(CowStr::Borrowed(slice));
         }
@@ -102,6 +102,14 @@ impl<'a> Place<'a> {
         };
         Place { rest, style }
     }
+}
+
+// What stands in a text before the end of it.
+fn front<'a>(text: &'a str, end: &str) -> &'a str
+    requires { (front : List ℕ) × (text.now ≡ front ++ end.now) }
+    ensures { result.now ≡ take (length text.now - length end.now) text.now }
+{
+    &text[..text.len() - end.len()]
 }
 
 /// The first item of a text, as its kind and its bytes, and the text behind it.

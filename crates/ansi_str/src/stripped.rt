@@ -1,0 +1,50 @@
+//! What a text shows, and how much of it is passed.
+ghost use Rattle.std.specs.Prelude.{◌≡◌, ◌<◌, length, drop};
+ghost use Rattle.std.specs.Cow.{cow_str_bytes};
+ghost use Rattle.std.specs.Str.{IsCharBoundary};
+ghost use Rattle.ansi_str.specs.PartsLeft.{first_match};
+
+use crate::matches::find_text;
+use std::borrow::CowStr;
+use std::marker::Model;
+
+/// What a text shows from a place on. In a contract it is these bytes.
+#[derive(Debug, Drop)]
+pub(crate) struct Stripped<'a> {
+    text: CowStr<'a>,
+    passed: usize,
+    ghost cut: { IsCharBoundary (cow_str_bytes text) passed },
+}
+
+impl<'a> Model for Stripped<'a> {
+    ghost use Rattle.std.specs.Prelude.{ℕ, List, drop};
+    ghost use Rattle.std.specs.Cow.{cow_str_bytes};
+
+    ghost Value = { List ℕ };
+
+    ghost view = { λ s. drop s.passed (cow_str_bytes s.text) };
+}
+
+impl<'a> Stripped<'a> {
+    /// All of it.
+    pub(crate) fn new(text: CowStr<'a>) -> Stripped<'a>
+        ensures { result ≡ cow_str_bytes text }
+    {
+        Stripped { text, passed: 0 }
+    }
+
+    /// How many bytes stand before the first match.
+    pub(crate) fn find(&self, pattern: &str) -> Option<usize>
+        ensures { result ≡ first_match pattern.now 0 self.now }
+    {
+        find_text(&self.text.as_str()[self.passed..], pattern)
+    }
+
+    /// Passes so many bytes.
+    pub(crate) fn pass(&mut self, n: usize)
+        requires { IsCharBoundary self.old n }
+        ensures { self.new ≡ drop n self.old }
+    {
+        self.passed += n;
+    }
+}
