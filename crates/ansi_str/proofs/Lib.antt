@@ -11,3 +11,5 @@ pub mod PlaceSums
 pub mod CharLemmas
 pub mod Utf8Lemmas
 pub mod CutLemmas
+pub mod MergeLemmas
+pub mod LineLemmas
