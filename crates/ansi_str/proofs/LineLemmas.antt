@@ -1,18 +1,18 @@
 -- Closed lines, joined by an ASCII character, are the parts of a split at it.
-use Rattle.std.proofs.Common.{◌≡◌, ℕ, zero, suc, ◌+◌, ◌-◌, ◌<◌, ◌≤◌, ◌==◌, nat_lt, Bool, true, false, ◌&&◌, ◌||◌, All, List, [], ◌∷◌, ◌++◌, length, get_or, map, take, drop, refl, ap, sym, subst, ◌∙◌, arith, append_assoc, append-nil, length-append, eq-eqb}
+use Rattle.std.proofs.Common.{◌≡◌, ℕ, ◌+◌, ◌-◌, ◌<◌, ◌≤◌, ◌==◌, nat_lt, Bool, true, false, ◌&&◌, ◌||◌, All, List, [], ◌∷◌, ◌++◌, length, get_or, map, drop, refl, ap, sym, subst, ◌∙◌, arith, append-nil, length-append, eq-eqb}
 use Rattle.std.specs.List.{AllByRecursion, concat, list_all, list_any, join_with_byte}
 use Rattle.std.proofs.lemmas.Bool.Decides.{nat_tests}
-use Rattle.std.proofs.lemmas.List.{length-drop, get_or-drop, get_or_append_left, get_or-append-add}
+use Rattle.std.proofs.lemmas.List.{length-drop, get_or-drop, get_or_append_left}
 use Rattle.std.proofs.lemmas.List.Elements.{All-from_recursion, recursion_from_All, All-weaker, All-get_or}
 use Rattle.std.proofs.lemmas.List.Sums.{fold-append}
 use Rattle.ansi_scan.specs.declared.items.Kind.TheVariants.{Text}
-use Rattle.ansi_scan.specs.Sequences.{Piece, joined, is_plain, ArePiecesOf, NoneBroken}
+use Rattle.ansi_scan.specs.Sequences.{Piece, joined, is_plain, ArePiecesOf}
 use Rattle.ansi_scan.specs.Joining.{put_before, put_all_before}
 use Rattle.ansi_scan.specs.Pieces.{pieces}
-use Rattle.ansi_scan.specs.Attributes.{Attributes, plain_attributes}
+use Rattle.ansi_scan.specs.Attributes.{plain_attributes}
 use Rattle.ansi_scan.specs.StartsAndEnds.{start_bytes, end_bytes}
 use Rattle.ansi_scan.proofs.Existence.{ArePiecesOf-pieces}
-use Rattle.ansi_scan.proofs.Uniqueness.{pieces-ArePiecesOf, ArePiecesOf-unique}
+use Rattle.ansi_scan.proofs.Uniqueness.{pieces-ArePiecesOf}
 use Rattle.ansi_scan.proofs.Boundaries.{get_or-behind}
 use Rattle.ansi_scan.proofs.Joins.{ArePiecesOf-append}
 use Rattle.ansi_scan.proofs.Effects.{start_bytes-sequences, end_bytes-sequences, start_sequences-plain, end_sequences-plain}
