@@ -13,3 +13,6 @@ pub mod Utf8Lemmas
 pub mod CutLemmas
 pub mod MergeLemmas
 pub mod LineLemmas
+pub mod MatchLemmas
+pub mod MatchLists
+pub mod StdSplits
