@@ -17,3 +17,5 @@ pub mod CutLemmas
 pub mod MatchLists
 pub mod StdSplits
 pub mod PlainParts
+pub mod MergeLemmas
+pub mod LineLemmas

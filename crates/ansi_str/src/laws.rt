@@ -1,9 +1,9 @@
 //! Laws of the definitions that the other contracts cite.
 
-ghost use Rattle.std.specs.Prelude.{◌≡◌, ◌<◌, ◌≤◌, ◌-◌, ◌==◌, ℕ, List, [], ◌∷◌, ◌++◌, All, codes, drop, false, flat_map, length, map, slice_range, true};
+ghost use Rattle.std.specs.Prelude.{All, ◌≡◌, ◌<◌, ◌≤◌, ◌-◌, ◌==◌, ℕ, List, [], ◌∷◌, ◌++◌, codes, drop, false, flat_map, length, map, slice_range, true};
 ghost use Rattle.std.specs.Borrow.{Bor};
 ghost use Rattle.std.specs.Iterator.{AlwaysYields};
-ghost use Rattle.std.specs.List.{slice_split};
+ghost use Rattle.std.specs.List.{join_with_byte, slice_split};
 ghost use Rattle.std.specs.Str.{IsUtf8};
 ghost use Rattle.std.specs.Str.Iter.{split_has_more, split_pattern, split_steps, split_text};
 ghost use Rattle.std.specs.Str.Pattern.{FindsText};
@@ -14,7 +14,7 @@ ghost use Rattle.ansi_scan.specs.Attributes.{plain_attributes};
 ghost use Rattle.ansi_str.specs.StyledText.{IsClosed, has_escape, strip, style_after_all, styled, styled_from};
 ghost use Rattle.ansi_str.specs.Parts.{before_place, dressed, from_place, split_part, through_place};
 ghost use Rattle.ansi_str.specs.Matches.{AreMatches, split_bounds, styled_parts, text_parts};
-ghost use Rattle.ansi_str.specs.Lines.{IsClosedText};
+ghost use Rattle.ansi_str.specs.Lines.{IsClosedLine, IsClosedText};
 ghost use Rattle.ansi_str.specs.WorkedParts.{black_text, two_lines};
 ghost use Rattle.ansi_str.specs.Blocks.{blocks_from, text_of_block, styled_of_block};
 
@@ -98,6 +98,14 @@ pub fn split_shows_its_slices()
         ArePiecesOf text pieces → NoneBroken pieces → AreMatches (c ∷ []) (strip pieces) matches →
         map (λ part. styled (pieces_of part)) (styled_parts pieces (split_bounds (c ∷ []) (strip pieces) matches)) ≡
         slice_split (λ x. x.0 == c) (styled pieces) }
+{}
+
+/// Closed lines that are joined by line feeds are the parts of the text when it is split at the line feed.
+pub fn closed_lines_join()
+    ensures { (lines : List (List ℕ)) (pieces : List Piece) (matches : List ℕ) → 0 < length lines →
+        All IsClosedLine lines → ArePiecesOf (join_with_byte 0x0a lines) pieces →
+        AreMatches (0x0a ∷ []) (strip pieces) matches →
+        styled_parts pieces (split_bounds (0x0a ∷ []) (strip pieces) matches) ≡ lines }
 {}
 
 /// Parts worked out by hand: a text split at `456`, and one split at its line feed.

@@ -1,5 +1,5 @@
 //! What a text shows, and how much of it is passed.
-ghost use Rattle.std.specs.Prelude.{◌≡◌, ◌<◌, length, drop};
+ghost use Rattle.std.specs.Prelude.{◌≡◌, ◌≤◌, ◌-◌, length, drop};
 ghost use Rattle.std.specs.Cow.{cow_str_bytes};
 ghost use Rattle.std.specs.Str.{IsCharBoundary};
 ghost use Rattle.ansi_str.specs.PartsLeft.{first_match};
@@ -12,32 +12,36 @@ use std::marker::Model;
 #[derive(Debug, Drop)]
 pub(crate) struct Stripped<'a> {
     text: CowStr<'a>,
-    passed: usize,
-    ghost cut: { IsCharBoundary (cow_str_bytes text) passed },
+    // how many of its last bytes are left
+    left: usize,
+    ghost fits: { left ≤ length (cow_str_bytes text) },
+    ghost cut: { IsCharBoundary (cow_str_bytes text) (length (cow_str_bytes text) - left) },
 }
 
 impl<'a> Model for Stripped<'a> {
-    ghost use Rattle.std.specs.Prelude.{ℕ, List, drop};
+    ghost use Rattle.std.specs.Prelude.{ℕ, List, ◌-◌, drop, length};
     ghost use Rattle.std.specs.Cow.{cow_str_bytes};
 
     ghost Value = { List ℕ };
 
-    ghost view = { λ s. drop s.passed (cow_str_bytes s.text) };
+    ghost view = { λ s. drop (length (cow_str_bytes s.text) - s.left) (cow_str_bytes s.text) };
 }
 
 impl<'a> Stripped<'a> {
     /// All of it.
     pub(crate) fn new(text: CowStr<'a>) -> Stripped<'a>
-        ensures { result ≡ cow_str_bytes text }
+        ensures { result ≡ cow_str_bytes text.entry }
     {
-        Stripped { text, passed: 0 }
+        let left = text.as_str().len();
+        Stripped { text, left }
     }
 
     /// How many bytes stand before the first match.
     pub(crate) fn find(&self, pattern: &str) -> Option<usize>
         ensures { result ≡ first_match pattern.now 0 self.now }
     {
-        find_text(&self.text.as_str()[self.passed..], pattern)
+        let text = self.text.as_str();
+        find_text(&text[text.len() - self.left..], pattern)
     }
 
     /// Passes so many bytes.
@@ -45,6 +49,6 @@ impl<'a> Stripped<'a> {
         requires { IsCharBoundary self.old n }
         ensures { self.new ≡ drop n self.old }
     {
-        self.passed += n;
+        self.left -= n;
     }
 }
