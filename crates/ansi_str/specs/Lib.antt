@@ -3,6 +3,7 @@ pub mod Blocks
 pub mod Parts
 pub mod Walking
 pub mod Splitting
+pub mod Rests
 pub mod Matches
 pub mod PartsLeft
 pub mod Lines

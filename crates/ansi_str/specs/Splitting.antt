@@ -1,7 +1,7 @@
 -- What a clause sees of a split that goes on.
 use Rattle.std.specs.Prelude.{◌≡◌, ◌<◌, ℕ, Bool, IsTrue, List, [], ◌∷◌, length, Option, Result, MatchOption, MatchResult}
 use Rattle.std.specs.Cow.{IsOwnedStr, cow_str_bytes}
-use Rattle.std.specs.Borrow.{CowStr}
+use Rattle.std.specs.declared.borrow.CowStr.{CowStr}
 
 -- the parts that are still to come, and whether they may take memory
 pub record PartsLeft : Type 0 where

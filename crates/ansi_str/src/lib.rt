@@ -10,11 +10,14 @@ mod blocks;
 pub mod laws;
 mod matches;
 mod places;
+mod rest;
+mod split;
 mod strip;
 mod stripped;
 mod text;
 
 pub use blocks::{AnsiBlock, AnsiBlockIter};
+pub use split::AnsiSplit;
 pub use text::AnsiStr;
 
 /// The blocks of a text: one for each of its items of text, with the style known before it. Takes
