@@ -1,28 +1,28 @@
 -- The first match of a pattern of one byte, over steps through a text.
-use Rattle.std.proofs.Common.{◌≡◌, ◌⊎◌, inl, inr, ℕ, zero, suc, ◌+◌, ◌<◌, ◌≤◌, ◌==◌, ◌&&◌, nat_lt, Bool, true, false, not, List, [], ◌∷◌, ◌++◌, length, take, drop, refl, ap, sym, subst, ◌∙◌, arith, Option, None, Some, eqb-true, if◌then◌else◌}
+use Rattle.std.proofs.Common.{◌≡◌, ℕ, zero, suc, ◌+◌, ◌<◌, ◌≤◌, ◌==◌, ◌&&◌, nat_lt, Bool, true, false, not, List, [], ◌∷◌, ◌++◌, length, take, drop, refl, ap, sym, subst, ◌∙◌, arith, Option, None, Some, eqb-true, if◌then◌else◌}
 use Rattle.std.specs.List.{prefix_len, list_all}
 use Rattle.std.specs.Option.{option_map}
-use Rattle.std.specs.Prelude.{MatchOption}
-use Rattle.std.specs.Str.{IsUtf8, IsCharBoundary}
+use Rattle.std.specs.Prelude.{MatchOption, IfSome}
+use Rattle.std.specs.Str.{IsUtf8, IsAscii, IsCharBoundary}
 use Rattle.std.specs.Str.Pattern.{FindsText, HasTextAt, MatchBeginsAt}
-use Rattle.std.proofs.Math.ListN.{get_or, get_or-append}
+use Rattle.std.proofs.Math.ListN.{get_or}
 use Rattle.std.proofs.lemmas.Bool.{and_parts}
 use Rattle.std.proofs.lemmas.Bool.Decides.{nat_tests}
 use Rattle.std.proofs.lemmas.List.{length-take, length-drop, take-append-drop}
 use Rattle.std.proofs.lemmas.List.Sums.{prefix_len-le-length, prefix_len_stops}
-use Rattle.std.proofs.lemmas.Str.{IsUtf8-drop, IsCharBoundary-end, IsCharBoundary-before_ascii, IsCharBoundary-from_drop}
-use Rattle.ansi_scan.specs.Sequences.{escape, is_plain, joined}
+use Rattle.std.proofs.lemmas.Str.{IsUtf8-drop, IsUtf8-from_ascii, IsCharBoundary-start, IsCharBoundary-end, IsCharBoundary-before_ascii, IsCharBoundary-from_drop}
+use Rattle.ansi_scan.specs.Sequences.{escape, is_plain}
 use Rattle.ansi_scan.specs.Pieces.{pieces, text_len}
 use Rattle.ansi_scan.proofs.Existence.{ArePiecesOf-pieces}
 use Rattle.ansi_scan.proofs.Uniqueness.{pieces-joined}
 use Rattle.ansi_scan.proofs.Runs.{prefix_len-pass, prefix_len-fail, list_all-take_run, prefix_len-drop_run}
 use Rattle.ansi_str.specs.StyledText.{strip}
 use Rattle.ansi_str.specs.Walking.{begins_with_escape, is_other, IsBehindFirst}
-use Rattle.ansi_str.specs.PartsLeft.{matches_first, first_match}
-use Rattle.ansi_str.specs.Matches.{Occurs, IsFirstMatch}
-use Rattle.ansi_str.proofs.MatchLemmas.{IsFirstOrNone, first_match-unique}
+use Rattle.ansi_str.specs.PartsLeft.{matches_first, first_match, passed_over}
+use Rattle.ansi_str.specs.Matches.{Occurs}
+use Rattle.ansi_str.proofs.MatchLemmas.{IsFirstOrNone, first_match-unique, first_match-ends}
 use Rattle.ansi_str.proofs.PlaceLemmas.{strip-from}
-use Rattle.ansi_str.proofs.Walks.{BeginsWithText-some, from-plain, strip_byte, take-strip, strip-sequence, escape_first, escape_ends}
+use Rattle.ansi_str.proofs.Walks.{from-plain, strip_byte, take-strip, strip-sequence, escape_first, escape_ends}
 use Rattle.ansi_str.proofs.Utf8Lemmas.{EachUtf8-pieces, IsUtf8-strip}
 
 -- ---- the first match of one byte
@@ -281,3 +281,35 @@ first_match-no_character (b ∷ bs) gone = absurd (omega (arith, gone))
 pub text_some : (t : List ℕ) → begins_with_escape t ≡ false → 0 < length t → 0 < text_len t
 text_some [] plain some = absurd (omega (arith, some))
 text_some (b ∷ bs) plain some = let pass = prefix_len-pass is_plain b bs (ap not plain) in omega (arith, pass)
+
+-- ---- both ends of a match
+
+pub IsUtf8-shown : (t : List ℕ) → IsUtf8 t → IsUtf8 (strip (pieces t))
+IsUtf8-shown t utf8 = let are = ArePiecesOf-pieces t in IsUtf8-strip (pieces t) (EachUtf8-pieces (pieces t) are.stand (subst IsUtf8 (sym are.joins) utf8))
+
+pub match_ends : (pattern : List ℕ) (from : ℕ) (text : List ℕ) (r : Option ℕ) → IsUtf8 pattern → IsUtf8 text → r ≡ first_match pattern from text → IfSome r (λ n. IsCharBoundary text (n + length pattern))
+match_ends pattern from text None utf8 utf8_text same = tt
+match_ends pattern from text (Some n) utf8 utf8_text same = first_match-ends pattern from text n (sym same) utf8 utf8_text
+
+pub IsUtf8-byte : (c : ℕ) → c < 128 → IsUtf8 (c ∷ [])
+IsUtf8-byte c low = IsUtf8-from_ascii (c ∷ []) (one c low)
+  where
+    one : (c : ℕ) → c < 128 → IsAscii (c ∷ [])
+    one c low zero = low
+    one c low (suc i) = omega arith
+
+pub passed_over-some : (begun : Bool) (pattern : List ℕ) → 0 < length pattern → passed_over begun pattern ≡ 0
+passed_over-some false pattern some = refl
+passed_over-some true [] some = absurd (omega (arith, some))
+passed_over-some true (b ∷ bs) some = refl
+
+-- the empty pattern matches where the text begins
+pub match-empty_first : (text : List ℕ) → IsUtf8 text → Some 0 ≡ first_match [] 0 text
+match-empty_first text utf8 = sym (first_match-unique [] 0 text (Some 0) found)
+  where
+    found : IsFirstOrNone [] text 0 (Some 0)
+    found = record {
+      not_before = omega arith;
+      occurs = record { behind = text; stands = refl; boundary = IsCharBoundary-start text utf8 };
+      first = λ other low less _. omega (arith, less);
+    }

@@ -19,3 +19,4 @@ pub mod StdSplits
 pub mod PlainParts
 pub mod MergeLemmas
 pub mod LineLemmas
+pub mod RestLemmas

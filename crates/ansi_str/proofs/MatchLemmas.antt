@@ -304,7 +304,7 @@ module _ (pattern : List ℕ) where
       (most_parts-behind begun ps at n e enough) (most_parts-two true (length (strip (left_behind ps at)))))
 
   -- the same where the match is known
-  parts_left-found : (begun : Bool) (style : Attributes) (ps : List Piece) (r : Option ℕ) → first_found begun ps ≡ r
+  pub parts_left-found : (begun : Bool) (style : Attributes) (ps : List Piece) (r : Option ℕ) → first_found begun ps ≡ r
       → parts_left pattern begun style ps ≡ part_and_others style ps r (parts_behind style ps)
   parts_left-found begun style ps r e = parts_left-step begun style ps ∙ ap (λ found. part_and_others style ps found (parts_behind style ps)) e
 

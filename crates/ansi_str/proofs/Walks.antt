@@ -1,6 +1,6 @@
 -- Steps through a text: over some bytes of text, or over a sequence.
-use Rattle.std.proofs.Common.{◌≡◌, ◌≢◌, ◌⊎◌, inl, inr, ℕ, zero, suc, ◌+◌, ◌-◌, ◌<◌, ◌≤◌, ◌==◌, nat_lt, Bool, true, false, not, List, [], ◌∷◌, ◌++◌, fold, length, take, drop, refl, ap, sym, subst, ◌∙◌, arith, append-nil, length-append, IsTrue, eqb-true, if◌then◌else◌}
-use Rattle.std.specs.List.{prefix_len, list_all}
+use Rattle.std.proofs.Common.{◌≡◌, ◌≢◌, ◌⊎◌, inl, inr, ℕ, zero, suc, ◌+◌, ◌-◌, ◌<◌, ◌≤◌, ◌==◌, nat_lt, Bool, true, false, not, List, [], ◌∷◌, ◌++◌, length, take, drop, refl, ap, sym, subst, ◌∙◌, arith, length-append, eqb-true, if◌then◌else◌}
+use Rattle.std.specs.List.{prefix_len}
 use Rattle.std.specs.Str.{IsCharBoundary}
 use Rattle.std.proofs.Math.ListN.{get_or, get_or-append}
 use Rattle.std.proofs.Math.Seq.{drop-append_seam}
@@ -9,7 +9,7 @@ use Rattle.std.proofs.lemmas.List.{length-take, length-drop, get_or-drop, take-a
 use Rattle.std.proofs.lemmas.Str.{IsCharBoundary-end, IsCharBoundary-before_ascii}
 use Rattle.ansi_scan.specs.declared.items.Kind.{Kind}
 use Rattle.ansi_scan.specs.declared.items.Kind.TheVariants.{Text, Sgr, Csi, Osc, Esc, Str, Broken}
-use Rattle.ansi_scan.specs.Sequences.{Piece, escape, is_plain, joined, Stands, EachStands, ArePiecesOf, NoTextFirst}
+use Rattle.ansi_scan.specs.Sequences.{Piece, escape, is_plain, joined, Stands, EachStands}
 use Rattle.ansi_scan.specs.Joining.{is_text_kind}
 use Rattle.ansi_scan.specs.Pieces.{pieces, text_len}
 use Rattle.ansi_scan.specs.Attributes.{Attributes}
@@ -18,7 +18,7 @@ use Rattle.ansi_scan.proofs.Uniqueness.{pieces-joined, text_len-joined, Stands-s
 use Rattle.std.proofs.lemmas.List.Sums.{prefix_len-le-length, prefix_len_stops}
 use Rattle.ansi_scan.proofs.Runs.{prefix_len-run, prefix_len-pass, prefix_len-fail}
 use Rattle.ansi_str.specs.StyledText.{text_of, strip, style_after, style_after_all}
-use Rattle.ansi_str.specs.Parts.{front_of, from_place, before_place, through_place}
+use Rattle.ansi_str.specs.Parts.{from_place, before_place, through_place}
 use Rattle.ansi_str.specs.Walking.{from_text, begins_with_escape, AreFirstAndRest}
 use Rattle.ansi_str.proofs.PartLemmas.{text_of-text, text_of-sequence, style_by-text}
 use Rattle.ansi_str.proofs.PlaceLemmas.{none, inside, past, reach, strip-from, from-none, before-none, from-inside, from-past, before-past, before-inside, through-inside, through-past, drop-append_inside, EachStands-from}
@@ -147,10 +147,11 @@ strip_byte t k within =
     let begins = BeginsWithText-some t some in
     let fits : k < length begins.first.bytes = omega (arith, begins.len) in
     let own : strip (pieces t) ≡ begins.first.bytes ++ strip begins.after = ap strip begins.read ∙ ap (λ bytes. bytes ++ strip begins.after) (text_of-text begins.first begins.is_text) in
-    let len : length (strip (pieces t)) ≡ length (begins.first.bytes ++ strip begins.after) = ap length own in
-    (ap (λ bytes. get_or bytes k 0) own ∙ get_or-append begins.first.bytes (strip begins.after) 0 k fits
-    ∙ sym (get_or-append begins.first.bytes (joined begins.after) 0 k fits) ∙ ap (λ bytes. get_or bytes k 0) begins.joins,
-    omega (arith, len, length-append begins.first.bytes (strip begins.after)))
+    let len : length (strip (pieces t)) ≡ length (begins.first.bytes ++ strip begins.after) = ap length own in (
+      ap (λ bytes. get_or bytes k 0) own ∙ get_or-append begins.first.bytes (strip begins.after) 0 k fits
+          ∙ sym (get_or-append begins.first.bytes (joined begins.after) 0 k fits) ∙ ap (λ bytes. get_or bytes k 0) begins.joins,
+      omega (arith, len, length-append begins.first.bytes (strip begins.after)),
+    )
 
 -- ---- a text that begins with a sequence
 
@@ -258,7 +259,7 @@ empty_text : (t : List ℕ) → length t ≡ 0 → t ≡ []
 empty_text [] e = refl
 empty_text (b ∷ bs) e = absurd (omega (arith, e))
 
-IsCharBoundary-drop : (bs : List ℕ) (k i : ℕ) → IsCharBoundary bs (k + i) → IsCharBoundary (drop k bs) i
+pub IsCharBoundary-drop : (bs : List ℕ) (k i : ℕ) → IsCharBoundary bs (k + i) → IsCharBoundary (drop k bs) i
 IsCharBoundary-drop bs k i at = (
   omega (arith, at.0, length-drop k bs),
   λ some. let inside_bs : k + i < length bs = omega (arith, some, length-drop k bs) in subst (λ b. 128 ≤ b → 192 ≤ b) (sym (get_or-drop k bs i 0)) (at.1 inside_bs),
@@ -299,8 +300,7 @@ module _ (rest : List ℕ) (style : Attributes) (left : ℕ) (from : List ℕ) (
 
   pub SamePlace-end : length rest ≡ 0 → (pieces rest ≡ from_place n (pieces from)) × (style ≡ style_after_all style_there (before_place n (pieces from)))
   SamePlace-end e =
-      let gone = nothing_left e in
-      (
+      let gone = nothing_left e in (
         gone ∙ ap (from_place left) (sym gone) ∙ same.found,
         ap (λ ps. style_after_all style (before_place left ps)) (sym gone) ∙ same.styled,
       )

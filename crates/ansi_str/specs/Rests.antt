@@ -1,5 +1,5 @@
 -- What a clause reads of what is left of a split.
-use Rattle.std.specs.Prelude.{◌≡◌, ℕ, Bool, false, List, [], Option, None, Some}
+use Rattle.std.specs.Prelude.{ℕ, Bool, false, List, [], Option, None, Some}
 use Rattle.ansi_scan.specs.Pieces.{pieces}
 use Rattle.ansi_str.specs.declared.rest.Rest.{Rest}
 use Rattle.ansi_str.specs.PartsLeft.{parts_left}
@@ -20,11 +20,3 @@ may_refuse (Some rest) = rest.styled
 
 abbrev pub what_is_left : Option Rest → PartsLeft
 what_is_left rest = record { parts = parts_of rest; may_refuse = may_refuse rest }
-
--- the same but for what was found out on the way
-pub record IsSameRest (old new : Rest) : Type 0 where
-  pub pattern : new.pattern.now ≡ old.pattern.now
-  pub text : new.place.rest.now ≡ old.place.rest.now
-  pub style : new.place.style ≡ old.place.style
-  pub begun : new.begun ≡ old.begun
-  pub styled : new.styled ≡ old.styled

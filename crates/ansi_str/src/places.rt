@@ -1,5 +1,5 @@
 //! Places in a text: what stands behind them, and the style known there.
-ghost use Rattle.std.specs.Prelude.{◌≡◌, ◌<◌, ◌-◌, ℕ, List, [], ◌∷◌, ◌++◌, take, length, MatchOption, IfOk, IsOk};
+ghost use Rattle.std.specs.Prelude.{◌≡◌, ◌≤◌, ◌<◌, ◌-◌, false, ℕ, List, [], ◌∷◌, ◌++◌, take, length, MatchOption, IfOk, IsOk};
 ghost use Rattle.std.specs.Cow.{IsOwnedStr, cow_str_bytes};
 ghost use Rattle.std.specs.List.{prefix_len};
 ghost use Rattle.std.specs.Str.{IsCharBoundary};
@@ -7,8 +7,8 @@ ghost use Rattle.ansi_scan.specs.Sequences.{is_plain};
 ghost use Rattle.ansi_scan.specs.Pieces.{pieces};
 ghost use Rattle.ansi_scan.specs.Attributes.{plain_attributes};
 ghost use Rattle.ansi_scan.specs.StartsAndEnds.{start_bytes, end_bytes};
-ghost use Rattle.ansi_str.specs.StyledText.{strip, style_after_all};
-ghost use Rattle.ansi_str.specs.Parts.{before_place, from_place, through_place};
+ghost use Rattle.ansi_str.specs.StyledText.{has_escape, strip, style_after_all};
+ghost use Rattle.ansi_str.specs.Parts.{before_place, dressed, from_place, through_place};
 ghost use Rattle.ansi_str.specs.Walking.{from_text, begins_with_escape, AreFirstAndRest, IsBehindFirst};
 
 use ansi_scan::{Kind, Style, scan};
@@ -46,8 +46,8 @@ impl<'a> Place<'a> {
         place
     }
 
-    /// Behind the sequences that stand here.
-    pub(crate) fn past_sequences(&self) -> Place<'a>
+    // Behind the sequences that stand here.
+    fn past_sequences(&self) -> Place<'a>
         ensures rest { pieces result.rest.now ≡ from_text (pieces self.now.rest.now) }
         ensures style { result.style ≡ style_after_all self.now.style (through_place 0 (pieces self.now.rest.now)) }
     {
@@ -58,9 +58,29 @@ impl<'a> Place<'a> {
         place
     }
 
-    /// What stands from here to the end of a slice, between the start of the style known here and the
-    /// end of the style known there: a borrow where both styles are plain.
-    pub(crate) fn part_to(&self, alloc: Global, end: &Place<'a>) -> Result<CowStr<'a>, AllocError>
+    /// The part of so many bytes of stripped text from here on, and the place where it ends, before
+    /// the sequences there: a borrow where the style is plain and no ESC stands behind.
+    pub(crate) fn part(
+        &self,
+        alloc: Global,
+        n: usize,
+    ) -> Result<(CowStr<'a>, Place<'a>), AllocError>
+        requires cut { n < length (strip (pieces self.now.rest.now)) → IsCharBoundary (strip (pieces self.now.rest.now)) n }
+        requires fits { n ≤ length self.now.rest.now }
+        ensures part { IfOk result (λ found. cow_str_bytes found.0 ≡ dressed self.now.style (through_place n (pieces self.now.rest.now))) }
+        ensures rest { IfOk result (λ found. pieces found.1.rest.now ≡ from_place n (pieces self.now.rest.now)) }
+        ensures style { IfOk result (λ found. found.1.style ≡ style_after_all self.now.style (before_place n (pieces self.now.rest.now))) }
+        ensures answers { self.now.style ≡ plain_attributes → has_escape self.now.rest.now ≡ false → IsOk result }
+        ensures borrows { IfOk result (λ found. self.now.style ≡ plain_attributes → has_escape self.now.rest.now ≡ false → ¬ (IsOwnedStr found.0)) }
+    {
+        let cut = self.after(n);
+        let part = self.part_to(alloc, &cut.past_sequences())?;
+        Ok((part, cut))
+    }
+
+    // What stands from here to the end of a slice, between the start of the style known here and the
+    // end of the style known there: a borrow where both styles are plain.
+    fn part_to(&self, alloc: Global, end: &Place<'a>) -> Result<CowStr<'a>, AllocError>
         requires { (slice : List ℕ) × (self.now.rest.now ≡ slice ++ end.now.rest.now) }
         ensures part { IfOk result (λ part. cow_str_bytes part ≡ start_bytes self.now.style
             ++ (take (length self.now.rest.now - length end.now.rest.now) self.now.rest.now ++ end_bytes end.now.style)) }

@@ -4,10 +4,10 @@ ghost use Rattle.ansi_scan.specs.Pieces.{pieces};
 ghost use Rattle.ansi_scan.specs.Attributes.{plain_attributes};
 ghost use Rattle.ansi_str.specs.StyledText.{has_escape, strip};
 
-use crate::matches::{find_byte, first_character};
+use crate::matches::{find_byte, find_empty};
 use crate::places::Place;
 use crate::strip::has_escape;
-use crate::stripped::Stripped;
+use crate::stripped::{Stripped, behind};
 use crate::text::strip_text;
 use ansi_scan::Style;
 use std::alloc::{AllocError, Global};
@@ -31,13 +31,14 @@ pub(crate) struct Rest<'a> {
 }
 
 impl<'a> Rest<'a> {
-    ghost use Rattle.std.specs.Prelude.{◌≡◌, ◌∷◌, IfSome, IfOk, IfErr, IsTrue, false};
+    ghost use Rattle.std.specs.Prelude.{◌≡◌, ◌+◌, ◌∷◌, IfSome, IfOk, IfErr, IsTrue, false, length};
+    ghost use Rattle.std.specs.Str.{IsCharBoundary};
     ghost use Rattle.std.specs.Cow.{IsOwnedStr, cow_str_bytes};
     ghost use Rattle.ansi_scan.specs.Pieces.{pieces};
     ghost use Rattle.ansi_scan.specs.Attributes.{plain_attributes};
     ghost use Rattle.ansi_str.specs.StyledText.{has_escape, strip};
     ghost use Rattle.ansi_str.specs.PartsLeft.{first_match, passed_over, parts_left};
-    ghost use Rattle.ansi_str.specs.Rests.{rest_parts, parts_of, IsSameRest};
+    ghost use Rattle.ansi_str.specs.Rests.{rest_parts, parts_of};
 
     /// All of a text.
     pub(crate) fn new(alloc: Global, text: &'a str, pattern: &'a str) -> Rest<'a>
@@ -65,15 +66,13 @@ impl<'a> Rest<'a> {
         ensures refuses { IfErr result (λ _. IsTrue self.entry.styled) }
     {
         let found = self.next_match()?;
-        let cut = self.place.after(found.unwrap_or(self.place.rest.len()));
-        let part = self.place.part_to(self.alloc, &cut.past_sequences())?;
+        let len = found.unwrap_or(self.place.rest.len());
+        let (part, cut) = self.place.part(self.alloc, len)?;
         let Some(n) = found else {
             return Ok((part, None));
         };
         let size = self.pattern.len();
-        if let Some(stripped) = &mut self.stripped {
-            stripped.pass(n + size);
-        }
+        self.stripped = behind(self.stripped.take(), n + size);
         self.place = cut.after(size);
         self.begun = true;
         Ok((part, Some(self)))
@@ -81,24 +80,38 @@ impl<'a> Rest<'a> {
 
     // How many bytes the text shows from here to the next match.
     fn next_match(&mut self) -> Result<Option<usize>, AllocError>
-        ensures found { IfOk result (λ found. found ≡ first_match self.old.pattern.now
-            (passed_over self.old.begun self.old.pattern.now) (strip (pieces self.old.place.rest.now))) }
+        ensures found { IfOk result (λ found. found ≡ first_match self.new.pattern.now
+            (passed_over self.new.begun self.new.pattern.now) (strip (pieces self.new.place.rest.now))) }
+        ensures ends { IfOk result (λ found. IfSome found (λ n.
+            IsCharBoundary (strip (pieces self.new.place.rest.now)) (n + length self.new.pattern.now))) }
         ensures refuses { IfErr result (λ _. IsTrue self.old.styled) }
-        ensures same { IsSameRest self.old self.new }
+        ensures parts { rest_parts self.new ≡ rest_parts self.old }
+        ensures styled { self.new.styled ≡ self.old.styled }
     {
         match self.pattern.as_bytes() {
-            [] if !self.begun => Ok(Some(0)),
-            [] => Ok(first_character(self.place.past_sequences().rest)),
-            [byte] => Ok(find_byte(self.place.rest, *byte)),
-            _ => {
-                let stripped = match self.stripped.take() {
-                    Some(stripped) => stripped,
-                    None => Stripped::new(strip_text(self.alloc, self.place.rest)?),
-                };
-                let found = stripped.find(self.pattern);
-                self.stripped = Some(stripped);
-                Ok(found)
-            }
+            [] => Ok(find_empty(self.place.rest, self.begun)),
+            [byte] if byte.is_ascii() => Ok(find_byte(self.place.rest, *byte)),
+            _ => self.find_shown(),
         }
+    }
+
+    // The same for a pattern that is not empty, in what the text shows, which is kept.
+    fn find_shown(&mut self) -> Result<Option<usize>, AllocError>
+        ensures found { IfOk result (λ found. found ≡ first_match self.new.pattern.now 0
+            (strip (pieces self.new.place.rest.now))) }
+        ensures ends { IfOk result (λ found. IfSome found (λ n.
+            IsCharBoundary (strip (pieces self.new.place.rest.now)) (n + length self.new.pattern.now))) }
+        ensures refuses { IfErr result (λ _. IsTrue self.old.styled) }
+        ensures parts { rest_parts self.new ≡ rest_parts self.old }
+        ensures pattern { self.new.pattern.now ≡ self.old.pattern.now }
+        ensures styled { self.new.styled ≡ self.old.styled }
+    {
+        let stripped = match self.stripped.take() {
+            Some(stripped) => stripped,
+            None => Stripped::new(strip_text(self.alloc, self.place.rest)?),
+        };
+        let found = stripped.find(self.pattern);
+        self.stripped = Some(stripped);
+        Ok(found)
     }
 }

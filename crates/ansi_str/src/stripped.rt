@@ -1,6 +1,7 @@
 //! What a text shows, and how much of it is passed.
-ghost use Rattle.std.specs.Prelude.{◌≡◌, ◌≤◌, ◌-◌, length, drop};
+ghost use Rattle.std.specs.Prelude.{◌≡◌, ◌≤◌, ◌+◌, ◌-◌, IfSome, length, drop};
 ghost use Rattle.std.specs.Cow.{cow_str_bytes};
+ghost use Rattle.std.specs.Option.{option_map};
 ghost use Rattle.std.specs.Str.{IsCharBoundary};
 ghost use Rattle.ansi_str.specs.PartsLeft.{first_match};
 
@@ -38,7 +39,8 @@ impl<'a> Stripped<'a> {
 
     /// How many bytes stand before the first match.
     pub(crate) fn find(&self, pattern: &str) -> Option<usize>
-        ensures { result ≡ first_match pattern.now 0 self.now }
+        ensures found { result ≡ first_match pattern.now 0 self.now }
+        ensures ends { IfSome result (λ n. IsCharBoundary self.now (n + length pattern.now)) }
     {
         let text = self.text.as_str();
         find_text(&text[text.len() - self.left..], pattern)
@@ -51,4 +53,14 @@ impl<'a> Stripped<'a> {
     {
         self.left -= n;
     }
+}
+
+/// What is shown behind so many bytes.
+pub(crate) fn behind<'a>(stripped: Option<Stripped<'a>>, n: usize) -> Option<Stripped<'a>>
+    requires { IfSome stripped (λ bytes. IsCharBoundary bytes n) }
+    ensures { result ≡ option_map (drop n) stripped.entry }
+{
+    let mut stripped = stripped?;
+    stripped.pass(n);
+    Some(stripped)
 }

@@ -103,12 +103,24 @@ fn expect_split(
     for part in wanted {
         let found = of_text.next().expect(rt, "a part is missing")?;
         assert_eq!(rt; found.as_str(), *part, "of {text:?} at {pattern:?}");
-        let found = of_string.next().expect(rt, "a part of the string is missing")?;
-        assert_eq!(rt; found.as_str(), *part, "of the string {text:?} at {pattern:?}");
+        let found = of_string
+            .next()
+            .expect(rt, "a part of the string is missing")?;
+        assert_eq!(rt;
+            found.as_str(),
+            *part,
+            "of the string {text:?} at {pattern:?}"
+        );
     }
     assert!(rt; of_text.next().is_none(), "behind {text:?} at {pattern:?}");
-    assert!(rt; of_text.next().is_none(), "again behind {text:?} at {pattern:?}");
-    assert!(rt; of_string.next().is_none(), "behind the string {text:?} at {pattern:?}");
+    assert!(rt;
+        of_text.next().is_none(),
+        "again behind {text:?} at {pattern:?}"
+    );
+    assert!(rt;
+        of_string.next().is_none(),
+        "behind the string {text:?} at {pattern:?}"
+    );
     Ok(())
 }
 

@@ -1,6 +1,5 @@
 -- The first item, off the front of the text.
 use Rattle.std.proofs.Common.{rules, ◌∙◌, ap, sym, ℕ, List, ◌∷◌, drop}
-use Rattle.ansi_scan.specs.Sequences.{Piece}
 use Rattle.ansi_scan.specs.Pieces.{pieces}
 use Rattle.ansi_scan.specs.Scan.{items_left}
 use Rattle.ansi_str.proofs.FirstItem.{IsFirstItem-items, pieces-nothing}

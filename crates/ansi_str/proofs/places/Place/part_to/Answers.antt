@@ -1,7 +1,5 @@
 -- A plain style has an empty start and an empty end.
-use Rattle.std.proofs.Common.{◌≡◌, ◌∙◌, ap, sym, ℕ, List, ◌++◌, append-nil, IsTrue}
-use Rattle.ansi_scan.specs.Attributes.{Attributes, plain_attributes}
-use Rattle.ansi_scan.specs.StartsAndEnds.{start_bytes, end_bytes}
+use Rattle.std.proofs.Common.{◌∙◌, sym}
 use Rattle.ansi_str.proofs.PlainParts.{plain_part}
 use Rattle.ansi_str.proofs.places.Place.part_to.Goals as goal
 
