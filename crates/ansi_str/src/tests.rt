@@ -250,6 +250,12 @@ fn splits_at_one_byte(rt: HostRuntime) -> Result<(), Fail> {
                 "、",
                 &["表\x1b[1m\x1b[22m", "\x1b[1m\x1b[22m行"],
             ),
+            // other sequences change no style
+            (
+                "\x1b[31ma\x1b[2Jb:\x1b]0;t\x07c",
+                ":",
+                &["\x1b[31ma\x1b[2Jb\x1b[39m", "\x1b[31m\x1b]0;t\x07c\x1b[39m"],
+            ),
             // broken ones stand where they stood
             ("a\x1b[1é:b\x1b", ":", &["a\x1b[1é", "b\x1b"]),
             ("a\x1b\nb", "\n", &["a\x1b", "b"]),
