@@ -1,6 +1,7 @@
 # `rt` proves, builds and tests; `rt help` tells its commands. What follows only calls it.
 
 PROGRAM := crates/columns/out/columns
+TESTS := crates/ansi_str/out/ansi_str_tests
 INPUT ?= examples/nightly.tsv
 PREFIX ?= /usr/local
 
@@ -47,4 +48,9 @@ help:               ## this list
 # to standard error. It goes by contents, so a file that was only touched costs no proof.
 $(PROGRAM): $(SOURCES)
 	@cd crates/columns && rt run < /dev/null > /dev/null
+	@touch $@
+
+# `rt test` proves and builds the tests, and runs them.
+$(TESTS): $(SOURCES)
+	@cd crates/ansi_str && rt test < /dev/null > /dev/null
 	@touch $@

@@ -6,6 +6,8 @@ import sys
 
 ROOT = os.path.dirname(os.path.dirname(os.path.abspath(__file__)))
 PROGRAM = "crates/columns/out/columns"
+# The tests of ansi_str, as a program.
+TESTS = "crates/ansi_str/out/ansi_str_tests"
 SECONDS = 120
 
 
@@ -16,12 +18,16 @@ def arguments(what):
     given = words.parse_args()
     if given.program:
         return os.path.abspath(given.program), True
-    # Proves and builds only where something has changed.
-    made = subprocess.run(["make", "-s", PROGRAM], cwd=ROOT, env=environment(), stdin=subprocess.DEVNULL, stdout=sys.stderr)
-    if made.returncode:
-        print("the program is not proved, or was not built\n0 passed, 1 failed")
+    return made(PROGRAM), False
+
+
+def made(name):
+    """Proves and builds a program of this repository, only where something has changed, and gives its path."""
+    ran = subprocess.run(["make", "-s", name], cwd=ROOT, env=environment(), stdin=subprocess.DEVNULL, stdout=sys.stderr)
+    if ran.returncode:
+        print(f"{name} is not proved, or was not built\n0 passed, 1 failed")
         sys.exit(1)
-    return os.path.join(ROOT, PROGRAM), False
+    return os.path.join(ROOT, name)
 
 
 def environment(**more):
