@@ -1,11 +1,13 @@
 //! Laws over the definitions, each the contract of a function that does nothing.
-ghost use Rattle.std.specs.Prelude.{◌≡◌, ℕ, ◌+◌, ◌<◌, ◌≤◌, codes, length, slice_index, All, List, ◌∷◌, [], ◌++◌, flat_map};
+ghost use Rattle.std.specs.Prelude.{◌≡◌, ℕ, ◌+◌, ◌<◌, ◌≤◌, codes, length, slice_index, All, List, ◌∷◌, [], ◌++◌, flat_map, IsUtf8};
+ghost use Rattle.ansi_scan.specs.Sequences.{IsWhole};
 ghost use Rattle.columns.specs.Estimates.{Line, column_widths, row_heights};
 ghost use Rattle.columns.specs.Totals.{total};
 ghost use Rattle.columns.specs.Frame.{boundary_at, place, RowBoundary, RowLine};
 ghost use Rattle.columns.specs.Picture.{Tiles, picture_line, picture_items};
 ghost use Rattle.columns.specs.Readings.{read_rows};
-ghost use Rattle.columns.specs.Layout.{one_each, grid_of, character_rows, table_characters};
+ghost use Rattle.columns.specs.Layout.{one_each, grid_of, character_rows, table_characters, output_of};
+ghost use Rattle.columns.specs.Headline.{ShowsTableOf};
 ghost use Rattle.columns.specs.Measures.{measure};
 
 /// Tables worked out by hand.
@@ -46,4 +48,10 @@ pub fn tiling<X>()
 /// In the picture of a text each piece measures the columns that it stands on.
 pub fn measured_pieces()
     ensures { (characters : List ℕ) (y : ℕ) → All (λ piece. measure piece.items ≡ piece.width) (picture_line (λ c. c ∷ []) (grid_of (character_rows characters)) y) }
+{}
+
+/// The table of a whole text shows the picture of the characters that the text shows, in their styles, and no style is
+/// open where a line of it ends.
+pub fn table_shown()
+    ensures { (input : List ℕ) → IsUtf8 input → IsWhole input → ShowsTableOf input (output_of input) }
 {}
