@@ -1,9 +1,11 @@
+pub mod CharacterLemmas
 pub mod FrameLemmas
 pub mod ItemLemmas
 pub mod Maps
 pub mod MeasureLemmas
 pub mod PassLemmas
 pub mod PictureLemmas
+pub mod PlaceLemmas
 pub mod PlainLemmas
 pub mod PrintLemmas
 pub mod PrintingLemmas
@@ -15,4 +17,5 @@ pub mod SizeLemmas
 pub mod SplitLemmas
 pub mod TextLemmas
 pub mod TilingLemmas
+pub mod TotalLemmas
 pub mod Written

@@ -99,14 +99,14 @@ module _ (text : List ℕ) (whole : IsWholeText text) where
 -- ---- one picture, of bytes together with what they show
 
 -- some bytes, and what they show
-record Chunk : Type 0 where
-  bytes : List ℕ
-  styled : List Styled
+pub record Chunk : Type 0 where
+  pub bytes : List ℕ
+  pub styled : List Styled
 
-abbrev chunk_bytes : Chunk → List ℕ
+abbrev pub chunk_bytes : Chunk → List ℕ
 chunk_bytes chunk = chunk.bytes
 
-abbrev chunk_styled : Chunk → List Styled
+abbrev pub chunk_styled : Chunk → List Styled
 chunk_styled chunk = chunk.styled
 
 abbrev IsShown : Chunk → Type 0
@@ -115,23 +115,23 @@ IsShown chunk = Shows chunk.bytes chunk.styled
 abbrev chunk_item : ℕ → List Chunk
 chunk_item c = record { bytes = encode_utf8 c; styled = plain c ∷ [] } ∷ []
 
-abbrev chunk_line : List ℕ → Line Chunk
+abbrev pub chunk_line : List ℕ → Line Chunk
 chunk_line part = record { measure = measure (chars (stripped part)); items = record { bytes = part; styled = styled_characters part } ∷ [] }
 
-abbrev chunk_rows : List ℕ → List (List (List (Line Chunk)))
+abbrev pub chunk_rows : List ℕ → List (List (List (Line Chunk)))
 chunk_rows text = map (map (λ cell. chunk_line cell ∷ [])) (cell_parts text)
 
-read-cells : {X Y Z : Type 0} (f : X → List Y) (make : Z → Line X) (rows : List (List Z)) → read_rows f (map (map (λ cell. make cell ∷ [])) rows) ≡ map (map (λ cell. read_line f (make cell) ∷ [])) rows
+pub read-cells : {X Y Z : Type 0} (f : X → List Y) (make : Z → Line X) (rows : List (List Z)) → read_rows f (map (map (λ cell. make cell ∷ [])) rows) ≡ map (map (λ cell. read_line f (make cell) ∷ [])) rows
 read-cells f make rows =
     map-map (map (map (read_line f))) (map (λ cell. make cell ∷ [])) rows
     ∙ (λ n. map (λ row. map-map (map (read_line f)) (λ cell. make cell ∷ []) row n) rows)
 
-bytes-rows : (text : List ℕ) → read_rows chunk_bytes (chunk_rows text) ≡ part_rows text
+pub bytes-rows : (text : List ℕ) → read_rows chunk_bytes (chunk_rows text) ≡ part_rows text
 bytes-rows text =
     read-cells chunk_bytes chunk_line (cell_parts text)
     ∙ (λ n. map (map (λ cell. record { measure = measure (chars (stripped cell)); items = append-nil cell n } ∷ [])) (cell_parts text))
 
-styled-rows : (text : List ℕ) → IsWholeText text → read_rows chunk_styled (chunk_rows text) ≡ styled_rows (styled_characters text)
+pub styled-rows : (text : List ℕ) → IsWholeText text → read_rows chunk_styled (chunk_rows text) ≡ styled_rows (styled_characters text)
 styled-rows text whole =
     let rows = cell_parts text in
     let line = λ (cell : List ℕ). styled_line (styled_characters cell) ∷ [] in

@@ -1,12 +1,16 @@
 //! Laws over the definitions, each the contract of a function that does nothing.
-ghost use Rattle.std.specs.Prelude.{◌≡◌, ℕ, ◌+◌, ◌<◌, ◌≤◌, codes, length, slice_index, All, List, ◌∷◌, [], ◌++◌, flat_map, IsUtf8};
-ghost use Rattle.ansi_scan.specs.Sequences.{IsWhole};
+ghost use Rattle.std.specs.Prelude.{◌≡◌, ℕ, ◌+◌, ◌<◌, ◌≤◌, codes, length, slice_index, All, List, ◌∷◌, [], ◌++◌, map, flat_map, IsUtf8};
+ghost use Rattle.ansi_scan.specs.Sequences.{Piece, ArePiecesOf, NoneBroken, IsWhole};
+ghost use Rattle.ansi_scan.specs.Attributes.{Attributes};
+ghost use Rattle.ansi_str.specs.StyledText.{strip};
+ghost use Rattle.ansi_str.specs.Matches.{AreMatches};
+ghost use Rattle.columns.specs.Rows.{places};
 ghost use Rattle.columns.specs.Estimates.{Line, column_widths, row_heights};
 ghost use Rattle.columns.specs.Totals.{total};
 ghost use Rattle.columns.specs.Frame.{boundary_at, place, RowBoundary, RowLine};
 ghost use Rattle.columns.specs.Picture.{Tiles, picture_line, picture_items};
 ghost use Rattle.columns.specs.Readings.{read_rows};
-ghost use Rattle.columns.specs.Layout.{one_each, grid_of, character_rows, table_characters, output_of};
+ghost use Rattle.columns.specs.Layout.{one_each, grid_of, character_rows, table_characters, characters_of, plain, picture_of, output_of};
 ghost use Rattle.columns.specs.Headline.{ShowsTableOf};
 ghost use Rattle.columns.specs.Measures.{measure};
 
@@ -54,4 +58,18 @@ pub fn measured_pieces()
 /// open where a line of it ends.
 pub fn table_shown()
     ensures { (input : List ℕ) → IsUtf8 input → IsWhole input → ShowsTableOf input (output_of input) }
+{}
+
+/// The places of an ASCII character in a text are those at which it matches.
+pub fn places_match()
+    ensures { (c : ℕ) (text : List ℕ) → c < 128 → AreMatches (c ∷ []) text (places c text) }
+{}
+
+/// Styles change no character of the picture, so the output without its sequences is, byte for byte, the output of the
+/// text without its own.
+pub fn without_styles()
+    ensures picture { (characters : List (ℕ × Attributes)) →
+        characters_of (picture_of characters) ≡ characters_of (picture_of (map plain (characters_of characters))) }
+    ensures output { (input : List ℕ) (ps qs : List Piece) →
+        IsUtf8 input → ArePiecesOf input ps → NoneBroken ps → ArePiecesOf (output_of input) qs → strip qs ≡ output_of (strip ps) }
 {}
