@@ -28,7 +28,7 @@ use Rattle.ansi_str.proofs.PlaceLemmas.{none, inside, past, reach, has_text, fro
 
 -- ---- sequences as pieces
 
-abbrev renditions : List (List ℕ) → List Piece
+abbrev pub renditions : List (List ℕ) → List Piece
 renditions [] = []
 renditions (bytes ∷ others) = record { kind = Sgr; bytes = bytes } ∷ renditions others
 
@@ -64,11 +64,11 @@ style_after_all-renditions style (bytes ∷ others) = style_after_all-renditions
 
 -- ---- pieces behind pieces
 
-joined-append : (ps qs : List Piece) → joined (ps ++ qs) ≡ joined ps ++ joined qs
+pub joined-append : (ps qs : List Piece) → joined (ps ++ qs) ≡ joined ps ++ joined qs
 joined-append [] qs = refl
 joined-append (p ∷ ps) qs = ap (λ rest. p.bytes ++ rest) (joined-append ps qs) ∙ sym (append_assoc p.bytes (joined ps) (joined qs))
 
-styled_from-append : (style : Attributes) (ps qs : List Piece) → styled_from style (ps ++ qs) ≡ styled_from style ps ++ styled_from (style_after_all style ps) qs
+pub styled_from-append : (style : Attributes) (ps qs : List Piece) → styled_from style (ps ++ qs) ≡ styled_from style ps ++ styled_from (style_after_all style ps) qs
 styled_from-append style [] qs = refl
 styled_from-append style (p ∷ ps) qs =
     ap (λ rest. map (λ c. (c, style)) (chars (text_of p)) ++ rest) (styled_from-append (style_after style p) ps qs)
@@ -148,7 +148,7 @@ NoneBroken-front n p true whole = tt
 NoneBroken-front n p false whole = (whole, tt)
 
 -- how a number of bytes of text compares with a piece, where 0 is as any other
-data Cut (n : ℕ) (p : Piece) : Type 0 where
+pub data Cut (n : ℕ) (p : Piece) : Type 0 where
   short : n < length (text_of p) → Cut n p
   long : length (text_of p) ≤ n → Cut n p
 
@@ -156,10 +156,10 @@ cut_at : (n : ℕ) (p : Piece) (is_short : Bool) → nat_lt n (length (text_of p
 cut_at n p true e = let h : n < length (text_of p) = grind (arith, nat_tests) in short h
 cut_at n p false e = let h : length (text_of p) ≤ n = grind (arith, nat_tests) in long h
 
-cut : (n : ℕ) (p : Piece) → Cut n p
+pub cut : (n : ℕ) (p : Piece) → Cut n p
 cut n p = cut_at n p (nat_lt n (length (text_of p))) refl
 
-EachStands-through : (n : ℕ) (ps : List Piece) → EachStands ps → NoneBroken ps → EachStands (through_place n ps)
+pub EachStands-through : (n : ℕ) (ps : List Piece) → EachStands ps → NoneBroken ps → EachStands (through_place n ps)
 EachStands-through n [] each whole = tt
 EachStands-through n (p ∷ ps) each whole = elim (cut n p) [
   | short h ↦ subst EachStands (sym (through-inside n p ps h)) (EachStands-front n p ps (n == 0) refl h each.0)
@@ -169,14 +169,14 @@ EachStands-through n (p ∷ ps) each whole = elim (cut n p) [
   )
 ]
 
-NoneBroken-through : (n : ℕ) (ps : List Piece) → NoneBroken ps → NoneBroken (through_place n ps)
+pub NoneBroken-through : (n : ℕ) (ps : List Piece) → NoneBroken ps → NoneBroken (through_place n ps)
 NoneBroken-through n [] whole = tt
 NoneBroken-through n (p ∷ ps) whole = elim (cut n p) [
   | short h ↦ subst NoneBroken (sym (through-inside n p ps h)) (NoneBroken-front n p (n == 0) whole.0)
   | long h ↦ subst NoneBroken (sym (through-past n p ps h)) (whole.0, NoneBroken-through (n - length (text_of p)) ps whole.1)
 ]
 
-NoneBroken-from : (n : ℕ) (ps : List Piece) → NoneBroken ps → NoneBroken (from_place n ps)
+pub NoneBroken-from : (n : ℕ) (ps : List Piece) → NoneBroken ps → NoneBroken (from_place n ps)
 NoneBroken-from n [] whole = tt
 NoneBroken-from n (p ∷ ps) whole = elim (reach n p) [
   | none e ↦ subst (λ m. NoneBroken (from_place m (p ∷ ps))) (sym e) whole
@@ -186,7 +186,7 @@ NoneBroken-from n (p ∷ ps) whole = elim (reach n p) [
 
 -- ---- a slice between a start and an end
 
-abbrev dressed_pieces : Attributes → List Piece → List Piece
+abbrev pub dressed_pieces : Attributes → List Piece → List Piece
 dressed_pieces style slice =
     renditions (start_sequences style) ++ (slice ++ renditions (end_sequences (style_after_all style slice)))
 
@@ -200,7 +200,7 @@ module _ (style : Attributes) (slice : List Piece) where
   abbrev ends : List (List ℕ)
   ends = end_sequences open_style
 
-  joined-dressed : joined (dressed_pieces style slice) ≡ dressed style slice
+  pub joined-dressed : joined (dressed_pieces style slice) ≡ dressed style slice
   joined-dressed =
       joined-append (renditions starts) (slice ++ renditions ends)
       ∙ ap (λ bytes. bytes ++ joined (slice ++ renditions ends)) (joined-renditions starts ∙ sym (start_bytes-sequences style))
@@ -210,7 +210,7 @@ module _ (style : Attributes) (slice : List Piece) where
   ends_stand : EachStands (renditions ends)
   ends_stand = subst EachStands (append-nil (renditions ends)) (EachStands-renditions ends [] (end_sequences_are_read open_style) tt)
 
-  ArePiecesOf-dressed : IsRendition style → EachStands slice → NoneBroken slice → ArePiecesOf (dressed style slice) (dressed_pieces style slice)
+  pub ArePiecesOf-dressed : IsRendition style → EachStands slice → NoneBroken slice → ArePiecesOf (dressed style slice) (dressed_pieces style slice)
   ArePiecesOf-dressed rendition each whole = record {
     joins = joined-dressed;
     stand = EachStands-renditions starts (slice ++ renditions ends) (start_sequences_are_read style rendition)
@@ -220,7 +220,7 @@ module _ (style : Attributes) (slice : List Piece) where
   after_start : IsRendition style → style_after_all plain_attributes (renditions starts) ≡ style
   after_start rendition = style_after_all-renditions plain_attributes starts ∙ start_from_plain style rendition
 
-  styled-dressed : IsRendition style → styled (dressed_pieces style slice) ≡ styled_from style slice
+  pub styled-dressed : IsRendition style → styled (dressed_pieces style slice) ≡ styled_from style slice
   styled-dressed rendition =
       styled_from-append plain_attributes (renditions starts) (slice ++ renditions ends)
       ∙ ap (λ cs. cs ++ styled_from (style_after_all plain_attributes (renditions starts)) (slice ++ renditions ends)) (styled_from-renditions plain_attributes starts)
@@ -236,7 +236,7 @@ module _ (style : Attributes) (slice : List Piece) where
       ∙ fold-append style_after style slice (renditions ends)
       ∙ style_after_all-renditions open_style ends ∙ end_from_itself open_style
 
-  IsClosed-dressed : IsRendition style → NoneBroken slice → IsClosed (dressed_pieces style slice)
+  pub IsClosed-dressed : IsRendition style → NoneBroken slice → IsClosed (dressed_pieces style slice)
   IsClosed-dressed rendition whole = record {
     none_broken = NoneBroken-append (renditions starts) (slice ++ renditions ends) (NoneBroken-renditions starts)
         (NoneBroken-append slice (renditions ends) whole (NoneBroken-renditions ends));
@@ -254,7 +254,7 @@ IsRendition-by style Esc bytes h = h
 IsRendition-by style Str bytes h = h
 IsRendition-by style Broken bytes h = h
 
-IsRendition-after : (style : Attributes) (ps : List Piece) → IsRendition style → IsRendition (style_after_all style ps)
+pub IsRendition-after : (style : Attributes) (ps : List Piece) → IsRendition style → IsRendition (style_after_all style ps)
 IsRendition-after style [] h = h
 IsRendition-after style (p ∷ ps) h = IsRendition-after (style_after style p) ps (IsRendition-by style p.kind p.bytes h)
 
@@ -265,16 +265,16 @@ module _ (text : List ℕ) (ps qs : List Piece) (a b : ℕ) (ordered : a ≤ b) 
   abbrev slice : List Piece
   slice = through_place (b - a) (from_place a ps)
 
-  rendition : IsRendition before
+  pub rendition : IsRendition before
   rendition = IsRendition-after plain_attributes (before_place a ps) IsRendition-plain
 
-  slice_whole : NoneBroken slice
+  pub slice_whole : NoneBroken slice
   slice_whole = NoneBroken-through (b - a) (from_place a ps) (NoneBroken-from a ps whole)
 
-  slice_stands : EachStands slice
+  pub slice_stands : EachStands slice
   slice_stands = EachStands-through (b - a) (from_place a ps) (EachStands-from a ps of_text.stand) (NoneBroken-from a ps whole)
 
-  pieces_of_part : qs ≡ dressed_pieces before slice
+  pub pieces_of_part : qs ≡ dressed_pieces before slice
   pieces_of_part = ArePiecesOf-unique (split_part a b ps) qs (dressed_pieces before slice) of_part
       (subst (λ bytes. ArePiecesOf bytes (dressed_pieces before slice)) (sym (split_part-slice a b ps ordered)) (ArePiecesOf-dressed before slice rendition slice_stands slice_whole))
 

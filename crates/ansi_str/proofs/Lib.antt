@@ -6,3 +6,8 @@ pub mod PartLemmas
 pub mod StyleLemmas
 pub mod PlaceLemmas
 pub mod DressedLemmas
+pub mod SliceLemmas
+pub mod PlaceSums
+pub mod CharLemmas
+pub mod Utf8Lemmas
+pub mod CutLemmas

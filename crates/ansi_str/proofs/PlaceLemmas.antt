@@ -66,7 +66,7 @@ pub from-none : (pieces : List Piece) → from_place 0 pieces ≡ pieces
 from-none [] = refl
 from-none (piece ∷ pieces) = refl
 
-before-none : (pieces : List Piece) → before_place 0 pieces ≡ []
+pub before-none : (pieces : List Piece) → before_place 0 pieces ≡ []
 before-none [] = refl
 before-none (piece ∷ pieces) = refl
 
@@ -88,7 +88,7 @@ joined-places n (piece ∷ pieces) = elim (reach n piece) [
       ∙ ap (λ found. joined (before_place n (piece ∷ pieces)) ++ joined found) (sym (from-past n piece pieces some h))
 ]
 
-drop-append_past : (xs ys : List ℕ) (n : ℕ) → length xs ≤ n → drop n (xs ++ ys) ≡ drop (n - length xs) ys
+pub drop-append_past : (xs ys : List ℕ) (n : ℕ) → length xs ≤ n → drop n (xs ++ ys) ≡ drop (n - length xs) ys
 drop-append_past [] ys n h = let same : n ≡ n - 0 = omega arith in ap (λ m. drop m ys) same
 drop-append_past (x ∷ xs) ys zero h = absurd (omega arith)
 drop-append_past (x ∷ xs) ys (suc n) h =

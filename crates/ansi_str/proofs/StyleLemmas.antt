@@ -17,7 +17,7 @@ either_style : (t : Bool) (style other : Attributes) → other ≡ style → (if
 either_style true style other same = same
 either_style false style other same = refl
 
-front_of-style : (style : Attributes) (n : ℕ) (piece : Piece) (none : Bool) → is_text_kind piece.kind ≡ true → (n == 0) ≡ none → style_after_all style (front_of n piece) ≡ style
+pub front_of-style : (style : Attributes) (n : ℕ) (piece : Piece) (none : Bool) → is_text_kind piece.kind ≡ true → (n == 0) ≡ none → style_after_all style (front_of n piece) ≡ style
 front_of-style style n piece true text e = ap (λ t. style_after_all style (if t then [] else record { kind = piece.kind; bytes = take n piece.bytes } ∷ [])) e
 front_of-style style n piece false text e =
     ap (λ t. style_after_all style (if t then [] else record { kind = piece.kind; bytes = take n piece.bytes } ∷ [])) e ∙ style_by-text style piece.kind (take n piece.bytes) text

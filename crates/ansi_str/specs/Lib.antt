@@ -3,4 +3,5 @@ pub mod Blocks
 pub mod Parts
 pub mod Matches
 pub mod PartsLeft
+pub mod Lines
 pub mod WorkedParts

@@ -1,10 +1,14 @@
 //! Laws of the definitions that the other contracts cite.
 
-ghost use Rattle.std.specs.Prelude.{◌≡◌, ◌≤◌, ◌-◌, ℕ, List, [], ◌∷◌, ◌++◌, codes, drop, false, flat_map};
+ghost use Rattle.std.specs.Prelude.{All, IsUtf8, ◌<◌, ◌==◌, map, ◌≡◌, ◌≤◌, ◌-◌, ℕ, List, [], ◌∷◌, ◌++◌, codes, drop, false, flat_map, slice_range};
+ghost use Rattle.std.specs.List.{slice_split};
+ghost use Rattle.ansi_scan.specs.Pieces.{pieces as pieces_of};
 ghost use Rattle.ansi_scan.specs.Sequences.{Piece, ArePiecesOf, NoneBroken, joined};
 ghost use Rattle.ansi_scan.specs.Attributes.{plain_attributes};
 ghost use Rattle.ansi_str.specs.StyledText.{IsClosed, has_escape, strip, style_after_all, styled, styled_from};
 ghost use Rattle.ansi_str.specs.Parts.{before_place, dressed, from_place, split_part, through_place};
+ghost use Rattle.ansi_str.specs.Matches.{AreMatches, split_bounds, styled_parts};
+ghost use Rattle.ansi_str.specs.Lines.{IsClosedText};
 ghost use Rattle.ansi_str.specs.WorkedParts.{black_text, two_lines};
 ghost use Rattle.ansi_str.specs.Blocks.{blocks_from, text_of_block, styled_of_block};
 
@@ -61,6 +65,33 @@ pub fn parts_show_their_slices()
     ensures closed { (text : List ℕ) (pieces of_part : List Piece) (a b : ℕ) → a ≤ b →
         ArePiecesOf text pieces → NoneBroken pieces →
         ArePiecesOf (split_part a b pieces) of_part → IsClosed of_part }
+{}
+
+/// Without its sequences a part of a split of a whole text is the slice of the text without its own.
+pub fn parts_are_stripped_slices()
+    ensures { (text : List ℕ) (pieces of_part : List Piece) (a b : ℕ) → a ≤ b →
+        ArePiecesOf text pieces → NoneBroken pieces →
+        ArePiecesOf (split_part a b pieces) of_part →
+        strip of_part ≡ slice_range (strip pieces) a b }
+{}
+
+/// The parts of a split of a whole text are closed texts, in UTF-8 where the text and the pattern are.
+pub fn parts_are_closed_texts()
+    ensures closed { (pattern text : List ℕ) (pieces : List Piece) (matches : List ℕ) →
+        ArePiecesOf text pieces → AreMatches pattern (strip pieces) matches → NoneBroken pieces →
+        All IsClosedText (styled_parts pieces (split_bounds pattern (strip pieces) matches)) }
+    ensures text { (pattern text : List ℕ) (pieces : List Piece) (matches : List ℕ) →
+        ArePiecesOf text pieces → AreMatches pattern (strip pieces) matches → IsUtf8 text → IsUtf8 pattern →
+        All IsUtf8 (styled_parts pieces (split_bounds pattern (strip pieces) matches)) }
+{}
+
+/// The parts of a whole text that is split at an ASCII character show what the text shows, each
+/// character in its style, cut at that character.
+pub fn split_shows_its_slices()
+    ensures { (c : ℕ) (text : List ℕ) (pieces : List Piece) (matches : List ℕ) → c < 128 → IsUtf8 text →
+        ArePiecesOf text pieces → NoneBroken pieces → AreMatches (c ∷ []) (strip pieces) matches →
+        map (λ part. styled (pieces_of part)) (styled_parts pieces (split_bounds (c ∷ []) (strip pieces) matches)) ≡
+        slice_split (λ x. x.0 == c) (styled pieces) }
 {}
 
 /// Parts worked out by hand: a text split at `456`, and one split at its line feed.
