@@ -23,7 +23,7 @@ use Rattle.columns.specs.Layout.{grid_of, characters_of, styled_line, styled_row
 use Rattle.columns.specs.Headline.{LinesEndPlain, ShowsTableOf}
 use Rattle.columns.proofs.ReadingLemmas.{read-table}
 use Rattle.columns.proofs.ShowLemmas.{Styled, Shows, Shows-ascii, Shows-flat_map, Shows-styled, Shows-closed, IsUtf8-stripped, characters_of-styled}
-use Rattle.columns.proofs.SplitLemmas.{IsWholeText, IsClosedText, whole-closed, styled-parts_at, closed-parts_at}
+use Rattle.columns.proofs.SplitLemmas.{IsWholeText, IsClosedPart, whole-closed, styled-parts_at, closed-parts_at}
 use Rattle.columns.proofs.ItemLemmas.{AllByRecursion-keeps, AllByRecursion-map_of, map-same, items-hold}
 
 -- ---- the rows and cells of the bytes are those of the styled characters
@@ -59,29 +59,29 @@ last_shown part (b ∷ bs) utf8 is =
     some_length : (n : ℕ) → (suc n == 0) ≡ false
     some_length n = grind (arith, nat_tests)
 
-styled-without_bare_last : (parts : List (List ℕ)) → AllByRecursion IsClosedText parts → map styled_characters (without_bare_last parts) ≡ without_empty_last (map styled_characters parts)
+styled-without_bare_last : (parts : List (List ℕ)) → AllByRecursion IsClosedPart parts → map styled_characters (without_bare_last parts) ≡ without_empty_last (map styled_characters parts)
 styled-without_bare_last [] all = refl
 styled-without_bare_last (part ∷ []) all = last_shown part (stripped part) all.0.utf8 refl
 styled-without_bare_last (part ∷ next ∷ parts) all =
     ap (λ others. styled_characters part ∷ others) (styled-without_bare_last (next ∷ parts) all.1)
     ∙ sym (without_empty_last-more (styled_characters part) (styled_characters next) (map styled_characters parts))
 
-closed-if : (bare : Bool) (part : List ℕ) → IsClosedText part → AllByRecursion IsClosedText (if bare then [] else part ∷ [])
+closed-if : (bare : Bool) (part : List ℕ) → IsClosedPart part → AllByRecursion IsClosedPart (if bare then [] else part ∷ [])
 closed-if true part closed = tt
 closed-if false part closed = (closed, tt)
 
-closed-without_bare_last : (parts : List (List ℕ)) → AllByRecursion IsClosedText parts → AllByRecursion IsClosedText (without_bare_last parts)
+closed-without_bare_last : (parts : List (List ℕ)) → AllByRecursion IsClosedPart parts → AllByRecursion IsClosedPart (without_bare_last parts)
 closed-without_bare_last [] all = tt
 closed-without_bare_last (part ∷ []) all = closed-if (length (stripped part) == 0) part all.0
 closed-without_bare_last (part ∷ next ∷ parts) all = (all.0, closed-without_bare_last (next ∷ parts) all.1)
 
 module _ (text : List ℕ) (whole : IsWholeText text) where
-  closed_rows : AllByRecursion IsClosedText (row_parts text)
+  closed_rows : AllByRecursion IsClosedPart (row_parts text)
   closed_rows = closed-without_bare_last (parts_at line_feed text) (closed-parts_at line_feed text (lit< tt) whole)
 
-  pub closed_cells : AllByRecursion (AllByRecursion IsClosedText) (cell_parts text)
+  pub closed_cells : AllByRecursion (AllByRecursion IsClosedPart) (cell_parts text)
   closed_cells =
-      AllByRecursion-map_of IsClosedText (AllByRecursion IsClosedText) (parts_at tab) (λ row closed. closed-parts_at tab row (lit< tt) (whole-closed row closed)) (row_parts text) closed_rows
+      AllByRecursion-map_of IsClosedPart (AllByRecursion IsClosedPart) (parts_at tab) (λ row closed. closed-parts_at tab row (lit< tt) (whole-closed row closed)) (row_parts text) closed_rows
 
   styled-row_parts : map styled_characters (row_parts text) ≡ row_texts (λ x. x.0) (styled_characters text)
   styled-row_parts =
@@ -92,7 +92,7 @@ module _ (text : List ℕ) (whole : IsWholeText text) where
   styled-cell_parts =
       let cells = slice_split (λ (x : Styled). x.0 == tab) in
       map-map (map styled_characters) (parts_at tab) (row_parts text)
-      ∙ map-same IsClosedText (λ row. map styled_characters (parts_at tab row)) (λ row. cells (styled_characters row)) (λ row closed. styled-parts_at tab row (lit< tt) (whole-closed row closed)) (row_parts text) closed_rows
+      ∙ map-same IsClosedPart (λ row. map styled_characters (parts_at tab row)) (λ row. cells (styled_characters row)) (λ row closed. styled-parts_at tab row (lit< tt) (whole-closed row closed)) (row_parts text) closed_rows
       ∙ sym (map-map cells styled_characters (row_parts text))
       ∙ ap (map cells) styled-row_parts
 
@@ -136,13 +136,13 @@ styled-rows text whole =
     let rows = cell_parts text in
     let line = λ (cell : List ℕ). styled_line (styled_characters cell) ∷ [] in
     read-cells chunk_styled chunk_line rows
-    ∙ map-same (AllByRecursion IsClosedText) (map (λ cell. read_line chunk_styled (chunk_line cell) ∷ [])) (map line)
-    (λ row closed. map-same IsClosedText (λ cell. read_line chunk_styled (chunk_line cell) ∷ []) line (λ cell closed. shown_line cell closed) row closed) rows (closed_cells text whole)
+    ∙ map-same (AllByRecursion IsClosedPart) (map (λ cell. read_line chunk_styled (chunk_line cell) ∷ [])) (map line)
+    (λ row closed. map-same IsClosedPart (λ cell. read_line chunk_styled (chunk_line cell) ∷ []) line (λ cell closed. shown_line cell closed) row closed) rows (closed_cells text whole)
     ∙ (λ n. map (λ row. sym (map-map (λ cs. styled_line cs ∷ []) styled_characters row) n) rows)
     ∙ sym (map-map (map (λ cs. styled_line cs ∷ [])) (map styled_characters) rows)
     ∙ ap (map (map (λ cs. styled_line cs ∷ []))) (styled-cell_parts text whole)
   where
-    shown_line : (cell : List ℕ) → IsClosedText cell → read_line chunk_styled (chunk_line cell) ∷ [] ≡ styled_line (styled_characters cell) ∷ []
+    shown_line : (cell : List ℕ) → IsClosedPart cell → read_line chunk_styled (chunk_line cell) ∷ [] ≡ styled_line (styled_characters cell) ∷ []
     shown_line cell closed =
         ap (λ (items : List Styled). record { measure = measure (chars (stripped cell)); items = items } ∷ []) (append-nil (styled_characters cell))
         ∙ ap (λ (characters : List ℕ). record { measure = measure characters; items = styled_characters cell } ∷ []) (sym (characters_of-styled cell closed.utf8))
@@ -162,15 +162,15 @@ picture-chunks text whole =
     read-table chunk_styled chunk_item (chunk_rows text)
     ∙ ap (λ rows. picture_items (λ c. plain c ∷ []) (grid_of rows)) (styled-rows text whole)
 
-Shows-closed_text : (text : List ℕ) → IsClosedText text → Shows text (styled_characters text)
-Shows-closed_text text closed = record { pieces = pieces text; of_bytes = ArePiecesOf-pieces text; closed = closed.closed; utf8 = closed.utf8; shown = refl }
+Shows-closed_part : (text : List ℕ) → IsClosedPart text → Shows text (styled_characters text)
+Shows-closed_part text closed = record { pieces = pieces text; of_bytes = ArePiecesOf-pieces text; closed = closed.closed; utf8 = closed.utf8; shown = refl }
 
 chunks-shown : (text : List ℕ) → IsWholeText text → AllByRecursion IsShown (chunks text)
 chunks-shown text whole =
     items-hold chunk_item IsShown
     (λ c printable. (Shows-ascii c (printable_ascii c printable) (printable_other c printable), tt)) (chunk_rows text)
-    (AllByRecursion-map_of (AllByRecursion IsClosedText) (AllByRecursion (AllByRecursion (λ (line : Line Chunk). AllByRecursion IsShown line.items))) (map (λ cell. chunk_line cell ∷ []))
-    (λ row closed. AllByRecursion-map_of IsClosedText (AllByRecursion (λ (line : Line Chunk). AllByRecursion IsShown line.items)) (λ cell. chunk_line cell ∷ []) (λ cell good. ((Shows-closed_text cell good, tt), tt)) row closed)
+    (AllByRecursion-map_of (AllByRecursion IsClosedPart) (AllByRecursion (AllByRecursion (λ (line : Line Chunk). AllByRecursion IsShown line.items))) (map (λ cell. chunk_line cell ∷ []))
+    (λ row closed. AllByRecursion-map_of IsClosedPart (AllByRecursion (λ (line : Line Chunk). AllByRecursion IsShown line.items)) (λ cell. chunk_line cell ∷ []) (λ cell good. ((Shows-closed_part cell good, tt), tt)) row closed)
     (cell_parts text) (closed_cells text whole))
     (Shows-ascii line_feed (lit< tt) (λ same. cc same), tt)
   where

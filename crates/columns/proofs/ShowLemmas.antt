@@ -14,11 +14,13 @@ use Rattle.ansi_scan.specs.Pieces.{pieces}
 use Rattle.ansi_scan.specs.Attributes.{Attributes, plain_attributes}
 use Rattle.ansi_scan.proofs.Existence.{ArePiecesOf-pieces}
 use Rattle.ansi_scan.proofs.Uniqueness.{ArePiecesOf-unique}
-use Rattle.ansi_scan.proofs.Boundaries.{IsCharBoundary-behind}
 use Rattle.ansi_scan.proofs.Joins.{ArePiecesOf-append, NoneBroken-put_all_before}
 use Rattle.ansi_str.specs.StyledText.{shown, text_of, strip, style_by, style_after, style_after_all, styled_from, styled, IsClosed}
+use Rattle.ansi_str.proofs.Utf8Lemmas.{EachUtf8-pieces, IsUtf8-text_of}
 use Rattle.columns.specs.Rows.{stripped, styled_characters}
 use Rattle.columns.specs.Layout.{plain, characters_of}
+use Rattle.columns.proofs.ItemLemmas.{AllByRecursion-keeps}
+use Rattle.columns.proofs.SplitLemmas.{one_ascii, IsUtf8-one}
 
 abbrev pub Styled : Type 0
 Styled = ℕ × Attributes
@@ -31,36 +33,9 @@ with_style style characters = map (λ c. (c, style)) characters
 abbrev pub TextsAreUtf8 : List Piece → Type 0
 TextsAreUtf8 ps = AllByRecursion (λ p. IsUtf8 (text_of p)) ps
 
-IsUtf8-shown : (kind : Kind) (bytes : List ℕ) → IsUtf8 bytes → IsUtf8 (shown kind bytes)
-IsUtf8-shown Text bytes utf8 = utf8
-IsUtf8-shown Sgr bytes utf8 = IsUtf8-nil
-IsUtf8-shown Csi bytes utf8 = IsUtf8-nil
-IsUtf8-shown Osc bytes utf8 = IsUtf8-nil
-IsUtf8-shown Esc bytes utf8 = IsUtf8-nil
-IsUtf8-shown Str bytes utf8 = IsUtf8-nil
-IsUtf8-shown Broken bytes utf8 = IsUtf8-nil
-
--- a text, cut where a character begins
-IsUtf8-front : (front behind : List ℕ) → IsUtf8 (front ++ behind) → IsCharBoundary (front ++ behind) (length front) → IsUtf8 front
-IsUtf8-front front behind utf8 boundary =
-    let size : length front - 0 ≡ length front = omega arith in
-    let low : 0 ≤ length front = omega arith in
-    subst IsUtf8 (ap (λ n. take n (front ++ behind)) size ∙ take-append_seam front behind)
-    (IsUtf8-between (front ++ behind) 0 (length front) utf8 low (IsCharBoundary-start (front ++ behind) utf8) boundary)
-
-IsUtf8-behind : (front behind : List ℕ) → IsUtf8 (front ++ behind) → IsCharBoundary (front ++ behind) (length front) → IsUtf8 behind
-IsUtf8-behind front behind utf8 boundary = subst IsUtf8 (drop-append_seam front behind) (IsUtf8-drop (front ++ behind) (length front) utf8 boundary)
-
-TextsAreUtf8-stand : (ps : List Piece) → EachStands ps → IsUtf8 (joined ps) → TextsAreUtf8 ps
-TextsAreUtf8-stand [] each utf8 = tt
-TextsAreUtf8-stand (p ∷ ps) each utf8 =
-    let size : 0 + length p.bytes ≡ length p.bytes = omega arith in
-    let boundary : IsCharBoundary (p.bytes ++ joined ps) (length p.bytes) =
-    subst (IsCharBoundary (p.bytes ++ joined ps)) size (IsCharBoundary-behind p.kind p.bytes ps each.0 each.1 (p.bytes ++ joined ps) [] utf8 refl) in
-    (IsUtf8-shown p.kind p.bytes (IsUtf8-front p.bytes (joined ps) utf8 boundary), TextsAreUtf8-stand ps each.1 (IsUtf8-behind p.bytes (joined ps) utf8 boundary))
-
 pub TextsAreUtf8-pieces : (text : List ℕ) (ps : List Piece) → ArePiecesOf text ps → IsUtf8 text → TextsAreUtf8 ps
-TextsAreUtf8-pieces text ps of_text utf8 = TextsAreUtf8-stand ps of_text.stand (subst IsUtf8 (sym of_text.joins) utf8)
+TextsAreUtf8-pieces text ps of_text utf8 =
+    AllByRecursion-keeps (λ p. IsUtf8 p.bytes) (λ p. IsUtf8 (text_of p)) IsUtf8-text_of ps (EachUtf8-pieces ps of_text.stand (subst IsUtf8 (sym of_text.joins) utf8))
 
 -- ---- the characters alone
 
@@ -180,9 +155,8 @@ Shows-append bytes other characters others first second =
           ∙ ap (λ cs. characters ++ cs) second.shown;
     }
 
-one_ascii : (c : ℕ) → c < 128 → (i : ℕ) → get_or (c ∷ []) i 0 < 128
-one_ascii c ascii zero = ascii
-one_ascii c ascii (suc i) = omega arith
+chars-one : (c : ℕ) → c < 128 → chars (c ∷ []) ≡ c ∷ []
+chars-one c ascii = chars-IsAscii (c ∷ []) (one_ascii c ascii)
 
 -- an ASCII character other than ESC
 pub Shows-ascii : (c : ℕ) → c < 128 → c ≢ escape → Shows (encode_utf8 c) (plain c ∷ [])
@@ -195,8 +169,8 @@ Shows-ascii c ascii other =
         stand = (record { some = omega arith; plain = ap (λ t. not t && true) (ne_eqb c escape other); ends = tt }, tt);
       };
       closed = record { none_broken = ((λ same. cc same), tt); plain = refl };
-      utf8 = subst IsUtf8 (sym alone) (IsUtf8-from_ascii (c ∷ []) (one_ascii c ascii));
-      shown = ap (λ cs. with_style plain_attributes cs ++ []) (chars-IsAscii (c ∷ []) (one_ascii c ascii));
+      utf8 = subst IsUtf8 (sym alone) (IsUtf8-one c ascii);
+      shown = ap (λ cs. with_style plain_attributes cs ++ []) (chars-one c ascii);
     }
 
 pub Shows-flat_map : {A : Type 0} (f : A → List ℕ) (g : A → List Styled) (xs : List A) → AllByRecursion (λ x. Shows (f x) (g x)) xs → Shows (flat_map f xs) (flat_map g xs)
