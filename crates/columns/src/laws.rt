@@ -31,6 +31,15 @@ pub fn worked_tables()
     ensures carriage_return { table_characters (codes "a\r\n") ≡ codes "+----+\n| a\r |\n+----+\n" }
 {}
 
+/// Tables of styled texts, worked out by hand: their bytes.
+pub fn worked_outputs()
+    ensures two_cells { output_of (codes "\u{1b}[31mab\tc\n") ≡ codes "+----+---+\n| \u{1b}[31mab\u{1b}[39m | \u{1b}[31mc\u{1b}[39m |\n+----+---+\n" }
+    ensures two_lines { output_of (codes "\u{1b}[1ma\nb\u{1b}[0m\n") ≡ codes "+---+\n| \u{1b}[1ma\u{1b}[22m |\n+---+\n| \u{1b}[1mb\u{1b}[0m |\n+---+\n" }
+    ensures lone_sequence { output_of (codes "\u{1b}[31m") ≡ [] }
+    ensures tab_in_a_string { output_of (codes "\u{1b}]0;a\tb\u{7}x\n") ≡ codes "+---+\n| \u{1b}]0;a\tb\u{7}x |\n+---+\n" }
+    ensures same_color_twice { output_of (codes "\u{1b}[31ma\u{1b}[31mb\n") ≡ codes "+----+\n| \u{1b}[31ma\u{1b}[31mb\u{1b}[39m |\n+----+\n" }
+{}
+
 /// A table's picture in other items is the picture of the table read in those items: bytes, characters and styled
 /// characters are readings of one picture.
 pub fn readings<X, Y>()
