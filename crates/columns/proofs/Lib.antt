@@ -3,6 +3,7 @@ pub mod FrameLemmas
 pub mod ItemLemmas
 pub mod Maps
 pub mod MeasureLemmas
+pub mod PartLemmas
 pub mod PassLemmas
 pub mod PictureLemmas
 pub mod PlaceLemmas

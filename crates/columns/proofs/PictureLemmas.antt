@@ -176,6 +176,7 @@ chunks-shown text whole =
   where
     printable_ascii : (c : ℕ) → is_in_range 0x20 0x7E c ≡ true → c < 128
     printable_ascii c h = grind (arith, nat_tests)
+
     printable_other : (c : ℕ) → is_in_range 0x20 0x7E c ≡ true → c ≢ escape
     printable_other c h same = let low : 0x20 ≤ c = grind (arith, nat_tests) in omega (arith, same)
 
@@ -266,7 +267,7 @@ output-shows_table text utf8 whole =
       picture = λ ps qs of_input of_output.
           Shows-styled bytes (picture_of cs) qs shows of_output ∙ ap (λ found. picture_of (styled found)) (pieces-ArePiecesOf text ps of_input);
       lines = λ qs of_output. record {
-          closed = Shows-closed bytes (picture_of cs) qs shows of_output;
-          line_feeds = subst (All EndsPlain) (sym (Shows-styled bytes (picture_of cs) qs shows of_output)) (All-from_recursion EndsPlain (picture_of cs) (picture-ends_plain cs));
+        closed = Shows-closed bytes (picture_of cs) qs shows of_output;
+        line_feeds = subst (All EndsPlain) (sym (Shows-styled bytes (picture_of cs) qs shows of_output)) (All-from_recursion EndsPlain (picture_of cs) (picture-ends_plain cs));
       };
     }

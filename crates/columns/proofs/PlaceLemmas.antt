@@ -116,22 +116,23 @@ module _ (c : ℕ) (text : List ℕ) where
       ap (λ n. slice_range text start n ∷ []) end ∙ ap (λ part. part ∷ []) (sym (append-nil (slice_range text start k)))
   parts-from (b ∷ bs) start k left low high =
       at (b == c) refl (λ start low. parts-from bs start (k + 1) (behind_it text k b bs left) low (omega (arith, inside text k b bs left))) where
-    joined : (front : List ℕ) (parts : List (List ℕ)) → (part : List ℕ) × (others : List (List ℕ)) × (parts ≡ part ∷ others) → onto_front (front ++ b ∷ []) parts ≡ onto_front front (onto_first b parts)
-    joined front parts found =
-        ap (onto_front (front ++ b ∷ [])) found.2 ∙ ap (λ part. part ∷ found.1) (append_assoc front (b ∷ []) found.0) ∙ ap (λ parts. onto_front front (onto_first b parts)) (sym found.2)
-    at : (same : Bool) → (b == c) ≡ same → ((other : ℕ) → other ≤ k + 1 → cut_from other (places_from c (k + 1) bs) ≡ onto_front (slice_range text other (k + 1)) (split bs))
-        → cut_from start ((if b == c then k ∷ [] else []) ++ places_from c (k + 1) bs) ≡ onto_front (slice_range text start k) (split (b ∷ bs))
-    at true e rest =
-        ap (λ t. cut_from start ((if t then k ∷ [] else []) ++ places_from c (k + 1) bs)) e
-        ∙ ap (λ parts. slice_range text start k ∷ parts) (rest (k + 1) (omega arith) ∙ ap (λ front. onto_front front (split bs)) (cell-empty text (k + 1)) ∙ onto_front-none c bs)
-        ∙ ap (λ part. part ∷ split bs) (sym (append-nil (slice_range text start k)))
-        ∙ ap (onto_front (slice_range text start k)) (sym (slice_split-cons_yes (λ b. b == c) b bs e))
-    at false e rest =
-        ap (λ t. cut_from start ((if t then k ∷ [] else []) ++ places_from c (k + 1) bs)) e
-        ∙ rest start (omega arith)
-        ∙ ap (λ front. onto_front front (split bs)) (sym (cell-more text start k low (inside text k b bs left)) ∙ ap (λ byte. slice_range text start k ++ byte ∷ []) (here text k b bs left))
-        ∙ joined (slice_range text start k) (split bs) (slice_split-parts (λ b. b == c) bs)
-        ∙ ap (onto_front (slice_range text start k)) (sym (slice_split-cons_no (λ b. b == c) b bs e))
+        joined : (front : List ℕ) (parts : List (List ℕ)) → (part : List ℕ) × (others : List (List ℕ)) × (parts ≡ part ∷ others) → onto_front (front ++ b ∷ []) parts ≡ onto_front front (onto_first b parts)
+        joined front parts found =
+            ap (onto_front (front ++ b ∷ [])) found.2 ∙ ap (λ part. part ∷ found.1) (append_assoc front (b ∷ []) found.0) ∙ ap (λ parts. onto_front front (onto_first b parts)) (sym found.2)
+
+        at : (same : Bool) → (b == c) ≡ same → ((other : ℕ) → other ≤ k + 1 → cut_from other (places_from c (k + 1) bs) ≡ onto_front (slice_range text other (k + 1)) (split bs))
+            → cut_from start ((if b == c then k ∷ [] else []) ++ places_from c (k + 1) bs) ≡ onto_front (slice_range text start k) (split (b ∷ bs))
+        at true e rest =
+            ap (λ t. cut_from start ((if t then k ∷ [] else []) ++ places_from c (k + 1) bs)) e
+            ∙ ap (λ parts. slice_range text start k ∷ parts) (rest (k + 1) (omega arith) ∙ ap (λ front. onto_front front (split bs)) (cell-empty text (k + 1)) ∙ onto_front-none c bs)
+            ∙ ap (λ part. part ∷ split bs) (sym (append-nil (slice_range text start k)))
+            ∙ ap (onto_front (slice_range text start k)) (sym (slice_split-cons_yes (λ b. b == c) b bs e))
+        at false e rest =
+            ap (λ t. cut_from start ((if t then k ∷ [] else []) ++ places_from c (k + 1) bs)) e
+            ∙ rest start (omega arith)
+            ∙ ap (λ front. onto_front front (split bs)) (sym (cell-more text start k low (inside text k b bs left)) ∙ ap (λ byte. slice_range text start k ++ byte ∷ []) (here text k b bs left))
+            ∙ joined (slice_range text start k) (split bs) (slice_split-parts (λ b. b == c) bs)
+            ∙ ap (onto_front (slice_range text start k)) (sym (slice_split-cons_no (λ b. b == c) b bs e))
 
   text_parts-split : text_parts text (split_bounds (c ∷ []) text (places c text)) ≡ split text
   text_parts-split =
@@ -244,6 +245,7 @@ NoEscape-parts c (b ∷ bs) none =
     or_parts : (first others : Bool) → (first || others) ≡ false → (first ≡ false) × (others ≡ false)
     or_parts true others e = absurd (cc e)
     or_parts false others e = (refl, e)
+
     onto : (parts : List (List ℕ)) → AllByRecursion (λ part. has_escape part ≡ false) parts → AllByRecursion (λ part. has_escape part ≡ false) (onto_first b parts)
     onto [] all = (ap (λ t. t || false) (or_parts (b == escape) (has_escape bs) none).0, tt)
     onto (part ∷ parts) all = (ap (λ t. t || has_escape part) (or_parts (b == escape) (has_escape bs) none).0 ∙ all.0, all.1)

@@ -38,8 +38,7 @@ IsUtf8-one c ascii = IsUtf8-from_ascii (c ∷ []) (one_ascii c ascii)
 both : (parts : List (List ℕ)) → All IsUtf8 parts → All IsClosedText parts → AllByRecursion IsClosedPart parts
 both [] utf8 closed = tt
 both (part ∷ parts) utf8 closed =
-    let here = All-head IsClosedText part parts closed in
-    (
+    let here = All-head IsClosedText part parts closed in (
       record {
         utf8 = All-head IsUtf8 part parts utf8;
         closed = subst IsClosed (ArePiecesOf-unique part here.pieces (pieces part) here.of_text (ArePiecesOf-pieces part)) here.closed;

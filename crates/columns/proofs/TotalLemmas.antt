@@ -21,7 +21,7 @@ use Rattle.columns.specs.Totals.{total}
 use Rattle.columns.specs.Picture.{picture_items}
 use Rattle.columns.specs.Readings.{read_rows}
 use Rattle.columns.specs.Layout.{one_each, grid_of, character_rows, table_characters, characters_of, styled_rows, part_line, part_rows, output_of, TableFits}
-use Rattle.columns.specs.Printing.{byte_line, content_width, content_widths, grid_text, table_width, table_height}
+use Rattle.columns.specs.Printing.{byte_line, line_rows, content_width, content_widths, grid_text, table_width, table_height}
 use Rattle.columns.proofs.ReadingLemmas.{read-column_widths, read-row_heights}
 use Rattle.columns.proofs.PrintingLemmas.{one_line, one_line-widths, one_line-heights, ones-total, grid_text-picture}
 use Rattle.columns.proofs.ItemLemmas.{map-same}
@@ -31,10 +31,6 @@ use Rattle.columns.proofs.PlaceLemmas.{stripped-without_escape, plain_cells, cel
 use Rattle.columns.proofs.PictureLemmas.{Chunk, chunk_bytes, chunk_styled, chunk_rows, bytes-rows, styled-rows, output-shows_table}
 use Rattle.columns.proofs.CharacterLemmas.{single, characters-rows, picture-characters}
 use Rattle.columns.proofs.TextLemmas.{byte_rows, table-bytes}
-
--- the rows of a text, each cell its one line
-abbrev pub line_rows : List ℕ → List (List (Line ℕ))
-line_rows text = map (map part_line) (cell_parts text)
 
 one_line-rows : (text : List ℕ) → part_rows text ≡ map one_line (line_rows text)
 one_line-rows text =
