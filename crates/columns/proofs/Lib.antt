@@ -13,6 +13,7 @@ pub mod PrintingLemmas
 pub mod Ranges
 pub mod ReadingLemmas
 pub mod RowLemmas
+pub mod ServeLemmas
 pub mod ShowLemmas
 pub mod SizeLemmas
 pub mod SplitLemmas

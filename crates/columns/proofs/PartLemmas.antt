@@ -2,7 +2,8 @@
 use Rattle.std.proofs.Common.{◌≡◌, ℕ, zero, suc, ◌+◌, ◌-◌, ◌<◌, ◌≤◌, ◌==◌, ◌↔◌, Bool, true, false, Option, Some, None, IsSome, List, [], ◌∷◌, ◌++◌, map, flat_map, length, sum, take, drop, get_or, refl, ap, sym, subst, ◌∙◌, arith, append-nil, length-append, append_assoc, if◌then◌else◌, option_to_list, slice_get}
 use Rattle.std.proofs.Math.Seq.{drop-append_seam}
 use Rattle.std.proofs.lemmas.Bool.Decides.{nat_tests}
-use Rattle.std.proofs.lemmas.List.{map-append}
+use Rattle.std.proofs.lemmas.List.{map-append, take-map}
+use Rattle.std.specs.List.{drop-map}
 use Rattle.ansi_scan.specs.declared.items.Kind.{Kind}
 use Rattle.ansi_scan.specs.declared.items.Kind.TheVariants.{Text, Sgr, Csi, Osc, Esc, Str, Broken}
 use Rattle.ansi_scan.specs.Sequences.{Piece, Stands, EachStands}
@@ -101,3 +102,10 @@ cut-row counts cells row n whole size =
     ∙ ap (λ rows. rows ++ drop (sum counts) (cells ++ row) ∷ []) (cut-append counts cells row fits)
     ∙ ap (λ k. cut counts cells ++ drop k (cells ++ row) ∷ []) whole
     ∙ ap (λ rest. cut counts cells ++ rest ∷ []) (drop-append_seam cells row)
+
+pub cut-map : {X Y : Type 0} (f : X → Y) (counts : List ℕ) (xs : List X) → cut counts (map f xs) ≡ map (map f) (cut counts xs)
+cut-map f [] xs = refl
+cut-map f (n ∷ ns) xs =
+    ap (λ row. row ∷ cut ns (drop n (map f xs))) (take-map f n xs)
+    ∙ ap (λ rest. map f (take n xs) ∷ cut ns rest) (drop-map f n xs)
+    ∙ ap (λ rows. map f (take n xs) ∷ rows) (cut-map f ns (drop n xs))

@@ -6,10 +6,10 @@ use Rattle.columns.proofs.SizeLemmas.{length-cut_counts, cut-some}
 use Rattle.columns.proofs.PictureLemmas.{whole_text}
 use Rattle.columns.proofs.TotalLemmas.{output-none, output-some, fits-none, TableFits-sums, TableFits-width, greatest-sum}
 use Rattle.columns.proofs.layout.table_of_rows.Goals as goal
-use Rattle.columns.proofs.layout.table_of_rows.Goals.{Then-is_empty}
+use Rattle.columns.proofs.layout.table_of_rows.Goals.{After-new}
 
 -- no rows
-none : (c : Then-is_empty) → line_rows c.args.text.now ≡ []
+none : (c : After-new) → line_rows c.args.text.now ≡ []
 none c =
     let rows = c.args.rows.now in
     let empty : vec_len rows.counts ≡ 0 = eqb-true (vec_len rows.counts) 0 (sym c.is_empty.ensures ∙ c.if-is_empty.true) in
