@@ -1,6 +1,7 @@
 -- What the printing functions append, line by line, in a table whose rows are one line high. That this is the picture
 -- is proved in `proofs/PrintingLemmas`.
 use Rattle.std.specs.Prelude.{◌*◌, ◌<◌, sum_by, ℕ, ◌+◌, ◌-◌, ◌≤◌, Bool, ◌==◌, false, List, [], ◌∷◌, ◌++◌, map, flat_map, length, take, drop, replicate, slice_index, slice_index_or, vec_items, chars}
+use Rattle.std.specs.Borrow.{Bor}
 use Rattle.std.specs.Int.{is_in_range}
 use Rattle.std.specs.List.{range_with_len, list_all}
 use Rattle.columns.specs.Rows.{stripped, cell_parts}
@@ -9,6 +10,10 @@ use Rattle.columns.specs.Estimates.{Line, empty_line, greatest}
 use Rattle.columns.specs.Layout.{part_line}
 use Rattle.columns.specs.declared.rows.Cell.{Cell}
 use Rattle.columns.specs.declared.rows.Rows.{Rows}
+
+-- the bytes of a text
+abbrev pub bytes : Bor (List ℕ) → List ℕ
+bytes text = text.now
 
 -- a cell as a line of bytes
 abbrev pub shown : Cell → Line ℕ

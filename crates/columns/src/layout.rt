@@ -4,7 +4,7 @@ ghost use Rattle.ansi_scan.specs.Sequences.{IsWhole};
 ghost use Rattle.columns.specs.Layout.{output_of, TableFits};
 ghost use Rattle.columns.specs.Printing.{rows_shown, line_rows};
 
-use crate::parts::{cell_parts, measured, row_parts};
+use crate::parts::{cell_parts, measured, row_parts, texts};
 use crate::print::grid_text;
 use crate::rows::{Rows, rows_of};
 use crate::sizes::{content_widths, table_height, table_width};
@@ -38,8 +38,9 @@ pub fn table_text(alloc: Global, text: &str) -> Result<String, LayoutFault>
     ensures range { IsErrOf result LayoutFault.Range → ¬ (TableFits text.now) }
 {
     if text.ansi_has_any() {
-        let lines = row_parts(alloc, text)?;
-        let (parts, counts) = cell_parts(alloc, &lines)?;
+        let lines = row_parts(alloc, &text)?;
+        let rows = texts(alloc, &lines)?;
+        let (parts, counts) = cell_parts(alloc, &rows)?;
         let cells = measured(alloc, &parts)?;
         table_of_rows(alloc, text, &Rows { cells, counts })
     } else {

@@ -4,7 +4,7 @@ ghost use Rattle.std.specs.Prelude.{◌≡◌, ℕ, ◌==◌, ◌<◌, ◌≤◌
 ghost use Rattle.std.specs.Cow.{cow_str_bytes};
 ghost use Rattle.columns.specs.Rows.{stripped, tab, line_feed, parts_at, row_parts};
 ghost use Rattle.columns.specs.Layout.{part_line};
-ghost use Rattle.columns.specs.Printing.{shown, cut, last_is_bare};
+ghost use Rattle.columns.specs.Printing.{bytes, shown, cut, last_is_bare};
 
 use crate::rows::{Cell, width_of};
 use ansi_str::{AnsiStr, get_blocks};
@@ -12,8 +12,8 @@ use std::alloc::{AllocError, Global};
 use std::borrow::CowStr;
 
 /// The rows of a text: its parts at line feeds, but for a last one that shows nothing.
-pub fn row_parts<'a>(alloc: Global, text: &'a str) -> Result<Vec<CowStr<'a>>, AllocError>
-    ensures { IfOk result (λ rows. map cow_str_bytes rows.items ≡ row_parts text.now) }
+pub fn row_parts<'a>(alloc: Global, text: &'a &'a str) -> Result<Vec<CowStr<'a>>, AllocError>
+    ensures { IfOk result (λ rows. map cow_str_bytes rows.items ≡ row_parts text.now.now) }
 {
     let mut rows = Vec::new(alloc);
     push_parts(alloc, &mut rows, text, "\n")?;
@@ -23,13 +23,25 @@ pub fn row_parts<'a>(alloc: Global, text: &'a str) -> Result<Vec<CowStr<'a>>, Al
     Ok(rows)
 }
 
+/// The texts of the parts.
+pub fn texts<'a>(alloc: Global, parts: &'a [CowStr<'a>]) -> Result<Vec<&'a str>, AllocError>
+    ensures { IfOk result (λ texts. map bytes texts.items ≡ map cow_str_bytes parts.now) }
+{
+    let mut texts = Vec::with_capacity(alloc, parts.len())?;
+    for part in parts {
+        let text: &str = part;
+        texts.push(text)?;
+    }
+    Ok(texts)
+}
+
 /// The cells of all rows, one row after the other, and how many each row has.
 pub fn cell_parts<'a>(
     alloc: Global,
-    rows: &'a [CowStr<'a>],
+    rows: &'a [&'a str],
 ) -> Result<(Vec<CowStr<'a>>, Vec<usize>), AllocError>
     ensures whole { IfOk result (λ found. sum found.1.items ≡ vec_len found.0) }
-    ensures cells { IfOk result (λ found. cut found.1.items (map cow_str_bytes found.0.items) ≡ map (parts_at tab) (map cow_str_bytes rows.now)) }
+    ensures cells { IfOk result (λ found. cut found.1.items (map cow_str_bytes found.0.items) ≡ map (parts_at tab) (map bytes rows.now)) }
 {
     let mut cells = Vec::new(alloc);
     let mut counts = Vec::new(alloc);
@@ -67,11 +79,11 @@ fn measured_cell<'a>(alloc: Global, part: &'a str) -> Result<Cell<'a>, AllocErro
 fn push_parts<'a>(
     alloc: Global,
     parts: &mut Vec<CowStr<'a>>,
-    text: &'a str,
+    text: &'a &'a str,
     character: &'a str,
 ) -> Result<(), AllocError>
     ensures grows { OnOk result (vec_len parts.old ≤ vec_len parts.new) }
-    ensures parts { OnOk result ((c : ℕ) → c < 128 → character.now ≡ c ∷ [] → map cow_str_bytes parts.new.items ≡ map cow_str_bytes parts.old.items ++ parts_at c text.now) }
+    ensures parts { OnOk result ((c : ℕ) → c < 128 → character.now ≡ c ∷ [] → map cow_str_bytes parts.new.items ≡ map cow_str_bytes parts.old.items ++ parts_at c text.now.now) }
 {
     Err(AllocError)
 }
