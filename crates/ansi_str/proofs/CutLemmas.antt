@@ -1,5 +1,5 @@
 -- The characters of a text with their styles, cut at an ASCII character, are those of the parts of its split.
-use Rattle.std.proofs.Common.{◌≡◌, ℕ, ◌+◌, ◌-◌, ◌<◌, ◌≤◌, ◌==◌, Bool, true, false, List, [], ◌∷◌, ◌++◌, length, get_or, map, take, drop, refl, ap, sym, subst, ◌∙◌, arith, append_assoc, append-nil, eqb-true, eq-eqb, ne_eqb, length-append}
+use Rattle.std.proofs.Common.{◌≡◌, ℕ, ◌+◌, ◌-◌, ◌<◌, ◌≤◌, ◌==◌, Bool, true, false, List, [], ◌∷◌, ◌++◌, length, get_or, map, take, drop, refl, ap, sym, subst, ◌∙◌, arith, append_assoc, append-nil, eqb-true, eq-eqb, ne_eqb}
 use Rattle.std.specs.Prelude.{chars, if◌then◌else◌}
 use Rattle.std.specs.List.{AllByRecursion, slice_split}
 use Rattle.std.specs.Str.{IsUtf8, IsCharBoundary}
@@ -9,14 +9,13 @@ use Rattle.std.proofs.lemmas.List.Splits.{slice_split_none, slice_split_at}
 use Rattle.std.proofs.lemmas.Simd.{map-map}
 use Rattle.std.proofs.lemmas.Str.{chars-nil, IsUtf8-from_ascii, IsCharBoundary-start, IsCharBoundary-before_ascii}
 use Rattle.std.proofs.lemmas.Str.Ascii.{IsAscii-from_all}
-use Rattle.ansi_scan.specs.declared.items.Kind.{Kind}
 use Rattle.ansi_scan.specs.Sequences.{Piece, ArePiecesOf, NoneBroken}
 use Rattle.ansi_scan.specs.Joining.{is_text_kind}
 use Rattle.ansi_scan.specs.Pieces.{pieces}
 use Rattle.ansi_scan.specs.Attributes.{Attributes, plain_attributes}
 use Rattle.ansi_scan.proofs.Existence.{ArePiecesOf-pieces}
 use Rattle.ansi_str.specs.StyledText.{text_of, strip, style_after, style_after_all, styled_from, styled}
-use Rattle.ansi_str.specs.Parts.{piece_from, from_place, front_of, before_place, through_place, split_part}
+use Rattle.ansi_str.specs.Parts.{piece_from, from_place, before_place, through_place, split_part}
 use Rattle.ansi_str.specs.Matches.{Occurs, AreMatchesFrom, AreMatches, bounds_between, split_bounds, styled_parts}
 use Rattle.ansi_str.proofs.PartLemmas.{style_by-text, text_of-text}
 use Rattle.ansi_str.proofs.StyleLemmas.{front_of-style}

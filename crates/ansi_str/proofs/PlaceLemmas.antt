@@ -96,7 +96,7 @@ drop-append_past (x ∷ xs) ys (suc n) h =
     let same : n - length xs ≡ suc n - suc (length xs) = omega arith in
     drop-append_past xs ys n fits ∙ ap (λ m. drop m ys) same
 
-drop-append_inside : (xs ys : List ℕ) (n : ℕ) → n ≤ length xs → drop n (xs ++ ys) ≡ drop n xs ++ ys
+pub drop-append_inside : (xs ys : List ℕ) (n : ℕ) → n ≤ length xs → drop n (xs ++ ys) ≡ drop n xs ++ ys
 drop-append_inside xs ys zero h = refl
 drop-append_inside [] ys (suc n) h = absurd (omega arith)
 drop-append_inside (x ∷ xs) ys (suc n) h = let fits : n ≤ length xs = omega arith in drop-append_inside xs ys n fits

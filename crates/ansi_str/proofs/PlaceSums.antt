@@ -85,7 +85,8 @@ module _ (n m : ℕ) (style : Attributes) (p : Piece) (ps : List Piece) (some : 
         ∙ ap (style_after_all style) (sym (before-past m (piece_from n p) ps more g))
   ]
 
-pub style-before_sum : (n m : ℕ) (style : Attributes) (ps : List Piece) → style_after_all style (before_place (n + m) ps) ≡ style_after_all (style_after_all style (before_place n ps)) (before_place m (from_place n ps))
+pub style-before_sum : (n m : ℕ) (style : Attributes) (ps : List Piece)
+    → style_after_all style (before_place (n + m) ps) ≡ style_after_all (style_after_all style (before_place n ps)) (before_place m (from_place n ps))
 style-before_sum n m style [] = refl
 style-before_sum n m style (p ∷ ps) = elim (reach n p) [
   | none e ↦
@@ -137,5 +138,6 @@ through-parted n (p ∷ ps) = elim (reach n p) [
 pub through-split : (n : ℕ) (ps : List Piece) → joined (through_place n ps) ≡ joined (before_place n ps) ++ joined (through_place 0 (from_place n ps))
 through-split n ps = ap joined (through-parted n ps) ∙ joined-append (before_place n ps) (through_place 0 (from_place n ps))
 
-pub style-through_split : (n : ℕ) (style : Attributes) (ps : List Piece) → style_after_all style (through_place n ps) ≡ style_after_all (style_after_all style (before_place n ps)) (through_place 0 (from_place n ps))
+pub style-through_split : (n : ℕ) (style : Attributes) (ps : List Piece)
+    → style_after_all style (through_place n ps) ≡ style_after_all (style_after_all style (before_place n ps)) (through_place 0 (from_place n ps))
 style-through_split n style ps = ap (style_after_all style) (through-parted n ps) ∙ fold-append style_after style (before_place n ps) (through_place 0 (from_place n ps))

@@ -13,7 +13,7 @@ use Rattle.ansi_str.proofs.PartLemmas.{below, not_below, not_zero, style_by-text
 abbrev early : ℕ → Places
 early a place = nat_lt place a
 
-either_style : (t : Bool) (style other : Attributes) → other ≡ style → (if t then other else style) ≡ style
+pub either_style : (t : Bool) (style other : Attributes) → other ≡ style → (if t then other else style) ≡ style
 either_style true style other same = same
 either_style false style other same = refl
 

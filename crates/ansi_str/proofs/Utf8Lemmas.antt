@@ -1,5 +1,5 @@
 -- The parts of a split, one after the other: each is closed, and each is UTF-8 where the text is.
-use Rattle.std.proofs.Common.{◌≡◌, ℕ, zero, suc, ◌+◌, ◌-◌, ◌<◌, ◌≤◌, ◌==◌, Bool, true, false, All, List, [], ◌∷◌, ◌++◌, length, get_or, map, max, take, drop, IsSome, refl, ap, sym, subst, ◌∙◌, arith, append-nil, eqb-true, length-append, IsTrue, nat_le}
+use Rattle.std.proofs.Common.{◌≡◌, ℕ, ◌+◌, ◌-◌, ◌<◌, ◌≤◌, ◌==◌, Bool, true, false, All, List, [], ◌∷◌, ◌++◌, length, get_or, take, drop, IsSome, refl, ap, sym, subst, ◌∙◌, arith, length-append, IsTrue, nat_le}
 use Rattle.std.specs.Prelude.{if◌then◌else◌}
 use Rattle.std.specs.List.{AllByRecursion, list_all}
 use Rattle.std.specs.Str.{IsUtf8, IsCharBoundary}
@@ -10,27 +10,26 @@ use Rattle.std.proofs.lemmas.List.{length-drop, get_or-drop, get_or_append_left,
 use Rattle.std.proofs.lemmas.List.Elements.{All-from_recursion, All-head, All-tail, All-map}
 use Rattle.std.proofs.lemmas.Str.{IsUtf8-nil, IsUtf8-append, IsUtf8-take, IsUtf8-drop, IsUtf8-from_ascii, IsCharBoundary-start, IsCharBoundary-end, IsCharBoundary-from_take, IsCharBoundary-from_rest}
 use Rattle.std.proofs.lemmas.Str.Ascii.{IsAscii-from_all}
-use Rattle.ansi_scan.specs.declared.items.Kind.{Kind}
 use Rattle.ansi_scan.specs.Sequences.{Piece, joined, EachStands, ArePiecesOf, NoneBroken, IsSgr, is_numeric}
 use Rattle.ansi_scan.specs.Joining.{is_text_kind}
 use Rattle.ansi_scan.specs.Pieces.{pieces}
 use Rattle.ansi_scan.specs.Attributes.{Attributes, IsRendition, plain_attributes}
-use Rattle.ansi_scan.specs.StartsAndEnds.{start_bytes, start_sequences, end_bytes, end_sequences}
+use Rattle.ansi_scan.specs.StartsAndEnds.{start_sequences, end_sequences}
 use Rattle.ansi_scan.specs.Rendition.{sgr_parameters}
 use Rattle.ansi_scan.proofs.Boundaries.{IsCharBoundary-behind}
 use Rattle.ansi_scan.proofs.Renditions.{IsSgr-if_read}
 use Rattle.ansi_scan.proofs.Existence.{ArePiecesOf-pieces}
 use Rattle.ansi_scan.proofs.Kept.{IsRendition-plain}
-use Rattle.ansi_scan.proofs.Effects.{start_bytes-sequences, end_bytes-sequences, start_sequences_are_read, end_sequences_are_read}
-use Rattle.ansi_str.specs.StyledText.{text_of, strip, style_after_all, IsClosed}
-use Rattle.ansi_str.specs.Parts.{piece_from, from_place, front_of, before_place, through_place, split_part, dressed}
+use Rattle.ansi_scan.proofs.Effects.{start_sequences_are_read, end_sequences_are_read}
+use Rattle.ansi_str.specs.StyledText.{text_of, strip, style_after_all}
+use Rattle.ansi_str.specs.Parts.{from_place, before_place, through_place, split_part, dressed}
 use Rattle.ansi_str.specs.Matches.{Occurs, AreMatchesFrom, AreMatches, behind_match, bounds_between, split_bounds, styled_parts}
 use Rattle.ansi_str.specs.Lines.{IsClosedText}
 use Rattle.ansi_str.proofs.PartLemmas.{text_of-text, text_of-sequence}
 use Rattle.ansi_str.proofs.StyleLemmas.{split_part-slice}
 use Rattle.ansi_str.proofs.PlaceLemmas.{none, inside, past, reach, has_text, from-inside, from-past, through-inside, through-past, strip-from}
 use Rattle.ansi_str.proofs.DressedLemmas.{renditions, dressed_pieces, joined-dressed, short, long, cut, IsRendition-after, IsClosed-split_part}
-use Rattle.ansi_str.proofs.CharLemmas.{both_hold, hold_both}
+use Rattle.ansi_str.proofs.CharLemmas.{hold_both}
 
 -- ---- the pieces of a text in UTF-8
 
@@ -44,8 +43,7 @@ EachUtf8-pieces (p ∷ ps) each utf8 =
     let text = p.bytes ++ joined ps in
     let end : IsCharBoundary text (length {A = ℕ} [] + length p.bytes) = IsCharBoundary-behind p.kind p.bytes ps each.0 each.1 text [] utf8 refl in
     let same : length {A = ℕ} [] + length p.bytes ≡ length p.bytes = omega arith in
-    let boundary : IsCharBoundary text (length p.bytes) = subst (λ n. IsCharBoundary text n) same end in
-    (
+    let boundary : IsCharBoundary text (length p.bytes) = subst (λ n. IsCharBoundary text n) same end in (
       subst IsUtf8 (take-append_seam p.bytes (joined ps)) (IsUtf8-take text (length p.bytes) utf8 boundary),
       EachUtf8-pieces ps each.1 (subst IsUtf8 (drop-append_seam p.bytes (joined ps)) (IsUtf8-drop text (length p.bytes) utf8 boundary)),
     )
@@ -77,12 +75,11 @@ boundary-second : (xs ys : List ℕ) (n : ℕ) → length xs ≤ n → IsCharBou
 boundary-second xs ys n h boundary =
     let same : get_or (xs ++ ys) n 0 ≡ get_or ys (n - length xs) 0 = get_or-append_right xs ys (length xs) n 0 refl h in
     let size : length (xs ++ ys) ≡ length xs + length ys = length-append xs ys in
-    let within : n ≤ length (xs ++ ys) = boundary.0 in
-    (
+    let within : n ≤ length (xs ++ ys) = boundary.0 in (
       omega arith,
       λ fits high.
-        let whole : n < length (xs ++ ys) = omega arith in
-        subst (λ b. 192 ≤ b) same (boundary.1 whole (subst (λ b. 128 ≤ b) (sym same) high)),
+          let whole : n < length (xs ++ ys) = omega arith in
+          subst (λ b. 192 ≤ b) same (boundary.1 whole (subst (λ b. 128 ≤ b) (sym same) high)),
     )
 
 boundary-bytes : (n : ℕ) (p : Piece) (ps : List Piece) → n < length (text_of p) → IsCharBoundary (strip (p ∷ ps)) n → IsCharBoundary p.bytes n
@@ -158,12 +155,11 @@ boundary-from bytes a b ordered boundary =
     let sum : a + (b - a) ≡ b = omega arith in
     let same : get_or (drop a bytes) (b - a) 0 ≡ get_or bytes b 0 = get_or-drop a bytes (b - a) 0 ∙ ap (λ n. get_or bytes n 0) sum in
     let size : length (drop a bytes) ≡ length bytes - a = length-drop a bytes in
-    let within : b ≤ length bytes = boundary.0 in
-    (
+    let within : b ≤ length bytes = boundary.0 in (
       omega arith,
       λ fits high.
-        let whole : b < length bytes = omega arith in
-        subst (λ byte. 192 ≤ byte) (sym same) (boundary.1 whole (subst (λ byte. 128 ≤ byte) same high)),
+          let whole : b < length bytes = omega arith in
+          subst (λ byte. 192 ≤ byte) (sym same) (boundary.1 whole (subst (λ byte. 128 ≤ byte) same high)),
     )
 
 pub IsUtf8-split_part : (text : List ℕ) (ps : List Piece) (a b : ℕ) → a ≤ b → IsUtf8 text → ArePiecesOf text ps

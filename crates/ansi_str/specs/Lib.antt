@@ -1,6 +1,9 @@
 pub mod StyledText
 pub mod Blocks
 pub mod Parts
+pub mod Walking
+pub mod Splitting
+pub mod Rests
 pub mod Matches
 pub mod PartsLeft
 pub mod Lines

@@ -1,14 +1,20 @@
 //! Laws of the definitions that the other contracts cite.
 
-ghost use Rattle.std.specs.Prelude.{All, IsUtf8, ◌<◌, ◌==◌, map, ◌≡◌, ◌≤◌, ◌-◌, ℕ, List, [], ◌∷◌, ◌++◌, codes, drop, false, flat_map, slice_range};
-ghost use Rattle.std.specs.List.{slice_split};
+ghost use Rattle.std.specs.Prelude.{All, ◌≡◌, ◌<◌, ◌≤◌, ◌-◌, ◌==◌, ℕ, List, [], ◌∷◌, ◌++◌, codes, drop, false, flat_map, length, map, slice_range, true};
+ghost use Rattle.std.specs.Borrow.{Bor};
+ghost use Rattle.std.specs.Iterator.{AlwaysYields};
+ghost use Rattle.std.specs.List.{join_with_byte, slice_split};
+ghost use Rattle.std.specs.Str.{IsUtf8};
+ghost use Rattle.std.specs.Str.Iter.{split_has_more, split_pattern, split_steps, split_text};
+ghost use Rattle.std.specs.Str.Pattern.{FindsText};
+ghost use Rattle.std.specs.declared.str.Split.{Split};
 ghost use Rattle.ansi_scan.specs.Pieces.{pieces as pieces_of};
 ghost use Rattle.ansi_scan.specs.Sequences.{Piece, ArePiecesOf, NoneBroken, joined};
 ghost use Rattle.ansi_scan.specs.Attributes.{plain_attributes};
 ghost use Rattle.ansi_str.specs.StyledText.{IsClosed, has_escape, strip, style_after_all, styled, styled_from};
 ghost use Rattle.ansi_str.specs.Parts.{before_place, dressed, from_place, split_part, through_place};
-ghost use Rattle.ansi_str.specs.Matches.{AreMatches, split_bounds, styled_parts};
-ghost use Rattle.ansi_str.specs.Lines.{IsClosedText};
+ghost use Rattle.ansi_str.specs.Matches.{AreMatches, split_bounds, styled_parts, text_parts};
+ghost use Rattle.ansi_str.specs.Lines.{IsClosedLine, IsClosedText};
 ghost use Rattle.ansi_str.specs.WorkedParts.{black_text, two_lines};
 ghost use Rattle.ansi_str.specs.Blocks.{blocks_from, text_of_block, styled_of_block};
 
@@ -94,6 +100,14 @@ pub fn split_shows_its_slices()
         slice_split (λ x. x.0 == c) (styled pieces) }
 {}
 
+/// Closed lines that are joined by line feeds are the parts of the text when it is split at the line feed.
+pub fn closed_lines_join()
+    ensures { (lines : List (List ℕ)) (pieces : List Piece) (matches : List ℕ) → 0 < length lines →
+        All IsClosedLine lines → ArePiecesOf (join_with_byte 0x0a lines) pieces →
+        AreMatches (0x0a ∷ []) (strip pieces) matches →
+        styled_parts pieces (split_bounds (0x0a ∷ []) (strip pieces) matches) ≡ lines }
+{}
+
 /// Parts worked out by hand: a text split at `456`, and one split at its line feed.
 pub fn worked_parts()
     ensures before { split_part 0 4 black_text ≡ codes "\u{1b}[30m123:\u{1b}[39m" }
@@ -102,4 +116,35 @@ pub fn worked_parts()
         codes "\u{1b}[2;48;5;10m\u{1b}[38;5;20mDar\u{1b}[22m\u{1b}[39m\u{1b}[49m" }
     ensures second_line { split_part 4 7 two_lines ≡
         codes "\u{1b}[2m\u{1b}[38;5;20m\u{1b}[48;5;10mren\u{1b}[0m" }
+{}
+
+/// The places at which a pattern matches in a text are one list: there is such a list, and no other.
+/// Matches do not overlap, and an empty pattern matches where a character begins and at the end.
+pub fn one_list_of_matches()
+    ensures there { (pattern text : List ℕ) →
+        (matches : List ℕ) × AreMatches pattern text matches }
+    ensures one { (pattern text matches others : List ℕ) →
+        AreMatches pattern text matches → AreMatches pattern text others → matches ≡ others }
+    ensures apart { AreMatches (codes "aa") (codes "aaaaa") (0 ∷ 2 ∷ []) }
+    ensures everywhere { AreMatches [] (0xc3 ∷ 0xa9 ∷ codes "a") (0 ∷ 2 ∷ 3 ∷ []) }
+{}
+
+/// The parts of a text without sequences are those that `str::split` gives, where the pattern is not
+/// empty.
+pub fn split_as_std()
+    ensures parts { (pattern text matches : List ℕ) (split : Split (Bor (List ℕ))) →
+        0 < length pattern → IsUtf8 pattern → split_text split ≡ text → split_has_more split ≡ true →
+        (split_pattern split).now ≡ pattern → AreMatches pattern text matches →
+        AlwaysYields (split_steps (λ n. FindsText n.now) (λ n m. m.now ≡ n.now)) (λ part. part.now) split
+        (text_parts text (split_bounds pattern text matches)) }
+    ensures worked { text_parts (codes "aaaaa") (split_bounds (codes "aa") (codes "aaaaa") (0 ∷ 2 ∷ []))
+        ≡ [] ∷ [] ∷ codes "a" ∷ [] }
+{}
+
+/// Where the pattern is one ASCII character, a text without sequences is cut at each such byte.
+pub fn split_at_one_byte()
+    ensures parts { (c : ℕ) (text matches : List ℕ) → c < 128 → AreMatches (c ∷ []) text matches →
+        text_parts text (split_bounds (c ∷ []) text matches) ≡ slice_split (λ b. b == c) text }
+    ensures worked { text_parts (codes "a,b,") (split_bounds (codes ",") (codes "a,b,") (1 ∷ 3 ∷ []))
+        ≡ codes "a" ∷ codes "b" ∷ [] ∷ [] }
 {}

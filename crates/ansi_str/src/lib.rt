@@ -8,10 +8,16 @@ ghost use Rattle.ansi_str.specs.Blocks.{blocks_from};
 
 mod blocks;
 pub mod laws;
+mod matches;
+mod places;
+mod rest;
+mod split;
 mod strip;
+mod stripped;
 mod text;
 
 pub use blocks::{AnsiBlock, AnsiBlockIter};
+pub use split::AnsiSplit;
 pub use text::AnsiStr;
 
 /// The blocks of a text: one for each of its items of text, with the style known before it. Takes

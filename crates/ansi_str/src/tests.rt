@@ -88,3 +88,60 @@ fn gives_blocks(rt: HostRuntime) -> Result<(), Fail> {
         &[("a", ""), ("[1é", ""), ("b", "\x1b[3m")],
     )
 }
+
+// Each part with the next, and the split of a string alike.
+fn expect_split(
+    rt: &impl Abort,
+    alloc: Global,
+    text: &str,
+    pattern: &str,
+    wanted: &[&str],
+) -> Result<(), Fail> {
+    let string = String::from_str(alloc, text)?;
+    let mut of_text = text.ansi_split(alloc, pattern);
+    let mut of_string = string.ansi_split(alloc, pattern);
+    for part in wanted {
+        let found = of_text.next().expect(rt, "a part is missing")?;
+        assert_eq!(rt; found.as_str(), *part, "of {text:?} at {pattern:?}");
+        let found = of_string
+            .next()
+            .expect(rt, "a part of the string is missing")?;
+        assert_eq!(rt;
+            found.as_str(),
+            *part,
+            "of the string {text:?} at {pattern:?}"
+        );
+    }
+    assert!(rt; of_text.next().is_none(), "behind {text:?} at {pattern:?}");
+    assert!(rt;
+        of_text.next().is_none(),
+        "again behind {text:?} at {pattern:?}"
+    );
+    assert!(rt;
+        of_string.next().is_none(),
+        "behind the string {text:?} at {pattern:?}"
+    );
+    Ok(())
+}
+
+#[test]
+fn splits(rt: HostRuntime) -> Result<(), Fail> {
+    let alloc = rt.alloc();
+    expect_split(
+        &rt,
+        alloc,
+        "\x1b[30m123:456\x1b[39m",
+        "456",
+        &["\x1b[30m123:\x1b[39m", "\x1b[30m\x1b[39m"],
+    )?;
+    expect_split(
+        &rt,
+        alloc,
+        "\x1b[2;48;5;10m\x1b[38;5;20mDar\nren\x1b[0m",
+        "\n",
+        &[
+            "\x1b[2;48;5;10m\x1b[38;5;20mDar\x1b[22m\x1b[39m\x1b[49m",
+            "\x1b[2m\x1b[38;5;20m\x1b[48;5;10mren\x1b[0m",
+        ],
+    )
+}

@@ -1,9 +1,11 @@
 //! The calls on styled text.
-ghost use Rattle.std.specs.Prelude.{◌≡◌, ℕ, List, IfOk, IsOk, IsTrue, false, ◌↔◌, string_bytes};
+ghost use Rattle.std.specs.Prelude.{◌≡◌, ◌≤◌, ◌+◌, ℕ, List, length, IfOk, IsOk, IsTrue, false, ◌↔◌, string_bytes};
 ghost use Rattle.std.specs.Cow.{IsOwnedStr, cow_str_bytes};
 ghost use Rattle.ansi_scan.specs.Sequences.{Piece, ArePiecesOf, IsWhole};
 ghost use Rattle.ansi_str.specs.StyledText.{has_escape, strip};
+ghost use Rattle.ansi_str.specs.Matches.{AreMatches, split_bounds, styled_parts};
 
+use crate::split::AnsiSplit;
 use crate::strip::{has_escape, joined_texts};
 use ansi_scan::is_whole;
 use std::alloc::{AllocError, Global};
@@ -13,6 +15,18 @@ use std::borrow::CowStr;
 pub trait AnsiStr {
     // The bytes of the text.
     ghost text: { Self → List ℕ };
+
+    /// The parts of the text between the matches of a pattern, which are those of `str::split` in the
+    /// text without its sequences, also where the pattern is empty. A part begins with the start of the
+    /// style known there, has the sequences that stand from its first to its last place, both included,
+    /// and ends with the end of the style then open. A text without ESC is answered by borrows, without
+    /// memory; else the only refusal is for memory, and no part comes after it.
+    fn ansi_split<'a>(&'a self, alloc: Global, pattern: &'a str) -> AnsiSplit<'a>
+        ensures parts { (pieces : List Piece) (matches : List ℕ) → ArePiecesOf (text self.now) pieces →
+            AreMatches pattern.now (strip pieces) matches →
+            result.parts ≡ styled_parts pieces (split_bounds pattern.now (strip pieces) matches) }
+        ensures may_refuse { result.may_refuse ≡ has_escape (text self.now) }
+        ensures count { length result.parts ≤ length (text self.now) + 2 };
 
     /// The text without its sequences: its items of text, joined. A text without ESC is answered by a
     /// borrow, without memory; else the only refusal is for memory.
@@ -33,6 +47,10 @@ pub trait AnsiStr {
 impl AnsiStr for &str {
     ghost text = { λ s. s.now };
 
+    fn ansi_split<'a>(&'a self, alloc: Global, pattern: &'a str) -> AnsiSplit<'a> {
+        AnsiSplit::new(alloc, self, pattern)
+    }
+
     fn ansi_strip(&self, alloc: Global) -> Result<CowStr<'_>, AllocError> {
         strip_text(alloc, self)
     }
@@ -49,6 +67,10 @@ impl AnsiStr for &str {
 impl AnsiStr for String {
     ghost text = { λ s. string_bytes s };
 
+    fn ansi_split<'a>(&'a self, alloc: Global, pattern: &'a str) -> AnsiSplit<'a> {
+        AnsiSplit::new(alloc, self.as_str(), pattern)
+    }
+
     fn ansi_strip(&self, alloc: Global) -> Result<CowStr<'_>, AllocError> {
         strip_text(alloc, self.as_str())
     }
@@ -62,7 +84,8 @@ impl AnsiStr for String {
     }
 }
 
-fn strip_text<'a>(alloc: Global, text: &'a str) -> Result<CowStr<'a>, AllocError>
+/// The text without its sequences.
+pub(crate) fn strip_text<'a>(alloc: Global, text: &'a str) -> Result<CowStr<'a>, AllocError>
     ensures strips { IfOk result (λ out. (pieces : List Piece) → ArePiecesOf text.now pieces → cow_str_bytes out ≡ strip pieces) }
     ensures answers { has_escape text.now ≡ false → IsOk result }
     ensures borrows { IfOk result (λ out. IsOwnedStr out → IsTrue (has_escape text.now)) }
