@@ -1,21 +1,15 @@
 -- The characters of a picture of styled characters are the table of its characters.
-use Rattle.std.proofs.Common.{◌≡◌, ℕ, ◌==◌, Bool, true, false, cond, List, [], ◌∷◌, map, flat_map, refl, ap, sym, ◌∙◌}
-use Rattle.std.specs.Prelude.{chars, encode_utf8_all, IsUtf8}
+use Rattle.std.proofs.Common.{◌≡◌, ℕ, ◌==◌, Bool, true, false, cond, List, [], ◌∷◌, map, refl, ap, sym, ◌∙◌}
 use Rattle.std.specs.List.{slice_split, onto_first}
 use Rattle.std.proofs.lemmas.Simd.{map-map}
 use Rattle.std.proofs.lemmas.List.Concat.{flat_map_single}
-use Rattle.std.proofs.lemmas.Str.{encodes-chars}
-use Rattle.ansi_scan.specs.Sequences.{Piece, ArePiecesOf, NoneBroken}
-use Rattle.ansi_scan.specs.Attributes.{plain_attributes}
-use Rattle.ansi_str.specs.StyledText.{strip, styled}
-use Rattle.ansi_str.proofs.Stripping.{has_escape-strip}
 use Rattle.columns.specs.Rows.{line_feed, tab, without_empty_last, row_texts, rows_of}
 use Rattle.columns.specs.Measures.{measure}
 use Rattle.columns.specs.Picture.{picture_items}
-use Rattle.columns.specs.Readings.{read_line, read_rows}
-use Rattle.columns.specs.Layout.{grid_of, character_line, character_rows, table_characters, characters_of, styled_line, styled_rows, plain, picture_of, output_of}
+use Rattle.columns.specs.Readings.{read_rows}
+use Rattle.columns.specs.Layout.{grid_of, character_line, character_rows, table_characters, characters_of, styled_line, styled_rows, plain, picture_of}
 use Rattle.columns.proofs.ReadingLemmas.{read-table}
-use Rattle.columns.proofs.ShowLemmas.{Styled, TextsAreUtf8-pieces, chars-strip_from, IsUtf8-strip}
+use Rattle.columns.proofs.ShowLemmas.{Styled}
 use Rattle.columns.proofs.PictureLemmas.{read-cells}
 
 abbrev pub single : Styled → List ℕ

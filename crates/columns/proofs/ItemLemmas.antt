@@ -1,5 +1,5 @@
 -- What holds of each item of a picture.
-use Rattle.std.proofs.Common.{◌≡◌, ℕ, zero, suc, ◌+◌, ◌-◌, true, List, [], ◌∷◌, ◌++◌, map, flat_map, length, replicate, get_or, slice_index, slice_index_or, refl, ap, ◌∙◌}
+use Rattle.std.proofs.Common.{◌≡◌, ℕ, zero, suc, ◌+◌, ◌-◌, true, List, [], ◌∷◌, ◌++◌, map, flat_map, length, get_or, slice_index, slice_index_or, refl, ap, ◌∙◌}
 use Rattle.std.specs.Int.{is_in_range}
 use Rattle.std.specs.List.{range_with_len, AllByRecursion}
 use Rattle.columns.specs.Rows.{line_feed}

@@ -1,16 +1,16 @@
 -- Each piece of the picture of a text measures its width.
-use Rattle.std.proofs.Common.{◌≡◌, ℕ, zero, suc, ◌+◌, ◌-◌, ◌&&◌, Bool, true, false, List, [], ◌∷◌, ◌++◌, map, flat_map, length, replicate, get_or, slice_index, slice_index_or, refl, ap, ◌∙◌, All}
+use Rattle.std.proofs.Common.{◌≡◌, ℕ, zero, suc, ◌+◌, ◌-◌, ◌&&◌, Bool, true, false, List, [], ◌∷◌, map, length, replicate, slice_index, slice_index_or, refl, ap, ◌∙◌, All}
 use Rattle.std.specs.Int.{is_in_range}
-use Rattle.std.specs.List.{range_with_len, list_all, AllByRecursion}
+use Rattle.std.specs.List.{list_all, AllByRecursion}
 use Rattle.std.proofs.lemmas.List.{length-replicate}
 use Rattle.std.proofs.lemmas.List.Elements.{All-from_recursion}
 use Rattle.unicode_width.proofs.Rules.{str_width-printable}
 use Rattle.columns.specs.Rows.{rows_of}
 use Rattle.columns.specs.Measures.{measure}
-use Rattle.columns.specs.Glyphs.{BoundaryKind, ascii, boundary_kind, intersection_glyph, horizontal_glyph, vertical_glyph}
+use Rattle.columns.specs.Glyphs.{ascii, boundary_kind, intersection_glyph, horizontal_glyph, vertical_glyph}
 use Rattle.columns.specs.Estimates.{Line, empty_line, cell_at}
 use Rattle.columns.specs.Frame.{boundary_at, Place, RowBoundary, RowLine, Outside, place}
-use Rattle.columns.specs.Picture.{space, Piece, across, fill, fill_piece, cell_pieces, pieces_at, picture_line}
+use Rattle.columns.specs.Picture.{space, Piece, fill, fill_piece, cell_pieces, pieces_at, picture_line}
 use Rattle.columns.specs.Layout.{one_each, grid_of, character_line, character_rows}
 use Rattle.columns.proofs.ItemLemmas.{AllByRecursion-map, AllByRecursion-get_or, AllByRecursion-across, plus-printable, dash-printable, bar-printable}
 

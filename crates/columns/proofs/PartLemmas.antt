@@ -1,8 +1,8 @@
 -- What the loops over parts know.
-use Rattle.std.proofs.Common.{◌≡◌, ℕ, zero, suc, ◌+◌, ◌-◌, ◌<◌, ◌≤◌, ◌==◌, ◌↔◌, Bool, true, false, Option, Some, None, IsSome, List, [], ◌∷◌, ◌++◌, map, flat_map, length, sum, take, drop, get_or, refl, ap, sym, subst, ◌∙◌, arith, append-nil, length-append, append_assoc, if◌then◌else◌, option_to_list, slice_get}
+use Rattle.std.proofs.Common.{◌≡◌, ℕ, suc, ◌+◌, ◌-◌, ◌<◌, ◌≤◌, ◌==◌, Bool, true, false, Option, Some, None, IsSome, List, [], ◌∷◌, ◌++◌, map, flat_map, length, sum, take, drop, refl, ap, sym, subst, ◌∙◌, arith, length-append, if◌then◌else◌, option_to_list, slice_get}
 use Rattle.std.proofs.Math.Seq.{drop-append_seam}
 use Rattle.std.proofs.lemmas.Bool.Decides.{nat_tests}
-use Rattle.std.proofs.lemmas.List.{map-append, take-map}
+use Rattle.std.proofs.lemmas.List.{take-map}
 use Rattle.std.specs.List.{drop-map}
 use Rattle.ansi_scan.specs.declared.items.Kind.{Kind}
 use Rattle.ansi_scan.specs.declared.items.Kind.TheVariants.{Text, Sgr, Csi, Osc, Esc, Str, Broken}
@@ -10,12 +10,12 @@ use Rattle.ansi_scan.specs.Sequences.{Piece, Stands, EachStands}
 use Rattle.ansi_scan.specs.Pieces.{pieces}
 use Rattle.ansi_scan.specs.Attributes.{Attributes, plain_attributes}
 use Rattle.ansi_scan.proofs.Existence.{ArePiecesOf-pieces}
-use Rattle.ansi_str.specs.StyledText.{strip, style_by, style_after}
+use Rattle.ansi_str.specs.StyledText.{style_after}
 use Rattle.ansi_str.specs.Blocks.{Block, block_if, blocks_from, text_of_block}
 use Rattle.ansi_str.proofs.Shown.{text_of_block-blocks_from}
 use Rattle.columns.specs.Rows.{stripped, without_bare_last}
 use Rattle.columns.specs.Printing.{cut, last_is_bare}
-use Rattle.columns.proofs.RowLemmas.{cut-append, cut-more, sum-more}
+use Rattle.columns.proofs.RowLemmas.{cut-append, cut-more}
 
 -- ---- a text that shows nothing
 

@@ -1,16 +1,15 @@
 -- What the output shows.
-use Rattle.std.proofs.Common.{◌≡◌, ◌≢◌, ℕ, suc, ◌+◌, ◌<◌, ◌≤◌, ◌==◌, Bool, true, false, cond, All, List, [], ◌∷◌, ◌++◌, map, flat_map, length, refl, ap, sym, subst, ◌∙◌, arith, append-nil, if◌then◌else◌, lit<, eq-eqb}
+use Rattle.std.proofs.Common.{◌≡◌, ◌≢◌, ℕ, suc, ◌<◌, ◌≤◌, ◌==◌, Bool, true, false, cond, All, List, [], ◌∷◌, map, flat_map, length, refl, ap, sym, subst, ◌∙◌, arith, append-nil, if◌then◌else◌, lit<, eq-eqb}
 use Rattle.std.specs.Prelude.{chars, encode_utf8, encode_utf8_all, IsUtf8}
 use Rattle.std.specs.Int.{is_in_range}
 use Rattle.std.specs.List.{slice_split, onto_first, AllByRecursion}
 use Rattle.std.proofs.lemmas.Bool.Decides.{nat_tests}
 use Rattle.std.proofs.lemmas.List.Elements.{All-from_recursion}
-use Rattle.std.proofs.lemmas.List.{length-map}
 use Rattle.std.proofs.lemmas.Simd.{map-map}
 use Rattle.std.proofs.lemmas.Str.{chars-nil, encodes-chars}
-use Rattle.ansi_scan.specs.Sequences.{Piece, escape, ArePiecesOf, NoneBroken, IsWhole}
+use Rattle.ansi_scan.specs.Sequences.{escape, NoneBroken, IsWhole}
 use Rattle.ansi_scan.specs.Pieces.{pieces}
-use Rattle.ansi_scan.specs.Attributes.{Attributes, plain_attributes}
+use Rattle.ansi_scan.specs.Attributes.{plain_attributes}
 use Rattle.ansi_scan.proofs.Existence.{ArePiecesOf-pieces}
 use Rattle.ansi_scan.proofs.Uniqueness.{pieces-ArePiecesOf}
 use Rattle.ansi_str.specs.StyledText.{styled}
@@ -19,8 +18,8 @@ use Rattle.columns.specs.Measures.{measure}
 use Rattle.columns.specs.Estimates.{Line}
 use Rattle.columns.specs.Picture.{picture_items}
 use Rattle.columns.specs.Readings.{read_line, read_rows}
-use Rattle.columns.specs.Layout.{grid_of, characters_of, styled_line, styled_rows, plain, picture_of, part_line, part_rows, output_of}
-use Rattle.columns.specs.Headline.{LinesEndPlain, ShowsTableOf}
+use Rattle.columns.specs.Layout.{grid_of, characters_of, styled_line, styled_rows, plain, picture_of, part_rows, output_of}
+use Rattle.columns.specs.Headline.{ShowsTableOf}
 use Rattle.columns.proofs.ReadingLemmas.{read-table}
 use Rattle.columns.proofs.ShowLemmas.{Styled, Shows, Shows-ascii, Shows-flat_map, Shows-styled, Shows-closed, IsUtf8-stripped, characters_of-styled}
 use Rattle.columns.proofs.SplitLemmas.{IsWholeText, IsClosedPart, whole-closed, styled-parts_at, closed-parts_at}

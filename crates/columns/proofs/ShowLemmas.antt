@@ -1,14 +1,12 @@
 -- Bytes that show styled characters, and what they show one behind the other.
-use Rattle.std.proofs.Common.{◌≡◌, ◌≢◌, ℕ, ◌+◌, ◌-◌, ◌<◌, ◌≤◌, ◌==◌, ◌&&◌, Bool, true, false, not, List, [], ◌∷◌, ◌++◌, map, flat_map, fold, length, take, drop, get_or, zero, suc, refl, ap, sym, subst, ◌∙◌, arith, append_assoc, append-nil, length-append, ne_eqb}
-use Rattle.std.specs.Prelude.{chars, encode_utf8, encode_utf8_all, IsUtf8}
+use Rattle.std.proofs.Common.{◌≡◌, ◌≢◌, ℕ, ◌<◌, ◌&&◌, true, not, List, [], ◌∷◌, ◌++◌, map, flat_map, refl, ap, sym, subst, ◌∙◌, arith, append_assoc, ne_eqb}
+use Rattle.std.specs.Prelude.{chars, encode_utf8, IsUtf8}
 use Rattle.std.specs.List.{AllByRecursion}
-use Rattle.std.specs.Str.{IsCharBoundary}
-use Rattle.std.proofs.Math.Seq.{take-append_seam, drop-append_seam}
 use Rattle.std.proofs.lemmas.List.{map-append}
-use Rattle.std.proofs.lemmas.Str.{chars-append, chars-nil, chars-IsAscii, encode_ascii, encodes-chars, IsUtf8-append, IsUtf8-nil, IsUtf8-from_ascii, IsUtf8-drop, IsUtf8-between, IsCharBoundary-start}
+use Rattle.std.proofs.lemmas.Str.{chars-append, chars-nil, chars-IsAscii, encode_ascii, IsUtf8-append, IsUtf8-nil}
 use Rattle.ansi_scan.specs.declared.items.Kind.{Kind}
 use Rattle.ansi_scan.specs.declared.items.Kind.TheVariants.{Text, Sgr, Csi, Osc, Esc, Str, Broken}
-use Rattle.ansi_scan.specs.Sequences.{Piece, escape, joined, Stands, EachStands, ArePiecesOf, NoneBroken}
+use Rattle.ansi_scan.specs.Sequences.{Piece, escape, ArePiecesOf}
 use Rattle.ansi_scan.specs.Joining.{put_before, put_all_before}
 use Rattle.ansi_scan.specs.Pieces.{pieces}
 use Rattle.ansi_scan.specs.Attributes.{Attributes, plain_attributes}

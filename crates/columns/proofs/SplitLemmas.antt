@@ -1,10 +1,10 @@
 -- What the parts of a text at an ASCII character show.
-use Rattle.std.proofs.Common.{◌≡◌, ℕ, zero, suc, ◌<◌, ◌==◌, All, List, [], ◌∷◌, get_or, map, length, arith, subst}
+use Rattle.std.proofs.Common.{◌≡◌, ℕ, zero, suc, ◌<◌, ◌==◌, All, List, [], ◌∷◌, get_or, map, arith, subst}
 use Rattle.std.specs.Prelude.{IsUtf8}
 use Rattle.std.specs.List.{slice_split, AllByRecursion}
 use Rattle.std.proofs.lemmas.List.Elements.{All-head, All-tail}
 use Rattle.std.proofs.lemmas.Str.{IsUtf8-from_ascii}
-use Rattle.ansi_scan.specs.Sequences.{NoneBroken, ArePiecesOf}
+use Rattle.ansi_scan.specs.Sequences.{NoneBroken}
 use Rattle.ansi_scan.specs.Pieces.{pieces}
 use Rattle.ansi_scan.proofs.Existence.{ArePiecesOf-pieces}
 use Rattle.ansi_scan.proofs.Uniqueness.{ArePiecesOf-unique}

@@ -1,5 +1,5 @@
 -- Cutting the bytes of a text at ASCII characters is cutting its characters.
-use Rattle.std.proofs.Common.{◌≡◌, ℕ, suc, ◌+◌, ◌^◌, ◌<◌, ◌≤◌, ◌==◌, ◌&&◌, sum, sum_by, Bool, true, false, cond, List, [], ◌∷◌, ◌++◌, map, flat_map, length, get_or, refl, ap, sym, subst, ◌∙◌, arith, append-nil, eqb-true, ne_eqb, eq-eqb, lit<}
+use Rattle.std.proofs.Common.{◌≡◌, ℕ, suc, ◌<◌, ◌==◌, ◌&&◌, Bool, true, false, cond, List, [], ◌∷◌, ◌++◌, map, flat_map, length, get_or, refl, ap, sym, ◌∙◌, arith, append-nil, eqb-true, ne_eqb, eq-eqb, lit<}
 use Rattle.std.specs.Prelude.{encode_utf8, encode_utf8_all, chars, IsUtf8}
 use Rattle.std.specs.List.{slice_split, onto_first, AllByRecursion}
 use Rattle.std.proofs.Math.Utf8.{scalar, scalars}
@@ -7,21 +7,17 @@ use Rattle.std.proofs.lemmas.Bool.{and_parts}
 use Rattle.std.proofs.lemmas.Str.{inside_one, encode_ascii, length-encode, len_utf8_bounds, chars-encodes, encodes-chars, scalars-chars}
 use Rattle.std.proofs.lemmas.List.Splits.{slice_split-cons_yes, slice_split-cons_no}
 use Rattle.std.proofs.lemmas.Simd.{map-map}
-use Rattle.std.proofs.lemmas.List.{length-map}
-use Rattle.std.proofs.lemmas.List.Sums.{sum_by-cons}
-use Rattle.std.proofs.lemmas.List.FromFn.{length-map-range_with_len}
 use Rattle.columns.specs.Rows.{line_feed, tab, without_empty_last, row_texts, rows_of}
 use Rattle.columns.specs.Measures.{measure}
-use Rattle.columns.specs.Estimates.{Line, greatest, column_widths, row_heights}
-use Rattle.columns.specs.Totals.{total}
+use Rattle.columns.specs.Estimates.{Line}
 use Rattle.columns.specs.Picture.{picture_items}
 use Rattle.columns.specs.Readings.{read_line, read_rows}
-use Rattle.columns.specs.Layout.{one_each, grid_of, character_line, character_rows, table_characters, output_of, TableFits}
-use Rattle.columns.specs.Printing.{byte_line, content_width, content_widths, grid_text, table_width, table_height}
+use Rattle.columns.specs.Layout.{grid_of, character_line, character_rows, table_characters}
+use Rattle.columns.specs.Printing.{byte_line}
 use Rattle.columns.proofs.RowLemmas.{slice_split-parts}
 use Rattle.columns.proofs.ItemLemmas.{map-same}
-use Rattle.columns.proofs.ReadingLemmas.{read-table, read-column_widths, read-row_heights}
-use Rattle.columns.proofs.PrintingLemmas.{one_line, one_line-widths, one_line-heights, ones-total, grid_text-picture}
+use Rattle.columns.proofs.ReadingLemmas.{read-table}
+use Rattle.columns.proofs.PrintingLemmas.{one_line}
 
 -- the elements put before the first part
 abbrev onto_front : {X : Type 0} → List X → List (List X) → List (List X)

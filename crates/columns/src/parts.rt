@@ -85,7 +85,10 @@ fn push_parts<'a>(
     ensures grows { OnOk result (vec_len parts.old ≤ vec_len parts.new) }
     ensures parts { OnOk result ((c : ℕ) → c < 128 → character.now ≡ c ∷ [] → map cow_str_bytes parts.new.items ≡ map cow_str_bytes parts.old.items ++ parts_at c text.now.now) }
 {
-    Err(AllocError)
+    for part in text.ansi_split(alloc, character) {
+        parts.push(part?)?;
+    }
+    Ok(())
 }
 
 /// Whether there is a last part, and it shows nothing.

@@ -1,4 +1,4 @@
-use Rattle.std.proofs.Common.{◌≡◌, ℕ, ◌+◌, ◌-◌, ◌<◌, ◌≤◌, Global, List, [], ◌∷◌, ◌++◌, map, length, sum, take, get_or, vec_len, refl, ap, sym, ◌∙◌, arith, lit<, length-append}
+use Rattle.std.proofs.Common.{◌≡◌, ℕ, ◌+◌, ◌-◌, ◌≤◌, Global, List, [], ◌∷◌, ◌++◌, map, length, sum, take, get_or, vec_len, refl, ap, sym, ◌∙◌, arith, lit<, length-append}
 use Rattle.std.specs.Borrow.{Bor}
 use Rattle.std.specs.Cow.{cow_str_bytes}
 use Rattle.std.specs.declared.borrow.CowStr.{CowStr}

@@ -1,4 +1,4 @@
-use Rattle.std.proofs.Common.{◌≡◌, ◌==◌, length, ap, sym, ◌∙◌}
+use Rattle.std.proofs.Common.{◌==◌, length, ap, sym, ◌∙◌}
 use Rattle.std.specs.Cow.{cow_str_bytes}
 use Rattle.columns.specs.Rows.{stripped}
 use Rattle.columns.proofs.PartLemmas.{last_is_bare-last}

@@ -1,8 +1,7 @@
-use Rattle.std.proofs.Common.{◌≡◌, ℕ, chars, ap, ◌∙◌}
+use Rattle.std.proofs.Common.{ℕ, chars, ap, ◌∙◌}
 use Rattle.ansi_scan.specs.Pieces.{pieces}
 use Rattle.ansi_scan.proofs.Existence.{ArePiecesOf-pieces}
 use Rattle.columns.specs.Measures.{measure}
-use Rattle.columns.specs.Estimates.{Line}
 use Rattle.columns.proofs.parts.measured_cell.Goals as goal
 
 pub returns : goal.returns

@@ -1,4 +1,4 @@
-use Rattle.std.proofs.Common.{◌≡◌, ℕ, ◌<◌, Option, IsSome, Vec, Global, List, [], ◌∷◌, ◌++◌, map, length, refl, ap, sym, subst, ◌∙◌, lit<, true, option_to_list}
+use Rattle.std.proofs.Common.{◌≡◌, ◌<◌, Option, IsSome, Vec, Global, ◌++◌, map, length, refl, ap, sym, subst, ◌∙◌, lit<, true, option_to_list}
 use Rattle.std.specs.Cow.{cow_str_bytes}
 use Rattle.std.specs.declared.borrow.CowStr.{CowStr}
 use Rattle.columns.specs.Rows.{line_feed, parts_at, row_parts, without_bare_last}
