@@ -1,18 +1,18 @@
 -- Each piece of the picture of a text measures its width.
-use Rattle.std.proofs.Common.{◌≡◌, ℕ, zero, suc, ◌+◌, ◌-◌, ◌&&◌, Bool, true, false, List, [], ◌∷◌, ◌++◌, map, flat_map, length, replicate, get_or, slice_index, slice_index_or, refl, ap, ◌∙◌, All}
+use Rattle.std.proofs.Common.{◌≡◌, ℕ, zero, suc, ◌+◌, ◌-◌, ◌&&◌, Bool, true, false, List, [], ◌∷◌, map, length, replicate, slice_index, slice_index_or, refl, ap, ◌∙◌, All}
 use Rattle.std.specs.Int.{is_in_range}
-use Rattle.std.specs.List.{range_with_len, list_all, AllByRecursion}
+use Rattle.std.specs.List.{list_all, AllByRecursion}
 use Rattle.std.proofs.lemmas.List.{length-replicate}
 use Rattle.std.proofs.lemmas.List.Elements.{All-from_recursion}
 use Rattle.unicode_width.proofs.Rules.{str_width-printable}
 use Rattle.columns.specs.Rows.{rows_of}
 use Rattle.columns.specs.Measures.{measure}
-use Rattle.columns.specs.Glyphs.{BoundaryKind, ascii, boundary_kind, intersection_glyph, horizontal_glyph, vertical_glyph}
+use Rattle.columns.specs.Glyphs.{ascii, boundary_kind, intersection_glyph, horizontal_glyph, vertical_glyph}
 use Rattle.columns.specs.Estimates.{Line, empty_line, cell_at}
 use Rattle.columns.specs.Frame.{boundary_at, Place, RowBoundary, RowLine, Outside, place}
-use Rattle.columns.specs.Picture.{space, Piece, across, fill, fill_piece, cell_pieces, pieces_at, picture_line}
+use Rattle.columns.specs.Picture.{space, Piece, fill, fill_piece, cell_pieces, pieces_at, picture_line}
 use Rattle.columns.specs.Layout.{one_each, grid_of, character_line, character_rows}
-use Rattle.columns.proofs.PrintingLemmas.{plus, dash, bar}
+use Rattle.columns.proofs.ItemLemmas.{AllByRecursion-map, AllByRecursion-get_or, AllByRecursion-across, plus-printable, dash-printable, bar-printable}
 
 abbrev single : ℕ → List ℕ
 single c = c ∷ []
@@ -23,28 +23,6 @@ MeasuresWidth piece = measure piece.items ≡ piece.width
 
 abbrev Measures : Line ℕ → Type 0
 Measures line = measure line.items ≡ line.measure
-
-AllByRecursion-append : {A : Type 0} (P : A → Type 0) (xs ys : List A) → AllByRecursion P xs → AllByRecursion P ys → AllByRecursion P (xs ++ ys)
-AllByRecursion-append P [] ys first second = second
-AllByRecursion-append P (x ∷ xs) ys first second = (first.0, AllByRecursion-append P xs ys first.1 second)
-
-AllByRecursion-flat_map : {A B : Type 0} (P : B → Type 0) (f : A → List B) → ((x : A) → AllByRecursion P (f x)) → (xs : List A) → AllByRecursion P (flat_map f xs)
-AllByRecursion-flat_map P f all [] = tt
-AllByRecursion-flat_map P f all (x ∷ xs) = AllByRecursion-append P (f x) (flat_map f xs) (all x) (AllByRecursion-flat_map P f all xs)
-
-AllByRecursion-map : {A B : Type 0} (P : B → Type 0) (f : A → B) → ((x : A) → P (f x)) → (xs : List A) → AllByRecursion P (map f xs)
-AllByRecursion-map P f all [] = tt
-AllByRecursion-map P f all (x ∷ xs) = (all x, AllByRecursion-map P f all xs)
-
-AllByRecursion-get_or : {A : Type 0} (P : A → Type 0) (xs : List A) (i : ℕ) (d : A) → AllByRecursion P xs → P d → P (get_or xs i d)
-AllByRecursion-get_or P [] i d all default = default
-AllByRecursion-get_or P (x ∷ xs) zero d all default = all.0
-AllByRecursion-get_or P (x ∷ xs) (suc i) d all default = AllByRecursion-get_or P xs i d all.1 default
-
-AllByRecursion-across : (P : Piece ℕ → Type 0) (n : ℕ) (boundary column : ℕ → List (Piece ℕ)) → ((j : ℕ) → AllByRecursion P (boundary j)) → ((j : ℕ) → AllByRecursion P (column j)) → AllByRecursion P (across n boundary column)
-AllByRecursion-across P n boundary column at_boundary in_column =
-    AllByRecursion-append P (flat_map (λ j. boundary j ++ column j) (range_with_len 0 n)) (boundary n)
-    (AllByRecursion-flat_map P (λ j. boundary j ++ column j) (λ j. AllByRecursion-append P (boundary j) (column j) (at_boundary j) (in_column j)) (range_with_len 0 n)) (at_boundary n)
 
 -- ---- fills
 
@@ -59,15 +37,6 @@ list_all-replicate p (suc n) c h = ap (λ b. b && list_all p (replicate n c)) h 
 fill-measures : (left width c : ℕ) → is_in_range 0x20 0x7E c ≡ true → MeasuresWidth (fill_piece single left width c)
 fill-measures left width c printable =
     ap measure (fill-single width c) ∙ str_width-printable false (replicate width c) (list_all-replicate (is_in_range 0x20 0x7E) width c printable) ∙ length-replicate width c
-
-plus-printable : (row column : BoundaryKind) → is_in_range 0x20 0x7E (intersection_glyph ascii row column) ≡ true
-plus-printable row column = ap (is_in_range 0x20 0x7E) (plus row column)
-
-dash-printable : (row : BoundaryKind) → is_in_range 0x20 0x7E (horizontal_glyph ascii row) ≡ true
-dash-printable row = ap (is_in_range 0x20 0x7E) (dash row)
-
-bar-printable : (column : BoundaryKind) → is_in_range 0x20 0x7E (vertical_glyph ascii column) ≡ true
-bar-printable column = ap (is_in_range 0x20 0x7E) (bar column)
 
 -- ---- lines
 

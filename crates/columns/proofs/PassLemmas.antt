@@ -24,10 +24,10 @@ pub record Pass (text : List ℕ) (end start count : ℕ) (plain : Bool) (counts
 
 -- ---- cells
 
-cell-empty : (text : List ℕ) (at : ℕ) → slice_range text at at ≡ []
+pub cell-empty : (text : List ℕ) (at : ℕ) → slice_range text at at ≡ []
 cell-empty text at = let none : at - at ≡ 0 = omega arith in ap (λ n. take n (drop at text)) none
 
-cell-more : (text : List ℕ) (start end : ℕ) → start ≤ end → end < length text → slice_range text start end ++ get_or text end 0 ∷ [] ≡ slice_range text start (end + 1)
+pub cell-more : (text : List ℕ) (start end : ℕ) → start ≤ end → end < length text → slice_range text start end ++ get_or text end 0 ∷ [] ≡ slice_range text start (end + 1)
 cell-more text start end ordered below =
     let size : end - start + 1 ≡ end + 1 - start = omega arith in
     let place : start + (end - start) ≡ end = omega arith in

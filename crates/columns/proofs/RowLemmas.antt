@@ -132,7 +132,7 @@ rows_from-start f bytes = rows_from-lines f [] [] bytes ∙ rows_of_lines-start 
 
 -- ---- the state of the pass
 
-cut-append : {X : Type 0} (counts : List ℕ) (xs ys : List X) → sum counts ≤ length xs → cut counts (xs ++ ys) ≡ cut counts xs
+pub cut-append : {X : Type 0} (counts : List ℕ) (xs ys : List X) → sum counts ≤ length xs → cut counts (xs ++ ys) ≡ cut counts xs
 cut-append [] xs ys h = refl
 cut-append (n ∷ ns) xs ys h =
     let total = sum_by-cons (λ k. k) n ns in
@@ -143,7 +143,7 @@ cut-append (n ∷ ns) xs ys h =
     ∙ ap (λ rest. take n xs ∷ rest) (cut-append ns (drop n xs) ys left)
 
 -- one more piece, which takes what is left
-cut-more : {X : Type 0} (counts : List ℕ) (n : ℕ) (xs : List X) → sum counts + n ≡ length xs → cut (counts ++ n ∷ []) xs ≡ cut counts xs ++ drop (sum counts) xs ∷ []
+pub cut-more : {X : Type 0} (counts : List ℕ) (n : ℕ) (xs : List X) → sum counts + n ≡ length xs → cut (counts ++ n ∷ []) xs ≡ cut counts xs ++ drop (sum counts) xs ∷ []
 cut-more [] n xs h = let all : length xs ≤ n = omega arith in ap (λ piece. piece ∷ []) (take_all n xs all)
 cut-more (m ∷ ns) n xs h =
     let total = sum_by-cons (λ k. k) m ns in

@@ -1,5 +1,5 @@
 -- Cutting the bytes of a text at ASCII characters is cutting its characters.
-use Rattle.std.proofs.Common.{◌≡◌, ℕ, suc, ◌+◌, ◌^◌, ◌<◌, ◌≤◌, ◌==◌, ◌&&◌, sum, sum_by, Bool, true, false, cond, List, [], ◌∷◌, ◌++◌, map, flat_map, length, get_or, refl, ap, sym, subst, ◌∙◌, arith, append-nil, eqb-true, ne_eqb, eq-eqb, lit<}
+use Rattle.std.proofs.Common.{◌≡◌, ℕ, suc, ◌<◌, ◌==◌, ◌&&◌, Bool, true, false, cond, List, [], ◌∷◌, ◌++◌, map, flat_map, length, get_or, refl, ap, sym, ◌∙◌, arith, append-nil, eqb-true, ne_eqb, eq-eqb, lit<}
 use Rattle.std.specs.Prelude.{encode_utf8, encode_utf8_all, chars, IsUtf8}
 use Rattle.std.specs.List.{slice_split, onto_first, AllByRecursion}
 use Rattle.std.proofs.Math.Utf8.{scalar, scalars}
@@ -7,20 +7,17 @@ use Rattle.std.proofs.lemmas.Bool.{and_parts}
 use Rattle.std.proofs.lemmas.Str.{inside_one, encode_ascii, length-encode, len_utf8_bounds, chars-encodes, encodes-chars, scalars-chars}
 use Rattle.std.proofs.lemmas.List.Splits.{slice_split-cons_yes, slice_split-cons_no}
 use Rattle.std.proofs.lemmas.Simd.{map-map}
-use Rattle.std.proofs.lemmas.List.{length-map}
-use Rattle.std.proofs.lemmas.List.Sums.{sum_by-cons}
-use Rattle.std.proofs.lemmas.List.FromFn.{length-map-range_with_len}
 use Rattle.columns.specs.Rows.{line_feed, tab, without_empty_last, row_texts, rows_of}
 use Rattle.columns.specs.Measures.{measure}
-use Rattle.columns.specs.Estimates.{Line, greatest, column_widths, row_heights}
-use Rattle.columns.specs.Totals.{total}
+use Rattle.columns.specs.Estimates.{Line}
 use Rattle.columns.specs.Picture.{picture_items}
 use Rattle.columns.specs.Readings.{read_line, read_rows}
-use Rattle.columns.specs.Layout.{one_each, grid_of, character_line, character_rows, table_characters, output_of, TableFits}
-use Rattle.columns.specs.Printing.{byte_line, content_width, content_widths, grid_text, table_width, table_height}
+use Rattle.columns.specs.Layout.{grid_of, character_line, character_rows, table_characters}
+use Rattle.columns.specs.Printing.{byte_line}
 use Rattle.columns.proofs.RowLemmas.{slice_split-parts}
-use Rattle.columns.proofs.ReadingLemmas.{read-table, read-column_widths, read-row_heights}
-use Rattle.columns.proofs.PrintingLemmas.{one_line, one_line-widths, one_line-heights, ones-total, grid_text-picture}
+use Rattle.columns.proofs.ItemLemmas.{map-same}
+use Rattle.columns.proofs.ReadingLemmas.{read-table}
+use Rattle.columns.proofs.PrintingLemmas.{one_line}
 
 -- the elements put before the first part
 abbrev onto_front : {X : Type 0} → List X → List (List X) → List (List X)
@@ -131,10 +128,6 @@ AreScalars-cells : (p : ℕ → Bool) (rows : List (List ℕ)) → AllByRecursio
 AreScalars-cells p [] all = tt
 AreScalars-cells p (row ∷ rows) all = (AreScalars-slice_split p row all.0, AreScalars-cells p rows all.1)
 
-map-same : {A B : Type 0} (P : A → Type 0) (f g : A → B) → ((x : A) → P x → f x ≡ g x) → (xs : List A) → AllByRecursion P xs → map f xs ≡ map g xs
-map-same P f g same [] all = refl
-map-same P f g same (x ∷ xs) all = ap (λ y. y ∷ map f xs) (same x all.0) ∙ ap (λ ys. g x ∷ ys) (map-same P f g same xs all.1)
-
 encodes-flat_map : (cs : List ℕ) → encode_utf8_all cs ≡ flat_map encode_utf8 cs
 encodes-flat_map [] = refl
 encodes-flat_map (c ∷ cs) = ap (λ bytes. encode_utf8 c ++ bytes) (encodes-flat_map cs)
@@ -161,7 +154,7 @@ read-character_rows cs all =
     ∙ ap (map one_line) (sym (map-map (map byte_line) (map encode_utf8_all) rows))
     ∙ ap (λ found. map one_line (map (map byte_line) found)) (sym (rows_of-encodes cs))
 
--- ---- the whole text
+-- ---- the table of a text without sequences
 
 abbrev pub byte_rows : List ℕ → List (List (Line ℕ))
 byte_rows bytes = map (map byte_line) (rows_of (λ b. b) bytes)
@@ -169,104 +162,11 @@ byte_rows bytes = map (map byte_line) (rows_of (λ b. b) bytes)
 read-bytes : (bytes : List ℕ) → IsUtf8 bytes → read_rows encode_utf8 (character_rows (chars bytes)) ≡ map one_line (byte_rows bytes)
 read-bytes bytes utf8 = read-character_rows (chars bytes) (scalars-chars bytes utf8) ∙ ap (λ text. map one_line (byte_rows text)) (encodes-chars bytes utf8)
 
-output-picture : (bytes : List ℕ) → IsUtf8 bytes → output_of bytes ≡ picture_items encode_utf8 (grid_of (map one_line (byte_rows bytes)))
-unfolding output_of
-output-picture bytes utf8 =
+-- the bytes of the table of its characters
+pub table-bytes : (bytes : List ℕ) → IsUtf8 bytes → encode_utf8_all (table_characters (chars bytes)) ≡ picture_items encode_utf8 (grid_of (map one_line (byte_rows bytes)))
+table-bytes bytes utf8 =
     let rows = character_rows (chars bytes) in
     encodes-flat_map (table_characters (chars bytes))
     ∙ read-table encode_utf8 (λ c. c ∷ []) rows
     ∙ (λ n. picture_items (λ c. append-nil (encode_utf8 c) n) (grid_of (read_rows encode_utf8 rows)))
     ∙ ap (λ found. picture_items encode_utf8 (grid_of found)) (read-bytes bytes utf8)
-
--- each row has a cell
-some_cells : (row : List ℕ) → 0 < length (map byte_line (slice_split (λ b. b == tab) row))
-some_cells row =
-    let found = slice_split-parts (λ (b : ℕ). b == tab) row in
-    subst (λ (cells : List (List ℕ)). 0 < length (map byte_line cells)) (sym found.2) (omega arith)
-
-some_columns : (texts : List (List ℕ)) (row : List (Line ℕ)) (rows : List (List (Line ℕ))) → map (map byte_line) (map (slice_split (λ b. b == tab)) texts) ≡ row ∷ rows
-    → 0 < greatest (map (λ cells. length cells) (row ∷ rows))
-some_columns [] row rows e = cc
-some_columns (text ∷ texts) row rows e =
-    let first : map byte_line (slice_split (λ b. b == tab) text) ≡ row = cc in
-    let some : 0 < length row = subst (λ (cells : List (Line ℕ)). 0 < length cells) first (some_cells text) in
-    omega arith
-
-output-rows : (bytes : List ℕ) (row : List (Line ℕ)) (rows : List (List (Line ℕ))) → IsUtf8 bytes → byte_rows bytes ≡ row ∷ rows
-    → output_of bytes ≡ grid_text (content_widths (row ∷ rows)) (row ∷ rows)
-output-rows bytes row rows utf8 e =
-    output-picture bytes utf8 ∙ ap (λ found. picture_items encode_utf8 (grid_of (map one_line found))) e
-    ∙ grid_text-picture row rows (some_columns (row_texts (λ b. b) bytes) row rows e)
-
-pub output-none : (bytes : List ℕ) → IsUtf8 bytes → byte_rows bytes ≡ [] → output_of bytes ≡ []
-output-none bytes utf8 e = output-picture bytes utf8 ∙ ap (λ found. picture_items encode_utf8 (grid_of (map one_line found))) e
-
--- ---- totals
-
-total-some : (sizes : List ℕ) → 0 < length sizes → total sizes ≡ sum sizes + length sizes + 1
-total-some [] h = absurd (omega arith)
-total-some (size ∷ sizes) h = refl
-
-padded-sum : (contents : List ℕ) → sum (map (λ content. content + 2) contents) + length (map (λ content. content + 2) contents) ≡ sum_by (λ content. content + 3) contents
-padded-sum [] = refl
-padded-sum (content ∷ contents) =
-    omega (arith, sum_by-cons (λ n. n) (content + 2) (map (λ content. content + 2) contents), sum_by-cons (λ n. n + 3) content contents, padded-sum contents)
-
-character-widths : (bytes : List ℕ) → IsUtf8 bytes → column_widths one_each (character_rows (chars bytes)) ≡ column_widths one_each (map one_line (byte_rows bytes))
-character-widths bytes utf8 = sym (read-column_widths encode_utf8 (λ c. c ∷ []) one_each (character_rows (chars bytes))) ∙ ap (column_widths one_each) (read-bytes bytes utf8)
-
-character-heights : (bytes : List ℕ) → IsUtf8 bytes → row_heights (character_rows (chars bytes)) ≡ row_heights (map one_line (byte_rows bytes))
-character-heights bytes utf8 = sym (read-row_heights encode_utf8 (λ c. c ∷ []) (character_rows (chars bytes))) ∙ ap row_heights (read-bytes bytes utf8)
-
-total-width : (bytes : List ℕ) (row : List (Line ℕ)) (rows : List (List (Line ℕ))) → IsUtf8 bytes → byte_rows bytes ≡ row ∷ rows
-    → total (column_widths one_each (character_rows (chars bytes))) ≡ table_width (content_widths (row ∷ rows))
-total-width bytes row rows utf8 e =
-    let contents = content_widths (row ∷ rows) in
-    let padded = map (λ (content : ℕ). content + 2) contents in
-    let columns = greatest (map (λ cells. length cells) (row ∷ rows)) in
-    let some : 0 < columns = some_columns (row_texts (λ b. b) bytes) row rows e in
-    let size : length padded ≡ columns = length-map contents (λ (content : ℕ). content + 2) ∙ length-map-range_with_len (content_width (row ∷ rows)) 0 columns in
-    let long : 0 < length padded = omega arith in
-    ap total (character-widths bytes utf8) ∙ ap (λ found. total (column_widths one_each (map one_line found))) e
-    ∙ ap total (one_line-widths row rows) ∙ total-some padded long ∙ (let sums = padded-sum contents in omega (arith, sums))
-
-total-height : (bytes : List ℕ) (row : List (Line ℕ)) (rows : List (List (Line ℕ))) → IsUtf8 bytes → byte_rows bytes ≡ row ∷ rows
-    → total (row_heights (character_rows (chars bytes))) ≡ table_height (length (row ∷ rows))
-total-height bytes row rows utf8 e =
-    let some = some_columns (row_texts (λ b. b) bytes) row rows e in
-    let several : 0 < length (row ∷ rows) = omega arith in
-    let same : length (row ∷ rows) + length (row ∷ rows) + 1 ≡ table_height (length (row ∷ rows)) = omega arith in
-    ap total (character-heights bytes utf8) ∙ ap (λ found. total (row_heights (map one_line found))) e
-    ∙ ap total (one_line-heights (row ∷ rows) some) ∙ ones-total (length (row ∷ rows)) several ∙ same
-
-pub fits-none : (bytes : List ℕ) → IsUtf8 bytes → byte_rows bytes ≡ [] → TableFits bytes
-unfolding TableFits
-fits-none bytes utf8 e =
-    let width : total (column_widths one_each (character_rows (chars bytes))) ≡ 0 = ap total (character-widths bytes utf8) ∙ ap (λ found. total (column_widths one_each (map one_line found))) e in
-    let height : total (row_heights (character_rows (chars bytes))) ≡ 0 = ap total (character-heights bytes utf8) ∙ ap (λ found. total (row_heights (map one_line found))) e in
-    record { width = omega (arith, width); height = omega (arith, height) }
-
-pub output-some : (bytes : List ℕ) (rows : List (List (Line ℕ))) → IsUtf8 bytes → byte_rows bytes ≡ rows → 0 < length rows → output_of bytes ≡ grid_text (content_widths rows) rows
-output-some bytes [] utf8 e some = absurd (omega arith)
-output-some bytes (row ∷ rows) utf8 e some = output-rows bytes row rows utf8 e
-
--- the table fits exactly where the sums of the code do
-pub TableFits-sums : (bytes : List ℕ) (rows : List (List (Line ℕ))) → IsUtf8 bytes → byte_rows bytes ≡ rows → 0 < length rows
-    → table_width (content_widths rows) < 2 ^ 64 → table_height (length rows) < 2 ^ 64 → TableFits bytes
-unfolding TableFits
-TableFits-sums bytes [] utf8 e some width height = absurd (omega arith)
-TableFits-sums bytes (row ∷ rows) utf8 e some width height = record { width = omega (arith, total-width bytes row rows utf8 e); height = omega (arith, total-height bytes row rows utf8 e) }
-
-pub TableFits-width : (bytes : List ℕ) (rows : List (List (Line ℕ))) → IsUtf8 bytes → byte_rows bytes ≡ rows → 0 < length rows → TableFits bytes → table_width (content_widths rows) < 2 ^ 64
-unfolding TableFits
-TableFits-width bytes [] utf8 e some fits = absurd (omega arith)
-TableFits-width bytes (row ∷ rows) utf8 e some fits = omega (arith, total-width bytes row rows utf8 e, fits.width)
-
-pub TableFits-height : (bytes : List ℕ) (rows : List (List (Line ℕ))) → IsUtf8 bytes → byte_rows bytes ≡ rows → 0 < length rows → TableFits bytes → table_height (length rows) < 2 ^ 64
-unfolding TableFits
-TableFits-height bytes [] utf8 e some fits = absurd (omega arith)
-TableFits-height bytes (row ∷ rows) utf8 e some fits = omega (arith, total-height bytes row rows utf8 e, fits.height)
-
-pub greatest-sum : (contents : List ℕ) → greatest contents ≤ sum_by (λ content. content + 3) contents
-greatest-sum [] = omega arith
-greatest-sum (content ∷ contents) = omega (arith, sum_by-cons (λ n. n + 3) content contents, greatest-sum contents)

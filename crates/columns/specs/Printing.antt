@@ -1,12 +1,19 @@
 -- What the printing functions append, line by line, in a table whose rows are one line high. That this is the picture
 -- is proved in `proofs/PrintingLemmas`.
-use Rattle.std.specs.Prelude.{◌*◌, ◌<◌, sum_by, ℕ, ◌+◌, ◌-◌, ◌≤◌, Bool, List, [], ◌∷◌, ◌++◌, map, flat_map, length, take, drop, replicate, slice_index, slice_index_or, vec_items, chars}
+use Rattle.std.specs.Prelude.{◌*◌, ◌<◌, sum_by, ℕ, ◌+◌, ◌-◌, ◌≤◌, Bool, ◌==◌, false, List, [], ◌∷◌, ◌++◌, map, flat_map, length, take, drop, replicate, slice_index, slice_index_or, vec_items, chars}
+use Rattle.std.specs.Borrow.{Bor}
 use Rattle.std.specs.Int.{is_in_range}
 use Rattle.std.specs.List.{range_with_len, list_all}
+use Rattle.columns.specs.Rows.{stripped, cell_parts}
 use Rattle.columns.specs.Measures.{measure}
 use Rattle.columns.specs.Estimates.{Line, empty_line, greatest}
+use Rattle.columns.specs.Layout.{part_line}
 use Rattle.columns.specs.declared.rows.Cell.{Cell}
 use Rattle.columns.specs.declared.rows.Rows.{Rows}
+
+-- the bytes of a text
+abbrev pub bytes : Bor (List ℕ) → List ℕ
+bytes text = text.now
 
 -- a cell as a line of bytes
 abbrev pub shown : Cell → Line ℕ
@@ -15,6 +22,16 @@ shown cell = record { measure = cell.width; items = cell.text.now }
 -- bytes of a text with the columns that they measure
 abbrev pub byte_line : List ℕ → Line ℕ
 byte_line bytes = record { measure = measure (chars bytes); items = bytes }
+
+-- the rows of a text, each cell its one line
+abbrev pub line_rows : List ℕ → List (List (Line ℕ))
+line_rows text = map (map part_line) (cell_parts text)
+
+-- there is a last part, and it shows nothing
+abbrev pub last_is_bare : List (List ℕ) → Bool
+last_is_bare [] = false
+last_is_bare (part ∷ []) = length (stripped part) == 0
+last_is_bare (part ∷ next ∷ parts) = last_is_bare (next ∷ parts)
 
 -- each byte is a printable ASCII character, which takes one column
 abbrev pub is_plain : List ℕ → Bool

@@ -1,7 +1,11 @@
 -- The rows and cells of a text, as cuts of the list of its characters: a line is a row, and tabs part its cells.
 -- An element of the list may carry more than its character, which `character` tells.
-use Rattle.std.specs.Prelude.{ℕ, ◌==◌, List, [], ◌∷◌, map}
+use Rattle.std.specs.Prelude.{ℕ, ◌+◌, ◌==◌, List, [], ◌∷◌, ◌++◌, map, length, if◌then◌else◌}
 use Rattle.std.specs.List.{slice_split}
+use Rattle.ansi_scan.specs.Pieces.{pieces}
+use Rattle.ansi_scan.specs.Attributes.{Attributes}
+use Rattle.ansi_str.specs.StyledText.{strip, styled}
+use Rattle.ansi_str.specs.Matches.{split_bounds, styled_parts}
 
 -- U+000A LINE FEED; a carriage return before it is an ordinary character
 abbrev pub line_feed : ℕ
@@ -24,3 +28,40 @@ row_texts character xs = without_empty_last (slice_split (λ x. character x == l
 -- the cells of each row: what stands between its tabs
 abbrev pub rows_of : {X : Type 0} → (X → ℕ) → List X → List (List (List X))
 rows_of character xs = map (slice_split (λ x. character x == tab)) (row_texts character xs)
+
+-- ---- texts with escape sequences, by their bytes
+
+-- a text without its sequences
+abbrev pub stripped : List ℕ → List ℕ
+stripped text = strip (pieces text)
+
+-- the characters that a text shows, each with its style
+abbrev pub styled_characters : List ℕ → List (ℕ × Attributes)
+styled_characters text = styled (pieces text)
+
+-- where a byte stands in a text of which the first byte has this place
+abbrev pub places_from : ℕ → ℕ → List ℕ → List ℕ
+places_from byte place [] = []
+places_from byte place (b ∷ bs) = (if b == byte then place ∷ [] else []) ++ places_from byte (place + 1) bs
+
+abbrev pub places : ℕ → List ℕ → List ℕ
+places byte text = places_from byte 0 text
+
+-- the parts of a text between the places at which an ASCII character stands among those that it shows
+abbrev pub parts_at : ℕ → List ℕ → List (List ℕ)
+parts_at character text =
+    styled_parts (pieces text) (split_bounds (character ∷ []) (stripped text) (places character (stripped text)))
+
+-- the parts, but for a last one that shows nothing
+abbrev pub without_bare_last : List (List ℕ) → List (List ℕ)
+without_bare_last [] = []
+without_bare_last (part ∷ []) = if length (stripped part) == 0 then [] else part ∷ []
+without_bare_last (part ∷ next ∷ parts) = part ∷ without_bare_last (next ∷ parts)
+
+-- what stands between line feeds, but for a last row without characters
+abbrev pub row_parts : List ℕ → List (List ℕ)
+row_parts text = without_bare_last (parts_at line_feed text)
+
+-- the cells of each row: what stands between its tabs
+abbrev pub cell_parts : List ℕ → List (List (List ℕ))
+cell_parts text = map (parts_at tab) (row_parts text)

@@ -1,23 +1,21 @@
 -- What one run promises, of an input: which answer it calls for, and what is written.
-use Rattle.std.specs.Prelude.{◌≡◌, ℕ, ◌^◌, ◌≤◌, ◌==◌, List, length, position, ⊤, Option, None, Some, Result, Ok, Err, IsUtf8}
+use Rattle.std.specs.Prelude.{◌≡◌, ℕ, ◌^◌, ◌≤◌, List, length, ⊤, Option, Result, Ok, Err, IsUtf8}
 use Rattle.std.specs.Str.Lossy.{utf8_valid_len}
 use Rattle.std.specs.Io.KnownBytes.{Appends, Keeps}
 use Rattle.columns.specs.declared.fault.RunFault.{RunFault}
 use Rattle.columns.specs.declared.fault.RunFault.TheVariants.{Read, ReadTooLong, NotUtf8, Escape, Range, LineTooWide, Write, WriteZero, Memory}
+use Rattle.ansi_scan.specs.Sequences.{IsWhole, IsFirstBroken}
 use Rattle.columns.specs.Layout.{output_of, TableFits}
+use Rattle.columns.specs.Headline.{ShowsTableOf}
 use Rattle.columns.specs.Streams.{AppendsFront}
 
 -- how many reads without an end are too many
 abbrev pub read_limit : ℕ
 read_limit = 2 ^ 40
 
--- where the first ESCAPE (ECMA-48, 8.3.48) stands. For now each is refused, also one that begins a whole sequence
-abbrev pub first_escape : List ℕ → Option ℕ
-first_escape input = position (λ byte. byte == 0x1b) input
-
--- the input has a table: it is text, without an escape, and its width and height are in range
+-- the input has a table: it is text, each ESC of it begins a whole sequence, and width and height of the table are in range
 abbrev pub HasTable : List ℕ → Type 0
-HasTable input = IsUtf8 input × (first_escape input ≡ None) × TableFits input
+HasTable input = IsUtf8 input × IsWhole input × TableFits input
 
 -- an input may be answered so. The cases exclude one another, but for the faults of reading, writing
 -- and memory, which the counts of the reader and the writer tell
@@ -26,8 +24,8 @@ MayAnswer input (Ok _) = HasTable input
 MayAnswer input (Err Read) = ⊤
 MayAnswer input (Err ReadTooLong) = read_limit ≤ length input
 MayAnswer input (Err (NotUtf8 at)) = ¬ (IsUtf8 input) × (at ≡ utf8_valid_len input)
-MayAnswer input (Err (Escape at)) = IsUtf8 input × (first_escape input ≡ Some at)
-MayAnswer input (Err Range) = IsUtf8 input × (first_escape input ≡ None) × ¬ (TableFits input)
+MayAnswer input (Err (Escape at)) = IsUtf8 input × IsFirstBroken input at
+MayAnswer input (Err Range) = IsUtf8 input × IsWhole input × ¬ (TableFits input)
 MayAnswer input (Err (LineTooWide row column)) = ⊥
 MayAnswer input (Err Write) = HasTable input
 MayAnswer input (Err WriteZero) = HasTable input
@@ -49,6 +47,8 @@ HasReadAll (Err ReadTooLong) = ⊥
 HasReadAll (Err Memory) = ⊥
 HasReadAll _ = ⊤
 
--- the answer is one that the input calls for, and of its table that much was written
-abbrev pub Serves : {T : Type 0} → List ℕ → Result T RunFault → Option (List ℕ) → Option (List ℕ) → Type 0
-Serves input result old new = MayAnswer input result × Writes (output_of input) result old new
+-- the answer is one that the input calls for, of its table that much was written, and the table is its picture
+pub record Serves {T : Type 0} (input : List ℕ) (result : Result T RunFault) (old new : Option (List ℕ)) : Type 0 where
+  pub answers : MayAnswer input result
+  pub writes : Writes (output_of input) result old new
+  pub shows : HasTable input → ShowsTableOf input (output_of input)

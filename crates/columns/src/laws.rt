@@ -1,11 +1,17 @@
 //! Laws over the definitions, each the contract of a function that does nothing.
-ghost use Rattle.std.specs.Prelude.{◌≡◌, ℕ, ◌+◌, ◌<◌, ◌≤◌, codes, length, slice_index, All, List, ◌∷◌, [], ◌++◌, flat_map};
+ghost use Rattle.std.specs.Prelude.{◌≡◌, ℕ, ◌+◌, ◌<◌, ◌≤◌, codes, length, slice_index, All, List, ◌∷◌, [], ◌++◌, map, flat_map, IsUtf8};
+ghost use Rattle.ansi_scan.specs.Sequences.{Piece, ArePiecesOf, NoneBroken, IsWhole};
+ghost use Rattle.ansi_scan.specs.Attributes.{Attributes};
+ghost use Rattle.ansi_str.specs.StyledText.{strip};
+ghost use Rattle.ansi_str.specs.Matches.{AreMatches};
+ghost use Rattle.columns.specs.Rows.{places};
 ghost use Rattle.columns.specs.Estimates.{Line, column_widths, row_heights};
 ghost use Rattle.columns.specs.Totals.{total};
 ghost use Rattle.columns.specs.Frame.{boundary_at, place, RowBoundary, RowLine};
 ghost use Rattle.columns.specs.Picture.{Tiles, picture_line, picture_items};
 ghost use Rattle.columns.specs.Readings.{read_rows};
-ghost use Rattle.columns.specs.Layout.{one_each, grid_of, character_rows, table_characters};
+ghost use Rattle.columns.specs.Layout.{one_each, grid_of, character_rows, table_characters, characters_of, plain, picture_of, output_of};
+ghost use Rattle.columns.specs.Headline.{ShowsTableOf};
 ghost use Rattle.columns.specs.Measures.{measure};
 
 /// Tables worked out by hand.
@@ -23,6 +29,15 @@ pub fn worked_tables()
     ensures tab_at_end { table_characters (codes "a\t\n") ≡ codes "+---+--+\n| a |  |\n+---+--+\n" }
     ensures no_final_line_feed { table_characters (codes "a\tb") ≡ codes "+---+---+\n| a | b |\n+---+---+\n" }
     ensures carriage_return { table_characters (codes "a\r\n") ≡ codes "+----+\n| a\r |\n+----+\n" }
+{}
+
+/// Tables of styled texts, worked out by hand: their bytes.
+pub fn worked_outputs()
+    ensures two_cells { output_of (codes "\u{1b}[31mab\tc\n") ≡ codes "+----+---+\n| \u{1b}[31mab\u{1b}[39m | \u{1b}[31mc\u{1b}[39m |\n+----+---+\n" }
+    ensures two_lines { output_of (codes "\u{1b}[1ma\nb\u{1b}[0m\n") ≡ codes "+---+\n| \u{1b}[1ma\u{1b}[22m |\n+---+\n| \u{1b}[1mb\u{1b}[0m |\n+---+\n" }
+    ensures lone_sequence { output_of (codes "\u{1b}[31m") ≡ [] }
+    ensures tab_in_a_string { output_of (codes "\u{1b}]0;a\tb\u{7}x\n") ≡ codes "+---+\n| \u{1b}]0;a\tb\u{7}x |\n+---+\n" }
+    ensures same_color_twice { output_of (codes "\u{1b}[31ma\u{1b}[31mb\n") ≡ codes "+----+\n| \u{1b}[31ma\u{1b}[31mb\u{1b}[39m |\n+----+\n" }
 {}
 
 /// A table's picture in other items is the picture of the table read in those items: bytes, characters and styled
@@ -46,4 +61,24 @@ pub fn tiling<X>()
 /// In the picture of a text each piece measures the columns that it stands on.
 pub fn measured_pieces()
     ensures { (characters : List ℕ) (y : ℕ) → All (λ piece. measure piece.items ≡ piece.width) (picture_line (λ c. c ∷ []) (grid_of (character_rows characters)) y) }
+{}
+
+/// The table of a whole text shows the picture of the characters that the text shows, in their styles, and no style is
+/// open where a line of it ends.
+pub fn table_shown()
+    ensures { (input : List ℕ) → IsUtf8 input → IsWhole input → ShowsTableOf input (output_of input) }
+{}
+
+/// The places of an ASCII character in a text are those at which it matches.
+pub fn places_match()
+    ensures { (c : ℕ) (text : List ℕ) → c < 128 → AreMatches (c ∷ []) text (places c text) }
+{}
+
+/// Styles change no character of the picture, so the output without its sequences is, byte for byte, the output of the
+/// text without its own.
+pub fn without_styles()
+    ensures picture { (characters : List (ℕ × Attributes)) →
+        characters_of (picture_of characters) ≡ characters_of (picture_of (map plain (characters_of characters))) }
+    ensures output { (input : List ℕ) (ps qs : List Piece) →
+        IsUtf8 input → ArePiecesOf input ps → NoneBroken ps → ArePiecesOf (output_of input) qs → strip qs ≡ output_of (strip ps) }
 {}

@@ -1,10 +1,14 @@
 //! The table of a text.
-ghost use Rattle.std.specs.Prelude.{◌≡◌, IfOk, OnOk, IsErrOf, string_bytes};
+ghost use Rattle.std.specs.Prelude.{◌≡◌, sum, vec_len, IfOk, OnOk, IsErrOf, string_bytes};
+ghost use Rattle.ansi_scan.specs.Sequences.{IsWhole};
 ghost use Rattle.columns.specs.Layout.{output_of, TableFits};
+ghost use Rattle.columns.specs.Printing.{rows_shown, line_rows};
 
+use crate::parts::{cell_parts, measured, row_parts, texts};
 use crate::print::grid_text;
-use crate::rows::rows_of;
+use crate::rows::{Rows, rows_of};
 use crate::sizes::{content_widths, table_height, table_width};
+use ansi_str::AnsiStr;
 use std::alloc::{AllocError, Global};
 
 /// Why a text has no table.
@@ -26,17 +30,37 @@ impl From<AllocError> for LayoutFault {
     }
 }
 
-/// The table of a text, each of its lines ended by a line feed; nothing where the text has no rows.
+/// The table of a whole text, each of its lines ended by a line feed; nothing where the text has no rows.
 pub fn table_text(alloc: Global, text: &str) -> Result<String, LayoutFault>
+    requires { IsWhole text.now }
     ensures table { IfOk result (λ table. string_bytes table ≡ output_of text.now) }
     ensures fits { OnOk result (TableFits text.now) }
     ensures range { IsErrOf result LayoutFault.Range → ¬ (TableFits text.now) }
 {
-    let rows = rows_of(alloc, text)?;
+    if text.ansi_has_any() {
+        let lines = row_parts(alloc, &text)?;
+        let rows = texts(alloc, &lines)?;
+        let (parts, counts) = cell_parts(alloc, &rows)?;
+        let cells = measured(alloc, &parts)?;
+        table_of_rows(alloc, text, &Rows { cells, counts })
+    } else {
+        table_of_rows(alloc, text, &rows_of(alloc, text)?)
+    }
+}
+
+/// The table of a whole text that has these rows.
+fn table_of_rows(alloc: Global, text: &str, rows: &Rows<'_>) -> Result<String, LayoutFault>
+    requires text { IsWhole text.now }
+    requires whole { sum rows.now.counts.items ≡ vec_len rows.now.cells }
+    requires rows { rows_shown rows.now ≡ line_rows text.now }
+    ensures table { IfOk result (λ table. string_bytes table ≡ output_of text.now) }
+    ensures fits { OnOk result (TableFits text.now) }
+    ensures range { IsErrOf result LayoutFault.Range → ¬ (TableFits text.now) }
+{
     if rows.counts.is_empty() {
         return Ok(String::new(alloc));
     }
-    let contents = content_widths(alloc, &rows)?;
+    let contents = content_widths(alloc, rows)?;
     let Some(width) = table_width(&contents) else {
         return Err(LayoutFault::Range);
     };
@@ -47,6 +71,6 @@ pub fn table_text(alloc: Global, text: &str) -> Result<String, LayoutFault>
         .saturating_add(1)
         .saturating_mul(height)
         .saturating_add(text.len());
-    let table = grid_text(alloc, &rows, &contents, size)?;
+    let table = grid_text(alloc, rows, &contents, size)?;
     Ok(table)
 }

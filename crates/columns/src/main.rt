@@ -9,6 +9,7 @@ mod input;
 mod laws;
 mod layout;
 mod output;
+mod parts;
 mod print;
 mod rows;
 mod run;

@@ -74,6 +74,24 @@ fn push_cell<'a>(cells: &mut Vec<Cell<'a>>, text: &'a str, plain: bool) -> Resul
     Ok(())
 }
 
+/// The columns that a text without sequences takes.
+pub fn width_of(text: &str) -> usize
+    ensures { result ≡ measure (chars text.now) }
+{
+    if is_plain(text) {
+        text.len()
+    } else {
+        measure(text)
+    }
+}
+
+/// Whether each byte is a printable ASCII character.
+fn is_plain(text: &str) -> bool
+    ensures { result ≡ is_plain text.now }
+{
+    text.as_bytes().iter().all(|byte| is_printable(*byte))
+}
+
 /// The columns that a text takes.
 // Few cells come here, and without it `push_cell` is short enough to stand in the loop.
 #[inline(never)]

@@ -1,17 +1,20 @@
 //! From a reader to a writer: all bytes, the text, the table.
-ghost use Rattle.std.specs.Prelude.{◌≡◌, ◌≢◌, ◌↔◌, IfSome, IfOk, IfErr, IsErrOf, Err, string_bytes};
+ghost use Rattle.std.specs.Prelude.{◌≡◌, ◌≢◌, ◌↔◌, IfSome, IsNone, IfOk, IfErr, IsErrOf, Err, string_bytes};
 ghost use Rattle.std.specs.Io.KnownBytes.{IsAtEnd};
+ghost use Rattle.ansi_scan.specs.Sequences.{IsWhole, IsFirstBroken};
 ghost use Rattle.columns.specs.Counts.{inner_of, HasFailed, HasTakenNothing, HasGivenPieces};
 ghost use Rattle.columns.specs.Fault.{IsOfInput, MayFollowWrites};
 ghost use Rattle.columns.specs.Layout.{output_of};
 ghost use Rattle.columns.specs.Streams.{ConsumesSome};
-ghost use Rattle.columns.specs.Run.{MayAnswer, Serves, HasReadAll, first_escape, read_limit};
+ghost use Rattle.columns.specs.Run.{MayAnswer, Serves, HasReadAll, read_limit};
 
 use crate::counted::Counted;
 use crate::fault::RunFault;
 use crate::input::{read_all, text_of};
 use crate::layout::{LayoutFault, table_text};
 use crate::output::write_all;
+use ansi_scan::first_broken;
+use ansi_str::AnsiStr;
 use std::alloc::Global;
 use std::io::{Read, Write};
 
@@ -74,7 +77,7 @@ fn table_of(alloc: Global, _options: &Options, bytes: &[u8]) -> Result<String, R
     ensures faults { IfErr result IsOfInput }
 {
     let text = text_of(bytes)?;
-    if let Some(at) = first_escape(text) {
+    if let Some(at) = broken_escape(text) {
         return Err(RunFault::Escape { at });
     }
     match table_text(alloc, text) {
@@ -84,11 +87,16 @@ fn table_of(alloc: Global, _options: &Options, bytes: &[u8]) -> Result<String, R
     }
 }
 
-// The byte at which the first ESC stands.
-fn first_escape(text: &str) -> Option<usize>
-    ensures { result ≡ first_escape text.now }
+// The byte at which the first ESC stands that begins no whole sequence.
+fn broken_escape(text: &str) -> Option<usize>
+    ensures broken { IfSome result (IsFirstBroken text.now) }
+    ensures whole { IsNone result ↔ IsWhole text.now }
 {
-    text.as_bytes().iter().position(|byte| *byte == 0x1b)
+    if text.ansi_has_any() {
+        first_broken(text)
+    } else {
+        None
+    }
 }
 
 #[cfg(test)]

@@ -1,47 +1,23 @@
-use Rattle.std.proofs.Common.{◌≡◌, ℕ, List, ◌<◌, ◌^◌, ◌∙◌, [], map, length, ap, sym, subst, vec_len, eqb-true, arith}
-use Rattle.std.proofs.lemmas.List.{nil_from_length}
-use Rattle.columns.specs.Estimates.{greatest}
-use Rattle.columns.specs.Printing.{shown, cut, rows_shown, grid_text, table_width, table_height}
-use Rattle.columns.proofs.SizeLemmas.{length-cut_counts, cut-some}
-use Rattle.columns.proofs.TextLemmas.{byte_rows, output-none, output-some, fits-none, TableFits-sums, TableFits-width, greatest-sum}
+use Rattle.std.proofs.Common.{map, ap, sym, ◌∙◌}
+use Rattle.std.specs.Cow.{cow_str_bytes}
+use Rattle.columns.specs.Rows.{tab, parts_at}
+use Rattle.columns.specs.Layout.{part_line}
+use Rattle.columns.specs.Printing.{bytes, cut}
+use Rattle.columns.proofs.PartLemmas.{cut-map}
+use Rattle.columns.proofs.TotalLemmas.{line_rows-plain}
 use Rattle.columns.proofs.layout.table_text.Goals as goal
 
--- no rows
-none : (c : goal.After-drop-rows-then-is_empty) → byte_rows c.args.text.now ≡ []
-none c =
-    let rows = c.in_ok-rows.rows in
-    let empty : vec_len rows.counts ≡ 0 = eqb-true (vec_len rows.counts) 0 (sym c.is_empty.ensures ∙ c.if-is_empty.true) in
-    let gone = nil_from_length rows.counts.items (sym rows.counts.ok.0 ∙ empty) in
-    sym c.in_ok-rows.ensures.rows ∙ ap (λ counts. cut counts (map shown rows.cells.items)) gone
+pub table_of_rows-requires-clause-rows : goal.table_of_rows-requires-clause-rows
+table_of_rows-requires-clause-rows c =
+    let counts = c.in_ok-parts.counts.items in
+    let parts = c.in_ok-parts.parts.items in
+    ap (cut counts) (c.in_ok-cells.ensures ∙ ap (λ found. map part_line (map cow_str_bytes found)) c.deref-then-ansi_has_any-2.ensures.value)
+    ∙ cut-map part_line counts (map cow_str_bytes parts)
+    ∙ ap (map (map part_line)) (
+    c.in_ok-parts.ensures.cells
+    ∙ ap (λ rows. map (parts_at tab) (map bytes rows)) c.deref-then-ansi_has_any.ensures.value
+    ∙ ap (map (parts_at tab)) (c.in_ok-rows.ensures ∙ ap (map cow_str_bytes) c.deref.ensures.value ∙ c.in_ok-lines.ensures))
 
-pub returns-then-is_empty-clause-table : goal.returns-then-is_empty-clause-table
-returns-then-is_empty-clause-table c = c.new.ensures.bytes ∙ sym (output-none c.args.text.now c.utf8.text (none c))
-
-pub returns-then-is_empty-clause-fits : goal.returns-then-is_empty-clause-fits
-returns-then-is_empty-clause-fits c = fits-none c.args.text.now c.utf8.text (none c)
-
-pub returns-in_default-clause-range : goal.returns-in_default-clause-range
-returns-in_default-clause-range c = λ _ fits.
-    let rows = rows_shown c.in_ok-rows.rows in
-    let some = cut-some (vec_len c.in_ok-rows.rows.counts) c.in_ok-rows.rows.counts.items (map shown c.in_ok-rows.rows.cells.items) (sym c.is_empty.ensures ∙ c.if-is_empty.false) c.in_ok-rows.rows.counts.ok.0 in
-    let width = TableFits-width c.args.text.now rows c.utf8.text (sym c.in_ok-rows.ensures.rows) some fits in
-    c.in_default.ensures (subst (λ (contents : List ℕ). table_width contents < 2 ^ 64) (sym (c.deref.ensures.value ∙ c.in_ok-contents.ensures)) width)
-
-pub grid_text-requires-clause-room : goal.grid_text-requires-clause-room
-grid_text-requires-clause-room c = omega (arith, c.in-Some.ensures, ap greatest (c.deref.ensures.value ∙ sym c.deref-2.ensures.value), greatest-sum c.deref.result.now)
-
-pub returns-clause-table : goal.returns-clause-table
-returns-clause-table c =
-    let rows = rows_shown c.in_ok-rows.rows in
-    let some = cut-some (vec_len c.in_ok-rows.rows.counts) c.in_ok-rows.rows.counts.items (map shown c.in_ok-rows.rows.cells.items) (sym c.is_empty.ensures ∙ c.if-is_empty.false) c.in_ok-rows.rows.counts.ok.0 in
-    c.in_ok-table.ensures ∙ ap (λ contents. grid_text contents rows) (c.deref-2.ensures.value ∙ c.in_ok-contents.ensures)
-    ∙ sym (output-some c.args.text.now rows c.utf8.text (sym c.in_ok-rows.ensures.rows) some)
-
-pub returns-clause-fits : goal.returns-clause-fits
-returns-clause-fits c =
-    let rows = rows_shown c.in_ok-rows.rows in
-    let some = cut-some (vec_len c.in_ok-rows.rows.counts) c.in_ok-rows.rows.counts.items (map shown c.in_ok-rows.rows.cells.items) (sym c.is_empty.ensures ∙ c.if-is_empty.false) c.in_ok-rows.rows.counts.ok.0 in
-    let width = subst (λ (contents : List ℕ). table_width contents < 2 ^ 64) (c.deref.ensures.value ∙ c.in_ok-contents.ensures) c.in-Some.ensures.0 in
-    let count : length rows ≡ c.len.result = length-cut_counts c.in_ok-rows.rows.counts.items (map shown c.in_ok-rows.rows.cells.items) ∙ sym c.in_ok-rows.rows.counts.ok.0 ∙ sym c.len.ensures in
-    let height = subst (λ (n : ℕ). table_height n < 2 ^ 64) (sym count) c.in-Some-table_height.ensures.0 in
-    TableFits-sums c.args.text.now rows c.utf8.text (sym c.in_ok-rows.ensures.rows) some width height
+pub table_of_rows-requires-else-ansi_has_any-clause-rows : goal.table_of_rows-requires-else-ansi_has_any-clause-rows
+table_of_rows-requires-else-ansi_has_any-clause-rows c =
+    c.in_ok-rows_of.ensures.rows ∙ sym (line_rows-plain c.args.text.now (sym c.ansi_has_any.ensures ∙ c.if-ansi_has_any.false))

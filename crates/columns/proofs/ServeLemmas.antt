@@ -1,0 +1,21 @@
+-- An answer that the input calls for serves it.
+use Rattle.std.proofs.Common.{ℕ, List, Option, Result, IfSome}
+use Rattle.std.proofs.lemmas.Option.{IfSome_then}
+use Rattle.columns.specs.declared.fault.RunFault.{RunFault}
+use Rattle.columns.specs.Layout.{output_of}
+use Rattle.columns.specs.Streams.{ConsumesSome}
+use Rattle.columns.specs.Run.{MayAnswer, Writes, Serves}
+use Rattle.columns.proofs.PictureLemmas.{output-shows_table}
+
+module _ {T : Type 0} (result : Result T RunFault) (old new : Option (List ℕ)) where
+  abbrev Answers : List ℕ → Type 0
+  Answers input = MayAnswer input result × Writes (output_of input) result old new
+
+  serves : (input : List ℕ) → Answers input → Serves input result old new
+  serves input answers = record { answers = answers.0; writes = answers.1; shows = λ has. output-shows_table input has.0 has.1 }
+
+  pub known : (input : Option (List ℕ)) → IfSome input Answers → IfSome input (λ bytes. Serves bytes result old new)
+  known input answers = IfSome_then input answers serves
+
+  pub some : (before after : Option (List ℕ)) → ConsumesSome before after Answers → ConsumesSome before after (λ bytes. Serves bytes result old new)
+  some before after (bytes, consumes, answers) = (bytes, consumes, serves bytes answers)

@@ -1,0 +1,176 @@
+-- The output of a text and its totals, by the lines of its cells.
+use Rattle.std.proofs.Common.{◌≡◌, ℕ, ◌+◌, ◌^◌, ◌<◌, ◌≤◌, sum, sum_by, false, List, [], ◌∷◌, map, length, refl, ap, sym, subst, ◌∙◌, arith}
+use Rattle.std.specs.Prelude.{encode_utf8, encode_utf8_all, chars, IsUtf8}
+use Rattle.std.specs.List.{AllByRecursion}
+use Rattle.std.proofs.lemmas.Simd.{map-map}
+use Rattle.std.proofs.lemmas.Str.{encodes-chars}
+use Rattle.std.proofs.lemmas.List.{length-map}
+use Rattle.std.proofs.lemmas.List.Sums.{sum_by-cons}
+use Rattle.std.proofs.lemmas.List.FromFn.{length-map-range_with_len}
+use Rattle.ansi_scan.specs.Sequences.{Piece, ArePiecesOf, NoneBroken}
+use Rattle.ansi_scan.specs.Pieces.{pieces}
+use Rattle.ansi_scan.specs.Attributes.{plain_attributes}
+use Rattle.ansi_str.specs.StyledText.{has_escape, strip, styled}
+use Rattle.ansi_str.specs.Parts.{split_part}
+use Rattle.ansi_str.specs.Matches.{bounds_between}
+use Rattle.ansi_str.proofs.Stripping.{has_escape-strip}
+use Rattle.columns.specs.Rows.{tab, stripped, styled_characters, places, parts_at, row_parts, cell_parts, rows_of}
+use Rattle.columns.specs.Measures.{measure}
+use Rattle.columns.specs.Estimates.{Line, greatest, column_widths, row_heights}
+use Rattle.columns.specs.Totals.{total}
+use Rattle.columns.specs.Picture.{picture_items}
+use Rattle.columns.specs.Readings.{read_rows}
+use Rattle.columns.specs.Layout.{one_each, grid_of, character_rows, table_characters, characters_of, styled_rows, part_line, part_rows, output_of, TableFits}
+use Rattle.columns.specs.Printing.{byte_line, line_rows, content_width, content_widths, grid_text, table_width, table_height}
+use Rattle.columns.proofs.ReadingLemmas.{read-column_widths, read-row_heights}
+use Rattle.columns.proofs.PrintingLemmas.{one_line, one_line-widths, one_line-heights, ones-total, grid_text-picture}
+use Rattle.columns.proofs.ItemLemmas.{map-same}
+use Rattle.columns.proofs.SplitLemmas.{IsWholeText}
+use Rattle.columns.proofs.ShowLemmas.{Styled, TextsAreUtf8-pieces, chars-strip_from, IsUtf8-strip, characters_of-styled}
+use Rattle.columns.proofs.PlaceLemmas.{stripped-without_escape, plain_cells, cell_parts-plain}
+use Rattle.columns.proofs.PictureLemmas.{Chunk, chunk_bytes, chunk_styled, chunk_rows, bytes-rows, styled-rows, output-shows_table}
+use Rattle.columns.proofs.CharacterLemmas.{single, characters-rows, picture-characters}
+use Rattle.columns.proofs.TextLemmas.{byte_rows, table-bytes}
+
+one_line-rows : (text : List ℕ) → part_rows text ≡ map one_line (line_rows text)
+one_line-rows text =
+    (λ n. map (λ row. sym (map-map (λ (line : Line ℕ). line ∷ []) part_line row) n) (cell_parts text))
+    ∙ sym (map-map one_line (map part_line) (cell_parts text))
+
+output-picture : (text : List ℕ) → output_of text ≡ picture_items encode_utf8 (grid_of (map one_line (line_rows text)))
+unfolding output_of
+output-picture text = ap (λ rows. picture_items encode_utf8 (grid_of rows)) (one_line-rows text)
+
+-- without ESC they are the lines of the bytes
+pub line_rows-plain : (text : List ℕ) → has_escape text ≡ false → line_rows text ≡ byte_rows text
+line_rows-plain text none =
+    ap (map (map part_line)) (cell_parts-plain text none)
+    ∙ map-same (AllByRecursion (λ part. has_escape part ≡ false)) (map part_line) (map byte_line)
+    (λ row plain. map-same (λ part. has_escape part ≡ false) part_line byte_line (λ cell plain. ap (λ shown. record { measure = measure (chars shown); items = cell }) (stripped-without_escape cell plain)) row plain)
+    (rows_of (λ b. b) text) (plain_cells text none)
+
+-- and the output is the table of its characters
+pub output-plain : (text : List ℕ) → IsUtf8 text → has_escape text ≡ false → output_of text ≡ encode_utf8_all (table_characters (chars text))
+output-plain text utf8 none =
+    output-picture text ∙ ap (λ rows. picture_items encode_utf8 (grid_of (map one_line rows))) (line_rows-plain text none) ∙ sym (table-bytes text utf8)
+
+-- each row has a cell
+some_bounds : (size from end : ℕ) (places : List ℕ) → 0 < length (bounds_between size from end places)
+some_bounds size from end [] = omega arith
+some_bounds size from end (at ∷ others) = omega arith
+
+some_cells : (row : List ℕ) → 0 < length (map part_line (parts_at tab row))
+some_cells row =
+    let bounds = bounds_between 1 0 (length (stripped row)) (places tab (stripped row)) in
+    let size : length (map part_line (parts_at tab row)) ≡ length bounds = length-map (parts_at tab row) part_line ∙ length-map bounds (λ (bound : ℕ × ℕ). split_part bound.0 bound.1 (pieces row)) in
+    omega (arith, size, some_bounds 1 0 (length (stripped row)) (places tab (stripped row)))
+
+some_columns : (texts : List (List ℕ)) (row : List (Line ℕ)) (rows : List (List (Line ℕ))) → map (map part_line) (map (parts_at tab) texts) ≡ row ∷ rows
+    → 0 < greatest (map (λ cells. length cells) (row ∷ rows))
+some_columns [] row rows e = cc
+some_columns (text ∷ texts) row rows e =
+    let first : map part_line (parts_at tab text) ≡ row = cc in
+    let some : 0 < length row = subst (λ (cells : List (Line ℕ)). 0 < length cells) first (some_cells text) in
+    omega arith
+
+pub output-none : (text : List ℕ) → line_rows text ≡ [] → output_of text ≡ []
+output-none text e = output-picture text ∙ ap (λ found. picture_items encode_utf8 (grid_of (map one_line found))) e
+
+pub output-some : (text : List ℕ) (rows : List (List (Line ℕ))) → line_rows text ≡ rows → 0 < length rows → output_of text ≡ grid_text (content_widths rows) rows
+output-some text [] e some = absurd (omega arith)
+output-some text (row ∷ rows) e some =
+    output-picture text ∙ ap (λ found. picture_items encode_utf8 (grid_of (map one_line found))) e
+    ∙ grid_text-picture row rows (some_columns (row_parts text) row rows e)
+
+-- ---- totals
+
+total-some : (sizes : List ℕ) → 0 < length sizes → total sizes ≡ sum sizes + length sizes + 1
+total-some [] h = absurd (omega arith)
+total-some (size ∷ sizes) h = refl
+
+padded-sum : (contents : List ℕ) → sum (map (λ content. content + 2) contents) + length (map (λ content. content + 2) contents) ≡ sum_by (λ content. content + 3) contents
+padded-sum [] = refl
+padded-sum (content ∷ contents) =
+    omega (arith, sum_by-cons (λ n. n) (content + 2) (map (λ content. content + 2) contents), sum_by-cons (λ n. n + 3) content contents, padded-sum contents)
+
+-- sizes that a reading leaves are those of the characters
+sizes-kept : (sizes : (X : Type 0) → List (List (List (Line X))) → List ℕ) → ((X Y : Type 0) (f : X → List Y) (rows : List (List (List (Line X)))) → sizes Y (read_rows f rows) ≡ sizes X rows)
+    → (text : List ℕ) → IsWholeText text → sizes ℕ (character_rows (chars (stripped text))) ≡ sizes ℕ (map one_line (line_rows text))
+sizes-kept sizes kept text whole =
+    let cs = styled_characters text in
+    ap (λ characters. sizes ℕ (character_rows characters)) (sym (characters_of-styled text whole.utf8))
+    ∙ ap (sizes ℕ) (sym (characters-rows cs))
+    ∙ kept Styled ℕ single (styled_rows cs)
+    ∙ ap (sizes Styled) (sym (styled-rows text whole))
+    ∙ kept Chunk Styled chunk_styled (chunk_rows text)
+    ∙ sym (kept Chunk ℕ chunk_bytes (chunk_rows text))
+    ∙ ap (sizes ℕ) (bytes-rows text ∙ one_line-rows text)
+
+character-widths : (text : List ℕ) → IsWholeText text → column_widths one_each (character_rows (chars (stripped text))) ≡ column_widths one_each (map one_line (line_rows text))
+character-widths text whole = sizes-kept (λ X rows. column_widths one_each rows) (λ X Y f rows. read-column_widths f (λ c. []) one_each rows) text whole
+
+character-heights : (text : List ℕ) → IsWholeText text → row_heights (character_rows (chars (stripped text))) ≡ row_heights (map one_line (line_rows text))
+character-heights text whole = sizes-kept (λ X rows. row_heights rows) (λ X Y f rows. read-row_heights f (λ c. []) rows) text whole
+
+total-width : (text : List ℕ) (row : List (Line ℕ)) (rows : List (List (Line ℕ))) → IsWholeText text → line_rows text ≡ row ∷ rows
+    → total (column_widths one_each (character_rows (chars (stripped text)))) ≡ table_width (content_widths (row ∷ rows))
+total-width text row rows whole e =
+    let contents = content_widths (row ∷ rows) in
+    let padded = map (λ (content : ℕ). content + 2) contents in
+    let columns = greatest (map (λ cells. length cells) (row ∷ rows)) in
+    let some : 0 < columns = some_columns (row_parts text) row rows e in
+    let size : length padded ≡ columns = length-map contents (λ (content : ℕ). content + 2) ∙ length-map-range_with_len (content_width (row ∷ rows)) 0 columns in
+    let long : 0 < length padded = omega arith in
+    ap total (character-widths text whole) ∙ ap (λ found. total (column_widths one_each (map one_line found))) e
+    ∙ ap total (one_line-widths row rows) ∙ total-some padded long ∙ (let sums = padded-sum contents in omega (arith, sums))
+
+total-height : (text : List ℕ) (row : List (Line ℕ)) (rows : List (List (Line ℕ))) → IsWholeText text → line_rows text ≡ row ∷ rows
+    → total (row_heights (character_rows (chars (stripped text)))) ≡ table_height (length (row ∷ rows))
+total-height text row rows whole e =
+    let some = some_columns (row_parts text) row rows e in
+    let several : 0 < length (row ∷ rows) = omega arith in
+    let same : length (row ∷ rows) + length (row ∷ rows) + 1 ≡ table_height (length (row ∷ rows)) = omega arith in
+    ap total (character-heights text whole) ∙ ap (λ found. total (row_heights (map one_line found))) e
+    ∙ ap total (one_line-heights (row ∷ rows) some) ∙ ones-total (length (row ∷ rows)) several ∙ same
+
+pub fits-none : (text : List ℕ) → IsWholeText text → line_rows text ≡ [] → TableFits text
+unfolding TableFits
+fits-none text whole e =
+    let width : total (column_widths one_each (character_rows (chars (stripped text)))) ≡ 0 = ap total (character-widths text whole) ∙ ap (λ found. total (column_widths one_each (map one_line found))) e in
+    let height : total (row_heights (character_rows (chars (stripped text)))) ≡ 0 = ap total (character-heights text whole) ∙ ap (λ found. total (row_heights (map one_line found))) e in
+    record { width = omega (arith, width); height = omega (arith, height) }
+
+-- the table fits exactly where the sums of the code do
+pub TableFits-sums : (text : List ℕ) (rows : List (List (Line ℕ))) → IsWholeText text → line_rows text ≡ rows → 0 < length rows
+    → table_width (content_widths rows) < 2 ^ 64 → table_height (length rows) < 2 ^ 64 → TableFits text
+unfolding TableFits
+TableFits-sums text [] whole e some width height = absurd (omega arith)
+TableFits-sums text (row ∷ rows) whole e some width height = record { width = omega (arith, total-width text row rows whole e); height = omega (arith, total-height text row rows whole e) }
+
+pub TableFits-width : (text : List ℕ) (rows : List (List (Line ℕ))) → IsWholeText text → line_rows text ≡ rows → 0 < length rows → TableFits text → table_width (content_widths rows) < 2 ^ 64
+unfolding TableFits
+TableFits-width text [] whole e some fits = absurd (omega arith)
+TableFits-width text (row ∷ rows) whole e some fits = omega (arith, total-width text row rows whole e, fits.width)
+
+pub TableFits-height : (text : List ℕ) (rows : List (List (Line ℕ))) → IsWholeText text → line_rows text ≡ rows → 0 < length rows → TableFits text → table_height (length rows) < 2 ^ 64
+unfolding TableFits
+TableFits-height text [] whole e some fits = absurd (omega arith)
+TableFits-height text (row ∷ rows) whole e some fits = omega (arith, total-height text row rows whole e, fits.height)
+
+pub greatest-sum : (contents : List ℕ) → greatest contents ≤ sum_by (λ content. content + 3) contents
+greatest-sum [] = omega arith
+greatest-sum (content ∷ contents) = omega (arith, sum_by-cons (λ n. n + 3) content contents, greatest-sum contents)
+
+-- ---- without sequences
+
+-- without its sequences the output is the output of the text without its own
+pub strip-output : (text : List ℕ) (ps qs : List Piece) → IsUtf8 text → ArePiecesOf text ps → NoneBroken ps → ArePiecesOf (output_of text) qs → strip qs ≡ output_of (strip ps)
+strip-output text ps qs utf8 of_text whole of_output =
+    let shows = output-shows_table text utf8 (record { pieces = ps; of_text = of_text; none_broken = whole }) in
+    let texts = TextsAreUtf8-pieces text ps of_text utf8 in
+    let shown = TextsAreUtf8-pieces (output_of text) qs of_output shows.text in
+    let characters : chars (strip qs) ≡ table_characters (chars (strip ps)) =
+    sym (chars-strip_from plain_attributes qs shown) ∙ ap characters_of (shows.picture ps qs of_text of_output)
+    ∙ picture-characters (styled ps) ∙ ap table_characters (chars-strip_from plain_attributes ps texts) in
+    sym (encodes-chars (strip qs) (IsUtf8-strip qs shown)) ∙ ap encode_utf8_all characters
+    ∙ sym (output-plain (strip ps) (IsUtf8-strip ps texts) (has_escape-strip text ps of_text))
