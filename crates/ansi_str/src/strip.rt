@@ -3,6 +3,7 @@ ghost use Rattle.std.specs.Prelude.{◌≡◌, List, IfOk, string_bytes};
 ghost use Rattle.ansi_scan.specs.Sequences.{Piece, ArePiecesOf};
 ghost use Rattle.ansi_str.specs.StyledText.{has_escape, strip};
 
+use crate::places::ESC;
 use ansi_scan::{Kind, scan};
 use std::alloc::{AllocError, Global};
 
@@ -23,5 +24,5 @@ pub(crate) fn joined_texts(alloc: Global, text: &str) -> Result<String, AllocErr
 pub(crate) fn has_escape(text: &str) -> bool
     ensures { result ≡ has_escape text.now }
 {
-    text.as_bytes().iter().any(|byte| *byte == 0x1b)
+    text.as_bytes().contains(&ESC)
 }

@@ -19,7 +19,7 @@ use Rattle.columns.specs.Estimates.{Line}
 use Rattle.columns.specs.Picture.{picture_items}
 use Rattle.columns.specs.Readings.{read_line, read_rows}
 use Rattle.columns.specs.Layout.{grid_of, characters_of, styled_line, styled_rows, plain, picture_of, part_rows, output_of}
-use Rattle.columns.specs.Headline.{ShowsTableOf}
+use Rattle.columns.specs.TableShown.{ShowsTableOf}
 use Rattle.columns.proofs.ReadingLemmas.{read-table}
 use Rattle.columns.proofs.ShowLemmas.{Styled, Shows, Shows-ascii, Shows-flat_map, Shows-styled, Shows-closed, IsUtf8-stripped, characters_of-styled}
 use Rattle.columns.proofs.SplitLemmas.{IsWholeText, IsClosedPart, whole-closed, styled-parts_at, closed-parts_at}

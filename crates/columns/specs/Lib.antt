@@ -3,7 +3,7 @@ pub mod Estimates
 pub mod Fault
 pub mod Frame
 pub mod Glyphs
-pub mod Headline
+pub mod TableShown
 pub mod Layout
 pub mod Measures
 pub mod Picture

@@ -6,7 +6,7 @@ use Rattle.columns.specs.declared.fault.RunFault.{RunFault}
 use Rattle.columns.specs.declared.fault.RunFault.TheVariants.{Read, ReadTooLong, NotUtf8, Escape, Range, LineTooWide, Write, WriteZero, Memory}
 use Rattle.ansi_scan.specs.Sequences.{IsWhole, IsFirstBroken}
 use Rattle.columns.specs.Layout.{output_of, TableFits}
-use Rattle.columns.specs.Headline.{ShowsTableOf}
+use Rattle.columns.specs.TableShown.{ShowsTableOf}
 use Rattle.columns.specs.Streams.{AppendsFront}
 
 -- how many reads without an end are too many

@@ -11,7 +11,7 @@ ghost use Rattle.columns.specs.Frame.{boundary_at, place, RowBoundary, RowLine};
 ghost use Rattle.columns.specs.Picture.{Tiles, picture_line, picture_items};
 ghost use Rattle.columns.specs.Readings.{read_rows};
 ghost use Rattle.columns.specs.Layout.{one_each, grid_of, character_rows, table_characters, characters_of, plain, picture_of, output_of};
-ghost use Rattle.columns.specs.Headline.{ShowsTableOf};
+ghost use Rattle.columns.specs.TableShown.{ShowsTableOf};
 ghost use Rattle.columns.specs.Measures.{measure};
 
 /// Tables worked out by hand.

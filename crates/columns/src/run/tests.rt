@@ -73,10 +73,60 @@ fn lays_out_rows_and_cells(rt: HostRuntime) -> Result<(), Fail> {
     Ok(())
 }
 
+// Tables of styled text worked out by hand: each cell opens and ends its own styles.
+#[test]
+fn keeps_styles_in_their_cells(rt: HostRuntime) -> Result<(), Fail> {
+    let tables = [
+        (
+            "\x1b[31mab\tc\n",
+            "+----+---+\n| \x1b[31mab\x1b[39m | \x1b[31mc\x1b[39m |\n+----+---+\n",
+        ),
+        (
+            "\x1b[1ma\nb\x1b[0m\n",
+            "+---+\n| \x1b[1ma\x1b[22m |\n+---+\n| \x1b[1mb\x1b[0m |\n+---+\n",
+        ),
+        ("\x1b[31m", ""),
+        ("\x1b[1ma\n\x1b[0m", "+---+\n| \x1b[1ma\x1b[22m |\n+---+\n"),
+        (
+            "\x1b]0;a\tb\x07x\n",
+            "+---+\n| \x1b]0;a\tb\x07x |\n+---+\n",
+        ),
+        (
+            "\x1b[31ma\x1b[31mb\n",
+            "+----+\n| \x1b[31ma\x1b[31mb\x1b[39m |\n+----+\n",
+        ),
+        (
+            "\x1b[31m\ta\n",
+            "+--+---+\n| \x1b[31m\x1b[39m | \x1b[31ma\x1b[39m |\n+--+---+\n",
+        ),
+        (
+            "\x1b[7ma\tb\nc\n",
+            "+---+---+\n| \x1b[7ma\x1b[27m | \x1b[7mb\x1b[27m |\n+---+---+\n| \x1b[7mc\x1b[27m |   |\n+---+---+\n",
+        ),
+        (
+            "\x1b[38;5;208;48;2;1;2;3ma\tb\n",
+            "+---+---+\n| \x1b[38;5;208;48;2;1;2;3ma\x1b[39m\x1b[49m | \x1b[38;5;208m\x1b[48;2;1;2;3mb\x1b[39m\x1b[49m |\n+---+---+\n",
+        ),
+        (
+            "e\x1b[31m\u{301}\x1b[0mx\n",
+            "+----+\n| e\x1b[31m\u{301}\x1b[0mx |\n+----+\n",
+        ),
+    ];
+    for (input, table) in tables {
+        assert_eq!(rt;
+            table_bytes(rt.alloc(), input.as_bytes())?.as_slice(),
+            table.as_bytes(),
+            "{input:?}"
+        );
+    }
+    Ok(())
+}
+
 #[test]
 fn refuses_input_before_it_writes(rt: HostRuntime) {
-    let refusals: [(&[u8], RunFault); 5] = [
+    let refusals: [(&[u8], RunFault); 6] = [
         (b"\x1b", RunFault::Escape { at: 0 }),
+        (b"\x1b[31m\x1b[1", RunFault::Escape { at: 5 }),
         (b"ab\x1b]0;a", RunFault::Escape { at: 2 }),
         (b"\x61\xff", RunFault::NotUtf8 { at: 1 }),
         (b"\x1b\xff", RunFault::NotUtf8 { at: 1 }),
