@@ -21,3 +21,4 @@ pub mod TextLemmas
 pub mod TilingLemmas
 pub mod TotalLemmas
 pub mod Written
+pub mod AcceptedLemmas

@@ -1,8 +1,9 @@
 //! Laws over the definitions, each the contract of a function that does nothing.
-ghost use Rattle.std.specs.Prelude.{◌≡◌, ℕ, ◌+◌, ◌<◌, ◌≤◌, codes, length, slice_index, All, List, ◌∷◌, [], ◌++◌, map, flat_map, IsUtf8};
+ghost use Rattle.std.specs.Prelude.{◌≡◌, ℕ, ◌+◌, ◌<◌, ◌≤◌, chars, false, codes, length, slice_index, All, List, ◌∷◌, [], ◌++◌, map, flat_map, IsUtf8};
 ghost use Rattle.ansi_scan.specs.Sequences.{Piece, ArePiecesOf, NoneBroken, IsWhole};
 ghost use Rattle.ansi_scan.specs.Attributes.{Attributes};
-ghost use Rattle.ansi_str.specs.StyledText.{strip};
+ghost use Rattle.std.specs.Str.{encode_utf8_all};
+ghost use Rattle.ansi_str.specs.StyledText.{has_escape, strip};
 ghost use Rattle.ansi_str.specs.Matches.{AreMatches};
 ghost use Rattle.columns.specs.Rows.{places};
 ghost use Rattle.columns.specs.Estimates.{Line, column_widths, row_heights};
@@ -12,6 +13,7 @@ ghost use Rattle.columns.specs.Picture.{Tiles, picture_line, picture_items};
 ghost use Rattle.columns.specs.Readings.{read_rows};
 ghost use Rattle.columns.specs.Layout.{one_each, grid_of, character_rows, table_characters, characters_of, plain, picture_of, output_of};
 ghost use Rattle.columns.specs.TableShown.{ShowsTableOf};
+ghost use Rattle.columns.specs.Run.{HasTable};
 ghost use Rattle.columns.specs.Measures.{measure};
 
 /// Tables worked out by hand.
@@ -74,11 +76,17 @@ pub fn places_match()
     ensures { (c : ℕ) (text : List ℕ) → c < 128 → AreMatches (c ∷ []) text (places c text) }
 {}
 
-/// Styles change no character of the picture, so the output without its sequences is, byte for byte, the output of the
-/// text without its own.
+/// Styles change no character of the picture, which is that of the characters alone. A text without its sequences has
+/// a table where the text has one, and it is, byte for byte, the output without its sequences.
 pub fn without_styles()
     ensures picture { (characters : List (ℕ × Attributes)) →
         characters_of (picture_of characters) ≡ characters_of (picture_of (map plain (characters_of characters))) }
+    ensures characters { (characters : List (ℕ × Attributes)) →
+        characters_of (picture_of characters) ≡ table_characters (characters_of characters) }
+    ensures plain { (text : List ℕ) → IsUtf8 text → has_escape text ≡ false →
+        output_of text ≡ encode_utf8_all (table_characters (chars text)) }
+    ensures accepted { (input : List ℕ) (ps : List Piece) →
+        ArePiecesOf input ps → HasTable input → HasTable (strip ps) }
     ensures output { (input : List ℕ) (ps qs : List Piece) →
         IsUtf8 input → ArePiecesOf input ps → NoneBroken ps → ArePiecesOf (output_of input) qs → strip qs ≡ output_of (strip ps) }
 {}

@@ -1,5 +1,5 @@
 //! From bytes to a writer.
-ghost use Rattle.std.specs.Prelude.{◌≡◌, ◌↔◌, IfErr, OnOk, IsErrOf};
+ghost use Rattle.std.specs.Prelude.{◌≡◌, length, ◌↔◌, IfErr, OnOk, IsErrOf};
 ghost use Rattle.std.specs.Io.KnownBytes.{Appends};
 ghost use Rattle.columns.specs.Counts.{inner_of, pieces_read_of, HasFailed, HasTakenNothing};
 ghost use Rattle.columns.specs.Fault.{IsOfWriting};
@@ -21,6 +21,7 @@ pub fn write_all<W: Write>(writer: &mut Counted<W>, bytes: &[u8]) -> Result<(), 
     ensures write { IsErrOf result RunFault.Write ↔ HasFailed writer.old writer.new }
     ensures write_zero { IsErrOf result RunFault.WriteZero
         ↔ HasTakenNothing writer.old writer.new }
+    ensures nothing { length bytes.now ≡ 0 → writer.new ≡ writer.old }
     ensures pieces_read { pieces_read_of writer.new ≡ pieces_read_of writer.old }
 {
     let mut rest = bytes;

@@ -6,7 +6,7 @@ ghost use Rattle.columns.specs.Counts.{inner_of, HasFailed, HasTakenNothing, Has
 ghost use Rattle.columns.specs.Fault.{IsOfInput, MayFollowWrites};
 ghost use Rattle.columns.specs.Layout.{output_of};
 ghost use Rattle.columns.specs.Streams.{ConsumesSome};
-ghost use Rattle.columns.specs.Run.{MayAnswer, Serves, HasReadAll, read_limit};
+ghost use Rattle.columns.specs.Run.{MayAnswer, Serves, LeavesAlone, HasReadAll, read_limit};
 
 use crate::counted::Counted;
 use crate::fault::RunFault;
@@ -45,12 +45,14 @@ pub fn run<R: Read, W: Write>(
 ) -> Result<(), RunFault>
     // Where the reader's bytes are known, they decide the answer and what is written.
     ensures known_input { IfSome (R.remaining (inner_of reader.old)) (λ input.
-        Serves input result (W.contents (inner_of writer.old)) (W.contents (inner_of writer.new))) }
+        Serves input result (W.contents (inner_of writer.old)) (W.contents (inner_of writer.new))
+        × LeavesAlone input writer.old writer.new) }
 
     // Where they are not, the same holds of some bytes that the reader gave.
     ensures some_input { ConsumesSome (R.remaining (inner_of reader.old))
         (R.remaining (inner_of reader.new)) (λ input.
-        Serves input result (W.contents (inner_of writer.old)) (W.contents (inner_of writer.new))) }
+        Serves input result (W.contents (inner_of writer.old)) (W.contents (inner_of writer.new))
+        × LeavesAlone input writer.old writer.new) }
     ensures at_end { HasReadAll result → IsAtEnd (R.remaining (inner_of reader.new)) }
 
     // The counts say exactly when a fault of the reader or the writer comes.

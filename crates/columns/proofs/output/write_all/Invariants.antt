@@ -10,6 +10,7 @@ invariant-loop-rest g l = record {
   failures : failures_of l.writer ≡ failures_of l.initial.writer;
   empty_writes : empty_writes_of l.writer ≡ empty_writes_of l.initial.writer;
   pieces_read : pieces_read_of l.writer ≡ pieces_read_of l.initial.writer;
+  nothing : length l.bytes ≡ 0 → (l.writer ≡ l.initial.writer) × (length l.rest ≡ 0);
 }
 
 abbrev pub decreases-loop-rest : goal.decreases-loop-rest
