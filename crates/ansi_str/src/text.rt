@@ -17,10 +17,11 @@ pub trait AnsiStr {
     ghost text: { Self → List ℕ };
 
     /// The parts of the text between the matches of a pattern, which are those of `str::split` in the
-    /// text without its sequences, also where the pattern is empty. A part begins with the start of the
-    /// style known there, has the sequences that stand from its first to its last place, both included,
-    /// and ends with the end of the style then open. A text without ESC is answered by borrows, without
-    /// memory; else the only refusal is for memory, and no part comes after it.
+    /// text without its sequences, also where the pattern is empty. Each part has the sequences that
+    /// stand from its first to its last place, both included, in their order. A part behind a match
+    /// begins with the start of the style after the sequences before it, and each part ends with the
+    /// end of the style then open. A text without ESC is answered by borrows, without memory; else the
+    /// only refusal is for memory, and no part comes after it. Places are bytes of the stripped text.
     fn ansi_split<'a>(&'a self, alloc: Global, pattern: &'a str) -> AnsiSplit<'a>
         ensures parts { (pieces : List Piece) (matches : List ℕ) → ArePiecesOf (text self.now) pieces →
             AreMatches pattern.now (strip pieces) matches →
