@@ -1,6 +1,7 @@
 //! The table of a text.
-ghost use Rattle.std.specs.Prelude.{◌≡◌, sum, vec_len, IfOk, OnOk, IsErrOf, string_bytes};
+ghost use Rattle.std.specs.Prelude.{◌≡◌, false, sum, vec_len, IfOk, OnOk, IsErrOf, string_bytes};
 ghost use Rattle.ansi_scan.specs.Sequences.{IsWhole};
+ghost use Rattle.ansi_str.specs.StyledText.{has_escape};
 ghost use Rattle.columns.specs.Layout.{output_of, TableFits};
 ghost use Rattle.columns.specs.Printing.{rows_shown, line_rows};
 
@@ -8,7 +9,6 @@ use crate::parts::{cell_parts, measured, row_parts, texts};
 use crate::print::grid_text;
 use crate::rows::{Rows, rows_of};
 use crate::sizes::{content_widths, table_height, table_width};
-use ansi_str::AnsiStr;
 use std::alloc::{AllocError, Global};
 
 /// Why a text has no table.
@@ -31,21 +31,27 @@ impl From<AllocError> for LayoutFault {
 }
 
 /// The table of a whole text, each of its lines ended by a line feed; nothing where the text has no rows.
-pub fn table_text(alloc: Global, text: &str) -> Result<String, LayoutFault>
+pub fn styled_table(alloc: Global, text: &str) -> Result<String, LayoutFault>
     requires { IsWhole text.now }
     ensures table { IfOk result (λ table. string_bytes table ≡ output_of text.now) }
     ensures fits { OnOk result (TableFits text.now) }
     ensures range { IsErrOf result LayoutFault.Range → ¬ (TableFits text.now) }
 {
-    if text.ansi_has_any() {
-        let lines = row_parts(alloc, &text)?;
-        let rows = texts(alloc, &lines)?;
-        let (parts, counts) = cell_parts(alloc, &rows)?;
-        let cells = measured(alloc, &parts)?;
-        table_of_rows(alloc, text, &Rows { cells, counts })
-    } else {
-        table_of_rows(alloc, text, &rows_of(alloc, text)?)
-    }
+    let lines = row_parts(alloc, &text)?;
+    let rows = texts(alloc, &lines)?;
+    let (parts, counts) = cell_parts(alloc, &rows)?;
+    let cells = measured(alloc, &parts)?;
+    table_of_rows(alloc, text, &Rows { cells, counts })
+}
+
+/// The same of a text without ESC, which is read once and not copied.
+pub fn plain_table(alloc: Global, text: &str) -> Result<String, LayoutFault>
+    requires { has_escape text.now ≡ false }
+    ensures table { IfOk result (λ table. string_bytes table ≡ output_of text.now) }
+    ensures fits { OnOk result (TableFits text.now) }
+    ensures range { IsErrOf result LayoutFault.Range → ¬ (TableFits text.now) }
+{
+    table_of_rows(alloc, text, &rows_of(alloc, text)?)
 }
 
 /// The table of a whole text that has these rows.

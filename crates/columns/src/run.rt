@@ -1,7 +1,6 @@
 //! From a reader to a writer: all bytes, the text, the table.
-ghost use Rattle.std.specs.Prelude.{◌≡◌, ◌≢◌, ◌↔◌, IfSome, IsNone, IfOk, IfErr, IsErrOf, Err, string_bytes};
+ghost use Rattle.std.specs.Prelude.{◌≡◌, ◌≢◌, ◌↔◌, IfSome, IfOk, IfErr, IsErrOf, Err, string_bytes};
 ghost use Rattle.std.specs.Io.KnownBytes.{IsAtEnd};
-ghost use Rattle.ansi_scan.specs.Sequences.{IsWhole, IsFirstBroken};
 ghost use Rattle.columns.specs.Counts.{inner_of, HasFailed, HasTakenNothing, HasGivenPieces};
 ghost use Rattle.columns.specs.Fault.{IsOfInput, MayFollowWrites};
 ghost use Rattle.columns.specs.Layout.{output_of};
@@ -11,7 +10,7 @@ ghost use Rattle.columns.specs.Run.{MayAnswer, Serves, LeavesAlone, HasReadAll, 
 use crate::counted::Counted;
 use crate::fault::RunFault;
 use crate::input::{read_all, text_of};
-use crate::layout::{LayoutFault, table_text};
+use crate::layout::{LayoutFault, plain_table, styled_table};
 use crate::output::write_all;
 use ansi_scan::first_broken;
 use ansi_str::AnsiStr;
@@ -79,25 +78,18 @@ fn table_of(alloc: Global, _options: &Options, bytes: &[u8]) -> Result<String, R
     ensures faults { IfErr result IsOfInput }
 {
     let text = text_of(bytes)?;
-    if let Some(at) = broken_escape(text) {
-        return Err(RunFault::Escape { at });
-    }
-    match table_text(alloc, text) {
+    let table = if text.ansi_has_any() {
+        if let Some(at) = first_broken(text) {
+            return Err(RunFault::Escape { at });
+        }
+        styled_table(alloc, text)
+    } else {
+        plain_table(alloc, text)
+    };
+    match table {
         Ok(table) => Ok(table),
         Err(LayoutFault::Range) => Err(RunFault::Range),
         Err(LayoutFault::Memory) => Err(RunFault::Memory),
-    }
-}
-
-// The byte at which the first ESC stands that begins no whole sequence.
-fn broken_escape(text: &str) -> Option<usize>
-    ensures broken { IfSome result (IsFirstBroken text.now) }
-    ensures whole { IsNone result ↔ IsWhole text.now }
-{
-    if text.ansi_has_any() {
-        first_broken(text)
-    } else {
-        None
     }
 }
 
