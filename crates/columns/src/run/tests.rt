@@ -87,10 +87,7 @@ fn keeps_styles_in_their_cells(rt: HostRuntime) -> Result<(), Fail> {
         ),
         ("\x1b[31m", ""),
         ("\x1b[1ma\n\x1b[0m", "+---+\n| \x1b[1ma\x1b[22m |\n+---+\n"),
-        (
-            "\x1b]0;a\tb\x07x\n",
-            "+---+\n| \x1b]0;a\tb\x07x |\n+---+\n",
-        ),
+        ("\x1b]0;a\tb\x07x\n", "+---+\n| \x1b]0;a\tb\x07x |\n+---+\n"),
         (
             "\x1b[31ma\x1b[31mb\n",
             "+----+\n| \x1b[31ma\x1b[31mb\x1b[39m |\n+----+\n",

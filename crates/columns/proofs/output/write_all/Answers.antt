@@ -18,4 +18,3 @@ loop-rest-preserved g c = record {
 
 pub returns-clause-nothing : goal.returns-clause-nothing
 returns-clause-nothing g c = λ none. (c.loop-rest.invariant.nothing none).0
-
