@@ -80,7 +80,7 @@ run_tests c x xs true true e f others =
     omega (arith, here, all, others)
 run_tests c x xs false true e f others = let both : true ≡ false = sym f ∙ ap (λ t. t && not (x == c)) e in cc both
 
-other_run : (c : ℕ) (t : List ℕ) → prefix_len (is_other c) t ≤ text_len t
+pub other_run : (c : ℕ) (t : List ℕ) → prefix_len (is_other c) t ≤ text_len t
 other_run c [] = omega arith
 other_run c (x ∷ xs) = run_tests c x xs (is_plain x) (is_other c x) refl refl (other_run c xs)
 
@@ -94,7 +94,7 @@ module _ (c : ℕ) (low : c < 128) (t : List ℕ) (k : ℕ) (is_run : k ≡ pref
   others : list_all (is_other c) (take k t) ≡ true
   others = ap (λ n. list_all (is_other c) (take n t)) is_run ∙ list_all-take_run (is_other c) t
 
-  parted : strip (pieces t) ≡ take k t ++ strip (pieces (drop k t))
+  pub parted : strip (pieces t) ≡ take k t ++ strip (pieces (drop k t))
   parted =
       sym (take-append-drop k (strip (pieces t)))
       ∙ ap (λ front. front ++ drop k (strip (pieces t))) (take-strip t k within)
@@ -140,7 +140,7 @@ head_is : (c : ℕ) (t : List ℕ) → c < 128 → 0 < length t → get_or t 0 0
 head_is c [] low some same = absurd (omega (arith, some))
 head_is c (b ∷ bs) low some same = ap (λ x. first_match (c ∷ []) 0 (x ∷ bs)) same ∙ one_here c bs low
 
-found_byte : (c : ℕ) (t : List ℕ) (b : ℕ) (bs : List ℕ) (is_c : Bool) → t ≡ b ∷ bs → (b == escape) ≡ false → is_other c b ≡ false → (b == c) ≡ is_c → b ≡ c
+pub found_byte : (c : ℕ) (t : List ℕ) (b : ℕ) (bs : List ℕ) (is_c : Bool) → t ≡ b ∷ bs → (b == escape) ≡ false → is_other c b ≡ false → (b == c) ≡ is_c → b ≡ c
 found_byte c t b bs true spelled plain stop e = eqb-true b c e
 found_byte c t b bs false spelled plain stop e = let both : true ≡ false = sym (ap (λ x. not x && not (b == c)) plain ∙ ap (λ x. not x) e) ∙ stop in cc both
 

@@ -1,9 +1,12 @@
 -- Steps through the pieces of a text.
-use Rattle.std.specs.Prelude.{◌≡◌, ◌==◌, ◌&&◌, not, ℕ, Bool, false, List, [], ◌∷◌, if◌then◌else◌}
+use Rattle.std.specs.Prelude.{◌≡◌, ◌<◌, slice_index, length, Option, None, Some, unwrap_or, ◌==◌, ◌&&◌, not, ℕ, Bool, false, List, [], ◌∷◌, if◌then◌else◌}
 use Rattle.ansi_scan.specs.Sequences.{Piece, escape, is_plain}
 use Rattle.ansi_scan.specs.Joining.{is_text_kind}
 use Rattle.ansi_scan.specs.Attributes.{Attributes}
-use Rattle.ansi_str.specs.StyledText.{style_after}
+use Rattle.ansi_scan.specs.Pieces.{pieces}
+use Rattle.ansi_str.specs.StyledText.{strip, style_after, style_after_all}
+use Rattle.ansi_str.specs.Parts.{from_place, through_place}
+use Rattle.ansi_str.specs.PartsLeft.{first_match}
 
 -- the pieces from the first text on
 abbrev pub from_text : List Piece → List Piece
@@ -29,3 +32,15 @@ pub record IsBehindFirst (all rest : List Piece) : Type 0 where
 -- neither ESC nor this byte
 abbrev pub is_other : ℕ → ℕ → Bool
 is_other byte b = is_plain b && not (b == byte)
+
+-- how many bytes the text shows before the first such byte, or at all
+abbrev pub bytes_to : ℕ → List ℕ → ℕ
+bytes_to byte text = unwrap_or (first_match (byte ∷ []) 0 (strip (pieces text))) (length (strip (pieces text)))
+
+-- from this text, before which this style is known, one comes to the first such byte of what it shows, or to its end:
+-- there stands `end`, before which that style is known
+pub record Lands (byte : ℕ) (text : List ℕ) (style : Attributes) (end : List ℕ) (end_style : Attributes) : Type 0 where
+  pub there : pieces end ≡ from_text (from_place (bytes_to byte text) (pieces text))
+  pub known : end_style ≡ style_after_all style (through_place (bytes_to byte text) (pieces text))
+  pub found : first_match (byte ∷ []) 0 (strip (pieces text)) ≡ if length end == 0 then None else Some (bytes_to byte text)
+  pub at : 0 < length end → slice_index end 0 ≡ byte

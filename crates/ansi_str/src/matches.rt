@@ -66,8 +66,8 @@ pub(crate) fn find_byte(text: &str, byte: u8) -> Option<usize>
     None
 }
 
-// How many bytes stand before the first ESC and the first such byte.
-fn run_len(text: &str, byte: u8) -> usize
+/// How many bytes stand before the first ESC and the first such byte.
+pub(crate) fn run_len(text: &str, byte: u8) -> usize
     ensures value { result ≡ prefix_len (is_other byte) text.now }
 {
     for (i, other) in text.as_bytes().iter().enumerate() {

@@ -9,8 +9,9 @@ ghost use Rattle.ansi_scan.specs.Attributes.{plain_attributes};
 ghost use Rattle.ansi_scan.specs.StartsAndEnds.{start_bytes, end_bytes};
 ghost use Rattle.ansi_str.specs.StyledText.{has_escape, strip, style_after_all};
 ghost use Rattle.ansi_str.specs.Parts.{before_place, dressed, from_place, through_place};
-ghost use Rattle.ansi_str.specs.Walking.{from_text, begins_with_escape, AreFirstAndRest, IsBehindFirst};
+ghost use Rattle.ansi_str.specs.Walking.{from_text, begins_with_escape, AreFirstAndRest, IsBehindFirst, Lands};
 
+use crate::matches::run_len;
 use ansi_scan::{Kind, Style, scan};
 use std::alloc::{AllocError, Global};
 use std::borrow::CowStr;
@@ -42,6 +43,21 @@ impl<'a> Place<'a> {
             } else {
                 place = place.past_item();
             }
+        }
+        place
+    }
+
+    /// Before the next such byte, an ASCII character, of what the text shows, or at the end: behind the
+    /// sequences there.
+    pub(crate) fn to_byte(&self, byte: u8) -> Place<'a>
+        requires { byte < 128 }
+        ensures { Lands byte self.now.rest.now self.now.style result.rest.now result.style }
+    {
+        let mut place = self.same();
+        place.rest = &place.rest[run_len(place.rest, byte)..];
+        while begins_with_escape(place.rest) {
+            place = place.past_item();
+            place.rest = &place.rest[run_len(place.rest, byte)..];
         }
         place
     }
