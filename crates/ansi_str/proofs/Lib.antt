@@ -20,3 +20,4 @@ pub mod PlainParts
 pub mod MergeLemmas
 pub mod LineLemmas
 pub mod RestLemmas
+pub mod AllParts

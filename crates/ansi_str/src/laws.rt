@@ -52,6 +52,12 @@ pub fn cut_at_places()
         strip (from_place n pieces) ≡ drop n (strip pieces) }
 {}
 
+/// The parts of a text lie within it: no part ends before it begins, or behind the end of the text.
+pub fn parts_in_order()
+    ensures { (pattern text matches : List ℕ) → AreMatches pattern text matches →
+        All (λ bound. (bound.0 ≤ bound.1) × (bound.1 ≤ length text)) (split_bounds pattern text matches) }
+{}
+
 /// A part of a split is one slice of the text, between the start of the style known at the slice
 /// and the end of the style then open.
 pub fn parts_are_slices()
