@@ -49,3 +49,14 @@ bounds-in_order pattern text matches are = All-from_recursion (IsWithin text) (s
 map-same : {A B : Type 0} (P : A → Type 0) (f g : A → B) (xs : List A) → ((x : A) → P x → f x ≡ g x) → AllByRecursion P xs → map f xs ≡ map g xs
 map-same P f g [] same all = refl
 map-same P f g (x ∷ xs) same all = ap (λ y. y ∷ map f xs) (same x all.0) ∙ ap (λ ys. g x ∷ ys) (map-same P f g xs same all.1)
+
+-- ---- without their sequences
+
+pub strip-styled_parts : (pattern text : List ℕ) (ps : List Piece) (matches : List ℕ) → ArePiecesOf text ps → NoneBroken ps → AreMatches pattern (strip ps) matches
+    → map (λ part. strip (pieces part)) (styled_parts ps (split_bounds pattern (strip ps) matches)) ≡ text_parts (strip ps) (split_bounds pattern (strip ps) matches)
+strip-styled_parts pattern text ps matches of_text whole are =
+    let bounds = split_bounds pattern (strip ps) matches in
+    map-map (λ part. strip (pieces part)) (λ bound. split_part bound.0 bound.1 ps) bounds
+    ∙ map-same (IsWithin (strip ps)) (λ bound. strip (pieces (split_part bound.0 bound.1 ps))) (λ bound. slice_range (strip ps) bound.0 bound.1) bounds
+    (λ bound fits. strip-split_part text ps (pieces (split_part bound.0 bound.1 ps)) bound.0 bound.1 fits.0 of_text whole (ArePiecesOf-pieces (split_part bound.0 bound.1 ps)))
+    (bounds-within pattern (strip ps) matches are)

@@ -79,12 +79,17 @@ pub fn parts_show_their_slices()
         ArePiecesOf (split_part a b pieces) of_part → IsClosed of_part }
 {}
 
-/// Without its sequences a part of a split of a whole text is the slice of the text without its own.
+/// Without its sequences a part of a split of a whole text is the slice of the text without its own,
+/// and so are all parts together.
 pub fn parts_are_stripped_slices()
-    ensures { (text : List ℕ) (pieces of_part : List Piece) (a b : ℕ) → a ≤ b →
+    ensures one { (text : List ℕ) (pieces of_part : List Piece) (a b : ℕ) → a ≤ b →
         ArePiecesOf text pieces → NoneBroken pieces →
         ArePiecesOf (split_part a b pieces) of_part →
         strip of_part ≡ slice_range (strip pieces) a b }
+    ensures all { (pattern text : List ℕ) (pieces : List Piece) (matches : List ℕ) →
+        ArePiecesOf text pieces → NoneBroken pieces → AreMatches pattern (strip pieces) matches →
+        map (λ part. strip (pieces_of part)) (styled_parts pieces (split_bounds pattern (strip pieces) matches)) ≡
+        text_parts (strip pieces) (split_bounds pattern (strip pieces) matches) }
 {}
 
 /// The parts of a split of a whole text are closed texts, in UTF-8 where the text and the pattern are.
