@@ -60,3 +60,77 @@ strip-styled_parts pattern text ps matches of_text whole are =
     ∙ map-same (IsWithin (strip ps)) (λ bound. strip (pieces (split_part bound.0 bound.1 ps))) (λ bound. slice_range (strip ps) bound.0 bound.1) bounds
     (λ bound fits. strip-split_part text ps (pieces (split_part bound.0 bound.1 ps)) bound.0 bound.1 fits.0 of_text whole (ArePiecesOf-pieces (split_part bound.0 bound.1 ps)))
     (bounds-within pattern (strip ps) matches are)
+
+-- ---- a text without ESC
+
+abbrev AreTexts : List Piece → Type 0
+AreTexts ps = AllByRecursion (λ p. is_text_kind p.kind ≡ true) ps
+
+text_kind-without_escape : (kind : Kind) (bytes : List ℕ) (after : List Piece) (text : Bool) → is_text_kind kind ≡ text → Stands kind bytes after
+    → has_escape (bytes ++ joined after) ≡ false → is_text_kind kind ≡ true
+text_kind-without_escape kind bytes after true e stands gone = e
+text_kind-without_escape kind bytes after false e stands gone =
+    let other : kind ≢ Text = λ same. (let both : true ≡ false = ap is_text_kind (sym same) ∙ e in cc both) in
+    let begins = begins_with_escape kind bytes after stands other in
+    absurd (escaped bytes begins.0 (joined after) begins.1 gone)
+
+AreTexts-stand : (ps : List Piece) → EachStands ps → has_escape (joined ps) ≡ false → AreTexts ps
+AreTexts-stand [] each gone = tt
+AreTexts-stand (p ∷ ps) each gone = (
+  text_kind-without_escape p.kind p.bytes ps (is_text_kind p.kind) refl each.0 gone,
+  AreTexts-stand ps each.1 (no_escape-behind (p.bytes ++ joined ps) p.bytes (joined ps) refl gone),
+)
+
+AreTexts-from : (n : ℕ) (ps : List Piece) → AreTexts ps → AreTexts (from_place n ps)
+AreTexts-from n [] texts = tt
+AreTexts-from n (p ∷ ps) texts = elim (reach n p) [
+  | none e ↦ subst (λ m. AreTexts (from_place m (p ∷ ps))) (sym e) texts
+  | inside some h ↦ subst AreTexts (sym (from-inside n p ps some h)) texts
+  | past some h ↦ subst AreTexts (sym (from-past n p ps some h)) (AreTexts-from (n - length (text_of p)) ps texts.1)
+]
+
+AreTexts-before : (n : ℕ) (ps : List Piece) → AreTexts ps → AreTexts (before_place n ps)
+AreTexts-before n [] texts = tt
+AreTexts-before n (p ∷ ps) texts = elim (reach n p) [
+  | none e ↦ subst (λ m. AreTexts (before_place m (p ∷ ps))) (sym e) tt
+  | inside some h ↦ subst AreTexts (sym (before-inside n p ps some h)) (texts.0, tt)
+  | past some h ↦ subst AreTexts (sym (before-past n p ps some h)) (texts.0, AreTexts-before (n - length (text_of p)) ps texts.1)
+]
+
+AreTexts-front : (n : ℕ) (p : Piece) (is_zero : Bool) → is_text_kind p.kind ≡ true → AreTexts (if is_zero then [] else record { kind = p.kind; bytes = take n p.bytes } ∷ [])
+AreTexts-front n p true text = tt
+AreTexts-front n p false text = (text, tt)
+
+AreTexts-through : (n : ℕ) (ps : List Piece) → AreTexts ps → AreTexts (through_place n ps)
+AreTexts-through n [] texts = tt
+AreTexts-through n (p ∷ ps) texts = elim (cut n p) [
+  | short h ↦ subst AreTexts (sym (through-inside n p ps h)) (AreTexts-front n p (n == 0) texts.0)
+  | long h ↦ subst AreTexts (sym (through-past n p ps h)) (texts.0, AreTexts-through (n - length (text_of p)) ps texts.1)
+]
+
+style-texts : (style : Attributes) (ps : List Piece) → AreTexts ps → style_after_all style ps ≡ style
+style-texts style [] texts = refl
+style-texts style (p ∷ ps) texts = ap (λ s. style_after_all s ps) (style_by-text style p.kind p.bytes texts.0) ∙ style-texts style ps texts.1
+
+joined-texts : (ps : List Piece) → AreTexts ps → joined ps ≡ strip ps
+joined-texts [] texts = refl
+joined-texts (p ∷ ps) texts = ap (λ bytes. bytes ++ joined ps) (sym (text_of-text p texts.0)) ∙ ap (λ bytes. text_of p ++ bytes) (joined-texts ps texts.1)
+
+split_part-texts : (ps : List Piece) (a b : ℕ) → a ≤ b → AreTexts ps → split_part a b ps ≡ slice_range (strip ps) a b
+split_part-texts ps a b ordered texts =
+    let before = style_after_all plain_attributes (before_place a ps) in
+    let slice = through_place (b - a) (from_place a ps) in
+    let plain : before ≡ plain_attributes = style-texts plain_attributes (before_place a ps) (AreTexts-before a ps texts) in
+    let are_texts : AreTexts slice = AreTexts-through (b - a) (from_place a ps) (AreTexts-from a ps texts) in
+    split_part-slice a b ps ordered
+    ∙ plain_part before (style_after_all before slice) (joined slice) plain (style-texts before slice are_texts ∙ plain)
+    ∙ joined-texts slice are_texts ∙ strip-through (b - a) (from_place a ps) ∙ ap (take (b - a)) (strip-from a ps)
+
+-- the parts of a text without ESC are its slices
+pub styled_parts-without_escape : (pattern text : List ℕ) (ps : List Piece) (matches : List ℕ) → has_escape text ≡ false → ArePiecesOf text ps → AreMatches pattern text matches
+    → styled_parts ps (split_bounds pattern text matches) ≡ text_parts text (split_bounds pattern text matches)
+styled_parts-without_escape pattern text ps matches gone of_text are =
+    let texts = AreTexts-stand ps of_text.stand (ap has_escape of_text.joins ∙ gone) in
+    map-same (IsWithin text) (λ bound. split_part bound.0 bound.1 ps) (λ bound. slice_range text bound.0 bound.1) (split_bounds pattern text matches)
+    (λ bound fits. split_part-texts ps bound.0 bound.1 fits.0 texts ∙ ap (λ bytes. slice_range bytes bound.0 bound.1) (strip-without_escape text ps of_text gone))
+    (bounds-within pattern text matches are)

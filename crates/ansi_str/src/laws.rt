@@ -26,10 +26,13 @@ pub fn stripped_once()
         ArePiecesOf text pieces → ArePiecesOf (strip pieces) again → strip again ≡ strip pieces }
 {}
 
-/// Without its sequences a text without ESC is the same.
+/// Without its sequences a text without ESC is the same, and its parts are its slices.
 pub fn nothing_to_strip()
-    ensures { (text : List ℕ) (pieces : List Piece) →
+    ensures same { (text : List ℕ) (pieces : List Piece) →
         ArePiecesOf text pieces → has_escape text ≡ false → strip pieces ≡ text }
+    ensures parts { (pattern text : List ℕ) (pieces : List Piece) (matches : List ℕ) →
+        has_escape text ≡ false → ArePiecesOf text pieces → AreMatches pattern text matches →
+        styled_parts pieces (split_bounds pattern text matches) ≡ text_parts text (split_bounds pattern text matches) }
 {}
 
 /// The blocks of a text, one behind the other, are the text without its sequences, and their
