@@ -134,3 +134,40 @@ styled_parts-without_escape pattern text ps matches gone of_text are =
     map-same (IsWithin text) (λ bound. split_part bound.0 bound.1 ps) (λ bound. slice_range text bound.0 bound.1) (split_bounds pattern text matches)
     (λ bound fits. split_part-texts ps bound.0 bound.1 fits.0 texts ∙ ap (λ bytes. slice_range bytes bound.0 bound.1) (strip-without_escape text ps of_text gone))
     (bounds-within pattern text matches are)
+
+-- ---- a split at one ASCII character
+
+-- what holds of each two places with no such character between them holds of the ends of each part
+module _ (c : ℕ) (low : c < 128) (text : List ℕ) (P : (ℕ × ℕ) → Type 0) (each : (a b : ℕ) → a ≤ b → Without c (slice_range text a b) → P (a, b)) where
+  bounds-without : (from : ℕ) (matches : List ℕ) → from ≤ length text → AreMatchesFrom (c ∷ []) text from matches → AllByRecursion P (bounds_between 1 from (length text) matches)
+  bounds-without from [] fits never =
+      let end : length text ≤ length text = omega arith in
+      (each from (length text) fits (Without-unmatched c text from (length text) low end (λ other late _. never other late)), tt)
+  bounds-without from (at ∷ others) fits are =
+      let next : at + 1 ≤ length text = Occurs-fits (c ∷ []) text at are.0.occurs in
+      let up_to : at ≤ length text = omega arith in
+      (each from at are.0.not_before (Without-unmatched c text from at low up_to are.0.first), bounds-without (at + 1) others next are.1)
+
+any-Without : (c : ℕ) (xs : List ℕ) → Without c xs → list_any (λ x. x == c) xs ≡ false
+any-Without c xs without = list_any_none (λ x. x == c) xs (All-from_recursion (λ x. (x == c) ≡ false) xs without)
+
+IsClosedLine-split_part : (text : List ℕ) (ps : List Piece) (a b : ℕ) → a ≤ b → ArePiecesOf text ps → NoneBroken ps → Without 0x0a (slice_range (strip ps) a b) → IsClosedLine (split_part a b ps)
+IsClosedLine-split_part text ps a b ordered of_text whole without =
+    let part = split_part a b ps in
+    record {
+      pieces = pieces part;
+      of_line = ArePiecesOf-pieces part;
+      closed = IsClosed-split_part text ps (pieces part) a b ordered of_text whole (ArePiecesOf-pieces part);
+      one_line = any-Without 0x0a (strip (pieces part)) (subst (Without 0x0a) (sym (strip-split_part text ps (pieces part) a b ordered of_text whole (ArePiecesOf-pieces part))) without);
+    }
+
+-- the parts of a whole text between its line feeds are closed lines
+pub All-closed_lines : (text : List ℕ) (ps : List Piece) (matches : List ℕ) → ArePiecesOf text ps → AreMatches (0x0a ∷ []) (strip ps) matches → NoneBroken ps
+    → All IsClosedLine (styled_parts ps (split_bounds (0x0a ∷ []) (strip ps) matches))
+All-closed_lines text ps matches of_text are whole =
+    let low : 0x0a < 128 = omega arith in
+    let start : 0 ≤ length (strip ps) = omega arith in
+    let bounds = split_bounds (0x0a ∷ []) (strip ps) matches in
+    let holds = λ (bound : ℕ × ℕ). IsClosedLine (split_part bound.0 bound.1 ps) in
+    All-map IsClosedLine (λ bound. split_part bound.0 bound.1 ps) bounds (All-from_recursion holds bounds
+    (bounds-without 0x0a low (strip ps) holds (λ a b ordered without. IsClosedLine-split_part text ps a b ordered of_text whole without) 0 matches start are))

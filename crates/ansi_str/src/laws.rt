@@ -95,7 +95,8 @@ pub fn parts_are_stripped_slices()
         text_parts (strip pieces) (split_bounds pattern (strip pieces) matches) }
 {}
 
-/// The parts of a split of a whole text are closed texts, in UTF-8 where the text and the pattern are.
+/// The parts of a split of a whole text are closed texts, in UTF-8 where the text and the pattern are;
+/// between its line feeds they are closed lines.
 pub fn parts_are_closed_texts()
     ensures closed { (pattern text : List ℕ) (pieces : List Piece) (matches : List ℕ) →
         ArePiecesOf text pieces → AreMatches pattern (strip pieces) matches → NoneBroken pieces →
@@ -103,6 +104,9 @@ pub fn parts_are_closed_texts()
     ensures text { (pattern text : List ℕ) (pieces : List Piece) (matches : List ℕ) →
         ArePiecesOf text pieces → AreMatches pattern (strip pieces) matches → IsUtf8 text → IsUtf8 pattern →
         All IsUtf8 (styled_parts pieces (split_bounds pattern (strip pieces) matches)) }
+    ensures lines { (text : List ℕ) (pieces : List Piece) (matches : List ℕ) →
+        ArePiecesOf text pieces → AreMatches (0x0a ∷ []) (strip pieces) matches → NoneBroken pieces →
+        All IsClosedLine (styled_parts pieces (split_bounds (0x0a ∷ []) (strip pieces) matches)) }
 {}
 
 /// The parts of a whole text that is split at an ASCII character show what the text shows, each
