@@ -21,3 +21,4 @@ pub mod MergeLemmas
 pub mod LineLemmas
 pub mod RestLemmas
 pub mod AllParts
+pub mod CharSlices

@@ -1,10 +1,10 @@
 //! Laws of the definitions that the other contracts cite.
 
-ghost use Rattle.std.specs.Prelude.{All, ◌≡◌, ◌<◌, ◌≤◌, ◌-◌, ◌==◌, ℕ, List, [], ◌∷◌, ◌++◌, codes, drop, false, flat_map, length, map, slice_range, true};
+ghost use Rattle.std.specs.Prelude.{All, ◌≡◌, ◌<◌, ◌≤◌, ◌-◌, ◌==◌, ℕ, List, [], ◌∷◌, ◌++◌, chars, codes, drop, false, flat_map, length, map, slice_range, take, true};
 ghost use Rattle.std.specs.Borrow.{Bor};
 ghost use Rattle.std.specs.Iterator.{AlwaysYields};
 ghost use Rattle.std.specs.List.{join_with_byte, slice_split};
-ghost use Rattle.std.specs.Str.{IsUtf8};
+ghost use Rattle.std.specs.Str.{IsCharBoundary, IsUtf8};
 ghost use Rattle.std.specs.Str.Iter.{split_has_more, split_pattern, split_steps, split_text};
 ghost use Rattle.std.specs.Str.Pattern.{FindsText};
 ghost use Rattle.std.specs.declared.str.Split.{Split};
@@ -70,7 +70,8 @@ pub fn parts_are_slices()
 {}
 
 /// A part of a split of a whole text shows the characters of its slice, in the styles that they have
-/// in the text, and it is closed.
+/// in the text, and it is closed. In UTF-8, the characters that it shows, each with its style, are the
+/// slice of those that the text shows, from the number of characters before the part on.
 pub fn parts_show_their_slices()
     ensures shown { (text : List ℕ) (pieces of_part : List Piece) (a b : ℕ) → a ≤ b →
         ArePiecesOf text pieces → NoneBroken pieces →
@@ -80,6 +81,12 @@ pub fn parts_show_their_slices()
     ensures closed { (text : List ℕ) (pieces of_part : List Piece) (a b : ℕ) → a ≤ b →
         ArePiecesOf text pieces → NoneBroken pieces →
         ArePiecesOf (split_part a b pieces) of_part → IsClosed of_part }
+    ensures slice { (text : List ℕ) (pieces of_part : List Piece) (a b : ℕ) → a ≤ b → IsUtf8 text →
+        ArePiecesOf text pieces → NoneBroken pieces →
+        IsCharBoundary (strip pieces) a → IsCharBoundary (strip pieces) b →
+        ArePiecesOf (split_part a b pieces) of_part →
+        styled of_part ≡ slice_range (styled pieces)
+        (length (chars (take a (strip pieces)))) (length (chars (take b (strip pieces)))) }
 {}
 
 /// Without its sequences a part of a split of a whole text is the slice of the text without its own,
