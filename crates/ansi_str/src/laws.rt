@@ -155,7 +155,8 @@ pub fn one_list_of_matches()
 {}
 
 /// The parts of a text without sequences are those that `str::split` gives, where the pattern is not
-/// empty.
+/// empty. At an empty pattern a text is parted at each place where a character begins, and at its end,
+/// so that its first and last part are empty; an empty text has two.
 pub fn split_as_std()
     ensures parts { (pattern text matches : List ℕ) (split : Split (Bor (List ℕ))) →
         0 < length pattern → IsUtf8 pattern → split_text split ≡ text → split_has_more split ≡ true →
@@ -164,6 +165,11 @@ pub fn split_as_std()
         (text_parts text (split_bounds pattern text matches)) }
     ensures worked { text_parts (codes "aaaaa") (split_bounds (codes "aa") (codes "aaaaa") (0 ∷ 2 ∷ []))
         ≡ [] ∷ [] ∷ codes "a" ∷ [] }
+    ensures empty_pattern { text_parts (0xc3 ∷ 0xa9 ∷ codes "a")
+        (split_bounds [] (0xc3 ∷ 0xa9 ∷ codes "a") (0 ∷ 2 ∷ 3 ∷ []))
+        ≡ [] ∷ (0xc3 ∷ 0xa9 ∷ []) ∷ codes "a" ∷ [] ∷ [] }
+    ensures empty_text { AreMatches [] [] (0 ∷ []) }
+    ensures two_empty_parts { text_parts [] (split_bounds [] [] (0 ∷ [])) ≡ [] ∷ [] ∷ [] }
 {}
 
 /// Where the pattern is one ASCII character, a text without sequences is cut at each such byte.
