@@ -22,3 +22,4 @@ pub mod LineLemmas
 pub mod RestLemmas
 pub mod AllParts
 pub mod CharSlices
+pub mod WorkedLemmas

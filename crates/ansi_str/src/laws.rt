@@ -15,7 +15,7 @@ ghost use Rattle.ansi_str.specs.StyledText.{IsClosed, has_escape, strip, style_a
 ghost use Rattle.ansi_str.specs.Parts.{before_place, dressed, from_place, split_part, through_place};
 ghost use Rattle.ansi_str.specs.Matches.{AreMatches, split_bounds, styled_parts, text_parts};
 ghost use Rattle.ansi_str.specs.Lines.{IsClosedLine, IsClosedText};
-ghost use Rattle.ansi_str.specs.WorkedParts.{black_text, two_lines};
+ghost use Rattle.ansi_str.specs.WorkedParts.{SplitsInto, black_text, two_lines};
 ghost use Rattle.ansi_str.specs.Blocks.{blocks_from, text_of_block, styled_of_block};
 
 /// Without its sequences a text has no ESC, and without its sequences once more it is the same.
@@ -135,12 +135,31 @@ pub fn closed_lines_join()
 
 /// Parts worked out by hand: a text split at `456`, and one split at its line feed.
 pub fn worked_parts()
+    ensures black { ArePiecesOf (codes "\u{1b}[30m123:456\u{1b}[39m") black_text }
+    ensures black_match { AreMatches (codes "456") (strip black_text) (4 ∷ []) }
     ensures before { split_part 0 4 black_text ≡ codes "\u{1b}[30m123:\u{1b}[39m" }
     ensures behind { split_part 7 7 black_text ≡ codes "\u{1b}[30m\u{1b}[39m" }
+    ensures lines { ArePiecesOf (codes "\u{1b}[2;48;5;10m\u{1b}[38;5;20mDar\nren\u{1b}[0m") two_lines }
+    ensures line_match { AreMatches (0x0a ∷ []) (strip two_lines) (3 ∷ []) }
     ensures first_line { split_part 0 3 two_lines ≡
         codes "\u{1b}[2;48;5;10m\u{1b}[38;5;20mDar\u{1b}[22m\u{1b}[39m\u{1b}[49m" }
     ensures second_line { split_part 4 7 two_lines ≡
         codes "\u{1b}[2m\u{1b}[38;5;20m\u{1b}[48;5;10mren\u{1b}[0m" }
+{}
+
+/// Splits worked out by hand: at an empty pattern; where a sequence stands within a match, or on either
+/// side of it; where an ESC is broken; and where the pattern is a byte of a sequence, and so not text.
+pub fn worked_splits()
+    ensures empty_pattern { SplitsInto (codes "\u{1b}[1ma") []
+        (codes "\u{1b}[1m\u{1b}[22m" ∷ codes "\u{1b}[1ma\u{1b}[22m" ∷ codes "\u{1b}[1m\u{1b}[22m" ∷ []) }
+    ensures within_match { SplitsInto (codes "4\u{1b}[1m56") (codes "45")
+        ([] ∷ codes "\u{1b}[1m6\u{1b}[22m" ∷ []) }
+    ensures beside_match { SplitsInto (codes "a\u{1b}[31m,\u{1b}[0mb") (codes ",")
+        (codes "a\u{1b}[31m\u{1b}[39m" ∷ codes "\u{1b}[31m\u{1b}[0mb" ∷ []) }
+    ensures broken { SplitsInto (codes "a\u{1b}\nb") (codes "\n")
+        (codes "a\u{1b}" ∷ codes "b" ∷ []) }
+    ensures within_sequence { SplitsInto (codes "a\u{1b},b") (codes ",")
+        (codes "a\u{1b},b" ∷ []) }
 {}
 
 /// The places at which a pattern matches in a text are one list: there is such a list, and no other.
