@@ -1,5 +1,5 @@
 -- The parts of a split, all together: their bounds, what they are without their sequences, and that lines are lines.
-use Rattle.std.proofs.Common.{◌≡◌, ◌≢◌, ℕ, zero, suc, ◌+◌, ◌-◌, ◌<◌, ◌≤◌, ◌==◌, Bool, true, false, All, List, [], ◌∷◌, ◌++◌, length, map, take, slice_range, refl, ap, sym, subst, ◌∙◌, arith}
+use Rattle.std.proofs.Common.{◌≡◌, ◌≢◌, ℕ, ◌+◌, ◌-◌, ◌<◌, ◌≤◌, ◌==◌, Bool, true, false, All, List, [], ◌∷◌, ◌++◌, length, map, take, slice_range, refl, ap, sym, subst, ◌∙◌, arith}
 use Rattle.std.specs.Prelude.{if◌then◌else◌}
 use Rattle.std.specs.List.{AllByRecursion, list_any}
 use Rattle.std.proofs.lemmas.List.Elements.{All-from_recursion, All-map}
@@ -13,7 +13,7 @@ use Rattle.ansi_scan.specs.Pieces.{pieces}
 use Rattle.ansi_scan.specs.Attributes.{Attributes, plain_attributes}
 use Rattle.ansi_scan.proofs.Existence.{ArePiecesOf-pieces}
 use Rattle.ansi_scan.proofs.Uniqueness.{begins_with_escape}
-use Rattle.ansi_str.specs.StyledText.{has_escape, text_of, strip, style_after, style_after_all}
+use Rattle.ansi_str.specs.StyledText.{has_escape, text_of, strip, style_after_all}
 use Rattle.ansi_str.specs.Parts.{from_place, before_place, through_place, split_part}
 use Rattle.ansi_str.specs.Matches.{AreMatchesFrom, AreMatches, bounds_between, split_bounds, text_parts, styled_parts}
 use Rattle.ansi_str.specs.Lines.{IsClosedLine}

@@ -1,5 +1,5 @@
 -- The styled characters of a part are a slice of those of the text.
-use Rattle.std.proofs.Common.{◌≡◌, ℕ, ◌+◌, ◌-◌, ◌<◌, ◌≤◌, List, [], ◌∷◌, ◌++◌, length, map, take, drop, slice_range, refl, ap, sym, subst, ◌∙◌, arith, append_assoc, append-nil, length-append}
+use Rattle.std.proofs.Common.{◌≡◌, ℕ, ◌+◌, ◌-◌, ◌<◌, ◌≤◌, List, [], ◌∷◌, ◌++◌, length, take, drop, slice_range, refl, ap, sym, subst, ◌∙◌, arith, append_assoc, append-nil, length-append}
 use Rattle.std.specs.Prelude.{chars}
 use Rattle.std.specs.Str.{IsUtf8, IsCharBoundary}
 use Rattle.std.proofs.Math.Seq.{take-append_seam, drop-append_seam, take-append-add}
@@ -9,7 +9,7 @@ use Rattle.ansi_scan.specs.Sequences.{Piece, ArePiecesOf, NoneBroken}
 use Rattle.ansi_scan.specs.Attributes.{Attributes, plain_attributes}
 use Rattle.ansi_str.specs.StyledText.{text_of, strip, style_after, style_after_all, styled_from, styled}
 use Rattle.ansi_str.specs.Parts.{from_place, before_place, through_place, split_part}
-use Rattle.ansi_str.proofs.PlaceLemmas.{none, inside, past, reach, has_text, from-past, before-inside, before-past, from-none, before-none, strip-from}
+use Rattle.ansi_str.proofs.PlaceLemmas.{none, inside, past, reach, has_text, from-past, before-inside, before-past, strip-from}
 use Rattle.ansi_str.proofs.PlaceSums.{through-parted}
 use Rattle.ansi_str.proofs.DressedLemmas.{styled_from-append, styled-split_part}
 use Rattle.ansi_str.proofs.SliceLemmas.{strip-append, strip-through}

@@ -1,5 +1,5 @@
 -- Pieces and parts, worked out by the functions that find them.
-use Rattle.std.proofs.Common.{◌≡◌, ℕ, suc, List, length, ap, sym, subst, ◌∙◌}
+use Rattle.std.proofs.Common.{◌≡◌, ℕ, suc, List, length, subst}
 use Rattle.ansi_scan.specs.Sequences.{Piece, ArePiecesOf}
 use Rattle.ansi_scan.specs.Pieces.{pieces}
 use Rattle.ansi_scan.proofs.Existence.{ArePiecesOf-pieces}
