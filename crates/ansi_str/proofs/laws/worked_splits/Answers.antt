@@ -27,7 +27,8 @@ returns-clause-within_match c = SplitsInto-worked (codes "4\u{1b}[1m56") (codes 
 pub returns-clause-beside_match : goal.returns-clause-beside_match
 unfolding pieces first_pieces front at_escape sequence_front opened control_from string_from escape_from matches_from first_match applied after_parameters plain_attributes start_bytes start_sequences end_bytes end_sequences digits
 returns-clause-beside_match c = SplitsInto-worked (codes "a\u{1b}[31m,\u{1b}[0mb") (codes ",")
-    (record { kind = Text; bytes = codes "a" } ∷ record { kind = Sgr; bytes = codes "\u{1b}[31m" } ∷ record { kind = Text; bytes = codes "," } ∷ record { kind = Sgr; bytes = codes "\u{1b}[0m" } ∷ record { kind = Text; bytes = codes "b" } ∷ [])
+    (record { kind = Text; bytes = codes "a" } ∷ record { kind = Sgr; bytes = codes "\u{1b}[31m" } ∷ record { kind = Text; bytes = codes "," }
+    ∷ record { kind = Sgr; bytes = codes "\u{1b}[0m" } ∷ record { kind = Text; bytes = codes "b" } ∷ [])
     (1 ∷ []) (codes "a\u{1b}[31m\u{1b}[39m" ∷ codes "\u{1b}[31m\u{1b}[0mb" ∷ []) refl refl refl
 
 pub returns-clause-broken : goal.returns-clause-broken
