@@ -2,16 +2,18 @@
 
 ghost use Rattle.std.specs.Prelude.{◌≡◌, ◌↔◌, ℕ, List, map, ◌++◌, IsSome};
 ghost use Rattle.ansi_scan.specs.Sequences.{Piece, ArePiecesOf, IsWhole, IsFirstBroken, IsSgr, NoneBroken};
+ghost use Rattle.ansi_scan.specs.Pieces.{pieces};
 ghost use Rattle.ansi_scan.specs.Places.{placed, piece_at};
 ghost use Rattle.ansi_scan.specs.Joining.{put_all_before};
 ghost use Rattle.ansi_scan_style.specs.Attributes.{Attributes};
 ghost use Rattle.ansi_scan_style.specs.Rendition.{applied, sgr_parameters};
 
-/// Every list of bytes has one list of pieces.
+/// Every list of bytes has one list of pieces, and a function gives it.
 pub fn one_list()
     ensures exists { (text : List ℕ) → (ps : List Piece) × ArePiecesOf text ps }
     ensures unique { (text : List ℕ) (ps qs : List Piece) →
         ArePiecesOf text ps → ArePiecesOf text qs → ps ≡ qs }
+    ensures computed { (text : List ℕ) → ArePiecesOf text (pieces text) }
 {}
 
 /// A text has one first Broken piece at most, and a whole text has none.

@@ -26,12 +26,12 @@ use Rattle.ansi_str.proofs.SliceLemmas.{strip-through}
 use Rattle.ansi_str.proofs.CharLemmas.{both_hold, hold_both, Without, Without-chars, chars-around}
 use Rattle.ansi_str.proofs.Utf8Lemmas.{EachUtf8, EachUtf8-pieces, EachUtf8-from, EachUtf8-through, IsUtf8-text_of, IsUtf8-strip, boundary-from, boundary-behind_match, Occurs-fits}
 
-abbrev with_style : Attributes → List ℕ → List (ℕ × Attributes)
+abbrev pub with_style : Attributes → List ℕ → List (ℕ × Attributes)
 with_style style characters = map (λ x. (x, style)) characters
 
 -- ---- a text with an ASCII character in it
 
-styled_from-text : (style : Attributes) (p : Piece) (ps : List Piece) → is_text_kind p.kind ≡ true → styled_from style (p ∷ ps) ≡ with_style style (chars p.bytes) ++ styled_from style ps
+pub styled_from-text : (style : Attributes) (p : Piece) (ps : List Piece) → is_text_kind p.kind ≡ true → styled_from style (p ∷ ps) ≡ with_style style (chars p.bytes) ++ styled_from style ps
 styled_from-text style p ps text =
     ap (λ bytes. with_style style (chars bytes) ++ styled_from (style_after style p) ps) (text_of-text p text)
     ∙ ap (λ s. with_style style (chars p.bytes) ++ styled_from s ps) (style_by-text style p.kind p.bytes text)
@@ -46,7 +46,7 @@ styled_from-front style n p false text e =
     styled_from-text style (record { kind = p.kind; bytes = take n p.bytes }) [] text ∙ append-nil (with_style style (chars (take n p.bytes)))
 
 -- what is shown behind some bytes of a text
-styled-behind : (style : Attributes) (m : ℕ) (p : Piece) (ps : List Piece) → 0 < m → m ≤ length (text_of p) → is_text_kind p.kind ≡ true
+pub styled-behind : (style : Attributes) (m : ℕ) (p : Piece) (ps : List Piece) → 0 < m → m ≤ length (text_of p) → is_text_kind p.kind ≡ true
     → styled_from (style_after_all style (before_place m (p ∷ ps))) (from_place m (p ∷ ps)) ≡ with_style style (chars (drop m p.bytes)) ++ styled_from style ps
 styled-behind style m p ps some fits text = elim (reach m p) [
   | none e ↦ absurd (omega arith)

@@ -21,3 +21,7 @@ pub mod MergeLemmas
 pub mod LineLemmas
 pub mod RestLemmas
 pub mod Landing
+pub mod AllParts
+pub mod CharSlices
+pub mod WorkedLemmas
+pub mod ByteParts

@@ -27,7 +27,7 @@ flat_map-nothing f xs x none =
 
 -- ---- a text without ESC
 
-escaped : (bytes rest after : List ℕ) → bytes ≡ escape ∷ rest → has_escape (bytes ++ after) ≡ false → ⊥
+pub escaped : (bytes rest after : List ℕ) → bytes ≡ escape ∷ rest → has_escape (bytes ++ after) ≡ false → ⊥
 escaped bytes rest after same none =
     let found : true ≡ false = ap (λ bs. has_escape (bs ++ after)) (sym same) ∙ none in
     cc found

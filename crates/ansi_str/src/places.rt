@@ -1,5 +1,5 @@
 //! Places in a text: what stands behind them, and the style known there.
-ghost use Rattle.std.specs.Prelude.{◌≡◌, ◌≤◌, ◌<◌, ◌-◌, false, ℕ, List, [], ◌∷◌, ◌++◌, take, length, MatchOption, IfOk, IsOk};
+ghost use Rattle.std.specs.Prelude.{slice_index, drop, ◌≡◌, ◌≤◌, ◌<◌, ◌-◌, false, ℕ, List, [], ◌∷◌, ◌++◌, take, length, MatchOption, IfOk, IsOk};
 ghost use Rattle.std.specs.Cow.{IsOwnedStr, cow_str_bytes};
 ghost use Rattle.std.specs.List.{prefix_len};
 ghost use Rattle.std.specs.Str.{IsCharBoundary};
@@ -94,9 +94,9 @@ impl<'a> Place<'a> {
         Ok((part, cut))
     }
 
-    // What stands from here to the end of a slice, between the start of the style known here and the
-    // end of the style known there: a borrow where both styles are plain.
-    fn part_to(&self, alloc: Global, end: &Place<'a>) -> Result<CowStr<'a>, AllocError>
+    /// What stands from here to the end of a slice, between the start of the style known here and the
+    /// end of the style known there: a borrow where both styles are plain.
+    pub(crate) fn part_to(&self, alloc: Global, end: &Place<'a>) -> Result<CowStr<'a>, AllocError>
         requires { (slice : List ℕ) × (self.now.rest.now ≡ slice ++ end.now.rest.now) }
         ensures part { IfOk result (λ part. cow_str_bytes part ≡ start_bytes self.now.style
             ++ (take (length self.now.rest.now - length end.now.rest.now) self.now.rest.now ++ end_bytes end.now.style)) }
@@ -155,6 +155,14 @@ pub(crate) fn split_item(text: &str) -> Option<(Kind, &str, &str)>
 {
     let item = scan(text).next()?;
     Some((item.kind, &text[..item.end], &text[item.end..]))
+}
+
+/// The text behind its first byte, an ASCII character.
+pub(crate) fn behind_byte(text: &str) -> &str
+    requires { (0 < length text.now) × (slice_index text.now 0 < 128) }
+    ensures { result.now ≡ drop 1 text.now }
+{
+    &text[1..]
 }
 
 /// The text behind the first item.

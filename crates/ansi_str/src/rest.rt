@@ -4,8 +4,8 @@ ghost use Rattle.ansi_scan.specs.Pieces.{pieces};
 ghost use Rattle.ansi_scan.specs.Attributes.{plain_attributes};
 ghost use Rattle.ansi_str.specs.StyledText.{has_escape, strip};
 
-use crate::matches::{find_byte, find_empty};
-use crate::places::Place;
+use crate::matches::find_empty;
+use crate::places::{Place, behind_byte};
 use crate::strip::has_escape;
 use crate::stripped::{Stripped, behind};
 use crate::text::strip_text;
@@ -31,7 +31,7 @@ pub(crate) struct Rest<'a> {
 }
 
 impl<'a> Rest<'a> {
-    ghost use Rattle.std.specs.Prelude.{◌≡◌, ◌+◌, ◌∷◌, IfSome, IfOk, IfErr, IsTrue, false, length};
+    ghost use Rattle.std.specs.Prelude.{◌≡◌, ◌<◌, ◌+◌, [], ◌∷◌, IfSome, IfOk, IfErr, IsTrue, false, length};
     ghost use Rattle.std.specs.Str.{IsCharBoundary};
     ghost use Rattle.std.specs.Cow.{IsOwnedStr, cow_str_bytes};
     ghost use Rattle.ansi_scan.specs.Pieces.{pieces};
@@ -59,7 +59,43 @@ impl<'a> Rest<'a> {
     }
 
     /// The next part, and what is left behind the match that ends it.
-    pub(crate) fn split_first(mut self) -> Result<(CowStr<'a>, Option<Rest<'a>>), AllocError>
+    pub(crate) fn split_first(self) -> Result<(CowStr<'a>, Option<Rest<'a>>), AllocError>
+        ensures part { IfOk result (λ found. rest_parts self.entry ≡ cow_str_bytes found.0 ∷ parts_of found.1) }
+        ensures styled { IfOk result (λ found. IfSome found.1 (λ rest. rest.styled ≡ self.entry.styled)) }
+        ensures borrows { IfOk result (λ found. IsOwnedStr found.0 → IsTrue self.entry.styled) }
+        ensures refuses { IfErr result (λ _. IsTrue self.entry.styled) }
+    {
+        let pattern = self.pattern;
+        match pattern.as_bytes() {
+            [byte] if byte.is_ascii() => self.split_at_byte(*byte),
+            _ => self.split_at_match(),
+        }
+    }
+
+    // The same where the pattern is one ASCII character: one walk to it.
+    fn split_at_byte(mut self, byte: u8) -> Result<(CowStr<'a>, Option<Rest<'a>>), AllocError>
+        requires { (byte < 128) × (self.pattern.now ≡ byte ∷ []) }
+        ensures part { IfOk result (λ found. rest_parts self.entry ≡ cow_str_bytes found.0 ∷ parts_of found.1) }
+        ensures styled { IfOk result (λ found. IfSome found.1 (λ rest. rest.styled ≡ self.entry.styled)) }
+        ensures borrows { IfOk result (λ found. IsOwnedStr found.0 → IsTrue self.entry.styled) }
+        ensures refuses { IfErr result (λ _. IsTrue self.entry.styled) }
+    {
+        let end = self.place.to_byte(byte);
+        let part = self.place.part_to(self.alloc, &end)?;
+        if end.rest.is_empty() {
+            return Ok((part, None));
+        }
+        self.place = Place {
+            rest: behind_byte(end.rest),
+            style: end.style,
+        };
+        self.begun = true;
+        self.stripped = None;
+        Ok((part, Some(self)))
+    }
+
+    // The same for any pattern: a search, and a walk to what it found.
+    fn split_at_match(mut self) -> Result<(CowStr<'a>, Option<Rest<'a>>), AllocError>
         ensures part { IfOk result (λ found. rest_parts self.entry ≡ cow_str_bytes found.0 ∷ parts_of found.1) }
         ensures styled { IfOk result (λ found. IfSome found.1 (λ rest. rest.styled ≡ self.entry.styled)) }
         ensures borrows { IfOk result (λ found. IsOwnedStr found.0 → IsTrue self.entry.styled) }
@@ -90,7 +126,6 @@ impl<'a> Rest<'a> {
     {
         match self.pattern.as_bytes() {
             [] => Ok(find_empty(self.place.rest, self.begun)),
-            [byte] if byte.is_ascii() => Ok(find_byte(self.place.rest, *byte)),
             _ => self.find_shown(),
         }
     }

@@ -27,8 +27,9 @@ impl<'a> Model for AnsiSplit<'a> {
 }
 
 impl<'a> AnsiSplit<'a> {
-    /// The parts of the text.
-    pub(crate) fn new(alloc: Global, text: &'a str, pattern: &'a str) -> AnsiSplit<'a>
+    /// The parts of the text between the matches of the pattern, as `ansi_split` gives them; they borrow
+    /// the text itself, and not a variable that holds it.
+    pub fn new(alloc: Global, text: &'a str, pattern: &'a str) -> AnsiSplit<'a>
         ensures parts { (pieces : List Piece) (matches : List ℕ) → ArePiecesOf text.now pieces →
             AreMatches pattern.now (strip pieces) matches →
             result.parts ≡ styled_parts pieces (split_bounds pattern.now (strip pieces) matches) }

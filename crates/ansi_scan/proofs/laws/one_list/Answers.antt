@@ -9,3 +9,6 @@ returns-clause-exists c = λ text. (pieces text, ArePiecesOf-pieces text)
 
 pub returns-clause-unique : goal.returns-clause-unique
 returns-clause-unique c = ArePiecesOf-unique
+
+pub returns-clause-computed : goal.returns-clause-computed
+returns-clause-computed c = ArePiecesOf-pieces

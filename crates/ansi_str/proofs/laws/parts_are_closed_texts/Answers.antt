@@ -1,5 +1,6 @@
--- The lemmas of `Utf8Lemmas`.
+-- The lemmas of `Utf8Lemmas` and `AllParts`.
 use Rattle.ansi_str.proofs.Utf8Lemmas.{All-closed, All-utf8}
+use Rattle.ansi_str.proofs.AllParts.{All-closed_lines}
 use Rattle.ansi_str.proofs.laws.parts_are_closed_texts.Goals as goal
 
 pub returns-clause-closed : goal.returns-clause-closed
@@ -7,3 +8,6 @@ returns-clause-closed c = All-closed
 
 pub returns-clause-text : goal.returns-clause-text
 returns-clause-text c = All-utf8
+
+pub returns-clause-lines : goal.returns-clause-lines
+returns-clause-lines c = All-closed_lines

@@ -1,5 +1,6 @@
--- The lemmas of `DressedLemmas`.
+-- The lemmas of `DressedLemmas` and `CharSlices`.
 use Rattle.ansi_str.proofs.DressedLemmas.{styled-split_part, IsClosed-split_part}
+use Rattle.ansi_str.proofs.CharSlices.{styled-slice}
 use Rattle.ansi_str.proofs.laws.parts_show_their_slices.Goals as goal
 
 pub returns-clause-shown : goal.returns-clause-shown
@@ -9,3 +10,6 @@ returns-clause-shown c = λ text pieces of_part a b ordered of_text whole of_the
 pub returns-clause-closed : goal.returns-clause-closed
 returns-clause-closed c = λ text pieces of_part a b ordered of_text whole of_the_part.
     IsClosed-split_part text pieces of_part a b ordered of_text whole of_the_part
+
+pub returns-clause-slice : goal.returns-clause-slice
+returns-clause-slice c = styled-slice

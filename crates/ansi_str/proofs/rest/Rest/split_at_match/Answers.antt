@@ -7,7 +7,7 @@ use Rattle.ansi_scan.specs.Pieces.{pieces}
 use Rattle.ansi_str.specs.StyledText.{strip}
 use Rattle.ansi_str.specs.PartsLeft.{passed_over, parts_left}
 use Rattle.ansi_str.proofs.RestLemmas.{strip-fits, match-cut, match-fits, last-part, next-part, next_pieces, next_open, pattern-cut, left-no_escape, left-plain, left-shown, shown-behind}
-use Rattle.ansi_str.proofs.rest.Rest.split_first.Goals as goal
+use Rattle.ansi_str.proofs.rest.Rest.split_at_match.Goals as goal
 
 pub part-requires : goal.part-requires
 part-requires c =
