@@ -1,6 +1,7 @@
 -- The part of a split before the first byte c that the text shows, and what is left behind it.
-use Rattle.std.proofs.Common.{◌≡◌, ℕ, zero, suc, ◌+◌, ◌-◌, ◌<◌, ◌≤◌, Bool, true, false, List, [], ◌∷◌, ◌++◌, length, take, drop, refl, ap, sym, subst, ◌∙◌, arith, Option, None, Some, if◌then◌else◌}
+use Rattle.std.proofs.Common.{◌≡◌, ℕ, zero, suc, ◌+◌, ◌-◌, ◌<◌, ◌≤◌, ◌==◌, Bool, true, false, List, [], ◌∷◌, ◌++◌, length, take, drop, refl, ap, sym, subst, ◌∙◌, arith, Option, None, Some, if◌then◌else◌}
 use Rattle.std.specs.Prelude.{unwrap_or}
+use Rattle.std.proofs.lemmas.Bool.Decides.{nat_tests}
 use Rattle.ansi_scan.specs.Sequences.{Piece, joined, EachStands}
 use Rattle.ansi_scan.specs.Joining.{is_text_kind}
 use Rattle.ansi_scan.specs.Pieces.{pieces, text_len}
@@ -60,6 +61,10 @@ style-text m style (p ∷ ps) each some = style-text_or m style p ps (is_text_ki
 
 -- ---- the slice up to the byte
 
+passed : (b : Bool) (c : ℕ) → passed_over b (c ∷ []) ≡ 0
+passed true c = refl
+passed false c = refl
+
 module _ (c : ℕ) (rest : List ℕ) (style : Attributes) (end : List ℕ) (end_style : Attributes) (lands : Lands c rest style end end_style) where
   abbrev n : ℕ
   n = bytes_to c rest
@@ -101,7 +106,7 @@ module _ (c : ℕ) (rest : List ℕ) (style : Attributes) (end : List ℕ) (end_
   -- behind the byte
   module _ (some : 0 < length end) where
     one-within : 1 ≤ text_len end
-    one-within = text_some end lands.text some
+    one-within = text_some end lands.shows_text some
 
     pub byte-there : pieces (drop 1 end) ≡ from_place (n + 1) (pieces rest)
     byte-there =
@@ -116,14 +121,18 @@ module _ (c : ℕ) (rest : List ℕ) (style : Attributes) (end : List ℕ) (end_
         ∙ sym (style-before_sum n 1 style (pieces rest))
 
     byte-found : Some n ≡ first_match (c ∷ []) 0 (strip (pieces rest))
-    byte-found = ?
+    byte-found =
+        let more : (length end == 0) ≡ false = grind (arith, nat_tests) in
+        sym (lands.found ∙ ap (λ (t : Bool). if t then None else Some n) more)
 
     pub byte-next : (begun : Bool) → parts_left (c ∷ []) begun style (pieces rest) ≡ dressed style (through_place n (pieces rest)) ∷ parts_left (c ∷ []) true end_style (pieces (drop 1 end))
-    byte-next begun = next-part (c ∷ []) begun rest style n (drop 1 end) end_style (byte-found ∙ ap (λ m. first_match (c ∷ []) m (strip (pieces rest))) (sym (passed begun))) byte-there byte-known
-      where
-        passed : (b : Bool) → passed_over b (c ∷ []) ≡ 0
-        passed true = refl
-        passed false = refl
+    byte-next begun = next-part (c ∷ []) begun rest style n (drop 1 end) end_style (byte-found ∙ ap (λ m. first_match (c ∷ []) m (strip (pieces rest))) (sym (passed begun c))) byte-there byte-known
 
   pub byte-last : (begun : Bool) → length end ≡ 0 → parts_left (c ∷ []) begun style (pieces rest) ≡ dressed style (through_place n (pieces rest)) ∷ []
-  byte-last begun gone = ?
+  byte-last begun gone =
+      let empty : (length end == 0) ≡ true = grind (arith, nat_tests) in
+      let none : first_match (c ∷ []) 0 (strip (pieces rest)) ≡ None = lands.found ∙ ap (λ (t : Bool). if t then None else Some n) empty in
+      let all : n ≡ length (strip (pieces rest)) = ap (λ (o : Option ℕ). unwrap_or o (length (strip (pieces rest)))) none in
+      let over : length (strip (pieces rest)) ≤ n = omega (arith, all) in
+      parts_left-found (c ∷ []) begun style (pieces rest) None (ap (λ m. first_match (c ∷ []) m (strip (pieces rest))) (passed begun c) ∙ none)
+      ∙ ap (λ ps. dressed style ps ∷ []) (sym (through-all n (pieces rest) over))

@@ -159,7 +159,7 @@ Lands-end c end style text text_style low same stop plain =
       known = sym here.1 ∙ ap (λ m. style_after_all style (through_place m (pieces end))) (sym ends.bytes) ∙ same.known;
       found = found-tests c text (length end == 0) (sym same.found ∙ ends.some);
       at = ends.at;
-      text = plain;
+      shows_text = plain;
     }
 
 -- ---- the steps of the walk

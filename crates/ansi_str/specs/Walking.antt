@@ -44,4 +44,4 @@ pub record Lands (byte : ℕ) (text : List ℕ) (style : Attributes) (end : List
   pub known : end_style ≡ style_after_all style (through_place (bytes_to byte text) (pieces text))
   pub found : first_match (byte ∷ []) 0 (strip (pieces text)) ≡ if length end == 0 then None else Some (bytes_to byte text)
   pub at : 0 < length end → slice_index end 0 ≡ byte
-  pub text : begins_with_escape end ≡ false
+  pub shows_text : begins_with_escape end ≡ false
