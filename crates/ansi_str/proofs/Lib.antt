@@ -20,3 +20,5 @@ pub mod PlainParts
 pub mod MergeLemmas
 pub mod LineLemmas
 pub mod RestLemmas
+pub mod SearchLemmas
+pub mod FirstPlaces

@@ -1,5 +1,5 @@
 -- Steps through the pieces of a text.
-use Rattle.std.specs.Prelude.{◌≡◌, ◌==◌, ◌&&◌, not, ℕ, Bool, false, List, [], ◌∷◌, if◌then◌else◌}
+use Rattle.std.specs.Prelude.{◌≡◌, ◌==◌, ◌&&◌, not, ℕ, suc, Bool, false, List, [], ◌∷◌, if◌then◌else◌}
 use Rattle.ansi_scan.specs.Sequences.{Piece, escape, is_plain}
 use Rattle.ansi_scan.specs.Joining.{is_text_kind}
 use Rattle.ansi_scan.specs.Attributes.{Attributes}
@@ -29,3 +29,9 @@ pub record IsBehindFirst (all rest : List Piece) : Type 0 where
 -- neither ESC nor this byte
 abbrev pub is_other : ℕ → ℕ → Bool
 is_other byte b = is_plain b && not (b == byte)
+
+-- how many of the first bytes of two lists are the same, and not ESC
+abbrev pub shared_len : List ℕ → List ℕ → ℕ
+shared_len [] bs = 0
+shared_len (a ∷ others) [] = 0
+shared_len (a ∷ others) (b ∷ bs) = if is_plain b && b == a then suc (shared_len others bs) else 0

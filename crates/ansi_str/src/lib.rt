@@ -11,6 +11,7 @@ pub mod laws;
 mod matches;
 mod places;
 mod rest;
+mod search;
 mod split;
 mod strip;
 mod stripped;
