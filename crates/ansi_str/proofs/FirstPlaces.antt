@@ -2,6 +2,7 @@
 use Rattle.std.proofs.Common.{◌≡◌, ℕ, zero, suc, ◌+◌, ◌-◌, ◌<◌, ◌≤◌, nat_lt, Bool, true, false, List, [], ◌∷◌, ◌++◌, length, take, drop, Option, None, Some, refl, ap, sym, subst, ◌∙◌, arith, append-nil, append_assoc, length-append}
 use Rattle.std.specs.Option.{option_map}
 use Rattle.std.specs.Str.{IsUtf8, IsCharBoundary}
+use Rattle.std.proofs.Math.ListN.{get_or}
 use Rattle.std.proofs.Math.Seq.{drop-append_seam}
 use Rattle.std.proofs.lemmas.Bool.Decides.{nat_tests}
 use Rattle.std.proofs.lemmas.List.{length-drop, take-append-drop}
@@ -10,14 +11,19 @@ use Rattle.ansi_scan.specs.Pieces.{pieces, text_len}
 use Rattle.ansi_str.specs.StyledText.{strip}
 use Rattle.ansi_str.specs.Matches.{Occurs, IsFirstMatch}
 use Rattle.ansi_str.specs.PartsLeft.{begins_with, first_match}
-use Rattle.ansi_str.specs.Searches.{EndsWith}
+use Rattle.ansi_str.specs.Searches.{EndsWith, IsFound}
 use Rattle.ansi_str.specs.Walking.{begins_with_escape}
 use Rattle.ansi_str.proofs.MatchLemmas.{IsFirstOrNone, first_match-unique, first_match-sound, first_match-is_first, first_match-within, begins_with-sound, begins_with-append, Occurs-on, Occurs-back}
 use Rattle.ansi_str.proofs.PlaceLemmas.{strip-from}
 use Rattle.ansi_str.proofs.Walks.{from-plain}
 use Rattle.ansi_str.proofs.FindLemmas.{IsUtf8-shown}
+use Rattle.ansi_str.proofs.SearchLemmas.{begins_with-none_left}
 
 -- ---- the first match
+
+empty_behind : (xs : List ℕ) → length xs ≡ 0 → xs ≡ []
+empty_behind [] e = refl
+empty_behind (x ∷ xs) e = absurd (omega (arith, e))
 
 -- the pattern stands at the front
 pub first_match-here : (p text : List ℕ) → IsUtf8 text → begins_with p text ≡ true → first_match p 0 text ≡ Some 0
@@ -81,6 +87,16 @@ module _ (p text : List ℕ) (other : begins_with p text ≡ false) where
     pub first_match-on : first_match p 0 text ≡ option_map (λ n. k + n) (first_match p 0 (drop k text))
     first_match-on = first_match-unique p 0 text (option_map (λ n. k + n) (first_match p 0 (drop k text))) (on (first_match p 0 (drop k text)) (first_match-sound p 0 (drop k text)))
 
+pub is_found : (p text : List ℕ) (r : Option ℕ) → r ≡ first_match p 0 text → IsFound p text r
+is_found p text r e = subst (IsFound p text) (sym e) (first_match-sound p 0 text)
+
+pub found-empty : (p text : List ℕ) → length p ≡ 0 → IsUtf8 text → IsFirstMatch p text 0 0
+found-empty p text none utf8 = first_match-is_first p 0 text 0 (first_match-here p text utf8 (begins_with-none_left p text none))
+
+pub one_byte : (p : List ℕ) → length p ≡ 1 → get_or p 0 0 ∷ [] ≡ p
+one_byte [] e = absurd (omega (arith, e))
+one_byte (b ∷ bs) e = let none : length bs ≡ 0 = omega (arith, e) in ap (λ others. b ∷ others) (sym (empty_behind bs none))
+
 -- ---- the walk from character to character
 
 -- the first match in the text is that in the rest, once the bytes that were passed are counted
@@ -112,22 +128,26 @@ module _ (p rest : List ℕ) (passed : ℕ) (text : List ℕ) (left : IsFoundLef
     pub found-nowhere : None ≡ first_match [] 1 (strip (pieces rest)) → None ≡ first_match p 0 (strip (pieces text))
     found-nowhere e = ap (option_map (λ n. passed + n)) (sym (first_match-nowhere p (strip (pieces rest)) other e)) ∙ left.found
 
+    module _ (k : ℕ) (is_first : Some k ≡ first_match [] 1 (strip (pieces rest))) where
+      char_fits : (1 ≤ k) × (k ≤ length (strip (pieces rest)))
+      char_fits = let first = first_match-is_first [] 1 (strip (pieces rest)) k (sym is_first) in (first.not_before, first.occurs.boundary.0)
+
+      pub char_sum : passed + k ≤ length (strip (pieces text))
+      char_sum = let h = char_fits in omega (arith, h.1, left.fits)
+
     module _ (k : ℕ) (is_first : Some k ≡ first_match [] 1 (strip (pieces rest))) (within : k ≤ text_len rest) (behind : List ℕ) (shown : strip (pieces behind) ≡ strip (pieces (drop k rest))) where
       behind_shown : strip (pieces behind) ≡ drop k (strip (pieces rest))
       behind_shown = shown ∙ ap strip (sym (from-plain rest k within)) ∙ strip-from k (pieces rest)
 
-      char_fits : (1 ≤ k) × (k ≤ length (strip (pieces rest)))
-      char_fits = let first = first_match-is_first [] 1 (strip (pieces rest)) k (sym is_first) in (first.not_before, first.occurs.boundary.0)
-
-      pub char_counts : (passed + k ≤ length (strip (pieces text))) × (length (strip (pieces behind)) < length (strip (pieces rest)))
-      char_counts =
-          let h = char_fits in
+      pub char_shorter : length (strip (pieces behind)) < length (strip (pieces rest))
+      char_shorter =
+          let h = char_fits k is_first in
           let len : length (strip (pieces behind)) ≡ length (drop k (strip (pieces rest))) = ap length behind_shown in
-          (omega (arith, h.1, left.fits), omega (arith, len, h.0, h.1, length-drop k (strip (pieces rest))))
+          omega (arith, len, h.0, h.1, length-drop k (strip (pieces rest)))
 
       pub IsFoundLeft-on : begins_with_escape behind ≡ false → IsFoundLeft p behind (passed + k) text
       IsFoundLeft-on begins =
-          let h = char_fits in
+          let h = char_fits k is_first in
           let len : length (strip (pieces behind)) ≡ length (drop k (strip (pieces rest))) = ap length behind_shown in
           record {
             found =
@@ -139,15 +159,6 @@ module _ (p rest : List ℕ) (passed : ℕ) (text : List ℕ) (left : IsFoundLef
           }
 
 -- ---- the end of a text
-
-empty_behind : (xs : List ℕ) → length xs ≡ 0 → xs ≡ []
-empty_behind [] e = refl
-empty_behind (x ∷ xs) e = absurd (omega (arith, e))
-
-pub ends-longer : (p text : List ℕ) → length text < length p → ¬ (EndsWith p text)
-ends-longer p text short ends =
-    let len : length text ≡ length (ends.0 ++ p) = ap length ends.1 in
-    absurd (omega (arith, short, len, length-append ends.0 p))
 
 module _ (p text : List ℕ) (n : ℕ) (sum : n + length p ≡ length text) where
   before_len : (ends : EndsWith p text) → length ends.0 ≡ n

@@ -1,5 +1,5 @@
 -- Rust's searches in a text: whether it begins or ends with a pattern, and where a pattern stands first.
-use Rattle.std.specs.Prelude.{◌≡◌, ◌≤◌, ◌+◌, ℕ, List, ◌++◌, length, Option, MatchOption}
+use Rattle.std.specs.Prelude.{◌≡◌, ◌≤◌, ℕ, List, ◌++◌, Option, MatchOption}
 use Rattle.ansi_str.specs.Matches.{Occurs, IsFirstMatch}
 
 -- the text is the pattern, and what stands behind it
@@ -14,7 +14,3 @@ EndsWith pattern text = (before : List ℕ) × (text ≡ before ++ pattern)
 abbrev pub IsFound : List ℕ → List ℕ → Option ℕ → Type 0
 IsFound pattern text found =
     MatchOption found ((at : ℕ) → 0 ≤ at → ¬ (Occurs pattern text at)) (λ at. IsFirstMatch pattern text 0 at)
-
--- the text is so many bytes, and the pattern
-abbrev pub EndsWithAt : List ℕ → List ℕ → ℕ → Type 0
-EndsWithAt pattern text n = EndsWith pattern text × (n + length pattern ≡ length text)

@@ -16,6 +16,7 @@ mod split;
 mod strip;
 mod stripped;
 mod text;
+mod trim;
 
 pub use blocks::{AnsiBlock, AnsiBlockIter};
 pub use split::AnsiSplit;

@@ -1,12 +1,12 @@
 //! Searches in what a text shows, which is not built for them.
-ghost use Rattle.std.specs.Prelude.{◌≡◌, ◌<◌, ◌≤◌, ◌↔◌, ℕ, List, IsTrue, MatchOption, drop, length};
+ghost use Rattle.std.specs.Prelude.{◌≡◌, ◌≤◌, ◌+◌, ◌↔◌, ℕ, List, IsTrue, MatchOption, drop, length};
 ghost use Rattle.std.specs.Str.{IsCharBoundary};
 ghost use Rattle.ansi_scan.specs.Pieces.{pieces as pieces_of};
 ghost use Rattle.ansi_scan.specs.Sequences.{Piece, ArePiecesOf};
 ghost use Rattle.ansi_str.specs.StyledText.{strip};
 ghost use Rattle.ansi_str.specs.Parts.{from_place};
 ghost use Rattle.ansi_str.specs.PartsLeft.{begins_with, first_match};
-ghost use Rattle.ansi_str.specs.Searches.{BeginsWith, EndsWith, EndsWithAt, IsFound};
+ghost use Rattle.ansi_str.specs.Searches.{BeginsWith, EndsWith, IsFound};
 ghost use Rattle.ansi_str.specs.Walking.{begins_with_escape, shared_len};
 
 use crate::matches::{behind_sequences, find_byte, first_character};
@@ -56,7 +56,8 @@ pub(crate) fn ends_with(text: &str, pattern: &str) -> bool
 
 /// How many bytes the text shows before the pattern, where it ends with it.
 pub(crate) fn find_end(text: &str, pattern: &str) -> Option<usize>
-    ensures { MatchOption result (¬ (EndsWith pattern.now (strip (pieces_of text.now)))) (λ n. EndsWithAt pattern.now (strip (pieces_of text.now)) n × IsCharBoundary (strip (pieces_of text.now)) n) }
+    ensures { MatchOption result (¬ (EndsWith pattern.now (strip (pieces_of text.now)))) (λ n.
+        EndsWith pattern.now (strip (pieces_of text.now)) × ((n + length pattern.now ≡ length (strip (pieces_of text.now))) × IsCharBoundary (strip (pieces_of text.now)) n)) }
 {
     let len = shown_len(text);
     if len < pattern.len() {
