@@ -22,3 +22,5 @@ pub mod LineLemmas
 pub mod RestLemmas
 pub mod SearchLemmas
 pub mod FirstPlaces
+pub mod KeepLemmas
+pub mod TrimLemmas

@@ -65,13 +65,13 @@ IsUtf8-strip (p ∷ ps) each = IsUtf8-append (text_of p) (strip ps) (IsUtf8-text
 
 -- ---- boundaries of characters in the text without its sequences
 
-boundary-first : (xs ys : List ℕ) (n : ℕ) → n < length xs → IsCharBoundary (xs ++ ys) n → IsCharBoundary xs n
+pub boundary-first : (xs ys : List ℕ) (n : ℕ) → n < length xs → IsCharBoundary (xs ++ ys) n → IsCharBoundary xs n
 boundary-first xs ys n h boundary =
     let same : get_or (xs ++ ys) n 0 ≡ get_or xs n 0 = get_or_append_left xs ys 0 n h in
     let whole : n < length (xs ++ ys) = omega (arith, length-append xs ys) in
     (omega arith, λ _ high. subst (λ b. 192 ≤ b) same (boundary.1 whole (subst (λ b. 128 ≤ b) (sym same) high)))
 
-boundary-second : (xs ys : List ℕ) (n : ℕ) → length xs ≤ n → IsCharBoundary (xs ++ ys) n → IsCharBoundary ys (n - length xs)
+pub boundary-second : (xs ys : List ℕ) (n : ℕ) → length xs ≤ n → IsCharBoundary (xs ++ ys) n → IsCharBoundary ys (n - length xs)
 boundary-second xs ys n h boundary =
     let same : get_or (xs ++ ys) n 0 ≡ get_or ys (n - length xs) 0 = get_or-append_right xs ys (length xs) n 0 refl h in
     let size : length (xs ++ ys) ≡ length xs + length ys = length-append xs ys in
