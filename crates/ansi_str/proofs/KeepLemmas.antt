@@ -70,7 +70,7 @@ pieces_one : (t : List ℕ) → 0 < length t → has_escape t ≡ false → piec
 pieces_one t some gone =
     ap pieces (sym (append-nil t)) ∙ pieces-joined (record { kind = Text; bytes = t } ∷ []) (record { some = some; plain = plain_all t gone; ends = tt }, tt)
 
-empty_slice : (a b : ℕ) (xs : List ℕ) → xs ≡ [] → slice_range xs a b ≡ []
+pub empty_slice : (a b : ℕ) (xs : List ℕ) → xs ≡ [] → slice_range xs a b ≡ []
 empty_slice a b xs e =
     let size : length xs ≡ 0 = ap length e in
     ap (take (b - a)) (drop_all a xs (omega (arith, size))) ∙ take_all (b - a) [] (omega arith)

@@ -24,3 +24,4 @@ pub mod SearchLemmas
 pub mod FirstPlaces
 pub mod KeepLemmas
 pub mod TrimLemmas
+pub mod KeptPieces

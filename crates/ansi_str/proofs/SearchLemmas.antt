@@ -224,3 +224,9 @@ begins_where p text found e = (
   λ t. begins_with-sound p text (sym e ∙ t),
   λ h. e ∙ ap (begins_with p) h.1 ∙ begins_with-append p h.0,
 )
+
+-- two tests of one thing agree
+pub found_as_tested : {A : Type 0} (P : Type 0) (Q : A → Type 0) (r : Option A) (test : Bool) → (IsTrue test → P) × (P → IsTrue test) → MatchOption r (¬ P) (λ x. P × Q x) → is_some r ≡ test
+found_as_tested P Q None true says lacks = absurd (lacks (says.0 refl))
+found_as_tested P Q None false says lacks = refl
+found_as_tested P Q (Some x) test says has = sym (says.1 has.0)

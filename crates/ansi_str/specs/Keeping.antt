@@ -1,8 +1,9 @@
 -- Text that is taken away at both ends, where every sequence is kept.
-use Rattle.std.specs.Prelude.{◌≡◌, ◌≤◌, ◌-◌, ℕ, true, List, length, take, drop, slice_range}
+use Rattle.std.specs.Prelude.{◌≡◌, ◌≤◌, ◌-◌, ℕ, true, List, [], ◌∷◌, length, take, drop, slice_range, if◌then◌else◌}
 use Rattle.std.specs.Char.{is_not_whitespace}
 use Rattle.std.specs.Str.{NoCharPasses, trim}
 use Rattle.ansi_scan.specs.Sequences.{Piece}
+use Rattle.ansi_scan.specs.Joining.{is_text_kind}
 use Rattle.ansi_str.specs.StyledText.{strip}
 use Rattle.ansi_str.specs.Parts.{taken}
 
@@ -28,3 +29,8 @@ pub record IsTrimmedAt (text : List ℕ) (a b : ℕ) : Type 0 where
 -- the bytes are the pieces without the white space at both ends of their text
 abbrev pub IsTrimmed : List Piece → List ℕ → Type 0
 IsTrimmed pieces bytes = (a : ℕ) × (b : ℕ) × IsTrimmedAt (strip pieces) a b × (bytes ≡ kept a b pieces)
+
+-- the sequences among the pieces
+abbrev pub sequences : List Piece → List Piece
+sequences [] = []
+sequences (piece ∷ pieces) = if is_text_kind piece.kind then sequences pieces else piece ∷ sequences pieces

@@ -1,4 +1,4 @@
--- Two texts by their pieces, whose parts are worked out by hand.
+-- Texts by their pieces, whose parts are worked out by hand.
 use Rattle.std.specs.Prelude.{List, [], ◌∷◌, codes}
 use Rattle.ansi_scan.specs.declared.items.Kind.TheVariants.{Text, Sgr}
 use Rattle.ansi_scan.specs.Sequences.{Piece}
@@ -17,3 +17,18 @@ two_lines =
     ∷ record { kind = Sgr; bytes = codes "\u{1b}[38;5;20m" }
     ∷ record { kind = Text; bytes = codes "Dar\nren" }
     ∷ record { kind = Sgr; bytes = codes "\u{1b}[0m" } ∷ []
+
+-- a text of which two characters are red
+abbrev pub red_text : List Piece
+red_text =
+    record { kind = Sgr; bytes = codes "\u{1b}[31m" }
+    ∷ record { kind = Text; bytes = codes "ab" }
+    ∷ record { kind = Sgr; bytes = codes "\u{1b}[0m" }
+    ∷ record { kind = Text; bytes = codes "c" } ∷ []
+
+-- a bold character between spaces
+abbrev pub spaced_text : List Piece
+spaced_text =
+    record { kind = Text; bytes = codes " " }
+    ∷ record { kind = Sgr; bytes = codes "\u{1b}[1m" }
+    ∷ record { kind = Text; bytes = codes " a " } ∷ []

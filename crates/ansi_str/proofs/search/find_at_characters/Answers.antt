@@ -25,7 +25,7 @@ loop-rest-smaller c =
     let l = c.loop-rest in
     let behind = c.behind_sequences-rest-in-loop-rest in
     char_shorter c.args.pattern.now l.rest.now l.passed c.args.text.now l.invariant.1 (sym c.shows_first.ensures ∙ c.loop-rest-test.true) c.in_ok-len.len c.in_ok-len.ensures.found c.in_ok-len.ensures.within
-        behind.result.now (behind.ensures.shown ∙ ap (λ (bytes : List ℕ). strip (pieces bytes)) c.range_from.ensures.value)
+    behind.result.now (behind.ensures.shown ∙ ap (λ (bytes : List ℕ). strip (pieces bytes)) c.range_from.ensures.value)
 
 pub loop-rest-preserved : goal.loop-rest-preserved
 loop-rest-preserved c =
