@@ -146,88 +146,121 @@ fn splits(rt: HostRuntime) -> Result<(), Fail> {
     )
 }
 
+// The places of what a text shows at which a character begins, or that ends.
+fn expect_boundaries(
+    rt: &impl Abort,
+    alloc: Global,
+    text: &str,
+    places: &[usize],
+) -> Result<(), Fail> {
+    let string = String::from_str(alloc, text)?;
+    for index in 0..9 {
+        let wanted = places.contains(&index);
+        assert_eq!(rt;
+            text.ansi_is_char_boundary(index),
+            wanted,
+            "{index} of {text:?}"
+        );
+        assert_eq!(rt;
+            string.ansi_is_char_boundary(index),
+            wanted,
+            "{index} of {text:?}"
+        );
+    }
+    assert!(rt; !text.ansi_is_char_boundary(usize::MAX), "of {text:?}");
+    Ok(())
+}
+
 #[test]
 fn tells_boundaries(rt: HostRuntime) -> Result<(), Fail> {
-    // a text, and the places of what it shows at which a character begins, or that ends
-    let texts: [(&str, &[usize]); 6] = [
-        ("", &[0]),
-        ("\x1b[31m", &[0]),
-        ("aéb", &[0, 1, 3, 4]),
-        ("\x1b[31ma\x1b[1mé\x1b[0m漢\x1b[0m", &[0, 1, 3, 6]),
-        // a broken ESC counts as a sequence, and what stands behind it is text
-        ("a\x1b[1é\x1b", &[0, 1, 2, 3, 5]),
-        ("\x1b]0;é\x07é", &[0, 2]),
-    ];
-    for (text, places) in texts {
-        let string = String::from_str(rt.alloc(), text)?;
-        for index in 0..9 {
-            let wanted = places.iter().any(|place| *place == index);
-            assert_eq!(rt;
-                text.ansi_is_char_boundary(index),
-                wanted,
-                "{index} of {text:?}"
-            );
-            assert_eq!(rt;
-                string.ansi_is_char_boundary(index),
-                wanted,
-                "{index} of the string {text:?}"
-            );
-        }
-        assert!(rt; !text.ansi_is_char_boundary(usize::MAX), "of {text:?}");
-    }
+    let alloc = rt.alloc();
+    expect_boundaries(&rt, alloc, "", &[0])?;
+    expect_boundaries(&rt, alloc, "\x1b[31m", &[0])?;
+    expect_boundaries(&rt, alloc, "aéb", &[0, 1, 3, 4])?;
+    let styled = "\x1b[31ma\x1b[1mé\x1b[0m漢\x1b[0m";
+    expect_boundaries(&rt, alloc, styled, &[0, 1, 3, 6])?;
+    expect_boundaries(&rt, alloc, "\x1b]0;é\x07é", &[0, 2])?;
+    // a broken ESC counts as a sequence, and what stands behind it is text
+    expect_boundaries(&rt, alloc, "a\x1b[1é\x1b", &[0, 1, 2, 3, 5])
+}
+
+// Whether what a text shows begins with a pattern and ends with it, and where that stands first.
+fn expect_search(
+    rt: &impl Abort,
+    alloc: Global,
+    text: &str,
+    pattern: &str,
+    ends: (bool, bool),
+    first: Option<usize>,
+) -> Result<(), Fail> {
+    let string = String::from_str(alloc, text)?;
+    assert_eq!(rt;
+        text.ansi_starts_with(pattern),
+        ends.0,
+        "{pattern:?} before {text:?}"
+    );
+    assert_eq!(rt;
+        string.ansi_starts_with(pattern),
+        ends.0,
+        "{pattern:?} before {text:?}"
+    );
+    assert_eq!(rt;
+        text.ansi_ends_with(pattern),
+        ends.1,
+        "{pattern:?} behind {text:?}"
+    );
+    assert_eq!(rt;
+        string.ansi_ends_with(pattern),
+        ends.1,
+        "{pattern:?} behind {text:?}"
+    );
+    assert_eq!(rt; text.ansi_find(pattern), first, "{pattern:?} in {text:?}");
+    assert_eq!(rt; string.ansi_find(pattern), first, "{pattern:?} in {text:?}");
     Ok(())
 }
 
 #[test]
 fn searches(rt: HostRuntime) -> Result<(), Fail> {
-    // a text, a pattern, whether the text begins with it and ends with it, and where it stands first
-    let rows = [
-        ("", "", true, true, Some(0)),
-        ("", "a", false, false, None),
-        ("\x1b[31m", "", true, true, Some(0)),
-        ("\x1b[31m", "\x1b[31m", false, false, None),
-        ("\x1b[31m", "3", false, false, None),
-        ("\x1b[31ma\x1b[1mb\x1b[0mc", "abc", true, true, Some(0)),
-        ("\x1b[31ma\x1b[1mb\x1b[0mc", "ab", true, false, Some(0)),
-        ("\x1b[31ma\x1b[1mb\x1b[0mc", "bc", false, true, Some(1)),
-        ("\x1b[31ma\x1b[1mb\x1b[0mc", "c", false, true, Some(2)),
-        ("\x1b[31ma\x1b[1mb\x1b[0mc", "1", false, false, None),
-        ("\x1b[31ma\x1b[1mb\x1b[0mc", "abcd", false, false, None),
-        ("a\x1b[1ma\x1b[1mab", "aab", false, true, Some(1)),
-        ("é\x1b[1mè", "é", true, false, Some(0)),
-        ("é\x1b[1mè", "è", false, true, Some(2)),
-        ("漢\x1b[1mé\x1b[0m漢", "é漢", false, true, Some(3)),
-        // a broken ESC shows nothing, and what stands behind it is text
-        ("a\x1b[1é", "a[1é", true, true, Some(0)),
-        ("a\x1b[1é", "1é", false, true, Some(2)),
-        ("a\x1b[1é", "\x1b", false, false, None),
-    ];
-    for (text, pattern, begins, ends, first) in rows {
-        let string = String::from_str(rt.alloc(), text)?;
-        assert_eq!(rt;
-            text.ansi_starts_with(pattern),
-            begins,
-            "{pattern:?} before {text:?}"
-        );
-        assert_eq!(rt;
-            string.ansi_starts_with(pattern),
-            begins,
-            "{pattern:?} before {text:?}"
-        );
-        assert_eq!(rt;
-            text.ansi_ends_with(pattern),
-            ends,
-            "{pattern:?} behind {text:?}"
-        );
-        assert_eq!(rt;
-            string.ansi_ends_with(pattern),
-            ends,
-            "{pattern:?} behind {text:?}"
-        );
-        assert_eq!(rt; text.ansi_find(pattern), first, "{pattern:?} in {text:?}");
-        assert_eq!(rt; string.ansi_find(pattern), first, "{pattern:?} in {text:?}");
-    }
-    Ok(())
+    let alloc = rt.alloc();
+    expect_search(&rt, alloc, "", "", (true, true), Some(0))?;
+    expect_search(&rt, alloc, "", "a", (false, false), None)?;
+    expect_search(&rt, alloc, "\x1b[31m", "", (true, true), Some(0))?;
+    expect_search(&rt, alloc, "\x1b[31m", "\x1b[31m", (false, false), None)?;
+    expect_search(&rt, alloc, "\x1b[31m", "3", (false, false), None)?;
+    let styled = "\x1b[31ma\x1b[1mb\x1b[0mc";
+    expect_search(&rt, alloc, styled, "abc", (true, true), Some(0))?;
+    expect_search(&rt, alloc, styled, "ab", (true, false), Some(0))?;
+    expect_search(&rt, alloc, styled, "bc", (false, true), Some(1))?;
+    expect_search(&rt, alloc, styled, "c", (false, true), Some(2))?;
+    expect_search(&rt, alloc, styled, "1", (false, false), None)?;
+    expect_search(&rt, alloc, styled, "abcd", (false, false), None)?;
+    expect_search(
+        &rt,
+        alloc,
+        "a\x1b[1ma\x1b[1mab",
+        "aab",
+        (false, true),
+        Some(1),
+    )?;
+    expect_search(&rt, alloc, "é\x1b[1mè", "é", (true, false), Some(0))?;
+    expect_search(&rt, alloc, "é\x1b[1mè", "è", (false, true), Some(2))?;
+    expect_search(
+        &rt,
+        alloc,
+        "漢\x1b[1mé\x1b[0m漢",
+        "é漢",
+        (false, true),
+        Some(3),
+    )
+}
+
+// A broken ESC shows nothing, and what stands behind it is text.
+#[test]
+fn searches_behind_a_broken_escape(rt: HostRuntime) -> Result<(), Fail> {
+    let alloc = rt.alloc();
+    expect_search(&rt, alloc, "a\x1b[1é", "a[1é", (true, true), Some(0))?;
+    expect_search(&rt, alloc, "a\x1b[1é", "1é", (false, true), Some(2))?;
+    expect_search(&rt, alloc, "a\x1b[1é", "\x1b", (false, false), None)
 }
 
 fn expect_left(
