@@ -1,5 +1,5 @@
 -- The first match, looked for at each character of what a text shows, and the pattern at its end.
-use Rattle.std.proofs.Common.{◌≡◌, ℕ, zero, suc, ◌+◌, ◌-◌, ◌<◌, ◌≤◌, nat_lt, Bool, true, false, List, [], ◌∷◌, ◌++◌, length, take, drop, Option, None, Some, refl, ap, sym, subst, ◌∙◌, arith, append-nil, append_assoc, length-append}
+use Rattle.std.proofs.Common.{◌≡◌, ℕ, zero, suc, ◌+◌, ◌-◌, ◌<◌, ◌≤◌, nat_lt, Bool, true, false, List, [], ◌∷◌, ◌++◌, length, take, drop, Option, None, Some, refl, ap, sym, subst, ◌∙◌, arith, append-nil, length-append}
 use Rattle.std.specs.Option.{option_map}
 use Rattle.std.specs.Str.{IsUtf8, IsCharBoundary}
 use Rattle.std.proofs.Math.ListN.{get_or}
@@ -13,7 +13,7 @@ use Rattle.ansi_str.specs.Matches.{Occurs, IsFirstMatch}
 use Rattle.ansi_str.specs.PartsLeft.{begins_with, first_match}
 use Rattle.ansi_str.specs.Searches.{EndsWith, IsFound}
 use Rattle.ansi_str.specs.Walking.{begins_with_escape}
-use Rattle.ansi_str.proofs.MatchLemmas.{IsFirstOrNone, first_match-unique, first_match-sound, first_match-is_first, first_match-within, begins_with-sound, begins_with-append, Occurs-on, Occurs-back}
+use Rattle.ansi_str.proofs.MatchLemmas.{IsFirstOrNone, first_match-unique, first_match-sound, first_match-is_first, begins_with-sound, begins_with-append, Occurs-on, Occurs-back}
 use Rattle.ansi_str.proofs.PlaceLemmas.{strip-from}
 use Rattle.ansi_str.proofs.Walks.{from-plain}
 use Rattle.ansi_str.proofs.FindLemmas.{IsUtf8-shown}

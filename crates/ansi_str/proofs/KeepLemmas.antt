@@ -1,13 +1,11 @@
 -- The text from one place to another, with every sequence.
-use Rattle.std.proofs.Common.{◌≡◌, ◌≢◌, ℕ, ◌+◌, ◌-◌, ◌<◌, ◌≤◌, ◌==◌, ◌||◌, nat_lt, Bool, true, false, not, List, [], ◌∷◌, ◌++◌, length, take, drop, slice_range, refl, ap, sym, subst, ◌∙◌, arith, append_assoc, append-nil, length-append}
-use Rattle.std.specs.Prelude.{if◌then◌else◌}
+use Rattle.std.proofs.Common.{◌≡◌, ℕ, ◌+◌, ◌-◌, ◌<◌, ◌≤◌, ◌==◌, ◌||◌, nat_lt, Bool, true, false, not, List, [], ◌∷◌, ◌++◌, length, take, drop, slice_range, refl, ap, sym, subst, ◌∙◌, arith, append_assoc, append-nil, length-append}
 use Rattle.std.specs.Cmp.Derive.{both_true}
 use Rattle.std.specs.List.{list_all}
 use Rattle.std.specs.Str.{IsUtf8, IsCharBoundary}
 use Rattle.std.proofs.lemmas.Bool.Decides.{nat_tests}
 use Rattle.std.proofs.lemmas.List.{length-drop, drop_all, take_all}
 use Rattle.std.proofs.lemmas.Str.{IsCharBoundary-start}
-use Rattle.ansi_scan.specs.declared.items.Kind.{Kind}
 use Rattle.ansi_scan.specs.declared.items.Kind.TheVariants.{Text}
 use Rattle.ansi_scan.specs.Sequences.{Piece, escape, is_plain}
 use Rattle.ansi_scan.specs.Joining.{is_text_kind}
@@ -16,9 +14,8 @@ use Rattle.ansi_scan.proofs.Existence.{ArePiecesOf-pieces}
 use Rattle.ansi_scan.proofs.Uniqueness.{pieces-joined}
 use Rattle.ansi_str.specs.StyledText.{has_escape, text_of, strip}
 use Rattle.ansi_str.specs.Parts.{taken_piece, taken}
-use Rattle.ansi_str.specs.Keeping.{kept, without_front, without_end}
+use Rattle.ansi_str.specs.Keeping.{kept}
 use Rattle.ansi_str.proofs.PartLemmas.{text_of-text, text_of-sequence, taken_piece-text, taken_piece-sequence}
-use Rattle.ansi_str.proofs.DressedLemmas.{other_kind}
 use Rattle.ansi_str.proofs.Utf8Lemmas.{EachUtf8, EachUtf8-pieces, IsUtf8-joined, IsUtf8-strip, boundary-first, boundary-second}
 
 abbrev every : ℕ → List Piece → ℕ → ℕ → List ℕ

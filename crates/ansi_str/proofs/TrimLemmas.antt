@@ -1,7 +1,7 @@
 -- Prefixes, suffixes and white space, taken away from a text.
-use Rattle.std.proofs.Common.{◌≡◌, ℕ, ◌+◌, ◌-◌, ◌<◌, ◌≤◌, nat_le, Bool, true, false, List, [], ◌∷◌, ◌++◌, length, take, drop, slice_range, Result, Ok, Err, refl, ap, sym, subst, ◌∙◌, arith}
+use Rattle.std.proofs.Common.{◌≡◌, ℕ, ◌+◌, ◌-◌, ◌≤◌, nat_le, Bool, true, false, List, length, take, drop, Result, Ok, Err, refl, ap, sym, subst, ◌∙◌, arith}
 use Rattle.std.specs.Char.{is_not_whitespace}
-use Rattle.std.specs.Str.{IsUtf8, IsCharBoundary, IsTrimStart, IsTrimEnd, NoCharPasses, trim, trim_start, trim_end}
+use Rattle.std.specs.Str.{IsUtf8, IsCharBoundary, IsTrimStart, IsTrimEnd, NoCharPasses, trim_start, trim_end}
 use Rattle.std.proofs.lemmas.Bool.Decides.{nat_tests}
 use Rattle.std.proofs.lemmas.List.{length-drop, drop_all, take_all, drop-drop}
 use Rattle.std.proofs.lemmas.Str.{IsCharBoundary-start, IsCharBoundary-from_drop, IsCharBoundary-from_take, IsCharBoundary-from_rest}

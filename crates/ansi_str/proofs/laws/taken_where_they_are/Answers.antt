@@ -1,5 +1,5 @@
 -- What is found is found where the test says so.
-use Rattle.std.proofs.Common.{◌≡◌, refl, length}
+use Rattle.std.proofs.Common.{◌≡◌, length}
 use Rattle.ansi_str.specs.StyledText.{strip}
 use Rattle.ansi_str.specs.Searches.{BeginsWith, EndsWith}
 use Rattle.ansi_str.specs.Keeping.{without_front, without_end}

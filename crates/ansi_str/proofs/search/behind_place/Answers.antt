@@ -1,5 +1,5 @@
 -- A step over text, and over a sequence behind it.
-use Rattle.std.proofs.Common.{◌≡◌, ◌≤◌, ◌<◌, ◌-◌, ◌∙◌, true, false, ap, sym, subst, length, List, ℕ, arith, eqb-true}
+use Rattle.std.proofs.Common.{◌≡◌, ◌-◌, ◌∙◌, true, false, ap, sym, subst, length, List, ℕ, arith, eqb-true}
 use Rattle.ansi_scan.specs.Pieces.{text_len}
 use Rattle.ansi_str.proofs.SearchLemmas.{IsSamePlace, place-found, place-past, place-cut, run-low, run-ends, IsSamePlace-plain, IsSamePlace-sequence}
 use Rattle.ansi_str.proofs.search.behind_place.Goals as goal

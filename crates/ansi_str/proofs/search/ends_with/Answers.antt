@@ -1,5 +1,5 @@
 -- A place is found where the text ends with the pattern.
-use Rattle.std.proofs.Common.{◌≡◌, ◌+◌, length, List, ℕ, IsTrue}
+use Rattle.std.proofs.Common.{◌≡◌, ◌+◌, length, List, IsTrue}
 use Rattle.std.specs.Str.{IsCharBoundary}
 use Rattle.ansi_scan.specs.Sequences.{Piece}
 use Rattle.ansi_scan.specs.Pieces.{pieces}

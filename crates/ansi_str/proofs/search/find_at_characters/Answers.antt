@@ -1,5 +1,5 @@
 -- A step over a character, and the sequences behind it.
-use Rattle.std.proofs.Common.{rules, ◌≡◌, ◌∙◌, ◌≤◌, ◌+◌, ap, sym, length, List, ℕ, arith}
+use Rattle.std.proofs.Common.{rules, ◌∙◌, ◌≤◌, ◌+◌, ap, sym, length, List, ℕ, arith}
 use Rattle.ansi_scan.specs.Pieces.{pieces}
 use Rattle.ansi_str.specs.StyledText.{strip}
 use Rattle.ansi_str.proofs.RestLemmas.{strip-fits}

@@ -1,5 +1,5 @@
 -- A place is found where a character begins.
-use Rattle.std.proofs.Common.{◌≡◌, List, ℕ, IsTrue}
+use Rattle.std.proofs.Common.{◌≡◌, List, IsTrue}
 use Rattle.std.specs.Str.{IsCharBoundary}
 use Rattle.ansi_scan.specs.Sequences.{Piece}
 use Rattle.ansi_scan.specs.Pieces.{pieces}

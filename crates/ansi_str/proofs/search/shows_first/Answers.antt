@@ -1,11 +1,10 @@
 -- A step over the bytes that are the same, and over a sequence behind them.
-use Rattle.std.proofs.Common.{◌≡◌, ◌∙◌, ap, sym, subst, drop, length, List, ℕ, eqb-true}
+use Rattle.std.proofs.Common.{◌≡◌, ◌∙◌, ap, sym, subst, length, List, ℕ, eqb-true}
 use Rattle.ansi_scan.specs.Pieces.{pieces}
 use Rattle.ansi_str.specs.StyledText.{strip}
 use Rattle.ansi_str.specs.Walking.{shared_len, IsBehindFirst}
-use Rattle.ansi_str.specs.PartsLeft.{begins_with}
 use Rattle.ansi_str.proofs.FindLemmas.{not_empty}
-use Rattle.ansi_str.proofs.SearchLemmas.{shared-step, shared-fails, shared-all, shared-sequence, begins_with-none_left, escape-cut}
+use Rattle.ansi_str.proofs.SearchLemmas.{shared-fails, shared-all, shared-sequence, begins_with-none_left, escape-cut}
 use Rattle.ansi_str.proofs.search.shows_first.Goals as goal
 
 pub returns-then-not-is_escape_at : goal.returns-then-not-is_escape_at

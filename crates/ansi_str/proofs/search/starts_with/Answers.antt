@@ -1,5 +1,5 @@
 -- The test of the front says it of the pieces of the text.
-use Rattle.std.proofs.Common.{List, ℕ, IsTrue}
+use Rattle.std.proofs.Common.{List, IsTrue}
 use Rattle.ansi_scan.specs.Sequences.{Piece}
 use Rattle.ansi_scan.specs.Pieces.{pieces}
 use Rattle.ansi_str.specs.StyledText.{strip}

@@ -1,10 +1,9 @@
 -- A step over the first item.
-use Rattle.std.proofs.Common.{rules, ◌≡◌, ◌∙◌, ◌+◌, ◌≤◌, ◌-◌, ◌++◌, true, ap, sym, subst, length, slice_range, string_bytes, List, ℕ, arith}
+use Rattle.std.proofs.Common.{rules, ◌≡◌, ◌∙◌, ◌+◌, ◌≤◌, ◌-◌, ◌++◌, true, ap, length, slice_range, string_bytes, List, ℕ, arith}
 use Rattle.ansi_scan.specs.declared.items.Kind.{Kind}
 use Rattle.ansi_scan.specs.Sequences.{Piece}
 use Rattle.ansi_scan.specs.Joining.{is_text_kind}
-use Rattle.ansi_scan.specs.Pieces.{pieces}
-use Rattle.ansi_str.specs.StyledText.{shown, strip}
+use Rattle.ansi_str.specs.StyledText.{shown}
 use Rattle.ansi_str.proofs.DressedLemmas.{other_kind}
 use Rattle.ansi_str.proofs.RestLemmas.{strip-fits}
 use Rattle.ansi_str.proofs.Walks.{first-shorter}

@@ -1,14 +1,9 @@
 -- What the text shows is trimmed, and the text is kept where that is left.
-use Rattle.std.proofs.Common.{◌≡◌, ◌∙◌, ◌<◌, sym, subst, length, List, ℕ, Result}
-use Rattle.std.specs.Prelude.{IfOk}
-use Rattle.std.specs.Cow.{cow_str_bytes}
+use Rattle.std.proofs.Common.{◌∙◌, subst, List, ℕ}
 use Rattle.std.specs.Str.{IsCharBoundary}
-use Rattle.ansi_scan.specs.Sequences.{Piece}
 use Rattle.ansi_scan.specs.Pieces.{pieces}
 use Rattle.ansi_scan.proofs.Existence.{ArePiecesOf-pieces}
-use Rattle.ansi_str.specs.StyledText.{strip}
-use Rattle.ansi_str.specs.Keeping.{IsTrimmed, IsTrimmedAt}
-use Rattle.ansi_str.proofs.SearchLemmas.{of_pieces}
+use Rattle.ansi_str.specs.Keeping.{IsTrimmedAt}
 use Rattle.ansi_str.proofs.TrimLemmas.{all_trimmed}
 use Rattle.ansi_str.proofs.trim.trim.Goals as goal
 
