@@ -83,7 +83,7 @@ NoneBroken-append [] after first behind = behind
 NoneBroken-append (p ∷ ps) after first behind = (first.0, NoneBroken-append ps after first.1 behind)
 
 -- a piece that is not broken stands before other pieces too, where they begin with no text either
-Stands-before : (kind : Kind) (bytes : List ℕ) (ps qs : List Piece) → Stands kind bytes ps → kind ≢ Broken → (NoTextFirst ps → NoTextFirst qs) → Stands kind bytes qs
+pub Stands-before : (kind : Kind) (bytes : List ℕ) (ps qs : List Piece) → Stands kind bytes ps → kind ≢ Broken → (NoTextFirst ps → NoTextFirst qs) → Stands kind bytes qs
 Stands-before Text bytes ps qs stands whole turn = record { some = stands.some; plain = stands.plain; ends = turn stands.ends }
 Stands-before Sgr bytes ps qs stands whole turn = stands
 Stands-before Csi bytes ps qs stands whole turn = stands
@@ -101,7 +101,7 @@ EachStands-append (p ∷ ps) after each whole first behind = (
 
 -- ---- pieces up to a place
 
-other_kind : (kind : Kind) → kind ≢ Text → is_text_kind kind ≡ false
+pub other_kind : (kind : Kind) → kind ≢ Text → is_text_kind kind ≡ false
 other_kind Text other = absurd (other refl)
 other_kind Sgr other = refl
 other_kind Csi other = refl
@@ -117,7 +117,7 @@ NoTextFirst-through n (p ∷ ps) first =
     let over : length (text_of p) ≤ n = omega arith in
     subst NoTextFirst (sym (through-past n p ps over)) first
 
-list_all-take : (p : ℕ → Bool) (n : ℕ) (xs : List ℕ) → IsTrue (list_all p xs) → IsTrue (list_all p (take n xs))
+pub list_all-take : (p : ℕ → Bool) (n : ℕ) (xs : List ℕ) → IsTrue (list_all p xs) → IsTrue (list_all p (take n xs))
 list_all-take p zero xs h = refl
 list_all-take p (suc n) [] h = h
 list_all-take p (suc n) (x ∷ xs) h =

@@ -235,7 +235,7 @@ text_end t = by (nat_lt (text_len t) (length t)) refl
         subst (IsCharBoundary t) end (IsCharBoundary-end t)
 
 module _ (t : List ℕ) (k : ℕ) (utf8 : IsUtf8 t) (text : 0 < text_len t) (some : 1 ≤ k) (boundary : IsCharBoundary t k) (nearest : (i : ℕ) → 1 ≤ i → i < k → ¬ (IsCharBoundary t i)) where
-  char_within : k ≤ text_len t
+  pub char_within : k ≤ text_len t
   char_within = by (nat_lt (text_len t) k) refl
     where
       by : (short : Bool) → nat_lt (text_len t) k ≡ short → k ≤ text_len t

@@ -25,3 +25,8 @@ pub mod AllParts
 pub mod CharSlices
 pub mod WorkedLemmas
 pub mod ByteParts
+pub mod SearchLemmas
+pub mod FirstPlaces
+pub mod KeepLemmas
+pub mod TrimLemmas
+pub mod KeptPieces

@@ -24,7 +24,7 @@ IsFirstOrNone pattern text from found =
 
 -- ---- the pattern at the front
 
-begins_with-sound : (pattern text : List ℕ) → begins_with pattern text ≡ true → (behind : List ℕ) × (text ≡ pattern ++ behind)
+pub begins_with-sound : (pattern text : List ℕ) → begins_with pattern text ≡ true → (behind : List ℕ) × (text ≡ pattern ++ behind)
 begins_with-sound [] text e = (text, refl)
 begins_with-sound (p ∷ ps) [] e = cc e
 begins_with-sound (p ∷ ps) (b ∷ bs) e =
@@ -32,7 +32,7 @@ begins_with-sound (p ∷ ps) (b ∷ bs) e =
     let rest = begins_with-sound ps bs parts.1 in
     (rest.0, ap (λ c. c ∷ bs) (eqb-true b p parts.0) ∙ ap (λ cs. p ∷ cs) rest.1)
 
-begins_with-append : (pattern behind : List ℕ) → begins_with pattern (pattern ++ behind) ≡ true
+pub begins_with-append : (pattern behind : List ℕ) → begins_with pattern (pattern ++ behind) ≡ true
 begins_with-append [] behind = refl
 begins_with-append (p ∷ ps) behind = let same : (p == p) ≡ true = grind (arith, nat_tests) in both_true same (begins_with-append ps behind)
 

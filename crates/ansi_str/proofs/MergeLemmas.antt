@@ -31,7 +31,7 @@ drop_both (x ∷ xs) ys (suc n) =
     let same : n - length xs ≡ suc n - suc (length xs) = omega arith in
     drop_both xs ys n ∙ ap (λ m. drop n xs ++ drop m ys) same
 
-slice_both : (xs ys : List ℕ) (a b : ℕ) → slice_range (xs ++ ys) a b ≡ slice_range xs a b ++ slice_range ys (a - length xs) (b - length xs)
+pub slice_both : (xs ys : List ℕ) (a b : ℕ) → slice_range (xs ++ ys) a b ≡ slice_range xs a b ++ slice_range ys (a - length xs) (b - length xs)
 slice_both xs ys a b =
     let size : length (drop a xs) ≡ length xs - a = length-drop a xs in
     let left : b - a - length (drop a xs) ≡ b - length xs - (a - length xs) = omega arith in

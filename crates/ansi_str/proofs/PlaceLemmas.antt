@@ -116,7 +116,7 @@ strip-from n (piece ∷ pieces) = elim (reach n piece) [
 
 -- ---- what stands, stands behind a place too
 
-list_all-drop : (p : ℕ → Bool) (n : ℕ) (xs : List ℕ) → IsTrue (list_all p xs) → IsTrue (list_all p (drop n xs))
+pub list_all-drop : (p : ℕ → Bool) (n : ℕ) (xs : List ℕ) → IsTrue (list_all p xs) → IsTrue (list_all p (drop n xs))
 list_all-drop p zero xs h = h
 list_all-drop p (suc n) [] h = h
 list_all-drop p (suc n) (x ∷ xs) h = list_all-drop p n xs (and_parts (p x) (list_all p xs) h).1

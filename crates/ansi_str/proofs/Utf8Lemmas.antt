@@ -65,7 +65,7 @@ IsUtf8-strip (p ∷ ps) each = IsUtf8-append (text_of p) (strip ps) (IsUtf8-text
 
 -- ---- boundaries of characters in the text without its sequences
 
-boundary-first : (xs ys : List ℕ) (n : ℕ) → n < length xs → IsCharBoundary (xs ++ ys) n → IsCharBoundary xs n
+pub boundary-first : (xs ys : List ℕ) (n : ℕ) → n < length xs → IsCharBoundary (xs ++ ys) n → IsCharBoundary xs n
 boundary-first xs ys n h boundary =
     let same : get_or (xs ++ ys) n 0 ≡ get_or xs n 0 = get_or_append_left xs ys 0 n h in
     let whole : n < length (xs ++ ys) = omega (arith, length-append xs ys) in

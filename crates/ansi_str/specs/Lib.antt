@@ -6,5 +6,7 @@ pub mod Splitting
 pub mod Rests
 pub mod Matches
 pub mod PartsLeft
+pub mod Searches
+pub mod Keeping
 pub mod Lines
 pub mod WorkedParts

@@ -1,5 +1,5 @@
 -- Steps through the pieces of a text.
-use Rattle.std.specs.Prelude.{◌≡◌, ◌<◌, slice_index, length, Option, None, Some, unwrap_or, ◌==◌, ◌&&◌, not, ℕ, Bool, false, List, [], ◌∷◌, if◌then◌else◌}
+use Rattle.std.specs.Prelude.{◌≡◌, ◌<◌, slice_index, length, Option, None, Some, unwrap_or, ◌==◌, ◌&&◌, not, ℕ, Bool, false, List, [], ◌∷◌, if◌then◌else◌, suc}
 use Rattle.ansi_scan.specs.Sequences.{Piece, escape, is_plain}
 use Rattle.ansi_scan.specs.Joining.{is_text_kind}
 use Rattle.ansi_scan.specs.Attributes.{Attributes}
@@ -45,3 +45,9 @@ pub record Lands (byte : ℕ) (text : List ℕ) (style : Attributes) (end : List
   pub found : first_match (byte ∷ []) 0 (strip (pieces text)) ≡ if length end == 0 then None else Some (bytes_to byte text)
   pub at : 0 < length end → slice_index end 0 ≡ byte
   pub shows_text : begins_with_escape end ≡ false
+
+-- how many of the first bytes of two lists are the same, and not ESC
+abbrev pub shared_len : List ℕ → List ℕ → ℕ
+shared_len [] bs = 0
+shared_len (a ∷ others) [] = 0
+shared_len (a ∷ others) (b ∷ bs) = if is_plain b && b == a then suc (shared_len others bs) else 0

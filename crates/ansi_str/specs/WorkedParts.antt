@@ -1,4 +1,4 @@
--- Two texts by their pieces, whose parts are worked out by hand, and what it is that a text splits into some parts.
+-- Texts by their pieces, whose parts are worked out by hand, and what it is that a text splits into some parts.
 use Rattle.std.specs.Prelude.{◌≡◌, ℕ, List, [], ◌∷◌, codes}
 use Rattle.ansi_scan.specs.declared.items.Kind.TheVariants.{Text, Sgr}
 use Rattle.ansi_scan.specs.Sequences.{Piece, ArePiecesOf}
@@ -27,3 +27,18 @@ pub record SplitsInto (text pattern : List ℕ) (parts : List (List ℕ)) : Type
   pub matches : List ℕ
   pub are_matches : AreMatches pattern (strip pieces) matches
   pub are_parts : styled_parts pieces (split_bounds pattern (strip pieces) matches) ≡ parts
+
+-- a text of which two characters are red
+abbrev pub red_text : List Piece
+red_text =
+    record { kind = Sgr; bytes = codes "\u{1b}[31m" }
+    ∷ record { kind = Text; bytes = codes "ab" }
+    ∷ record { kind = Sgr; bytes = codes "\u{1b}[0m" }
+    ∷ record { kind = Text; bytes = codes "c" } ∷ []
+
+-- a bold character between spaces
+abbrev pub spaced_text : List Piece
+spaced_text =
+    record { kind = Text; bytes = codes " " }
+    ∷ record { kind = Sgr; bytes = codes "\u{1b}[1m" }
+    ∷ record { kind = Text; bytes = codes " a " } ∷ []

@@ -1,10 +1,10 @@
 //! Laws of the definitions that the other contracts cite.
 
-ghost use Rattle.std.specs.Prelude.{All, ◌≡◌, ◌<◌, ◌≤◌, ◌-◌, ◌==◌, ℕ, List, [], ◌∷◌, ◌++◌, chars, codes, drop, false, flat_map, length, map, slice_range, take, true};
+ghost use Rattle.std.specs.Prelude.{All, ◌≡◌, ◌<◌, ◌≤◌, ◌-◌, ◌==◌, ℕ, List, [], ◌∷◌, ◌++◌, chars, codes, drop, false, flat_map, length, map, slice_range, take, true, ◌↔◌, Bool, IsTrue, MatchOption, Option, is_some};
 ghost use Rattle.std.specs.Borrow.{Bor};
 ghost use Rattle.std.specs.Iterator.{AlwaysYields};
 ghost use Rattle.std.specs.List.{join_with_byte, slice_split};
-ghost use Rattle.std.specs.Str.{IsCharBoundary, IsUtf8};
+ghost use Rattle.std.specs.Str.{IsCharBoundary, IsUtf8, trim};
 ghost use Rattle.std.specs.Str.Iter.{split_has_more, split_pattern, split_steps, split_text};
 ghost use Rattle.std.specs.Str.Pattern.{FindsText};
 ghost use Rattle.std.specs.declared.str.Split.{Split};
@@ -15,7 +15,9 @@ ghost use Rattle.ansi_str.specs.StyledText.{IsClosed, has_escape, strip, style_a
 ghost use Rattle.ansi_str.specs.Parts.{before_place, dressed, from_place, split_part, through_place};
 ghost use Rattle.ansi_str.specs.Matches.{AreMatches, split_bounds, styled_parts, text_parts};
 ghost use Rattle.ansi_str.specs.Lines.{IsClosedLine, IsClosedText};
-ghost use Rattle.ansi_str.specs.WorkedParts.{SplitsInto, black_text, two_lines};
+ghost use Rattle.ansi_str.specs.WorkedParts.{SplitsInto, black_text, two_lines, red_text, spaced_text};
+ghost use Rattle.ansi_str.specs.Searches.{BeginsWith, EndsWith};
+ghost use Rattle.ansi_str.specs.Keeping.{IsTrimmed, kept, sequences, without_end, without_front};
 ghost use Rattle.ansi_str.specs.Blocks.{blocks_from, text_of_block, styled_of_block};
 
 /// Without its sequences a text has no ESC, and without its sequences once more it is the same.
@@ -197,4 +199,41 @@ pub fn split_at_one_byte()
         text_parts text (split_bounds (c ∷ []) text matches) ≡ slice_split (λ b. b == c) text }
     ensures worked { text_parts (codes "a,b,") (split_bounds (codes ",") (codes "a,b,") (1 ∷ 3 ∷ []))
         ≡ codes "a" ∷ codes "b" ∷ [] ∷ [] }
+{}
+
+/// A prefix is taken away exactly where the text begins with it, and a suffix where it ends with it.
+pub fn taken_where_they_are()
+    ensures prefix { (prefix : List ℕ) (pieces : List Piece) (begins : Bool) (found : Option (List ℕ)) →
+        (IsTrue begins ↔ BeginsWith prefix (strip pieces)) →
+        MatchOption found (¬ (BeginsWith prefix (strip pieces)))
+        (λ left. BeginsWith prefix (strip pieces) × (left ≡ without_front (length prefix) pieces)) → is_some found ≡ begins }
+    ensures suffix { (suffix : List ℕ) (pieces : List Piece) (ends : Bool) (found : Option (List ℕ)) →
+        (IsTrue ends ↔ EndsWith suffix (strip pieces)) →
+        MatchOption found (¬ (EndsWith suffix (strip pieces)))
+        (λ left. EndsWith suffix (strip pieces) × (left ≡ without_end (length suffix) pieces)) → is_some found ≡ ends }
+{}
+
+/// Where text is taken away at the ends of a whole text, what is left shows the text between them, has
+/// the same sequences, and is whole.
+pub fn sequences_are_kept()
+    ensures shown { (a b : ℕ) (text : List ℕ) (pieces left : List Piece) → ArePiecesOf text pieces → NoneBroken pieces →
+        ArePiecesOf (kept a b pieces) left → strip left ≡ slice_range (strip pieces) a b }
+    ensures sequences { (a b : ℕ) (text : List ℕ) (pieces left : List Piece) → ArePiecesOf text pieces → NoneBroken pieces →
+        ArePiecesOf (kept a b pieces) left → sequences left ≡ sequences pieces }
+    ensures whole { (a b : ℕ) (text : List ℕ) (pieces left : List Piece) → ArePiecesOf text pieces → NoneBroken pieces →
+        ArePiecesOf (kept a b pieces) left → NoneBroken left }
+{}
+
+/// Without its sequences a trimmed whole text is the trimmed text without its own.
+pub fn trimmed_as_std()
+    ensures { (text bytes : List ℕ) (pieces left : List Piece) → ArePiecesOf text pieces → NoneBroken pieces →
+        IsTrimmed pieces bytes → ArePiecesOf bytes left → strip left ≡ trim (strip pieces) }
+{}
+
+/// What is kept, worked out by hand.
+pub fn worked_keeping()
+    ensures prefix { without_front 1 red_text ≡ codes "\u{1b}[31mb\u{1b}[0mc" }
+    ensures suffix { without_end 2 red_text ≡ codes "\u{1b}[31ma\u{1b}[0m" }
+    ensures nothing { without_front 3 red_text ≡ codes "\u{1b}[31m\u{1b}[0m" }
+    ensures trimmed { kept 2 3 spaced_text ≡ codes "\u{1b}[1ma" }
 {}

@@ -11,10 +11,12 @@ pub mod laws;
 mod matches;
 mod places;
 mod rest;
+mod search;
 mod split;
 mod strip;
 mod stripped;
 mod text;
+mod trim;
 
 pub use blocks::{AnsiBlock, AnsiBlockIter};
 pub use split::AnsiSplit;

@@ -1,8 +1,9 @@
 //! Where a pattern matches first in what a text shows. A text can be cut at both ends of a match.
-ghost use Rattle.std.specs.Prelude.{◌≡◌, ◌<◌, ◌+◌, [], ◌∷◌, false, IfSome, length};
+ghost use Rattle.std.specs.Prelude.{◌≡◌, ◌<◌, ◌≤◌, ◌+◌, [], ◌∷◌, false, IfSome, length};
 ghost use Rattle.std.specs.List.{prefix_len};
 ghost use Rattle.std.specs.Str.{IsCharBoundary};
 ghost use Rattle.ansi_scan.specs.Pieces.{pieces};
+ghost use Rattle.ansi_scan.specs.Sequences.{is_plain};
 ghost use Rattle.ansi_str.specs.StyledText.{strip};
 ghost use Rattle.ansi_str.specs.PartsLeft.{first_match, passed_over};
 ghost use Rattle.ansi_str.specs.Walking.{begins_with_escape, is_other};
@@ -22,10 +23,12 @@ pub(crate) fn find_empty(text: &str, begun: bool) -> Option<usize>
     }
 }
 
-// How many bytes the first character has, of a text that does not begin with a sequence.
-fn first_character(text: &str) -> Option<usize>
+/// How many bytes the first character has, of a text that does not begin with a sequence.
+pub(crate) fn first_character(text: &str) -> Option<usize>
     requires { begins_with_escape text.now ≡ false }
-    ensures { result ≡ first_match [] 1 (strip (pieces text.now)) }
+    ensures found { result ≡ first_match [] 1 (strip (pieces text.now)) }
+    ensures cut { IfSome result (λ n. IsCharBoundary text.now n) }
+    ensures within { IfSome result (λ n. n ≤ prefix_len is_plain text.now) }
 {
     if text.is_empty() {
         return None;
@@ -33,8 +36,8 @@ fn first_character(text: &str) -> Option<usize>
     Some(text.ceil_char_boundary(1))
 }
 
-// The text behind the sequences that stand first.
-fn behind_sequences(text: &str) -> &str
+/// The text behind the sequences that stand first.
+pub(crate) fn behind_sequences(text: &str) -> &str
     ensures shown { strip (pieces result.now) ≡ strip (pieces text.now) }
     ensures behind { begins_with_escape result.now ≡ false }
 {

@@ -185,7 +185,7 @@ pub(crate) fn begins_with_escape(text: &str) -> bool
 }
 
 // How many of the first bytes stand before the first ESC among them.
-fn text_len(text: &str, most: usize) -> usize
+pub(crate) fn text_len(text: &str, most: usize) -> usize
     ensures value { result ≡ prefix_len is_plain (take most text.now) }
 {
     let bytes = text.as_bytes();

@@ -385,3 +385,226 @@ fn gives_back_closed_lines(rt: HostRuntime) -> Result<(), Fail> {
         ],
     )
 }
+
+// The places of what a text shows at which a character begins, or that ends.
+fn expect_boundaries(
+    rt: &impl Abort,
+    alloc: Global,
+    text: &str,
+    places: &[usize],
+) -> Result<(), Fail> {
+    let string = String::from_str(alloc, text)?;
+    for index in 0..9 {
+        let wanted = places.contains(&index);
+        assert_eq!(rt;
+            text.ansi_is_char_boundary(index),
+            wanted,
+            "{index} of {text:?}"
+        );
+        assert_eq!(rt;
+            string.ansi_is_char_boundary(index),
+            wanted,
+            "{index} of {text:?}"
+        );
+    }
+    assert!(rt; !text.ansi_is_char_boundary(usize::MAX), "of {text:?}");
+    Ok(())
+}
+
+#[test]
+fn tells_boundaries(rt: HostRuntime) -> Result<(), Fail> {
+    let alloc = rt.alloc();
+    expect_boundaries(&rt, alloc, "", &[0])?;
+    expect_boundaries(&rt, alloc, "\x1b[31m", &[0])?;
+    expect_boundaries(&rt, alloc, "aéb", &[0, 1, 3, 4])?;
+    let styled = "\x1b[31ma\x1b[1mé\x1b[0m漢\x1b[0m";
+    expect_boundaries(&rt, alloc, styled, &[0, 1, 3, 6])?;
+    expect_boundaries(&rt, alloc, "\x1b]0;é\x07é", &[0, 2])?;
+    // a broken ESC counts as a sequence, and what stands behind it is text
+    expect_boundaries(&rt, alloc, "a\x1b[1é\x1b", &[0, 1, 2, 3, 5])
+}
+
+// Whether what a text shows begins with a pattern and ends with it, and where that stands first.
+fn expect_search(
+    rt: &impl Abort,
+    alloc: Global,
+    text: &str,
+    pattern: &str,
+    ends: (bool, bool),
+    first: Option<usize>,
+) -> Result<(), Fail> {
+    let string = String::from_str(alloc, text)?;
+    assert_eq!(rt;
+        text.ansi_starts_with(pattern),
+        ends.0,
+        "{pattern:?} before {text:?}"
+    );
+    assert_eq!(rt;
+        string.ansi_starts_with(pattern),
+        ends.0,
+        "{pattern:?} before {text:?}"
+    );
+    assert_eq!(rt;
+        text.ansi_ends_with(pattern),
+        ends.1,
+        "{pattern:?} behind {text:?}"
+    );
+    assert_eq!(rt;
+        string.ansi_ends_with(pattern),
+        ends.1,
+        "{pattern:?} behind {text:?}"
+    );
+    assert_eq!(rt; text.ansi_find(pattern), first, "{pattern:?} in {text:?}");
+    assert_eq!(rt; string.ansi_find(pattern), first, "{pattern:?} in {text:?}");
+    Ok(())
+}
+
+#[test]
+fn searches(rt: HostRuntime) -> Result<(), Fail> {
+    let alloc = rt.alloc();
+    expect_search(&rt, alloc, "", "", (true, true), Some(0))?;
+    expect_search(&rt, alloc, "", "a", (false, false), None)?;
+    expect_search(&rt, alloc, "\x1b[31m", "", (true, true), Some(0))?;
+    expect_search(&rt, alloc, "\x1b[31m", "\x1b[31m", (false, false), None)?;
+    expect_search(&rt, alloc, "\x1b[31m", "3", (false, false), None)?;
+    let styled = "\x1b[31ma\x1b[1mb\x1b[0mc";
+    expect_search(&rt, alloc, styled, "abc", (true, true), Some(0))?;
+    expect_search(&rt, alloc, styled, "ab", (true, false), Some(0))?;
+    expect_search(&rt, alloc, styled, "bc", (false, true), Some(1))?;
+    expect_search(&rt, alloc, styled, "c", (false, true), Some(2))?;
+    expect_search(&rt, alloc, styled, "1", (false, false), None)?;
+    expect_search(&rt, alloc, styled, "abcd", (false, false), None)?;
+    expect_search(
+        &rt,
+        alloc,
+        "a\x1b[1ma\x1b[1mab",
+        "aab",
+        (false, true),
+        Some(1),
+    )?;
+    expect_search(&rt, alloc, "é\x1b[1mè", "é", (true, false), Some(0))?;
+    expect_search(&rt, alloc, "é\x1b[1mè", "è", (false, true), Some(2))?;
+    expect_search(
+        &rt,
+        alloc,
+        "漢\x1b[1mé\x1b[0m漢",
+        "é漢",
+        (false, true),
+        Some(3),
+    )
+}
+
+// A broken ESC shows nothing, and what stands behind it is text.
+#[test]
+fn searches_behind_a_broken_escape(rt: HostRuntime) -> Result<(), Fail> {
+    let alloc = rt.alloc();
+    expect_search(&rt, alloc, "a\x1b[1é", "a[1é", (true, true), Some(0))?;
+    expect_search(&rt, alloc, "a\x1b[1é", "1é", (false, true), Some(2))?;
+    expect_search(&rt, alloc, "a\x1b[1é", "\x1b", (false, false), None)
+}
+
+fn expect_left(
+    rt: &impl Abort,
+    alloc: Global,
+    text: &str,
+    pattern: &str,
+    without_prefix: Option<&str>,
+    without_suffix: Option<&str>,
+) -> Result<(), Fail> {
+    let string = String::from_str(alloc, text)?;
+    let left = text.ansi_strip_prefix(alloc, pattern)?;
+    let of_string = string.ansi_strip_prefix(alloc, pattern)?;
+    let found = left.as_ref().map(|left| left.as_str());
+    assert_eq!(rt;
+        found,
+        without_prefix,
+        "{text:?} without {pattern:?} before it"
+    );
+    let found = of_string.as_ref().map(|left| left.as_str());
+    assert_eq!(rt;
+        found,
+        without_prefix,
+        "the string {text:?} without {pattern:?} before it"
+    );
+    let left = text.ansi_strip_suffix(alloc, pattern)?;
+    let of_string = string.ansi_strip_suffix(alloc, pattern)?;
+    let found = left.as_ref().map(|left| left.as_str());
+    assert_eq!(rt;
+        found,
+        without_suffix,
+        "{text:?} without {pattern:?} behind it"
+    );
+    let found = of_string.as_ref().map(|left| left.as_str());
+    assert_eq!(rt;
+        found,
+        without_suffix,
+        "the string {text:?} without {pattern:?} behind it"
+    );
+    Ok(())
+}
+
+#[test]
+fn strips_prefixes_and_suffixes(rt: HostRuntime) -> Result<(), Fail> {
+    let alloc = rt.alloc();
+    let red = "\x1b[31mab\x1b[0mc";
+    expect_left(&rt, alloc, red, "a", Some("\x1b[31mb\x1b[0mc"), None)?;
+    expect_left(&rt, alloc, red, "x", None, None)?;
+    expect_left(
+        &rt,
+        alloc,
+        red,
+        "abc",
+        Some("\x1b[31m\x1b[0m"),
+        Some("\x1b[31m\x1b[0m"),
+    )?;
+    expect_left(&rt, alloc, red, "bc", None, Some("\x1b[31ma\x1b[0m"))?;
+    expect_left(&rt, alloc, red, "", Some(red), Some(red))?;
+    expect_left(&rt, alloc, "", "", Some(""), Some(""))?;
+    expect_left(&rt, alloc, "", "a", None, None)?;
+    expect_left(&rt, alloc, "aba", "a", Some("ba"), Some("ab"))?;
+    expect_left(
+        &rt,
+        alloc,
+        "\x1b[1mé\x1b[2J漢\x1b[0mé",
+        "é",
+        Some("\x1b[1m\x1b[2J漢\x1b[0mé"),
+        Some("\x1b[1mé\x1b[2J漢\x1b[0m"),
+    )?;
+    // a broken ESC is kept
+    expect_left(
+        &rt,
+        alloc,
+        "a\x1b[éa",
+        "a",
+        Some("\x1b[éa"),
+        Some("a\x1b[é"),
+    )
+}
+
+fn expect_trim(rt: &impl Abort, alloc: Global, text: &str, wanted: &str) -> Result<(), Fail> {
+    let of_text = text.ansi_trim(alloc)?;
+    assert_eq!(rt; of_text.as_str(), wanted, "of {text:?}");
+    let string = String::from_str(alloc, text)?;
+    let of_string = string.ansi_trim(alloc)?;
+    assert_eq!(rt; of_string.as_str(), wanted, "of the string {text:?}");
+    Ok(())
+}
+
+#[test]
+fn trims(rt: HostRuntime) -> Result<(), Fail> {
+    let alloc = rt.alloc();
+    expect_trim(&rt, alloc, " \x1b[1m a ", "\x1b[1ma")?;
+    expect_trim(&rt, alloc, "", "")?;
+    expect_trim(&rt, alloc, " \t\n", "")?;
+    expect_trim(&rt, alloc, " \x1b[1m \x1b[0m ", "\x1b[1m\x1b[0m")?;
+    expect_trim(&rt, alloc, " a b ", "a b")?;
+    expect_trim(
+        &rt,
+        alloc,
+        "\u{3000}\x1b[31m a\x1b[1m \x1b[2Jb \x1b[0m\u{85}",
+        "\x1b[31ma\x1b[1m \x1b[2Jb\x1b[0m",
+    )?;
+    expect_trim(&rt, alloc, "\x1b[31mab\x1b[0m", "\x1b[31mab\x1b[0m")?;
+    // a broken ESC is kept
+    expect_trim(&rt, alloc, " \x1b \x1b[1 ", "\x1b\x1b[1")
+}

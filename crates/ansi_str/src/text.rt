@@ -1,12 +1,16 @@
 //! The calls on styled text.
-ghost use Rattle.std.specs.Prelude.{◌≡◌, ◌≤◌, ◌+◌, ℕ, List, length, IfOk, IsOk, IsTrue, false, ◌↔◌, string_bytes};
+ghost use Rattle.std.specs.Prelude.{◌≡◌, ◌≤◌, ◌+◌, ℕ, List, length, IfOk, IfSome, IsOk, IsTrue, MatchOption, false, ◌↔◌, string_bytes};
 ghost use Rattle.std.specs.Cow.{IsOwnedStr, cow_str_bytes};
+ghost use Rattle.std.specs.Str.{IsCharBoundary};
 ghost use Rattle.ansi_scan.specs.Sequences.{Piece, ArePiecesOf, IsWhole};
 ghost use Rattle.ansi_str.specs.StyledText.{has_escape, strip};
 ghost use Rattle.ansi_str.specs.Matches.{AreMatches, split_bounds, styled_parts};
+ghost use Rattle.ansi_str.specs.Searches.{BeginsWith, EndsWith, IsFound};
+ghost use Rattle.ansi_str.specs.Keeping.{IsTrimmed, without_end, without_front};
 
 use crate::split::AnsiSplit;
 use crate::strip::{has_escape, joined_texts};
+use crate::{search, trim};
 use ansi_scan::is_whole;
 use std::alloc::{AllocError, Global};
 use std::borrow::CowStr;
@@ -36,6 +40,57 @@ pub trait AnsiStr {
         ensures answers { has_escape (text self.now) ≡ false → IsOk result }
         ensures borrows { IfOk result (λ out. IsOwnedStr out → IsTrue (has_escape (text self.now))) };
 
+    /// Whether a character of the text without its sequences begins at this byte, or that text ends
+    /// there. Takes no memory.
+    fn ansi_is_char_boundary(&self, index: usize) -> bool
+        ensures { (pieces : List Piece) → ArePiecesOf (text self.now) pieces → (IsTrue result ↔ IsCharBoundary (strip pieces) index) };
+
+    /// Whether the text without its sequences begins with the pattern. Takes no memory.
+    fn ansi_starts_with(&self, pattern: &str) -> bool
+        ensures { (pieces : List Piece) → ArePiecesOf (text self.now) pieces → (IsTrue result ↔ BeginsWith pattern.now (strip pieces)) };
+
+    /// Whether the text without its sequences ends with the pattern. Takes no memory.
+    fn ansi_ends_with(&self, pattern: &str) -> bool
+        ensures { (pieces : List Piece) → ArePiecesOf (text self.now) pieces → (IsTrue result ↔ EndsWith pattern.now (strip pieces)) };
+
+    /// The first byte of the text without its sequences at which the pattern stands. Takes no memory.
+    fn ansi_find(&self, pattern: &str) -> Option<usize>
+        ensures { (pieces : List Piece) → ArePiecesOf (text self.now) pieces → IsFound pattern.now (strip pieces) result };
+
+    /// The text without the prefix, where it begins with that once its sequences are left out. Every
+    /// sequence is kept, and none is added. A text without ESC is answered by a borrow, without memory;
+    /// else the only refusal is for memory.
+    fn ansi_strip_prefix(
+        &self,
+        alloc: Global,
+        prefix: &str,
+    ) -> Result<Option<CowStr<'_>>, AllocError>
+        ensures kept { IfOk result (λ found. (pieces : List Piece) → ArePiecesOf (text self.now) pieces → MatchOption found
+            (¬ (BeginsWith prefix.now (strip pieces)))
+            (λ left. BeginsWith prefix.now (strip pieces) × (cow_str_bytes left ≡ without_front (length prefix.now) pieces))) }
+        ensures answers { has_escape (text self.now) ≡ false → IsOk result }
+        ensures borrows { IfOk result (λ found. IfSome found (λ left. IsOwnedStr left → IsTrue (has_escape (text self.now)))) };
+
+    /// The text without the suffix, likewise.
+    fn ansi_strip_suffix(
+        &self,
+        alloc: Global,
+        suffix: &str,
+    ) -> Result<Option<CowStr<'_>>, AllocError>
+        ensures kept { IfOk result (λ found. (pieces : List Piece) → ArePiecesOf (text self.now) pieces → MatchOption found
+            (¬ (EndsWith suffix.now (strip pieces)))
+            (λ left. EndsWith suffix.now (strip pieces) × (cow_str_bytes left ≡ without_end (length suffix.now) pieces))) }
+        ensures answers { has_escape (text self.now) ≡ false → IsOk result }
+        ensures borrows { IfOk result (λ found. IfSome found (λ left. IsOwnedStr left → IsTrue (has_escape (text self.now)))) };
+
+    /// The text without the white space that `str::trim` takes from it once its sequences are left out.
+    /// Every sequence is kept, and none is added. A text without ESC is answered by a borrow, without
+    /// memory; else the only refusal is for memory.
+    fn ansi_trim(&self, alloc: Global) -> Result<CowStr<'_>, AllocError>
+        ensures trims { IfOk result (λ left. (pieces : List Piece) → ArePiecesOf (text self.now) pieces → IsTrimmed pieces (cow_str_bytes left)) }
+        ensures answers { has_escape (text self.now) ≡ false → IsOk result }
+        ensures borrows { IfOk result (λ left. IsOwnedStr left → IsTrue (has_escape (text self.now))) };
+
     /// Whether the text holds an ESC. Takes no memory.
     fn ansi_has_any(&self) -> bool
         ensures { result ≡ has_escape (text self.now) };
@@ -56,6 +111,42 @@ impl AnsiStr for &str {
         strip_text(alloc, self)
     }
 
+    fn ansi_is_char_boundary(&self, index: usize) -> bool {
+        search::is_char_boundary(self, index)
+    }
+
+    fn ansi_starts_with(&self, pattern: &str) -> bool {
+        search::starts_with(self, pattern)
+    }
+
+    fn ansi_ends_with(&self, pattern: &str) -> bool {
+        search::ends_with(self, pattern)
+    }
+
+    fn ansi_find(&self, pattern: &str) -> Option<usize> {
+        search::find(self, pattern)
+    }
+
+    fn ansi_strip_prefix(
+        &self,
+        alloc: Global,
+        prefix: &str,
+    ) -> Result<Option<CowStr<'_>>, AllocError> {
+        trim::strip_prefix(alloc, self, prefix)
+    }
+
+    fn ansi_strip_suffix(
+        &self,
+        alloc: Global,
+        suffix: &str,
+    ) -> Result<Option<CowStr<'_>>, AllocError> {
+        trim::strip_suffix(alloc, self, suffix)
+    }
+
+    fn ansi_trim(&self, alloc: Global) -> Result<CowStr<'_>, AllocError> {
+        trim::trim(alloc, self)
+    }
+
     fn ansi_has_any(&self) -> bool {
         has_escape(self)
     }
@@ -74,6 +165,42 @@ impl AnsiStr for String {
 
     fn ansi_strip(&self, alloc: Global) -> Result<CowStr<'_>, AllocError> {
         strip_text(alloc, self.as_str())
+    }
+
+    fn ansi_is_char_boundary(&self, index: usize) -> bool {
+        search::is_char_boundary(self.as_str(), index)
+    }
+
+    fn ansi_starts_with(&self, pattern: &str) -> bool {
+        search::starts_with(self.as_str(), pattern)
+    }
+
+    fn ansi_ends_with(&self, pattern: &str) -> bool {
+        search::ends_with(self.as_str(), pattern)
+    }
+
+    fn ansi_find(&self, pattern: &str) -> Option<usize> {
+        search::find(self.as_str(), pattern)
+    }
+
+    fn ansi_strip_prefix(
+        &self,
+        alloc: Global,
+        prefix: &str,
+    ) -> Result<Option<CowStr<'_>>, AllocError> {
+        trim::strip_prefix(alloc, self.as_str(), prefix)
+    }
+
+    fn ansi_strip_suffix(
+        &self,
+        alloc: Global,
+        suffix: &str,
+    ) -> Result<Option<CowStr<'_>>, AllocError> {
+        trim::strip_suffix(alloc, self.as_str(), suffix)
+    }
+
+    fn ansi_trim(&self, alloc: Global) -> Result<CowStr<'_>, AllocError> {
+        trim::trim(alloc, self.as_str())
     }
 
     fn ansi_has_any(&self) -> bool {

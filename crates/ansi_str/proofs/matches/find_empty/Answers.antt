@@ -10,7 +10,7 @@ use Rattle.ansi_str.proofs.matches.find_empty.Goals as goal
 pub returns-then-begun-clause-ends : goal.returns-then-begun-clause-ends
 returns-then-begun-clause-ends c =
     match_ends [] 1 (strip (pieces c.args.text.now)) c.first_character.result IsUtf8-nil (IsUtf8-shown c.args.text.now c.utf8.text)
-    (c.first_character.ensures ∙ ap (first_match [] 1) c.behind_sequences.ensures.shown)
+    (c.first_character.ensures.found ∙ ap (first_match [] 1) c.behind_sequences.ensures.shown)
 
 pub returns-else-begun-clause-found : goal.returns-else-begun-clause-found
 returns-else-begun-clause-found c =

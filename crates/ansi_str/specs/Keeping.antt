@@ -1,0 +1,36 @@
+-- Text that is taken away at both ends, where every sequence is kept.
+use Rattle.std.specs.Prelude.{◌≡◌, ◌≤◌, ◌-◌, ℕ, true, List, [], ◌∷◌, length, take, drop, slice_range, if◌then◌else◌}
+use Rattle.std.specs.Char.{is_not_whitespace}
+use Rattle.std.specs.Str.{NoCharPasses, trim}
+use Rattle.ansi_scan.specs.Sequences.{Piece}
+use Rattle.ansi_scan.specs.Joining.{is_text_kind}
+use Rattle.ansi_str.specs.StyledText.{strip}
+use Rattle.ansi_str.specs.Parts.{taken}
+
+-- the text from place a to place b, with every sequence
+abbrev pub kept : ℕ → ℕ → List Piece → List ℕ
+kept a b pieces = taken (λ _. true) a b 0 pieces
+
+-- without so many bytes of text at the start, or at the end
+abbrev pub without_front : ℕ → List Piece → List ℕ
+without_front n pieces = kept n (length (strip pieces)) pieces
+
+abbrev pub without_end : ℕ → List Piece → List ℕ
+without_end n pieces = kept 0 (length (strip pieces) - n) pieces
+
+-- what Rust's `trim` leaves of the text stands from a to b, and all before and behind is white space
+pub record IsTrimmedAt (text : List ℕ) (a b : ℕ) : Type 0 where
+  pub ordered : a ≤ b
+  pub within : b ≤ length text
+  pub before : NoCharPasses is_not_whitespace (take a text)
+  pub behind : NoCharPasses is_not_whitespace (drop b text)
+  pub left : slice_range text a b ≡ trim text
+
+-- the bytes are the pieces without the white space at both ends of their text
+abbrev pub IsTrimmed : List Piece → List ℕ → Type 0
+IsTrimmed pieces bytes = (a : ℕ) × (b : ℕ) × IsTrimmedAt (strip pieces) a b × (bytes ≡ kept a b pieces)
+
+-- the sequences among the pieces
+abbrev pub sequences : List Piece → List Piece
+sequences [] = []
+sequences (piece ∷ pieces) = if is_text_kind piece.kind then sequences pieces else piece ∷ sequences pieces
