@@ -17,6 +17,7 @@ pub mod CutLemmas
 pub mod MatchLists
 pub mod StdSplits
 pub mod PlainParts
+pub mod CutParts
 pub mod MergeLemmas
 pub mod LineLemmas
 pub mod RestLemmas

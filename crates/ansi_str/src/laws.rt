@@ -12,6 +12,9 @@ ghost use Rattle.ansi_scan.specs.Pieces.{pieces as pieces_of};
 ghost use Rattle.ansi_scan.specs.Sequences.{Piece, ArePiecesOf, NoneBroken, joined};
 ghost use Rattle.ansi_scan.specs.Attributes.{plain_attributes};
 ghost use Rattle.ansi_str.specs.StyledText.{IsClosed, has_escape, strip, style_after_all, styled, styled_from};
+ghost use Rattle.ansi_str.specs.Cuts.{cut_part, parts_at};
+ghost use Rattle.ansi_str.specs.Walking.{sequences};
+ghost use Rattle.ansi_scan.specs.StartsAndEnds.{end_bytes};
 ghost use Rattle.ansi_str.specs.Parts.{before_place, dressed, from_place, split_part, through_place};
 ghost use Rattle.ansi_str.specs.Matches.{AreMatches, split_bounds, styled_parts, text_parts};
 ghost use Rattle.ansi_str.specs.Lines.{IsClosedLine, IsClosedText};
@@ -147,4 +150,11 @@ pub fn split_at_one_byte()
         text_parts text (split_bounds (c ∷ []) text matches) ≡ slice_split (λ b. b == c) text }
     ensures worked { text_parts (codes "a,b,") (split_bounds (codes ",") (codes "a,b,") (1 ∷ 3 ∷ []))
         ≡ codes "a" ∷ codes "b" ∷ [] ∷ [] }
+{}
+
+/// A cut is the sequences before its start and one slice of the text, and the end of the style then open.
+pub fn cuts_are_slices()
+    ensures { (a b : ℕ) (pieces : List Piece) → a ≤ b →
+        cut_part a b pieces ≡ sequences (before_place a pieces) ++ (joined (through_place (b - a) (from_place a pieces))
+        ++ end_bytes (style_after_all plain_attributes (through_place b pieces))) }
 {}
