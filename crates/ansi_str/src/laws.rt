@@ -12,8 +12,8 @@ ghost use Rattle.ansi_scan.specs.Pieces.{pieces as pieces_of};
 ghost use Rattle.ansi_scan.specs.Sequences.{Piece, ArePiecesOf, NoneBroken, joined};
 ghost use Rattle.ansi_scan.specs.Attributes.{plain_attributes};
 ghost use Rattle.ansi_str.specs.StyledText.{IsClosed, has_escape, strip, style_after_all, styled, styled_from};
-ghost use Rattle.ansi_str.specs.Cuts.{cut_part, parts_at};
-ghost use Rattle.ansi_str.specs.Walking.{sequences};
+ghost use Rattle.ansi_str.specs.Cuts.{cut_part, later_part, parts_at};
+ghost use Rattle.ansi_str.specs.Walking.{from_text, sequences};
 ghost use Rattle.ansi_scan.specs.StartsAndEnds.{end_bytes};
 ghost use Rattle.ansi_str.specs.Parts.{before_place, dressed, from_place, split_part, through_place};
 ghost use Rattle.ansi_str.specs.Matches.{AreMatches, split_bounds, styled_parts, text_parts};
@@ -157,4 +157,15 @@ pub fn cuts_are_slices()
     ensures { (a b : ℕ) (pieces : List Piece) → a ≤ b →
         cut_part a b pieces ≡ sequences (before_place a pieces) ++ (joined (through_place (b - a) (from_place a pieces))
         ++ end_bytes (style_after_all plain_attributes (through_place b pieces))) }
+{}
+
+/// The parts of a split at places are slices of the text: the first one from its front, and a later one
+/// from behind the sequences that stand at the place before it, which begins with the start of the style
+/// known there.
+pub fn breaks_are_slices()
+    ensures first { (b : ℕ) (pieces : List Piece) →
+        cut_part 0 b pieces ≡ dressed plain_attributes (through_place b pieces) }
+    ensures later { (text : List ℕ) (pieces : List Piece) (a b : ℕ) → a ≤ b → ArePiecesOf text pieces →
+        later_part a b pieces ≡ dressed (style_after_all plain_attributes (through_place a pieces))
+        (through_place (b - a) (from_text (from_place a pieces))) }
 {}
