@@ -101,7 +101,7 @@ EachStands-append (p ∷ ps) after each whole first behind = (
 
 -- ---- pieces up to a place
 
-other_kind : (kind : Kind) → kind ≢ Text → is_text_kind kind ≡ false
+pub other_kind : (kind : Kind) → kind ≢ Text → is_text_kind kind ≡ false
 other_kind Text other = absurd (other refl)
 other_kind Sgr other = refl
 other_kind Csi other = refl

@@ -18,6 +18,7 @@ pub mod MatchLists
 pub mod StdSplits
 pub mod PlainParts
 pub mod CutParts
+pub mod CutSteps
 pub mod MergeLemmas
 pub mod LineLemmas
 pub mod RestLemmas

@@ -235,7 +235,7 @@ empty-nothing t gone = ap length (sym (ArePiecesOf-pieces t).joins ∙ ap joined
 -- ---- a walk to a place
 
 -- how many of the first m elements pass before one does not
-run_within : (p : ℕ → Bool) (m : ℕ) (xs : List ℕ) → prefix_len p (take m xs) ≤ m
+pub run_within : (p : ℕ → Bool) (m : ℕ) (xs : List ℕ) → prefix_len p (take m xs) ≤ m
 run_within p m xs = omega (arith, prefix_len-le-length p (take m xs), length-take m xs)
 
 run_tests : (p : ℕ → Bool) (m : ℕ) (xs : List ℕ) (x : ℕ) (passes : Bool) → p x ≡ passes
@@ -250,7 +250,7 @@ run_tests p m xs x false e others =
     let all = prefix_len-fail p x xs e in
     (omega (arith, here, all), λ less. here ∙ sym all)
 
-run_of : (p : ℕ → Bool) (m : ℕ) (xs : List ℕ) → (prefix_len p (take m xs) ≤ prefix_len p xs) × (prefix_len p (take m xs) < m → prefix_len p (take m xs) ≡ prefix_len p xs)
+pub run_of : (p : ℕ → Bool) (m : ℕ) (xs : List ℕ) → (prefix_len p (take m xs) ≤ prefix_len p xs) × (prefix_len p (take m xs) < m → prefix_len p (take m xs) ≡ prefix_len p xs)
 run_of p zero xs = (omega arith, λ less. absurd (omega (arith, less)))
 run_of p (suc m) [] = (omega arith, λ less. refl)
 run_of p (suc m) (x ∷ xs) = run_tests p m xs x (p x) refl (run_of p m xs)
