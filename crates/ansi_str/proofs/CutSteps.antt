@@ -159,3 +159,117 @@ module _ (rest : List ℕ) (left : ℕ) (text : List ℕ) (at : ℕ) (same : Sam
 
   pub bound-end : length rest ≡ 0 → IsGoodBound (strip (pieces text)) at
   bound-end empty = let over : length (strip (pieces rest)) ≤ left = omega (arith, strip-fits rest, empty) in same.0 (good-none (strip (pieces rest)) left over)
+
+-- ---- the ends of a cut
+
+good-fits : (text : List ℕ) (start : ℕ) (end : Option ℕ) (most n : ℕ) → AreGoodBounds text start end → n ≡ unwrap_or end most → length text ≤ most → start ≤ most → (start ≤ n) × IsGoodBound text n
+good-fits text start None most n good same over order = (omega (arith, same, order), good-none text n (omega (arith, same, over)))
+good-fits text start (Some end) most n good same over order = (subst (λ m. start ≤ m) (sym same) good.ordered, subst (IsGoodBound text) (sym same) good.end_good)
+
+-- a missing end is past the text
+cut_part-end : (ps : List Piece) (start : ℕ) (end : Option ℕ) (most n : ℕ) → n ≡ unwrap_or end most → length (strip ps) ≤ most → cut_part start n ps ≡ cut_part start (unwrap_or end (length (strip ps))) ps
+cut_part-end ps start None most n same over =
+    let fits : length (strip ps) ≤ length (strip ps) = omega arith in
+    cut_part-ends start n (length (strip ps)) ps (omega (arith, same, over)) fits
+cut_part-end ps start (Some end) most n same over = ap (λ m. cut_part start m ps) same
+
+-- ---- a cut
+
+-- a slice, by what stands behind it
+pub slice-bytes : (rest slice end : List ℕ) → rest ≡ slice ++ end → take (length rest - length end) rest ≡ slice
+slice-bytes rest slice end same =
+    let len : length rest ≡ length (slice ++ end) = ap length same in
+    let size : length rest - length end ≡ length slice = omega (arith, len, length-append slice end) in
+    ap (λ k. take k rest) size ∙ ap (take (length slice)) same ∙ take-append_seam slice end
+
+module _ (text : List ℕ) (start n : ℕ) (order : start ≤ n) (first : List ℕ) (first_style : Attributes)
+    (there : pieces first ≡ from_place start (pieces text)) (known : first_style ≡ style_after_all plain_attributes (before_place start (pieces text)))
+    (last : List ℕ) (last_style : Attributes) (sliced : first ≡ joined (through_place (n - start) (pieces first)) ++ last)
+    (opened : last_style ≡ style_after_all first_style (through_place (n - start) (pieces first))) where
+  end_style : last_style ≡ style_after_all plain_attributes (through_place n (pieces text))
+  end_style =
+      opened ∙ ap (λ s. style_after_all s (through_place (n - start) (pieces first))) known
+      ∙ ap (λ ps. style_after_all (style_after_all plain_attributes (before_place start (pieces text))) (through_place (n - start) ps)) there
+      ∙ sym (style-cut start n plain_attributes (pieces text) order)
+
+  cut-bytes : sequences (before_place start (pieces text)) ++ (take (length first - length last) first ++ end_bytes last_style) ≡ cut_part start n (pieces text)
+  cut-bytes =
+      let before = sequences (before_place start (pieces text)) in
+      ap (λ bytes. before ++ (bytes ++ end_bytes last_style)) (slice-bytes first (joined (through_place (n - start) (pieces first))) last sliced ∙ ap (λ ps. joined (through_place (n - start) ps)) there)
+      ∙ ap (λ s. before ++ (joined (through_place (n - start) (from_place start (pieces text))) ++ end_bytes s)) end_style
+      ∙ sym (cut_part-slice start n (pieces text) order)
+
+  -- without ESC the style at the end is plain
+  plain-cut_end : has_escape text ≡ false → last_style ≡ plain_attributes
+  plain-cut_end gone = end_style ∙ plain-through n text plain_attributes gone
+
+  parted-first : text ≡ joined (before_place start (pieces text)) ++ first
+  parted-first = sym (ArePiecesOf-pieces text).joins ∙ joined-places start (pieces text) ∙ ap (λ rest. joined (before_place start (pieces text)) ++ rest) (ap joined (sym there) ∙ (ArePiecesOf-pieces first).joins)
+
+  before-bytes : take (length text - length first) text ≡ joined (before_place start (pieces text))
+  before-bytes = slice-bytes text (joined (before_place start (pieces text))) first parted-first
+
+  -- where no ESC stands before it, and no style is open
+  plain-bytes : has_escape (take (length text - length first) text) ≡ false → last_style ≡ plain_attributes → take (length first - length last) first ≡ cut_part start n (pieces text)
+  plain-bytes gone plain =
+      let slice = take (length first - length last) first in
+      let none_before = sequences-none start (pieces text) (ArePiecesOf-pieces text).stand (ap has_escape (sym before-bytes) ∙ gone) in
+      sym (append-nil slice) ∙ ap (λ bytes. slice ++ bytes) (sym end_bytes-plain) ∙ ap (λ s. slice ++ end_bytes s) (sym plain)
+      ∙ ap (λ bytes. bytes ++ (slice ++ end_bytes last_style)) (sym none_before) ∙ cut-bytes
+
+-- a place from the start of a text
+placed-first : (text from : List ℕ) (style : Attributes) (n : ℕ) (first : List ℕ) (first_style : Attributes) → from ≡ text → style ≡ plain_attributes
+    → pieces first ≡ from_place n (pieces from) → first_style ≡ style_after_all style (before_place n (pieces from))
+    → (pieces first ≡ from_place n (pieces text)) × (first_style ≡ style_after_all plain_attributes (before_place n (pieces text)))
+placed-first text from style n first first_style same plain there known = (
+  there ∙ ap (λ t. from_place n (pieces t)) same,
+  known ∙ ap (λ s. style_after_all s (before_place n (pieces from))) plain ∙ ap (λ t. style_after_all plain_attributes (before_place n (pieces t))) same,
+)
+
+-- what is known of a cut, by the places where its slice begins and ends
+pub record IsCut (text : List ℕ) (start : ℕ) (end : Option ℕ) (first last : List ℕ) (last_style : Attributes) : Type 0 where
+  pub behind : text ≡ joined (before_place start (pieces text)) ++ first
+  pub none_before : has_escape text ≡ false → has_escape (take (length text - length first) text) ≡ false
+  pub spelled : (ps : List Piece) → ArePiecesOf text ps →
+      sequences (before_place start (pieces text)) ++ (take (length first - length last) first ++ end_bytes last_style) ≡ cut_part start (unwrap_or end (length (strip ps))) ps
+  pub plain : has_escape text ≡ false → last_style ≡ plain_attributes
+  pub bare : has_escape (take (length text - length first) text) ≡ false → last_style ≡ plain_attributes → (ps : List Piece) → ArePiecesOf text ps →
+      take (length first - length last) first ≡ cut_part start (unwrap_or end (length (strip ps))) ps
+
+pub IsCut-found : (text : List ℕ) (start : ℕ) (end : Option ℕ) (most n : ℕ) → AreGoodBounds (strip (pieces text)) start end → n ≡ unwrap_or end most → length text ≤ most → start ≤ most
+    → (from : List ℕ) (style : Attributes) (first : List ℕ) (first_style : Attributes) → from ≡ text → style ≡ plain_attributes
+    → pieces first ≡ from_place start (pieces from) → first_style ≡ style_after_all style (before_place start (pieces from))
+    → (last : List ℕ) (last_style : Attributes) → first ≡ joined (through_place (n - start) (pieces first)) ++ last
+    → last_style ≡ style_after_all first_style (through_place (n - start) (pieces first)) → IsCut text start end first last last_style
+IsCut-found text start end most n good same small order from style first first_style is_text is_plain there known last last_style sliced opened =
+    let shown = strip-fits text in
+    let fits : length (strip (pieces text)) ≤ most = omega (arith, shown, small) in
+    let at = placed-first text from style start first first_style is_text is_plain there known in
+    let bounds = good-fits (strip (pieces text)) start end most n good same fits order in
+    let ended : (ps : List Piece) → ArePiecesOf text ps → cut_part start n (pieces text) ≡ cut_part start (unwrap_or end (length (strip ps))) ps =
+        λ ps of_text. cut_part-end (pieces text) start end most n same fits
+        ∙ ap (λ qs. cut_part start (unwrap_or end (length (strip qs))) qs) (ArePiecesOf-unique text (pieces text) ps (ArePiecesOf-pieces text) of_text) in
+    let parted = parted-first text start n bounds.0 first first_style at.0 at.1 last last_style sliced opened in
+    record {
+      behind = parted;
+      none_before = λ gone. ap has_escape (slice-bytes text (joined (before_place start (pieces text))) first parted)
+          ∙ (no_escape-parts (joined (before_place start (pieces text))) first (ap has_escape (sym parted) ∙ gone)).0;
+      spelled = λ ps of_text. cut-bytes text start n bounds.0 first first_style at.0 at.1 last last_style sliced opened ∙ ended ps of_text;
+      plain = plain-cut_end text start n bounds.0 first first_style at.0 at.1 last last_style sliced opened;
+      bare = λ gone plain ps of_text. plain-bytes text start n bounds.0 first first_style at.0 at.1 last last_style sliced opened gone plain ∙ ended ps of_text;
+    }
+
+-- the bounds of the slice
+pub cut-bounds : (text : List ℕ) (start : ℕ) (end : Option ℕ) (most n : ℕ) → AreGoodBounds (strip (pieces text)) start end → n ≡ unwrap_or end most → length text ≤ most → start ≤ most
+    → (start ≤ n) × ((first : List ℕ) → pieces first ≡ from_place start (pieces text) → IsGoodBound (strip (pieces first)) (n - start))
+cut-bounds text start end most n good same small order =
+    let shown = strip-fits text in
+    let fits : length (strip (pieces text)) ≤ most = omega (arith, shown, small) in
+    let bounds = good-fits (strip (pieces text)) start end most n good same fits order in (
+      bounds.0,
+      λ first there. subst (λ bytes. IsGoodBound bytes (n - start)) (sym (ap strip there ∙ strip-from start (pieces text))) (good-drop (strip (pieces text)) start n bounds.0 bounds.1),
+    )
+
+pub true-unless : (test : Bool) → (test ≡ false → ⊥) → test ≡ true
+true-unless true h = refl
+true-unless false h = absurd (h refl)

@@ -1,8 +1,9 @@
 //! Cuts of a text: the text between two places, with the sequences among and before it.
-ghost use Rattle.std.specs.Prelude.{◌≡◌, ◌↔◌, ℕ, List, length, unwrap_or, IfOk, IfSome, IsOk, IsSome, IsTrue, false, string_bytes};
+ghost use Rattle.std.specs.Prelude.{◌≡◌, ◌↔◌, ◌++◌, ℕ, List, length, unwrap_or, IfOk, IfSome, IsOk, IsSome, IsTrue, false, string_bytes};
 ghost use Rattle.std.specs.Cow.{IsOwnedStr, cow_str_bytes};
 ghost use Rattle.ansi_scan.specs.Sequences.{Piece, ArePiecesOf};
 ghost use Rattle.ansi_scan.specs.Pieces.{pieces};
+ghost use Rattle.ansi_scan.specs.StartsAndEnds.{end_bytes};
 ghost use Rattle.ansi_str.specs.StyledText.{has_escape, strip};
 ghost use Rattle.ansi_str.specs.Parts.{before_place};
 ghost use Rattle.ansi_str.specs.Walking.{sequences};
@@ -10,7 +11,7 @@ ghost use Rattle.ansi_str.specs.Cuts.{AreGoodBounds, IsGoodBound, cut_part};
 
 use crate::places::{Place, behind_item, front, split_item, text_len};
 use crate::strip::has_escape;
-use ansi_scan::Kind;
+use ansi_scan::{Kind, Style};
 use std::alloc::{AllocError, Global};
 use std::borrow::CowStr;
 
@@ -48,18 +49,28 @@ pub(crate) fn cut(
     ensures borrows { IfOk result (λ part. IsOwnedStr part → IsTrue (has_escape text.now)) }
 {
     let first = Place::start_of(text).after(start);
-    let len = match end {
-        Some(end) => end - start,
-        None => first.rest.len(),
-    };
-    let last = first.through(len);
+    let end = end.unwrap_or(usize::MAX);
+    let last = first.through(end - start);
     let slice = front(first.rest, last.rest);
     if last.style.is_plain() && !has_escape(front(text, first.rest)) {
         return Ok(CowStr::Borrowed(slice));
     }
+    Ok(CowStr::Owned(joined_cut(alloc, text, start, slice, last.style)?))
+}
+
+// The sequences before a cut, its slice of the text, and the end of the style that is then open.
+fn joined_cut(
+    alloc: Global,
+    text: &str,
+    start: usize,
+    slice: &str,
+    style: Style,
+) -> Result<String, AllocError>
+    ensures { IfOk result (λ out. string_bytes out ≡ sequences (before_place start (pieces text.now)) ++ (slice.now ++ end_bytes style)) }
+{
     let before = sequences_before(alloc, text, start)?;
-    let end = last.style.end();
-    Ok(CowStr::Owned(format!(in alloc; "{before}{slice}{end}")?))
+    let end = style.end();
+    format!(in alloc; "{before}{slice}{end}")
 }
 
 // The sequences among and before so many bytes of text.

@@ -32,7 +32,7 @@ pub returns-else-is_char_boundary : goal.returns-else-is_char_boundary
 returns-else-is_char_boundary c = (
   λ e. cc e,
   λ good. let inside = c.is_char_boundary.ensures.test.1 (bound-inside c.loop-left.rest.now c.loop-left.left c.args.text.now c.args.at c.loop-left.invariant.1 c.text_len-len.result c.text_len-len.ensures.value good) in
-  let both : false ≡ true = sym c.if-is_char_boundary.false ∙ inside in cc both,
+      let both : false ≡ true = sym c.if-is_char_boundary.false ∙ inside in cc both,
 )
 
 pub returns-else-not-is_empty : goal.returns-else-not-is_empty
