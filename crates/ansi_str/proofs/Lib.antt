@@ -19,6 +19,7 @@ pub mod StdSplits
 pub mod PlainParts
 pub mod CutParts
 pub mod CutSteps
+pub mod BreakSteps
 pub mod MergeLemmas
 pub mod LineLemmas
 pub mod RestLemmas
