@@ -1,9 +1,9 @@
 -- The parts of a split at places, one after the other.
-use Rattle.std.proofs.Common.{◌≡◌, ℕ, zero, suc, ◌+◌, ◌-◌, ◌<◌, ◌≤◌, ◌==◌, nat_lt, Bool, true, false, All, List, [], ◌∷◌, ◌++◌, length, get_or, map, take, drop, min, length-append, eqb-true, refl, ap, sym, subst, ◌∙◌, arith, if◌then◌else◌}
+use Rattle.std.proofs.Common.{◌≡◌, ℕ, zero, suc, ◌+◌, ◌-◌, ◌<◌, ◌≤◌, ◌==◌, nat_lt, Bool, true, false, All, List, [], ◌∷◌, ◌++◌, length, get_or, map, take, drop, min, length-append, eqb-true, refl, ap, sym, subst, ◌∙◌, append_assoc, arith, if◌then◌else◌}
 use Rattle.std.specs.List.Sorted.{IsStrictlyIncreasing}
 use Rattle.std.specs.Str.{IsCharBoundary}
 use Rattle.std.proofs.lemmas.Bool.Decides.{nat_tests}
-use Rattle.std.proofs.lemmas.List.{length-drop}
+use Rattle.std.proofs.lemmas.List.{length-drop, drop-drop}
 use Rattle.std.proofs.lemmas.List.Elements.{All-head, All-tail}
 use Rattle.ansi_scan.specs.Sequences.{Piece, joined, EachStands, ArePiecesOf}
 use Rattle.ansi_scan.specs.Joining.{is_text_kind}
@@ -21,7 +21,7 @@ use Rattle.ansi_str.proofs.PlaceLemmas.{strip-from, from-none, from-past, throug
 use Rattle.ansi_str.proofs.PlaceSums.{from-from, through-all, style-through_split}
 use Rattle.ansi_str.proofs.RestLemmas.{strip-fits}
 use Rattle.ansi_str.proofs.CutParts.{style-cut, first_part-slice, later_part-slice}
-use Rattle.ansi_str.proofs.CutSteps.{slice-bytes}
+use Rattle.ansi_str.proofs.CutSteps.{slice-bytes, good-drop}
 
 -- ---- the pieces from the first text on
 
@@ -229,3 +229,51 @@ part-dressed rest style n end end_style sliced opened =
 
 pub through-rest : (rest : List ℕ) → through_place (length rest) (pieces rest) ≡ pieces rest
 through-rest rest = through-all (length rest) (pieces rest) (strip-fits rest)
+
+-- ---- a walk over the places
+
+-- the parts so far and those that are left are all parts
+pub record Walked (text places : List ℕ) (parts : List (List ℕ)) (rest : List ℕ) (style : Attributes) (from : ℕ) (left : List ℕ) : Type 0 where
+  pub all_parts : parts ++ parts_from style (pieces rest) from left ≡ parts_from plain_attributes (pieces text) 0 places
+  pub shown : strip (pieces rest) ≡ drop from (strip (pieces text))
+  pub breaks : BreaksFrom (strip (pieces text)) from left
+
+pub Walked-start : (text places rest : List ℕ) (style : Attributes) → AreBreaks (strip (pieces text)) places → rest ≡ text → style ≡ plain_attributes → Walked text places [] rest style 0 places
+Walked-start text places rest style breaks same plain = record {
+  all_parts = ap (λ s. parts_from s (pieces rest) 0 places) plain ∙ ap (λ t. parts_from plain_attributes (pieces t) 0 places) same;
+  shown = ap (λ t. strip (pieces t)) same;
+  breaks = BreaksFrom-all (strip (pieces text)) places breaks;
+}
+
+module _ (text places : List ℕ) (parts : List (List ℕ)) (rest : List ℕ) (style : Attributes) (from at : ℕ) (left : List ℕ) (walked : Walked text places parts rest style from (at ∷ left)) where
+  pub walked-order : from ≤ at
+  walked-order = walked.breaks.0
+
+  pub walked-good : IsGoodBound (strip (pieces rest)) (at - from)
+  walked-good = subst (λ bytes. IsGoodBound bytes (at - from)) (sym walked.shown) (good-drop (strip (pieces text)) from at walked.breaks.0 (λ _. walked.breaks.1))
+
+  pub Walked-next : (part end : List ℕ) (end_style : Attributes) → part ≡ dressed style (through_place (at - from) (pieces rest)) → pieces end ≡ from_text (from_place (at - from) (pieces rest))
+      → end_style ≡ style_after_all style (through_place (at - from) (pieces rest)) → Walked text places (parts ++ part ∷ []) end end_style at left
+  Walked-next part end end_style is_part there opened =
+      let n = at - from in
+      let sum : from + n ≡ at = omega (arith, walked.breaks.0) in
+      record {
+        all_parts =
+            append_assoc parts (part ∷ []) (parts_from end_style (pieces end) at left)
+            ∙ ap (λ bytes. parts ++ bytes ∷ parts_from end_style (pieces end) at left) is_part
+            ∙ ap (λ s. parts ++ dressed style (through_place n (pieces rest)) ∷ parts_from s (pieces end) at left) opened
+            ∙ ap (λ ps. parts ++ dressed style (through_place n (pieces rest)) ∷ parts_from (style_after_all style (through_place n (pieces rest))) ps at left) there
+            ∙ walked.all_parts;
+        shown =
+            ap strip there ∙ strip-from_text (from_place n (pieces rest)) ∙ strip-from n (pieces rest) ∙ ap (drop n) walked.shown
+            ∙ drop-drop n from (strip (pieces text)) ∙ ap (λ m. drop m (strip (pieces text))) sum;
+        breaks = walked.breaks.2;
+      }
+
+-- behind the last place the part is all that is left
+pub Walked-end : (text places : List ℕ) (parts : List (List ℕ)) (rest : List ℕ) (style : Attributes) (from : ℕ) → AreBreaks (strip (pieces text)) places → Walked text places parts rest style from []
+    → (part : List ℕ) → part ≡ dressed style (through_place (length rest) (pieces rest)) → (ps : List Piece) → ArePiecesOf text ps → parts ++ part ∷ [] ≡ parts_at places ps
+Walked-end text places parts rest style from breaks walked part is_part ps of_text =
+    ap (λ bytes. parts ++ bytes ∷ []) (is_part ∙ ap (dressed style) (through-rest rest)) ∙ walked.all_parts
+    ∙ parts_from-all places (pieces text) (ArePiecesOf-pieces text).stand (BreaksFrom-all (strip (pieces text)) places breaks)
+    ∙ ap (parts_at places) (ArePiecesOf-unique text (pieces text) ps (ArePiecesOf-pieces text) of_text)
