@@ -17,3 +17,21 @@ two_lines =
     ∷ record { kind = Sgr; bytes = codes "\u{1b}[38;5;20m" }
     ∷ record { kind = Text; bytes = codes "Dar\nren" }
     ∷ record { kind = Sgr; bytes = codes "\u{1b}[0m" } ∷ []
+
+-- a black word
+abbrev pub black_word : List Piece
+black_word =
+    record { kind = Sgr; bytes = codes "\u{1b}[30m" }
+    ∷ record { kind = Text; bytes = codes "TEXT" }
+    ∷ record { kind = Sgr; bytes = codes "\u{1b}[39m" } ∷ []
+
+-- two red characters, which stay so, and before two that are not
+abbrev pub red_text : List Piece
+red_text = record { kind = Sgr; bytes = codes "\u{1b}[31m" } ∷ record { kind = Text; bytes = codes "ab" } ∷ []
+
+abbrev pub half_red_text : List Piece
+half_red_text =
+    record { kind = Sgr; bytes = codes "\u{1b}[31m" }
+    ∷ record { kind = Text; bytes = codes "ab" }
+    ∷ record { kind = Sgr; bytes = codes "\u{1b}[0m" }
+    ∷ record { kind = Text; bytes = codes "cd" } ∷ []

@@ -1,6 +1,6 @@
 //! Laws of the definitions that the other contracts cite.
 
-ghost use Rattle.std.specs.Prelude.{All, ◌≡◌, ◌<◌, ◌≤◌, ◌-◌, ◌==◌, ℕ, List, [], ◌∷◌, ◌++◌, codes, drop, false, flat_map, length, map, slice_range, true};
+ghost use Rattle.std.specs.Prelude.{All, None, Some, ◌≡◌, ◌<◌, ◌≤◌, ◌-◌, ◌==◌, ℕ, List, [], ◌∷◌, ◌++◌, codes, drop, false, flat_map, length, map, slice_range, true};
 ghost use Rattle.std.specs.Borrow.{Bor};
 ghost use Rattle.std.specs.Iterator.{AlwaysYields};
 ghost use Rattle.std.specs.List.{join_with_byte, slice_split};
@@ -12,13 +12,13 @@ ghost use Rattle.ansi_scan.specs.Pieces.{pieces as pieces_of};
 ghost use Rattle.ansi_scan.specs.Sequences.{Piece, ArePiecesOf, NoneBroken, joined};
 ghost use Rattle.ansi_scan.specs.Attributes.{plain_attributes};
 ghost use Rattle.ansi_str.specs.StyledText.{IsClosed, has_escape, strip, style_after_all, styled, styled_from};
-ghost use Rattle.ansi_str.specs.Cuts.{cut_part, later_part, parts_at};
+ghost use Rattle.ansi_str.specs.Cuts.{AreGoodBounds, cut_part, later_part, parts_at};
 ghost use Rattle.ansi_str.specs.Walking.{from_text, sequences};
 ghost use Rattle.ansi_scan.specs.StartsAndEnds.{end_bytes};
 ghost use Rattle.ansi_str.specs.Parts.{before_place, dressed, from_place, split_part, through_place};
 ghost use Rattle.ansi_str.specs.Matches.{AreMatches, split_bounds, styled_parts, text_parts};
 ghost use Rattle.ansi_str.specs.Lines.{IsClosedLine, IsClosedText};
-ghost use Rattle.ansi_str.specs.WorkedParts.{black_text, two_lines};
+ghost use Rattle.ansi_str.specs.WorkedParts.{black_text, black_word, half_red_text, red_text, two_lines};
 ghost use Rattle.ansi_str.specs.Blocks.{blocks_from, text_of_block, styled_of_block};
 
 /// Without its sequences a text has no ESC, and without its sequences once more it is the same.
@@ -168,4 +168,18 @@ pub fn breaks_are_slices()
     ensures later { (text : List ℕ) (pieces : List Piece) (a b : ℕ) → a ≤ b → ArePiecesOf text pieces →
         later_part a b pieces ≡ dressed (style_after_all plain_attributes (through_place a pieces))
         (through_place (b - a) (from_text (from_place a pieces))) }
+{}
+
+/// Cuts and splits at places worked out by hand: a sequence before a cut stays, and one at a break
+/// stands in the part before it alone.
+pub fn worked_cuts()
+    ensures cut { cut_part 1 3 black_word ≡ codes "\u{1b}[30mEX\u{1b}[39m" }
+    ensures behind { parts_at (2 ∷ []) half_red_text ≡ codes "\u{1b}[31mab\u{1b}[0m" ∷ codes "cd" ∷ [] }
+    ensures inside { parts_at (1 ∷ []) half_red_text ≡
+        codes "\u{1b}[31ma\u{1b}[39m" ∷ codes "\u{1b}[31mb\u{1b}[0mcd" ∷ [] }
+    ensures front { parts_at (0 ∷ []) red_text ≡ codes "\u{1b}[31m\u{1b}[39m" ∷ codes "\u{1b}[31mab\u{1b}[39m" ∷ [] }
+    ensures whole { parts_at [] red_text ≡ codes "\u{1b}[31mab\u{1b}[39m" ∷ [] }
+    ensures good { AreGoodBounds (codes "TEXT") 1 (Some 3) }
+    ensures reversed { ¬ (AreGoodBounds (codes "TEXT") 2 (Some 1)) }
+    ensures divided { ¬ (AreGoodBounds (0xc3 ∷ 0xa9 ∷ []) 1 None) }
 {}
