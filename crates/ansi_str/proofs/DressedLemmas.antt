@@ -78,7 +78,7 @@ NoTextFirst-append : (ps after : List Piece) → NoTextFirst ps → NoTextFirst 
 NoTextFirst-append [] after first behind = behind
 NoTextFirst-append (p ∷ ps) after first behind = first
 
-NoneBroken-append : (ps after : List Piece) → NoneBroken ps → NoneBroken after → NoneBroken (ps ++ after)
+pub NoneBroken-append : (ps after : List Piece) → NoneBroken ps → NoneBroken after → NoneBroken (ps ++ after)
 NoneBroken-append [] after first behind = behind
 NoneBroken-append (p ∷ ps) after first behind = (first.0, NoneBroken-append ps after first.1 behind)
 
@@ -92,7 +92,7 @@ Stands-before Esc bytes ps qs stands whole turn = stands
 Stands-before Str bytes ps qs stands whole turn = stands
 Stands-before Broken bytes ps qs stands whole turn = absurd (whole refl)
 
-EachStands-append : (ps after : List Piece) → EachStands ps → NoneBroken ps → NoTextFirst after → EachStands after → EachStands (ps ++ after)
+pub EachStands-append : (ps after : List Piece) → EachStands ps → NoneBroken ps → NoTextFirst after → EachStands after → EachStands (ps ++ after)
 EachStands-append [] after each whole first behind = behind
 EachStands-append (p ∷ ps) after each whole first behind = (
   Stands-before p.kind p.bytes ps (ps ++ after) each.0 whole.0 (λ ends. NoTextFirst-append ps after ends first),

@@ -20,6 +20,7 @@ pub mod PlainParts
 pub mod CutParts
 pub mod CutSteps
 pub mod BreakSteps
+pub mod WholeCuts
 pub mod MergeLemmas
 pub mod LineLemmas
 pub mod RestLemmas

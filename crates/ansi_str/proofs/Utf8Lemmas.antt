@@ -71,7 +71,7 @@ boundary-first xs ys n h boundary =
     let whole : n < length (xs ++ ys) = omega (arith, length-append xs ys) in
     (omega arith, λ _ high. subst (λ b. 192 ≤ b) same (boundary.1 whole (subst (λ b. 128 ≤ b) (sym same) high)))
 
-boundary-second : (xs ys : List ℕ) (n : ℕ) → length xs ≤ n → IsCharBoundary (xs ++ ys) n → IsCharBoundary ys (n - length xs)
+pub boundary-second : (xs ys : List ℕ) (n : ℕ) → length xs ≤ n → IsCharBoundary (xs ++ ys) n → IsCharBoundary ys (n - length xs)
 boundary-second xs ys n h boundary =
     let same : get_or (xs ++ ys) n 0 ≡ get_or ys (n - length xs) 0 = get_or-append_right xs ys (length xs) n 0 refl h in
     let size : length (xs ++ ys) ≡ length xs + length ys = length-append xs ys in
@@ -82,7 +82,7 @@ boundary-second xs ys n h boundary =
           subst (λ b. 192 ≤ b) same (boundary.1 whole (subst (λ b. 128 ≤ b) (sym same) high)),
     )
 
-boundary-bytes : (n : ℕ) (p : Piece) (ps : List Piece) → n < length (text_of p) → IsCharBoundary (strip (p ∷ ps)) n → IsCharBoundary p.bytes n
+pub boundary-bytes : (n : ℕ) (p : Piece) (ps : List Piece) → n < length (text_of p) → IsCharBoundary (strip (p ∷ ps)) n → IsCharBoundary p.bytes n
 boundary-bytes n p ps h boundary =
     subst (λ bytes. IsCharBoundary bytes n) (text_of-text p (has_text p n h)) (boundary-first (text_of p) (strip ps) n h boundary)
 

@@ -12,7 +12,7 @@ ghost use Rattle.ansi_scan.specs.Pieces.{pieces as pieces_of};
 ghost use Rattle.ansi_scan.specs.Sequences.{Piece, ArePiecesOf, NoneBroken, joined};
 ghost use Rattle.ansi_scan.specs.Attributes.{plain_attributes};
 ghost use Rattle.ansi_str.specs.StyledText.{IsClosed, has_escape, strip, style_after_all, styled, styled_from};
-ghost use Rattle.ansi_str.specs.Cuts.{AreGoodBounds, cut_part, later_part, parts_at};
+ghost use Rattle.ansi_str.specs.Cuts.{AreGoodBounds, IsGoodBound, cut_part, later_part, parts_at};
 ghost use Rattle.ansi_str.specs.Walking.{from_text, sequences};
 ghost use Rattle.ansi_scan.specs.StartsAndEnds.{end_bytes};
 ghost use Rattle.ansi_str.specs.Parts.{before_place, dressed, from_place, split_part, through_place};
@@ -182,4 +182,28 @@ pub fn worked_cuts()
     ensures good { AreGoodBounds (codes "TEXT") 1 (Some 3) }
     ensures reversed { ¬ (AreGoodBounds (codes "TEXT") 2 (Some 1)) }
     ensures divided { ¬ (AreGoodBounds (0xc3 ∷ 0xa9 ∷ []) 1 None) }
+{}
+
+/// The parts of a whole text that is split at places show the characters of their slices, in the styles
+/// that they have in the text, and they are closed.
+pub fn breaks_show_their_slices()
+    ensures first { (text : List ℕ) (pieces of_part : List Piece) (b : ℕ) → ArePiecesOf text pieces → NoneBroken pieces →
+        ArePiecesOf (cut_part 0 b pieces) of_part → styled of_part ≡ styled_from plain_attributes (through_place b pieces) }
+    ensures first_closed { (text : List ℕ) (pieces of_part : List Piece) (b : ℕ) → ArePiecesOf text pieces → NoneBroken pieces →
+        ArePiecesOf (cut_part 0 b pieces) of_part → IsClosed of_part }
+    ensures later { (text : List ℕ) (pieces of_part : List Piece) (a b : ℕ) → a ≤ b → ArePiecesOf text pieces → NoneBroken pieces →
+        ArePiecesOf (later_part a b pieces) of_part →
+        styled of_part ≡ styled_from (style_after_all plain_attributes (through_place a pieces))
+        (through_place (b - a) (from_text (from_place a pieces))) }
+    ensures later_closed { (text : List ℕ) (pieces of_part : List Piece) (a b : ℕ) → a ≤ b → ArePiecesOf text pieces → NoneBroken pieces →
+        ArePiecesOf (later_part a b pieces) of_part → IsClosed of_part }
+{}
+
+/// The two sides of a whole text that is split at a place, one behind the other, show what the text
+/// shows, each character in its style.
+pub fn sides_show_the_text()
+    ensures { (text : List ℕ) (pieces first second : List Piece) (mid : ℕ) → IsUtf8 text → ArePiecesOf text pieces →
+        NoneBroken pieces → mid ≤ length (strip pieces) → IsGoodBound (strip pieces) mid →
+        ArePiecesOf (cut_part 0 mid pieces) first → ArePiecesOf (later_part mid (length (strip pieces)) pieces) second →
+        styled first ++ styled second ≡ styled pieces }
 {}
