@@ -21,6 +21,7 @@ pub mod CutParts
 pub mod CutSteps
 pub mod BreakSteps
 pub mod WholeCuts
+pub mod WholeSlices
 pub mod MergeLemmas
 pub mod LineLemmas
 pub mod RestLemmas

@@ -207,3 +207,13 @@ pub fn sides_show_the_text()
         ArePiecesOf (cut_part 0 mid pieces) first → ArePiecesOf (later_part mid (length (strip pieces)) pieces) second →
         styled first ++ styled second ≡ styled pieces }
 {}
+
+/// A cut of a whole text shows the characters of its slice, in the styles that they have in the text, and
+/// it is closed.
+pub fn cuts_show_their_slices()
+    ensures shown { (text : List ℕ) (pieces of_cut : List Piece) (a b : ℕ) → a ≤ b → ArePiecesOf text pieces → NoneBroken pieces →
+        ArePiecesOf (cut_part a b pieces) of_cut →
+        styled of_cut ≡ styled_from (style_after_all plain_attributes (before_place a pieces)) (through_place (b - a) (from_place a pieces)) }
+    ensures closed { (text : List ℕ) (pieces of_cut : List Piece) (a b : ℕ) → a ≤ b → ArePiecesOf text pieces → NoneBroken pieces →
+        ArePiecesOf (cut_part a b pieces) of_cut → IsClosed of_cut }
+{}
