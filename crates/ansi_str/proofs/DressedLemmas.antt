@@ -35,7 +35,7 @@ renditions (bytes ∷ others) = record { kind = Sgr; bytes = bytes } ∷ renditi
 abbrev IsRead : List ℕ → Type 0
 IsRead bytes = IsSome (sgr_parameters bytes)
 
-joined-renditions : (sequences : List (List ℕ)) → joined (renditions sequences) ≡ concat sequences
+pub joined-renditions : (sequences : List (List ℕ)) → joined (renditions sequences) ≡ concat sequences
 joined-renditions [] = refl
 joined-renditions (bytes ∷ others) = ap (λ rest. bytes ++ rest) (joined-renditions others)
 
@@ -44,21 +44,21 @@ EachStands-renditions [] after all each = each
 EachStands-renditions (bytes ∷ others) after all each =
     (IsSgr-if_read bytes (All-head IsRead bytes others all), EachStands-renditions others after (All-tail IsRead bytes others all) each)
 
-NoTextFirst-renditions : (sequences : List (List ℕ)) → NoTextFirst (renditions sequences)
+pub NoTextFirst-renditions : (sequences : List (List ℕ)) → NoTextFirst (renditions sequences)
 NoTextFirst-renditions [] = tt
 NoTextFirst-renditions (bytes ∷ others) = λ same. cc same
 
-NoneBroken-renditions : (sequences : List (List ℕ)) → NoneBroken (renditions sequences)
+pub NoneBroken-renditions : (sequences : List (List ℕ)) → NoneBroken (renditions sequences)
 NoneBroken-renditions [] = tt
 NoneBroken-renditions (bytes ∷ others) = ((λ same. cc same), NoneBroken-renditions others)
 
-styled_from-renditions : (style : Attributes) (sequences : List (List ℕ)) → styled_from style (renditions sequences) ≡ []
+pub styled_from-renditions : (style : Attributes) (sequences : List (List ℕ)) → styled_from style (renditions sequences) ≡ []
 styled_from-renditions style [] = refl
 styled_from-renditions style (bytes ∷ others) =
     ap (λ cs. map (λ c. (c, style)) cs ++ styled_from (applied style bytes) (renditions others)) chars-nil
     ∙ styled_from-renditions (applied style bytes) others
 
-style_after_all-renditions : (style : Attributes) (sequences : List (List ℕ)) → style_after_all style (renditions sequences) ≡ fold applied style sequences
+pub style_after_all-renditions : (style : Attributes) (sequences : List (List ℕ)) → style_after_all style (renditions sequences) ≡ fold applied style sequences
 style_after_all-renditions style [] = refl
 style_after_all-renditions style (bytes ∷ others) = style_after_all-renditions (applied style bytes) others
 
@@ -78,7 +78,7 @@ NoTextFirst-append : (ps after : List Piece) → NoTextFirst ps → NoTextFirst 
 NoTextFirst-append [] after first behind = behind
 NoTextFirst-append (p ∷ ps) after first behind = first
 
-NoneBroken-append : (ps after : List Piece) → NoneBroken ps → NoneBroken after → NoneBroken (ps ++ after)
+pub NoneBroken-append : (ps after : List Piece) → NoneBroken ps → NoneBroken after → NoneBroken (ps ++ after)
 NoneBroken-append [] after first behind = behind
 NoneBroken-append (p ∷ ps) after first behind = (first.0, NoneBroken-append ps after first.1 behind)
 
@@ -92,7 +92,7 @@ Stands-before Esc bytes ps qs stands whole turn = stands
 Stands-before Str bytes ps qs stands whole turn = stands
 Stands-before Broken bytes ps qs stands whole turn = absurd (whole refl)
 
-EachStands-append : (ps after : List Piece) → EachStands ps → NoneBroken ps → NoTextFirst after → EachStands after → EachStands (ps ++ after)
+pub EachStands-append : (ps after : List Piece) → EachStands ps → NoneBroken ps → NoTextFirst after → EachStands after → EachStands (ps ++ after)
 EachStands-append [] after each whole first behind = behind
 EachStands-append (p ∷ ps) after each whole first behind = (
   Stands-before p.kind p.bytes ps (ps ++ after) each.0 whole.0 (λ ends. NoTextFirst-append ps after ends first),
@@ -207,7 +207,7 @@ module _ (style : Attributes) (slice : List Piece) where
       ∙ ap (λ bytes. start_bytes style ++ bytes) (joined-append slice (renditions ends)
       ∙ ap (λ bytes. joined slice ++ bytes) (joined-renditions ends ∙ sym (end_bytes-sequences open_style)))
 
-  ends_stand : EachStands (renditions ends)
+  pub ends_stand : EachStands (renditions ends)
   ends_stand = subst EachStands (append-nil (renditions ends)) (EachStands-renditions ends [] (end_sequences_are_read open_style) tt)
 
   pub ArePiecesOf-dressed : IsRendition style → EachStands slice → NoneBroken slice → ArePiecesOf (dressed style slice) (dressed_pieces style slice)

@@ -17,6 +17,11 @@ pub mod CutLemmas
 pub mod MatchLists
 pub mod StdSplits
 pub mod PlainParts
+pub mod CutParts
+pub mod CutSteps
+pub mod BreakSteps
+pub mod WholeCuts
+pub mod WholeSlices
 pub mod MergeLemmas
 pub mod LineLemmas
 pub mod RestLemmas

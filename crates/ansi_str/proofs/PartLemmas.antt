@@ -95,7 +95,7 @@ text_of-text piece text = shown-kind piece.kind piece.bytes ∙ ap (λ t. if t t
 pub text_of-sequence : (piece : Piece) → is_text_kind piece.kind ≡ false → text_of piece ≡ []
 text_of-sequence piece other = shown-kind piece.kind piece.bytes ∙ ap (λ t. if t then piece.bytes else []) other
 
-take_nil : (n : ℕ) → take {A = ℕ} n [] ≡ []
+pub take_nil : (n : ℕ) → take {A = ℕ} n [] ≡ []
 take_nil zero = refl
 take_nil (suc n) = refl
 

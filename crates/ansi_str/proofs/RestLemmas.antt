@@ -79,7 +79,7 @@ module _ (rest : List ℕ) (style : Attributes) (n : ℕ) (cut : List ℕ) (cut_
         let size : length rest - length end ≡ length (joined slice) = omega (arith, len, length-append (joined slice) end) in
         ap (λ k. take k rest) size ∙ ap (take (length (joined slice))) rest_slice ∙ take-append_seam (joined slice) end
 
-    slice-style : end_style ≡ style_after_all style slice
+    pub slice-style : end_style ≡ style_after_all style slice
     slice-style =
         opened ∙ ap (λ s. style_after_all s (through_place 0 (pieces cut))) known
         ∙ ap (λ ps. style_after_all (style_after_all style (before_place n (pieces rest))) (through_place 0 ps)) there

@@ -1,6 +1,8 @@
 pub mod StyledText
 pub mod Blocks
 pub mod Parts
+pub mod Cuts
+pub mod Ranges
 pub mod Walking
 pub mod Splitting
 pub mod Rests

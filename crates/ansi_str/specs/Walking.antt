@@ -1,5 +1,5 @@
 -- Steps through the pieces of a text.
-use Rattle.std.specs.Prelude.{◌≡◌, ◌<◌, slice_index, length, Option, None, Some, unwrap_or, ◌==◌, ◌&&◌, not, ℕ, Bool, false, List, [], ◌∷◌, if◌then◌else◌, suc}
+use Rattle.std.specs.Prelude.{◌≡◌, ◌<◌, slice_index, length, Option, None, Some, unwrap_or, ◌==◌, ◌&&◌, not, ℕ, Bool, false, List, [], ◌∷◌, if◌then◌else◌, suc, flat_map}
 use Rattle.ansi_scan.specs.Sequences.{Piece, escape, is_plain}
 use Rattle.ansi_scan.specs.Joining.{is_text_kind}
 use Rattle.ansi_scan.specs.Attributes.{Attributes}
@@ -12,6 +12,13 @@ use Rattle.ansi_str.specs.PartsLeft.{first_match}
 abbrev pub from_text : List Piece → List Piece
 from_text [] = []
 from_text (piece ∷ pieces) = if is_text_kind piece.kind then piece ∷ pieces else from_text pieces
+
+-- the sequences, without the text between them
+abbrev pub sequence_of : Piece → List ℕ
+sequence_of piece = if is_text_kind piece.kind then [] else piece.bytes
+
+abbrev pub sequences : List Piece → List ℕ
+sequences pieces = flat_map sequence_of pieces
 
 -- behind the first of some pieces, before which this style is known, are the others, before which that style is
 pub record AreFirstAndRest (style : Attributes) (all : List Piece) (after : Attributes) (rest : List Piece) : Type 0 where

@@ -1,6 +1,6 @@
 //! Laws of the definitions that the other contracts cite.
 
-ghost use Rattle.std.specs.Prelude.{All, ◌≡◌, ◌<◌, ◌≤◌, ◌-◌, ◌==◌, ℕ, List, [], ◌∷◌, ◌++◌, chars, codes, drop, false, flat_map, length, map, slice_range, take, true, ◌↔◌, Bool, IsTrue, MatchOption, Option, is_some};
+ghost use Rattle.std.specs.Prelude.{All, ◌≡◌, ◌<◌, ◌≤◌, ◌-◌, ◌==◌, ℕ, List, [], ◌∷◌, ◌++◌, chars, codes, drop, false, flat_map, length, map, slice_range, take, true, ◌↔◌, Bool, IsTrue, MatchOption, Option, is_some, None, Some};
 ghost use Rattle.std.specs.Borrow.{Bor};
 ghost use Rattle.std.specs.Iterator.{AlwaysYields};
 ghost use Rattle.std.specs.List.{join_with_byte, slice_split};
@@ -12,12 +12,15 @@ ghost use Rattle.ansi_scan.specs.Pieces.{pieces as pieces_of};
 ghost use Rattle.ansi_scan.specs.Sequences.{Piece, ArePiecesOf, NoneBroken, joined};
 ghost use Rattle.ansi_scan.specs.Attributes.{plain_attributes};
 ghost use Rattle.ansi_str.specs.StyledText.{IsClosed, has_escape, strip, style_after_all, styled, styled_from};
+ghost use Rattle.ansi_str.specs.Cuts.{AreGoodBounds, IsGoodBound, cut_part, later_part, parts_at};
+ghost use Rattle.ansi_str.specs.Walking.{from_text, sequences};
+ghost use Rattle.ansi_scan.specs.StartsAndEnds.{end_bytes};
 ghost use Rattle.ansi_str.specs.Parts.{before_place, dressed, from_place, split_part, through_place};
 ghost use Rattle.ansi_str.specs.Matches.{AreMatches, split_bounds, styled_parts, text_parts};
 ghost use Rattle.ansi_str.specs.Lines.{IsClosedLine, IsClosedText};
-ghost use Rattle.ansi_str.specs.WorkedParts.{SplitsInto, black_text, two_lines, red_text, spaced_text};
+ghost use Rattle.ansi_str.specs.WorkedParts.{SplitsInto, black_text, black_word, half_red_text, red_text, red_word, spaced_text, two_lines};
 ghost use Rattle.ansi_str.specs.Searches.{BeginsWith, EndsWith};
-ghost use Rattle.ansi_str.specs.Keeping.{IsTrimmed, kept, sequences, without_end, without_front};
+ghost use Rattle.ansi_str.specs.Keeping.{IsTrimmed, kept, sequences as sequences_of, without_end, without_front};
 ghost use Rattle.ansi_str.specs.Blocks.{blocks_from, text_of_block, styled_of_block};
 
 /// Without its sequences a text has no ESC, and without its sequences once more it is the same.
@@ -219,7 +222,7 @@ pub fn sequences_are_kept()
     ensures shown { (a b : ℕ) (text : List ℕ) (pieces left : List Piece) → ArePiecesOf text pieces → NoneBroken pieces →
         ArePiecesOf (kept a b pieces) left → strip left ≡ slice_range (strip pieces) a b }
     ensures sequences { (a b : ℕ) (text : List ℕ) (pieces left : List Piece) → ArePiecesOf text pieces → NoneBroken pieces →
-        ArePiecesOf (kept a b pieces) left → sequences left ≡ sequences pieces }
+        ArePiecesOf (kept a b pieces) left → sequences_of left ≡ sequences_of pieces }
     ensures whole { (a b : ℕ) (text : List ℕ) (pieces left : List Piece) → ArePiecesOf text pieces → NoneBroken pieces →
         ArePiecesOf (kept a b pieces) left → NoneBroken left }
 {}
@@ -236,4 +239,70 @@ pub fn worked_keeping()
     ensures suffix { without_end 2 red_text ≡ codes "\u{1b}[31ma\u{1b}[0m" }
     ensures nothing { without_front 3 red_text ≡ codes "\u{1b}[31m\u{1b}[0m" }
     ensures trimmed { kept 2 3 spaced_text ≡ codes "\u{1b}[1ma" }
+{}
+
+/// A cut is the sequences before its start and one slice of the text, and the end of the style then open.
+pub fn cuts_are_slices()
+    ensures { (a b : ℕ) (pieces : List Piece) → a ≤ b →
+        cut_part a b pieces ≡ sequences (before_place a pieces) ++ (joined (through_place (b - a) (from_place a pieces))
+        ++ end_bytes (style_after_all plain_attributes (through_place b pieces))) }
+{}
+
+/// The parts of a split at places are slices of the text: the first one from its front, and a later one
+/// from behind the sequences that stand at the place before it, which begins with the start of the style
+/// known there.
+pub fn breaks_are_slices()
+    ensures first { (b : ℕ) (pieces : List Piece) →
+        cut_part 0 b pieces ≡ dressed plain_attributes (through_place b pieces) }
+    ensures later { (text : List ℕ) (pieces : List Piece) (a b : ℕ) → a ≤ b → ArePiecesOf text pieces →
+        later_part a b pieces ≡ dressed (style_after_all plain_attributes (through_place a pieces))
+        (through_place (b - a) (from_text (from_place a pieces))) }
+{}
+
+/// Cuts and splits at places worked out by hand: a sequence before a cut stays, and one at a break
+/// stands in the part before it alone.
+pub fn worked_cuts()
+    ensures cut { cut_part 1 3 black_word ≡ codes "\u{1b}[30mEX\u{1b}[39m" }
+    ensures behind { parts_at (2 ∷ []) half_red_text ≡ codes "\u{1b}[31mab\u{1b}[0m" ∷ codes "cd" ∷ [] }
+    ensures inside { parts_at (1 ∷ []) half_red_text ≡
+        codes "\u{1b}[31ma\u{1b}[39m" ∷ codes "\u{1b}[31mb\u{1b}[0mcd" ∷ [] }
+    ensures front { parts_at (0 ∷ []) red_word ≡ codes "\u{1b}[31m\u{1b}[39m" ∷ codes "\u{1b}[31mab\u{1b}[39m" ∷ [] }
+    ensures whole { parts_at [] red_word ≡ codes "\u{1b}[31mab\u{1b}[39m" ∷ [] }
+    ensures good { AreGoodBounds (codes "TEXT") 1 (Some 3) }
+    ensures reversed { ¬ (AreGoodBounds (codes "TEXT") 2 (Some 1)) }
+    ensures divided { ¬ (AreGoodBounds (0xc3 ∷ 0xa9 ∷ []) 1 None) }
+{}
+
+/// The parts of a whole text that is split at places show the characters of their slices, in the styles
+/// that they have in the text, and they are closed.
+pub fn breaks_show_their_slices()
+    ensures first { (text : List ℕ) (pieces of_part : List Piece) (b : ℕ) → ArePiecesOf text pieces → NoneBroken pieces →
+        ArePiecesOf (cut_part 0 b pieces) of_part → styled of_part ≡ styled_from plain_attributes (through_place b pieces) }
+    ensures first_closed { (text : List ℕ) (pieces of_part : List Piece) (b : ℕ) → ArePiecesOf text pieces → NoneBroken pieces →
+        ArePiecesOf (cut_part 0 b pieces) of_part → IsClosed of_part }
+    ensures later { (text : List ℕ) (pieces of_part : List Piece) (a b : ℕ) → a ≤ b → ArePiecesOf text pieces → NoneBroken pieces →
+        ArePiecesOf (later_part a b pieces) of_part →
+        styled of_part ≡ styled_from (style_after_all plain_attributes (through_place a pieces))
+        (through_place (b - a) (from_text (from_place a pieces))) }
+    ensures later_closed { (text : List ℕ) (pieces of_part : List Piece) (a b : ℕ) → a ≤ b → ArePiecesOf text pieces → NoneBroken pieces →
+        ArePiecesOf (later_part a b pieces) of_part → IsClosed of_part }
+{}
+
+/// The two sides of a whole text that is split at a place, one behind the other, show what the text
+/// shows, each character in its style.
+pub fn sides_show_the_text()
+    ensures { (text : List ℕ) (pieces first second : List Piece) (mid : ℕ) → IsUtf8 text → ArePiecesOf text pieces →
+        NoneBroken pieces → mid ≤ length (strip pieces) → IsGoodBound (strip pieces) mid →
+        ArePiecesOf (cut_part 0 mid pieces) first → ArePiecesOf (later_part mid (length (strip pieces)) pieces) second →
+        styled first ++ styled second ≡ styled pieces }
+{}
+
+/// A cut of a whole text shows the characters of its slice, in the styles that they have in the text, and
+/// it is closed.
+pub fn cuts_show_their_slices()
+    ensures shown { (text : List ℕ) (pieces of_cut : List Piece) (a b : ℕ) → a ≤ b → ArePiecesOf text pieces → NoneBroken pieces →
+        ArePiecesOf (cut_part a b pieces) of_cut →
+        styled of_cut ≡ styled_from (style_after_all plain_attributes (before_place a pieces)) (through_place (b - a) (from_place a pieces)) }
+    ensures closed { (text : List ℕ) (pieces of_cut : List Piece) (a b : ℕ) → a ≤ b → ArePiecesOf text pieces → NoneBroken pieces →
+        ArePiecesOf (cut_part a b pieces) of_cut → IsClosed of_cut }
 {}

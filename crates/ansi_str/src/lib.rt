@@ -7,9 +7,12 @@ ghost use Rattle.ansi_scan.specs.Attributes.{plain_attributes};
 ghost use Rattle.ansi_str.specs.Blocks.{blocks_from};
 
 mod blocks;
+mod breaks;
+mod cut;
 pub mod laws;
 mod matches;
 mod places;
+mod ranges;
 mod rest;
 mod search;
 mod split;
@@ -19,6 +22,8 @@ mod text;
 mod trim;
 
 pub use blocks::{AnsiBlock, AnsiBlockIter};
+pub use breaks::split_places;
+pub use ranges::AnsiRange;
 pub use split::AnsiSplit;
 pub use text::AnsiStr;
 

@@ -3,7 +3,7 @@ ghost use Rattle.std.specs.Prelude.{slice_index, drop, ◌≡◌, ◌≤◌, ◌
 ghost use Rattle.std.specs.Cow.{IsOwnedStr, cow_str_bytes};
 ghost use Rattle.std.specs.List.{prefix_len};
 ghost use Rattle.std.specs.Str.{IsCharBoundary};
-ghost use Rattle.ansi_scan.specs.Sequences.{is_plain};
+ghost use Rattle.ansi_scan.specs.Sequences.{is_plain, joined};
 ghost use Rattle.ansi_scan.specs.Pieces.{pieces};
 ghost use Rattle.ansi_scan.specs.Attributes.{plain_attributes};
 ghost use Rattle.ansi_scan.specs.StartsAndEnds.{start_bytes, end_bytes};
@@ -27,6 +27,17 @@ pub(crate) struct Place<'a> {
 }
 
 impl<'a> Place<'a> {
+    /// Before all of a text.
+    pub(crate) fn start_of(text: &'a str) -> Place<'a>
+        ensures rest { result.rest.now ≡ text.now }
+        ensures style { result.style ≡ plain_attributes }
+    {
+        Place {
+            rest: text,
+            style: Style::plain(),
+        }
+    }
+
     /// Behind so many bytes of stripped text and the sequences among and before them, or at the end.
     pub(crate) fn after(&self, n: usize) -> Place<'a>
         requires { n < length (strip (pieces self.now.rest.now)) → IsCharBoundary (strip (pieces self.now.rest.now)) n }
@@ -60,6 +71,16 @@ impl<'a> Place<'a> {
             place.rest = &place.rest[run_len(place.rest, byte)..];
         }
         place
+    }
+
+    /// Behind so many bytes of stripped text and the sequences among, before and behind them.
+    pub(crate) fn through(&self, n: usize) -> Place<'a>
+        requires { n < length (strip (pieces self.now.rest.now)) → IsCharBoundary (strip (pieces self.now.rest.now)) n }
+        ensures rest { pieces result.rest.now ≡ from_text (from_place n (pieces self.now.rest.now)) }
+        ensures style { result.style ≡ style_after_all self.now.style (through_place n (pieces self.now.rest.now)) }
+        ensures slice { self.now.rest.now ≡ joined (through_place n (pieces self.now.rest.now)) ++ result.rest.now }
+    {
+        self.after(n).past_sequences()
     }
 
     // Behind the sequences that stand here.
@@ -140,8 +161,8 @@ impl<'a> Place<'a> {
     }
 }
 
-// What stands in a text before the end of it.
-fn front<'a>(text: &'a str, end: &str) -> &'a str
+/// What stands in a text before the end of it.
+pub(crate) fn front<'a>(text: &'a str, end: &str) -> &'a str
     requires { (front : List ℕ) × (text.now ≡ front ++ end.now) }
     ensures { result.now ≡ take (length text.now - length end.now) text.now }
 {
@@ -185,6 +206,7 @@ pub(crate) fn begins_with_escape(text: &str) -> bool
 }
 
 // How many of the first bytes stand before the first ESC among them.
+/// How many of the first bytes stand before the first ESC among them.
 pub(crate) fn text_len(text: &str, most: usize) -> usize
     ensures value { result ≡ prefix_len is_plain (take most text.now) }
 {

@@ -9,7 +9,6 @@ use crate::places::{Place, behind_byte};
 use crate::strip::has_escape;
 use crate::stripped::{Stripped, behind};
 use crate::text::strip_text;
-use ansi_scan::Style;
 use std::alloc::{AllocError, Global};
 use std::borrow::CowStr;
 
@@ -48,10 +47,7 @@ impl<'a> Rest<'a> {
         Rest {
             alloc,
             pattern,
-            place: Place {
-                rest: text,
-                style: Style::plain(),
-            },
+            place: Place::start_of(text),
             begun: false,
             styled: has_escape(text),
             stripped: None,

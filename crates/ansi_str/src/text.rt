@@ -1,5 +1,5 @@
 //! The calls on styled text.
-ghost use Rattle.std.specs.Prelude.{◌≡◌, ◌≤◌, ◌+◌, ℕ, List, length, IfOk, IfSome, IsOk, IsTrue, MatchOption, false, ◌↔◌, string_bytes};
+ghost use Rattle.std.specs.Prelude.{◌≡◌, ◌≤◌, ◌+◌, ℕ, List, length, IfOk, IfSome, IsOk, IsTrue, MatchOption, false, ◌↔◌, string_bytes, [], ◌∷◌, min, unwrap_or, IsSome};
 ghost use Rattle.std.specs.Cow.{IsOwnedStr, cow_str_bytes};
 ghost use Rattle.std.specs.Str.{IsCharBoundary};
 ghost use Rattle.ansi_scan.specs.Sequences.{Piece, ArePiecesOf, IsWhole};
@@ -7,10 +7,13 @@ ghost use Rattle.ansi_str.specs.StyledText.{has_escape, strip};
 ghost use Rattle.ansi_str.specs.Matches.{AreMatches, split_bounds, styled_parts};
 ghost use Rattle.ansi_str.specs.Searches.{BeginsWith, EndsWith, IsFound};
 ghost use Rattle.ansi_str.specs.Keeping.{IsTrimmed, without_end, without_front};
+ghost use Rattle.ansi_str.specs.Cuts.{AreGoodBounds, IsGoodBound, cut_part, parts_at};
 
+use crate::ranges::AnsiRange;
 use crate::split::AnsiSplit;
 use crate::strip::{has_escape, joined_texts};
 use crate::{search, trim};
+use crate::{breaks, cut};
 use ansi_scan::is_whole;
 use std::alloc::{AllocError, Global};
 use std::borrow::CowStr;
@@ -32,6 +35,47 @@ pub trait AnsiStr {
             result.parts ≡ styled_parts pieces (split_bounds pattern.now (strip pieces) matches) }
         ensures may_refuse { result.may_refuse ≡ has_escape (text self.now) }
         ensures count { length result.parts ≤ length (text self.now) + 2 };
+
+    /// What `ansi_cut` answers where the bounds are good, else none. Bounds are places in the text without
+    /// its sequences: an end is not below the start, and each that is below the length is a character
+    /// boundary.
+    fn ansi_get<R: AnsiRange>(
+        &self,
+        alloc: Global,
+        range: R,
+    ) -> Result<Option<CowStr<'_>>, AllocError>
+        ensures good { IfOk result (λ found. (pieces : List Piece) → ArePiecesOf (text self.now) pieces →
+            (IsSome found ↔ AreGoodBounds (strip pieces) (R.start range) (R.end range))) }
+        ensures part { IfOk result (λ found. IfSome found (λ part. (pieces : List Piece) → ArePiecesOf (text self.now) pieces →
+            cow_str_bytes part ≡ cut_part (R.start range) (unwrap_or (R.end range) (length (strip pieces))) pieces)) }
+        ensures answers { has_escape (text self.now) ≡ false → IsOk result }
+        ensures borrows { IfOk result (λ found. IfSome found (λ part. IsOwnedStr part → IsTrue (has_escape (text self.now)))) };
+
+    /// The text between good bounds, with all sequences that stand at or before its end, and the end of the
+    /// style then open. A bound past the end counts as the end. A text without ESC is answered by a
+    /// borrow, without memory; else the only refusal is for memory.
+    fn ansi_cut<R: AnsiRange>(&self, alloc: Global, range: R) -> Result<CowStr<'_>, AllocError>
+        requires { (pieces : List Piece) → ArePiecesOf (text self.now) pieces →
+            AreGoodBounds (strip pieces) (R.start range) (R.end range) }
+        ensures part { IfOk result (λ part. (pieces : List Piece) → ArePiecesOf (text self.now) pieces →
+            cow_str_bytes part ≡ cut_part (R.start range) (unwrap_or (R.end range) (length (strip pieces))) pieces) }
+        ensures answers { has_escape (text self.now) ≡ false → IsOk result }
+        ensures borrows { IfOk result (λ part. IsOwnedStr part → IsTrue (has_escape (text self.now))) };
+
+    /// The two parts of `split_places` at one place, which is a character boundary of the text without its
+    /// sequences, or past its end and counts as the end. A text without ESC is answered by borrows,
+    /// without memory; else the only refusal is for memory.
+    fn ansi_split_at(
+        &self,
+        alloc: Global,
+        mid: usize,
+    ) -> Result<(CowStr<'_>, CowStr<'_>), AllocError>
+        requires { (pieces : List Piece) → ArePiecesOf (text self.now) pieces → IsGoodBound (strip pieces) mid }
+        ensures parts { IfOk result (λ parts. (pieces : List Piece) → ArePiecesOf (text self.now) pieces →
+            parts_at (min mid (length (strip pieces)) ∷ []) pieces ≡ cow_str_bytes parts.0 ∷ cow_str_bytes parts.1 ∷ []) }
+        ensures answers { has_escape (text self.now) ≡ false → IsOk result }
+        ensures borrows { IfOk result (λ parts. has_escape (text self.now) ≡ false →
+            (¬ (IsOwnedStr parts.0)) × (¬ (IsOwnedStr parts.1))) };
 
     /// The text without its sequences: its items of text, joined. A text without ESC is answered by a
     /// borrow, without memory; else the only refusal is for memory.
@@ -107,6 +151,26 @@ impl AnsiStr for &str {
         AnsiSplit::new(alloc, self, pattern)
     }
 
+    fn ansi_get<R: AnsiRange>(
+        &self,
+        alloc: Global,
+        range: R,
+    ) -> Result<Option<CowStr<'_>>, AllocError> {
+        cut::get(alloc, self, range.start_place(), range.end_place())
+    }
+
+    fn ansi_cut<R: AnsiRange>(&self, alloc: Global, range: R) -> Result<CowStr<'_>, AllocError> {
+        cut::cut(alloc, self, range.start_place(), range.end_place())
+    }
+
+    fn ansi_split_at(
+        &self,
+        alloc: Global,
+        mid: usize,
+    ) -> Result<(CowStr<'_>, CowStr<'_>), AllocError> {
+        breaks::split_at(alloc, self, mid)
+    }
+
     fn ansi_strip(&self, alloc: Global) -> Result<CowStr<'_>, AllocError> {
         strip_text(alloc, self)
     }
@@ -161,6 +225,26 @@ impl AnsiStr for String {
 
     fn ansi_split<'a>(&'a self, alloc: Global, pattern: &'a str) -> AnsiSplit<'a> {
         AnsiSplit::new(alloc, self.as_str(), pattern)
+    }
+
+    fn ansi_get<R: AnsiRange>(
+        &self,
+        alloc: Global,
+        range: R,
+    ) -> Result<Option<CowStr<'_>>, AllocError> {
+        cut::get(alloc, self.as_str(), range.start_place(), range.end_place())
+    }
+
+    fn ansi_cut<R: AnsiRange>(&self, alloc: Global, range: R) -> Result<CowStr<'_>, AllocError> {
+        cut::cut(alloc, self.as_str(), range.start_place(), range.end_place())
+    }
+
+    fn ansi_split_at(
+        &self,
+        alloc: Global,
+        mid: usize,
+    ) -> Result<(CowStr<'_>, CowStr<'_>), AllocError> {
+        breaks::split_at(alloc, self.as_str(), mid)
     }
 
     fn ansi_strip(&self, alloc: Global) -> Result<CowStr<'_>, AllocError> {

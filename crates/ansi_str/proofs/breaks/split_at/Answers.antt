@@ -1,0 +1,75 @@
+-- The two sides of one place.
+use Rattle.std.proofs.Common.{◌≡◌, ◌∙◌, ◌∷◌, [], ◌++◌, ◌-◌, true, false, ℕ, List, length, sym, ap, subst, take}
+use Rattle.std.specs.Cow.{cow_str_bytes}
+use Rattle.ansi_scan.specs.Sequences.{Piece, joined}
+use Rattle.ansi_scan.specs.Pieces.{pieces}
+use Rattle.ansi_scan.specs.Attributes.{Attributes, plain_attributes}
+use Rattle.ansi_scan.proofs.Existence.{ArePiecesOf-pieces}
+use Rattle.ansi_scan.proofs.Uniqueness.{ArePiecesOf-unique}
+use Rattle.ansi_str.specs.StyledText.{strip, has_escape, style_after_all}
+use Rattle.ansi_str.specs.Parts.{from_place, through_place, dressed}
+use Rattle.ansi_str.specs.Walking.{from_text}
+use Rattle.ansi_str.specs.Cuts.{IsGoodBound, parts_at}
+use Rattle.ansi_str.proofs.RestLemmas.{strip-fits, no_escape-behind}
+use Rattle.ansi_str.proofs.CutSteps.{good-none, plain-through}
+use Rattle.ansi_str.proofs.BreakSteps.{parts_at-one, part-dressed, through-rest}
+use Rattle.ansi_str.proofs.breaks.split_at.Goals as goal
+
+pub through-cut-requires : goal.through-cut-requires
+through-cut-requires c =
+    let text = c.args.text.now in
+    subst (λ (t : List ℕ). IsGoodBound (strip (pieces t)) c.args.mid) (sym c.start_of-start.ensures.rest) (c.requires (pieces text) (ArePiecesOf-pieces text))
+
+pub through-requires : goal.through-requires
+through-requires c = let rest = c.through-cut.result.rest.now in good-none (strip (pieces rest)) (length rest) (strip-fits rest)
+
+-- a text without ESC has no style at the place
+pub returns-in_err-first-clause-answers : goal.returns-in_err-first-clause-answers
+returns-in_err-first-clause-answers c = λ gone.
+    let from = c.start_of-start in
+    let none = ap has_escape from.ensures.rest ∙ gone in
+    let plain = c.through-cut.ensures.style ∙ plain-through c.args.mid from.result.rest.now from.result.style none ∙ from.ensures.style in
+    let answered : false ≡ true = c.in_err-first.ensures.answers from.ensures.style plain in
+    cc answered
+
+pub returns-in_err-second-clause-answers : goal.returns-in_err-second-clause-answers
+returns-in_err-second-clause-answers c = λ gone.
+    let from = c.start_of-start in
+    let cut = c.through-cut.result in
+    let none = ap has_escape from.ensures.rest ∙ gone in
+    let plain = c.through-cut.ensures.style ∙ plain-through c.args.mid from.result.rest.now from.result.style none ∙ from.ensures.style in
+    let none_left = no_escape-behind from.result.rest.now (joined (through_place c.args.mid (pieces from.result.rest.now))) cut.rest.now c.through-cut.ensures.slice none in
+    let plain_end = c.through.ensures.style ∙ plain-through (length cut.rest.now) cut.rest.now cut.style none_left ∙ plain in
+    let answered : false ≡ true = c.in_err-second.ensures.answers plain plain_end in
+    cc answered
+
+pub returns-clause-parts : goal.returns-clause-parts
+returns-clause-parts c = λ ps of_text.
+    let from = c.start_of-start in
+    let cut = c.through-cut.result in
+    let end = c.through.result in
+    let text = c.args.text.now in
+    let qs = pieces from.result.rest.now in
+    let rest = c.through-cut.ensures.rest in
+    let style = c.through-cut.ensures.style in
+    let same : qs ≡ ps = ap pieces from.ensures.rest ∙ ArePiecesOf-unique text (pieces text) ps (ArePiecesOf-pieces text) of_text in
+    let first = c.in_ok-first.ensures.part ∙ part-dressed from.result.rest.now from.result.style c.args.mid cut.rest.now cut.style c.through-cut.ensures.slice style in
+    let second = c.in_ok-second.ensures.part ∙ part-dressed cut.rest.now cut.style (length cut.rest.now) end.rest.now end.style c.through.ensures.slice c.through.ensures.style in
+    let opened : cut.style ≡ style_after_all plain_attributes (through_place c.args.mid qs) = style ∙ ap (λ s. style_after_all s (through_place c.args.mid qs)) from.ensures.style in
+    parts_at-one ps of_text.stand c.args.mid (c.requires ps of_text)
+    ∙ ap (λ found. dressed plain_attributes (through_place c.args.mid found) ∷ dressed (style_after_all plain_attributes (through_place c.args.mid found)) (from_text (from_place c.args.mid found)) ∷ []) (sym same)
+    ∙ ap (λ s. dressed s (through_place c.args.mid qs) ∷ dressed (style_after_all plain_attributes (through_place c.args.mid qs)) (from_text (from_place c.args.mid qs)) ∷ []) (sym from.ensures.style)
+    ∙ ap (λ s. dressed from.result.style (through_place c.args.mid qs) ∷ dressed s (from_text (from_place c.args.mid qs)) ∷ []) (sym opened)
+    ∙ ap (λ found. dressed from.result.style (through_place c.args.mid qs) ∷ dressed cut.style found ∷ []) (sym rest ∙ sym (through-rest cut.rest.now))
+    ∙ ap (λ bytes. bytes ∷ dressed cut.style (through_place (length cut.rest.now) (pieces cut.rest.now)) ∷ []) (sym first)
+    ∙ ap (λ bytes. cow_str_bytes c.in_ok-first.first ∷ bytes ∷ []) (sym second)
+
+pub returns-clause-borrows : goal.returns-clause-borrows
+returns-clause-borrows c = λ gone.
+    let from = c.start_of-start in
+    let cut = c.through-cut.result in
+    let none = ap has_escape from.ensures.rest ∙ gone in
+    let plain = c.through-cut.ensures.style ∙ plain-through c.args.mid from.result.rest.now from.result.style none ∙ from.ensures.style in
+    let none_left = no_escape-behind from.result.rest.now (joined (through_place c.args.mid (pieces from.result.rest.now))) cut.rest.now c.through-cut.ensures.slice none in
+    let plain_end = c.through.ensures.style ∙ plain-through (length cut.rest.now) cut.rest.now cut.style none_left ∙ plain in
+    (c.in_ok-first.ensures.borrows from.ensures.style plain, c.in_ok-second.ensures.borrows plain plain_end)

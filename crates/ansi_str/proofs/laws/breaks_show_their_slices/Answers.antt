@@ -1,0 +1,15 @@
+-- The lemmas of `WholeCuts`.
+use Rattle.ansi_str.proofs.WholeCuts.{first_part-shows, first_part-closed, later_part-shows, later_part-closed}
+use Rattle.ansi_str.proofs.laws.breaks_show_their_slices.Goals as goal
+
+pub returns-clause-first : goal.returns-clause-first
+returns-clause-first c = λ text pieces of_part b of_text whole of_the_part. first_part-shows text pieces of_text whole b of_part of_the_part
+
+pub returns-clause-first_closed : goal.returns-clause-first_closed
+returns-clause-first_closed c = λ text pieces of_part b of_text whole of_the_part. first_part-closed text pieces of_text whole b of_part of_the_part
+
+pub returns-clause-later : goal.returns-clause-later
+returns-clause-later c = λ text pieces of_part a b order of_text whole of_the_part. later_part-shows text pieces of_text whole a b order of_part of_the_part
+
+pub returns-clause-later_closed : goal.returns-clause-later_closed
+returns-clause-later_closed c = λ text pieces of_part a b order of_text whole of_the_part. later_part-closed text pieces of_text whole a b order of_part of_the_part

@@ -1,0 +1,9 @@
+-- The lemmas of `WholeSlices`.
+use Rattle.ansi_str.proofs.WholeSlices.{cut-shows, cut-closed}
+use Rattle.ansi_str.proofs.laws.cuts_show_their_slices.Goals as goal
+
+pub returns-clause-shown : goal.returns-clause-shown
+returns-clause-shown c = λ text pieces of_cut a b order of_text whole of_the_cut. cut-shows text pieces of_cut a b order of_text whole of_the_cut
+
+pub returns-clause-closed : goal.returns-clause-closed
+returns-clause-closed c = λ text pieces of_cut a b order of_text whole of_the_cut. cut-closed text pieces of_cut a b order of_text whole of_the_cut

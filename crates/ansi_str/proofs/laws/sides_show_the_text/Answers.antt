@@ -1,0 +1,6 @@
+-- A lemma of `WholeCuts`.
+use Rattle.ansi_str.proofs.WholeCuts.{sides-show}
+use Rattle.ansi_str.proofs.laws.sides_show_the_text.Goals as goal
+
+pub returns : goal.returns
+returns c = sides-show

@@ -1,0 +1,56 @@
+//! The parts of a text that is split at places.
+ghost use Rattle.std.specs.Prelude.{◌≡◌, ℕ, List, [], ◌∷◌, length, map, min, IfOk, IsOk, IsTrue, false};
+ghost use Rattle.std.specs.Cow.{IsOwnedStr, cow_str_bytes};
+ghost use Rattle.ansi_scan.specs.Sequences.{Piece, ArePiecesOf};
+ghost use Rattle.ansi_str.specs.StyledText.{has_escape, strip};
+ghost use Rattle.ansi_str.specs.Cuts.{AreBreaks, IsGoodBound, parts_at};
+
+use crate::places::Place;
+use std::alloc::{AllocError, Global};
+use std::borrow::CowStr;
+
+/// The parts of a text between places of the text without its sequences, one more than there are
+/// places. A part has the sequences that stand behind its first place, up to its last place: the first
+/// part those at its first place too. It begins with the start of the style known behind the parts
+/// before it, and ends with the end of the style then open. The only refusal is for memory.
+pub fn split_places<'a>(
+    alloc: Global,
+    text: &'a str,
+    places: &[usize],
+) -> Result<Vec<CowStr<'a>>, AllocError>
+    requires { (pieces : List Piece) → ArePiecesOf text.now pieces → AreBreaks (strip pieces) places.now }
+    ensures { IfOk result (λ parts. (pieces : List Piece) → ArePiecesOf text.now pieces →
+        map cow_str_bytes parts.items ≡ parts_at places.now pieces) }
+{
+    let mut parts = Vec::new(alloc);
+    let mut place = Place::start_of(text);
+    let mut from = 0;
+    for at in places {
+        let end = place.through(*at - from);
+        parts.push(place.part_to(alloc, &end)?)?;
+        place = end;
+        from = *at;
+    }
+    let end = place.through(place.rest.len());
+    parts.push(place.part_to(alloc, &end)?)?;
+    Ok(parts)
+}
+
+/// The two parts of a text that is split at one place, or at its end where the place is past it.
+pub(crate) fn split_at(
+    alloc: Global,
+    text: &str,
+    mid: usize,
+) -> Result<(CowStr<'_>, CowStr<'_>), AllocError>
+    requires { (pieces : List Piece) → ArePiecesOf text.now pieces → IsGoodBound (strip pieces) mid }
+    ensures parts { IfOk result (λ parts. (pieces : List Piece) → ArePiecesOf text.now pieces →
+        parts_at (min mid (length (strip pieces)) ∷ []) pieces ≡ cow_str_bytes parts.0 ∷ cow_str_bytes parts.1 ∷ []) }
+    ensures answers { has_escape text.now ≡ false → IsOk result }
+    ensures borrows { IfOk result (λ parts. has_escape text.now ≡ false → (¬ (IsOwnedStr parts.0)) × (¬ (IsOwnedStr parts.1))) }
+{
+    let start = Place::start_of(text);
+    let cut = start.through(mid);
+    let first = start.part_to(alloc, &cut)?;
+    let second = cut.part_to(alloc, &cut.through(cut.rest.len()))?;
+    Ok((first, second))
+}

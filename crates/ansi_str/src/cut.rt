@@ -1,0 +1,124 @@
+//! Cuts of a text: the text between two places, with the sequences among and before it.
+ghost use Rattle.std.specs.Prelude.{◌≡◌, ◌↔◌, ◌++◌, ℕ, List, length, unwrap_or, IfOk, IfSome, IsOk, IsSome, IsTrue, false, string_bytes};
+ghost use Rattle.std.specs.Cow.{IsOwnedStr, cow_str_bytes};
+ghost use Rattle.ansi_scan.specs.Sequences.{Piece, ArePiecesOf};
+ghost use Rattle.ansi_scan.specs.Pieces.{pieces};
+ghost use Rattle.ansi_scan.specs.StartsAndEnds.{end_bytes};
+ghost use Rattle.ansi_str.specs.StyledText.{has_escape, strip};
+ghost use Rattle.ansi_str.specs.Parts.{before_place};
+ghost use Rattle.ansi_str.specs.Walking.{sequences};
+ghost use Rattle.ansi_str.specs.Cuts.{AreGoodBounds, IsGoodBound, cut_part};
+
+use crate::places::{Place, behind_item, front, split_item, text_len};
+use crate::strip::has_escape;
+use ansi_scan::{Kind, Style};
+use std::alloc::{AllocError, Global};
+use std::borrow::CowStr;
+
+/// The cut of a text, where the bounds are good.
+pub(crate) fn get(
+    alloc: Global,
+    text: &str,
+    start: usize,
+    end: Option<usize>,
+) -> Result<Option<CowStr<'_>>, AllocError>
+    ensures good { IfOk result (λ found. (pieces : List Piece) → ArePiecesOf text.now pieces →
+        (IsSome found ↔ AreGoodBounds (strip pieces) start end)) }
+    ensures part { IfOk result (λ found. IfSome found (λ part. (pieces : List Piece) → ArePiecesOf text.now pieces →
+        cow_str_bytes part ≡ cut_part start (unwrap_or end (length (strip pieces))) pieces)) }
+    ensures answers { has_escape text.now ≡ false → IsOk result }
+    ensures borrows { IfOk result (λ found. IfSome found (λ part. IsOwnedStr part → IsTrue (has_escape text.now))) }
+{
+    if !are_good_bounds(text, start, end) {
+        return Ok(None);
+    }
+    Ok(Some(cut(alloc, text, start, end)?))
+}
+
+/// The text between good bounds, with all sequences among and before it.
+pub(crate) fn cut(
+    alloc: Global,
+    text: &str,
+    start: usize,
+    end: Option<usize>,
+) -> Result<CowStr<'_>, AllocError>
+    requires { (pieces : List Piece) → ArePiecesOf text.now pieces → AreGoodBounds (strip pieces) start end }
+    ensures part { IfOk result (λ part. (pieces : List Piece) → ArePiecesOf text.now pieces →
+        cow_str_bytes part ≡ cut_part start (unwrap_or end (length (strip pieces))) pieces) }
+    ensures answers { has_escape text.now ≡ false → IsOk result }
+    ensures borrows { IfOk result (λ part. IsOwnedStr part → IsTrue (has_escape text.now)) }
+{
+    let first = Place::start_of(text).after(start);
+    let end = end.unwrap_or(usize::MAX);
+    let last = first.through(end - start);
+    let slice = front(first.rest, last.rest);
+    if last.style.is_plain() && !has_escape(front(text, first.rest)) {
+        return Ok(CowStr::Borrowed(slice));
+    }
+    Ok(CowStr::Owned(joined_cut(alloc, text, start, slice, last.style)?))
+}
+
+// The sequences before a cut, its slice of the text, and the end of the style that is then open.
+fn joined_cut(
+    alloc: Global,
+    text: &str,
+    start: usize,
+    slice: &str,
+    style: Style,
+) -> Result<String, AllocError>
+    ensures { IfOk result (λ out. string_bytes out ≡ sequences (before_place start (pieces text.now)) ++ (slice.now ++ end_bytes style)) }
+{
+    let before = sequences_before(alloc, text, start)?;
+    let end = style.end();
+    format!(in alloc; "{before}{slice}{end}")
+}
+
+// The sequences among and before so many bytes of text.
+fn sequences_before(alloc: Global, text: &str, n: usize) -> Result<String, AllocError>
+    ensures { IfOk result (λ out. string_bytes out ≡ sequences (before_place n (pieces text.now))) }
+{
+    let mut out = String::new(alloc);
+    let mut rest = text;
+    let mut left = n;
+    while left > 0 {
+        let Some((kind, bytes, behind)) = split_item(rest) else {
+            break;
+        };
+        match kind {
+            Kind::Text => left = left.saturating_sub(bytes.len()),
+            _ => out.push_str(bytes)?,
+        }
+        rest = behind;
+    }
+    Ok(out)
+}
+
+// Whether a text can be cut between the bounds.
+fn are_good_bounds(text: &str, start: usize, end: Option<usize>) -> bool
+    ensures { IsTrue result ↔ AreGoodBounds (strip (pieces text.now)) start end }
+{
+    match end {
+        Some(end) => start <= end && is_good_bound(text, start) && is_good_bound(text, end),
+        None => is_good_bound(text, start),
+    }
+}
+
+/// Whether a text without its sequences has a character boundary at a place, or ends before it.
+pub(crate) fn is_good_bound(text: &str, at: usize) -> bool
+    ensures { IsTrue result ↔ IsGoodBound (strip (pieces text.now)) at }
+{
+    let mut rest = text;
+    let mut left = at;
+    while left > 0 && !rest.is_empty() {
+        let len = text_len(rest, left);
+        if len == 0 {
+            rest = behind_item(rest);
+        } else if rest.is_char_boundary(len) {
+            rest = &rest[len..];
+            left -= len;
+        } else {
+            return false;
+        }
+    }
+    true
+}
