@@ -1,5 +1,5 @@
 -- The parts of a split at places, one after the other.
-use Rattle.std.proofs.Common.{◌≡◌, ℕ, zero, suc, ◌+◌, ◌-◌, ◌<◌, ◌≤◌, ◌==◌, nat_lt, Bool, true, false, All, List, [], ◌∷◌, ◌++◌, length, get_or, map, take, drop, min, length-append, eqb-true, refl, ap, sym, subst, ◌∙◌, append_assoc, arith, if◌then◌else◌}
+use Rattle.std.proofs.Common.{◌≡◌, ℕ, suc, ◌+◌, ◌-◌, ◌<◌, ◌≤◌, ◌==◌, nat_lt, Bool, true, false, All, List, [], ◌∷◌, ◌++◌, length, get_or, take, drop, min, length-append, eqb-true, refl, ap, sym, subst, ◌∙◌, append_assoc, arith, if◌then◌else◌}
 use Rattle.std.specs.List.Sorted.{IsStrictlyIncreasing}
 use Rattle.std.specs.Str.{IsCharBoundary}
 use Rattle.std.proofs.lemmas.Bool.Decides.{nat_tests}
@@ -12,10 +12,10 @@ use Rattle.ansi_scan.specs.Attributes.{Attributes, plain_attributes}
 use Rattle.ansi_scan.specs.StartsAndEnds.{start_bytes, end_bytes}
 use Rattle.ansi_scan.proofs.Existence.{ArePiecesOf-pieces}
 use Rattle.ansi_scan.proofs.Uniqueness.{ArePiecesOf-unique, Stands-some}
-use Rattle.ansi_str.specs.StyledText.{text_of, strip, has_escape, style_after, style_after_all}
+use Rattle.ansi_str.specs.StyledText.{text_of, strip, style_after, style_after_all}
 use Rattle.ansi_str.specs.Parts.{from_place, before_place, through_place, dressed}
 use Rattle.ansi_str.specs.Walking.{from_text}
-use Rattle.ansi_str.specs.Cuts.{IsGoodBound, AreBreaks, cut_part, later_part, parts_behind, parts_at}
+use Rattle.ansi_str.specs.Cuts.{IsGoodBound, AreBreaks, parts_behind, parts_at}
 use Rattle.ansi_str.proofs.PartLemmas.{text_of-text, text_of-sequence}
 use Rattle.ansi_str.proofs.PlaceLemmas.{strip-from, from-none, from-past, through-inside, through-past, EachStands-from}
 use Rattle.ansi_str.proofs.PlaceSums.{from-from, through-all, style-through_split}

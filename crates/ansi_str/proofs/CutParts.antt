@@ -1,8 +1,7 @@
 -- The parts of a cut and of a split at places are slices of the pieces.
-use Rattle.std.proofs.Common.{◌≡◌, ℕ, zero, suc, ◌+◌, ◌-◌, ◌<◌, ◌≤◌, ◌==◌, ◌&&◌, nat_lt, nat_le, Bool, true, false, List, [], ◌∷◌, ◌++◌, length, take, drop, slice_range, refl, ap, sym, ◌∙◌, arith, append_assoc, append-nil, length-append, if◌then◌else◌}
+use Rattle.std.proofs.Common.{◌≡◌, ℕ, suc, ◌+◌, ◌-◌, ◌<◌, ◌≤◌, ◌&&◌, nat_lt, nat_le, Bool, true, false, List, [], ◌∷◌, ◌++◌, length, take, drop, slice_range, refl, ap, sym, ◌∙◌, arith, append_assoc, length-append, if◌then◌else◌}
 use Rattle.std.proofs.lemmas.Bool.Decides.{nat_tests}
 use Rattle.std.proofs.lemmas.List.{length-drop, drop_all, take_all}
-use Rattle.std.proofs.lemmas.List.Sums.{fold-append}
 use Rattle.ansi_scan.specs.Sequences.{Piece, joined, EachStands}
 use Rattle.ansi_scan.specs.Joining.{is_text_kind}
 use Rattle.ansi_scan.specs.Attributes.{Attributes, plain_attributes}
@@ -11,9 +10,9 @@ use Rattle.ansi_scan.proofs.Uniqueness.{Stands-some}
 use Rattle.ansi_str.specs.StyledText.{text_of, strip, style_after, style_after_all}
 use Rattle.ansi_str.specs.Parts.{Places, taken_piece, taken, style_where, piece_from, from_place, before_place, through_place, dressed}
 use Rattle.ansi_str.specs.Walking.{from_text, sequence_of, sequences}
-use Rattle.ansi_str.specs.Cuts.{cut_part, later_part, parts_behind, parts_at}
-use Rattle.ansi_str.proofs.PartLemmas.{below, not_below, at_most, not_at_most, not_zero, style_by-text, text_of-text, text_of-sequence, within, within-yes, within-low, within-high, taken_piece-text, taken_piece-sequence, take_nil, taken-slice}
-use Rattle.ansi_str.proofs.StyleLemmas.{either_style, style_where-through, style_where-slice}
+use Rattle.ansi_str.specs.Cuts.{cut_part, later_part}
+use Rattle.ansi_str.proofs.PartLemmas.{below, not_below, at_most, style_by-text, text_of-text, text_of-sequence, within, taken_piece-text, taken_piece-sequence, take_nil, taken-slice}
+use Rattle.ansi_str.proofs.StyleLemmas.{either_style, style_where-through}
 use Rattle.ansi_str.proofs.PlaceLemmas.{none, inside, past, reach, has_text, from-none, before-none, from-inside, from-past, before-inside, before-past, EachStands-from}
 use Rattle.ansi_str.proofs.PlaceSums.{from-from, style-before_sum, through-all, style-through_split}
 use Rattle.ansi_str.proofs.PlainParts.{start_bytes-plain}

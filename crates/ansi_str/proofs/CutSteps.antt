@@ -1,23 +1,21 @@
 -- Steps of a cut: what is kept of the text before it, and where a text can be cut.
-use Rattle.std.proofs.Common.{◌≡◌, ◌≢◌, ◌↔◌, ℕ, zero, suc, ◌+◌, ◌-◌, ◌<◌, ◌≤◌, ◌==◌, ◌||◌, Bool, true, false, List, [], ◌∷◌, ◌++◌, length, take, drop, refl, ap, sym, subst, ◌∙◌, arith, append_assoc, append-nil, length-append, Option, None, Some}
+use Rattle.std.proofs.Common.{◌≡◌, ◌↔◌, ℕ, ◌+◌, ◌-◌, ◌<◌, ◌≤◌, ◌==◌, ◌||◌, Bool, true, false, List, [], ◌∷◌, ◌++◌, length, take, drop, refl, ap, sym, subst, ◌∙◌, arith, append-nil, length-append, Option, None, Some}
 use Rattle.std.specs.Prelude.{unwrap_or}
 use Rattle.std.specs.Str.{IsUtf8, IsCharBoundary}
 use Rattle.std.proofs.Math.Seq.{take-append_seam}
 use Rattle.std.proofs.lemmas.List.{length-drop}
 use Rattle.std.proofs.lemmas.List.Folds.{list_any-append}
 use Rattle.std.proofs.lemmas.Str.{IsCharBoundary-start, IsCharBoundary-from_rest}
-use Rattle.ansi_scan.specs.declared.items.Kind.{Kind}
-use Rattle.ansi_scan.specs.declared.items.Kind.TheVariants.{Text}
 use Rattle.ansi_scan.specs.Sequences.{Piece, escape, is_plain, joined, Stands, EachStands, ArePiecesOf}
 use Rattle.ansi_scan.specs.Joining.{is_text_kind}
 use Rattle.ansi_scan.specs.Pieces.{pieces, text_len}
 use Rattle.ansi_scan.specs.Attributes.{Attributes, plain_attributes}
-use Rattle.ansi_scan.specs.StartsAndEnds.{start_bytes, end_bytes}
+use Rattle.ansi_scan.specs.StartsAndEnds.{end_bytes}
 use Rattle.ansi_scan.proofs.Existence.{ArePiecesOf-pieces}
 use Rattle.ansi_scan.proofs.Uniqueness.{ArePiecesOf-unique, begins_with_escape}
 use Rattle.std.specs.List.{prefix_len}
-use Rattle.ansi_str.specs.StyledText.{has_escape, text_of, strip, style_after, style_after_all}
-use Rattle.ansi_str.specs.Parts.{from_place, before_place, through_place, dressed}
+use Rattle.ansi_str.specs.StyledText.{has_escape, text_of, strip, style_after_all}
+use Rattle.ansi_str.specs.Parts.{from_place, before_place, through_place}
 use Rattle.ansi_str.specs.Walking.{sequences}
 use Rattle.ansi_str.specs.Cuts.{IsGoodBound, AreGoodBounds, cut_part}
 use Rattle.ansi_str.proofs.PartLemmas.{text_of-text, text_of-sequence, style_by-text}
@@ -25,8 +23,8 @@ use Rattle.ansi_str.proofs.StyleLemmas.{front_of-style}
 use Rattle.ansi_str.proofs.PlaceLemmas.{none, inside, past, reach, has_text, before-none, before-inside, before-past, through-inside, through-past, strip-from, joined-places}
 use Rattle.ansi_str.proofs.DressedLemmas.{short, long, cut}
 use Rattle.ansi_str.proofs.PlainParts.{end_bytes-plain}
-use Rattle.ansi_str.proofs.Walks.{SamePlace, run_boundary, run_within, run_of, from-plain, IsCharBoundary-drop, strip-sequence}
-use Rattle.ansi_str.proofs.RestLemmas.{strip-fits, no_escape-behind}
+use Rattle.ansi_str.proofs.Walks.{run_boundary, run_within, run_of, from-plain, IsCharBoundary-drop, strip-sequence}
+use Rattle.ansi_str.proofs.RestLemmas.{strip-fits}
 use Rattle.ansi_str.proofs.Utf8Lemmas.{EachUtf8-pieces, IsUtf8-strip}
 use Rattle.ansi_str.proofs.CutParts.{sequences-text, sequences-sequence, cut_part-slice, cut_part-ends, style-cut}
 

@@ -1,10 +1,10 @@
 -- What the parts of a whole text show that is split at places.
-use Rattle.std.proofs.Common.{◌≡◌, ℕ, ◌+◌, ◌-◌, ◌<◌, ◌≤◌, ◌==◌, Bool, true, false, List, [], ◌∷◌, ◌++◌, length, map, take, drop, refl, ap, sym, subst, ◌∙◌, arith, append_assoc, append-nil, length-append}
+use Rattle.std.proofs.Common.{◌≡◌, ℕ, ◌-◌, ◌<◌, ◌≤◌, Bool, true, false, List, [], ◌∷◌, ◌++◌, length, map, take, drop, refl, ap, sym, subst, ◌∙◌, arith, append_assoc, append-nil, length-append}
 use Rattle.std.specs.Prelude.{chars, if◌then◌else◌}
 use Rattle.std.specs.Str.{IsUtf8}
 use Rattle.std.proofs.lemmas.List.{map-append, take-append-drop, length-drop}
 use Rattle.std.proofs.lemmas.Str.{chars-nil, chars-append, IsUtf8-take}
-use Rattle.ansi_scan.specs.Sequences.{Piece, joined, EachStands, ArePiecesOf, NoneBroken}
+use Rattle.ansi_scan.specs.Sequences.{Piece, EachStands, ArePiecesOf, NoneBroken}
 use Rattle.ansi_scan.specs.Joining.{is_text_kind}
 use Rattle.ansi_scan.specs.Attributes.{Attributes, IsRendition, plain_attributes}
 use Rattle.ansi_scan.proofs.Uniqueness.{ArePiecesOf-unique, Stands-some}
@@ -14,7 +14,7 @@ use Rattle.ansi_str.specs.Parts.{piece_from, from_place, before_place, through_p
 use Rattle.ansi_str.specs.Walking.{from_text}
 use Rattle.ansi_str.specs.Cuts.{IsGoodBound, cut_part, later_part}
 use Rattle.ansi_str.proofs.PartLemmas.{text_of-text, text_of-sequence, style_by-text}
-use Rattle.ansi_str.proofs.PlaceLemmas.{none, inside, past, reach, has_text, from-none, before-none, from-inside, from-past, before-inside, before-past, through-inside, through-past, EachStands-from, strip-from}
+use Rattle.ansi_str.proofs.PlaceLemmas.{none, inside, past, reach, has_text, from-inside, from-past, before-inside, before-past, through-inside, through-past, EachStands-from, strip-from}
 use Rattle.ansi_str.proofs.PlaceSums.{through-all, through-parted, style-through_split}
 use Rattle.ansi_str.proofs.DressedLemmas.{dressed_pieces, styled_from-append, EachStands-through, NoneBroken-through, NoneBroken-from, ArePiecesOf-dressed, styled-dressed, IsClosed-dressed, IsRendition-after}
 use Rattle.ansi_str.proofs.Utf8Lemmas.{EachUtf8, EachUtf8-pieces, boundary-second, boundary-bytes}

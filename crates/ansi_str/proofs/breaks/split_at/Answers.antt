@@ -1,15 +1,15 @@
 -- The two sides of one place.
-use Rattle.std.proofs.Common.{◌≡◌, ◌∙◌, ◌∷◌, [], ◌++◌, ◌-◌, true, false, ℕ, List, length, sym, ap, subst, take}
+use Rattle.std.proofs.Common.{◌≡◌, ◌∙◌, ◌∷◌, [], true, false, ℕ, List, length, sym, ap, subst}
 use Rattle.std.specs.Cow.{cow_str_bytes}
-use Rattle.ansi_scan.specs.Sequences.{Piece, joined}
+use Rattle.ansi_scan.specs.Sequences.{joined}
 use Rattle.ansi_scan.specs.Pieces.{pieces}
-use Rattle.ansi_scan.specs.Attributes.{Attributes, plain_attributes}
+use Rattle.ansi_scan.specs.Attributes.{plain_attributes}
 use Rattle.ansi_scan.proofs.Existence.{ArePiecesOf-pieces}
 use Rattle.ansi_scan.proofs.Uniqueness.{ArePiecesOf-unique}
 use Rattle.ansi_str.specs.StyledText.{strip, has_escape, style_after_all}
 use Rattle.ansi_str.specs.Parts.{from_place, through_place, dressed}
 use Rattle.ansi_str.specs.Walking.{from_text}
-use Rattle.ansi_str.specs.Cuts.{IsGoodBound, parts_at}
+use Rattle.ansi_str.specs.Cuts.{IsGoodBound}
 use Rattle.ansi_str.proofs.RestLemmas.{strip-fits, no_escape-behind}
 use Rattle.ansi_str.proofs.CutSteps.{good-none, plain-through}
 use Rattle.ansi_str.proofs.BreakSteps.{parts_at-one, part-dressed, through-rest}

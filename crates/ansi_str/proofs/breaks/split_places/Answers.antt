@@ -1,5 +1,5 @@
 -- A step over a place.
-use Rattle.std.proofs.Common.{◌≡◌, ◌∙◌, ◌∷◌, [], ◌++◌, ◌+◌, ◌-◌, ◌<◌, ℕ, suc, List, length, map, drop, get_or, sym, ap, subst, arith}
+use Rattle.std.proofs.Common.{◌≡◌, ◌∙◌, ◌∷◌, [], ◌+◌, ◌-◌, ◌<◌, ℕ, suc, List, length, map, drop, get_or, sym, ap, subst, arith}
 use Rattle.std.specs.Cow.{cow_str_bytes}
 use Rattle.std.proofs.Math.Seq.{drop-cons}
 use Rattle.std.proofs.lemmas.List.{map-append, drop_all}
@@ -9,7 +9,7 @@ use Rattle.ansi_scan.proofs.Existence.{ArePiecesOf-pieces}
 use Rattle.ansi_str.specs.StyledText.{strip}
 use Rattle.ansi_str.proofs.RestLemmas.{strip-fits}
 use Rattle.ansi_str.proofs.CutSteps.{good-none}
-use Rattle.ansi_str.proofs.BreakSteps.{Walked, Walked-start, Walked-next, Walked-end, walked-order, walked-good, part-dressed}
+use Rattle.ansi_str.proofs.BreakSteps.{Walked, Walked-start, Walked-next, Walked-end, part-dressed}
 use Rattle.ansi_str.proofs.breaks.split_places.Goals as goal
 
 -- the next place is the first of those that are left

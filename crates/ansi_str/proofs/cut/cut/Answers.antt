@@ -1,13 +1,11 @@
 -- The bounds are good in the text's own pieces, and a missing end is past them.
-use Rattle.std.proofs.Common.{rules, ◌≡◌, ◌∙◌, ◌++◌, ◌-◌, ◌<◌, ◌≤◌, ◌^◌, true, false, not, ℕ, List, length, sym, ap, subst, arith}
-use Rattle.ansi_scan.specs.Sequences.{Piece, ArePiecesOf, joined}
+use Rattle.std.proofs.Common.{rules, ◌≡◌, ◌∙◌, ◌++◌, ◌≤◌, true, false, ℕ, List, length, sym, ap, subst}
+use Rattle.ansi_scan.specs.Sequences.{joined}
 use Rattle.ansi_scan.specs.Pieces.{pieces}
-use Rattle.ansi_scan.specs.Attributes.{plain_attributes}
 use Rattle.ansi_scan.proofs.Existence.{ArePiecesOf-pieces}
-use Rattle.ansi_scan.proofs.Uniqueness.{ArePiecesOf-unique}
 use Rattle.ansi_str.specs.StyledText.{strip, has_escape}
 use Rattle.ansi_str.specs.Parts.{before_place, from_place}
-use Rattle.ansi_str.specs.Cuts.{IsGoodBound, AreGoodBounds, cut_part}
+use Rattle.ansi_str.specs.Cuts.{IsGoodBound}
 use Rattle.ansi_str.proofs.CutSteps.{IsCut-found, cut-bounds, true-unless}
 use Rattle.ansi_str.specs.Walking.{sequences}
 use Rattle.ansi_scan.specs.StartsAndEnds.{end_bytes}

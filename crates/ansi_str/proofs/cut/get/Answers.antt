@@ -1,5 +1,5 @@
 -- Good bounds are good in all pieces of the text.
-use Rattle.std.proofs.Common.{◌≡◌, ◌∙◌, false, true, ℕ, List, sym, subst, refl}
+use Rattle.std.proofs.Common.{◌≡◌, ◌∙◌, false, true, List, sym, subst, refl}
 use Rattle.ansi_scan.specs.Sequences.{Piece}
 use Rattle.ansi_scan.specs.Pieces.{pieces}
 use Rattle.ansi_scan.proofs.Existence.{ArePiecesOf-pieces}
