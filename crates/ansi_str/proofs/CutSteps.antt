@@ -245,8 +245,8 @@ IsCut-found text start end most n good same small order from style first first_s
     let at = placed-first text from style start first first_style is_text is_plain there known in
     let bounds = good-fits (strip (pieces text)) start end most n good same fits order in
     let ended : (ps : List Piece) → ArePiecesOf text ps → cut_part start n (pieces text) ≡ cut_part start (unwrap_or end (length (strip ps))) ps =
-        λ ps of_text. cut_part-end (pieces text) start end most n same fits
-        ∙ ap (λ qs. cut_part start (unwrap_or end (length (strip qs))) qs) (ArePiecesOf-unique text (pieces text) ps (ArePiecesOf-pieces text) of_text) in
+    λ ps of_text. cut_part-end (pieces text) start end most n same fits
+    ∙ ap (λ qs. cut_part start (unwrap_or end (length (strip qs))) qs) (ArePiecesOf-unique text (pieces text) ps (ArePiecesOf-pieces text) of_text) in
     let parted = parted-first text start n bounds.0 first first_style at.0 at.1 last last_style sliced opened in
     record {
       behind = parted;

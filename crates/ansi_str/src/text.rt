@@ -12,8 +12,7 @@ ghost use Rattle.ansi_str.specs.Cuts.{AreGoodBounds, IsGoodBound, cut_part, part
 use crate::ranges::AnsiRange;
 use crate::split::AnsiSplit;
 use crate::strip::{has_escape, joined_texts};
-use crate::{search, trim};
-use crate::{breaks, cut};
+use crate::{breaks, cut, search, trim};
 use ansi_scan::is_whole;
 use std::alloc::{AllocError, Global};
 use std::borrow::CowStr;

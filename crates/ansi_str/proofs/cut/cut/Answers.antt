@@ -42,8 +42,8 @@ front-requires c =
     let small : length text ≤ 18446744073709551615 = search rules in
     let most : c.args.start ≤ 18446744073709551615 = search rules in
     let is_cut = IsCut-found text c.args.start c.args.end 18446744073709551615 c.unwrap_or-end.result (c.requires (pieces text) (ArePiecesOf-pieces text)) c.unwrap_or-end.ensures small most
-        from.result.rest.now from.result.style first.rest.now first.style from.ensures.rest from.ensures.style c.after-first.ensures.rest c.after-first.ensures.style
-        last.rest.now last.style c.through-last.ensures.slice c.through-last.ensures.style in
+    from.result.rest.now from.result.style first.rest.now first.style from.ensures.rest from.ensures.style c.after-first.ensures.rest c.after-first.ensures.style
+    last.rest.now last.style c.through-last.ensures.slice c.through-last.ensures.style in
     (joined (before_place c.args.start (pieces text)), is_cut.behind)
 
 pub returns-then-not-has_escape-clause-part : goal.returns-then-not-has_escape-clause-part
@@ -55,8 +55,8 @@ returns-then-not-has_escape-clause-part c = λ ps of_text.
     let small : length text ≤ 18446744073709551615 = search rules in
     let most : c.args.start ≤ 18446744073709551615 = search rules in
     let is_cut = IsCut-found text c.args.start c.args.end 18446744073709551615 c.unwrap_or-end.result (c.requires (pieces text) (ArePiecesOf-pieces text)) c.unwrap_or-end.ensures small most
-        from.result.rest.now from.result.style first.rest.now first.style from.ensures.rest from.ensures.style c.after-first.ensures.rest c.after-first.ensures.style
-        last.rest.now last.style c.through-last.ensures.slice c.through-last.ensures.style in
+    from.result.rest.now from.result.style first.rest.now first.style from.ensures.rest from.ensures.style c.after-first.ensures.rest c.after-first.ensures.style
+    last.rest.now last.style c.through-last.ensures.slice c.through-last.ensures.style in
     let none = ap has_escape (sym c.front.ensures) ∙ sym c.has_escape.ensures ∙ c.if-not-has_escape.true in
     c.front-slice.ensures ∙ is_cut.bare none (c.is_plain.ensures.0 c.if-is_plain.true) ps of_text
 
@@ -69,8 +69,8 @@ returns-in_err-joined_cut-clause-answers c = λ gone.
     let small : length text ≤ 18446744073709551615 = search rules in
     let most : c.args.start ≤ 18446744073709551615 = search rules in
     let is_cut = IsCut-found text c.args.start c.args.end 18446744073709551615 c.unwrap_or-end.result (c.requires (pieces text) (ArePiecesOf-pieces text)) c.unwrap_or-end.ensures small most
-        from.result.rest.now from.result.style first.rest.now first.style from.ensures.rest from.ensures.style c.after-first.ensures.rest c.after-first.ensures.style
-        last.rest.now last.style c.through-last.ensures.slice c.through-last.ensures.style in
+    from.result.rest.now from.result.style first.rest.now first.style from.ensures.rest from.ensures.style c.after-first.ensures.rest c.after-first.ensures.style
+    last.rest.now last.style c.through-last.ensures.slice c.through-last.ensures.style in
     elim c.else-is_plain.branch [
       | else-is_plain-via-then-is_plain+else-not-has_escape w ↦
           let found : true ≡ false = sym w.if-not-has_escape.false ∙ w.has_escape.ensures ∙ ap has_escape w.front.ensures ∙ is_cut.none_before gone in cc found
@@ -87,8 +87,8 @@ returns-clause-part c = λ ps of_text.
     let small : length text ≤ 18446744073709551615 = search rules in
     let most : c.args.start ≤ 18446744073709551615 = search rules in
     let is_cut = IsCut-found text c.args.start c.args.end 18446744073709551615 c.unwrap_or-end.result (c.requires (pieces text) (ArePiecesOf-pieces text)) c.unwrap_or-end.ensures small most
-        from.result.rest.now from.result.style first.rest.now first.style from.ensures.rest from.ensures.style c.after-first.ensures.rest c.after-first.ensures.style
-        last.rest.now last.style c.through-last.ensures.slice c.through-last.ensures.style in
+    from.result.rest.now from.result.style first.rest.now first.style from.ensures.rest from.ensures.style c.after-first.ensures.rest c.after-first.ensures.style
+    last.rest.now last.style c.through-last.ensures.slice c.through-last.ensures.style in
     c.in_ok-joined_cut.ensures
     ∙ ap (λ (bytes : List ℕ). sequences (before_place c.args.start (pieces text)) ++ (bytes ++ end_bytes last.style)) c.front-slice.ensures
     ∙ is_cut.spelled ps of_text
@@ -102,8 +102,8 @@ returns-clause-borrows c = λ _. true-unless (has_escape c.args.text.now) (λ go
     let small : length text ≤ 18446744073709551615 = search rules in
     let most : c.args.start ≤ 18446744073709551615 = search rules in
     let is_cut = IsCut-found text c.args.start c.args.end 18446744073709551615 c.unwrap_or-end.result (c.requires (pieces text) (ArePiecesOf-pieces text)) c.unwrap_or-end.ensures small most
-        from.result.rest.now from.result.style first.rest.now first.style from.ensures.rest from.ensures.style c.after-first.ensures.rest c.after-first.ensures.style
-        last.rest.now last.style c.through-last.ensures.slice c.through-last.ensures.style in
+    from.result.rest.now from.result.style first.rest.now first.style from.ensures.rest from.ensures.style c.after-first.ensures.rest c.after-first.ensures.style
+    last.rest.now last.style c.through-last.ensures.slice c.through-last.ensures.style in
     elim c.else-is_plain.branch [
       | else-is_plain-via-then-is_plain+else-not-has_escape w ↦
           let found : true ≡ false = sym w.if-not-has_escape.false ∙ w.has_escape.ensures ∙ ap has_escape w.front.ensures ∙ is_cut.none_before gone in cc found

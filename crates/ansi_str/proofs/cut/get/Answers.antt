@@ -14,7 +14,7 @@ returns-then-not-are_good_bounds-clause-good c = λ ps of_text.
     let same = ArePiecesOf-unique text ps (pieces text) of_text (ArePiecesOf-pieces text) in (
       λ e. cc e,
       λ good. let found = c.are_good_bounds.ensures.1 (subst (λ (qs : List Piece). AreGoodBounds (strip qs) c.args.start c.args.end) same good) in
-      let both : false ≡ true = sym c.if-not-are_good_bounds.true ∙ found in cc both,
+          let both : false ≡ true = sym c.if-not-are_good_bounds.true ∙ found in cc both,
     )
 
 pub cut-requires : goal.cut-requires

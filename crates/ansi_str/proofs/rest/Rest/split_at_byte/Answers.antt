@@ -19,9 +19,10 @@ is_true false other = absurd (other refl)
 pub part_to-requires : goal.part_to-requires
 part_to-requires c =
     let self = c.args.self in
-    let end = c.to_byte-end.result in
-    (joined (through_place (bytes_to c.args.byte self.place.rest.now) (pieces self.place.rest.now)),
-    byte-slice c.args.byte self.place.rest.now self.place.style end.rest.now end.style c.to_byte-end.ensures)
+    let end = c.to_byte-end.result in (
+      joined (through_place (bytes_to c.args.byte self.place.rest.now) (pieces self.place.rest.now)),
+      byte-slice c.args.byte self.place.rest.now self.place.style end.rest.now end.style c.to_byte-end.ensures,
+    )
 
 pub returns-in_err-part-clause-refuses : goal.returns-in_err-part-clause-refuses
 returns-in_err-part-clause-refuses c =
