@@ -62,6 +62,18 @@ impl Flags {
     pub fn after_code(self, code: u8) -> Flags
         ensures { result ≡ flags_of (after_code (only_flags self) code) }
     {
+        match code {
+            0 => Flags::NONE,
+            // What these set and clear has a value.
+            30..=49 | 90..=107 => self,
+            _ => self.after_flag_code(code),
+        }
+    }
+
+    // The attributes after one code, each by the codes that set and clear it.
+    fn after_flag_code(self, code: u8) -> Flags
+        ensures { result ≡ flags_of (after_code (only_flags self) code) }
+    {
         Flags {
             bold: flag_after(1, 22, code, self.bold),
             faint: flag_after(2, 22, code, self.faint),

@@ -1,8 +1,17 @@
-ghost use Rattle.std.specs.Prelude.{◌≡◌};
+ghost use Rattle.std.specs.Prelude.{◌≡◌, IsTrue};
 ghost use Rattle.std.specs.List.{list_all};
 ghost use Rattle.std.specs.Option.{option_copied};
-ghost use Rattle.ansi_scan_style.specs.Rendition.{is_parameter_byte, number, sgr_parameters};
+ghost use Rattle.ansi_scan_style.specs.Attributes.{Attributes, plain_attributes};
+ghost use Rattle.ansi_scan_style.specs.Rendition.{applied, is_parameter_byte, number, sgr_parameters};
 ghost use Rattle.ansi_scan_style.specs.Digits.{number_after};
+
+/// Whether the bytes are one of the two shortest sequences that clear everything, without or with
+/// the parameter 0.
+pub fn is_reset(sequence: &[u8]) -> bool
+    ensures { IsTrue result → (a : Attributes) → applied a sequence.now ≡ plain_attributes }
+{
+    matches!(sequence, [0x1b, b'[', b'm'] | [0x1b, b'[', b'0', b'm'])
+}
 
 /// The parameter bytes of a sequence: what stands between `ESC [` and the `m` at its end.
 /// `None` where the bytes are no such sequence.

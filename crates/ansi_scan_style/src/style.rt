@@ -9,7 +9,7 @@ use crate::codes::{background_after, font_after, foreground_after, underline_col
 use crate::color::{AnsiColor, Color};
 use crate::flags::Flags;
 use crate::next::{Layer, Next};
-use crate::parameters::{number, sgr_parameters};
+use crate::parameters::{is_reset, number, sgr_parameters};
 use crate::sequences::{
     AnsiSequenceEnd, AnsiSequenceStart, Parameters, code_if, color_parameters, font_parameters,
 };
@@ -68,6 +68,9 @@ impl Style {
     pub fn apply(self, sequence: &str) -> Style
         ensures { result ≡ applied self sequence.now }
     {
+        if is_reset(sequence.as_bytes()) {
+            return Style::plain();
+        }
         match sgr_parameters(sequence.as_bytes()) {
             None => self,
             Some(parameters) => self.after_parameters(parameters),
