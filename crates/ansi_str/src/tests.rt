@@ -4,6 +4,9 @@ use std::borrow::CowStr;
 use std::process::Abort;
 use std::test::Fail;
 
+mod edits;
+mod places;
+
 fn expect_strip(rt: &impl Abort, alloc: Global, text: &str, wanted: &str) -> Result<(), Fail> {
     let of_text = text.ansi_strip(alloc)?;
     assert_eq!(rt; of_text.as_str(), wanted, "of {text:?}");
