@@ -89,3 +89,55 @@ fn tells_places(rt: HostRuntime) -> Result<(), Fail> {
     }
     Ok(())
 }
+
+// What a range cuts of a text, and none where its bounds are not good.
+fn expect_cut<R: AnsiRange>(
+    rt: &impl Abort,
+    alloc: Global,
+    text: &str,
+    range: R,
+    wanted: Option<&str>,
+) -> Result<(), Fail> {
+    if !is_good_range(text, &range) {
+        assert!(rt; wanted.is_none(), "of {text:?}");
+        return Ok(());
+    }
+    let part = text.ansi_cut(alloc, range)?;
+    assert_eq!(rt; Some(part.as_str()), wanted, "of {text:?}");
+    Ok(())
+}
+
+#[test]
+fn cuts_good_ranges(rt: HostRuntime) -> Result<(), Fail> {
+    let alloc = rt.alloc();
+    let text = "\x1b[1maé\x1b[0mb";
+    expect_cut(&rt, alloc, text, 1..3, Some("\x1b[1mé\x1b[0m"))?;
+    expect_cut(&rt, alloc, text, 1..=2, Some("\x1b[1mé\x1b[0m"))?;
+    expect_cut(&rt, alloc, text, 3.., Some("\x1b[1m\x1b[0mb"))?;
+    expect_cut(&rt, alloc, text, ..1, Some("\x1b[1ma\x1b[22m"))?;
+    expect_cut(&rt, alloc, text, ..=0, Some("\x1b[1ma\x1b[22m"))?;
+    expect_cut(&rt, alloc, text, ..=usize::MAX, Some(text))?;
+    expect_cut(&rt, alloc, text, .., Some(text))?;
+    expect_cut(&rt, alloc, text, 5..9, Some("\x1b[1m\x1b[0m"))?;
+    // inside a character, and an end before the start
+    expect_cut(&rt, alloc, text, 2.., None)?;
+    expect_cut(&rt, alloc, text, 0..2, None)?;
+    expect_cut(&rt, alloc, text, ..=1, None)?;
+    expect_cut(&rt, alloc, text, 3..1, None)?;
+    let string = String::from_str(alloc, text)?;
+    assert!(&rt; is_good_range(string.as_str(), &(1..3)));
+    let part = string.ansi_cut(alloc, 1..3)?;
+    assert_eq!(&rt; part.as_str(), "\x1b[1mé\x1b[0m");
+    Ok(())
+}
+
+#[test]
+fn splits_past_the_end(rt: HostRuntime) -> Result<(), Fail> {
+    let alloc = rt.alloc();
+    let text = "\x1b[1mab";
+    assert!(&rt; is_good_range(text, &(3..)));
+    let sides = text.ansi_split_at(alloc, 3)?;
+    assert_eq!(&rt; sides.0.as_str(), "\x1b[1mab\x1b[22m");
+    assert_eq!(&rt; sides.1.as_str(), "\x1b[1m\x1b[22m");
+    Ok(())
+}
