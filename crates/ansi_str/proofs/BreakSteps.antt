@@ -164,7 +164,7 @@ parts_from-all (b ∷ places) ps each breaks =
 
 -- ---- places that rise
 
-rise-tail : (at : ℕ) (places : List ℕ) → IsStrictlyIncreasing (at ∷ places) → IsStrictlyIncreasing places
+pub rise-tail : (at : ℕ) (places : List ℕ) → IsStrictlyIncreasing (at ∷ places) → IsStrictlyIncreasing places
 rise-tail at places rise k less =
     let fits : suc k + 1 < suc (length places) = omega (arith, less) in
     let next : suc k + 1 ≡ suc (k + 1) = omega arith in

@@ -1,5 +1,5 @@
 -- The part of a split before the first byte c that the text shows, and what is left behind it.
-use Rattle.std.proofs.Common.{◌≡◌, ℕ, zero, suc, ◌+◌, ◌-◌, ◌<◌, ◌≤◌, ◌==◌, Bool, true, false, List, [], ◌∷◌, ◌++◌, length, take, drop, refl, ap, sym, subst, ◌∙◌, arith, Option, None, Some, if◌then◌else◌}
+use Rattle.std.proofs.Common.{◌≡◌, ℕ, ◌+◌, ◌-◌, ◌<◌, ◌≤◌, ◌==◌, Bool, true, false, List, [], ◌∷◌, ◌++◌, length, take, drop, refl, ap, sym, ◌∙◌, arith, Option, None, Some, if◌then◌else◌}
 use Rattle.std.specs.Prelude.{unwrap_or}
 use Rattle.std.proofs.lemmas.Bool.Decides.{nat_tests}
 use Rattle.ansi_scan.specs.Sequences.{Piece, joined, EachStands}
@@ -12,7 +12,7 @@ use Rattle.ansi_scan.proofs.Uniqueness.{pieces-joined, Stands-some}
 use Rattle.ansi_str.specs.StyledText.{has_escape, text_of, strip, style_after, style_after_all}
 use Rattle.ansi_str.specs.Parts.{from_place, before_place, through_place, dressed}
 use Rattle.ansi_str.specs.PartsLeft.{first_match, passed_over, parts_left}
-use Rattle.ansi_str.specs.Walking.{from_text, begins_with_escape, bytes_to, Lands}
+use Rattle.ansi_str.specs.Walking.{from_text, bytes_to, Lands}
 use Rattle.ansi_str.proofs.PartLemmas.{text_of-text, text_of-sequence}
 use Rattle.ansi_str.proofs.PlaceLemmas.{EachStands-from, from-past, before-past, through-past, through-inside}
 use Rattle.ansi_str.proofs.PlaceSums.{from-from, style-before_sum, through-all, style-through_split}

@@ -1,5 +1,5 @@
 -- A walk to the first byte c of what a text shows.
-use Rattle.std.proofs.Common.{◌≡◌, ℕ, zero, suc, ◌+◌, ◌-◌, ◌<◌, ◌≤◌, ◌==◌, nat_lt, Bool, true, false, not, List, [], ◌∷◌, ◌++◌, length, take, drop, refl, ap, sym, subst, ◌∙◌, arith, length-append, Option, None, Some, eqb-true, if◌then◌else◌}
+use Rattle.std.proofs.Common.{◌≡◌, ℕ, ◌+◌, ◌-◌, ◌<◌, ◌≤◌, ◌==◌, Bool, true, false, not, List, [], ◌∷◌, ◌++◌, length, take, drop, refl, ap, sym, subst, ◌∙◌, arith, length-append, Option, None, Some, eqb-true, if◌then◌else◌}
 use Rattle.std.specs.Prelude.{unwrap_or, is_some, slice_index}
 use Rattle.std.specs.Option.{option_map}
 use Rattle.std.specs.List.{prefix_len}
@@ -7,8 +7,6 @@ use Rattle.std.proofs.lemmas.Bool.Decides.{nat_tests}
 use Rattle.std.proofs.lemmas.List.{length-take}
 use Rattle.std.proofs.lemmas.List.Sums.{prefix_len_stops}
 use Rattle.std.proofs.Math.ListN.{get_or}
-use Rattle.ansi_scan.specs.Sequences.{Piece, is_plain}
-use Rattle.ansi_scan.specs.Joining.{is_text_kind}
 use Rattle.ansi_scan.specs.Pieces.{pieces, text_len}
 use Rattle.ansi_scan.specs.Attributes.{Attributes}
 use Rattle.ansi_scan.proofs.Uniqueness.{pieces-joined}
@@ -18,9 +16,9 @@ use Rattle.ansi_str.specs.Parts.{from_place, before_place, through_place}
 use Rattle.ansi_str.specs.PartsLeft.{first_match}
 use Rattle.ansi_str.specs.Walking.{from_text, begins_with_escape, is_other, AreFirstAndRest, bytes_to, Lands}
 use Rattle.ansi_str.proofs.PartLemmas.{text_of-sequence}
-use Rattle.ansi_str.proofs.PlaceLemmas.{from-none, through-past, strip-from}
+use Rattle.ansi_str.proofs.PlaceLemmas.{from-none, through-past}
 use Rattle.ansi_str.proofs.PlaceSums.{from-from, style-before_sum, style-through_split}
-use Rattle.ansi_str.proofs.Walks.{from-plain, style-plain, first-sequence, strip-sequence, from-sequence, from_text-sequence, escape_first, at_text}
+use Rattle.ansi_str.proofs.Walks.{from-plain, style-plain, first-sequence, strip-sequence, from-sequence, from_text-sequence, at_text}
 use Rattle.ansi_str.proofs.FindLemmas.{match-behind_others, match-here, match-nowhere, other_run, other_fits, parted, found_byte}
 
 abbrev found_in : ℕ → List ℕ → Option ℕ

@@ -35,3 +35,6 @@ pub mod FirstPlaces
 pub mod KeepLemmas
 pub mod TrimLemmas
 pub mod KeptPieces
+pub mod EditLemmas
+pub mod EditLaws
+pub mod RisingPlaces

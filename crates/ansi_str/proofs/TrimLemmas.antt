@@ -66,6 +66,7 @@ module _ (text left r : List ℕ) (start : IsTrimStart text left) (is_left : lef
         within = r_fits;
         before = subst (NoCharPasses is_not_whitespace) (sym left-before) start.2;
         behind = subst (NoCharPasses is_not_whitespace) (sym behind_both) end.2;
+        begins = left-behind ∙ is_left;
         left = ap (λ m. take m (drop from text)) width ∙ ap (take (length r)) left-behind ∙ r_is ∙ is_r ∙ ap trim_end is_left;
       }
 

@@ -1,7 +1,7 @@
 -- Text that is taken away at both ends, where every sequence is kept.
 use Rattle.std.specs.Prelude.{◌≡◌, ◌≤◌, ◌-◌, ℕ, true, List, [], ◌∷◌, length, take, drop, slice_range, if◌then◌else◌}
 use Rattle.std.specs.Char.{is_not_whitespace}
-use Rattle.std.specs.Str.{NoCharPasses, trim}
+use Rattle.std.specs.Str.{NoCharPasses, trim, trim_start}
 use Rattle.ansi_scan.specs.Sequences.{Piece}
 use Rattle.ansi_scan.specs.Joining.{is_text_kind}
 use Rattle.ansi_str.specs.StyledText.{strip}
@@ -18,12 +18,14 @@ without_front n pieces = kept n (length (strip pieces)) pieces
 abbrev pub without_end : ℕ → List Piece → List ℕ
 without_end n pieces = kept 0 (length (strip pieces) - n) pieces
 
--- what Rust's `trim` leaves of the text stands from a to b, and all before and behind is white space
+-- what Rust's `trim` leaves of the text stands from a to b, what `trim_start` leaves begins at a, and all before and
+-- behind is white space
 pub record IsTrimmedAt (text : List ℕ) (a b : ℕ) : Type 0 where
   pub ordered : a ≤ b
   pub within : b ≤ length text
   pub before : NoCharPasses is_not_whitespace (take a text)
   pub behind : NoCharPasses is_not_whitespace (drop b text)
+  pub begins : drop a text ≡ trim_start text
   pub left : slice_range text a b ≡ trim text
 
 -- the bytes are the pieces without the white space at both ends of their text

@@ -10,5 +10,6 @@ pub mod Matches
 pub mod PartsLeft
 pub mod Searches
 pub mod Keeping
+pub mod Edits
 pub mod Lines
 pub mod WorkedParts

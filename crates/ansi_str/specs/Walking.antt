@@ -1,5 +1,5 @@
 -- Steps through the pieces of a text.
-use Rattle.std.specs.Prelude.{◌≡◌, ◌<◌, slice_index, length, Option, None, Some, unwrap_or, ◌==◌, ◌&&◌, not, ℕ, Bool, false, List, [], ◌∷◌, if◌then◌else◌, suc, flat_map}
+use Rattle.std.specs.Prelude.{◌≡◌, ◌<◌, slice_index, length, None, Some, unwrap_or, ◌==◌, ◌&&◌, not, ℕ, Bool, false, List, [], ◌∷◌, if◌then◌else◌, suc, flat_map}
 use Rattle.ansi_scan.specs.Sequences.{Piece, escape, is_plain}
 use Rattle.ansi_scan.specs.Joining.{is_text_kind}
 use Rattle.ansi_scan.specs.Attributes.{Attributes}

@@ -1,11 +1,12 @@
 //! The parts of a text that is split at places.
-ghost use Rattle.std.specs.Prelude.{◌≡◌, ℕ, List, [], ◌∷◌, length, map, min, IfOk, IsOk, IsTrue, false};
+ghost use Rattle.std.specs.Prelude.{◌≡◌, ◌↔◌, ℕ, List, [], ◌∷◌, length, map, min, IfOk, IsOk, IsTrue, false};
 ghost use Rattle.std.specs.Cow.{IsOwnedStr, cow_str_bytes};
 ghost use Rattle.ansi_scan.specs.Sequences.{Piece, ArePiecesOf};
 ghost use Rattle.ansi_str.specs.StyledText.{has_escape, strip};
 ghost use Rattle.ansi_str.specs.Cuts.{AreBreaks, IsGoodBound, parts_at};
 
 use crate::places::Place;
+use crate::search::behind_place;
 use std::alloc::{AllocError, Global};
 use std::borrow::CowStr;
 
@@ -34,6 +35,31 @@ pub fn split_places<'a>(
     let end = place.through(place.rest.len());
     parts.push(place.part_to(alloc, &end)?)?;
     Ok(parts)
+}
+
+/// Whether a text can be split at these places: each is a character boundary of the text without its
+/// sequences, and behind the one before it. Takes no memory.
+pub fn are_places(text: &str, places: &[usize]) -> bool
+    ensures { (pieces : List Piece) → ArePiecesOf text.now pieces → (IsTrue result ↔ AreBreaks (strip pieces) places.now) }
+{
+    let Some((first, others)) = places.split_first() else {
+        return true;
+    };
+    let Some(mut rest) = behind_place(text, *first) else {
+        return false;
+    };
+    let mut from = *first;
+    for at in others {
+        if *at <= from {
+            return false;
+        }
+        let Some(behind) = behind_place(rest, *at - from) else {
+            return false;
+        };
+        rest = behind;
+        from = *at;
+    }
+    true
 }
 
 /// The two parts of a text that is split at one place, or at its end where the place is past it.

@@ -10,6 +10,7 @@ ghost use Rattle.ansi_str.specs.Walking.{sequences};
 ghost use Rattle.ansi_str.specs.Cuts.{AreGoodBounds, IsGoodBound, cut_part};
 
 use crate::places::{Place, behind_item, front, split_item, text_len};
+use crate::ranges::AnsiRange;
 use crate::strip::has_escape;
 use ansi_scan::{Kind, Style};
 use std::alloc::{AllocError, Global};
@@ -91,6 +92,16 @@ fn sequences_before(alloc: Global, text: &str, n: usize) -> Result<String, Alloc
         rest = behind;
     }
     Ok(out)
+}
+
+/// Whether a range has good bounds in the text without its sequences, as `ansi_cut` asks for: its end is
+/// not below its start, and each that is below the length is a character boundary. Of a range that has
+/// no end it tells what `ansi_split_at` asks for of its start. Takes no memory.
+pub fn is_good_range<R: AnsiRange>(text: &str, range: &R) -> bool
+    ensures { (pieces : List Piece) → ArePiecesOf text.now pieces →
+        (IsTrue result ↔ AreGoodBounds (strip pieces) (R.start range.now) (R.end range.now)) }
+{
+    are_good_bounds(text, range.start_place(), range.end_place())
 }
 
 // Whether a text can be cut between the bounds.

@@ -1,6 +1,6 @@
 //! Laws of the definitions that the other contracts cite.
 
-ghost use Rattle.std.specs.Prelude.{All, ◌≡◌, ◌<◌, ◌≤◌, ◌-◌, ◌==◌, ℕ, List, [], ◌∷◌, ◌++◌, chars, codes, drop, false, flat_map, length, map, slice_range, take, true, ◌↔◌, Bool, IsTrue, MatchOption, Option, is_some, None, Some};
+ghost use Rattle.std.specs.Prelude.{All, ◌≡◌, ◌<◌, ◌≤◌, ◌-◌, ◌==◌, ℕ, List, [], ◌∷◌, ◌++◌, chars, codes, drop, false, flat_map, length, map, slice_range, take, true, ◌↔◌, Bool, IsTrue, MatchOption, Option, is_some, None, Some, ◌⊎◌};
 ghost use Rattle.std.specs.Borrow.{Bor};
 ghost use Rattle.std.specs.Iterator.{AlwaysYields};
 ghost use Rattle.std.specs.List.{join_with_byte, slice_split};
@@ -21,6 +21,8 @@ ghost use Rattle.ansi_str.specs.Lines.{IsClosedLine, IsClosedText};
 ghost use Rattle.ansi_str.specs.WorkedParts.{SplitsInto, black_text, black_word, half_red_text, red_text, red_word, spaced_text, two_lines};
 ghost use Rattle.ansi_str.specs.Searches.{BeginsWith, EndsWith};
 ghost use Rattle.ansi_str.specs.Keeping.{IsTrimmed, kept, sequences as sequences_of, without_end, without_front};
+ghost use Rattle.ansi_str.specs.declared.edits.Edit.{Edit};
+ghost use Rattle.ansi_str.specs.Edits.{OneFails, TakeTo};
 ghost use Rattle.ansi_str.specs.Blocks.{blocks_from, text_of_block, styled_of_block};
 
 /// Without its sequences a text has no ESC, and without its sequences once more it is the same.
@@ -305,4 +307,17 @@ pub fn cuts_show_their_slices()
         styled of_cut ≡ styled_from (style_after_all plain_attributes (before_place a pieces)) (through_place (b - a) (from_place a pieces)) }
     ensures closed { (text : List ℕ) (pieces of_cut : List Piece) (a b : ℕ) → a ≤ b → ArePiecesOf text pieces → NoneBroken pieces →
         ArePiecesOf (cut_part a b pieces) of_cut → IsClosed of_cut }
+{}
+
+/// The edits of a list that stands behind another are done behind them; what edits leave of a text is one
+/// text, and where they leave one none of them fails.
+pub fn edits_in_turn()
+    ensures leave { (first second : List Edit) (text left : List ℕ) →
+        (TakeTo (first ++ second) text left ↔ ((next : List ℕ) × TakeTo first text next × TakeTo second next left)) }
+    ensures fail { (first second : List Edit) (text : List ℕ) →
+        (OneFails (first ++ second) text ↔ (OneFails first text ⊎ ((next : List ℕ) × TakeTo first text next × OneFails second next))) }
+    ensures one { (edits : List Edit) (text left other : List ℕ) →
+        TakeTo edits text left → TakeTo edits text other → left ≡ other }
+    ensures not_both { (edits : List Edit) (text left : List ℕ) →
+        TakeTo edits text left → ¬ (OneFails edits text) }
 {}

@@ -4,6 +4,9 @@ use std::borrow::CowStr;
 use std::process::Abort;
 use std::test::Fail;
 
+mod edits;
+mod places;
+
 fn expect_strip(rt: &impl Abort, alloc: Global, text: &str, wanted: &str) -> Result<(), Fail> {
     let of_text = text.ansi_strip(alloc)?;
     assert_eq!(rt; of_text.as_str(), wanted, "of {text:?}");
@@ -19,6 +22,7 @@ fn strips(rt: HostRuntime) -> Result<(), Fail> {
     // a broken ESC counts as a sequence, and what stands behind it is text
     expect_strip(&rt, rt.alloc(), "a\x1b[1é\x1b[0m\x1b", "a[1é")?;
     expect_strip(&rt, rt.alloc(), "\x1b[2J\x1b(B\x1bPq\x1b\\", "")?;
+    expect_strip(&rt, rt.alloc(), " \x1b[1m a ", "  a ")?;
     expect_strip(&rt, rt.alloc(), "é漢\u{9b}31m\n", "é漢\u{9b}31m\n")?;
     expect_strip(&rt, rt.alloc(), "", "")
 }
@@ -468,6 +472,7 @@ fn searches(rt: HostRuntime) -> Result<(), Fail> {
     expect_search(&rt, alloc, "\x1b[31m", "\x1b[31m", (false, false), None)?;
     expect_search(&rt, alloc, "\x1b[31m", "3", (false, false), None)?;
     let styled = "\x1b[31ma\x1b[1mb\x1b[0mc";
+    expect_search(&rt, alloc, styled, "", (true, true), Some(0))?;
     expect_search(&rt, alloc, styled, "abc", (true, true), Some(0))?;
     expect_search(&rt, alloc, styled, "ab", (true, false), Some(0))?;
     expect_search(&rt, alloc, styled, "bc", (false, true), Some(1))?;

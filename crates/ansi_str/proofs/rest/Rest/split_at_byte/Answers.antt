@@ -1,5 +1,5 @@
 -- The part before the byte, and the rest behind it.
-use Rattle.std.proofs.Common.{rules, ◌≡◌, ◌∙◌, ◌<◌, ◌+◌, ap, sym, true, false, Bool, IsTrue, ℕ, List, [], ◌∷◌, length, drop, refl, Option, eqb-true}
+use Rattle.std.proofs.Common.{rules, ◌≡◌, ◌∙◌, ◌+◌, ap, sym, true, false, Bool, IsTrue, ℕ, List, [], ◌∷◌, length, drop, refl, eqb-true}
 use Rattle.std.specs.Prelude.{is_some}
 use Rattle.std.specs.Cow.{cow_str_bytes}
 use Rattle.ansi_scan.specs.Sequences.{joined}

@@ -1,0 +1,45 @@
+-- A step by one edit.
+use Rattle.std.proofs.Common.{◌≡◌, ◌+◌, ◌∷◌, ◌<◌, ◌∙◌, suc, ℕ, List, ap, length, drop, get_or, sym, subst, arith}
+use Rattle.std.specs.Prelude.{string_bytes}
+use Rattle.std.specs.Cow.{cow_str_bytes}
+use Rattle.std.proofs.Math.Seq.{drop-cons}
+use Rattle.ansi_scan.specs.Pieces.{pieces}
+use Rattle.ansi_str.specs.declared.edits.Edit.{Edit}
+use Rattle.ansi_str.specs.declared.edits.Edit.TheVariants.{Cut}
+use Rattle.ansi_str.specs.Edits.{FailsOf, LeavesOf}
+use Rattle.ansi_str.proofs.EditLemmas.{Answers, Edited, Edited-next, Edited-fails}
+use Rattle.ansi_str.proofs.editing.edit.Goals as goal
+
+-- the edit of this number
+abbrev edit_at : List Edit → ℕ → Edit
+edit_at edits i = get_or edits i (Cut 0 0)
+
+-- the next edit is the first of those that are left
+next : (edits : List Edit) (text now : List ℕ) (i : ℕ) → i < length edits → Edited edits text (drop i edits) now → Edited edits text (edit_at edits i ∷ drop (i + 1) edits) now
+next edits text now i less edited =
+    let one : suc i ≡ i + 1 = omega arith in
+    subst (λ (left : List Edit). Edited edits text left now) (drop-cons edits i (Cut 0 0) less ∙ ap (λ n. edit_at edits i ∷ drop n edits) one) edited
+
+pub returns-in_default : goal.returns-in_default
+returns-in_default c =
+    let edits = c.args.edits.now in
+    let text = c.args.text.now in
+    let i = c.loop-edit.edit-index in
+    let now = string_bytes c.loop-edit.left in
+    let edit = edit_at edits i in
+    let fails = subst (Answers edit (pieces c.as_str.result.now)) c.in_default.is c.in_ok-next.ensures in
+    Edited-fails edits text edit (drop (i + 1) edits) now (next edits text now i c.loop-edit-test.true c.loop-edit.invariant)
+    (subst (λ (bytes : List ℕ). FailsOf edit (pieces bytes)) c.as_str.ensures.value fails)
+
+pub loop-edit-preserved : goal.loop-edit-preserved
+loop-edit-preserved c =
+    let edits = c.args.edits.now in
+    let text = c.args.text.now in
+    let i = c.loop-edit.edit-index in
+    let now = string_bytes c.loop-edit.left in
+    let edit = edit_at edits i in
+    let left = cow_str_bytes c.in-Some.next in
+    let leaves = subst (Answers edit (pieces c.as_str.result.now)) c.in-Some.is c.in_ok-next.ensures in
+    let leaves_now = subst (λ (bytes : List ℕ). LeavesOf edit (pieces bytes) left) c.as_str.ensures.value leaves in
+    subst (λ (bytes : List ℕ). Edited edits text (drop (i + 1) edits) bytes) (sym c.in_ok-left-2.ensures.ok)
+    (Edited-next edits text edit (drop (i + 1) edits) now (next edits text now i c.loop-edit-test.true c.loop-edit.invariant) left leaves_now)

@@ -1,0 +1,21 @@
+-- The bound is good in all pieces of the text, and the second part is the second side.
+use Rattle.std.proofs.Common.{List, ℕ, ap}
+use Rattle.std.specs.Prelude.{slice_get}
+use Rattle.ansi_scan.specs.Sequences.{Piece}
+use Rattle.ansi_scan.specs.Pieces.{pieces}
+use Rattle.ansi_scan.proofs.Existence.{ArePiecesOf-pieces}
+use Rattle.ansi_str.specs.StyledText.{strip}
+use Rattle.ansi_str.specs.Cuts.{IsGoodBound}
+use Rattle.ansi_str.proofs.SearchLemmas.{of_pieces}
+use Rattle.ansi_str.proofs.editing.right_side.Goals as goal
+
+pub split_at-requires : goal.split_at-requires
+split_at-requires c =
+    of_pieces (λ (ps : List Piece). IsGoodBound (strip ps) c.args.mid) c.args.text.now (c.is_good_bound.ensures.0 c.if-not-is_good_bound.false)
+
+pub returns : goal.returns
+returns c =
+    let text = c.args.text.now in (
+      c.is_good_bound.ensures.0 c.if-not-is_good_bound.false,
+      ap (λ (parts : List (List ℕ)). slice_get parts 1) (c.in_ok-right.ensures.parts (pieces text) (ArePiecesOf-pieces text)),
+    )

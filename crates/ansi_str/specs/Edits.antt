@@ -1,0 +1,64 @@
+-- Edits of a text, each of what the one before it left.
+use Rattle.std.specs.Prelude.{◌≡◌, ℕ, min, List, [], ◌∷◌, length, slice_get, Some, None, ◌⊎◌}
+use Rattle.ansi_scan.specs.Sequences.{Piece, ArePiecesOf}
+use Rattle.ansi_str.specs.declared.edits.Edit.{Edit}
+use Rattle.ansi_str.specs.declared.edits.Edit.TheVariants.{Cut, Left, Right, Part, Prefix, Suffix, Trim}
+use Rattle.ansi_str.specs.StyledText.{strip}
+use Rattle.ansi_str.specs.Cuts.{AreGoodBounds, IsGoodBound, cut_part, parts_at}
+use Rattle.ansi_str.specs.Matches.{AreMatches, split_bounds, styled_parts}
+use Rattle.ansi_str.specs.Searches.{BeginsWith, EndsWith}
+use Rattle.ansi_str.specs.Keeping.{IsTrimmed, without_end, without_front}
+
+-- the two parts at a place, of which one past the end counts as the end
+abbrev pub sides : ℕ → List Piece → List (List ℕ)
+sides mid pieces = parts_at (min mid (length (strip pieces)) ∷ []) pieces
+
+-- the parts between the matches of the pattern are these
+pub record AreParts (pattern : List ℕ) (pieces : List Piece) (parts : List (List ℕ)) : Type 0 where
+  pub matches : List ℕ
+  pub are_matches : AreMatches pattern (strip pieces) matches
+  pub are_parts : parts ≡ styled_parts pieces (split_bounds pattern (strip pieces) matches)
+
+-- the edit leaves these bytes of the pieces
+abbrev pub LeavesOf : Edit → List Piece → List ℕ → Type 0
+LeavesOf (Cut start end) pieces left = AreGoodBounds (strip pieces) start (Some end) × (left ≡ cut_part start end pieces)
+LeavesOf (Left mid) pieces left = IsGoodBound (strip pieces) mid × (slice_get (sides mid pieces) 0 ≡ Some left)
+LeavesOf (Right mid) pieces left = IsGoodBound (strip pieces) mid × (slice_get (sides mid pieces) 1 ≡ Some left)
+LeavesOf (Part pattern index) pieces left =
+    (parts : List (List ℕ)) × AreParts pattern.now pieces parts × (slice_get parts index ≡ Some left)
+LeavesOf (Prefix prefix) pieces left = BeginsWith prefix.now (strip pieces) × (left ≡ without_front (length prefix.now) pieces)
+LeavesOf (Suffix suffix) pieces left = EndsWith suffix.now (strip pieces) × (left ≡ without_end (length suffix.now) pieces)
+LeavesOf Trim pieces left = IsTrimmed pieces left
+
+-- the pieces have no such part: bad bounds, a place inside a character, a part too many, no such prefix or suffix
+abbrev pub FailsOf : Edit → List Piece → Type 0
+FailsOf (Cut start end) pieces = ¬ (AreGoodBounds (strip pieces) start (Some end))
+FailsOf (Left mid) pieces = ¬ (IsGoodBound (strip pieces) mid)
+FailsOf (Right mid) pieces = ¬ (IsGoodBound (strip pieces) mid)
+FailsOf (Part pattern index) pieces =
+    (parts : List (List ℕ)) × AreParts pattern.now pieces parts × (slice_get parts index ≡ None)
+FailsOf (Prefix prefix) pieces = ¬ (BeginsWith prefix.now (strip pieces))
+FailsOf (Suffix suffix) pieces = ¬ (EndsWith suffix.now (strip pieces))
+FailsOf Trim pieces = ⊥
+
+-- the edit takes this text to that one
+pub record TakesTo (edit : Edit) (text left : List ℕ) : Type 0 where
+  pub pieces : List Piece
+  pub of_text : ArePiecesOf text pieces
+  pub leaves : LeavesOf edit pieces left
+
+-- the edit fails at this text
+pub record FailsAt (edit : Edit) (text : List ℕ) : Type 0 where
+  pub pieces : List Piece
+  pub of_text : ArePiecesOf text pieces
+  pub fails : FailsOf edit pieces
+
+-- the edits, one after the other, take this text to that one
+abbrev pub TakeTo : List Edit → List ℕ → List ℕ → Type 0
+TakeTo [] text left = left ≡ text
+TakeTo (edit ∷ edits) text left = (next : List ℕ) × TakesTo edit text next × TakeTo edits next left
+
+-- one of the edits fails at its turn
+abbrev pub OneFails : List Edit → List ℕ → Type 0
+OneFails [] text = ⊥
+OneFails (edit ∷ edits) text = FailsAt edit text ⊎ ((next : List ℕ) × TakesTo edit text next × OneFails edits next)
