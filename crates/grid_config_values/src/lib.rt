@@ -1,8 +1,16 @@
 //! The values that settings of a table have: positions and sets of cells, sides, borders, alignments.
 #![tactic(auto)]
 
+mod alignment;
+mod borders;
 mod fault;
+mod formatting;
 mod position;
+mod sides;
 
+pub use alignment::{AlignmentHorizontal, AlignmentVertical};
+pub use borders::{Border, Borders};
 pub use fault::Fault;
+pub use formatting::Formatting;
 pub use position::Position;
+pub use sides::{Indent, Sides};
