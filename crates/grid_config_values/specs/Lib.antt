@@ -1,2 +1,4 @@
 pub mod Fault
 pub mod Glyphs
+pub mod Entities
+pub mod Settings

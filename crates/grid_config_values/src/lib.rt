@@ -3,6 +3,8 @@
 
 mod alignment;
 mod borders;
+mod entity;
+mod entity_map;
 mod fault;
 mod formatting;
 mod position;
@@ -10,6 +12,8 @@ mod sides;
 
 pub use alignment::{AlignmentHorizontal, AlignmentVertical};
 pub use borders::{Border, Borders};
+pub use entity::Entity;
+pub use entity_map::EntityMap;
 pub use fault::Fault;
 pub use formatting::Formatting;
 pub use position::Position;

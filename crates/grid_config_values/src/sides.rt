@@ -35,9 +35,9 @@ impl Indent {
 
 /// Size 0; its fill is a space.
 impl Default for Indent {
-    fn default() -> Indent
-        ensures { result ≡ record { size = 0; fill = 32 } }
-    {
+    ghost is_default = { λ indent. indent ≡ record { size = 0; fill = 32 } };
+
+    fn default() -> Indent {
         Indent::zero()
     }
 }
