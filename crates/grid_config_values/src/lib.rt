@@ -4,6 +4,7 @@
 mod alignment;
 mod borders;
 mod entity;
+mod entity_iterator;
 mod entity_map;
 mod fault;
 mod formatting;
@@ -13,6 +14,7 @@ mod sides;
 pub use alignment::{AlignmentHorizontal, AlignmentVertical};
 pub use borders::{Border, Borders};
 pub use entity::Entity;
+pub use entity_iterator::EntityIterator;
 pub use entity_map::EntityMap;
 pub use fault::Fault;
 pub use formatting::Formatting;
