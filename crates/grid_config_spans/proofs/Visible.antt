@@ -72,7 +72,7 @@ lookup_from_any test all (span ∷ spans) kept e = elim (test span) as (λ b. te
       lookup_from_any test all spans (λ k d lt. kept (suc k) d (omega arith)) rest
 ] refl
 
-any_of_filter : {X : Type 0} (picks test : X → Bool) (xs : List X) → list_any test (filter picks xs) ≡ list_any (λ x. picks x && test x) xs
+pub any_of_filter : {X : Type 0} (picks test : X → Bool) (xs : List X) → list_any test (filter picks xs) ≡ list_any (λ x. picks x && test x) xs
 any_of_filter picks test [] = refl
 any_of_filter picks test (x ∷ xs) = grind (arith, any_of_filter picks test xs)
 
