@@ -1,10 +1,10 @@
 -- Spans are good exactly where each of them is.
-use Rattle.std.proofs.Common.{◌≡◌, ◌≢◌, ℕ, suc, ◌<◌, ◌≤◌, ◌+◌, Bool, true, false, not, ◌&&◌, ◌||◌, List, [], ◌∷◌, Option, None, Some, IsTrue, ◌↔◌, length, slice_index_or, refl, sym, ap, subst, ◌∙◌, cond, if◌then◌else◌, max, nat_le, nat_lt, ◌==◌, unwrap_or, ◌⊎◌, inl, inr, arith}
+use Rattle.std.proofs.Common.{◌≡◌, ◌≢◌, ℕ, suc, Bool, true, false, not, ◌&&◌, List, [], ◌∷◌, Option, Some, IsTrue, ◌↔◌, refl, sym, ap, subst, ◌∙◌, unwrap_or, ◌⊎◌, inl, inr, arith}
 use Rattle.std.proofs.lemmas.Bool.{and_parts}
 use Rattle.std.proofs.lemmas.Bool.Decides.{nat_tests}
-use Rattle.std.specs.List.{All, filter, list_all, list_any}
+use Rattle.std.specs.List.{All, list_all, list_any}
 use Rattle.std.specs.Map.{lookup}
-use Rattle.std.specs.Ordering.{is_gt, is_le}
+use Rattle.std.specs.Ordering.{is_le}
 use Rattle.std.specs.BTreeMap.Range.{range_contains}
 use Rattle.std.specs.declared.ops.Bound.TheVariants.{Included, Excluded}
 use Rattle.grid_config_values.specs.declared.position.Position.{Position}
@@ -14,7 +14,7 @@ use Rattle.grid_config_spans.specs.Rectangles.{Holds, IsInside}
 use Rattle.grid_config_spans.specs.Search.{begun_between, corner, holds, is_good_span, is_in_table, is_inside, is_met_by, is_other, meets, search_end}
 use Rattle.grid_config_spans.specs.Spans.{AreGood, IsAnchor, IsInTable, extent_at, single}
 use Rattle.grid_config_spans.proofs.Order.{is_le_cmp, same_position, same_itself}
-use Rattle.grid_config_spans.proofs.Visible.{IsKept, Kept, NotKept, any_from_lookup, any_of_filter, extent_kept, holds_shown, holds_tested, kept_or_single, lookup_from_any}
+use Rattle.grid_config_spans.proofs.Visible.{Kept, NotKept, any_from_lookup, any_of_filter, extent_kept, holds_shown, kept_or_single, lookup_from_any}
 
 -- a test that holds of all spans holds of what is kept at a place
 all_at : (test : Position × Extent → Bool) (spans : List (Position × Extent)) (place : Position) (extent : Extent) → list_all test spans ≡ true →

@@ -1,5 +1,5 @@
 -- A search among the spans finds what holds a place.
-use Rattle.std.proofs.Common.{◌≡◌, ◌≢◌, ℕ, suc, ◌<◌, ◌≤◌, ◌+◌, Bool, true, false, not, ◌&&◌, ◌||◌, List, [], ◌∷◌, Option, None, Some, IsTrue, ◌↔◌, length, slice_index_or, refl, sym, ap, subst, ◌∙◌, cond, if◌then◌else◌, nat_le, nat_lt, ◌==◌, unwrap_or, arith, lit<}
+use Rattle.std.proofs.Common.{◌≡◌, suc, Bool, true, false, not, ◌&&◌, List, [], ◌∷◌, Option, None, Some, IsTrue, ◌↔◌, refl, sym, ap, subst, ◌∙◌, unwrap_or, arith}
 use Rattle.std.proofs.lemmas.Bool.{and_parts}
 use Rattle.std.proofs.lemmas.Bool.Decides.{nat_tests}
 use Rattle.std.specs.List.{All, filter, list_any}
@@ -15,7 +15,7 @@ use Rattle.grid_config_spans.specs.declared.extent.Extent.{Extent}
 use Rattle.grid_config_spans.specs.Rectangles.{Holds}
 use Rattle.grid_config_spans.specs.Search.{begun_between, holds, holds_in}
 use Rattle.grid_config_spans.specs.Spans.{IsVisible, extent_at, single}
-use Rattle.grid_config_spans.proofs.Order.{is_le_cmp, same_position, same_itself}
+use Rattle.grid_config_spans.proofs.Order.{is_le_cmp, same_position}
 
 pub holds_shown : (anchor : Position) (extent : Extent) (place : Position) → holds anchor extent place ≡ true → Holds anchor extent place
 holds_shown anchor extent place e = record {

@@ -1,4 +1,4 @@
-use Rattle.std.proofs.Common.{◌≡◌, ◌∙◌, Some, slice_index_or, sym}
+use Rattle.std.proofs.Common.{◌∙◌, slice_index_or, sym}
 use Rattle.grid_config_spans.proofs.Extents.{lookup_place}
 use Rattle.grid_config_spans.proofs.spans.Spans.all_are_good.Goals as goal
 

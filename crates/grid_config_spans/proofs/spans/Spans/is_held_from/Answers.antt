@@ -4,7 +4,6 @@ use Rattle.std.specs.Map.{lookup}
 use Rattle.grid_config_values.specs.declared.position.Position.{Position}
 use Rattle.grid_config_values.specs.Order.{same_place}
 use Rattle.grid_config_spans.specs.declared.extent.Extent.{Extent}
-use Rattle.grid_config_spans.specs.Search.{begun_between}
 use Rattle.grid_config_spans.proofs.Extents.{lookup_place}
 use Rattle.grid_config_spans.proofs.spans.Spans.is_held_from.Goals as goal
 
