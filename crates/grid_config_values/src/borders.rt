@@ -1,0 +1,219 @@
+//! The glyphs of a table's boundaries, or what else belongs to each of them, as its colour.
+ghost use Rattle.std.specs.Prelude.{◌≡◌, ◌<◌, Bool, if◌then◌else◌, is_some};
+ghost use Rattle.grid_config_values.specs.Glyphs.{Between, BoundaryKind, First, Last, boundary_count, boundary_kind, has_column_boundary, has_row_boundary, no_borders};
+
+/// What may stand round one cell.
+#[derive(Clone, Copy, Debug, PartialEq, Eq, PartialOrd, Ord, Hash, Drop)]
+pub struct Border<T> {
+    /// Above it.
+    pub top: Option<T>,
+    /// Below it.
+    pub bottom: Option<T>,
+    /// To its left.
+    pub left: Option<T>,
+    /// To its right.
+    pub right: Option<T>,
+    /// At its left upper corner.
+    pub left_top_corner: Option<T>,
+    /// At its left lower corner.
+    pub left_bottom_corner: Option<T>,
+    /// At its right upper corner.
+    pub right_top_corner: Option<T>,
+    /// At its right lower corner.
+    pub right_bottom_corner: Option<T>,
+}
+
+/// What may stand on the boundaries of a table: before its first row or column, between two of
+/// them, and behind its last.
+#[derive(Clone, Copy, Debug, PartialEq, Eq, PartialOrd, Ord, Hash, Drop)]
+pub struct Borders<T> {
+    /// Along the columns, above the first row.
+    pub top: Option<T>,
+    /// At the left upper corner.
+    pub top_left: Option<T>,
+    /// At the right upper corner.
+    pub top_right: Option<T>,
+    /// Between two columns, above the first row.
+    pub top_intersection: Option<T>,
+
+    /// Along the columns, below the last row.
+    pub bottom: Option<T>,
+    /// At the left lower corner.
+    pub bottom_left: Option<T>,
+    /// At the right lower corner.
+    pub bottom_right: Option<T>,
+    /// Between two columns, below the last row.
+    pub bottom_intersection: Option<T>,
+
+    /// Along the columns, between two rows.
+    pub horizontal: Option<T>,
+    /// Before the first column, between two rows.
+    pub left_intersection: Option<T>,
+    /// Behind the last column, between two rows.
+    pub right_intersection: Option<T>,
+
+    /// Between two columns, between two rows.
+    pub intersection: Option<T>,
+
+    /// In a row, between two columns.
+    pub vertical: Option<T>,
+    /// In a row, before the first column.
+    pub left: Option<T>,
+    /// In a row, behind the last column.
+    pub right: Option<T>,
+}
+
+// `is_some`, which is no `const` function.
+const fn is_set<T>(glyph: &Option<T>) -> bool
+    ensures { result ≡ is_some glyph.now }
+{
+    matches!(glyph, Some(_))
+}
+
+impl<T> Borders<T> {
+    /// Nothing stands on any boundary.
+    pub const fn empty() -> Borders<T>
+        ensures { result ≡ no_borders }
+    {
+        Borders {
+            top: None,
+            top_left: None,
+            top_right: None,
+            top_intersection: None,
+            bottom: None,
+            bottom_left: None,
+            bottom_right: None,
+            bottom_intersection: None,
+            horizontal: None,
+            left_intersection: None,
+            right_intersection: None,
+            intersection: None,
+            vertical: None,
+            left: None,
+            right: None,
+        }
+    }
+
+    /// Whether one of `left`, `left_intersection`, `top_left`, `bottom_left` is set.
+    pub const fn has_left(&self) -> bool
+        ensures { result ≡ has_column_boundary self.now First }
+    {
+        is_set(&self.left)
+            || is_set(&self.left_intersection)
+            || is_set(&self.top_left)
+            || is_set(&self.bottom_left)
+    }
+
+    /// Whether one of `right`, `right_intersection`, `top_right`, `bottom_right` is set.
+    pub const fn has_right(&self) -> bool
+        ensures { result ≡ has_column_boundary self.now Last }
+    {
+        is_set(&self.right)
+            || is_set(&self.right_intersection)
+            || is_set(&self.top_right)
+            || is_set(&self.bottom_right)
+    }
+
+    /// Whether one of `top`, `top_intersection`, `top_left`, `top_right` is set.
+    pub const fn has_top(&self) -> bool
+        ensures { result ≡ has_row_boundary self.now First }
+    {
+        is_set(&self.top)
+            || is_set(&self.top_intersection)
+            || is_set(&self.top_left)
+            || is_set(&self.top_right)
+    }
+
+    /// Whether one of `bottom`, `bottom_intersection`, `bottom_left`, `bottom_right` is set.
+    pub const fn has_bottom(&self) -> bool
+        ensures { result ≡ has_row_boundary self.now Last }
+    {
+        is_set(&self.bottom)
+            || is_set(&self.bottom_intersection)
+            || is_set(&self.bottom_left)
+            || is_set(&self.bottom_right)
+    }
+
+    /// Whether one of `vertical`, `intersection`, `top_intersection`, `bottom_intersection` is set.
+    pub const fn has_vertical(&self) -> bool
+        ensures { result ≡ has_column_boundary self.now Between }
+    {
+        is_set(&self.vertical)
+            || is_set(&self.intersection)
+            || is_set(&self.top_intersection)
+            || is_set(&self.bottom_intersection)
+    }
+
+    /// Whether one of `horizontal`, `intersection`, `left_intersection`, `right_intersection` is set.
+    pub const fn has_horizontal(&self) -> bool
+        ensures { result ≡ has_row_boundary self.now Between }
+    {
+        is_set(&self.horizontal)
+            || is_set(&self.intersection)
+            || is_set(&self.left_intersection)
+            || is_set(&self.right_intersection)
+    }
+
+    /// Whether column boundary `j` of so many columns is there: `has_left` of the first, `has_right`
+    /// of the last, `has_vertical` of any other.
+    pub const fn has_vertical_at(&self, j: usize, columns: usize) -> bool
+        ensures { result ≡ has_column_boundary self.now (boundary_kind j columns) }
+    {
+        if j == 0 {
+            self.has_left()
+        } else if j == columns {
+            self.has_right()
+        } else {
+            self.has_vertical()
+        }
+    }
+
+    /// Whether row boundary `i` of so many rows is there: `has_top` of the first, `has_bottom` of the
+    /// last, `has_horizontal` of any other.
+    pub const fn has_horizontal_at(&self, i: usize, rows: usize) -> bool
+        ensures { result ≡ has_row_boundary self.now (boundary_kind i rows) }
+    {
+        if i == 0 {
+            self.has_top()
+        } else if i == rows {
+            self.has_bottom()
+        } else {
+            self.has_horizontal()
+        }
+    }
+
+    /// How many of the column boundaries from 0 to `columns` are there.
+    pub const fn count_vertical(&self, columns: usize) -> usize
+        requires { columns < usize.MAX }
+        ensures { result ≡ boundary_count (has_column_boundary self.now) columns }
+    {
+        count_boundaries(columns, self.has_left(), self.has_vertical(), self.has_right())
+    }
+
+    /// How many of the row boundaries from 0 to `rows` are there.
+    pub const fn count_horizontal(&self, rows: usize) -> usize
+        requires { rows < usize.MAX }
+        ensures { result ≡ boundary_count (has_row_boundary self.now) rows }
+    {
+        count_boundaries(rows, self.has_top(), self.has_horizontal(), self.has_bottom())
+    }
+}
+
+// How many of the boundaries 0 to n are there, by whether the first, each between and the last is.
+const fn count_boundaries(n: usize, first: bool, between: bool, last: bool) -> usize
+    requires { n < usize.MAX }
+    ensures { (is_there : BoundaryKind → Bool) → is_there First ≡ first → is_there Between ≡ between →
+        is_there Last ≡ last → result ≡ boundary_count is_there n }
+{
+    if n == 0 {
+        return count_if(first, 1);
+    }
+    count_if(first, 1) + count_if(between, n - 1) + count_if(last, 1)
+}
+
+// So many, or none.
+const fn count_if(is_there: bool, n: usize) -> usize
+    ensures { result ≡ (if is_there then n else 0) }
+{
+    if is_there { n } else { 0 }
+}
