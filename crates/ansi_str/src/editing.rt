@@ -1,5 +1,5 @@
 //! Edits of a text, one after another.
-ghost use Rattle.std.specs.Prelude.{IfOk, MatchOption, string_bytes};
+ghost use Rattle.std.specs.Prelude.{IfOk, IfSome, IsNone, MatchOption, ◌↔◌, string_bytes};
 ghost use Rattle.std.specs.Cow.{cow_str_bytes};
 ghost use Rattle.ansi_scan.specs.Pieces.{pieces};
 ghost use Rattle.ansi_str.specs.Edits.{FailsOf, LeavesOf, OneFails, TakeTo};
@@ -15,8 +15,8 @@ use std::borrow::CowStr;
 /// What the edits leave of a text, each of what the one before it left; none exactly where one of them
 /// fails at its turn. The only refusal is for memory.
 pub fn edit(alloc: Global, text: &str, edits: &[Edit<'_>]) -> Result<Option<String>, AllocError>
-    ensures { IfOk result (λ found. MatchOption found (OneFails edits.now text.now)
-        (λ left. TakeTo edits.now text.now (string_bytes left))) }
+    ensures left { IfOk result (λ found. IfSome found (λ left. TakeTo edits.now text.now (string_bytes left))) }
+    ensures none { IfOk result (λ found. IsNone found ↔ OneFails edits.now text.now) }
 {
     let mut left = String::from_str(alloc, text)?;
     for edit in edits {

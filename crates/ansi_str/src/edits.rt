@@ -5,13 +5,23 @@
 #[derive(Debug, Clone, Copy, PartialEq, Eq)]
 pub enum Edit<'a> {
     /// The cut from one place to another, as `ansi_cut` gives it; fails at bounds that are not good.
-    Cut { start: usize, end: usize },
+    Cut {
+        /// Where the cut begins.
+        start: usize,
+        /// Where it ends, that place excluded.
+        end: usize,
+    },
     /// The first part of `ansi_split_at`; fails inside a character.
     Left(usize),
     /// The second part of `ansi_split_at`; fails inside a character.
     Right(usize),
     /// The part of `ansi_split` with this number, from 0 on; fails where there are not so many.
-    Part { pattern: &'a str, index: usize },
+    Part {
+        /// What the text is split at.
+        pattern: &'a str,
+        /// How many parts stand before the one that is left.
+        index: usize,
+    },
     /// What `ansi_strip_prefix` leaves; fails where the text does not begin with the prefix.
     Prefix(&'a str),
     /// What `ansi_strip_suffix` leaves; fails where the text does not end with the suffix.

@@ -205,7 +205,6 @@ pub(crate) fn begins_with_escape(text: &str) -> bool
     matches!(text.as_bytes(), [ESC, ..])
 }
 
-// How many of the first bytes stand before the first ESC among them.
 /// How many of the first bytes stand before the first ESC among them.
 pub(crate) fn text_len(text: &str, most: usize) -> usize
     ensures value { result ≡ prefix_len is_plain (take most text.now) }
