@@ -4,7 +4,7 @@ use Rattle.ansi_scan.specs.declared.items.Kind.{Kind}
 use Rattle.ansi_scan.specs.declared.items.Kind.TheVariants.{Text, Sgr, Csi, Osc, Esc, Str, Broken}
 use Rattle.ansi_scan.specs.Sequences.{Piece}
 use Rattle.ansi_scan.specs.Attributes.{Attributes}
-use Rattle.ansi_str.specs.StyledText.{style_after}
+use Rattle.ansi_str_text.specs.StyledText.{style_after}
 
 -- a piece of text, and the style that it shows
 pub record Block : Type 0 where

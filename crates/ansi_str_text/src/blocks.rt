@@ -2,7 +2,7 @@
 ghost use Rattle.std.specs.Prelude.{◌≡◌, ◌≤◌, List, false, ◌↔◌, length};
 ghost use Rattle.ansi_scan.specs.Sequences.{Piece, ArePiecesOf};
 ghost use Rattle.ansi_scan.specs.Attributes.{plain_attributes};
-ghost use Rattle.ansi_str.specs.Blocks.{blocks_from};
+ghost use Rattle.ansi_str_text.specs.Blocks.{blocks_from};
 
 use ansi_scan::{Kind, Style, scan};
 use std::marker::Model;
@@ -15,7 +15,7 @@ pub struct AnsiBlock<'a> {
 }
 
 impl<'a> Model for AnsiBlock<'a> {
-    ghost use Rattle.ansi_str.specs.Blocks.{Block};
+    ghost use Rattle.ansi_str_text.specs.Blocks.{Block};
 
     ghost Value = { Block };
 
@@ -56,7 +56,7 @@ pub struct AnsiBlockIter<'a> {
 impl<'a> Model for AnsiBlockIter<'a> {
     ghost use Rattle.std.specs.Prelude.{List};
     ghost use Rattle.ansi_scan.specs.Pieces.{pieces};
-    ghost use Rattle.ansi_str.specs.Blocks.{Block, blocks_from};
+    ghost use Rattle.ansi_str_text.specs.Blocks.{Block, blocks_from};
 
     ghost Value = { List Block };
 

@@ -7,8 +7,8 @@ use Rattle.ansi_scan.specs.declared.items.Kind.{Kind}
 use Rattle.ansi_scan.specs.declared.items.Kind.TheVariants.{Text, Sgr, Csi, Osc, Esc, Str, Broken}
 use Rattle.ansi_scan.specs.Sequences.{Piece}
 use Rattle.ansi_scan.specs.Attributes.{Attributes}
-use Rattle.ansi_str.specs.StyledText.{shown, strip, style_after, styled_from}
-use Rattle.ansi_str.specs.Blocks.{block_if, blocks_from, text_of_block, styled_of_block}
+use Rattle.ansi_str_text.specs.StyledText.{shown, strip, style_after, styled_from}
+use Rattle.ansi_str_text.specs.Blocks.{block_if, blocks_from, text_of_block, styled_of_block}
 
 text_of_block-if : (kind : Kind) (bytes : List ℕ) (style : Attributes) → flat_map text_of_block (block_if kind bytes style) ≡ shown kind bytes
 text_of_block-if Text bytes style = append-nil bytes

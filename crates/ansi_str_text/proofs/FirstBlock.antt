@@ -8,9 +8,9 @@ use Rattle.ansi_scan.specs.Places.{AreItemsOf}
 use Rattle.ansi_scan.specs.Pieces.{pieces}
 use Rattle.ansi_scan.proofs.Existence.{ArePiecesOf-pieces}
 use Rattle.ansi_scan.specs.Attributes.{Attributes}
-use Rattle.ansi_str.specs.StyledText.{style_by, style_after}
-use Rattle.ansi_str.specs.Blocks.{block_if, blocks_from}
-use Rattle.ansi_str.proofs.FirstItem.{IsFirstItem-items}
+use Rattle.ansi_str_text.specs.StyledText.{style_by, style_after}
+use Rattle.ansi_str_text.specs.Blocks.{block_if, blocks_from}
+use Rattle.ansi_str_text.proofs.FirstItem.{IsFirstItem-items}
 
 -- the blocks of a text are those of its first item and of the text behind it
 pub blocks_from-item : (style : Attributes) (text bytes behind : List ℕ) (items rest : List Item) (item : Item) → AreItemsOf text items → items ≡ item ∷ rest

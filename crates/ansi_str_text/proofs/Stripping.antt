@@ -8,7 +8,7 @@ use Rattle.ansi_scan.specs.declared.items.Kind.{Kind}
 use Rattle.ansi_scan.specs.declared.items.Kind.TheVariants.{Text, Sgr, Csi, Osc, Esc, Str, Broken}
 use Rattle.ansi_scan.specs.Sequences.{Piece, escape, is_plain, joined, Stands, EachStands, ArePiecesOf}
 use Rattle.ansi_scan.proofs.Uniqueness.{begins_with_escape}
-use Rattle.ansi_str.specs.StyledText.{has_escape, shown, strip}
+use Rattle.ansi_str_text.specs.StyledText.{has_escape, shown, strip}
 
 -- a sequence shows nothing
 pub shown-sequence : (kind : Kind) (bytes : List ℕ) → kind ≢ Text → shown kind bytes ≡ []

@@ -1,7 +1,7 @@
 -- The lemmas of `Shown`.
 use Rattle.ansi_scan.specs.Attributes.{plain_attributes}
-use Rattle.ansi_str.proofs.Shown.{text_of_block-blocks_from, styled_of_block-blocks_from}
-use Rattle.ansi_str.proofs.laws.blocks_in_order.Goals as goal
+use Rattle.ansi_str_text.proofs.Shown.{text_of_block-blocks_from, styled_of_block-blocks_from}
+use Rattle.ansi_str_text.proofs.laws.blocks_in_order.Goals as goal
 
 pub returns-clause-text : goal.returns-clause-text
 returns-clause-text c = text_of_block-blocks_from plain_attributes

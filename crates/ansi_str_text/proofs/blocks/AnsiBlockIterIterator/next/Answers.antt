@@ -5,11 +5,11 @@ use Rattle.ansi_scan.specs.Sequences.{Piece}
 use Rattle.ansi_scan.specs.Attributes.{Attributes}
 use Rattle.ansi_scan.specs.Pieces.{pieces}
 use Rattle.ansi_scan.specs.Scan.{items_left}
-use Rattle.ansi_str.specs.StyledText.{style_by}
-use Rattle.ansi_str.specs.Blocks.{block_if, blocks_from}
-use Rattle.ansi_str.proofs.FirstItem.{pieces-nothing}
-use Rattle.ansi_str.proofs.FirstBlock.{blocks_from-item, block_if-other, shorter}
-use Rattle.ansi_str.proofs.blocks.AnsiBlockIterIterator.next.Goals as goal
+use Rattle.ansi_str_text.specs.StyledText.{style_by}
+use Rattle.ansi_str_text.specs.Blocks.{block_if, blocks_from}
+use Rattle.ansi_str_text.proofs.FirstItem.{pieces-nothing}
+use Rattle.ansi_str_text.proofs.FirstBlock.{blocks_from-item, block_if-other, shorter}
+use Rattle.ansi_str_text.proofs.blocks.AnsiBlockIterIterator.next.Goals as goal
 
 pub returns-in-Text-clause-steps : goal.returns-in-Text-clause-steps
 returns-in-Text-clause-steps c =

@@ -3,9 +3,9 @@ use Rattle.ansi_scan.specs.Sequences.{Piece}
 use Rattle.ansi_scan.specs.Attributes.{Attributes, plain_attributes}
 use Rattle.ansi_scan.specs.Pieces.{pieces}
 use Rattle.ansi_scan.proofs.Uniqueness.{pieces-ArePiecesOf}
-use Rattle.ansi_str.specs.Blocks.{blocks_from}
-use Rattle.ansi_str.proofs.FirstBlock.{length-blocks}
-use Rattle.ansi_str.proofs.blocks.AnsiBlockIter.new.Goals as goal
+use Rattle.ansi_str_text.specs.Blocks.{blocks_from}
+use Rattle.ansi_str_text.proofs.FirstBlock.{length-blocks}
+use Rattle.ansi_str_text.proofs.blocks.AnsiBlockIter.new.Goals as goal
 
 pub returns-clause-blocks : goal.returns-clause-blocks
 returns-clause-blocks c = λ found of_text.

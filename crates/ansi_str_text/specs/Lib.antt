@@ -1,0 +1,3 @@
+pub mod StyledText
+pub mod Blocks
+pub mod Cutting
