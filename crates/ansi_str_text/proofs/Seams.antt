@@ -119,7 +119,7 @@ HasForm-open opener string (inr other) =
     subst Has kind (record { opener = opener; string = string; spelled = refl; opens = other.0; each_byte = other.1 })
 
 -- what opens a string is not the byte that ends one
-no_end : (opener : ℕ) (string : List ℕ) → IsOpenString opener string → opener ≢ 0x5c
+pub no_end : (opener : ℕ) (string : List ℕ) → IsOpenString opener string → opener ≢ 0x5c
 no_end opener string (inl command) = λ is. (let both : 0x5d ≡ 0x5c = sym command.0 ∙ is in omega (arith, both))
 no_end opener string (inr other) = λ is. (let both : false ≡ true = ap opens_string (sym is) ∙ other.0 in cc both)
 

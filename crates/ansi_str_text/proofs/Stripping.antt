@@ -62,7 +62,7 @@ escape_step : (is_escape others_plain others_have : Bool) → (not is_escape && 
 escape_step true others_plain others_have plain others = cc plain
 escape_step false others_plain others_have plain others = others plain
 
-has_escape-plain : (bytes : List ℕ) → IsTrue (list_all is_plain bytes) → has_escape bytes ≡ false
+pub has_escape-plain : (bytes : List ℕ) → IsTrue (list_all is_plain bytes) → has_escape bytes ≡ false
 has_escape-plain [] plain = refl
 has_escape-plain (b ∷ bs) plain = escape_step (b == escape) (list_all is_plain bs) (has_escape bs) plain (has_escape-plain bs)
 
