@@ -1,7 +1,6 @@
 -- Where the last sequence of a text begins.
-use Rattle.std.proofs.Common.{◌≡◌, ◌≢◌, ◌==◌, ◌+◌, ◌-◌, ◌<◌, ◌≤◌, ◌||◌, ℕ, zero, suc, Bool, true, false, Option, Some, None, unwrap_or, List, [], ◌∷◌, ◌++◌, length, take, drop, get_or, slice_index, slice_range, refl, ap, sym, ◌∙◌, subst, inl, inr, arith, append_assoc, length-append, All}
+use Rattle.std.proofs.Common.{◌≡◌, ◌≢◌, ◌==◌, ◌+◌, ◌-◌, ◌<◌, ◌≤◌, ◌||◌, ℕ, zero, suc, Bool, true, false, Option, Some, None, unwrap_or, List, [], ◌∷◌, ◌++◌, length, take, drop, get_or, slice_index, slice_range, refl, ap, sym, ◌∙◌, arith, append_assoc, length-append}
 use Rattle.std.specs.Prelude.{MatchOption}
-use Rattle.std.specs.List.{list_any, list_all}
 use Rattle.std.proofs.Math.Seq.{take-append_seam, drop-append_seam, drop-cons}
 use Rattle.std.proofs.lemmas.Bool.{ne_eqb, eqb-false}
 use Rattle.std.proofs.lemmas.List.{take-append-drop, get_or-drop, length-take-le, length-drop}
@@ -22,7 +21,7 @@ use Rattle.ansi_str_text.specs.StyledText.{has_escape, shown, text_of, strip}
 use Rattle.ansi_str_text.specs.Last.{IsLastEscape, IsLastSequence}
 use Rattle.ansi_str_text.proofs.Stripping.{has_escape-plain, shown-sequence, strip-without_escape}
 use Rattle.ansi_str_text.proofs.FirstItem.{IsFirstItem, IsFirstItem-items}
-use Rattle.ansi_str_text.proofs.Tails.{heads, tails, Reaches, EndsString, EndsString-Reaches, plain-open}
+use Rattle.ansi_str_text.proofs.Tails.{heads, tails, Reaches, EndsString-Reaches, plain-open}
 use Rattle.ansi_str_text.proofs.Seams.{NoneReaches, ArePiecesOf-seam, no_end}
 
 -- ---- texts without ESC
@@ -108,8 +107,8 @@ NoneReaches-other text behind other = λ before inside same r. other r.after (En
 pub NoneReaches-byte : (text : List ℕ) (at : ℕ) → (slice_index text (at + 1) == 0x5c) ≡ false → NoneReaches (take at text) (drop (at + 1) text)
 NoneReaches-byte text at other =
     NoneReaches-other (take at text) (drop (at + 1) text) (λ after same.
-        let place : at + 1 ≡ (at + 1) + 0 = omega arith in
-        eqb-false (slice_index text (at + 1)) 0x5c other (ap (λ n. get_or text n 0) place ∙ sym (get_or-drop (at + 1) text 0 0) ∙ ap (λ bs. get_or bs 0 0) same))
+    let place : at + 1 ≡ (at + 1) + 0 = omega arith in
+    eqb-false (slice_index text (at + 1)) 0x5c other (ap (λ n. get_or text n 0) place ∙ sym (get_or-drop (at + 1) text 0 0) ∙ ap (λ bs. get_or bs 0 0) same))
 
 -- what begins with the ESC before it ends before it
 NoneReaches-ended : (text behind : List ℕ) (at : ℕ) → IsLastEscape text at → at + (front (escape ∷ (drop (at + 1) text ++ escape ∷ behind))).1 ≤ length text → NoneReaches text behind

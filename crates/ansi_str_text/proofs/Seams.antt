@@ -1,12 +1,11 @@
 -- The pieces of a text and those of a text behind it that begins with ESC.
-use Rattle.std.proofs.Common.{◌≡◌, ◌≢◌, ◌==◌, ◌<◌, ◌≤◌, ◌⊎◌, ℕ, suc, true, false, List, [], ◌∷◌, ◌++◌, length, take, drop, refl, ap, sym, ◌∙◌, subst, inl, inr, arith, append_assoc, length-append}
-use Rattle.std.specs.List.{list_all}
-use Rattle.std.proofs.lemmas.Bool.{and_parts, cases_lt, cond-false}
+use Rattle.std.proofs.Common.{◌≡◌, ◌≢◌, ◌==◌, ◌≤◌, ℕ, true, false, List, [], ◌∷◌, ◌++◌, length, take, drop, refl, ap, sym, ◌∙◌, subst, inl, inr, arith, append_assoc}
+use Rattle.std.proofs.lemmas.Bool.{cases_lt, cond-false}
 use Rattle.std.proofs.lemmas.List.{take-append-drop, take-append-le}
 use Rattle.std.proofs.Math.Seq.{take-append_seam}
 use Rattle.ansi_scan.specs.declared.items.Kind.{Kind}
 use Rattle.ansi_scan.specs.declared.items.Kind.TheVariants.{Text, Sgr, Csi, Osc, Esc, Str, Broken}
-use Rattle.ansi_scan.specs.Sequences.{Piece, escape, string_terminator, opens_string, is_plain, joined, NoTextFirst, HasForm, NoFormBegins, Stands, EachStands, ArePiecesOf}
+use Rattle.ansi_scan.specs.Sequences.{Piece, escape, string_terminator, opens_string, joined, NoTextFirst, HasForm, NoFormBegins, Stands, EachStands, ArePiecesOf}
 use Rattle.ansi_scan.proofs.ByteClasses.{opens_string-closing_bracket}
 use Rattle.ansi_scan.proofs.Forms.{Stands-HasForm}
 use Rattle.ansi_str_text.specs.Cutting.{IsOpenString, EndsOpen, EndsNoString, string_kind}
@@ -77,9 +76,9 @@ Stands-seam Broken bytes ps qs behind stands each same none =
 EachStands-seam : (ps qs : List Piece) (behind : List ℕ) → EachStands ps → EachStands qs → joined qs ≡ escape ∷ behind → NoneReaches (joined ps) behind → EachStands (ps ++ qs)
 EachStands-seam [] qs behind each each_behind same none = each_behind
 EachStands-seam (p ∷ ps) qs behind each each_behind same none = (
-      Stands-seam p.kind p.bytes ps qs behind each.0 each_behind same none,
-      EachStands-seam ps qs behind each.1 each_behind same (NoneReaches-behind p.bytes (joined ps) behind none),
-    )
+  Stands-seam p.kind p.bytes ps qs behind each.0 each_behind same none,
+  EachStands-seam ps qs behind each.1 each_behind same (NoneReaches-behind p.bytes (joined ps) behind none),
+)
 
 -- where no sequence reaches over it, an ESC parts a text into two
 pub ArePiecesOf-seam : (text behind : List ℕ) (ps qs : List Piece) → ArePiecesOf text ps → ArePiecesOf (escape ∷ behind) qs → NoneReaches text behind → ArePiecesOf (text ++ escape ∷ behind) (ps ++ qs)

@@ -49,40 +49,27 @@ fn gives_blocks(rt: HostRuntime) -> Result<(), Fail> {
     )
 }
 
-// The characters of a text, taken from the front and from the back by turns.
-fn expect_characters(
-    rt: &impl Abort,
-    alloc: Global,
-    text: &str,
-    wanted: &str,
-) -> Result<(), Fail> {
-    let wanted: Vec<char> = wanted.chars().collect(alloc)?;
-    // of seven characters, how many are taken from the front before as many from the back
-    for turns in 0..8 {
-        let mut characters = stripped_chars(text);
-        let mut front = 0;
-        let mut back = wanted.len();
-        let mut taken = 0;
-        while front < back {
-            if taken % 7 < turns {
-                assert_eq!(rt; characters.next(), Some(wanted[front]), "of {text:?}");
-                front += 1;
+// The characters of a text, taken from the front and from the back by turns, against those of what it shows.
+fn expect_characters(rt: &impl Abort, text: &str, shown: &str) {
+    // of seven characters, how many are taken from the front before the others from the back
+    for front in 0..8usize {
+        let mut found = stripped_chars(text);
+        let mut wanted = shown.chars();
+        for turn in 0..shown.len() {
+            if turn % 7 < front {
+                assert_eq!(rt; found.next(), wanted.next(), "of {text:?}");
             } else {
-                back -= 1;
-                assert_eq!(rt; characters.next_back(), Some(wanted[back]), "of {text:?}");
+                assert_eq!(rt; found.next_back(), wanted.next_back(), "of {text:?}");
             }
-            taken += 1;
         }
-        assert!(rt; characters.next_back().is_none(), "behind {text:?}");
-        assert!(rt; characters.next().is_none(), "behind {text:?}");
-        assert!(rt; characters.next_back().is_none(), "again behind {text:?}");
+        assert!(rt; found.next_back().is_none(), "behind {text:?}");
+        assert!(rt; found.next().is_none(), "behind {text:?}");
+        assert!(rt; found.next_back().is_none(), "again behind {text:?}");
     }
-    Ok(())
 }
 
 #[test]
-fn gives_characters(rt: HostRuntime) -> Result<(), Fail> {
-    let alloc = rt.alloc();
+fn gives_characters(rt: HostRuntime) {
     // texts worked by hand: what each shows
     let texts = [
         ("", ""),
@@ -104,10 +91,9 @@ fn gives_characters(rt: HostRuntime) -> Result<(), Fail> {
         ("\x1b]\x1b]\x1b\\b", "]b"),
         ("\x1b_\\\x1b\\\\", "\\"),
     ];
-    for (text, wanted) in texts {
-        expect_characters(&rt, alloc, text, wanted)?;
+    for (text, shown) in texts {
+        expect_characters(&rt, text, shown);
     }
-    Ok(())
 }
 
 // The letters of the generated texts.
@@ -117,11 +103,12 @@ const LETTERS: [&str; 14] = [
 
 // The same text read from the front alone, item by item.
 fn expect_forward(rt: &impl Abort, alloc: Global, text: &str) -> Result<(), Fail> {
-    let mut wanted = String::new(alloc);
+    let mut shown = String::new(alloc);
     for block in get_blocks(text) {
-        wanted.push_str(block.text())?;
+        shown.push_str(block.text())?;
     }
-    expect_characters(rt, alloc, text, wanted.as_str())
+    expect_characters(rt, text, shown.as_str());
+    Ok(())
 }
 
 #[test]
@@ -149,10 +136,16 @@ fn gives_characters_of_longer_texts(rt: HostRuntime) -> Result<(), Fail> {
     for _ in 0..4000 {
         let mut text = String::new(alloc);
         for _ in 0..24 {
-            state = state.wrapping_mul(6364136223846793005).wrapping_add(1442695040888963407);
+            state = state
+                .wrapping_mul(6364136223846793005)
+                .wrapping_add(1442695040888963407);
             let number = (state >> 33) as usize;
             // every other letter is one of those that make a sequence
-            let letter = if number % 2 == 0 { number / 2 % 6 } else { number / 2 % 14 };
+            let letter = if number % 2 == 0 {
+                number / 2 % 6
+            } else {
+                number / 2 % 14
+            };
             text.push_str(LETTERS[letter])?;
         }
         expect_forward(&rt, alloc, text.as_str())?;

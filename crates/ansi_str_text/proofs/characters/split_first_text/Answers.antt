@@ -33,7 +33,7 @@ pub loop-item-preserved : goal.loop-item-preserved
 loop-item-preserved c =
     let same : strip (pieces c.range_from-behind.result.now) ≡ strip (pieces c.args.text.now) =
     sym (strip-first c.loop-item.rest.now (slice_range c.loop-item.rest.now 0 c.in-Some.item.end) c.range_from-behind.result.now (items_left c.scan.result) (items_left c.next.new.self) c.in-Some.item c.scan.ensures.items c.in-Some.ensures.steps refl c.range_from-behind.ensures.value
-        ∙ ap (λ (bs : List ℕ). bs ++ strip (pieces c.range_from-behind.result.now)) (shown-sequence c.in-Some.item.kind (slice_range c.loop-item.rest.now 0 c.in-Some.item.end) c.in_default-kind.not-Text))
+    ∙ ap (λ (bs : List ℕ). bs ++ strip (pieces c.range_from-behind.result.now)) (shown-sequence c.in-Some.item.kind (slice_range c.loop-item.rest.now 0 c.in-Some.item.end) c.in_default-kind.not-Text))
     ∙ c.loop-item.invariant.1 in
     search (rules, same)
 

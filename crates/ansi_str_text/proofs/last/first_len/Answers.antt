@@ -1,5 +1,4 @@
 -- The first item, as the scan gives it.
-use Rattle.std.proofs.Common.{arith, ap, length}
 use Rattle.ansi_scan.specs.Scan.{items_left}
 use Rattle.ansi_str_text.proofs.FirstItem.{IsFirstItem-items, pieces-nothing}
 use Rattle.ansi_str_text.proofs.LastLemmas.{front-IsFirstItem, nothing-short}

@@ -1,5 +1,5 @@
 -- The last ESC begins the last sequence, or ends the string that the ESC before it opens.
-use Rattle.std.proofs.Common.{rules, ◌≡◌, ◌+◌, ◌-◌, ◌<◌, ◌≤◌, ℕ, List, take, drop, ap, sym, ◌∙◌, subst, arith}
+use Rattle.std.proofs.Common.{rules, ◌≡◌, ◌+◌, ◌-◌, ℕ, List, take, drop, ap, sym, ◌∙◌, subst, arith}
 use Rattle.ansi_scan.specs.Pieces.{front}
 use Rattle.ansi_str_text.specs.StyledText.{has_escape}
 use Rattle.ansi_str_text.specs.Last.{IsLastEscape}

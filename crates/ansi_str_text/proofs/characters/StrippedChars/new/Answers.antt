@@ -1,5 +1,5 @@
 -- At first nothing is begun.
-use Rattle.std.proofs.Common.{◌≡◌, ◌≤◌, ℕ, List, length, ap, sym, ◌∙◌, subst}
+use Rattle.std.proofs.Common.{◌≤◌, ℕ, List, length, ap, sym, ◌∙◌, subst}
 use Rattle.std.specs.Prelude.{chars}
 use Rattle.ansi_scan.specs.Sequences.{Piece}
 use Rattle.ansi_scan.proofs.Uniqueness.{pieces-ArePiecesOf}
