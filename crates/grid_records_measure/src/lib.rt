@@ -11,3 +11,6 @@ pub use characters::{get_char_width, get_string_width};
 pub use cut::cut_width;
 pub use tabs::replace_tab;
 pub use text_lines::{Lines, count_lines, get_lines};
+
+#[cfg(test)]
+mod tests;
