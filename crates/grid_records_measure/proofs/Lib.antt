@@ -1,0 +1,4 @@
+pub mod FillingLemmas
+pub mod LineLemmas
+pub mod TabLemmas
+pub mod CutLemmas

@@ -1,0 +1,5 @@
+pub mod Measures
+pub mod TextLines
+pub mod Tabs
+pub mod Cutting
+pub mod Filling
