@@ -1,0 +1,4 @@
+pub mod Colors
+pub mod Closing
+pub mod Clearing
+pub mod FirstColor
