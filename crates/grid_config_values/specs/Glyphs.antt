@@ -1,0 +1,55 @@
+-- Which glyph of a table stands where, by the names of papergrid's `Borders`. Of n columns there are n + 1 boundaries:
+-- before the first, between two, behind the last; likewise of rows.
+use Rattle.std.specs.Prelude.{ℕ, ◌+◌, Bool, ◌||◌, ◌==◌, if◌then◌else◌, Option, is_some, count_by}
+use Rattle.std.specs.List.{range_with_len}
+use Rattle.grid_config_values.specs.declared.borders.Borders.{Borders}
+
+-- which of the boundaries 0 to n a boundary is
+pub data BoundaryKind : Type 0 where
+  First : BoundaryKind
+  Between : BoundaryKind
+  Last : BoundaryKind
+
+abbrev pub boundary_kind : ℕ → ℕ → BoundaryKind
+boundary_kind i n = if i == 0 then First else if i == n then Last else Between
+
+module _ {T : Type 0} (b : Borders T) where
+  -- where a row boundary meets a column boundary
+  abbrev pub crossing : BoundaryKind → BoundaryKind → Option T
+  crossing First First = b.top_left
+  crossing First Between = b.top_intersection
+  crossing First Last = b.top_right
+  crossing Between First = b.left_intersection
+  crossing Between Between = b.intersection
+  crossing Between Last = b.right_intersection
+  crossing Last First = b.bottom_left
+  crossing Last Between = b.bottom_intersection
+  crossing Last Last = b.bottom_right
+
+  -- on a row boundary, along a column
+  abbrev pub along_column : BoundaryKind → Option T
+  along_column First = b.top
+  along_column Between = b.horizontal
+  along_column Last = b.bottom
+
+  -- on a column boundary, in a row
+  abbrev pub in_row : BoundaryKind → Option T
+  in_row First = b.left
+  in_row Between = b.vertical
+  in_row Last = b.right
+
+  -- a boundary is there where one of the glyphs that may stand on it is set
+  abbrev pub has_column_boundary : BoundaryKind → Bool
+  has_column_boundary kind =
+      is_some (in_row kind) || is_some (crossing First kind) || is_some (crossing Between kind) || is_some (crossing Last kind)
+
+  abbrev pub has_row_boundary : BoundaryKind → Bool
+  has_row_boundary kind =
+      is_some (along_column kind) || is_some (crossing kind First) || is_some (crossing kind Between) || is_some (crossing kind Last)
+
+  -- how many of the boundaries 0 to n are there
+  abbrev pub column_boundary_count : ℕ → ℕ
+  column_boundary_count columns = count_by (λ j. has_column_boundary (boundary_kind j columns)) (range_with_len 0 (columns + 1))
+
+  abbrev pub row_boundary_count : ℕ → ℕ
+  row_boundary_count rows = count_by (λ i. has_row_boundary (boundary_kind i rows)) (range_with_len 0 (rows + 1))

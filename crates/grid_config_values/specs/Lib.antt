@@ -1,0 +1,5 @@
+pub mod Fault
+pub mod Glyphs
+pub mod Entities
+pub mod Rectangles
+pub mod Settings

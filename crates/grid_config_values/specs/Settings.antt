@@ -1,0 +1,23 @@
+-- A setting is the value of the last call that covers the cell.
+use Rattle.std.specs.Prelude.{◌≡◌, List, [], ◌∷◌, if◌then◌else◌}
+use Rattle.grid_config_values.specs.declared.entity.Entity.{Entity}
+use Rattle.grid_config_values.specs.declared.entity_map.EntityMap.{EntityMap}
+use Rattle.grid_config_values.specs.declared.position.Position.{Position}
+use Rattle.grid_config_values.specs.Entities.{covers}
+
+-- the value at a position after calls, the oldest first, each of which sets it where its entity covers the position
+abbrev pub value_after : {T : Type 0} → T → List (Entity × T) → Position → T
+value_after value [] p = value
+value_after value (call ∷ later) p = value_after (if covers call.0 p then call.1 else value) later p
+
+-- the value at a position
+unfoldable pub value_at : {T : Type 0} → EntityMap T → Position → T
+value_at map p = value_after map.global map.calls.items p
+
+-- new has the value where the entity covers the position, and at every other position what old has
+abbrev pub SetsCovered : {T : Type 0} → EntityMap T → EntityMap T → Entity → T → Type 0
+SetsCovered old new entity value = (p : Position) → value_at new p ≡ (if covers entity p then value else value_at old p)
+
+-- new has at every position what old has
+abbrev pub IsUnchanged : {T : Type 0} → EntityMap T → EntityMap T → Type 0
+IsUnchanged old new = (p : Position) → value_at new p ≡ value_at old p

@@ -1,0 +1,23 @@
+//! Where a text stands in what its cell leaves free.
+
+/// Where a line stands between the left and the right padding of its cell.
+#[derive(Clone, Copy, Debug, PartialEq, Eq, PartialOrd, Ord, Hash)]
+pub enum AlignmentHorizontal {
+    /// No free column to its left.
+    Left,
+    /// Half of the free columns to its left, rounded down.
+    Center,
+    /// All free columns to its left.
+    Right,
+}
+
+/// Where the lines of a text stand between the top and the bottom padding of their cell.
+#[derive(Clone, Copy, Debug, PartialEq, Eq, PartialOrd, Ord, Hash)]
+pub enum AlignmentVertical {
+    /// No blank line above them.
+    Top,
+    /// Half of the blank lines above them, rounded down.
+    Center,
+    /// All blank lines above them.
+    Bottom,
+}

@@ -1,0 +1,65 @@
+//! The values that were set for sets of cells.
+ghost use Rattle.std.specs.Prelude.{◌≡◌, ℕ, IsOk, OnOk, OnErr};
+ghost use Rattle.grid_config_values.specs.declared.entity.Entity.TheVariants.{Global as EveryCell};
+ghost use Rattle.grid_config_values.specs.declared.position.Position.{Position as Place};
+ghost use Rattle.grid_config_values.specs.Settings.{IsUnchanged, SetsCovered, value_at, value_after};
+
+use crate::entity::Entity;
+use crate::position::Position;
+use std::alloc::{AllocError, Global};
+
+/// A value for each cell: that of the last call of `insert` whose entity covers the cell, and before
+/// any the one given to `new`.
+#[derive(Debug, Drop)]
+pub struct EntityMap<T> {
+    global: T,
+    // the calls, the oldest first
+    calls: Vec<(Entity, T)>,
+}
+
+impl<T: Drop> EntityMap<T> {
+    /// The map that has this value at every cell. Takes no memory.
+    #[tactic(auto, unfolding(crate::specs::Settings::value_at))]
+    pub fn new(alloc: Global, global: T) -> EntityMap<T>
+        ensures { (p : Place) → value_at result p ≡ global }
+    {
+        EntityMap {
+            global,
+            calls: Vec::new(alloc),
+        }
+    }
+
+    /// The value of the cell at this place.
+    #[tactic(auto, using(crate::proofs::Settings::value_after_append), unfolding(crate::specs::Settings::value_at))]
+    pub fn get(&self, pos: Position) -> &T
+        ensures { result.now ≡ value_at self.now pos }
+    {
+        let mut calls = self.calls.as_slice();
+        while let Some(((entity, value), earlier)) = calls.split_last() {
+            if entity.covers(pos) {
+                return value;
+            }
+            calls = earlier;
+        }
+        &self.global
+    }
+
+    /// Sets the value of each cell that the entity covers, and leaves every other cell as it is.
+    /// Refused for want of memory alone; then nothing has changed. A call for all cells takes none.
+    #[tactic(auto, using(crate::proofs::Settings::value_after_append), unfolding(crate::specs::Settings::value_at))]
+    pub fn insert(&mut self, entity: Entity, value: T) -> Result<(), AllocError>
+        ensures ok { OnOk result (SetsCovered self.old self.new entity value) }
+        ensures err { OnErr result (IsUnchanged self.old self.new) }
+        ensures global { entity ≡ EveryCell → IsOk result }
+    {
+        match entity {
+            // what was set before counts for no cell any more
+            Entity::Global => {
+                self.calls.clear();
+                self.global = value;
+            }
+            _ => self.calls.push((entity, value))?,
+        }
+        Ok(())
+    }
+}

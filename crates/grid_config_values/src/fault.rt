@@ -1,0 +1,47 @@
+//! Why a grid's call was refused.
+use std::alloc::AllocError;
+use std::error::Error;
+use std::fmt;
+
+/// Why a call on a table's settings, sizes or text was refused.
+#[derive(Clone, Copy, Debug, PartialEq, Eq)]
+pub enum Fault {
+    /// A request for memory was refused.
+    Memory,
+    /// A width, a height or a total passes `usize::MAX`.
+    Range,
+    /// A span of 0, or spans that overlap or reach out of the table.
+    Spans,
+    /// A cell does not fit its columns or rows. Both count from 0.
+    Room { row: usize, column: usize },
+}
+
+/// The reason in a few words, with no line feed.
+impl fmt::Display for Fault {
+    ghost use Rattle.std.specs.Prelude.{Some};
+    ghost use Rattle.grid_config_values.specs.Fault.{fault_text};
+
+    ghost output = { λ fault. Some (fault_text fault) };
+
+    fn fmt<W: fmt::Write>(&self, f: &mut fmt::Formatter<W>) -> fmt::Result {
+        match *self {
+            Fault::Memory => write!(f, "out of memory"),
+            Fault::Range => write!(f, "size out of range"),
+            Fault::Spans => write!(f, "bad spans"),
+            Fault::Room { row, column } => write!(f, "row {row} column {column} does not fit"),
+        }
+    }
+}
+
+impl Error for Fault {}
+
+impl From<AllocError> for Fault {
+    ghost use Rattle.std.specs.Prelude.{◌≡◌};
+    ghost use Rattle.grid_config_values.specs.declared.fault.Fault.TheVariants.{Memory};
+
+    ghost from_gives = { λ _ fault. fault ≡ Memory };
+
+    fn from(_error: AllocError) -> Fault {
+        Fault::Memory
+    }
+}
