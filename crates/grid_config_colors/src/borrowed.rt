@@ -10,7 +10,7 @@ pub struct ANSIStr<'a> {
 
 impl<'a> ANSIStr<'a> {
     ghost use Rattle.std.specs.Prelude.{◌≡◌, ◌↔◌, IsTrue};
-    ghost use Rattle.grid_config_colors.specs.Colors.{color_of, no_color};
+    ghost use Rattle.grid_config_colors.specs.Colors.{color_of, is_no_color, no_color};
     ghost use Rattle.grid_config_colors.specs.Closing.{Closes};
 
     /// The colour with these texts, which may be any.
@@ -32,7 +32,7 @@ impl<'a> ANSIStr<'a> {
 
     /// Whether both texts are empty.
     pub const fn is_empty(&self) -> bool
-        ensures { IsTrue result ↔ (color_of self.now ≡ no_color) }
+        ensures { result ≡ is_no_color (color_of self.now) }
     {
         self.prefix.len() == 0 && self.suffix.len() == 0
     }

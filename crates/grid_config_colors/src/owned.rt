@@ -27,7 +27,7 @@ impl ANSIBuf {
     ghost use Rattle.ansi_scan.specs.Sequences.{Piece, ArePiecesOf};
     ghost use Rattle.ansi_scan.specs.Attributes.{plain_attributes};
     ghost use Rattle.ansi_str.specs.Blocks.{blocks_from};
-    ghost use Rattle.grid_config_colors.specs.Colors.{color_of, no_color};
+    ghost use Rattle.grid_config_colors.specs.Colors.{color_of, is_no_color, no_color};
     ghost use Rattle.grid_config_colors.specs.Closing.{Closes};
     ghost use Rattle.grid_config_colors.specs.FirstColor.{first_color};
     ghost use Rattle.grid_config_colors.specs.declared.fault.BufFault.TheVariants.{NoBlock};
@@ -52,6 +52,13 @@ impl ANSIBuf {
         }
     }
 
+    /// The same colour with texts of its own. Refused for memory alone.
+    pub fn from_ansi_str(alloc: Global, color: ANSIStr<'_>) -> Result<ANSIBuf, AllocError>
+        ensures { IfOk result (λ owned. owned ≡ color_of color.entry) }
+    {
+        ANSIBuf::new(alloc, color.get_prefix(), color.get_suffix())
+    }
+
     /// The start and the end of the style of the text's first block, which is the first text in it.
     /// `NoBlock` exactly where the text shows nothing.
     pub fn from_text(alloc: Global, text: &str) -> Result<ANSIBuf, BufFault>
@@ -73,7 +80,7 @@ impl ANSIBuf {
     pub fn clone(&self, alloc: Global) -> Result<ANSIBuf, AllocError>
         ensures { IfOk result (λ copy. copy ≡ self.now) }
     {
-        ANSIBuf::new(alloc, &self.prefix, &self.suffix)
+        ANSIBuf::from_ansi_str(alloc, self.as_ref())
     }
 
     /// The same colour, borrowed: it can be compared. Takes no memory.
@@ -85,9 +92,9 @@ impl ANSIBuf {
 
     /// Whether both texts are empty.
     pub fn is_empty(&self) -> bool
-        ensures { IsTrue result ↔ (self.now ≡ no_color) }
+        ensures { result ≡ is_no_color self.now }
     {
-        self.prefix.is_empty() && self.suffix.is_empty()
+        self.as_ref().is_empty()
     }
 
     /// What is written before.
