@@ -1,7 +1,7 @@
 -- Which glyph of a table stands where, by the names of papergrid's `Borders`. Of n columns there are n + 1 boundaries:
 -- before the first, between two, behind the last; likewise of rows.
-use Rattle.std.specs.Prelude.{ℕ, ◌+◌, Bool, ◌||◌, ◌==◌, if◌then◌else◌, Option, is_some, count_by}
-use Rattle.std.specs.List.{range_with_len}
+use Rattle.std.specs.Prelude.{ℕ, ◌+◌, Bool, ◌||◌, ◌==◌, if◌then◌else◌, Option, is_some, length}
+use Rattle.std.specs.List.{filter, range_with_len}
 use Rattle.grid_config_values.specs.declared.borders.Borders.{Borders}
 
 -- which of the boundaries 0 to n a boundary is
@@ -12,6 +12,10 @@ pub data BoundaryKind : Type 0 where
 
 abbrev pub boundary_kind : ℕ → ℕ → BoundaryKind
 boundary_kind i n = if i == 0 then First else if i == n then Last else Between
+
+-- how many of the boundaries 0 to n are there
+abbrev pub boundary_count : (BoundaryKind → Bool) → ℕ → ℕ
+boundary_count is_there n = length (filter (λ i. is_there (boundary_kind i n)) (range_with_len 0 (n + 1)))
 
 module _ {T : Type 0} (b : Borders T) where
   -- where a row boundary meets a column boundary
@@ -46,10 +50,3 @@ module _ {T : Type 0} (b : Borders T) where
   abbrev pub has_row_boundary : BoundaryKind → Bool
   has_row_boundary kind =
       is_some (along_column kind) || is_some (crossing kind First) || is_some (crossing kind Between) || is_some (crossing kind Last)
-
-  -- how many of the boundaries 0 to n are there
-  abbrev pub column_boundary_count : ℕ → ℕ
-  column_boundary_count columns = count_by (λ j. has_column_boundary (boundary_kind j columns)) (range_with_len 0 (columns + 1))
-
-  abbrev pub row_boundary_count : ℕ → ℕ
-  row_boundary_count rows = count_by (λ i. has_row_boundary (boundary_kind i rows)) (range_with_len 0 (rows + 1))

@@ -1,6 +1,6 @@
 //! The glyphs of a table's boundaries, or what else belongs to each of them, as its colour.
-ghost use Rattle.std.specs.Prelude.{◌≡◌, is_some};
-ghost use Rattle.grid_config_values.specs.Glyphs.{First, Between, Last, has_column_boundary, has_row_boundary};
+ghost use Rattle.std.specs.Prelude.{◌≡◌, ◌<◌, Bool, if◌then◌else◌, is_some};
+ghost use Rattle.grid_config_values.specs.Glyphs.{Between, BoundaryKind, First, Last, boundary_count, boundary_kind, has_column_boundary, has_row_boundary};
 
 /// What may stand round one cell.
 #[derive(Clone, Copy, Debug, PartialEq, Eq, PartialOrd, Ord, Hash, Drop)]
@@ -130,4 +130,67 @@ impl<T> Borders<T> {
             || is_set(&self.left_intersection)
             || is_set(&self.right_intersection)
     }
+
+    /// Whether column boundary `j` of so many columns is there: `has_left` of the first, `has_right`
+    /// of the last, `has_vertical` of any other.
+    pub const fn has_vertical_at(&self, j: usize, columns: usize) -> bool
+        ensures { result ≡ has_column_boundary self.now (boundary_kind j columns) }
+    {
+        if j == 0 {
+            self.has_left()
+        } else if j == columns {
+            self.has_right()
+        } else {
+            self.has_vertical()
+        }
+    }
+
+    /// Whether row boundary `i` of so many rows is there: `has_top` of the first, `has_bottom` of the
+    /// last, `has_horizontal` of any other.
+    pub const fn has_horizontal_at(&self, i: usize, rows: usize) -> bool
+        ensures { result ≡ has_row_boundary self.now (boundary_kind i rows) }
+    {
+        if i == 0 {
+            self.has_top()
+        } else if i == rows {
+            self.has_bottom()
+        } else {
+            self.has_horizontal()
+        }
+    }
+
+    /// How many of the column boundaries from 0 to `columns` are there.
+    pub const fn count_vertical(&self, columns: usize) -> usize
+        requires { columns < usize.MAX }
+        ensures { result ≡ boundary_count (has_column_boundary self.now) columns }
+    {
+        count_boundaries(columns, self.has_left(), self.has_vertical(), self.has_right())
+    }
+
+    /// How many of the row boundaries from 0 to `rows` are there.
+    pub const fn count_horizontal(&self, rows: usize) -> usize
+        requires { rows < usize.MAX }
+        ensures { result ≡ boundary_count (has_row_boundary self.now) rows }
+    {
+        count_boundaries(rows, self.has_top(), self.has_horizontal(), self.has_bottom())
+    }
+}
+
+// How many of the boundaries 0 to n are there, by whether the first, each between and the last is.
+const fn count_boundaries(n: usize, first: bool, between: bool, last: bool) -> usize
+    requires { n < usize.MAX }
+    ensures { (is_there : BoundaryKind → Bool) → is_there First ≡ first → is_there Between ≡ between →
+        is_there Last ≡ last → result ≡ boundary_count is_there n }
+{
+    if n == 0 {
+        return count_if(first, 1);
+    }
+    count_if(first, 1) + count_if(between, n - 1) + count_if(last, 1)
+}
+
+// So many, or none.
+const fn count_if(is_there: bool, n: usize) -> usize
+    ensures { result ≡ (if is_there then n else 0) }
+{
+    if is_there { n } else { 0 }
 }
