@@ -1,0 +1,19 @@
+//! The settings of a table: margins, paddings, borders, alignments, spans and colours.
+#![tactic(auto)]
+
+mod cells;
+mod compact;
+mod owning;
+mod spanned;
+mod whole;
+
+pub use compact::CompactConfig;
+pub use grid_config_colors::{ANSIBuf, ANSIStr, BufFault};
+pub use grid_config_values::{
+    AlignmentHorizontal, AlignmentVertical, Border, Borders, Entity, EntityIterator, EntityMap, Fault,
+    Formatting, Indent, Position, Sides,
+};
+pub use spanned::SpannedConfig;
+
+#[cfg(test)]
+mod tests;
