@@ -1,5 +1,6 @@
 pub mod Fault
 pub mod Glyphs
+pub mod Order
 pub mod Entities
 pub mod Rectangles
 pub mod Settings

@@ -1,0 +1,49 @@
+-- The cells that span several rows or columns.
+use Rattle.std.specs.Prelude.{◌≡◌, ◌≢◌, ℕ, ◌<◌, ◌≤◌, List, Option, Some, if◌then◌else◌, unwrap_or}
+use Rattle.std.specs.Map.{lookup}
+use Rattle.grid_config_values.specs.declared.position.Position.{Position}
+use Rattle.grid_config_values.specs.Order.{same_place}
+use Rattle.grid_config_spans.specs.declared.extent.Extent.{Extent}
+use Rattle.grid_config_spans.specs.declared.spans.Spans.TheInside.{Inside}
+use Rattle.grid_config_spans.specs.Rectangles.{Holds, IsInside}
+
+-- one row and one column
+abbrev pub single : Extent
+single = record { rows = 1; columns = 1 }
+
+-- how many rows and columns the cell at a place takes
+unfoldable pub extent_at : List (Position × Extent) → Position → Extent
+extent_at spans place = unwrap_or (lookup (same_place place) spans) single
+
+-- the cell spans several rows or columns
+abbrev pub IsAnchor : List (Position × Extent) → Position → Type 0
+IsAnchor spans place = extent_at spans place ≢ single
+
+-- the rectangle of no other cell holds the place
+abbrev pub IsVisible : List (Position × Extent) → Position → Type 0
+IsVisible spans place = (anchor : Position) → Holds anchor (extent_at spans anchor) place → anchor ≡ place
+
+abbrev pub IsInTable : ℕ → ℕ → Position → Type 0
+IsInTable rows columns place = (place.row < rows) × (place.col < columns)
+
+-- of the anchors in a table of so many rows and columns, each has its rectangle inside it, and no two of them share a place
+pub record AreGood (spans : List (Position × Extent)) (rows columns : ℕ) : Type 0 where
+  pub inside : (anchor : Position) → IsAnchor spans anchor → IsInTable rows columns anchor → IsInside anchor (extent_at spans anchor) rows columns
+  pub apart : (a b place : Position) → IsAnchor spans a → IsAnchor spans b → IsInTable rows columns a → IsInTable rows columns b →
+    Holds a (extent_at spans a) place → Holds b (extent_at spans b) place → a ≡ b
+
+-- the cell at this place takes the extent, and every other cell what it took
+abbrev pub SetsExtent : List (Position × Extent) → List (Position × Extent) → Position → Extent → Type 0
+SetsExtent old new place extent = (p : Position) → extent_at new p ≡ (if same_place place p then extent else extent_at old p)
+
+abbrev pub SetsColumns : List (Position × Extent) → List (Position × Extent) → Position → ℕ → Type 0
+SetsColumns old new place n = SetsExtent old new place (record (extent_at old place) { columns = n })
+
+abbrev pub SetsRows : List (Position × Extent) → List (Position × Extent) → Position → ℕ → Type 0
+SetsRows old new place n = SetsExtent old new place (record (extent_at old place) { rows = n })
+
+-- what is kept of the extents: none is of no row or no column, none that is kept is a single cell, and the greatest are known
+pub record IsBounded (fields : Inside) : Type 0 where
+  pub rows : (p : Position) → (0 < (extent_at fields.extents.entries p).rows) × ((extent_at fields.extents.entries p).rows ≤ fields.most_rows)
+  pub columns : (p : Position) → (0 < (extent_at fields.extents.entries p).columns) × ((extent_at fields.extents.entries p).columns ≤ fields.most_columns)
+  pub kept : (p : Position) (e : Extent) → lookup (same_place p) fields.extents.entries ≡ Some e → e ≢ single

@@ -1,0 +1,8 @@
+//! The cells of a table that span several columns or rows.
+#![tactic(auto)]
+
+mod extent;
+mod spans;
+
+pub use extent::Extent;
+pub use spans::Spans;

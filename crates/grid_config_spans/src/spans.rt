@@ -1,0 +1,158 @@
+//! The cells that span several columns or rows.
+ghost use Rattle.std.specs.Prelude.{false, ◌≡◌, ◌≢◌, ◌<◌, ◌↔◌, [], if◌then◌else◌, ◌==◌, IsOk, IsTrue, IfErr, OnErr, OnOk, None, Some, Err};
+ghost use Rattle.grid_config_values.specs.declared.fault.Fault.TheVariants.{Memory, Spans as BadSpan};
+ghost use Rattle.std.specs.Ordering.{is_gt};
+ghost use Rattle.grid_config_values.specs.declared.position.Position.{Position as Place};
+ghost use Rattle.grid_config_values.specs.Order.{position_cmp};
+ghost use Rattle.grid_config_spans.specs.Rectangles.{Holds};
+ghost use Rattle.grid_config_spans.specs.Spans.{AreGood, IsVisible, SetsColumns, SetsExtent, SetsRows, extent_at, single};
+
+use crate::extent::Extent;
+use grid_config_values::{Fault, Position};
+use std::alloc::Global;
+use std::collections::BTreeMap;
+use std::marker::Model;
+
+/// The cells of a table that span several columns or rows, by their places. A cell that is not among
+/// them takes one column and one row.
+#[derive(Debug, Drop)]
+pub struct Spans {
+    extents: BTreeMap<Position, Extent>,
+    // no cell takes more
+    most_rows: usize,
+    most_columns: usize,
+}
+
+impl Model for Spans {
+    ghost use Rattle.std.specs.Prelude.{List};
+    ghost use Rattle.grid_config_values.specs.declared.position.Position.{Position as Place};
+    ghost use Rattle.grid_config_spans.specs.declared.extent.Extent.{Extent as Size};
+
+    ghost Value = { List (Place × Size) };
+
+    ghost view = { λ fields. fields.extents.entries };
+
+    ghost use Rattle.grid_config_spans.specs.Spans.{IsBounded};
+
+    ghost invariant = { IsBounded };
+}
+
+impl Spans {
+    /// No cell spans several columns or rows. Takes no memory.
+    pub fn new(alloc: Global) -> Spans
+        ensures { result ≡ [] }
+    {
+        Spans {
+            extents: BTreeMap::new(alloc),
+            most_rows: 1,
+            most_columns: 1,
+        }
+    }
+
+    /// How many columns the cell at this place takes: `None` for one.
+    pub fn get_column_span(&self, pos: Position) -> Option<usize>
+        ensures { let n = (extent_at self.now pos).columns in result ≡ (if n == 1 then None else Some n) }
+    {
+        span_of(self.extent(pos).columns)
+    }
+
+    /// How many rows the cell at this place takes: `None` for one.
+    pub fn get_row_span(&self, pos: Position) -> Option<usize>
+        ensures { let n = (extent_at self.now pos).rows in result ≡ (if n == 1 then None else Some n) }
+    {
+        span_of(self.extent(pos).rows)
+    }
+
+    /// Sets how many columns the cell at this place takes; 1 takes its span away. Refused as `Spans` for
+    /// 0, and for want of memory, and then nothing has changed. What it takes away takes no memory.
+    pub fn set_column_span(&mut self, pos: Position, n: usize) -> Result<(), Fault>
+        ensures zero { result ≡ Err BadSpan ↔ (n ≡ 0) }
+        ensures ok { OnOk result (SetsColumns self.old self.new pos n) }
+        ensures err { OnErr result (self.new ≡ self.old) }
+        ensures one { n ≡ 1 → IsOk result }
+    {
+        if n == 0 {
+            return Err(Fault::Spans);
+        }
+        let extent = self.extent(pos);
+        self.set(pos, Extent { columns: n, ..extent })
+    }
+
+    /// Sets how many rows the cell at this place takes; 1 takes its span away. Refused as `Spans` for 0,
+    /// and for want of memory, and then nothing has changed. What it takes away takes no memory.
+    pub fn set_row_span(&mut self, pos: Position, n: usize) -> Result<(), Fault>
+        ensures zero { result ≡ Err BadSpan ↔ (n ≡ 0) }
+        ensures ok { OnOk result (SetsRows self.old self.new pos n) }
+        ensures err { OnErr result (self.new ≡ self.old) }
+        ensures one { n ≡ 1 → IsOk result }
+    {
+        if n == 0 {
+            return Err(Fault::Spans);
+        }
+        let extent = self.extent(pos);
+        self.set(pos, Extent { rows: n, ..extent })
+    }
+
+    // Sets what the cell at this place takes. Only what was not kept may want memory.
+    fn set(&mut self, pos: Position, extent: Extent) -> Result<(), Fault>
+        requires rows { 0 < extent.rows }
+        requires columns { 0 < extent.columns }
+        ensures ok { OnOk result (SetsExtent self.old self.new pos extent) }
+        ensures err { OnErr result (self.new ≡ self.old) }
+        ensures memory { IfErr result (λ fault. fault ≡ Memory) }
+        ensures kept { extent_at self.old pos ≢ single → IsOk result }
+        ensures none { extent ≡ single → IsOk result }
+    {
+        if extent == Extent::SINGLE {
+            self.extents.remove(&pos);
+            return Ok(());
+        }
+        match self.extents.insert(pos, extent) {
+            Ok(_) => {}
+            Err(_) => return Err(Fault::Memory),
+        }
+        self.most_rows = self.most_rows.max(extent.rows);
+        self.most_columns = self.most_columns.max(extent.columns);
+        Ok(())
+    }
+
+    /// Whether the rectangle of no other cell holds this place. Looks at no span where there is none, and
+    /// else at those alone that begin near enough.
+    pub fn is_cell_visible(&self, pos: Position) -> bool
+        ensures { IsTrue result ↔ IsVisible self.now pos }
+    {
+        let mut nearest = self.extents.range(self.first_that_may_hold(pos)..pos);
+        !nearest.any(|(anchor, extent)| extent.holds(*anchor, pos))
+    }
+
+    // No rectangle that begins before this place holds `pos`.
+    fn first_that_may_hold(&self, pos: Position) -> Position
+        ensures first { is_gt (position_cmp result pos) ≡ false }
+        ensures before { (anchor : Place) → Holds anchor (extent_at self.now anchor) pos → is_gt (position_cmp result anchor) ≡ false }
+    {
+        if self.most_rows == 1 {
+            Position::new(pos.row, pos.col.saturating_sub(self.most_columns - 1))
+        } else {
+            Position::new(pos.row.saturating_sub(self.most_rows - 1), 0)
+        }
+    }
+
+    // What the cell at this place takes.
+    fn extent(&self, pos: Position) -> Extent
+        ensures kept { result ≡ extent_at self.now pos }
+        ensures rows { 0 < result.rows }
+        ensures columns { 0 < result.columns }
+    {
+        match self.extents.get(&pos) {
+            Some(extent) => *extent,
+            None => Extent::SINGLE,
+        }
+    }
+}
+
+// A number of columns or rows, where it is not one.
+fn span_of(n: usize) -> Option<usize>
+    ensures { result ≡ (if n == 1 then None else Some n) }
+{
+    if n == 1 { None } else { Some(n) }
+}
