@@ -2,11 +2,13 @@
 #![tactic(auto)]
 
 mod cells;
+mod colored;
 mod compact;
 mod owning;
 mod spanned;
 mod whole;
 
+pub use colored::{ColorMap, ColoredConfig};
 pub use compact::CompactConfig;
 pub use grid_config_colors::{ANSIBuf, ANSIStr, BufFault};
 pub use grid_config_values::{

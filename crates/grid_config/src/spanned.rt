@@ -90,6 +90,11 @@ impl SpannedConfig {
         })
     }
 
+    // The allocator that it keeps.
+    pub(crate) fn allocator(&self) -> Global {
+        self.alloc
+    }
+
     /// Sets the margin round the table. Takes no memory.
     pub fn set_margin(&mut self, value: Sides<Indent>)
         ensures set { self.new.margin ≡ value }
