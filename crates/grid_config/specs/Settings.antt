@@ -1,5 +1,5 @@
 -- All settings of a table.
-use Rattle.std.specs.Prelude.{◌≡◌, ℕ, ◌==◌, Bool, false, ◌&&◌, Option, None, Some, length, if◌then◌else◌}
+use Rattle.std.specs.Prelude.{◌≡◌, ℕ, ◌==◌, Bool, false, ◌&&◌, Option, None, Some, List, [], if◌then◌else◌}
 use Rattle.grid_config_values.specs.declared.alignment.AlignmentHorizontal.{AlignmentHorizontal}
 use Rattle.grid_config_values.specs.declared.alignment.AlignmentHorizontal.TheVariants.{Left}
 use Rattle.grid_config_values.specs.declared.alignment.AlignmentVertical.{AlignmentVertical}
@@ -10,6 +10,7 @@ use Rattle.grid_config_values.specs.declared.position.Position.{Position}
 use Rattle.grid_config_values.specs.declared.sides.Indent.{Indent}
 use Rattle.grid_config_values.specs.declared.sides.Sides.{Sides}
 use Rattle.grid_config_values.specs.Settings.{value_at}
+use Rattle.grid_config_spans.specs.declared.extent.Extent.{Extent}
 use Rattle.grid_config_colors.specs.Colors.{Color, is_no_color}
 use Rattle.grid_config.specs.Compact.{Compact, each_side, no_borders, no_indent}
 
@@ -28,6 +29,7 @@ pub record Settings : Type 0 where
   pub trim_vertical : EntityMap Bool
   pub justification : EntityMap ℕ
   pub justification_color : EntityMap (Option Color)
+  pub spans : List (Position × Extent)
 
 -- the settings by name
 pub data Setting : Type 0 where
@@ -44,6 +46,7 @@ pub data Setting : Type 0 where
   TrimVertical : Setting
   Justification : Setting
   JustificationColor : Setting
+  CellSpans : Setting
 
 -- the old settings with what the new ones have for one of them
 abbrev pub with_one : Setting → Settings → Settings → Settings
@@ -60,6 +63,7 @@ with_one TrimHorizontal old new = record old { trim_horizontal = new.trim_horizo
 with_one TrimVertical old new = record old { trim_vertical = new.trim_vertical }
 with_one Justification old new = record old { justification = new.justification }
 with_one JustificationColor old new = record old { justification_color = new.justification_color }
+with_one CellSpans old new = record old { spans = new.spans }
 
 -- every setting but this one is as it was
 abbrev pub KeepsOthers : Setting → Settings → Settings → Type 0
@@ -97,6 +101,7 @@ pub record StartsWith (start : Start) (settings : Settings) : Type 0 where
   pub trim_vertical : IsEverywhere settings.trim_vertical false
   pub justification : IsEverywhere settings.justification 32
   pub justification_color : IsEverywhere settings.justification_color None
+  pub spans : settings.spans ≡ []
 
 -- no glyph, no margin, no padding, text at the left, no colour
 abbrev pub new_start : Start

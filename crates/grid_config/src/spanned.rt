@@ -1,17 +1,19 @@
 //! All settings of a table.
-ghost use Rattle.std.specs.Prelude.{◌≡◌, IfErr, OnErr, OnOk, IfOk};
-ghost use Rattle.grid_config_values.specs.declared.fault.Fault.TheVariants.{Memory};
-ghost use Rattle.grid_config_values.specs.Glyphs.{boundary_kind, has_column_boundary, has_row_boundary};
+ghost use Rattle.std.specs.Prelude.{◌≡◌, ◌<◌, ◌==◌, ◌↔◌, if◌then◌else◌, None, Some, Err, IfErr, OnErr, OnOk, IfOk, IsTrue};
+ghost use Rattle.grid_config_values.specs.declared.fault.Fault.TheVariants.{Memory, Spans as BadSpan};
+ghost use Rattle.grid_config_values.specs.Glyphs.{boundary_count, boundary_kind, has_column_boundary, has_row_boundary};
+ghost use Rattle.grid_config_spans.specs.Spans.{AreGood, IsVisible, SetsColumns, SetsRows, extent_at};
 ghost use Rattle.grid_config_values.specs.Settings.{IsUnchanged, SetsCovered, value_at};
 ghost use Rattle.grid_config.specs.Compact.{compact_of};
 ghost use Rattle.grid_config.specs.Settings.{KeepsOthers, StartsWith, compact_start, new_start};
-ghost use Rattle.grid_config.specs.Settings.{Margin, MarginColor, BorderGlyphs, BorderColors, Padding, PaddingColor, HorizontalAlignment, VerticalAlignment, LineAlignment, TrimHorizontal, TrimVertical, Justification, JustificationColor};
+ghost use Rattle.grid_config.specs.Settings.{Margin, MarginColor, BorderGlyphs, BorderColors, Padding, PaddingColor, HorizontalAlignment, VerticalAlignment, LineAlignment, TrimHorizontal, TrimVertical, Justification, JustificationColor, CellSpans};
 
 use crate::cells::CellSettings;
 use crate::compact::CompactConfig;
 use crate::owning::{owned_borders, owned_sides};
 use crate::whole::{WholeSettings, no_borders};
 use grid_config_colors::ANSIBuf;
+use grid_config_spans::Spans;
 use grid_config_values::{
     AlignmentHorizontal, AlignmentVertical, Borders, Entity, EntityMap, Fault, Indent, Position, Sides,
 };
@@ -24,6 +26,7 @@ use std::marker::Model;
 pub struct SpannedConfig {
     whole: WholeSettings,
     cells: CellSettings,
+    spans: Spans,
     alloc: Global,
 }
 
@@ -46,6 +49,7 @@ impl Model for SpannedConfig {
         trim_vertical = config.cells.trim_vertical;
         justification = config.cells.justification;
         justification_color = config.cells.justification_color;
+        spans = config.spans;
     } };
 }
 
@@ -60,6 +64,7 @@ impl SpannedConfig {
         SpannedConfig {
             whole: WholeSettings::new(),
             cells: CellSettings::new(alloc, padding, none, AlignmentHorizontal::Left),
+            spans: Spans::new(alloc),
             alloc,
         }
     }
@@ -86,6 +91,7 @@ impl SpannedConfig {
                 padding_color,
                 c.get_alignment_horizontal(),
             ),
+            spans: Spans::new(alloc),
             alloc,
         })
     }
@@ -324,5 +330,88 @@ impl SpannedConfig {
         ensures { result.now ≡ value_at self.now.justification_color pos }
     {
         self.cells.justification_color.get(pos)
+    }
+
+    /// Whether column boundary `j` of so many columns is there: `has_left` of the borders at 0,
+    /// `has_right` at `columns`, else `has_vertical`.
+    pub fn has_vertical(&self, j: usize, columns: usize) -> bool
+        ensures { result ≡ has_column_boundary self.now.borders (boundary_kind j columns) }
+    {
+        self.whole.borders.has_vertical_at(j, columns)
+    }
+
+    /// Whether row boundary `i` of so many rows is there: `has_top` of the borders at 0, `has_bottom`
+    /// at `rows`, else `has_horizontal`.
+    pub fn has_horizontal(&self, i: usize, rows: usize) -> bool
+        ensures { result ≡ has_row_boundary self.now.borders (boundary_kind i rows) }
+    {
+        self.whole.borders.has_horizontal_at(i, rows)
+    }
+
+    /// How many of the column boundaries from 0 to `columns` are there. Looks at no column.
+    pub fn count_vertical(&self, columns: usize) -> usize
+        requires { columns < usize.MAX }
+        ensures { result ≡ boundary_count (has_column_boundary self.now.borders) columns }
+    {
+        self.whole.borders.count_vertical(columns)
+    }
+
+    /// How many of the row boundaries from 0 to `rows` are there. Looks at no row.
+    pub fn count_horizontal(&self, rows: usize) -> usize
+        requires { rows < usize.MAX }
+        ensures { result ≡ boundary_count (has_row_boundary self.now.borders) rows }
+    {
+        self.whole.borders.count_horizontal(rows)
+    }
+
+    /// Sets how many columns the cell at this place takes; 1 takes its span away. Refused as `Spans`
+    /// for 0, and for memory, and then nothing has changed.
+    pub fn set_column_span(&mut self, pos: Position, n: usize) -> Result<(), Fault>
+        ensures zero { result ≡ Err BadSpan ↔ (n ≡ 0) }
+        ensures set { OnOk result (SetsColumns self.old.spans self.new.spans pos n) }
+        ensures refused { OnErr result (self.new.spans ≡ self.old.spans) }
+        ensures others { KeepsOthers CellSpans self.old self.new }
+    {
+        self.spans.set_column_span(pos, n)
+    }
+
+    /// How many columns the cell at this place takes: `None` for one.
+    pub fn get_column_span(&self, pos: Position) -> Option<usize>
+        ensures { let n = (extent_at self.now.spans pos).columns in result ≡ (if n == 1 then None else Some n) }
+    {
+        self.spans.get_column_span(pos)
+    }
+
+    /// Sets how many rows the cell at this place takes; 1 takes its span away. Refused as `Spans` for
+    /// 0, and for memory, and then nothing has changed.
+    pub fn set_row_span(&mut self, pos: Position, n: usize) -> Result<(), Fault>
+        ensures zero { result ≡ Err BadSpan ↔ (n ≡ 0) }
+        ensures set { OnOk result (SetsRows self.old.spans self.new.spans pos n) }
+        ensures refused { OnErr result (self.new.spans ≡ self.old.spans) }
+        ensures others { KeepsOthers CellSpans self.old self.new }
+    {
+        self.spans.set_row_span(pos, n)
+    }
+
+    /// How many rows the cell at this place takes: `None` for one.
+    pub fn get_row_span(&self, pos: Position) -> Option<usize>
+        ensures { let n = (extent_at self.now.spans pos).rows in result ≡ (if n == 1 then None else Some n) }
+    {
+        self.spans.get_row_span(pos)
+    }
+
+    /// Whether the rectangle of no other cell holds this place. Looks at no span where there is none.
+    pub fn is_cell_visible(&self, pos: Position) -> bool
+        ensures { IsTrue result ↔ IsVisible self.now.spans pos }
+    {
+        self.spans.is_cell_visible(pos)
+    }
+
+    /// Whether in a table of so many rows and columns the rectangle of each cell that spans several
+    /// stays inside the table, and no two of them share a place. Cells outside the table don't count.
+    pub fn spans_are_good(&self, rows: usize, columns: usize) -> bool
+        ensures { IsTrue result ↔ AreGood self.now.spans rows columns }
+    {
+        self.spans.spans_are_good(rows, columns)
     }
 }

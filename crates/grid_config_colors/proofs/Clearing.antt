@@ -70,7 +70,7 @@ module _ (is_set : Attributes → Bool) (sets : ℕ → Bool) (clearing : ℕ) (
       either : (found : Bool) → is_clearing clearing code ≡ found → Follows is_set (is_clearing clearing) (code ∷ []) (λ a. after_code a code)
       either true e =
           let unset : (a : Attributes) → is_set (after_code a code) ≡ false = λ a.
-              steps.by_code a code ∙ ap (λ t. if t then true else (if is_clearing clearing code then false else is_set a)) (steps.apart code e) ∙ ap (λ t. if t then false else is_set a) e in
+          steps.by_code a code ∙ ap (λ t. if t then true else (if is_clearing clearing code then false else is_set a)) (steps.apart code e) ∙ ap (λ t. if t then false else is_set a) e in
           record {
             same = λ a b h. unset a ∙ sym (unset b);
             kept = λ h a set. absurd (false≢true (sym h ∙ ap (λ t. t || false) e));
@@ -78,7 +78,7 @@ module _ (is_set : Attributes → Bool) (sets : ℕ → Bool) (clearing : ℕ) (
           }
       either false e =
           let left : (a : Attributes) → is_set (after_code a code) ≡ (if sets code then true else is_set a) = λ a.
-              steps.by_code a code ∙ ap (λ t. if sets code then true else (if t then false else is_set a)) e in
+          steps.by_code a code ∙ ap (λ t. if sets code then true else (if t then false else is_set a)) e in
           record {
             same = λ a b h. left a ∙ if_same (sets code) (is_set a) (is_set b) h ∙ sym (left b);
             kept = λ h a set. left a ∙ if_kept (sets code) (is_set a) set;

@@ -18,15 +18,16 @@ Closes-decides prefix suffix style clears prefix_form suffix_form of_prefix pref
     let ps = pieces prefix in
     let are = ArePiecesOf-pieces prefix in
     let qs = pieces suffix in
-    let be = ArePiecesOf-pieces suffix in
-    (λ h. record {
-      prefix = ps;
-      of_prefix = are;
-      prefix_form = (of_prefix ps are).0 prefix_is;
-      suffix = qs;
-      of_suffix = be;
-      suffix_form = (of_suffix qs be).0 suffix_is;
-      clears = subst (λ (s : Attributes). Clears s qs) (leaves ps are) ((decides qs be).0 h);
-    },
-    λ closes. (decides closes.suffix closes.of_suffix).1
-        (subst (λ (s : Attributes). Clears s closes.suffix) (sym (leaves closes.prefix closes.of_prefix)) closes.clears))
+    let be = ArePiecesOf-pieces suffix in (
+      λ h. record {
+        prefix = ps;
+        of_prefix = are;
+        prefix_form = (of_prefix ps are).0 prefix_is;
+        suffix = qs;
+        of_suffix = be;
+        suffix_form = (of_suffix qs be).0 suffix_is;
+        clears = subst (λ (s : Attributes). Clears s qs) (leaves ps are) ((decides qs be).0 h);
+      },
+      λ closes. (decides closes.suffix closes.of_suffix).1
+          (subst (λ (s : Attributes). Clears s closes.suffix) (sym (leaves closes.prefix closes.of_prefix)) closes.clears),
+    )

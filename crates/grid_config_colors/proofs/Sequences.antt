@@ -65,9 +65,10 @@ pub AreSequences-decides : (text : List ℕ) (pieces : List Piece) (style : Attr
     → ArePiecesOf text pieces → IsWhole text → blocks ≡ blocks_from style pieces → YieldsFirst (λ left. left) blocks found rest → is_some found ≡ not is_none
     → IsTrue is_none ↔ AreSequences pieces
 AreSequences-decides text pieces style blocks rest found is_none of_text whole are steps same =
-    let nothing = gives_nothing blocks rest found is_none steps same in
-    (λ none. record { whole = NoneBroken-whole text pieces of_text whole; no_text = NoText-blocks_from style pieces (sym are ∙ nothing.0 none) },
-     λ form. nothing.1 (are ∙ blocks_from-NoText style pieces form.no_text))
+    let nothing = gives_nothing blocks rest found is_none steps same in (
+      λ none. record { whole = NoneBroken-whole text pieces of_text whole; no_text = NoText-blocks_from style pieces (sym are ∙ nothing.0 none) },
+      λ form. nothing.1 (are ∙ blocks_from-NoText style pieces form.no_text),
+    )
 
 pub AreSequences-whole : (text : List ℕ) (pieces : List Piece) → ArePiecesOf text pieces → AreSequences pieces → IsWhole text
 AreSequences-whole text pieces of_text form = record { pieces = pieces; of_text = of_text; none_broken = form.whole }

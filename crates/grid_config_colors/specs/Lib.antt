@@ -2,3 +2,4 @@ pub mod Colors
 pub mod Closing
 pub mod Clearing
 pub mod FirstColor
+pub mod Fault

@@ -34,7 +34,7 @@ impl<'a> ANSIStr<'a> {
     pub const fn is_empty(&self) -> bool
         ensures { result ≡ is_no_color (color_of self.now) }
     {
-        self.prefix.len() == 0 && self.suffix.len() == 0
+        self.get_prefix().len() == 0 && self.get_suffix().len() == 0
     }
 
     /// What is written before.
@@ -56,6 +56,6 @@ impl<'a> ANSIStr<'a> {
     pub fn closes(&self) -> bool
         ensures { IsTrue result ↔ Closes (color_of self.now) }
     {
-        closes(self.prefix, self.suffix)
+        closes(self.get_prefix(), self.get_suffix())
     }
 }

@@ -11,7 +11,9 @@ use ansi_str::get_blocks;
 pub(crate) fn closes(prefix: &str, suffix: &str) -> bool
     ensures { IsTrue result ↔ Closes (record { prefix = prefix.now; suffix = suffix.now }) }
 {
-    are_sequences(prefix) && are_sequences(suffix) && clears(style_behind(Style::plain(), prefix), suffix)
+    are_sequences(prefix)
+        && are_sequences(suffix)
+        && clears(style_behind(Style::plain(), prefix), suffix)
 }
 
 // Whether the text is whole and shows nothing.

@@ -14,6 +14,11 @@ pub enum BufFault {
 
 /// The reason in a few words, with no line feed.
 impl fmt::Display for BufFault {
+    ghost use Rattle.std.specs.Prelude.{Some};
+    ghost use Rattle.grid_config_colors.specs.Fault.{fault_text};
+
+    ghost output = { λ fault. Some (fault_text fault) };
+
     fn fmt<W: fmt::Write>(&self, f: &mut fmt::Formatter<W>) -> fmt::Result {
         match self {
             BufFault::NoBlock => write!(f, "no text to take a colour from"),
