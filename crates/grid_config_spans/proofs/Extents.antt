@@ -1,5 +1,5 @@
 -- What is kept for a position.
-use Rattle.std.proofs.Common.{◌≡◌, ℕ, Bool, List, [], ◌∷◌, Option, None, Some, refl, cond, if◌then◌else◌, arith, unwrap_or, lit<, lit≤, ◌<◌, ◌≤◌, ◌≢◌}
+use Rattle.std.proofs.Common.{◌≡◌, ℕ, List, [], ◌∷◌, Option, Some, refl, if◌then◌else◌, arith, unwrap_or, lit<, lit≤, ◌<◌, ◌≤◌, ◌≢◌}
 use Rattle.std.specs.Map.{lookup}
 use Rattle.std.specs.BTreeMap.{BTreeMap, Updates, is_at}
 use Rattle.grid_config_values.specs.declared.position.Position.{Position}

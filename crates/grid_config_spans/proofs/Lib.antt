@@ -1,2 +1,4 @@
 pub mod Order
 pub mod Extents
+pub mod Visible
+pub mod Good

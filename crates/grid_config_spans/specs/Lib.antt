@@ -1,2 +1,3 @@
 pub mod Rectangles
 pub mod Spans
+pub mod Search

@@ -1,6 +1,8 @@
 //! How many rows and columns a cell takes.
-ghost use Rattle.std.specs.Prelude.{◌≡◌, ◌↔◌, IsTrue};
-ghost use Rattle.grid_config_spans.specs.Rectangles.{Holds};
+ghost use Rattle.std.specs.Prelude.{◌≡◌, ◌+◌, ◌≤◌, ◌&&◌, false};
+ghost use Rattle.std.specs.Ordering.{is_gt};
+ghost use Rattle.grid_config_values.specs.Order.{position_cmp};
+ghost use Rattle.grid_config_spans.specs.Search.{holds, is_in_table, is_inside, meets, search_end};
 
 use grid_config_values::Position;
 
@@ -22,11 +24,44 @@ impl Extent {
 
     // Whether the rectangle of this extent that begins at the anchor holds the place.
     pub(crate) fn holds(self, anchor: Position, place: Position) -> bool
-        ensures { IsTrue result ↔ Holds anchor self place }
+        ensures { result ≡ holds anchor self place }
     {
         anchor.row <= place.row
             && place.row - anchor.row < self.rows
             && anchor.col <= place.col
             && place.col - anchor.col < self.columns
+    }
+
+    // Whether the rectangle is in a table of so many rows and columns, where its anchor is.
+    pub(crate) fn is_inside(self, anchor: Position, rows: usize, columns: usize) -> bool
+        ensures { result ≡ (is_in_table rows columns anchor && is_inside anchor self rows columns) }
+    {
+        anchor.row < rows
+            && anchor.col < columns
+            && self.rows <= rows - anchor.row
+            && self.columns <= columns - anchor.col
+    }
+
+    // Whether two rectangles share a place.
+    pub(crate) fn meets(self, anchor: Position, other: Position, extent: Extent) -> bool
+        ensures { result ≡ meets anchor self other extent }
+    {
+        // the first place that may be in both
+        let corner = Position::new(anchor.row.max(other.row), anchor.col.max(other.col));
+        self.holds(anchor, corner) && extent.holds(other, corner)
+    }
+
+    // No rectangle that begins here or behind it meets this one, where it begins behind it too.
+    pub(crate) fn search_end(self, anchor: Position) -> Position
+        requires rows { anchor.row + self.rows ≤ usize.MAX }
+        requires columns { anchor.col + self.columns ≤ usize.MAX }
+        ensures end { result ≡ search_end anchor self }
+        ensures forward { is_gt (position_cmp anchor result) ≡ false }
+    {
+        if self.rows <= 1 {
+            Position::new(anchor.row, anchor.col + self.columns)
+        } else {
+            Position::new(anchor.row + self.rows, 0)
+        }
     }
 }

@@ -6,3 +6,6 @@ mod spans;
 
 pub use extent::Extent;
 pub use spans::Spans;
+
+#[cfg(test)]
+mod tests;

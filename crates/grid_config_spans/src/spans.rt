@@ -1,10 +1,14 @@
 //! The cells that span several columns or rows.
-ghost use Rattle.std.specs.Prelude.{false, ◌≡◌, ◌≢◌, ◌<◌, ◌↔◌, [], if◌then◌else◌, ◌==◌, IsOk, IsTrue, IfErr, OnErr, OnOk, None, Some, Err};
+ghost use Rattle.std.specs.Prelude.{false, ◌≡◌, ◌≢◌, ◌+◌, ◌≤◌, ◌<◌, ◌↔◌, [], if◌then◌else◌, ◌==◌, IsOk, IsTrue, IfErr, OnErr, OnOk, None, Some, Err};
 ghost use Rattle.grid_config_values.specs.declared.fault.Fault.TheVariants.{Memory, Spans as BadSpan};
+ghost use Rattle.std.specs.List.{All, list_all, list_any};
+ghost use Rattle.std.specs.Map.{lookup};
 ghost use Rattle.std.specs.Ordering.{is_gt};
 ghost use Rattle.grid_config_values.specs.declared.position.Position.{Position as Place};
-ghost use Rattle.grid_config_values.specs.Order.{position_cmp};
+ghost use Rattle.grid_config_values.specs.Order.{position_cmp, same_place};
+ghost use Rattle.grid_config_spans.specs.declared.extent.Extent.{Extent as Size};
 ghost use Rattle.grid_config_spans.specs.Rectangles.{Holds};
+ghost use Rattle.grid_config_spans.specs.Search.{begun_between, holds_in, is_good_span, is_met_by, is_other, search_end};
 ghost use Rattle.grid_config_spans.specs.Spans.{AreGood, IsVisible, SetsColumns, SetsExtent, SetsRows, extent_at, single};
 
 use crate::extent::Extent;
@@ -121,8 +125,62 @@ impl Spans {
     pub fn is_cell_visible(&self, pos: Position) -> bool
         ensures { IsTrue result ↔ IsVisible self.now pos }
     {
-        let mut nearest = self.extents.range(self.first_that_may_hold(pos)..pos);
-        !nearest.any(|(anchor, extent)| extent.holds(*anchor, pos))
+        !self.is_held_from(self.first_that_may_hold(pos), pos)
+    }
+
+    /// Whether in a table of so many rows and columns the rectangle of each cell that spans several stays
+    /// inside the table, and no two of them share a place. Cells outside the table don't count.
+    pub fn spans_are_good(&self, rows: usize, columns: usize) -> bool
+        ensures { IsTrue result ↔ AreGood self.now rows columns }
+    {
+        self.all_are_good(rows, columns)
+    }
+
+    // The same, by a test of each.
+    fn all_are_good(&self, rows: usize, columns: usize) -> bool
+        ensures all { result ≡ list_all (is_good_span self.now rows columns) self.now }
+        ensures kept { All (λ span. lookup (same_place span.0) self.now ≡ Some span.1) self.now }
+        ensures spans { (p : Place) (e : Size) → lookup (same_place p) self.now ≡ Some e → e ≢ single }
+    {
+        self.extents
+            .iter()
+            .all(|(anchor, extent)| self.is_good_span(*anchor, *extent, rows, columns))
+    }
+
+    // Whether this one is not in the table, or inside it and meets none that begins behind it.
+    fn is_good_span(&self, anchor: Position, extent: Extent, rows: usize, columns: usize) -> bool
+        ensures { result ≡ is_good_span self.now rows columns (anchor, extent) }
+    {
+        if anchor.row >= rows || anchor.col >= columns {
+            return true;
+        }
+        if !extent.is_inside(anchor, rows, columns) {
+            return false;
+        }
+        !self.is_met(anchor, extent, rows, columns)
+    }
+
+    // Whether another one in the table, which begins behind this one, meets it.
+    fn is_met(&self, anchor: Position, extent: Extent, rows: usize, columns: usize) -> bool
+        requires rows { anchor.row + extent.rows ≤ usize.MAX }
+        requires columns { anchor.col + extent.columns ≤ usize.MAX }
+        ensures { result ≡ list_any (is_met_by rows columns anchor extent)
+            (begun_between anchor (search_end anchor extent) self.now) }
+    {
+        self.extents
+            .range(anchor..extent.search_end(anchor))
+            .any(|(other, size)| is_other(anchor, *other, rows, columns) && extent.meets(anchor, *other, *size))
+    }
+
+    // Whether a rectangle holds this place that begins before it, and not before the first place.
+    fn is_held_from(&self, first: Position, pos: Position) -> bool
+        requires { is_gt (position_cmp first pos) ≡ false }
+        ensures any { result ≡ list_any (holds_in pos) (begun_between first pos self.now) }
+        ensures kept { All (λ span. lookup (same_place span.0) self.now ≡ Some span.1) (begun_between first pos self.now) }
+    {
+        self.extents
+            .range(first..pos)
+            .any(|(anchor, extent)| extent.holds(*anchor, pos))
     }
 
     // No rectangle that begins before this place holds `pos`.
@@ -155,4 +213,11 @@ fn span_of(n: usize) -> Option<usize>
     ensures { result ≡ (if n == 1 then None else Some n) }
 {
     if n == 1 { None } else { Some(n) }
+}
+
+// Whether this is another place than the anchor, and in the table.
+fn is_other(anchor: Position, other: Position, rows: usize, columns: usize) -> bool
+    ensures { result ≡ is_other rows columns anchor other }
+{
+    other != anchor && other.row < rows && other.col < columns
 }

@@ -1,8 +1,28 @@
 -- Which glyph of a table stands where, by the names of papergrid's `Borders`. Of n columns there are n + 1 boundaries:
 -- before the first, between two, behind the last; likewise of rows.
-use Rattle.std.specs.Prelude.{ℕ, ◌+◌, Bool, ◌||◌, ◌==◌, if◌then◌else◌, Option, is_some, length}
+use Rattle.std.specs.Prelude.{ℕ, ◌+◌, Bool, ◌||◌, ◌==◌, if◌then◌else◌, Option, None, is_some, length}
 use Rattle.std.specs.List.{filter, range_with_len}
 use Rattle.grid_config_values.specs.declared.borders.Borders.{Borders}
+
+-- nothing stands on any boundary
+abbrev pub no_borders : {T : Type 0} → Borders T
+no_borders = record {
+  top = None;
+  top_left = None;
+  top_right = None;
+  top_intersection = None;
+  bottom = None;
+  bottom_left = None;
+  bottom_right = None;
+  bottom_intersection = None;
+  horizontal = None;
+  left_intersection = None;
+  right_intersection = None;
+  intersection = None;
+  vertical = None;
+  left = None;
+  right = None;
+}
 
 -- which of the boundaries 0 to n a boundary is
 pub data BoundaryKind : Type 0 where

@@ -1,6 +1,6 @@
 //! The glyphs of a table's boundaries, or what else belongs to each of them, as its colour.
 ghost use Rattle.std.specs.Prelude.{◌≡◌, ◌<◌, Bool, if◌then◌else◌, is_some};
-ghost use Rattle.grid_config_values.specs.Glyphs.{Between, BoundaryKind, First, Last, boundary_count, boundary_kind, has_column_boundary, has_row_boundary};
+ghost use Rattle.grid_config_values.specs.Glyphs.{Between, BoundaryKind, First, Last, boundary_count, boundary_kind, has_column_boundary, has_row_boundary, no_borders};
 
 /// What may stand round one cell.
 #[derive(Clone, Copy, Debug, PartialEq, Eq, PartialOrd, Ord, Hash, Drop)]
@@ -71,6 +71,29 @@ const fn is_set<T>(glyph: &Option<T>) -> bool
 }
 
 impl<T> Borders<T> {
+    /// Nothing stands on any boundary.
+    pub const fn empty() -> Borders<T>
+        ensures { result ≡ no_borders }
+    {
+        Borders {
+            top: None,
+            top_left: None,
+            top_right: None,
+            top_intersection: None,
+            bottom: None,
+            bottom_left: None,
+            bottom_right: None,
+            bottom_intersection: None,
+            horizontal: None,
+            left_intersection: None,
+            right_intersection: None,
+            intersection: None,
+            vertical: None,
+            left: None,
+            right: None,
+        }
+    }
+
     /// Whether one of `left`, `left_intersection`, `top_left`, `bottom_left` is set.
     pub const fn has_left(&self) -> bool
         ensures { result ≡ has_column_boundary self.now First }

@@ -20,3 +20,6 @@ pub use fault::Fault;
 pub use formatting::Formatting;
 pub use position::Position;
 pub use sides::{Indent, Sides};
+
+#[cfg(test)]
+mod tests;

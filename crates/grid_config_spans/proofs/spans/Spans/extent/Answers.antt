@@ -1,4 +1,4 @@
-use Rattle.std.proofs.Common.{None, Some, lit<}
+use Rattle.std.proofs.Common.{None, Some}
 use Rattle.grid_config_spans.proofs.Extents.{extent_found}
 use Rattle.grid_config_spans.proofs.spans.Spans.extent.Goals as goal
 

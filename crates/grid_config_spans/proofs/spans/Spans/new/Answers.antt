@@ -1,4 +1,3 @@
-use Rattle.std.proofs.Common.{arith}
 use Rattle.grid_config_spans.proofs.Extents.{none_is_bounded}
 use Rattle.grid_config_spans.proofs.spans.Spans.new.Goals as goal
 
