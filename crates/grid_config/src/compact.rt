@@ -41,7 +41,10 @@ impl CompactConfig {
     pub const fn set_margin(self, value: Sides<Indent>) -> CompactConfig
         ensures { compact_of result ≡ record (compact_of self) { margin = value } }
     {
-        CompactConfig { margin: value, ..self }
+        CompactConfig {
+            margin: value,
+            ..self
+        }
     }
 
     /// The margin round the table: columns at the left and right, lines at the top and bottom.
@@ -55,7 +58,10 @@ impl CompactConfig {
     pub const fn set_borders(self, value: Borders<char>) -> CompactConfig
         ensures { compact_of result ≡ record (compact_of self) { borders = value } }
     {
-        CompactConfig { borders: value, ..self }
+        CompactConfig {
+            borders: value,
+            ..self
+        }
     }
 
     /// The glyphs of the table's boundaries.
@@ -69,7 +75,10 @@ impl CompactConfig {
     pub const fn set_padding(self, value: Sides<Indent>) -> CompactConfig
         ensures { compact_of result ≡ record (compact_of self) { padding = value } }
     {
-        CompactConfig { padding: value, ..self }
+        CompactConfig {
+            padding: value,
+            ..self
+        }
     }
 
     /// The padding of every cell: columns at the left and right, lines at the top and bottom.
@@ -83,7 +92,10 @@ impl CompactConfig {
     pub const fn set_alignment_horizontal(self, value: AlignmentHorizontal) -> CompactConfig
         ensures { compact_of result ≡ record (compact_of self) { alignment_horizontal = value } }
     {
-        CompactConfig { alignment_horizontal: value, ..self }
+        CompactConfig {
+            alignment_horizontal: value,
+            ..self
+        }
     }
 
     /// Where texts stand between their left and right padding.
@@ -97,7 +109,10 @@ impl CompactConfig {
     pub const fn set_margin_color(self, value: Sides<ANSIStr<'static>>) -> CompactConfig
         ensures { compact_of result ≡ record (compact_of self) { margin_color = side_colors value.entry } }
     {
-        CompactConfig { margin_color: value, ..self }
+        CompactConfig {
+            margin_color: value,
+            ..self
+        }
     }
 
     /// The colours of the margin, none where a colour is empty.
@@ -111,7 +126,10 @@ impl CompactConfig {
     pub const fn set_borders_color(self, value: Borders<ANSIStr<'static>>) -> CompactConfig
         ensures { compact_of result ≡ record (compact_of self) { borders_color = border_colors value.entry } }
     {
-        CompactConfig { borders_color: value, ..self }
+        CompactConfig {
+            borders_color: value,
+            ..self
+        }
     }
 
     /// The colours of the glyphs of the table's boundaries.
@@ -125,7 +143,10 @@ impl CompactConfig {
     pub const fn set_padding_color(self, value: Sides<ANSIStr<'static>>) -> CompactConfig
         ensures { compact_of result ≡ record (compact_of self) { padding_color = side_colors value.entry } }
     {
-        CompactConfig { padding_color: value, ..self }
+        CompactConfig {
+            padding_color: value,
+            ..self
+        }
     }
 
     /// The colours of the padding, none where a colour is empty.

@@ -4,6 +4,7 @@
 mod cells;
 mod colored;
 mod compact;
+pub mod config;
 mod owning;
 mod spanned;
 mod whole;
@@ -12,10 +13,15 @@ pub use colored::{ColorMap, ColoredConfig};
 pub use compact::CompactConfig;
 pub use grid_config_colors::{ANSIBuf, ANSIStr, BufFault};
 pub use grid_config_values::{
-    AlignmentHorizontal, AlignmentVertical, Border, Borders, Entity, EntityIterator, EntityMap, Fault,
-    Formatting, Indent, Position, Sides,
+    AlignmentHorizontal, AlignmentVertical, Border, Borders, Entity, EntityIterator, EntityMap,
+    Fault, Formatting, Indent, Position, Sides,
 };
 pub use spanned::SpannedConfig;
+
+/// Colours, by the module in which `papergrid` has them.
+pub mod ansi {
+    pub use grid_config_colors::{ANSIBuf, ANSIStr};
+}
 
 #[cfg(test)]
 mod tests;

@@ -15,7 +15,8 @@ use crate::whole::{WholeSettings, no_borders};
 use grid_config_colors::ANSIBuf;
 use grid_config_spans::Spans;
 use grid_config_values::{
-    AlignmentHorizontal, AlignmentVertical, Borders, Entity, EntityMap, Fault, Indent, Position, Sides,
+    AlignmentHorizontal, AlignmentVertical, Borders, Entity, EntityMap, Fault, Indent, Position,
+    Sides,
 };
 use std::alloc::{AllocError, Global};
 use std::marker::Model;
@@ -36,20 +37,20 @@ impl Model for SpannedConfig {
     ghost Value = { Settings };
 
     ghost view = { λ config. record {
-        margin = config.whole.margin;
-        margin_color = config.whole.margin_color;
-        borders = config.whole.borders;
-        borders_color = config.whole.borders_color;
-        padding = config.cells.padding;
-        padding_color = config.cells.padding_color;
-        alignment_horizontal = config.cells.alignment_horizontal;
-        alignment_vertical = config.cells.alignment_vertical;
-        line_alignment = config.cells.line_alignment;
-        trim_horizontal = config.cells.trim_horizontal;
-        trim_vertical = config.cells.trim_vertical;
-        justification = config.cells.justification;
-        justification_color = config.cells.justification_color;
-        spans = config.spans;
+      margin = config.whole.margin;
+      margin_color = config.whole.margin_color;
+      borders = config.whole.borders;
+      borders_color = config.whole.borders_color;
+      padding = config.cells.padding;
+      padding_color = config.cells.padding_color;
+      alignment_horizontal = config.cells.alignment_horizontal;
+      alignment_vertical = config.cells.alignment_vertical;
+      line_alignment = config.cells.line_alignment;
+      trim_horizontal = config.cells.trim_horizontal;
+      trim_vertical = config.cells.trim_vertical;
+      justification = config.cells.justification;
+      justification_color = config.cells.justification_color;
+      spans = config.spans;
     } };
 }
 
@@ -71,10 +72,7 @@ impl SpannedConfig {
 
     /// The settings of a compact table, for the whole table, and else those of `new`. A colour whose
     /// texts are empty is none, but on a border. Refused for memory alone.
-    pub fn from_compact_config(
-        alloc: Global,
-        c: CompactConfig,
-    ) -> Result<SpannedConfig, AllocError>
+    pub fn from_compact_config(alloc: Global, c: CompactConfig) -> Result<SpannedConfig, AllocError>
         ensures { IfOk result (StartsWith (compact_start (compact_of c))) }
     {
         let padding_color = owned_sides(alloc, c.get_padding_color())?;
@@ -182,7 +180,11 @@ impl SpannedConfig {
 
     /// Sets the colours of cells' paddings, for the cells of the entity. Refused for memory alone, and then
     /// nothing has changed.
-    pub fn set_padding_color(&mut self, entity: Entity, value: Sides<Option<ANSIBuf>>) -> Result<(), Fault>
+    pub fn set_padding_color(
+        &mut self,
+        entity: Entity,
+        value: Sides<Option<ANSIBuf>>,
+    ) -> Result<(), Fault>
         ensures set { OnOk result (SetsCovered self.old.padding_color self.new.padding_color entity value) }
         ensures refused { OnErr result (IsUnchanged self.old.padding_color self.new.padding_color) }
         ensures fault { IfErr result (λ fault. fault ≡ Memory) }
@@ -201,7 +203,11 @@ impl SpannedConfig {
 
     /// Sets where cells' texts stand between their left and right padding, for the cells of the entity. Refused for memory alone, and then
     /// nothing has changed.
-    pub fn set_alignment_horizontal(&mut self, entity: Entity, value: AlignmentHorizontal) -> Result<(), Fault>
+    pub fn set_alignment_horizontal(
+        &mut self,
+        entity: Entity,
+        value: AlignmentHorizontal,
+    ) -> Result<(), Fault>
         ensures set { OnOk result (SetsCovered self.old.alignment_horizontal self.new.alignment_horizontal entity value) }
         ensures refused { OnErr result (IsUnchanged self.old.alignment_horizontal self.new.alignment_horizontal) }
         ensures fault { IfErr result (λ fault. fault ≡ Memory) }
@@ -220,7 +226,11 @@ impl SpannedConfig {
 
     /// Sets where cells' texts stand between their top and bottom padding, for the cells of the entity. Refused for memory alone, and then
     /// nothing has changed.
-    pub fn set_alignment_vertical(&mut self, entity: Entity, value: AlignmentVertical) -> Result<(), Fault>
+    pub fn set_alignment_vertical(
+        &mut self,
+        entity: Entity,
+        value: AlignmentVertical,
+    ) -> Result<(), Fault>
         ensures set { OnOk result (SetsCovered self.old.alignment_vertical self.new.alignment_vertical entity value) }
         ensures refused { OnErr result (IsUnchanged self.old.alignment_vertical self.new.alignment_vertical) }
         ensures fault { IfErr result (λ fault. fault ≡ Memory) }
@@ -315,7 +325,11 @@ impl SpannedConfig {
 
     /// Sets the colour of that fill, for the cells of the entity. Refused for memory alone, and then
     /// nothing has changed.
-    pub fn set_justification_color(&mut self, entity: Entity, value: Option<ANSIBuf>) -> Result<(), Fault>
+    pub fn set_justification_color(
+        &mut self,
+        entity: Entity,
+        value: Option<ANSIBuf>,
+    ) -> Result<(), Fault>
         ensures set { OnOk result (SetsCovered self.old.justification_color self.new.justification_color entity value) }
         ensures refused { OnErr result (IsUnchanged self.old.justification_color self.new.justification_color) }
         ensures fault { IfErr result (λ fault. fault ≡ Memory) }

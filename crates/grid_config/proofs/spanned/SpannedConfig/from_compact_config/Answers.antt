@@ -17,5 +17,5 @@ returns c = record {
   trim_vertical = c.new.ensures.trim_vertical;
   justification = c.new.ensures.justification;
   justification_color = c.new.ensures.justification_color;
-  spans = c.new-spans.ensures;
+  spans = c.new-2.ensures;
 }
