@@ -1,0 +1,102 @@
+-- The settings of a compact table.
+use Rattle.std.specs.Prelude.{ℕ, Option, None}
+use Rattle.std.specs.Option.{option_map}
+use Rattle.grid_config_values.specs.declared.alignment.AlignmentHorizontal.{AlignmentHorizontal}
+use Rattle.grid_config_values.specs.declared.alignment.AlignmentHorizontal.TheVariants.{Left}
+use Rattle.grid_config_values.specs.declared.borders.Borders.{Borders}
+use Rattle.grid_config_values.specs.declared.sides.Indent.{Indent}
+use Rattle.grid_config_values.specs.declared.sides.Sides.{Sides}
+use Rattle.grid_config_colors.specs.declared.borrowed.ANSIStr.{ANSIStr}
+use Rattle.grid_config_colors.specs.Colors.{Color, color_of, no_color}
+use Rattle.grid_config.specs.declared.compact.CompactConfig.{CompactConfig}
+
+-- all settings of a compact table
+pub record Compact : Type 0 where
+  pub margin : Sides Indent
+  pub borders : Borders ℕ
+  pub padding : Sides Indent
+  pub alignment_horizontal : AlignmentHorizontal
+  pub margin_color : Sides Color
+  pub borders_color : Borders Color
+  pub padding_color : Sides Color
+
+-- one value at each side
+abbrev pub each_side : {T : Type 0} → T → Sides T
+each_side value = record { left = value; right = value; top = value; bottom = value }
+
+-- nothing on any boundary
+abbrev pub no_borders : {T : Type 0} → Borders T
+no_borders = record {
+  top = None;
+  top_left = None;
+  top_right = None;
+  top_intersection = None;
+  bottom = None;
+  bottom_left = None;
+  bottom_right = None;
+  bottom_intersection = None;
+  horizontal = None;
+  left_intersection = None;
+  right_intersection = None;
+  intersection = None;
+  vertical = None;
+  left = None;
+  right = None;
+}
+
+-- size 0; its fill is a space
+abbrev pub no_indent : Indent
+no_indent = record { size = 0; fill = 32 }
+
+-- the colours of the sides
+abbrev pub side_colors : Sides ANSIStr → Sides Color
+side_colors sides = record {
+  left = color_of sides.left;
+  right = color_of sides.right;
+  top = color_of sides.top;
+  bottom = color_of sides.bottom;
+}
+
+-- the colours of the borders
+abbrev pub border_colors : Borders ANSIStr → Borders Color
+border_colors borders = record {
+  top = option_map color_of borders.top;
+  top_left = option_map color_of borders.top_left;
+  top_right = option_map color_of borders.top_right;
+  top_intersection = option_map color_of borders.top_intersection;
+  bottom = option_map color_of borders.bottom;
+  bottom_left = option_map color_of borders.bottom_left;
+  bottom_right = option_map color_of borders.bottom_right;
+  bottom_intersection = option_map color_of borders.bottom_intersection;
+  horizontal = option_map color_of borders.horizontal;
+  left_intersection = option_map color_of borders.left_intersection;
+  right_intersection = option_map color_of borders.right_intersection;
+  intersection = option_map color_of borders.intersection;
+  vertical = option_map color_of borders.vertical;
+  left = option_map color_of borders.left;
+  right = option_map color_of borders.right;
+}
+
+-- what a `CompactConfig` says
+abbrev pub compact_of : CompactConfig → Compact
+compact_of config = record {
+  margin = config.margin;
+  borders = config.borders;
+  padding = config.padding;
+  alignment_horizontal = config.alignment_horizontal;
+  margin_color = side_colors config.margin_color;
+  borders_color = border_colors config.borders_color;
+  padding_color = side_colors config.padding_color;
+}
+
+-- no glyph, no margin, no padding, text at the left, no colour
+abbrev pub new_compact : Compact
+new_compact = record {
+  margin = each_side no_indent;
+  borders = no_borders;
+  padding = each_side no_indent;
+  alignment_horizontal = Left;
+  margin_color = each_side no_color;
+  borders_color = no_borders;
+  padding_color = each_side no_color;
+}

@@ -1,0 +1,112 @@
+//! The settings of a table whose cells have colours.
+use crate::spanned::SpannedConfig;
+use grid_config_colors::ANSIBuf;
+use grid_config_values::{Entity, EntityMap, Fault, Position};
+use std::alloc::Global;
+use std::marker::Model;
+
+/// The colours of a table's cells. A cell has the colour of the last accepted call whose entity covers
+/// it, and before any none. In a contract it is the map of them.
+#[derive(Debug, Drop)]
+pub struct ColorMap {
+    colors: EntityMap<Option<ANSIBuf>>,
+}
+
+impl Model for ColorMap {
+    ghost use Rattle.std.specs.Prelude.{Option};
+    ghost use Rattle.grid_config_values.specs.declared.entity_map.EntityMap.{EntityMap};
+    ghost use Rattle.grid_config_colors.specs.Colors.{Color};
+
+    ghost Value = { EntityMap (Option Color) };
+
+    ghost view = { λ map. map.colors };
+}
+
+impl ColorMap {
+    ghost use Rattle.std.specs.Prelude.{◌≡◌, None, MatchOption};
+    ghost use Rattle.grid_config_values.specs.Settings.{value_at};
+    ghost use Rattle.grid_config.specs.Settings.{IsEverywhere};
+
+    // No cell has a colour. Takes no memory.
+    pub(crate) fn new(alloc: Global) -> ColorMap
+        ensures { IsEverywhere result None }
+    {
+        ColorMap {
+            colors: EntityMap::new(alloc, None),
+        }
+    }
+
+    /// The colour of the cell at this place, where it has one. Takes no memory.
+    pub fn get_color(&self, pos: Position) -> Option<&ANSIBuf>
+        ensures { MatchOption result (value_at self.now pos ≡ None) (λ color. value_at self.now pos ≡ Some color.now) }
+    {
+        self.colors.get(pos).as_ref()
+    }
+}
+
+/// All settings of a table, and the colours of its cells.
+#[derive(Debug, Drop)]
+pub struct ColoredConfig {
+    config: SpannedConfig,
+    colors: ColorMap,
+}
+
+impl Model for ColoredConfig {
+    ghost use Rattle.grid_config.specs.Coloring.{Coloring};
+
+    ghost Value = { Coloring };
+
+    ghost view = { λ config. record { settings = config.config; colors = config.colors } };
+}
+
+impl ColoredConfig {
+    ghost use Rattle.std.specs.Prelude.{◌≡◌, None, Some, IfErr, OnErr, OnOk};
+    ghost use Rattle.std.specs.Borrow.{sem};
+    ghost use Rattle.grid_config_values.specs.declared.fault.Fault.TheVariants.{Memory};
+    ghost use Rattle.grid_config_values.specs.Settings.{IsUnchanged, SetsCovered};
+    ghost use Rattle.grid_config.specs.Settings.{IsEverywhere};
+    ghost use Rattle.grid_config.specs.Lending.{LendsSettings};
+
+    /// These settings, and no cell has a colour. Takes no memory.
+    pub fn new(config: SpannedConfig) -> ColoredConfig
+        ensures settings { result.settings ≡ config }
+        ensures colors { IsEverywhere result.colors None }
+    {
+        let colors = ColorMap::new(config.allocator());
+        ColoredConfig { config, colors }
+    }
+
+    /// The settings.
+    pub fn spanned(&self) -> &SpannedConfig
+        ensures { result.now ≡ self.now.settings }
+    {
+        &self.config
+    }
+
+    /// The settings, to be changed; the cells keep their colours.
+    pub fn spanned_mut(&mut self) -> &mut SpannedConfig
+        ensures* lends { sem 𝓛 (LendsSettings self.entry result) }
+        ensures settings { result.now ≡ self.old.settings }
+    {
+        &mut self.config
+    }
+
+    /// Sets the colour of cells, for the cells of the entity. Refused for memory alone, and then nothing
+    /// has changed.
+    pub fn set_color(&mut self, entity: Entity, color: ANSIBuf) -> Result<(), Fault>
+        ensures set { OnOk result (SetsCovered self.old.colors self.new.colors entity (Some color)) }
+        ensures refused { OnErr result (IsUnchanged self.old.colors self.new.colors) }
+        ensures fault { IfErr result (λ fault. fault ≡ Memory) }
+        ensures others { self.new.settings ≡ self.old.settings }
+    {
+        self.colors.colors.insert(entity, Some(color))?;
+        Ok(())
+    }
+
+    /// The colours of the cells.
+    pub fn get_colors(&self) -> &ColorMap
+        ensures { result.now ≡ self.now.colors }
+    {
+        &self.colors
+    }
+}

@@ -1,0 +1,27 @@
+//! The settings of a table: margins, paddings, borders, alignments, spans and colours.
+#![tactic(auto)]
+
+mod cells;
+mod colored;
+mod compact;
+pub mod config;
+mod owning;
+mod spanned;
+mod whole;
+
+pub use colored::{ColorMap, ColoredConfig};
+pub use compact::CompactConfig;
+pub use grid_config_colors::{ANSIBuf, ANSIStr, BufFault};
+pub use grid_config_values::{
+    AlignmentHorizontal, AlignmentVertical, Border, Borders, Entity, EntityIterator, EntityMap,
+    Fault, Formatting, Indent, Position, Sides,
+};
+pub use spanned::SpannedConfig;
+
+/// Colours, by the module in which `papergrid` has them.
+pub mod ansi {
+    pub use grid_config_colors::{ANSIBuf, ANSIStr};
+}
+
+#[cfg(test)]
+mod tests;

@@ -1,0 +1,431 @@
+//! All settings of a table.
+ghost use Rattle.std.specs.Prelude.{◌≡◌, ◌<◌, ◌==◌, ◌↔◌, if◌then◌else◌, None, Some, Err, IfErr, OnErr, OnOk, IfOk, IsTrue};
+ghost use Rattle.grid_config_values.specs.declared.fault.Fault.TheVariants.{Memory, Spans as BadSpan};
+ghost use Rattle.grid_config_values.specs.Glyphs.{boundary_count, boundary_kind, has_column_boundary, has_row_boundary};
+ghost use Rattle.grid_config_spans.specs.Spans.{AreGood, IsVisible, SetsColumns, SetsRows, extent_at};
+ghost use Rattle.grid_config_values.specs.Settings.{IsUnchanged, SetsCovered, value_at};
+ghost use Rattle.grid_config.specs.Compact.{compact_of};
+ghost use Rattle.grid_config.specs.Settings.{KeepsOthers, StartsWith, compact_start, new_start};
+ghost use Rattle.grid_config.specs.Settings.{Margin, MarginColor, BorderGlyphs, BorderColors, Padding, PaddingColor, HorizontalAlignment, VerticalAlignment, LineAlignment, TrimHorizontal, TrimVertical, Justification, JustificationColor, CellSpans};
+
+use crate::cells::CellSettings;
+use crate::compact::CompactConfig;
+use crate::owning::{owned_borders, owned_sides};
+use crate::whole::{WholeSettings, no_borders};
+use grid_config_colors::ANSIBuf;
+use grid_config_spans::Spans;
+use grid_config_values::{
+    AlignmentHorizontal, AlignmentVertical, Borders, Entity, EntityMap, Fault, Indent, Position,
+    Sides,
+};
+use std::alloc::{AllocError, Global};
+use std::marker::Model;
+
+/// All settings of a table: those of the whole, those that each cell has, and the spans. A cell has
+/// the value of the last accepted call whose entity covers it, and before any that of `new`.
+#[derive(Debug, Drop)]
+pub struct SpannedConfig {
+    whole: WholeSettings,
+    cells: CellSettings,
+    spans: Spans,
+    alloc: Global,
+}
+
+impl Model for SpannedConfig {
+    ghost use Rattle.grid_config.specs.Settings.{Settings};
+
+    ghost Value = { Settings };
+
+    ghost view = { λ config. record {
+      margin = config.whole.margin;
+      margin_color = config.whole.margin_color;
+      borders = config.whole.borders;
+      borders_color = config.whole.borders_color;
+      padding = config.cells.padding;
+      padding_color = config.cells.padding_color;
+      alignment_horizontal = config.cells.alignment_horizontal;
+      alignment_vertical = config.cells.alignment_vertical;
+      line_alignment = config.cells.line_alignment;
+      trim_horizontal = config.cells.trim_horizontal;
+      trim_vertical = config.cells.trim_vertical;
+      justification = config.cells.justification;
+      justification_color = config.cells.justification_color;
+      spans = config.spans;
+    } };
+}
+
+impl SpannedConfig {
+    /// No glyph, margin and padding 0, texts at the left and top, no line alignment, no trims, spaces
+    /// for justification, no colour, no span. Takes no memory.
+    pub fn new(alloc: Global) -> SpannedConfig
+        ensures { StartsWith new_start result }
+    {
+        let none = Sides::new(None, None, None, None);
+        let padding = Sides::filled(Indent::zero());
+        SpannedConfig {
+            whole: WholeSettings::new(),
+            cells: CellSettings::new(alloc, padding, none, AlignmentHorizontal::Left),
+            spans: Spans::new(alloc),
+            alloc,
+        }
+    }
+
+    /// The settings of a compact table, for the whole table, and else those of `new`. A colour whose
+    /// texts are empty is none, but on a border. Refused for memory alone.
+    pub fn from_compact_config(alloc: Global, c: CompactConfig) -> Result<SpannedConfig, AllocError>
+        ensures { IfOk result (StartsWith (compact_start (compact_of c))) }
+    {
+        let padding_color = owned_sides(alloc, c.get_padding_color())?;
+        Ok(SpannedConfig {
+            whole: WholeSettings {
+                margin: *c.get_margin(),
+                margin_color: owned_sides(alloc, c.get_margin_color())?,
+                borders: *c.get_borders(),
+                borders_color: owned_borders(alloc, c.get_borders_color())?,
+            },
+            cells: CellSettings::new(
+                alloc,
+                *c.get_padding(),
+                padding_color,
+                c.get_alignment_horizontal(),
+            ),
+            spans: Spans::new(alloc),
+            alloc,
+        })
+    }
+
+    // The allocator that it keeps.
+    pub(crate) fn allocator(&self) -> Global {
+        self.alloc
+    }
+
+    /// Sets the margin round the table. Takes no memory.
+    pub fn set_margin(&mut self, value: Sides<Indent>)
+        ensures set { self.new.margin ≡ value }
+        ensures others { KeepsOthers Margin self.old self.new }
+    {
+        self.whole.margin = value;
+    }
+
+    /// The margin round the table: columns at the left and right, lines at the top and bottom.
+    pub fn get_margin(&self) -> &Sides<Indent>
+        ensures { result.now ≡ self.now.margin }
+    {
+        &self.whole.margin
+    }
+
+    /// Sets the colours of the margin. Takes no memory.
+    pub fn set_margin_color(&mut self, value: Sides<Option<ANSIBuf>>)
+        ensures set { self.new.margin_color ≡ value }
+        ensures others { KeepsOthers MarginColor self.old self.new }
+    {
+        self.whole.margin_color = value;
+    }
+
+    /// The colours of the margin, where it has any.
+    pub fn get_margin_color(&self) -> &Sides<Option<ANSIBuf>>
+        ensures { result.now ≡ self.now.margin_color }
+    {
+        &self.whole.margin_color
+    }
+
+    /// Sets the glyphs of the table's boundaries. Takes no memory.
+    pub fn set_borders(&mut self, value: Borders<char>)
+        ensures set { self.new.borders ≡ value }
+        ensures others { KeepsOthers BorderGlyphs self.old self.new }
+    {
+        self.whole.borders = value;
+    }
+
+    /// The glyphs of the table's boundaries.
+    pub fn get_borders(&self) -> &Borders<char>
+        ensures { result.now ≡ self.now.borders }
+    {
+        &self.whole.borders
+    }
+
+    /// Sets the colours of these glyphs. Takes no memory.
+    pub fn set_borders_color(&mut self, value: Borders<ANSIBuf>)
+        ensures set { self.new.borders_color ≡ value }
+        ensures others { KeepsOthers BorderColors self.old self.new }
+    {
+        self.whole.borders_color = value;
+    }
+
+    /// The colours of the glyphs of the table's boundaries.
+    pub fn get_borders_color(&self) -> &Borders<ANSIBuf>
+        ensures { result.now ≡ self.now.borders_color }
+    {
+        &self.whole.borders_color
+    }
+
+    /// Sets the padding of cells, for the cells of the entity. Refused for memory alone, and then
+    /// nothing has changed.
+    pub fn set_padding(&mut self, entity: Entity, value: Sides<Indent>) -> Result<(), Fault>
+        ensures set { OnOk result (SetsCovered self.old.padding self.new.padding entity value) }
+        ensures refused { OnErr result (IsUnchanged self.old.padding self.new.padding) }
+        ensures fault { IfErr result (λ fault. fault ≡ Memory) }
+        ensures others { KeepsOthers Padding self.old self.new }
+    {
+        self.cells.padding.insert(entity, value)?;
+        Ok(())
+    }
+
+    /// The padding of a cell: columns at the left and right, lines at the top and bottom.
+    pub fn get_padding(&self, pos: Position) -> &Sides<Indent>
+        ensures { result.now ≡ value_at self.now.padding pos }
+    {
+        self.cells.padding.get(pos)
+    }
+
+    /// Sets the colours of cells' paddings, for the cells of the entity. Refused for memory alone, and then
+    /// nothing has changed.
+    pub fn set_padding_color(
+        &mut self,
+        entity: Entity,
+        value: Sides<Option<ANSIBuf>>,
+    ) -> Result<(), Fault>
+        ensures set { OnOk result (SetsCovered self.old.padding_color self.new.padding_color entity value) }
+        ensures refused { OnErr result (IsUnchanged self.old.padding_color self.new.padding_color) }
+        ensures fault { IfErr result (λ fault. fault ≡ Memory) }
+        ensures others { KeepsOthers PaddingColor self.old self.new }
+    {
+        self.cells.padding_color.insert(entity, value)?;
+        Ok(())
+    }
+
+    /// The colours of a cell's padding, where it has any.
+    pub fn get_padding_color(&self, pos: Position) -> &Sides<Option<ANSIBuf>>
+        ensures { result.now ≡ value_at self.now.padding_color pos }
+    {
+        self.cells.padding_color.get(pos)
+    }
+
+    /// Sets where cells' texts stand between their left and right padding, for the cells of the entity. Refused for memory alone, and then
+    /// nothing has changed.
+    pub fn set_alignment_horizontal(
+        &mut self,
+        entity: Entity,
+        value: AlignmentHorizontal,
+    ) -> Result<(), Fault>
+        ensures set { OnOk result (SetsCovered self.old.alignment_horizontal self.new.alignment_horizontal entity value) }
+        ensures refused { OnErr result (IsUnchanged self.old.alignment_horizontal self.new.alignment_horizontal) }
+        ensures fault { IfErr result (λ fault. fault ≡ Memory) }
+        ensures others { KeepsOthers HorizontalAlignment self.old self.new }
+    {
+        self.cells.alignment_horizontal.insert(entity, value)?;
+        Ok(())
+    }
+
+    /// Where a cell's text stands between its left and right padding.
+    pub fn get_alignment_horizontal(&self, pos: Position) -> AlignmentHorizontal
+        ensures { result ≡ value_at self.now.alignment_horizontal pos }
+    {
+        *self.cells.alignment_horizontal.get(pos)
+    }
+
+    /// Sets where cells' texts stand between their top and bottom padding, for the cells of the entity. Refused for memory alone, and then
+    /// nothing has changed.
+    pub fn set_alignment_vertical(
+        &mut self,
+        entity: Entity,
+        value: AlignmentVertical,
+    ) -> Result<(), Fault>
+        ensures set { OnOk result (SetsCovered self.old.alignment_vertical self.new.alignment_vertical entity value) }
+        ensures refused { OnErr result (IsUnchanged self.old.alignment_vertical self.new.alignment_vertical) }
+        ensures fault { IfErr result (λ fault. fault ≡ Memory) }
+        ensures others { KeepsOthers VerticalAlignment self.old self.new }
+    {
+        self.cells.alignment_vertical.insert(entity, value)?;
+        Ok(())
+    }
+
+    /// Where a cell's text stands between its top and bottom padding.
+    pub fn get_alignment_vertical(&self, pos: Position) -> AlignmentVertical
+        ensures { result ≡ value_at self.now.alignment_vertical pos }
+    {
+        *self.cells.alignment_vertical.get(pos)
+    }
+
+    /// Sets whether each line of a cell is aligned by itself, for the cells of the entity. Refused for memory alone, and then
+    /// nothing has changed.
+    pub fn set_line_alignment(&mut self, entity: Entity, value: bool) -> Result<(), Fault>
+        ensures set { OnOk result (SetsCovered self.old.line_alignment self.new.line_alignment entity value) }
+        ensures refused { OnErr result (IsUnchanged self.old.line_alignment self.new.line_alignment) }
+        ensures fault { IfErr result (λ fault. fault ≡ Memory) }
+        ensures others { KeepsOthers LineAlignment self.old self.new }
+    {
+        self.cells.line_alignment.insert(entity, value)?;
+        Ok(())
+    }
+
+    /// Whether each line of a cell is aligned by itself, and not its text as a block.
+    pub fn get_line_alignment(&self, pos: Position) -> bool
+        ensures { result ≡ value_at self.now.line_alignment pos }
+    {
+        *self.cells.line_alignment.get(pos)
+    }
+
+    /// Sets whether white space at the ends of cells' lines is left out, for the cells of the entity. Refused for memory alone, and then
+    /// nothing has changed.
+    pub fn set_trim_horizontal(&mut self, entity: Entity, value: bool) -> Result<(), Fault>
+        ensures set { OnOk result (SetsCovered self.old.trim_horizontal self.new.trim_horizontal entity value) }
+        ensures refused { OnErr result (IsUnchanged self.old.trim_horizontal self.new.trim_horizontal) }
+        ensures fault { IfErr result (λ fault. fault ≡ Memory) }
+        ensures others { KeepsOthers TrimHorizontal self.old self.new }
+    {
+        self.cells.trim_horizontal.insert(entity, value)?;
+        Ok(())
+    }
+
+    /// Whether white space at both ends of each line of a cell is left out.
+    pub fn get_trim_horizontal(&self, pos: Position) -> bool
+        ensures { result ≡ value_at self.now.trim_horizontal pos }
+    {
+        *self.cells.trim_horizontal.get(pos)
+    }
+
+    /// Sets whether blank lines at the ends of cells' texts are left out, for the cells of the entity. Refused for memory alone, and then
+    /// nothing has changed.
+    pub fn set_trim_vertical(&mut self, entity: Entity, value: bool) -> Result<(), Fault>
+        ensures set { OnOk result (SetsCovered self.old.trim_vertical self.new.trim_vertical entity value) }
+        ensures refused { OnErr result (IsUnchanged self.old.trim_vertical self.new.trim_vertical) }
+        ensures fault { IfErr result (λ fault. fault ≡ Memory) }
+        ensures others { KeepsOthers TrimVertical self.old self.new }
+    {
+        self.cells.trim_vertical.insert(entity, value)?;
+        Ok(())
+    }
+
+    /// Whether lines of nothing but white space at both ends of a cell's text are left out.
+    pub fn get_trim_vertical(&self, pos: Position) -> bool
+        ensures { result ≡ value_at self.now.trim_vertical pos }
+    {
+        *self.cells.trim_vertical.get(pos)
+    }
+
+    /// Sets what fills the columns that cells' lines leave free, for the cells of the entity. Refused for memory alone, and then
+    /// nothing has changed.
+    pub fn set_justification(&mut self, entity: Entity, value: char) -> Result<(), Fault>
+        ensures set { OnOk result (SetsCovered self.old.justification self.new.justification entity value) }
+        ensures refused { OnErr result (IsUnchanged self.old.justification self.new.justification) }
+        ensures fault { IfErr result (λ fault. fault ≡ Memory) }
+        ensures others { KeepsOthers Justification self.old self.new }
+    {
+        self.cells.justification.insert(entity, value)?;
+        Ok(())
+    }
+
+    /// What fills the columns that a cell's lines leave free.
+    pub fn get_justification(&self, pos: Position) -> char
+        ensures { result ≡ value_at self.now.justification pos }
+    {
+        *self.cells.justification.get(pos)
+    }
+
+    /// Sets the colour of that fill, for the cells of the entity. Refused for memory alone, and then
+    /// nothing has changed.
+    pub fn set_justification_color(
+        &mut self,
+        entity: Entity,
+        value: Option<ANSIBuf>,
+    ) -> Result<(), Fault>
+        ensures set { OnOk result (SetsCovered self.old.justification_color self.new.justification_color entity value) }
+        ensures refused { OnErr result (IsUnchanged self.old.justification_color self.new.justification_color) }
+        ensures fault { IfErr result (λ fault. fault ≡ Memory) }
+        ensures others { KeepsOthers JustificationColor self.old self.new }
+    {
+        self.cells.justification_color.insert(entity, value)?;
+        Ok(())
+    }
+
+    /// The colour of what fills the columns that a cell's lines leave free, where it has one.
+    pub fn get_justification_color(&self, pos: Position) -> &Option<ANSIBuf>
+        ensures { result.now ≡ value_at self.now.justification_color pos }
+    {
+        self.cells.justification_color.get(pos)
+    }
+
+    /// Whether column boundary `j` of so many columns is there: `has_left` of the borders at 0,
+    /// `has_right` at `columns`, else `has_vertical`.
+    pub fn has_vertical(&self, j: usize, columns: usize) -> bool
+        ensures { result ≡ has_column_boundary self.now.borders (boundary_kind j columns) }
+    {
+        self.whole.borders.has_vertical_at(j, columns)
+    }
+
+    /// Whether row boundary `i` of so many rows is there: `has_top` of the borders at 0, `has_bottom`
+    /// at `rows`, else `has_horizontal`.
+    pub fn has_horizontal(&self, i: usize, rows: usize) -> bool
+        ensures { result ≡ has_row_boundary self.now.borders (boundary_kind i rows) }
+    {
+        self.whole.borders.has_horizontal_at(i, rows)
+    }
+
+    /// How many of the column boundaries from 0 to `columns` are there. Looks at no column.
+    pub fn count_vertical(&self, columns: usize) -> usize
+        requires { columns < usize.MAX }
+        ensures { result ≡ boundary_count (has_column_boundary self.now.borders) columns }
+    {
+        self.whole.borders.count_vertical(columns)
+    }
+
+    /// How many of the row boundaries from 0 to `rows` are there. Looks at no row.
+    pub fn count_horizontal(&self, rows: usize) -> usize
+        requires { rows < usize.MAX }
+        ensures { result ≡ boundary_count (has_row_boundary self.now.borders) rows }
+    {
+        self.whole.borders.count_horizontal(rows)
+    }
+
+    /// Sets how many columns the cell at this place takes; 1 takes its span away. Refused as `Spans`
+    /// for 0, and for memory, and then nothing has changed.
+    pub fn set_column_span(&mut self, pos: Position, n: usize) -> Result<(), Fault>
+        ensures zero { result ≡ Err BadSpan ↔ (n ≡ 0) }
+        ensures set { OnOk result (SetsColumns self.old.spans self.new.spans pos n) }
+        ensures refused { OnErr result (self.new.spans ≡ self.old.spans) }
+        ensures others { KeepsOthers CellSpans self.old self.new }
+    {
+        self.spans.set_column_span(pos, n)
+    }
+
+    /// How many columns the cell at this place takes: `None` for one.
+    pub fn get_column_span(&self, pos: Position) -> Option<usize>
+        ensures { let n = (extent_at self.now.spans pos).columns in result ≡ (if n == 1 then None else Some n) }
+    {
+        self.spans.get_column_span(pos)
+    }
+
+    /// Sets how many rows the cell at this place takes; 1 takes its span away. Refused as `Spans` for
+    /// 0, and for memory, and then nothing has changed.
+    pub fn set_row_span(&mut self, pos: Position, n: usize) -> Result<(), Fault>
+        ensures zero { result ≡ Err BadSpan ↔ (n ≡ 0) }
+        ensures set { OnOk result (SetsRows self.old.spans self.new.spans pos n) }
+        ensures refused { OnErr result (self.new.spans ≡ self.old.spans) }
+        ensures others { KeepsOthers CellSpans self.old self.new }
+    {
+        self.spans.set_row_span(pos, n)
+    }
+
+    /// How many rows the cell at this place takes: `None` for one.
+    pub fn get_row_span(&self, pos: Position) -> Option<usize>
+        ensures { let n = (extent_at self.now.spans pos).rows in result ≡ (if n == 1 then None else Some n) }
+    {
+        self.spans.get_row_span(pos)
+    }
+
+    /// Whether the rectangle of no other cell holds this place. Looks at no span where there is none.
+    pub fn is_cell_visible(&self, pos: Position) -> bool
+        ensures { IsTrue result ↔ IsVisible self.now.spans pos }
+    {
+        self.spans.is_cell_visible(pos)
+    }
+
+    /// Whether in a table of so many rows and columns the rectangle of each cell that spans several
+    /// stays inside the table, and no two of them share a place. Cells outside the table don't count.
+    pub fn spans_are_good(&self, rows: usize, columns: usize) -> bool
+        ensures { IsTrue result ↔ AreGood self.now.spans rows columns }
+    {
+        self.spans.spans_are_good(rows, columns)
+    }
+}

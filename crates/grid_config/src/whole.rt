@@ -1,0 +1,55 @@
+//! The settings that a table has as a whole.
+ghost use Rattle.std.specs.Prelude.{◌≡◌, None};
+ghost use Rattle.grid_config.specs.Compact.{each_side, no_borders, no_indent};
+
+use grid_config_colors::ANSIBuf;
+use grid_config_values::{Borders, Indent, Sides};
+
+/// The settings that a table has as a whole.
+#[derive(Debug, Drop)]
+pub(crate) struct WholeSettings {
+    pub(crate) margin: Sides<Indent>,
+    pub(crate) margin_color: Sides<Option<ANSIBuf>>,
+    pub(crate) borders: Borders<char>,
+    pub(crate) borders_color: Borders<ANSIBuf>,
+}
+
+impl WholeSettings {
+    /// No margin, no glyph, no colour.
+    pub(crate) fn new() -> WholeSettings
+        ensures margin { result.margin ≡ each_side no_indent }
+        ensures margin_color { result.margin_color ≡ each_side None }
+        ensures borders { result.borders ≡ no_borders }
+        ensures borders_color { result.borders_color ≡ no_borders }
+    {
+        WholeSettings {
+            margin: Sides::filled(Indent::zero()),
+            margin_color: Sides::new(None, None, None, None),
+            borders: no_borders(),
+            borders_color: no_borders(),
+        }
+    }
+}
+
+/// Nothing on any boundary.
+pub(crate) const fn no_borders<T>() -> Borders<T>
+    ensures { result ≡ no_borders }
+{
+    Borders {
+        top: None,
+        top_left: None,
+        top_right: None,
+        top_intersection: None,
+        bottom: None,
+        bottom_left: None,
+        bottom_right: None,
+        bottom_intersection: None,
+        horizontal: None,
+        left_intersection: None,
+        right_intersection: None,
+        intersection: None,
+        vertical: None,
+        left: None,
+        right: None,
+    }
+}

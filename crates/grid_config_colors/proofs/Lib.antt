@@ -1,0 +1,4 @@
+pub mod Clearing
+pub mod ClosedColors
+pub mod Sequences
+pub mod Styles

@@ -1,0 +1,89 @@
+-- What it is, attribute by attribute, that sequences clear a style.
+use Rattle.std.specs.Prelude.{ℕ, ◌==◌, Bool, ◌||◌, Option, None, Some, is_some, List, [], ◌∷◌, ◌++◌, map, flat_map, IsTrue}
+use Rattle.std.specs.List.{AllByRecursion, list_any, slice_split}
+use Rattle.ansi_scan.specs.declared.items.Kind.{Kind}
+use Rattle.ansi_scan.specs.declared.items.Kind.TheVariants.{Text, Sgr, Csi, Osc, Esc, Str, Broken}
+use Rattle.ansi_scan_style.specs.declared.next.Layer.{Layer}
+use Rattle.ansi_scan_style.specs.declared.next.Next.{Next}
+use Rattle.ansi_scan_style.specs.declared.next.Next.TheVariants.{Code, Form, Index, Red, Green, Blue, Nothing}
+use Rattle.ansi_scan.specs.Sequences.{Piece}
+use Rattle.ansi_scan.specs.Attributes.{Attributes}
+use Rattle.ansi_scan.specs.Rendition.{number, next_after, sgr_parameters}
+
+-- the code that a parameter is, where `next` says what it is: the numbers of a colour are none
+abbrev pub code_here : Next → Option ℕ → List ℕ
+code_here next None = []
+code_here Code (Some code) = code ∷ []
+code_here (Form layer) (Some n) = []
+code_here (Index layer) (Some n) = []
+code_here (Red layer) (Some n) = []
+code_here (Green layer r) (Some n) = []
+code_here (Blue layer r g) (Some n) = []
+code_here Nothing (Some n) = []
+
+-- the codes among parameters
+abbrev pub codes_from : Next → List (Option ℕ) → List ℕ
+codes_from next [] = []
+codes_from next (parameter ∷ parameters) = code_here next parameter ++ codes_from (next_after next parameter) parameters
+
+-- the codes among parameters that are parted by `;`
+abbrev pub codes_in : Option (List ℕ) → List ℕ
+codes_in None = []
+codes_in (Some parameters) = codes_from Code (map number (slice_split (λ byte. byte == 59) parameters))
+
+-- the codes of a piece: those of SELECT GRAPHIC RENDITION
+abbrev pub codes_by : Kind → List ℕ → List ℕ
+codes_by Text bytes = []
+codes_by Sgr bytes = codes_in (sgr_parameters bytes)
+codes_by Csi bytes = []
+codes_by Osc bytes = []
+codes_by Esc bytes = []
+codes_by Str bytes = []
+codes_by Broken bytes = []
+
+abbrev pub codes_of : List Piece → List ℕ
+codes_of pieces = flat_map (λ piece. codes_by piece.kind piece.bytes) pieces
+
+-- an attribute: whether it is set, and the code that clears it (ECMA-48, 8.3.117; 59 and 75 by the custom
+-- of terminals)
+abbrev pub Attribute : Type 0
+Attribute = (Attributes → Bool) × ℕ
+
+abbrev pub all_attributes : List Attribute
+all_attributes =
+    (λ a. a.bold, 22)
+    ∷ (λ a. a.faint, 22)
+    ∷ (λ a. a.italic, 23)
+    ∷ (λ a. a.underline, 24)
+    ∷ (λ a. a.slow_blink, 25)
+    ∷ (λ a. a.rapid_blink, 25)
+    ∷ (λ a. a.inverted, 27)
+    ∷ (λ a. a.hidden, 28)
+    ∷ (λ a. a.crossed_out, 29)
+    ∷ (λ a. is_some a.font, 10)
+    ∷ (λ a. a.fraktur, 23)
+    ∷ (λ a. a.double_underline, 24)
+    ∷ (λ a. a.proportional_spacing, 50)
+    ∷ (λ a. is_some a.foreground, 39)
+    ∷ (λ a. is_some a.background, 49)
+    ∷ (λ a. a.framed, 54)
+    ∷ (λ a. a.encircled, 54)
+    ∷ (λ a. a.overlined, 55)
+    ∷ (λ a. is_some a.underline_color, 59)
+    ∷ (λ a. a.ideogram_underline, 65)
+    ∷ (λ a. a.ideogram_double_underline, 65)
+    ∷ (λ a. a.ideogram_overline, 65)
+    ∷ (λ a. a.ideogram_double_overline, 65)
+    ∷ (λ a. a.ideogram_stress, 65)
+    ∷ (λ a. a.superscript, 75)
+    ∷ (λ a. a.subscript, 75)
+    ∷ []
+
+-- a code clears what this code clears: it is that code, or 0, which clears all
+abbrev pub is_clearing : ℕ → ℕ → Bool
+is_clearing clearing code = code == clearing || code == 0
+
+-- each attribute that the style sets is cleared by one of the codes
+abbrev pub ClearsEach : Attributes → List ℕ → Type 0
+ClearsEach style codes =
+    AllByRecursion (λ attribute. IsTrue (attribute.0 style) → IsTrue (list_any (is_clearing attribute.1) codes)) all_attributes

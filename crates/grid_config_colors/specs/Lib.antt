@@ -1,0 +1,5 @@
+pub mod Colors
+pub mod Closing
+pub mod Clearing
+pub mod FirstColor
+pub mod Fault

@@ -1,0 +1,15 @@
+//! Colours of a table: what is written before and behind what they colour (ECMA-48).
+#![tactic(auto)]
+
+mod borrowed;
+mod closing;
+mod fault;
+pub mod laws;
+mod owned;
+
+pub use borrowed::ANSIStr;
+pub use fault::BufFault;
+pub use owned::ANSIBuf;
+
+#[cfg(test)]
+mod tests;

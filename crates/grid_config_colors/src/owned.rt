@@ -1,0 +1,120 @@
+//! A colour that owns its texts.
+use crate::borrowed::ANSIStr;
+use crate::closing::closes;
+use crate::fault::BufFault;
+use ansi_str::get_blocks;
+use std::alloc::{AllocError, Global};
+use std::marker::Model;
+
+/// A colour: a text that is written before what it colours, and one that is written behind it.
+#[derive(Debug, Drop)]
+pub struct ANSIBuf {
+    prefix: String,
+    suffix: String,
+}
+
+impl Model for ANSIBuf {
+    ghost use Rattle.std.specs.Prelude.{string_bytes};
+    ghost use Rattle.grid_config_colors.specs.Colors.{Color};
+
+    ghost Value = { Color };
+
+    ghost view = { λ b. record { prefix = string_bytes b.prefix; suffix = string_bytes b.suffix } };
+}
+
+impl ANSIBuf {
+    ghost use Rattle.std.specs.Prelude.{◌≡◌, ◌↔◌, List, [], Err, Some, IfOk, IsTrue};
+    ghost use Rattle.ansi_scan.specs.Sequences.{Piece, ArePiecesOf};
+    ghost use Rattle.ansi_scan.specs.Attributes.{plain_attributes};
+    ghost use Rattle.ansi_str.specs.Blocks.{blocks_from};
+    ghost use Rattle.grid_config_colors.specs.Colors.{color_of, is_no_color, no_color};
+    ghost use Rattle.grid_config_colors.specs.Closing.{Closes};
+    ghost use Rattle.grid_config_colors.specs.FirstColor.{first_color};
+    ghost use Rattle.grid_config_colors.specs.declared.fault.BufFault.TheVariants.{NoBlock};
+
+    /// The colour with these texts, which may be any. Refused for memory alone.
+    pub fn new(alloc: Global, prefix: &str, suffix: &str) -> Result<ANSIBuf, AllocError>
+        ensures { IfOk result (λ color. color ≡ record { prefix = prefix.now; suffix = suffix.now }) }
+    {
+        Ok(ANSIBuf {
+            prefix: String::from_str(alloc, prefix)?,
+            suffix: String::from_str(alloc, suffix)?,
+        })
+    }
+
+    /// No colour: both texts are empty. Takes no memory.
+    pub fn empty(alloc: Global) -> ANSIBuf
+        ensures { result ≡ no_color }
+    {
+        ANSIBuf {
+            prefix: String::new(alloc),
+            suffix: String::new(alloc),
+        }
+    }
+
+    /// The same colour with texts of its own. Refused for memory alone.
+    pub fn from_ansi_str(alloc: Global, color: ANSIStr<'_>) -> Result<ANSIBuf, AllocError>
+        ensures { IfOk result (λ owned. owned ≡ color_of color.entry) }
+    {
+        ANSIBuf::new(alloc, color.get_prefix(), color.get_suffix())
+    }
+
+    /// The start and the end of the style of the text's first block, which is the first text in it.
+    /// `NoBlock` exactly where the text shows nothing.
+    pub fn from_text(alloc: Global, text: &str) -> Result<ANSIBuf, BufFault>
+        ensures color { IfOk result (λ color. (pieces : List Piece) → ArePiecesOf text.now pieces →
+            first_color (blocks_from plain_attributes pieces) ≡ Some color) }
+        ensures no_block { (pieces : List Piece) → ArePiecesOf text.now pieces →
+            (result ≡ Err NoBlock) ↔ (blocks_from plain_attributes pieces ≡ []) }
+    {
+        let Some(block) = get_blocks(text).next() else {
+            return Err(BufFault::NoBlock);
+        };
+        Ok(ANSIBuf {
+            prefix: block.style().start().to_string(alloc)?,
+            suffix: block.style().end().to_string(alloc)?,
+        })
+    }
+
+    /// The same colour again. Refused for memory alone.
+    pub fn clone(&self, alloc: Global) -> Result<ANSIBuf, AllocError>
+        ensures { IfOk result (λ copy. copy ≡ self.now) }
+    {
+        ANSIBuf::from_ansi_str(alloc, self.as_ref())
+    }
+
+    /// The same colour, borrowed: it can be compared. Takes no memory.
+    pub fn as_ref(&self) -> ANSIStr<'_>
+        ensures { color_of result ≡ self.now }
+    {
+        ANSIStr::new(self.get_prefix(), self.get_suffix())
+    }
+
+    /// Whether both texts are empty.
+    pub fn is_empty(&self) -> bool
+        ensures { result ≡ is_no_color self.now }
+    {
+        self.as_ref().is_empty()
+    }
+
+    /// What is written before.
+    pub fn get_prefix(&self) -> &str
+        ensures { result.now ≡ self.now.prefix }
+    {
+        self.prefix.as_str()
+    }
+
+    /// What is written behind.
+    pub fn get_suffix(&self) -> &str
+        ensures { result.now ≡ self.now.suffix }
+    {
+        self.suffix.as_str()
+    }
+
+    /// Whether the colour is closed, as for `ANSIStr`. Takes no memory.
+    pub fn closes(&self) -> bool
+        ensures { IsTrue result ↔ Closes self.now }
+    {
+        closes(self.get_prefix(), self.get_suffix())
+    }
+}
