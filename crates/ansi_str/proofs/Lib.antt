@@ -37,4 +37,5 @@ pub mod TrimLemmas
 pub mod KeptPieces
 pub mod EditLemmas
 pub mod EditLaws
+pub mod WholeEdits
 pub mod RisingPlaces

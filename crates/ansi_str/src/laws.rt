@@ -9,7 +9,7 @@ ghost use Rattle.std.specs.Str.Iter.{split_has_more, split_pattern, split_steps,
 ghost use Rattle.std.specs.Str.Pattern.{FindsText};
 ghost use Rattle.std.specs.declared.str.Split.{Split};
 ghost use Rattle.ansi_scan.specs.Pieces.{pieces as pieces_of};
-ghost use Rattle.ansi_scan.specs.Sequences.{Piece, ArePiecesOf, NoneBroken, joined};
+ghost use Rattle.ansi_scan.specs.Sequences.{Piece, ArePiecesOf, IsWhole, NoneBroken, joined};
 ghost use Rattle.ansi_scan.specs.Attributes.{plain_attributes};
 ghost use Rattle.ansi_str.specs.StyledText.{IsClosed, has_escape, strip, style_after_all, styled, styled_from};
 ghost use Rattle.ansi_str.specs.Cuts.{AreGoodBounds, IsGoodBound, cut_part, later_part, parts_at};
@@ -310,7 +310,7 @@ pub fn cuts_show_their_slices()
 {}
 
 /// The edits of a list that stands behind another are done behind them; what edits leave of a text is one
-/// text, and where they leave one none of them fails.
+/// text, and where they leave one none of them fails. Of a whole text they leave a whole text.
 pub fn edits_in_turn()
     ensures leave { (first second : List Edit) (text left : List ℕ) →
         (TakeTo (first ++ second) text left ↔ ((next : List ℕ) × TakeTo first text next × TakeTo second next left)) }
@@ -320,4 +320,5 @@ pub fn edits_in_turn()
         TakeTo edits text left → TakeTo edits text other → left ≡ other }
     ensures not_both { (edits : List Edit) (text left : List ℕ) →
         TakeTo edits text left → ¬ (OneFails edits text) }
+    ensures whole { (edits : List Edit) (text left : List ℕ) → IsWhole text → TakeTo edits text left → IsWhole left }
 {}

@@ -1,5 +1,6 @@
 -- By the list of edits.
 use Rattle.ansi_str.proofs.EditLaws.{TakeTo-append, TakeTo-fails, TakeTo-split, TakeTo-unique, OneFails-append, OneFails-split}
+use Rattle.ansi_str.proofs.WholeEdits.{TakeTo-whole}
 use Rattle.ansi_str.proofs.laws.edits_in_turn.Goals as goal
 
 pub returns-clause-leave : goal.returns-clause-leave
@@ -13,3 +14,6 @@ returns-clause-one c = TakeTo-unique
 
 pub returns-clause-not_both : goal.returns-clause-not_both
 returns-clause-not_both c = TakeTo-fails
+
+pub returns-clause-whole : goal.returns-clause-whole
+returns-clause-whole c = TakeTo-whole
