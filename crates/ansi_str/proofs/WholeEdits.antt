@@ -12,7 +12,7 @@ use Rattle.ansi_str.specs.StyledText.{strip}
 use Rattle.ansi_str.specs.Cuts.{cut_part, later_part}
 use Rattle.ansi_str.specs.Keeping.{kept}
 use Rattle.ansi_str.specs.Lines.{IsClosedText}
-use Rattle.ansi_str.specs.Edits.{LeavesOf, TakeTo}
+use Rattle.ansi_str.specs.Edits.{LeavesOf, TakeInTurn}
 use Rattle.ansi_str.proofs.Utf8Lemmas.{All-closed}
 use Rattle.ansi_str.proofs.WholeCuts.{first_part-closed, later_part-closed}
 use Rattle.ansi_str.proofs.WholeSlices.{cut-closed}
@@ -54,7 +54,7 @@ module _ (text : List ℕ) (ps : List Piece) (of_text : ArePiecesOf text ps) (wh
   LeavesOf-whole (Suffix suffix) left leaves = IsWhole-kept 0 _ left leaves.1
   LeavesOf-whole Trim left leaves = IsWhole-kept leaves.0 leaves.1 left leaves.3
 
-pub TakeTo-whole : (edits : List Edit) (text left : List ℕ) → IsWhole text → TakeTo edits text left → IsWhole left
-TakeTo-whole [] text left whole taken = subst IsWhole (sym taken) whole
-TakeTo-whole (edit ∷ edits) text left whole (next, takes, behind) =
-    TakeTo-whole edits next left (LeavesOf-whole text takes.pieces takes.of_text (subst NoneBroken (ArePiecesOf-unique text whole.pieces takes.pieces whole.of_text takes.of_text) whole.none_broken) edit next takes.leaves) behind
+pub TakeInTurn-whole : (edits : List Edit) (text left : List ℕ) → IsWhole text → TakeInTurn edits text left → IsWhole left
+TakeInTurn-whole [] text left whole taken = subst IsWhole (sym taken) whole
+TakeInTurn-whole (edit ∷ edits) text left whole (next, takes, behind) =
+    TakeInTurn-whole edits next left (LeavesOf-whole text takes.pieces takes.of_text (subst NoneBroken (ArePiecesOf-unique text whole.pieces takes.pieces whole.of_text takes.of_text) whole.none_broken) edit next takes.leaves) behind

@@ -22,7 +22,7 @@ ghost use Rattle.ansi_str.specs.WorkedParts.{SplitsInto, black_text, black_word,
 ghost use Rattle.ansi_str.specs.Searches.{BeginsWith, EndsWith};
 ghost use Rattle.ansi_str.specs.Keeping.{IsTrimmed, kept, sequences as sequences_of, without_end, without_front};
 ghost use Rattle.ansi_str.specs.declared.edits.Edit.{Edit};
-ghost use Rattle.ansi_str.specs.Edits.{OneFails, TakeTo};
+ghost use Rattle.ansi_str.specs.Edits.{OneFails, TakeInTurn};
 ghost use Rattle.ansi_str.specs.Blocks.{blocks_from, text_of_block, styled_of_block};
 
 /// Without its sequences a text has no ESC, and without its sequences once more it is the same.
@@ -313,12 +313,12 @@ pub fn cuts_show_their_slices()
 /// text, and where they leave one none of them fails. Of a whole text they leave a whole text.
 pub fn edits_in_turn()
     ensures leave { (first second : List Edit) (text left : List ℕ) →
-        (TakeTo (first ++ second) text left ↔ ((next : List ℕ) × TakeTo first text next × TakeTo second next left)) }
+        (TakeInTurn (first ++ second) text left ↔ ((next : List ℕ) × TakeInTurn first text next × TakeInTurn second next left)) }
     ensures fail { (first second : List Edit) (text : List ℕ) →
-        (OneFails (first ++ second) text ↔ (OneFails first text ⊎ ((next : List ℕ) × TakeTo first text next × OneFails second next))) }
+        (OneFails (first ++ second) text ↔ (OneFails first text ⊎ ((next : List ℕ) × TakeInTurn first text next × OneFails second next))) }
     ensures one { (edits : List Edit) (text left other : List ℕ) →
-        TakeTo edits text left → TakeTo edits text other → left ≡ other }
+        TakeInTurn edits text left → TakeInTurn edits text other → left ≡ other }
     ensures not_both { (edits : List Edit) (text left : List ℕ) →
-        TakeTo edits text left → ¬ (OneFails edits text) }
-    ensures whole { (edits : List Edit) (text left : List ℕ) → IsWhole text → TakeTo edits text left → IsWhole left }
+        TakeInTurn edits text left → ¬ (OneFails edits text) }
+    ensures whole { (edits : List Edit) (text left : List ℕ) → IsWhole text → TakeInTurn edits text left → IsWhole left }
 {}
