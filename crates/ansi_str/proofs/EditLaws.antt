@@ -9,7 +9,7 @@ use Rattle.ansi_str.specs.declared.edits.Edit.TheVariants.{Cut, Left, Right, Par
 use Rattle.ansi_str.specs.StyledText.{strip}
 use Rattle.ansi_str.specs.Keeping.{IsTrimmed, IsTrimmedAt, kept}
 use Rattle.ansi_str.specs.Matches.{split_bounds, styled_parts}
-use Rattle.ansi_str.specs.Edits.{AreParts, FailsOf, LeavesOf, TakesTo, FailsAt, TakeTo, OneFails}
+use Rattle.ansi_str.specs.Edits.{AreParts, FailsOf, LeavesOf, TakesTo, FailsAt, TakeInTurn, OneFails}
 use Rattle.ansi_str.proofs.MatchLists.{AreMatches-unique}
 
 -- ---- one text
@@ -56,10 +56,10 @@ TakesTo-unique edit text left other takes also =
     LeavesOf-unique edit takes.pieces left other takes.leaves
     (subst (λ (ps : List Piece). LeavesOf edit ps other) (ArePiecesOf-unique text also.pieces takes.pieces also.of_text takes.of_text) also.leaves)
 
-pub TakeTo-unique : (edits : List Edit) (text left other : List ℕ) → TakeTo edits text left → TakeTo edits text other → left ≡ other
-TakeTo-unique [] text left other takes also = takes ∙ sym also
-TakeTo-unique (edit ∷ edits) text left other (next, takes, behind) (also_next, also, also_behind) =
-    TakeTo-unique edits next left other behind (subst (λ bytes. TakeTo edits bytes other) (TakesTo-unique edit text also_next next also takes) also_behind)
+pub TakeInTurn-unique : (edits : List Edit) (text left other : List ℕ) → TakeInTurn edits text left → TakeInTurn edits text other → left ≡ other
+TakeInTurn-unique [] text left other takes also = takes ∙ sym also
+TakeInTurn-unique (edit ∷ edits) text left other (next, takes, behind) (also_next, also, also_behind) =
+    TakeInTurn-unique edits next left other behind (subst (λ bytes. TakeInTurn edits bytes other) (TakesTo-unique edit text also_next next also takes) also_behind)
 
 -- ---- no edit fails that leaves a text
 
@@ -78,25 +78,25 @@ TakesTo-fails : (edit : Edit) (text left : List ℕ) → TakesTo edit text left 
 TakesTo-fails edit text left takes fails =
     LeavesOf-fails edit takes.pieces left takes.leaves (subst (λ (ps : List Piece). FailsOf edit ps) (ArePiecesOf-unique text fails.pieces takes.pieces fails.of_text takes.of_text) fails.fails)
 
-pub TakeTo-fails : (edits : List Edit) (text left : List ℕ) → TakeTo edits text left → ¬ (OneFails edits text)
-TakeTo-fails [] text left takes fails = fails
-TakeTo-fails (edit ∷ edits) text left (next, takes, behind) (inl fails) = TakesTo-fails edit text next takes fails
-TakeTo-fails (edit ∷ edits) text left (next, takes, behind) (inr (other, also, fails)) =
-    TakeTo-fails edits next left behind (subst (OneFails edits) (TakesTo-unique edit text other next also takes) fails)
+pub TakeInTurn-fails : (edits : List Edit) (text left : List ℕ) → TakeInTurn edits text left → ¬ (OneFails edits text)
+TakeInTurn-fails [] text left takes fails = fails
+TakeInTurn-fails (edit ∷ edits) text left (next, takes, behind) (inl fails) = TakesTo-fails edit text next takes fails
+TakeInTurn-fails (edit ∷ edits) text left (next, takes, behind) (inr (other, also, fails)) =
+    TakeInTurn-fails edits next left behind (subst (OneFails edits) (TakesTo-unique edit text other next also takes) fails)
 
 -- ---- one list behind another
 
-pub TakeTo-split : (first second : List Edit) (text left : List ℕ) → TakeTo (first ++ second) text left → (next : List ℕ) × TakeTo first text next × TakeTo second next left
-TakeTo-split [] second text left takes = (text, refl, takes)
-TakeTo-split (edit ∷ first) second text left (between, takes, behind) =
-    let others = TakeTo-split first second between left behind in (others.0, (between, takes, others.1), others.2)
+pub TakeInTurn-split : (first second : List Edit) (text left : List ℕ) → TakeInTurn (first ++ second) text left → (next : List ℕ) × TakeInTurn first text next × TakeInTurn second next left
+TakeInTurn-split [] second text left takes = (text, refl, takes)
+TakeInTurn-split (edit ∷ first) second text left (between, takes, behind) =
+    let others = TakeInTurn-split first second between left behind in (others.0, (between, takes, others.1), others.2)
 
-pub TakeTo-append : (first second : List Edit) (text left next : List ℕ) → TakeTo first text next → TakeTo second next left → TakeTo (first ++ second) text left
-TakeTo-append [] second text left next takes also = subst (λ bytes. TakeTo second bytes left) takes also
-TakeTo-append (edit ∷ first) second text left next (between, takes, behind) also = (between, takes, TakeTo-append first second between left next behind also)
+pub TakeInTurn-append : (first second : List Edit) (text left next : List ℕ) → TakeInTurn first text next → TakeInTurn second next left → TakeInTurn (first ++ second) text left
+TakeInTurn-append [] second text left next takes also = subst (λ bytes. TakeInTurn second bytes left) takes also
+TakeInTurn-append (edit ∷ first) second text left next (between, takes, behind) also = (between, takes, TakeInTurn-append first second between left next behind also)
 
 abbrev FailsIn : List Edit → List Edit → List ℕ → Type 0
-FailsIn first second text = OneFails first text ⊎ ((next : List ℕ) × TakeTo first text next × OneFails second next)
+FailsIn first second text = OneFails first text ⊎ ((next : List ℕ) × TakeInTurn first text next × OneFails second next)
 
 pub OneFails-split : (first second : List Edit) (text : List ℕ) → OneFails (first ++ second) text → FailsIn first second text
 OneFails-split [] second text fails = inr (text, refl, fails)

@@ -14,7 +14,7 @@ use Rattle.ansi_str.specs.StyledText.{strip}
 use Rattle.ansi_str.specs.Cuts.{AreGoodBounds, cut_part}
 use Rattle.ansi_str.specs.Splitting.{PartsLeft, GivesPart}
 use Rattle.ansi_str.specs.Matches.{AreMatches, split_bounds, styled_parts}
-use Rattle.ansi_str.specs.Edits.{AreParts, FailsOf, LeavesOf, TakesTo, TakeTo, OneFails}
+use Rattle.ansi_str.specs.Edits.{AreParts, FailsOf, LeavesOf, TakesTo, TakeInTurn, OneFails}
 use Rattle.ansi_str.proofs.MatchLists.{matches_from, AreMatches-found}
 
 -- what is said of all pieces of a text is said of its pieces
@@ -58,12 +58,12 @@ drop-next (y ∷ ys) (suc i) x rest e = drop-next ys i x rest e
 
 -- what the edits that are left do to what is left of the text, all edits do to the text
 pub record Edited (edits : List Edit) (text : List ℕ) (edits_left : List Edit) (now : List ℕ) : Type 0 where
-  pub leave : (left : List ℕ) → TakeTo edits_left now left → TakeTo edits text left
+  pub leave : (left : List ℕ) → TakeInTurn edits_left now left → TakeInTurn edits text left
   pub fail : OneFails edits_left now → OneFails edits text
 
 pub Edited-start : (edits : List Edit) (text now : List ℕ) → now ≡ text → Edited edits text edits now
 Edited-start edits text now same = record {
-  leave = λ left taken. subst (λ bytes. TakeTo edits bytes left) same taken;
+  leave = λ left taken. subst (λ bytes. TakeInTurn edits bytes left) same taken;
   fail = λ fails. subst (OneFails edits) same fails;
 }
 
@@ -79,7 +79,7 @@ module _ (edits : List Edit) (text : List ℕ) (edit : Edit) (others : List Edit
   pub Edited-fails : FailsOf edit (pieces now) → OneFails edits text
   Edited-fails fails = edited.fail (inl (record { pieces = pieces now; of_text = ArePiecesOf-pieces now; fails = fails }))
 
-pub Edited-end : (edits : List Edit) (text now : List ℕ) → Edited edits text [] now → TakeTo edits text now
+pub Edited-end : (edits : List Edit) (text now : List ℕ) → Edited edits text [] now → TakeInTurn edits text now
 Edited-end edits text now edited = edited.leave now refl
 
 -- ---- what one edit answers

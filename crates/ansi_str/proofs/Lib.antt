@@ -33,6 +33,7 @@ pub mod TrimLemmas
 pub mod KeptPieces
 pub mod EditLemmas
 pub mod EditLaws
+pub mod WholeEdits
 pub mod RisingPlaces
 pub use Rattle.ansi_str_text.proofs.FirstItem
 pub use Rattle.ansi_str_text.proofs.FirstBlock

@@ -54,9 +54,9 @@ pub record FailsAt (edit : Edit) (text : List ℕ) : Type 0 where
   pub fails : FailsOf edit pieces
 
 -- the edits, one after the other, take this text to that one
-abbrev pub TakeTo : List Edit → List ℕ → List ℕ → Type 0
-TakeTo [] text left = left ≡ text
-TakeTo (edit ∷ edits) text left = (next : List ℕ) × TakesTo edit text next × TakeTo edits next left
+abbrev pub TakeInTurn : List Edit → List ℕ → List ℕ → Type 0
+TakeInTurn [] text left = left ≡ text
+TakeInTurn (edit ∷ edits) text left = (next : List ℕ) × TakesTo edit text next × TakeInTurn edits next left
 
 -- one of the edits fails at its turn
 abbrev pub OneFails : List Edit → List ℕ → Type 0

@@ -2,7 +2,7 @@
 ghost use Rattle.std.specs.Prelude.{IfOk, IfSome, IsNone, MatchOption, ◌↔◌, string_bytes};
 ghost use Rattle.std.specs.Cow.{cow_str_bytes};
 ghost use Rattle.ansi_scan.specs.Pieces.{pieces};
-ghost use Rattle.ansi_str.specs.Edits.{FailsOf, LeavesOf, OneFails, TakeTo};
+ghost use Rattle.ansi_str.specs.Edits.{FailsOf, LeavesOf, OneFails, TakeInTurn};
 
 use crate::breaks::split_at;
 use crate::cut::{get, is_good_bound};
@@ -15,7 +15,7 @@ use std::borrow::CowStr;
 /// What the edits leave of a text, each of what the one before it left; none exactly where one of them
 /// fails at its turn. The only refusal is for memory.
 pub fn edit(alloc: Global, text: &str, edits: &[Edit<'_>]) -> Result<Option<String>, AllocError>
-    ensures left { IfOk result (λ found. IfSome found (λ left. TakeTo edits.now text.now (string_bytes left))) }
+    ensures left { IfOk result (λ found. IfSome found (λ left. TakeInTurn edits.now text.now (string_bytes left))) }
     ensures none { IfOk result (λ found. IsNone found ↔ OneFails edits.now text.now) }
 {
     let mut left = String::from_str(alloc, text)?;

@@ -9,7 +9,7 @@ ghost use Rattle.std.specs.Str.Iter.{split_has_more, split_pattern, split_steps,
 ghost use Rattle.std.specs.Str.Pattern.{FindsText};
 ghost use Rattle.std.specs.declared.str.Split.{Split};
 ghost use Rattle.ansi_scan.specs.Pieces.{pieces as pieces_of};
-ghost use Rattle.ansi_scan.specs.Sequences.{Piece, ArePiecesOf, NoneBroken, joined};
+ghost use Rattle.ansi_scan.specs.Sequences.{Piece, ArePiecesOf, IsWhole, NoneBroken, joined};
 ghost use Rattle.ansi_scan.specs.Attributes.{plain_attributes};
 ghost use Rattle.ansi_str.specs.StyledText.{IsClosed, has_escape, strip, style_after_all, styled, styled_from};
 ghost use Rattle.ansi_str.specs.Cuts.{AreGoodBounds, IsGoodBound, cut_part, later_part, parts_at};
@@ -22,7 +22,7 @@ ghost use Rattle.ansi_str.specs.WorkedParts.{SplitsInto, black_text, black_word,
 ghost use Rattle.ansi_str.specs.Searches.{BeginsWith, EndsWith};
 ghost use Rattle.ansi_str.specs.Keeping.{IsTrimmed, kept, sequences as sequences_of, without_end, without_front};
 ghost use Rattle.ansi_str.specs.declared.edits.Edit.{Edit};
-ghost use Rattle.ansi_str.specs.Edits.{OneFails, TakeTo};
+ghost use Rattle.ansi_str.specs.Edits.{OneFails, TakeInTurn};
 
 pub use ansi_str_text::laws::blocks_in_order;
 
@@ -302,14 +302,15 @@ pub fn cuts_show_their_slices()
 {}
 
 /// The edits of a list that stands behind another are done behind them; what edits leave of a text is one
-/// text, and where they leave one none of them fails.
+/// text, and where they leave one none of them fails. Of a whole text they leave a whole text.
 pub fn edits_in_turn()
     ensures leave { (first second : List Edit) (text left : List ℕ) →
-        (TakeTo (first ++ second) text left ↔ ((next : List ℕ) × TakeTo first text next × TakeTo second next left)) }
+        (TakeInTurn (first ++ second) text left ↔ ((next : List ℕ) × TakeInTurn first text next × TakeInTurn second next left)) }
     ensures fail { (first second : List Edit) (text : List ℕ) →
-        (OneFails (first ++ second) text ↔ (OneFails first text ⊎ ((next : List ℕ) × TakeTo first text next × OneFails second next))) }
+        (OneFails (first ++ second) text ↔ (OneFails first text ⊎ ((next : List ℕ) × TakeInTurn first text next × OneFails second next))) }
     ensures one { (edits : List Edit) (text left other : List ℕ) →
-        TakeTo edits text left → TakeTo edits text other → left ≡ other }
+        TakeInTurn edits text left → TakeInTurn edits text other → left ≡ other }
     ensures not_both { (edits : List Edit) (text left : List ℕ) →
-        TakeTo edits text left → ¬ (OneFails edits text) }
+        TakeInTurn edits text left → ¬ (OneFails edits text) }
+    ensures whole { (edits : List Edit) (text left : List ℕ) → IsWhole text → TakeInTurn edits text left → IsWhole left }
 {}

@@ -7,9 +7,9 @@ use Rattle.std.proofs.lemmas.List.{drop_all}
 use Rattle.ansi_scan.specs.Pieces.{pieces}
 use Rattle.ansi_str.specs.declared.edits.Edit.{Edit}
 use Rattle.ansi_str.specs.declared.edits.Edit.TheVariants.{Cut}
-use Rattle.ansi_str.specs.Edits.{FailsOf, LeavesOf, TakeTo}
+use Rattle.ansi_str.specs.Edits.{FailsOf, LeavesOf, TakeInTurn}
 use Rattle.ansi_str.proofs.EditLemmas.{Answers, Edited, Edited-end, Edited-fails, Edited-next}
-use Rattle.ansi_str.proofs.EditLaws.{TakeTo-fails}
+use Rattle.ansi_str.proofs.EditLaws.{TakeInTurn-fails}
 use Rattle.ansi_str.proofs.editing.edit.Goals as goal
 
 -- the edit of this number
@@ -49,7 +49,7 @@ loop-edit-preserved c =
     (Edited-next edits text edit (drop (i + 1) edits) now (next edits text now i c.loop-edit-test.true c.loop-edit.invariant) left leaves_now)
 
 -- no edit is left
-taken : (edits : List Edit) (text now : List ℕ) (i : ℕ) → length edits ≤ i → Edited edits text (drop i edits) now → TakeTo edits text now
+taken : (edits : List Edit) (text now : List ℕ) (i : ℕ) → length edits ≤ i → Edited edits text (drop i edits) now → TakeInTurn edits text now
 taken edits text now i over edited =
     let none : drop i edits ≡ [] = drop_all i edits over in
     Edited-end edits text now (subst (λ (left : List Edit). Edited edits text left now) none edited)
@@ -60,4 +60,4 @@ returns-clause-none c =
     let text = c.args.text.now in
     let now = string_bytes c.loop-edit.left in
     let left = taken edits text now c.loop-edit.edit-index c.loop-edit-test.false c.loop-edit.invariant in
-    (λ e. cc e, λ fails. absurd (TakeTo-fails edits text now left fails))
+    (λ e. cc e, λ fails. absurd (TakeInTurn-fails edits text now left fails))
