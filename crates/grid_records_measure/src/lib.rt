@@ -4,6 +4,7 @@
 mod characters;
 mod cut;
 pub mod laws;
+mod raw_lines;
 mod tabs;
 mod text_lines;
 
