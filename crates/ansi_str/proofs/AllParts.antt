@@ -22,7 +22,7 @@ use Rattle.ansi_str.proofs.StyleLemmas.{split_part-slice}
 use Rattle.ansi_str.proofs.PlaceLemmas.{none, inside, past, reach, from-inside, from-past, before-inside, before-past, through-inside, through-past, strip-from}
 use Rattle.ansi_str.proofs.DressedLemmas.{short, long, cut, IsClosed-split_part}
 use Rattle.ansi_str.proofs.SliceLemmas.{strip-through, strip-split_part}
-use Rattle.ansi_str.proofs.Stripping.{escaped, strip-without_escape}
+use Rattle.ansi_str_text.proofs.Stripping.{escaped, strip-without_escape}
 use Rattle.ansi_str.proofs.PlainParts.{plain_part}
 use Rattle.ansi_str.proofs.RestLemmas.{no_escape-behind}
 use Rattle.ansi_str.proofs.CharLemmas.{Without}

@@ -1,7 +1,3 @@
-pub mod FirstItem
-pub mod FirstBlock
-pub mod Stripping
-pub mod Shown
 pub mod PartLemmas
 pub mod StyleLemmas
 pub mod PlaceLemmas
@@ -35,3 +31,7 @@ pub mod FirstPlaces
 pub mod KeepLemmas
 pub mod TrimLemmas
 pub mod KeptPieces
+pub use Rattle.ansi_str_text.proofs.FirstItem
+pub use Rattle.ansi_str_text.proofs.FirstBlock
+pub use Rattle.ansi_str_text.proofs.Stripping
+pub use Rattle.ansi_str_text.proofs.Shown

@@ -31,37 +31,7 @@ use Rattle.ansi_str.proofs.PlaceLemmas.{none, inside, past, reach, has_text, fro
 use Rattle.ansi_str.proofs.DressedLemmas.{renditions, dressed_pieces, joined-dressed, short, long, cut, IsRendition-after, IsClosed-split_part}
 use Rattle.ansi_str.proofs.CharLemmas.{hold_both}
 
--- ---- the pieces of a text in UTF-8
-
-abbrev pub EachUtf8 : List Piece → Type 0
-EachUtf8 ps = AllByRecursion (λ p. IsUtf8 p.bytes) ps
-
--- a text is UTF-8 in each of its pieces
-pub EachUtf8-pieces : (ps : List Piece) → EachStands ps → IsUtf8 (joined ps) → EachUtf8 ps
-EachUtf8-pieces [] each utf8 = tt
-EachUtf8-pieces (p ∷ ps) each utf8 =
-    let text = p.bytes ++ joined ps in
-    let end : IsCharBoundary text (length {A = ℕ} [] + length p.bytes) = IsCharBoundary-behind p.kind p.bytes ps each.0 each.1 text [] utf8 refl in
-    let same : length {A = ℕ} [] + length p.bytes ≡ length p.bytes = omega arith in
-    let boundary : IsCharBoundary text (length p.bytes) = subst (λ n. IsCharBoundary text n) same end in (
-      subst IsUtf8 (take-append_seam p.bytes (joined ps)) (IsUtf8-take text (length p.bytes) utf8 boundary),
-      EachUtf8-pieces ps each.1 (subst IsUtf8 (drop-append_seam p.bytes (joined ps)) (IsUtf8-drop text (length p.bytes) utf8 boundary)),
-    )
-
-pub IsUtf8-joined : (ps : List Piece) → EachUtf8 ps → IsUtf8 (joined ps)
-IsUtf8-joined [] each = IsUtf8-nil
-IsUtf8-joined (p ∷ ps) each = IsUtf8-append p.bytes (joined ps) each.0 (IsUtf8-joined ps each.1)
-
-IsUtf8-text_kind : (p : Piece) (text : Bool) → is_text_kind p.kind ≡ text → IsUtf8 p.bytes → IsUtf8 (text_of p)
-IsUtf8-text_kind p true e utf8 = subst IsUtf8 (sym (text_of-text p e)) utf8
-IsUtf8-text_kind p false e utf8 = subst IsUtf8 (sym (text_of-sequence p e)) IsUtf8-nil
-
-pub IsUtf8-text_of : (p : Piece) → IsUtf8 p.bytes → IsUtf8 (text_of p)
-IsUtf8-text_of p utf8 = IsUtf8-text_kind p (is_text_kind p.kind) refl utf8
-
-pub IsUtf8-strip : (ps : List Piece) → EachUtf8 ps → IsUtf8 (strip ps)
-IsUtf8-strip [] each = IsUtf8-nil
-IsUtf8-strip (p ∷ ps) each = IsUtf8-append (text_of p) (strip ps) (IsUtf8-text_of p each.0) (IsUtf8-strip ps each.1)
+pub use Rattle.ansi_str_text.proofs.Utf8Pieces.{EachUtf8, EachUtf8-pieces, IsUtf8-joined, IsUtf8-text_of, IsUtf8-strip}
 
 -- ---- boundaries of characters in the text without its sequences
 

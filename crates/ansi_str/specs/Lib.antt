@@ -1,5 +1,5 @@
-pub mod StyledText
-pub mod Blocks
+pub use Rattle.ansi_str_text.specs.StyledText
+pub use Rattle.ansi_str_text.specs.Blocks
 pub mod Parts
 pub mod Cuts
 pub mod Ranges

@@ -21,7 +21,8 @@ ghost use Rattle.ansi_str.specs.Lines.{IsClosedLine, IsClosedText};
 ghost use Rattle.ansi_str.specs.WorkedParts.{SplitsInto, black_text, black_word, half_red_text, red_text, red_word, spaced_text, two_lines};
 ghost use Rattle.ansi_str.specs.Searches.{BeginsWith, EndsWith};
 ghost use Rattle.ansi_str.specs.Keeping.{IsTrimmed, kept, sequences as sequences_of, without_end, without_front};
-ghost use Rattle.ansi_str.specs.Blocks.{blocks_from, text_of_block, styled_of_block};
+
+pub use ansi_str_text::laws::blocks_in_order;
 
 /// Without its sequences a text has no ESC, and without its sequences once more it is the same.
 pub fn stripped_once()
@@ -38,15 +39,6 @@ pub fn nothing_to_strip()
     ensures parts { (pattern text : List ℕ) (pieces : List Piece) (matches : List ℕ) →
         has_escape text ≡ false → ArePiecesOf text pieces → AreMatches pattern text matches →
         styled_parts pieces (split_bounds pattern text matches) ≡ text_parts text (split_bounds pattern text matches) }
-{}
-
-/// The blocks of a text, one behind the other, are the text without its sequences, and their
-/// characters are those that the text shows, in the same styles.
-pub fn blocks_in_order()
-    ensures text { (pieces : List Piece) →
-        flat_map text_of_block (blocks_from plain_attributes pieces) ≡ strip pieces }
-    ensures characters { (pieces : List Piece) →
-        flat_map styled_of_block (blocks_from plain_attributes pieces) ≡ styled pieces }
 {}
 
 /// A text is cut at a place into two: joined they are the text, what is behind the place are pieces

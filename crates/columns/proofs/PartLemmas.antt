@@ -12,7 +12,7 @@ use Rattle.ansi_scan.specs.Attributes.{Attributes, plain_attributes}
 use Rattle.ansi_scan.proofs.Existence.{ArePiecesOf-pieces}
 use Rattle.ansi_str.specs.StyledText.{style_after}
 use Rattle.ansi_str.specs.Blocks.{Block, block_if, blocks_from, text_of_block}
-use Rattle.ansi_str.proofs.Shown.{text_of_block-blocks_from}
+use Rattle.ansi_str_text.proofs.Shown.{text_of_block-blocks_from}
 use Rattle.columns.specs.Rows.{stripped, without_bare_last}
 use Rattle.columns.specs.Printing.{cut, last_is_bare}
 use Rattle.columns.proofs.RowLemmas.{cut-append, cut-more}

@@ -13,7 +13,7 @@ use Rattle.ansi_scan.specs.Attributes.{plain_attributes}
 use Rattle.ansi_str.specs.StyledText.{has_escape, strip, styled}
 use Rattle.ansi_str.specs.Parts.{split_part}
 use Rattle.ansi_str.specs.Matches.{bounds_between}
-use Rattle.ansi_str.proofs.Stripping.{has_escape-strip}
+use Rattle.ansi_str_text.proofs.Stripping.{has_escape-strip}
 use Rattle.columns.specs.Rows.{tab, stripped, styled_characters, places, parts_at, row_parts, cell_parts, rows_of}
 use Rattle.columns.specs.Measures.{measure}
 use Rattle.columns.specs.Estimates.{Line, greatest, column_widths, row_heights}

@@ -2,7 +2,7 @@
 use Rattle.std.proofs.Common.{rules, ◌∙◌, ap, sym, ℕ, List, ◌∷◌, drop}
 use Rattle.ansi_scan.specs.Pieces.{pieces}
 use Rattle.ansi_scan.specs.Scan.{items_left}
-use Rattle.ansi_str.proofs.FirstItem.{IsFirstItem-items, pieces-nothing}
+use Rattle.ansi_str_text.proofs.FirstItem.{IsFirstItem-items, pieces-nothing}
 use Rattle.ansi_str.proofs.places.split_item.Goals as goal
 
 pub returns : goal.returns

@@ -7,7 +7,7 @@ use Rattle.ansi_scan.specs.Places.{piece_at, placed}
 use Rattle.ansi_scan.proofs.Reading.{flat_map-placed}
 use Rattle.ansi_scan.proofs.Uniqueness.{ArePiecesOf-unique}
 use Rattle.ansi_str.specs.StyledText.{text_of, strip}
-use Rattle.ansi_str.proofs.Stripping.{shown-sequence, flat_map-nothing}
+use Rattle.ansi_str_text.proofs.Stripping.{shown-sequence, flat_map-nothing}
 use Rattle.ansi_str.proofs.strip.joined_texts.Goals as goal
 
 pub returns : goal.returns

@@ -1,0 +1,9 @@
+pub mod FirstItem
+pub mod FirstBlock
+pub mod Stripping
+pub mod Shown
+pub mod Utf8Pieces
+pub mod Tails
+pub mod Seams
+pub mod LastLemmas
+pub mod CharacterLemmas

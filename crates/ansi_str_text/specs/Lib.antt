@@ -1,0 +1,5 @@
+pub mod StyledText
+pub mod Blocks
+pub mod Characters
+pub mod Cutting
+pub mod Last

@@ -1,0 +1,30 @@
+//! Laws of the definitions that the other contracts cite.
+
+ghost use Rattle.std.specs.Prelude.{◌≡◌, ℕ, List, ◌∷◌, ◌++◌, flat_map};
+ghost use Rattle.ansi_scan.specs.Sequences.{Piece, ArePiecesOf, escape, string_terminator};
+ghost use Rattle.ansi_scan.specs.Attributes.{plain_attributes};
+ghost use Rattle.ansi_str_text.specs.StyledText.{strip, styled};
+ghost use Rattle.ansi_str_text.specs.Cutting.{IsOpenString, EndsNoString, string_kind};
+ghost use Rattle.ansi_str_text.specs.Blocks.{blocks_from, text_of_block, styled_of_block};
+
+/// The blocks of a text, one behind the other, are the text without its sequences, and their
+/// characters are those that the text shows, in the same styles.
+pub fn blocks_in_order()
+    ensures text { (pieces : List Piece) →
+        flat_map text_of_block (blocks_from plain_attributes pieces) ≡ strip pieces }
+    ensures characters { (pieces : List Piece) →
+        flat_map styled_of_block (blocks_from plain_attributes pieces) ≡ styled pieces }
+{}
+
+/// A text and a text behind it that begins with ESC keep their pieces where they are put together,
+/// but where a string is open at the end of the first and the ESC begins its end: ESC and `\`. There
+/// the string is one piece from the ESC that opens it on.
+pub fn parted_at_an_escape()
+    ensures apart { (text behind : List ℕ) (ps qs : List Piece) →
+        ArePiecesOf text ps → ArePiecesOf (escape ∷ behind) qs → EndsNoString text behind →
+        ArePiecesOf (text ++ escape ∷ behind) (ps ++ qs) }
+    ensures ended { (before string behind : List ℕ) (opener : ℕ) (ps qs : List Piece) →
+        IsOpenString opener string → ArePiecesOf before ps → ArePiecesOf behind qs →
+        ArePiecesOf (before ++ ((escape ∷ opener ∷ (string ++ string_terminator)) ++ behind))
+        (ps ++ record { kind = string_kind opener; bytes = escape ∷ opener ∷ (string ++ string_terminator) } ∷ qs) }
+{}

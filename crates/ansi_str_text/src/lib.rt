@@ -1,0 +1,37 @@
+//! The text of a text with escape sequences (ECMA-48), item by item, without memory.
+#![tactic(auto)]
+
+ghost use Rattle.std.specs.Prelude.{◌≡◌, ◌≤◌, List, chars, length};
+ghost use Rattle.ansi_scan.specs.Sequences.{Piece, ArePiecesOf};
+ghost use Rattle.ansi_scan.specs.Attributes.{plain_attributes};
+ghost use Rattle.ansi_str_text.specs.StyledText.{strip};
+ghost use Rattle.ansi_str_text.specs.Blocks.{blocks_from};
+
+mod blocks;
+mod characters;
+mod last;
+pub mod laws;
+
+pub use blocks::{AnsiBlock, AnsiBlockIter};
+pub use characters::StrippedChars;
+
+/// The blocks of a text: one for each of its items of text, with the style known before it. Takes
+/// no memory.
+pub fn get_blocks(text: &str) -> AnsiBlockIter<'_>
+    ensures blocks { (pieces : List Piece) → ArePiecesOf text.now pieces →
+        result ≡ blocks_from plain_attributes pieces }
+    ensures count { length result ≤ length text.now }
+{
+    AnsiBlockIter::new(text)
+}
+
+/// The characters of a text without its sequences, from either end. Takes no memory.
+pub fn stripped_chars(text: &str) -> StrippedChars<'_>
+    ensures characters { (pieces : List Piece) → ArePiecesOf text.now pieces → result ≡ chars (strip pieces) }
+    ensures count { length result ≤ length text.now }
+{
+    StrippedChars::new(text)
+}
+
+#[cfg(test)]
+mod tests;

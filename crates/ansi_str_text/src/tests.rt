@@ -1,0 +1,154 @@
+use super::*;
+use std::alloc::Global;
+use std::process::Abort;
+use std::test::Fail;
+
+// Each block as its text and the start of its style, which is none where the style is plain.
+fn expect_blocks(
+    rt: &impl Abort,
+    alloc: Global,
+    text: &str,
+    wanted: &[(&str, &str)],
+) -> Result<(), Fail> {
+    let mut blocks = get_blocks(text);
+    for (shown, start) in wanted {
+        let block = blocks.next().expect(rt, "a block is missing");
+        assert_eq!(rt; block.text(), *shown, "in {text:?}");
+        let opened = block.style().start().to_string(alloc)?;
+        assert_eq!(rt; opened.as_str(), *start, "in {text:?}");
+        assert_eq!(rt; block.has_ansi(), !start.is_empty(), "in {text:?}");
+    }
+    assert!(rt; blocks.next().is_none(), "behind {text:?}");
+    assert!(rt; blocks.next().is_none(), "again behind {text:?}");
+    Ok(())
+}
+
+#[test]
+fn gives_blocks(rt: HostRuntime) -> Result<(), Fail> {
+    let alloc = rt.alloc();
+    expect_blocks(
+        &rt,
+        alloc,
+        "\x1b[1ma\x1b[0mb",
+        &[("a", "\x1b[1m"), ("b", "")],
+    )?;
+    expect_blocks(&rt, alloc, "", &[])?;
+    expect_blocks(&rt, alloc, "\x1b[31m\x1b[2J", &[])?;
+    // a sequence that sets nothing parts two blocks of one style, and so does a broken ESC
+    expect_blocks(
+        &rt,
+        alloc,
+        "\x1b[31ma\x1b[2Jb",
+        &[("a", "\x1b[31m"), ("b", "\x1b[31m")],
+    )?;
+    expect_blocks(
+        &rt,
+        alloc,
+        "a\x1b[1é\x1b[3mb",
+        &[("a", ""), ("[1é", ""), ("b", "\x1b[3m")],
+    )
+}
+
+// The characters of a text, taken from the front and from the back by turns, against those of what it shows.
+fn expect_characters(rt: &impl Abort, text: &str, shown: &str) {
+    // of seven characters, how many are taken from the front before the others from the back
+    for front in 0..8usize {
+        let mut found = stripped_chars(text);
+        let mut wanted = shown.chars();
+        for turn in 0..shown.len() {
+            if turn % 7 < front {
+                assert_eq!(rt; found.next(), wanted.next(), "of {text:?}");
+            } else {
+                assert_eq!(rt; found.next_back(), wanted.next_back(), "of {text:?}");
+            }
+        }
+        assert!(rt; found.next_back().is_none(), "behind {text:?}");
+        assert!(rt; found.next().is_none(), "behind {text:?}");
+        assert!(rt; found.next_back().is_none(), "again behind {text:?}");
+    }
+}
+
+#[test]
+fn gives_characters(rt: HostRuntime) {
+    // texts worked by hand: what each shows
+    let texts = [
+        ("", ""),
+        ("aé漢😀", "aé漢😀"),
+        ("\x1b[31mab\n\x1b]0;t\x07c", "ab\nc"),
+        ("a\x1b[1é\x1b[0m\x1b", "a[1é"),
+        // a string and its end, and the same end alone
+        ("a\x1b]t\x1b\\b", "ab"),
+        ("a\x1b\\b", "ab"),
+        ("\x1bPq\x07r\x1b\\\x1b\\z", "z"),
+        // no string: CANCEL and SUBSTITUTE break it, and BEL ends a command before
+        ("\x1b]t\x18\x1b\\b", "]t\x18b"),
+        ("\x1b^t\x1au\x1b\\b", "^t\x1aub"),
+        ("\x1b]t\x07u\x1b\\b", "ub"),
+        // what opens a string without an end is broken, and so is one whose end isn't its own
+        ("\x1b]t\x1b[m\\b", "]t\\b"),
+        ("\x1b\x1b\\b", "b"),
+        ("\x1b[\x1b\\b", "[b"),
+        ("\x1b]\x1b]\x1b\\b", "]b"),
+        ("\x1b_\\\x1b\\\\", "\\"),
+    ];
+    for (text, shown) in texts {
+        expect_characters(&rt, text, shown);
+    }
+}
+
+// The letters of the generated texts.
+const LETTERS: [&str; 14] = [
+    "\x1b", "[", "]", "P", "\\", "\x07", "\x18", "m", "1", ";", "a", "é", "漢", "😀",
+];
+
+// The same text read from the front alone, item by item.
+fn expect_forward(rt: &impl Abort, alloc: Global, text: &str) -> Result<(), Fail> {
+    let mut shown = String::new(alloc);
+    for block in get_blocks(text) {
+        shown.push_str(block.text())?;
+    }
+    expect_characters(rt, text, shown.as_str());
+    Ok(())
+}
+
+#[test]
+fn gives_characters_of_each_short_text(rt: HostRuntime) -> Result<(), Fail> {
+    let alloc = rt.alloc();
+    for first in LETTERS {
+        for second in LETTERS {
+            for third in LETTERS {
+                let mut text = String::new(alloc);
+                for letter in [first, second, third] {
+                    text.push_str(letter)?;
+                    expect_forward(&rt, alloc, text.as_str())?;
+                }
+            }
+        }
+    }
+    Ok(())
+}
+
+#[test]
+fn gives_characters_of_longer_texts(rt: HostRuntime) -> Result<(), Fail> {
+    let alloc = rt.alloc();
+    // a linear congruential generator, from a fixed seed
+    let mut state = 20u64;
+    for _ in 0..4000 {
+        let mut text = String::new(alloc);
+        for _ in 0..24 {
+            state = state
+                .wrapping_mul(6364136223846793005)
+                .wrapping_add(1442695040888963407);
+            let number = (state >> 33) as usize;
+            // every other letter is one of those that make a sequence
+            let letter = if number % 2 == 0 {
+                number / 2 % 6
+            } else {
+                number / 2 % 14
+            };
+            text.push_str(LETTERS[letter])?;
+        }
+        expect_forward(&rt, alloc, text.as_str())?;
+    }
+    Ok(())
+}
