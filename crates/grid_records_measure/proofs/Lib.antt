@@ -1,0 +1,5 @@
+pub mod FillingLemmas
+pub mod LineLemmas
+pub mod TabLemmas
+pub mod CutLemmas
+pub mod RawLineLemmas

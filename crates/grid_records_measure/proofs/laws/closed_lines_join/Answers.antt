@@ -1,0 +1,6 @@
+-- A lemma of `LineLemmas`.
+use Rattle.grid_records_measure.proofs.LineLemmas.{lines-joined}
+use Rattle.grid_records_measure.proofs.laws.closed_lines_join.Goals as goal
+
+pub returns : goal.returns
+returns c = lines-joined

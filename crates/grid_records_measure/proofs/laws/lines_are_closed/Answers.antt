@@ -1,0 +1,6 @@
+-- A lemma of `LineLemmas`.
+use Rattle.grid_records_measure.proofs.LineLemmas.{lines-closed}
+use Rattle.grid_records_measure.proofs.laws.lines_are_closed.Goals as goal
+
+pub returns : goal.returns
+returns c = lines-closed

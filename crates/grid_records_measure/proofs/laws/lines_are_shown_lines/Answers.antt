@@ -1,0 +1,6 @@
+-- A lemma of `LineLemmas`.
+use Rattle.grid_records_measure.proofs.LineLemmas.{lines-shown}
+use Rattle.grid_records_measure.proofs.laws.lines_are_shown_lines.Goals as goal
+
+pub returns : goal.returns
+returns c = lines-shown

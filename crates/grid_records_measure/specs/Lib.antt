@@ -1,0 +1,6 @@
+pub mod Measures
+pub mod TextLines
+pub mod Tabs
+pub mod Cutting
+pub mod Filling
+pub mod RawLines

@@ -1,0 +1,21 @@
+-- How many columns characters and lines take.
+use Rattle.std.specs.Prelude.{ℕ, false, List, max, unwrap_or}
+use Rattle.std.specs.List.{sum_by}
+use Rattle.unicode_width.specs.Width.{char_width, str_width}
+
+-- the columns that `unicode_width` gives the characters as one text: Unicode Standard Annex 11 (East Asian Width), outside
+-- an East Asian context, with that library's rules for characters that join
+abbrev pub measure : List ℕ → ℕ
+measure characters = str_width false characters
+
+-- the columns that it gives one character by itself; a control character, which has none, takes 0
+abbrev pub own_width : ℕ → ℕ
+own_width c = unwrap_or (char_width false c) 0
+
+-- what a character costs where a line is cut or broken: the larger of 1 and its own width
+abbrev pub cost : ℕ → ℕ
+cost c = max 1 (own_width c)
+
+-- the columns of a line: the sum of what its characters cost
+abbrev pub columns : List ℕ → ℕ
+columns characters = sum_by cost characters

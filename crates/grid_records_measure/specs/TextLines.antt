@@ -1,0 +1,34 @@
+-- The lines of a text, and what they measure.
+use Rattle.std.specs.Prelude.{◌≡◌, ◌==◌, ℕ, Bool, max, List, [], ◌∷◌, chars}
+use Rattle.std.specs.List.{slice_split}
+use Rattle.ansi_scan.specs.Sequences.{Piece}
+use Rattle.ansi_str.specs.StyledText.{strip}
+use Rattle.ansi_str.specs.Matches.{AreMatches, split_bounds, styled_parts}
+use Rattle.grid_records_measure.specs.Measures.{measure}
+
+-- U+000A LINE FEED
+abbrev pub line_feed : ℕ
+line_feed = 0x0a
+
+abbrev pub is_line_feed : ℕ → Bool
+is_line_feed c = c == line_feed
+
+-- the lines of a text: its parts when it is split at the line feed. There is one more than it has line feeds, and each
+-- opens and ends its own styles
+abbrev pub AreLinesOf : List Piece → List (List ℕ) → Type 0
+AreLinesOf pieces lines =
+    (matches : List ℕ) × AreMatches (line_feed ∷ []) (strip pieces) matches
+    × (lines ≡ styled_parts pieces (split_bounds (line_feed ∷ []) (strip pieces) matches))
+
+-- the lines that the text shows: the text without its sequences, parted at each line feed
+abbrev pub shown_lines : List Piece → List (List ℕ)
+shown_lines pieces = slice_split is_line_feed (strip pieces)
+
+-- what the bytes of a line without sequences measure
+abbrev pub line_measure : List ℕ → ℕ
+line_measure bytes = measure (chars bytes)
+
+-- the greatest measure of some lines, 0 where there is none
+abbrev pub widest : List (List ℕ) → ℕ
+widest [] = 0
+widest (line ∷ lines) = max (line_measure line) (widest lines)

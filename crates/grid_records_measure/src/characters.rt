@@ -1,0 +1,27 @@
+//! The columns that characters take.
+ghost use Rattle.std.specs.Prelude.{◌≡◌, chars};
+ghost use Rattle.grid_records_measure.specs.Measures.{cost, measure, own_width};
+
+use unicode_width::{UnicodeWidthChar, UnicodeWidthStr};
+
+/// The columns that a character takes by itself; none counts as 0. Takes no memory. (Unicode Standard
+/// Annex 11, by the rules of `unicode_width`.)
+pub fn get_char_width(c: char) -> usize
+    ensures { result ≡ own_width c }
+{
+    c.width().unwrap_or(0)
+}
+
+/// The columns that a text takes as it stands, its sequences read as text. Takes no memory.
+pub fn get_string_width(text: &str) -> usize
+    ensures { result ≡ measure (chars text.now) }
+{
+    text.width()
+}
+
+/// What a character costs in a line that is cut or broken: the larger of 1 and its own width.
+pub(crate) fn cost(c: char) -> usize
+    ensures { result ≡ cost c }
+{
+    get_char_width(c).max(1)
+}

@@ -1,0 +1,46 @@
+//! Laws of the definitions that the other contracts cite.
+
+ghost use Rattle.std.specs.Prelude.{All, ◌≡◌, ◌<◌, ℕ, List, length, map};
+ghost use Rattle.std.specs.List.{join_with_byte};
+ghost use Rattle.ansi_scan.specs.Pieces.{pieces as pieces_of};
+ghost use Rattle.ansi_scan.specs.Sequences.{Piece, ArePiecesOf, NoneBroken};
+ghost use Rattle.ansi_str.specs.StyledText.{strip};
+ghost use Rattle.ansi_str.specs.Lines.{IsClosedLine};
+ghost use Rattle.grid_records_measure.specs.TextLines.{AreLinesOf, line_feed, shown_lines};
+ghost use Rattle.grid_records_measure.specs.Cutting.{IsLongestFront};
+
+/// The lines of a text are one list: there is such a list, and no other.
+pub fn one_list_of_lines()
+    ensures there { (pieces : List Piece) → (lines : List (List ℕ)) × AreLinesOf pieces lines }
+    ensures one { (pieces : List Piece) (lines others : List (List ℕ)) →
+        AreLinesOf pieces lines → AreLinesOf pieces others → lines ≡ others }
+{}
+
+/// Each line of a whole text is closed: it holds no broken sequence and no line feed, and no style is open
+/// at its end.
+pub fn lines_are_closed()
+    ensures { (text : List ℕ) (pieces : List Piece) (lines : List (List ℕ)) →
+        ArePiecesOf text pieces → NoneBroken pieces → AreLinesOf pieces lines → All IsClosedLine lines }
+{}
+
+/// Closed lines that are joined by line feeds are the lines of that text.
+pub fn closed_lines_join()
+    ensures { (lines others : List (List ℕ)) (pieces : List Piece) → 0 < length lines → All IsClosedLine lines →
+        ArePiecesOf (join_with_byte line_feed lines) pieces → AreLinesOf pieces others → others ≡ lines }
+{}
+
+/// Without their sequences the lines of a whole text are those that it shows: the text without its own,
+/// parted at its line feeds.
+pub fn lines_are_shown_lines()
+    ensures { (text : List ℕ) (pieces : List Piece) (lines : List (List ℕ)) →
+        ArePiecesOf text pieces → NoneBroken pieces → AreLinesOf pieces lines →
+        map (λ line. strip (pieces_of line)) lines ≡ shown_lines pieces }
+{}
+
+/// The characters that a cut keeps are one list: there is a longest front that fits, and no other.
+pub fn one_longest_front()
+    ensures there { (width : ℕ) (characters : List ℕ) →
+        (kept : List ℕ) × (left : List ℕ) × IsLongestFront width characters kept left }
+    ensures one { (width : ℕ) (characters kept left others more : List ℕ) →
+        IsLongestFront width characters kept left → IsLongestFront width characters others more → kept ≡ others }
+{}

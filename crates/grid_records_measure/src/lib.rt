@@ -1,0 +1,17 @@
+//! Measures, lines and cuts of text with escape sequences (ECMA-48; Unicode Standard Annex 11).
+#![tactic(auto)]
+
+mod characters;
+mod cut;
+pub mod laws;
+mod raw_lines;
+mod tabs;
+mod text_lines;
+
+pub use characters::{get_char_width, get_string_width};
+pub use cut::cut_width;
+pub use tabs::replace_tab;
+pub use text_lines::{Lines, count_lines, get_lines};
+
+#[cfg(test)]
+mod tests;

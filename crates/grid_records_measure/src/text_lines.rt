@@ -1,0 +1,77 @@
+//! The lines of a text.
+ghost use Rattle.std.specs.Prelude.{◌≡◌, ◌+◌, ◌==◌, ◌≤◌, ℕ, List, length};
+ghost use Rattle.std.specs.List.{count_by};
+ghost use Rattle.ansi_scan.specs.Sequences.{Piece, ArePiecesOf};
+ghost use Rattle.ansi_str.specs.StyledText.{has_escape};
+ghost use Rattle.grid_records_measure.specs.TextLines.{AreLinesOf, is_line_feed, shown_lines};
+
+use ansi_str::{AnsiSplit, get_blocks};
+use std::alloc::{AllocError, Global};
+use std::borrow::CowStr;
+use std::marker::Model;
+
+/// How many lines a text has: one more than it shows line feeds. Takes no memory.
+pub fn count_lines(text: &str) -> usize
+    ensures { (pieces : List Piece) → ArePiecesOf text.now pieces → result ≡ length (shown_lines pieces) }
+{
+    let mut count = 1;
+    for block in get_blocks(text) {
+        count += line_feeds(block.text());
+    }
+    count
+}
+
+/// How many line feeds a text without sequences has.
+fn line_feeds(text: &str) -> usize
+    ensures { result ≡ count_by is_line_feed text.now }
+{
+    text.as_bytes()
+        .iter()
+        .filter(|byte| **byte == b'\n')
+        .count()
+}
+
+/// The lines of a text: its parts when it is split at line feeds, each with the styles that it shows
+/// opened and ended within. A text without ESC is answered by borrows, without memory; else the only
+/// refusal is for memory, and no line comes after it.
+pub fn get_lines<'a>(alloc: Global, text: &'a str) -> Lines<'a>
+    ensures lines { (pieces : List Piece) → ArePiecesOf text.now pieces → AreLinesOf pieces result.parts }
+    ensures may_refuse { result.may_refuse ≡ has_escape text.now }
+    ensures count { (pieces : List Piece) → ArePiecesOf text.now pieces → length result.parts ≡ length (shown_lines pieces) }
+{
+    Lines {
+        parts: AnsiSplit::new(alloc, text, "\n"),
+    }
+}
+
+/// The lines of a text that are still to come, made by `get_lines`. After the last, and after a refusal
+/// for memory, it gives `None` for ever. In a contract it is the list of these lines, and whether they
+/// may take memory.
+#[derive(Debug, Drop)]
+pub struct Lines<'a> {
+    parts: AnsiSplit<'a>,
+}
+
+impl<'a> Model for Lines<'a> {
+    ghost use Rattle.ansi_str.specs.Splitting.{PartsLeft};
+
+    ghost Value = { PartsLeft };
+
+    ghost view = { λ lines. lines.parts };
+}
+
+impl<'a> Iterator for Lines<'a> {
+    type Item = Result<CowStr<'a>, AllocError>;
+
+    ghost use Rattle.std.specs.Prelude.{length};
+    ghost use Rattle.std.specs.Iterator.{at_most};
+    ghost use Rattle.ansi_str.specs.Splitting.{GivesPart};
+
+    ghost next_gives = { GivesPart };
+
+    ghost remaining = { λ lines. at_most (length lines.parts) };
+
+    fn next(&mut self) -> Option<Result<CowStr<'a>, AllocError>> {
+        self.parts.next()
+    }
+}
