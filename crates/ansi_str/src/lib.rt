@@ -15,7 +15,7 @@ mod stripped;
 mod text;
 mod trim;
 
-pub use ansi_str_text::{AnsiBlock, AnsiBlockIter, get_blocks};
+pub use ansi_str_text::{AnsiBlock, AnsiBlockIter, StrippedChars, get_blocks, stripped_chars};
 pub use breaks::split_places;
 pub use ranges::AnsiRange;
 pub use split::AnsiSplit;

@@ -3,4 +3,4 @@ pub mod LineLemmas
 pub mod TabLemmas
 pub mod CutLemmas
 pub mod RawLineLemmas
-pub mod MeasureLemmas
+pub mod Drained

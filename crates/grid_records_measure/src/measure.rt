@@ -46,3 +46,6 @@ pub fn get_text_dimension(text: &str) -> (usize, usize)
     }
     (count, width)
 }
+
+#[cfg(test)]
+mod tests;
