@@ -1,5 +1,6 @@
 pub use Rattle.ansi_str_text.specs.StyledText
 pub use Rattle.ansi_str_text.specs.Blocks
+pub use Rattle.ansi_str_text.specs.Characters
 pub mod Parts
 pub mod Cuts
 pub mod Ranges

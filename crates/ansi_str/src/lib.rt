@@ -17,7 +17,7 @@ mod stripped;
 mod text;
 mod trim;
 
-pub use ansi_str_text::{AnsiBlock, AnsiBlockIter, get_blocks};
+pub use ansi_str_text::{AnsiBlock, AnsiBlockIter, StrippedChars, get_blocks, stripped_chars};
 pub use breaks::{are_places, split_places};
 pub use cut::is_good_range;
 pub use editing::edit;

@@ -65,7 +65,7 @@ length-shown Esc bytes = omega arith
 length-shown Str bytes = omega arith
 length-shown Broken bytes = omega arith
 
-length-strip : (ps : List Piece) → length (strip ps) ≤ length (joined ps)
+pub length-strip : (ps : List Piece) → length (strip ps) ≤ length (joined ps)
 length-strip [] = omega arith
 length-strip (p ∷ ps) =
     omega (arith, length-shown p.kind p.bytes, length-strip ps, length-append (text_of p) (strip ps), length-append p.bytes (joined ps))

@@ -2,3 +2,5 @@ pub mod FillingLemmas
 pub mod LineLemmas
 pub mod TabLemmas
 pub mod CutLemmas
+pub mod RawLineLemmas
+pub mod Drained

@@ -3,3 +3,4 @@ pub mod TextLines
 pub mod Tabs
 pub mod Cutting
 pub mod Filling
+pub mod RawLines

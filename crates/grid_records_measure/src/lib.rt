@@ -4,11 +4,14 @@
 mod characters;
 mod cut;
 pub mod laws;
+mod measure;
+mod raw_lines;
 mod tabs;
 mod text_lines;
 
 pub use characters::{get_char_width, get_string_width};
 pub use cut::cut_width;
+pub use measure::{get_line_width, get_text_dimension, get_text_width};
 pub use tabs::replace_tab;
 pub use text_lines::{Lines, count_lines, get_lines};
 

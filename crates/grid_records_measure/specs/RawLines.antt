@@ -1,0 +1,16 @@
+-- What is left of a text behind its first line, as it stands there: the tool by which the measures of its lines are found.
+use Rattle.std.specs.Prelude.{ℕ, List, [], Option, None, Some}
+use Rattle.std.specs.Borrow.{Bor}
+use Rattle.ansi_scan.specs.Pieces.{pieces}
+use Rattle.ansi_scan.specs.Attributes.{Attributes, plain_attributes}
+use Rattle.ansi_str.specs.Walking.{Lands}
+use Rattle.grid_records_measure.specs.TextLines.{line_feed, shown_lines}
+
+-- one comes to the first line feed that the text shows, or to its end, and there this stands
+abbrev pub IsFromLineFeed : List ℕ → List ℕ → Type 0
+IsFromLineFeed text rest = (style : Attributes) × Lands line_feed text plain_attributes rest style
+
+-- the lines that are shown behind a line; nothing stands behind the last
+abbrev pub lines_behind : Option (Bor (List ℕ)) → List (List ℕ)
+lines_behind None = []
+lines_behind (Some rest) = shown_lines (pieces rest.now)
