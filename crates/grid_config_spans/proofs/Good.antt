@@ -64,7 +64,7 @@ within_search : (a b place : Position) (a_extent b_extent : Extent) → Holds a 
 within_search a b place a_extent b_extent in_a in_b behind =
     let order = sym (is_le_cmp a b) ∙ behind in
     let end : is_le (position_cmp (search_end a a_extent) b) ≡ false =
-      is_le_cmp (search_end a a_extent) b ∙ grind (arith, nat_tests, order, in_a.below, in_a.above, in_a.left, in_a.right, in_b.below, in_b.right) in
+    is_le_cmp (search_end a a_extent) b ∙ grind (arith, nat_tests, order, in_a.below, in_a.above, in_a.left, in_a.right, in_b.below, in_b.right) in
     grind (arith, behind, end)
 
 one_order : (a b : Position) → (is_le (position_cmp a b) ≡ true) ⊎ (is_le (position_cmp b a) ≡ true)
@@ -100,11 +100,11 @@ module _ (spans : List (Position × Extent)) (rows columns : ℕ) where
   apart_in_order a b place a_extent b_extent found in_table in_a in_b behind none = elim (same_place b a) as (λ t. same_place b a ≡ t → same_place b a ≡ true) [
     | true ↦ λ same. same
     | false ↦ λ other.
-      let begun : Position × Extent → Bool = λ span. range_contains position_cmp (Included a) (Excluded (search_end a a_extent)) span.0 in
-      let met : is_met_by rows columns a a_extent (b, b_extent) ≡ true = grind (arith, other, in_table_tested rows columns b in_table, corner_held a b place a_extent b_extent in_a in_b) in
-      let both : begun (b, b_extent) && is_met_by rows columns a a_extent (b, b_extent) ≡ true = grind (arith, met, within_search a b place a_extent b_extent in_a in_b behind) in
-      let some = any_of_filter begun (is_met_by rows columns a a_extent) spans ∙ any_from_lookup (λ span. begun span && is_met_by rows columns a a_extent span) spans b b_extent found both in
-      absurd (grind (arith, none, some))
+        let begun : Position × Extent → Bool = λ span. range_contains position_cmp (Included a) (Excluded (search_end a a_extent)) span.0 in
+        let met : is_met_by rows columns a a_extent (b, b_extent) ≡ true = grind (arith, other, in_table_tested rows columns b in_table, corner_held a b place a_extent b_extent in_a in_b) in
+        let both : begun (b, b_extent) && is_met_by rows columns a a_extent (b, b_extent) ≡ true = grind (arith, met, within_search a b place a_extent b_extent in_a in_b behind) in
+        let some = any_of_filter begun (is_met_by rows columns a a_extent) spans ∙ any_from_lookup (λ span. begun span && is_met_by rows columns a a_extent span) spans b b_extent found both in
+        absurd (grind (arith, none, some))
   ] refl
 
   apart_if_kept : list_all (is_good_span spans rows columns) spans ≡ true → (a b place : Position) (a_extent b_extent : Extent) →
@@ -114,9 +114,9 @@ module _ (spans : List (Position × Extent)) (rows columns : ℕ) where
       let a_good = good_in_table a a_extent (all_at (is_good_span spans rows columns) spans a a_extent all a_found) a_table in
       let b_good = good_in_table b b_extent (all_at (is_good_span spans rows columns) spans b b_extent all b_found) b_table in
       elim (one_order a b) [
-      | inl behind ↦ sym (same_position b a (apart_in_order a b place a_extent b_extent b_found b_table in_a in_b behind a_good.1))
-      | inr behind ↦ same_position a b (apart_in_order b a place b_extent a_extent a_found a_table in_b in_a behind b_good.1)
-    ]
+        | inl behind ↦ sym (same_position b a (apart_in_order a b place a_extent b_extent b_found b_table in_a in_b behind a_good.1))
+        | inr behind ↦ same_position a b (apart_in_order b a place b_extent a_extent a_found a_table in_b in_a behind b_good.1)
+      ]
 
   apart_from_tests : list_all (is_good_span spans rows columns) spans ≡ true → (a b place : Position) → IsAnchor spans a → IsAnchor spans b → IsInTable rows columns a → IsInTable rows columns b →
       Holds a (extent_at spans a) place → Holds b (extent_at spans b) place → a ≡ b
@@ -125,7 +125,7 @@ module _ (spans : List (Position × Extent)) (rows columns : ℕ) where
     | Kept a_extent a_found a_has ↦ elim (kept_or_single spans b) [
       | NotKept single_b ↦ absurd (b_is single_b)
       | Kept b_extent b_found b_has ↦
-        apart_if_kept all a b place a_extent b_extent a_found b_found a_table b_table (subst (λ (e : Extent). Holds a e place) a_has in_a) (subst (λ (e : Extent). Holds b e place) b_has in_b)
+          apart_if_kept all a b place a_extent b_extent a_found b_found a_table b_table (subst (λ (e : Extent). Holds a e place) a_has in_a) (subst (λ (e : Extent). Holds b e place) b_has in_b)
     ]
   ]
 
@@ -133,7 +133,7 @@ module _ (spans : List (Position × Extent)) (rows columns : ℕ) where
   inside_from_tests all anchor is_anchor in_table = elim (kept_or_single spans anchor) [
     | NotKept is_single ↦ absurd (is_anchor is_single)
     | Kept extent found has ↦
-      subst (λ (e : Extent). IsInside anchor e rows columns) (sym has) (good_in_table anchor extent (all_at (is_good_span spans rows columns) spans anchor extent all found) in_table).0
+        subst (λ (e : Extent). IsInside anchor e rows columns) (sym has) (good_in_table anchor extent (all_at (is_good_span spans rows columns) spans anchor extent all found) in_table).0
   ]
 
   good_from_tests : list_all (is_good_span spans rows columns) spans ≡ true → AreGood spans rows columns

@@ -2,3 +2,4 @@ pub mod Order
 pub mod Extents
 pub mod Visible
 pub mod Good
+pub mod Parting

@@ -34,7 +34,7 @@ unfolding extent_at
 extent_kept spans place extent found = ap (λ (o : Option Extent). unwrap_or o single) found
 
 -- a cell of which nothing is kept holds itself alone
-single_holds : (anchor place : Position) → Holds anchor single place → anchor ≡ place
+pub single_holds : (anchor place : Position) → Holds anchor single place → anchor ≡ place
 single_holds anchor place h =
     let rows : anchor.row ≡ place.row = omega (arith, h.below, h.above) in
     let cols : anchor.col ≡ place.col = omega (arith, h.right, h.left) in
@@ -123,7 +123,7 @@ module _ (spans : List (Position × Extent)) (first place : Position) where
       same_place anchor place ≡ false → list_any (holds_in place) (begun_between first place spans) ≡ true
   found_in_search anchor extent found from held other =
       let both : begins_between first place (anchor, extent) && holds_in place (anchor, extent) ≡ true =
-        grind (arith, holder_is_before first place anchor extent from held other, holds_tested anchor extent place held) in
+      grind (arith, holder_is_before first place anchor extent from held other, holds_tested anchor extent place held) in
       any_of_filter (begins_between first place) (holds_in place) spans ∙ any_from_lookup (λ span. begins_between first place span && holds_in place span) spans anchor extent found both
 
   pub visible_from_none : ((anchor : Position) → Holds anchor (extent_at spans anchor) place → is_gt (position_cmp first anchor) ≡ false) →
@@ -132,8 +132,8 @@ module _ (spans : List (Position × Extent)) (first place : Position) where
     | true ↦ λ same. same_position anchor place same
     | false ↦ λ other. elim (kept_or_single spans anchor) [
       | Kept extent found is ↦
-        let some = found_in_search anchor extent found (before anchor held) (subst (λ (e : Extent). Holds anchor e place) is held) other in
-        absurd (grind (arith, none, some))
+          let some = found_in_search anchor extent found (before anchor held) (subst (λ (e : Extent). Holds anchor e place) is held) other in
+          absurd (grind (arith, none, some))
       | NotKept is ↦ single_holds anchor place (subst (λ (e : Extent). Holds anchor e place) is held)
     ]
   ] refl

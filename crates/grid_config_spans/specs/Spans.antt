@@ -30,7 +30,7 @@ IsInTable rows columns place = (place.row < rows) × (place.col < columns)
 pub record AreGood (spans : List (Position × Extent)) (rows columns : ℕ) : Type 0 where
   pub inside : (anchor : Position) → IsAnchor spans anchor → IsInTable rows columns anchor → IsInside anchor (extent_at spans anchor) rows columns
   pub apart : (a b place : Position) → IsAnchor spans a → IsAnchor spans b → IsInTable rows columns a → IsInTable rows columns b →
-    Holds a (extent_at spans a) place → Holds b (extent_at spans b) place → a ≡ b
+      Holds a (extent_at spans a) place → Holds b (extent_at spans b) place → a ≡ b
 
 -- the cell at this place takes the extent, and every other cell what it took
 abbrev pub SetsExtent : List (Position × Extent) → List (Position × Extent) → Position → Extent → Type 0

@@ -2,6 +2,7 @@
 #![tactic(auto)]
 
 mod extent;
+pub mod laws;
 mod spans;
 
 pub use extent::Extent;

@@ -1,5 +1,5 @@
 //! The cells that span several columns or rows.
-ghost use Rattle.std.specs.Prelude.{false, ◌≡◌, ◌≢◌, ◌+◌, ◌≤◌, ◌<◌, ◌↔◌, [], if◌then◌else◌, ◌==◌, IsOk, IsTrue, IfErr, OnErr, OnOk, None, Some, Err};
+ghost use Rattle.std.specs.Prelude.{false, ◌≡◌, ◌≢◌, ◌+◌, ◌≤◌, ◌<◌, ◌↔◌, [], if◌then◌else◌, ◌==◌, IsOk, IsTrue, IfErr, OnErr, OnOk, None, Some, Err, Ok};
 ghost use Rattle.grid_config_values.specs.declared.fault.Fault.TheVariants.{Memory, Spans as BadSpan};
 ghost use Rattle.std.specs.List.{All, list_all, list_any};
 ghost use Rattle.std.specs.Map.{lookup};
@@ -75,11 +75,9 @@ impl Spans {
         ensures err { OnErr result (self.new ≡ self.old) }
         ensures one { n ≡ 1 → IsOk result }
     {
-        if n == 0 {
-            return Err(Fault::Spans);
-        }
+        let columns = span(n)?;
         let extent = self.extent(pos);
-        self.set(pos, Extent { columns: n, ..extent })
+        self.set(pos, Extent { columns, ..extent })
     }
 
     /// Sets how many rows the cell at this place takes; 1 takes its span away. Refused as `Spans` for 0,
@@ -90,11 +88,9 @@ impl Spans {
         ensures err { OnErr result (self.new ≡ self.old) }
         ensures one { n ≡ 1 → IsOk result }
     {
-        if n == 0 {
-            return Err(Fault::Spans);
-        }
+        let rows = span(n)?;
         let extent = self.extent(pos);
-        self.set(pos, Extent { rows: n, ..extent })
+        self.set(pos, Extent { rows, ..extent })
     }
 
     // Sets what the cell at this place takes. Only what was not kept may want memory.
@@ -142,9 +138,9 @@ impl Spans {
         ensures kept { All (λ span. lookup (same_place span.0) self.now ≡ Some span.1) self.now }
         ensures spans { (p : Place) (e : Size) → lookup (same_place p) self.now ≡ Some e → e ≢ single }
     {
-        self.extents
-            .iter()
-            .all(|(anchor, extent)| self.is_good_span(*anchor, *extent, rows, columns))
+        self.extents.iter().all(|(anchor, extent)| self.is_good_span(
+            *anchor, *extent, rows, columns,
+        ))
     }
 
     // Whether this one is not in the table, or inside it and meets none that begins behind it.
@@ -167,9 +163,9 @@ impl Spans {
         ensures { result ≡ list_any (is_met_by rows columns anchor extent)
             (begun_between anchor (search_end anchor extent) self.now) }
     {
-        self.extents
-            .range(anchor..extent.search_end(anchor))
-            .any(|(other, size)| is_other(anchor, *other, rows, columns) && extent.meets(anchor, *other, *size))
+        self.extents.range(anchor..extent.search_end(anchor)).any(|(other, size)| is_other(
+            anchor, *other, rows, columns,
+        ) && extent.meets(anchor, *other, *size))
     }
 
     // Whether a rectangle holds this place that begins before it, and not before the first place.
@@ -206,6 +202,16 @@ impl Spans {
             None => Extent::SINGLE,
         }
     }
+}
+
+// A number of columns or rows, which is refused where it is 0.
+fn span(n: usize) -> Result<usize, Fault>
+    ensures { result ≡ (if n == 0 then Err BadSpan else Ok n) }
+{
+    if n == 0 {
+        return Err(Fault::Spans);
+    }
+    Ok(n)
 }
 
 // A number of columns or rows, where it is not one.

@@ -1,6 +1,6 @@
 -- The positions that an iterator over a rectangle has still to give.
 use Rattle.std.specs.Prelude.{ℕ, ◌+◌, ◌-◌, ◌<◌, ◌≤◌, Bool, true, List, [], ◌++◌, map, ◌==◌, if◌then◌else◌, nat_lt, Option, None, Some}
-use Rattle.std.specs.List.{filter, flat_map, range_with_len}
+use Rattle.std.specs.List.{flat_map, range_with_len}
 use Rattle.std.specs.declared.ops.Range.{Range}
 use Rattle.grid_config_values.specs.declared.position.Position.{Position}
 use Rattle.grid_config_values.specs.declared.entity_iterator.EntityIterator.TheInside.{Inside}

@@ -1,5 +1,5 @@
 //! The glyphs of a table's boundaries, or what else belongs to each of them, as its colour.
-ghost use Rattle.std.specs.Prelude.{◌≡◌, ◌<◌, Bool, if◌then◌else◌, is_some};
+ghost use Rattle.std.specs.Prelude.{◌≡◌, ◌<◌, ◌||◌, Bool, if◌then◌else◌, is_some};
 ghost use Rattle.grid_config_values.specs.Glyphs.{Between, BoundaryKind, First, Last, boundary_count, boundary_kind, has_column_boundary, has_row_boundary, no_borders};
 
 /// What may stand round one cell.
@@ -63,11 +63,11 @@ pub struct Borders<T> {
     pub right: Option<T>,
 }
 
-// `is_some`, which is no `const` function.
-const fn is_set<T>(glyph: &Option<T>) -> bool
-    ensures { result ≡ is_some glyph.now }
+// Whether one of the two is set. `is_some` is no `const` function.
+const fn is_either_set<T>(a: &Option<T>, b: &Option<T>) -> bool
+    ensures { result ≡ (is_some a.now || is_some b.now) }
 {
-    matches!(glyph, Some(_))
+    matches!(a, Some(_)) || matches!(b, Some(_))
 }
 
 impl<T> Borders<T> {
@@ -98,60 +98,48 @@ impl<T> Borders<T> {
     pub const fn has_left(&self) -> bool
         ensures { result ≡ has_column_boundary self.now First }
     {
-        is_set(&self.left)
-            || is_set(&self.left_intersection)
-            || is_set(&self.top_left)
-            || is_set(&self.bottom_left)
+        is_either_set(&self.left, &self.left_intersection)
+            || is_either_set(&self.top_left, &self.bottom_left)
     }
 
     /// Whether one of `right`, `right_intersection`, `top_right`, `bottom_right` is set.
     pub const fn has_right(&self) -> bool
         ensures { result ≡ has_column_boundary self.now Last }
     {
-        is_set(&self.right)
-            || is_set(&self.right_intersection)
-            || is_set(&self.top_right)
-            || is_set(&self.bottom_right)
+        is_either_set(&self.right, &self.right_intersection)
+            || is_either_set(&self.top_right, &self.bottom_right)
     }
 
     /// Whether one of `top`, `top_intersection`, `top_left`, `top_right` is set.
     pub const fn has_top(&self) -> bool
         ensures { result ≡ has_row_boundary self.now First }
     {
-        is_set(&self.top)
-            || is_set(&self.top_intersection)
-            || is_set(&self.top_left)
-            || is_set(&self.top_right)
+        is_either_set(&self.top, &self.top_intersection)
+            || is_either_set(&self.top_left, &self.top_right)
     }
 
     /// Whether one of `bottom`, `bottom_intersection`, `bottom_left`, `bottom_right` is set.
     pub const fn has_bottom(&self) -> bool
         ensures { result ≡ has_row_boundary self.now Last }
     {
-        is_set(&self.bottom)
-            || is_set(&self.bottom_intersection)
-            || is_set(&self.bottom_left)
-            || is_set(&self.bottom_right)
+        is_either_set(&self.bottom, &self.bottom_intersection)
+            || is_either_set(&self.bottom_left, &self.bottom_right)
     }
 
     /// Whether one of `vertical`, `intersection`, `top_intersection`, `bottom_intersection` is set.
     pub const fn has_vertical(&self) -> bool
         ensures { result ≡ has_column_boundary self.now Between }
     {
-        is_set(&self.vertical)
-            || is_set(&self.intersection)
-            || is_set(&self.top_intersection)
-            || is_set(&self.bottom_intersection)
+        is_either_set(&self.vertical, &self.intersection)
+            || is_either_set(&self.top_intersection, &self.bottom_intersection)
     }
 
     /// Whether one of `horizontal`, `intersection`, `left_intersection`, `right_intersection` is set.
     pub const fn has_horizontal(&self) -> bool
         ensures { result ≡ has_row_boundary self.now Between }
     {
-        is_set(&self.horizontal)
-            || is_set(&self.intersection)
-            || is_set(&self.left_intersection)
-            || is_set(&self.right_intersection)
+        is_either_set(&self.horizontal, &self.intersection)
+            || is_either_set(&self.left_intersection, &self.right_intersection)
     }
 
     /// Whether column boundary `j` of so many columns is there: `has_left` of the first, `has_right`
@@ -187,7 +175,12 @@ impl<T> Borders<T> {
         requires { columns < usize.MAX }
         ensures { result ≡ boundary_count (has_column_boundary self.now) columns }
     {
-        count_boundaries(columns, self.has_left(), self.has_vertical(), self.has_right())
+        count_boundaries(
+            columns,
+            self.has_left(),
+            self.has_vertical(),
+            self.has_right(),
+        )
     }
 
     /// How many of the row boundaries from 0 to `rows` are there.
@@ -195,7 +188,12 @@ impl<T> Borders<T> {
         requires { rows < usize.MAX }
         ensures { result ≡ boundary_count (has_row_boundary self.now) rows }
     {
-        count_boundaries(rows, self.has_top(), self.has_horizontal(), self.has_bottom())
+        count_boundaries(
+            rows,
+            self.has_top(),
+            self.has_horizontal(),
+            self.has_bottom(),
+        )
     }
 }
 

@@ -40,7 +40,11 @@ impl EntityIterator {
             row: rows.start,
             col: cols.start,
             // without columns there is no cell in any row
-            end_row: if cols.start < cols.end { rows.end } else { rows.start },
+            end_row: if cols.start < cols.end {
+                rows.end
+            } else {
+                rows.start
+            },
             first_col: cols.start,
             end_col: cols.end,
         }

@@ -20,9 +20,9 @@ impl Formatting {
         allow_lines_alignment: bool,
     ) -> Formatting
         ensures { result ≡ record {
-            horizontal_trim = horizontal_trim;
-            vertical_trim = vertical_trim;
-            allow_lines_alignment = allow_lines_alignment;
+          horizontal_trim = horizontal_trim;
+          vertical_trim = vertical_trim;
+          allow_lines_alignment = allow_lines_alignment;
         } }
     {
         Formatting {

@@ -8,6 +8,7 @@ mod entity_iterator;
 mod entity_map;
 mod fault;
 mod formatting;
+pub mod laws;
 mod position;
 mod sides;
 

@@ -16,12 +16,18 @@ fn a_want_of_memory_is_a_fault(rt: HostRuntime) -> Result<(), Fail> {
         (Fault::Memory, "out of memory"),
         (Fault::Range, "size out of range"),
         (Fault::Spans, "bad spans"),
-        (Fault::Room { row: 3, column: 10 }, "row 3 column 10 does not fit"),
+        (
+            Fault::Room { row: 3, column: 10 },
+            "row 3 column 10 does not fit",
+        ),
     ];
     for (fault, text) in faults {
         let printed = fault.to_string(rt.alloc())?;
         assert_eq!(rt; printed.as_str(), text);
-        assert_eq!(rt; fault == Fault::Room { row: 3, column: 10 }, text.starts_with("row"));
+        assert_eq!(rt;
+            fault == Fault::Room { row: 3, column: 10 },
+            text.starts_with("row")
+        );
     }
     Ok(())
 }
@@ -126,7 +132,10 @@ fn indents_and_sides_have_their_parts(rt: HostRuntime) -> Result<(), Fail> {
     assert_eq!(rt; Indent::zero(), Indent::new(0, ' '));
     assert_eq!(rt; Indent::default(), Indent::new(0, ' '));
     let sides = Sides::new(1, 2, 3, 4);
-    assert_eq!(rt; (sides.left, sides.right, sides.top, sides.bottom), (1, 2, 3, 4));
+    assert_eq!(rt;
+        (sides.left, sides.right, sides.top, sides.bottom),
+        (1, 2, 3, 4)
+    );
     assert_eq!(rt; Sides::filled('x'), Sides::new('x', 'x', 'x', 'x'));
     let formatting = Formatting::new(true, false, true);
     assert!(rt; formatting.horizontal_trim && formatting.allow_lines_alignment);
@@ -135,9 +144,6 @@ fn indents_and_sides_have_their_parts(rt: HostRuntime) -> Result<(), Fail> {
     assert!(rt; !Formatting::new(true, true, false).allow_lines_alignment);
     Ok(())
 }
-
-// No glyph at all.
-const NONE: Borders<char> = Borders::empty();
 
 // Which of the six kinds of boundaries are there: left, between columns, right, top, between rows, bottom.
 fn there(borders: Borders<char>) -> [bool; 6] {
@@ -153,25 +159,110 @@ fn there(borders: Borders<char>) -> [bool; 6] {
 
 #[test]
 fn each_glyph_makes_its_boundaries(rt: HostRuntime) -> Result<(), Fail> {
+    let none: Borders<char> = Borders::empty();
     let glyph = Some('+');
     // a glyph, and the boundaries that it stands on
     let cases = [
-        (NONE, ""),
-        (Borders { left: glyph, ..NONE }, "l"),
-        (Borders { vertical: glyph, ..NONE }, "v"),
-        (Borders { right: glyph, ..NONE }, "r"),
-        (Borders { top: glyph, ..NONE }, "t"),
-        (Borders { horizontal: glyph, ..NONE }, "h"),
-        (Borders { bottom: glyph, ..NONE }, "b"),
-        (Borders { top_left: glyph, ..NONE }, "lt"),
-        (Borders { top_intersection: glyph, ..NONE }, "vt"),
-        (Borders { top_right: glyph, ..NONE }, "rt"),
-        (Borders { left_intersection: glyph, ..NONE }, "lh"),
-        (Borders { intersection: glyph, ..NONE }, "vh"),
-        (Borders { right_intersection: glyph, ..NONE }, "rh"),
-        (Borders { bottom_left: glyph, ..NONE }, "lb"),
-        (Borders { bottom_intersection: glyph, ..NONE }, "vb"),
-        (Borders { bottom_right: glyph, ..NONE }, "rb"),
+        (none, ""),
+        (
+            Borders {
+                left: glyph,
+                ..none
+            },
+            "l",
+        ),
+        (
+            Borders {
+                vertical: glyph,
+                ..none
+            },
+            "v",
+        ),
+        (
+            Borders {
+                right: glyph,
+                ..none
+            },
+            "r",
+        ),
+        (Borders { top: glyph, ..none }, "t"),
+        (
+            Borders {
+                horizontal: glyph,
+                ..none
+            },
+            "h",
+        ),
+        (
+            Borders {
+                bottom: glyph,
+                ..none
+            },
+            "b",
+        ),
+        (
+            Borders {
+                top_left: glyph,
+                ..none
+            },
+            "lt",
+        ),
+        (
+            Borders {
+                top_intersection: glyph,
+                ..none
+            },
+            "vt",
+        ),
+        (
+            Borders {
+                top_right: glyph,
+                ..none
+            },
+            "rt",
+        ),
+        (
+            Borders {
+                left_intersection: glyph,
+                ..none
+            },
+            "lh",
+        ),
+        (
+            Borders {
+                intersection: glyph,
+                ..none
+            },
+            "vh",
+        ),
+        (
+            Borders {
+                right_intersection: glyph,
+                ..none
+            },
+            "rh",
+        ),
+        (
+            Borders {
+                bottom_left: glyph,
+                ..none
+            },
+            "lb",
+        ),
+        (
+            Borders {
+                bottom_intersection: glyph,
+                ..none
+            },
+            "vb",
+        ),
+        (
+            Borders {
+                bottom_right: glyph,
+                ..none
+            },
+            "rb",
+        ),
     ];
     for (borders, names) in cases {
         let wanted = ["l", "v", "r", "t", "h", "b"].map(|name| names.contains(name));
@@ -182,12 +273,13 @@ fn each_glyph_makes_its_boundaries(rt: HostRuntime) -> Result<(), Fail> {
 
 #[test]
 fn boundaries_are_counted(rt: HostRuntime) -> Result<(), Fail> {
+    let none: Borders<char> = Borders::empty();
     let glyph = Some('|');
     let borders = Borders {
         left: glyph,
         vertical: glyph,
         bottom: glyph,
-        ..NONE
+        ..none
     };
     let columns = [0, 1, 2, 3].map(|j| borders.has_vertical_at(j, 3));
     assert_eq!(rt; columns, [true, true, true, false]);
@@ -203,7 +295,10 @@ fn boundaries_are_counted(rt: HostRuntime) -> Result<(), Fail> {
     let most = usize::MAX - 1;
     assert_eq!(rt; borders.count_vertical(most), most);
     assert_eq!(rt; borders.count_horizontal(most), 1);
-    let framed = Borders { right: glyph, ..borders };
+    let framed = Borders {
+        right: glyph,
+        ..borders
+    };
     assert_eq!(rt; framed.count_vertical(most), usize::MAX);
     Ok(())
 }
@@ -224,13 +319,14 @@ fn equal_values_compare_and_hash_alike(rt: HostRuntime) -> Result<(), Fail> {
     let copy = one;
     assert!(rt; one == copy && one.cmp(&copy).is_eq() && hash_of(&one) == hash_of(&copy));
     assert!(rt; one != other && one.cmp(&other).is_ne());
+    let none: Borders<char> = Borders::empty();
     let plain = Borders {
         top: Some('-'),
-        ..NONE
+        ..none
     };
     let copy = plain;
     assert!(rt; plain == copy && plain.cmp(&copy).is_eq() && hash_of(&plain) == hash_of(&copy));
-    assert!(rt; plain != NONE && plain.cmp(&NONE).is_ne());
+    assert!(rt; plain != none && plain.cmp(&none).is_ne());
     assert!(rt; AlignmentHorizontal::Left < AlignmentHorizontal::Right);
     assert!(rt; AlignmentVertical::Top < AlignmentVertical::Bottom);
     assert!(rt; Formatting::new(false, false, true) < Formatting::new(false, true, false));

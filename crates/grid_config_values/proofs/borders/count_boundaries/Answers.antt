@@ -1,6 +1,5 @@
 use Rattle.std.proofs.Common.{arith}
 use Rattle.std.proofs.lemmas.Bool.Decides.{nat_tests}
-use Rattle.grid_config_values.specs.Glyphs.{boundary_kind}
 use Rattle.grid_config_values.proofs.Boundaries.{counted}
 use Rattle.grid_config_values.proofs.borders.count_boundaries.Goals as goal
 

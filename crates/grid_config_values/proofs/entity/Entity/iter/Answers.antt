@@ -1,4 +1,4 @@
-use Rattle.std.proofs.Common.{◌≡◌, ◌∙◌, None, Some, refl}
+use Rattle.std.proofs.Common.{◌∙◌, None, Some, refl}
 use Rattle.grid_config_values.specs.declared.entity.Entity.TheVariants.{Global, Column, Row, Cell}
 use Rattle.grid_config_values.proofs.Rectangles.{covered_by_names, covers_column, covers_row}
 use Rattle.grid_config_values.proofs.entity.Entity.iter.Goals as goal

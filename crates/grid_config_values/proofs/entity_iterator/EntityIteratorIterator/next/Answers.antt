@@ -1,5 +1,4 @@
-use Rattle.std.proofs.Common.{◌≡◌, ◌+◌, ◌∷◌, sym, ◌∙◌, ap, arith, rules}
-use Rattle.grid_config_values.specs.Rectangles.{places_left}
+use Rattle.std.proofs.Common.{◌+◌, ◌∷◌, sym, ◌∙◌, ap, arith, rules}
 use Rattle.grid_config_values.proofs.Rectangles.{no_places_left, places_in_row, places_below}
 use Rattle.grid_config_values.proofs.entity_iterator.EntityIteratorIterator.next.Goals as goal
 

@@ -1,0 +1,36 @@
+//! Laws of the definitions that the other contracts cite.
+ghost use Rattle.std.specs.Prelude.{◌≡◌, ◌<◌, ◌||◌, ◌⊎◌, ◌↔◌, All, IsTrue, List, ◌∷◌, ◌++◌, false, is_some};
+ghost use Rattle.std.specs.declared.cmp.Ordering.TheVariants.{Equal, Less};
+ghost use Rattle.grid_config_values.specs.declared.borders.Borders.{Borders as BorderSet};
+ghost use Rattle.grid_config_values.specs.declared.entity.Entity.{Entity as CellSet};
+ghost use Rattle.grid_config_values.specs.declared.position.Position.{Position as Place};
+ghost use Rattle.grid_config_values.specs.Entities.{covers};
+ghost use Rattle.grid_config_values.specs.Glyphs.{Between, First, Last, has_column_boundary, has_row_boundary};
+ghost use Rattle.grid_config_values.specs.Order.{position_cmp};
+ghost use Rattle.grid_config_values.specs.Settings.{value_after};
+
+/// The last call that covers a position decides, whatever stands before it; where none covers it the
+/// value is the one from the start.
+pub fn the_last_call_decides<T>()
+    ensures last { (value : T) (earlier later : List (CellSet × T)) (call : CellSet × T) (p : Place) →
+        IsTrue (covers call.0 p) → All (λ other. covers other.0 p ≡ false) later →
+        value_after value (earlier ++ call ∷ later) p ≡ call.1 }
+    ensures none { (value : T) (calls : List (CellSet × T)) (p : Place) →
+        All (λ call. covers call.0 p ≡ false) calls → value_after value calls p ≡ value }
+{}
+
+/// Positions are compared by rows, and in a row by columns; those that compare equal are the same.
+pub fn positions_go_by_rows()
+    ensures less { (a b : Place) → (position_cmp a b ≡ Less) ↔ ((a.row < b.row) ⊎ ((a.row ≡ b.row) × (a.col < b.col))) }
+    ensures equal { (a b : Place) → (position_cmp a b ≡ Equal) ↔ (a ≡ b) }
+{}
+
+/// The six kinds of boundaries, by the names of what may stand on them.
+pub fn boundaries_by_name<T>()
+    ensures left { (b : BorderSet T) → has_column_boundary b First ≡ (is_some b.left || is_some b.top_left || is_some b.left_intersection || is_some b.bottom_left) }
+    ensures vertical { (b : BorderSet T) → has_column_boundary b Between ≡ (is_some b.vertical || is_some b.top_intersection || is_some b.intersection || is_some b.bottom_intersection) }
+    ensures right { (b : BorderSet T) → has_column_boundary b Last ≡ (is_some b.right || is_some b.top_right || is_some b.right_intersection || is_some b.bottom_right) }
+    ensures top { (b : BorderSet T) → has_row_boundary b First ≡ (is_some b.top || is_some b.top_left || is_some b.top_intersection || is_some b.top_right) }
+    ensures horizontal { (b : BorderSet T) → has_row_boundary b Between ≡ (is_some b.horizontal || is_some b.left_intersection || is_some b.intersection || is_some b.right_intersection) }
+    ensures bottom { (b : BorderSet T) → has_row_boundary b Last ≡ (is_some b.bottom || is_some b.bottom_left || is_some b.bottom_intersection || is_some b.bottom_right) }
+{}
