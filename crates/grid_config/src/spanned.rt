@@ -11,12 +11,11 @@ ghost use Rattle.grid_config.specs.Settings.{Margin, MarginColor, BorderGlyphs, 
 use crate::cells::CellSettings;
 use crate::compact::CompactConfig;
 use crate::owning::{owned_borders, owned_sides};
-use crate::whole::{WholeSettings, no_borders};
+use crate::whole::WholeSettings;
 use grid_config_colors::ANSIBuf;
 use grid_config_spans::Spans;
 use grid_config_values::{
-    AlignmentHorizontal, AlignmentVertical, Borders, Entity, EntityMap, Fault, Indent, Position,
-    Sides,
+    AlignmentHorizontal, AlignmentVertical, Borders, Entity, Fault, Indent, Position, Sides,
 };
 use std::alloc::{AllocError, Global};
 use std::marker::Model;

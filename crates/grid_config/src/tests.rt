@@ -1,5 +1,6 @@
 use super::*;
 use std::alloc::Global;
+use std::hash::{DefaultHasher, Hash, Hasher};
 use std::process::Abort;
 use std::test::Fail;
 
@@ -89,8 +90,12 @@ const NO_INDENTS: Sides<Indent> = Sides {
     bottom: Indent { size: 0, fill: ' ' },
 };
 
+const fn red() -> ANSIStr<'static> {
+    ANSIStr::new("\x1b[31m", "\x1b[39m")
+}
+
 #[test]
-fn sets_compact_settings(rt: HostRuntime) {
+fn compact_settings_begin_with_nothing(rt: HostRuntime) {
     let new = CompactConfig::new();
     assert!(rt; *new.get_margin() == NO_INDENTS);
     assert!(rt; *new.get_padding() == NO_INDENTS);
@@ -99,156 +104,252 @@ fn sets_compact_settings(rt: HostRuntime) {
     assert!(rt; new.get_margin_color().top.is_empty());
     assert!(rt; new.get_padding_color().left.is_empty());
     assert!(rt; new.get_borders_color().top.is_none());
-    let red = ANSIStr::new("\x1b[31m", "\x1b[39m");
-    let none = ANSIStr::empty();
-    let glyph_colors = Borders {
-        top: Some(red),
-        ..*new.get_borders_color()
-    };
-    let all = new
-        .set_margin(INDENTS)
-        .set_borders(borders(Some('-'), None, Some('|')))
-        .set_padding(INDENTS)
-        .set_alignment_horizontal(AlignmentHorizontal::Center)
-        .set_margin_color(Sides::new(red, none, none, none))
-        .set_borders_color(glyph_colors)
-        .set_padding_color(Sides::new(none, none, none, red));
-    assert!(rt; *all.get_margin() == INDENTS);
-    assert!(rt; *all.get_padding() == INDENTS);
-    assert!(rt; *all.get_borders() == borders(Some('-'), None, Some('|')));
-    assert!(rt; all.get_alignment_horizontal() == AlignmentHorizontal::Center);
-    assert!(rt; *all.get_margin_color() == Sides::new(red, none, none, none));
-    assert!(rt; all.get_borders_color().top == Some(red));
-    assert!(rt; *all.get_padding_color() == Sides::new(none, none, none, red));
-    // a copy is equal, and every setting counts
-    let copy = all;
-    assert!(rt; copy == all);
-    assert!(rt; new != all);
-    assert!(rt; new < new.set_margin(INDENTS));
-    assert!(rt; new != new.set_padding_color(Sides::new(none, none, none, red)));
 }
 
 #[test]
-fn starts_with_nothing(rt: HostRuntime) {
+fn sets_compact_indents(rt: HostRuntime) {
+    let margin = CompactConfig::new().set_margin(INDENTS);
+    assert!(rt; *margin.get_margin() == INDENTS);
+    assert!(rt; *margin.get_padding() == NO_INDENTS);
+    let padding = CompactConfig::new().set_padding(INDENTS);
+    assert!(rt; *padding.get_padding() == INDENTS);
+    assert!(rt; *padding.get_margin() == NO_INDENTS);
+}
+
+#[test]
+fn sets_compact_borders_and_alignment(rt: HostRuntime) {
+    let glyphs = borders(Some('-'), None, Some('|'));
+    let config = CompactConfig::new().set_borders(glyphs);
+    assert!(rt; *config.get_borders() == glyphs);
+    let config = config.set_alignment_horizontal(AlignmentHorizontal::Center);
+    assert!(rt; config.get_alignment_horizontal() == AlignmentHorizontal::Center);
+    assert!(rt; *config.get_borders() == glyphs);
+}
+
+#[test]
+fn sets_compact_colors(rt: HostRuntime) {
+    let colors = Sides::new(red(), ANSIStr::empty(), ANSIStr::empty(), ANSIStr::empty());
+    let margin = CompactConfig::new().set_margin_color(colors);
+    assert!(rt; *margin.get_margin_color() == colors);
+    assert!(rt; margin.get_padding_color().left.is_empty());
+    let padding = CompactConfig::new().set_padding_color(colors);
+    assert!(rt; *padding.get_padding_color() == colors);
+    assert!(rt; padding.get_margin_color().left.is_empty());
+}
+
+#[test]
+fn sets_compact_glyph_colors(rt: HostRuntime) {
+    let new = CompactConfig::new();
+    let colors = Borders {
+        top: Some(red()),
+        ..*new.get_borders_color()
+    };
+    let config = new.set_borders_color(colors);
+    assert!(rt; config.get_borders_color().top == Some(red()));
+    assert!(rt; config.get_borders_color().bottom.is_none());
+}
+
+fn hash_of(config: &CompactConfig) -> u64 {
+    let mut hasher = DefaultHasher::new();
+    config.hash(&mut hasher);
+    hasher.finish()
+}
+
+#[test]
+fn compares_compact_settings(rt: HostRuntime) {
+    let config = CompactConfig::new().set_margin(INDENTS);
+    let copy = config;
+    assert!(rt; copy == config);
+    assert_eq!(rt; hash_of(&copy), hash_of(&config));
+    assert!(rt; CompactConfig::new() != config);
+    assert!(rt; CompactConfig::new() < config);
+}
+
+#[test]
+fn a_table_begins_with_nothing(rt: HostRuntime) {
     let config = SpannedConfig::new(rt.alloc());
     assert!(rt; *config.get_margin() == NO_INDENTS);
     assert!(rt; *config.get_borders() == borders(None, None, None));
     assert!(rt; config.get_borders_color().top.is_none());
     expect_sides(&rt, config.get_margin_color(), ["-", "-", "-", "-"]);
-    for pos in [at(0, 0), at(7, 3)] {
-        assert!(rt; *config.get_padding(pos) == NO_INDENTS);
-        expect_sides(&rt, config.get_padding_color(pos), ["-", "-", "-", "-"]);
-        assert!(rt; config.get_alignment_horizontal(pos) == AlignmentHorizontal::Left);
-        assert!(rt; config.get_alignment_vertical(pos) == AlignmentVertical::Top);
-        assert!(rt; !config.get_line_alignment(pos));
-        assert!(rt; !config.get_trim_horizontal(pos));
-        assert!(rt; !config.get_trim_vertical(pos));
-        assert_eq!(rt; config.get_justification(pos), ' ');
-        assert!(rt; config.get_justification_color(pos).is_none());
-        assert_eq!(rt; config.get_column_span(pos), None);
-        assert_eq!(rt; config.get_row_span(pos), None);
-        assert!(rt; config.is_cell_visible(pos));
-    }
     assert!(rt; config.spans_are_good(0, 0));
 }
 
 #[test]
-fn sets_whole_settings(rt: HostRuntime) -> Result<(), Fail> {
-    let alloc = rt.alloc();
-    let mut config = SpannedConfig::new(alloc);
+fn cells_begin_with_nothing(rt: HostRuntime) {
+    let config = SpannedConfig::new(rt.alloc());
+    let pos = at(7, 3);
+    assert!(rt; *config.get_padding(pos) == NO_INDENTS);
+    expect_sides(&rt, config.get_padding_color(pos), ["-", "-", "-", "-"]);
+    expect_layout(&rt, &config, pos);
+    assert!(rt; config.get_alignment_horizontal(pos) == AlignmentHorizontal::Left);
+    assert_eq!(rt; config.get_column_span(pos), None);
+    assert_eq!(rt; config.get_row_span(pos), None);
+    assert!(rt; config.is_cell_visible(pos));
+}
+
+// What a cell has that nothing was set for.
+fn expect_layout(rt: &impl Abort, config: &SpannedConfig, pos: Position) {
+    assert!(rt; config.get_alignment_vertical(pos) == AlignmentVertical::Top);
+    assert!(rt; !config.get_line_alignment(pos));
+    assert!(rt; !config.get_trim_horizontal(pos));
+    assert!(rt; !config.get_trim_vertical(pos));
+    assert_eq!(rt; config.get_justification(pos), ' ');
+    assert!(rt; config.get_justification_color(pos).is_none());
+}
+
+#[test]
+fn sets_margins(rt: HostRuntime) -> Result<(), Fail> {
+    let mut config = SpannedConfig::new(rt.alloc());
     config.set_margin(INDENTS);
-    config.set_margin_color(sides(alloc)?);
-    config.set_borders(borders(Some('-'), Some('|'), None));
-    config.set_borders_color(color_borders(Some(color(alloc, "t")?), None));
     assert!(rt; *config.get_margin() == INDENTS);
+    config.set_margin_color(sides(rt.alloc())?);
     expect_sides(&rt, config.get_margin_color(), ["l", "r", "-", "b"]);
-    assert!(rt; *config.get_borders() == borders(Some('-'), Some('|'), None));
-    assert_eq!(rt; shown(&config.get_borders_color().top), "t");
-    assert_eq!(rt; shown(&config.get_borders_color().left), "-");
     // the last value counts
     config.set_margin(NO_INDENTS);
     assert!(rt; *config.get_margin() == NO_INDENTS);
+    expect_sides(&rt, config.get_margin_color(), ["l", "r", "-", "b"]);
     Ok(())
 }
 
 #[test]
-fn sets_cells(rt: HostRuntime) -> Result<(), Fail> {
-    let alloc = rt.alloc();
-    let mut config = SpannedConfig::new(alloc);
-    let (here, there) = (at(1, 2), at(2, 1));
-    config.set_padding(Entity::Cell(1, 2), INDENTS)?;
-    config.set_padding_color(Entity::Row(1), sides(alloc)?)?;
-    config.set_alignment_horizontal(Entity::Column(2), AlignmentHorizontal::Center)?;
-    config.set_alignment_vertical(Entity::Cell(1, 2), AlignmentVertical::Bottom)?;
-    config.set_line_alignment(Entity::Row(1), true)?;
-    config.set_trim_horizontal(Entity::Column(2), true)?;
-    config.set_trim_vertical(Entity::Cell(1, 2), true)?;
-    config.set_justification(Entity::Row(1), '.')?;
-    config.set_justification_color(Entity::Column(2), Some(color(alloc, "j")?))?;
-    assert!(rt; *config.get_padding(here) == INDENTS);
-    assert!(rt; *config.get_padding(there) == NO_INDENTS);
-    expect_sides(&rt, config.get_padding_color(here), ["l", "r", "-", "b"]);
-    expect_sides(&rt, config.get_padding_color(there), ["-", "-", "-", "-"]);
-    assert!(rt; config.get_alignment_horizontal(here) == AlignmentHorizontal::Center);
-    assert!(rt; config.get_alignment_horizontal(there) == AlignmentHorizontal::Left);
-    assert!(rt; config.get_alignment_vertical(here) == AlignmentVertical::Bottom);
-    assert!(rt; config.get_alignment_vertical(there) == AlignmentVertical::Top);
-    assert!(rt; config.get_line_alignment(here) && !config.get_line_alignment(there));
-    assert!(rt; config.get_trim_horizontal(here) && !config.get_trim_horizontal(there));
-    assert!(rt; config.get_trim_vertical(here) && !config.get_trim_vertical(there));
-    assert_eq!(rt; config.get_justification(here), '.');
-    assert_eq!(rt; config.get_justification(there), ' ');
-    assert_eq!(rt; shown(config.get_justification_color(here)), "j");
-    assert_eq!(rt; shown(config.get_justification_color(there)), "-");
+fn sets_borders(rt: HostRuntime) -> Result<(), Fail> {
+    let mut config = SpannedConfig::new(rt.alloc());
+    config.set_borders(borders(Some('-'), Some('|'), None));
+    assert!(rt; *config.get_borders() == borders(Some('-'), Some('|'), None));
+    let top = color(rt.alloc(), "t")?;
+    config.set_borders_color(color_borders(Some(top), None));
+    assert_eq!(rt; shown(&config.get_borders_color().top), "t");
+    assert_eq!(rt; shown(&config.get_borders_color().left), "-");
     Ok(())
+}
+
+const HERE: Position = Position { row: 1, col: 2 };
+
+const THERE: Position = Position { row: 2, col: 1 };
+
+#[test]
+fn sets_paddings(rt: HostRuntime) -> Result<(), Fail> {
+    let mut config = SpannedConfig::new(rt.alloc());
+    config.set_padding(Entity::Cell(1, 2), INDENTS)?;
+    assert!(rt; *config.get_padding(HERE) == INDENTS);
+    assert!(rt; *config.get_padding(THERE) == NO_INDENTS);
+    Ok(())
+}
+
+#[test]
+fn sets_padding_colors(rt: HostRuntime) -> Result<(), Fail> {
+    let mut config = SpannedConfig::new(rt.alloc());
+    config.set_padding_color(Entity::Row(1), sides(rt.alloc())?)?;
+    expect_sides(&rt, config.get_padding_color(HERE), ["l", "r", "-", "b"]);
+    expect_sides(&rt, config.get_padding_color(THERE), ["-", "-", "-", "-"]);
+    Ok(())
+}
+
+#[test]
+fn sets_alignments(rt: HostRuntime) -> Result<(), Fail> {
+    let mut config = SpannedConfig::new(rt.alloc());
+    config.set_alignment_horizontal(Entity::Column(2), AlignmentHorizontal::Center)?;
+    assert!(rt; config.get_alignment_horizontal(HERE) == AlignmentHorizontal::Center);
+    assert!(rt; config.get_alignment_horizontal(THERE) == AlignmentHorizontal::Left);
+    config.set_alignment_vertical(Entity::Cell(1, 2), AlignmentVertical::Bottom)?;
+    assert!(rt; config.get_alignment_vertical(HERE) == AlignmentVertical::Bottom);
+    assert!(rt; config.get_alignment_vertical(THERE) == AlignmentVertical::Top);
+    Ok(())
+}
+
+#[test]
+fn sets_formats(rt: HostRuntime) -> Result<(), Fail> {
+    let mut config = SpannedConfig::new(rt.alloc());
+    config.set_line_alignment(Entity::Row(1), true)?;
+    assert!(rt; config.get_line_alignment(HERE) && !config.get_line_alignment(THERE));
+    config.set_trim_horizontal(Entity::Column(2), true)?;
+    assert!(rt; config.get_trim_horizontal(HERE) && !config.get_trim_horizontal(THERE));
+    assert!(rt; !config.get_trim_vertical(HERE));
+    config.set_trim_vertical(Entity::Cell(2, 1), true)?;
+    assert!(rt; !config.get_trim_vertical(HERE) && config.get_trim_vertical(THERE));
+    Ok(())
+}
+
+#[test]
+fn sets_justifications(rt: HostRuntime) -> Result<(), Fail> {
+    let mut config = SpannedConfig::new(rt.alloc());
+    config.set_justification(Entity::Row(1), '.')?;
+    assert_eq!(rt; config.get_justification(HERE), '.');
+    assert_eq!(rt; config.get_justification(THERE), ' ');
+    config.set_justification_color(Entity::Column(2), Some(color(rt.alloc(), "j")?))?;
+    assert_eq!(rt; shown(config.get_justification_color(HERE)), "j");
+    assert_eq!(rt; shown(config.get_justification_color(THERE)), "-");
+    Ok(())
+}
+
+fn expect_alignments(rt: &impl Abort, config: &SpannedConfig, wanted: [AlignmentHorizontal; 3]) {
+    assert!(rt; config.get_alignment_horizontal(at(0, 1)) == wanted[0]);
+    assert!(rt; config.get_alignment_horizontal(at(1, 1)) == wanted[1]);
+    assert!(rt; config.get_alignment_horizontal(at(1, 0)) == wanted[2]);
 }
 
 #[test]
 fn the_last_call_counts(rt: HostRuntime) -> Result<(), Fail> {
+    let (left, center, right) = (
+        AlignmentHorizontal::Left,
+        AlignmentHorizontal::Center,
+        AlignmentHorizontal::Right,
+    );
     let mut config = SpannedConfig::new(rt.alloc());
-    config.set_alignment_horizontal(Entity::Column(1), AlignmentHorizontal::Right)?;
-    config.set_alignment_horizontal(Entity::Row(0), AlignmentHorizontal::Center)?;
-    assert!(rt; config.get_alignment_horizontal(at(0, 1)) == AlignmentHorizontal::Center);
-    assert!(rt; config.get_alignment_horizontal(at(1, 1)) == AlignmentHorizontal::Right);
-    assert!(rt; config.get_alignment_horizontal(at(1, 0)) == AlignmentHorizontal::Left);
-    config.set_alignment_horizontal(Entity::Column(1), AlignmentHorizontal::Right)?;
-    assert!(rt; config.get_alignment_horizontal(at(0, 1)) == AlignmentHorizontal::Right);
-    config.set_alignment_horizontal(Entity::Global, AlignmentHorizontal::Left)?;
-    for pos in [at(0, 0), at(0, 1), at(1, 0), at(1, 1)] {
-        assert!(rt; config.get_alignment_horizontal(pos) == AlignmentHorizontal::Left);
-    }
+    config.set_alignment_horizontal(Entity::Column(1), right)?;
+    config.set_alignment_horizontal(Entity::Row(0), center)?;
+    expect_alignments(&rt, &config, [center, right, left]);
+    config.set_alignment_horizontal(Entity::Column(1), right)?;
+    expect_alignments(&rt, &config, [right, right, left]);
+    config.set_alignment_horizontal(Entity::Global, left)?;
+    expect_alignments(&rt, &config, [left, left, left]);
     Ok(())
 }
 
 #[test]
-fn spans(rt: HostRuntime) -> Result<(), Fail> {
+fn a_span_of_none_is_refused(rt: HostRuntime) -> Result<(), Fail> {
     let mut config = SpannedConfig::new(rt.alloc());
     assert_eq!(rt; config.set_column_span(at(0, 0), 0), Err(Fault::Spans));
-    assert_eq!(rt; config.set_row_span(at(0, 0), 0), Err(Fault::Spans));
     assert_eq!(rt; config.get_column_span(at(0, 0)), None);
+    config.set_row_span(at(0, 0), 2)?;
+    assert_eq!(rt; config.set_row_span(at(0, 0), 0), Err(Fault::Spans));
+    assert_eq!(rt; config.get_row_span(at(0, 0)), Some(2));
+    Ok(())
+}
+
+#[test]
+fn sets_spans(rt: HostRuntime) -> Result<(), Fail> {
+    let mut config = SpannedConfig::new(rt.alloc());
     config.set_column_span(at(0, 0), 2)?;
     assert_eq!(rt; config.get_column_span(at(0, 0)), Some(2));
     assert_eq!(rt; config.get_row_span(at(0, 0)), None);
-    assert!(rt; config.is_cell_visible(at(0, 0)));
-    assert!(rt; !config.is_cell_visible(at(0, 1)));
+    assert!(rt; config.is_cell_visible(at(0, 0)) && !config.is_cell_visible(at(0, 1)));
     assert!(rt; config.is_cell_visible(at(0, 2)) && config.is_cell_visible(at(1, 1)));
-    assert!(rt; !config.spans_are_good(1, 1));
-    assert!(rt; config.spans_are_good(1, 2));
-    // a refused call changes nothing
-    assert_eq!(rt; config.set_column_span(at(0, 0), 0), Err(Fault::Spans));
-    assert_eq!(rt; config.get_column_span(at(0, 0)), Some(2));
-    // rectangles that overlap
+    assert!(rt; !config.spans_are_good(1, 1) && config.spans_are_good(1, 2));
+    Ok(())
+}
+
+#[test]
+fn takes_spans_away(rt: HostRuntime) -> Result<(), Fail> {
+    let mut config = SpannedConfig::new(rt.alloc());
     config.set_row_span(at(0, 1), 2)?;
     assert_eq!(rt; config.get_row_span(at(0, 1)), Some(2));
-    assert!(rt; !config.spans_are_good(2, 2));
-    // an anchor outside the table is passed over
-    assert!(rt; config.spans_are_good(0, 0));
+    assert!(rt; !config.is_cell_visible(at(1, 1)));
     config.set_row_span(at(0, 1), 1)?;
     assert_eq!(rt; config.get_row_span(at(0, 1)), None);
-    config.set_column_span(at(0, 0), 1)?;
-    assert_eq!(rt; config.get_column_span(at(0, 0)), None);
-    assert!(rt; config.is_cell_visible(at(0, 1)));
-    assert!(rt; config.spans_are_good(1, 1));
+    assert!(rt; config.is_cell_visible(at(1, 1)));
+    Ok(())
+}
+
+#[test]
+fn spans_may_not_overlap(rt: HostRuntime) -> Result<(), Fail> {
+    let mut config = SpannedConfig::new(rt.alloc());
+    config.set_column_span(at(0, 0), 2)?;
+    config.set_row_span(at(0, 1), 2)?;
+    assert!(rt; !config.spans_are_good(2, 2));
+    // anchors outside the table are passed over
+    assert!(rt; config.spans_are_good(0, 0));
     Ok(())
 }
 
@@ -259,13 +360,16 @@ fn finds_boundaries(rt: HostRuntime) {
     // of three columns the left boundary alone, and of two rows the top one
     assert!(rt; config.has_vertical(0, 3) && config.has_vertical(0, 0));
     assert!(rt; !config.has_vertical(1, 3) && !config.has_vertical(3, 3));
-    assert!(rt; config.has_horizontal(0, 2));
-    assert!(rt; !config.has_horizontal(1, 2) && !config.has_horizontal(2, 2));
+    assert!(rt; config.has_horizontal(0, 2) && !config.has_horizontal(2, 2));
     assert_eq!(rt; config.count_vertical(3), 1);
     assert_eq!(rt; config.count_vertical(0), 1);
     assert_eq!(rt; config.count_horizontal(2), 1);
+}
+
+#[test]
+fn finds_inner_boundaries(rt: HostRuntime) {
+    let mut config = SpannedConfig::new(rt.alloc());
     config.set_borders(Borders {
-        vertical: Some('|'),
         bottom_right: Some('+'),
         intersection: Some('+'),
         ..borders(None, None, None)
@@ -274,37 +378,38 @@ fn finds_boundaries(rt: HostRuntime) {
     assert!(rt;
         !config.has_vertical(0, 3) && config.has_vertical(1, 3) && config.has_vertical(3, 3)
     );
-    assert!(rt;
-        !config.has_horizontal(0, 2) && config.has_horizontal(1, 2) && config.has_horizontal(2, 2)
-    );
+    assert!(rt; !config.has_horizontal(0, 2) && config.has_horizontal(1, 2));
     assert_eq!(rt; config.count_vertical(3), 3);
     assert_eq!(rt; config.count_vertical(1), 1);
     assert_eq!(rt; config.count_vertical(0), 0);
     assert_eq!(rt; config.count_horizontal(2), 2);
 }
 
-#[test]
-fn takes_compact_settings(rt: HostRuntime) -> Result<(), Fail> {
-    let red = ANSIStr::new("\x1b[31m", "\x1b[39m");
-    let none = ANSIStr::empty();
+// Settings of which each is another than the new one.
+fn compact() -> CompactConfig {
     let new = CompactConfig::new();
-    let compact = new
-        .set_margin(INDENTS)
+    let none = ANSIStr::empty();
+    new.set_margin(INDENTS)
         .set_borders(borders(Some('-'), None, Some('|')))
         .set_padding(INDENTS)
         .set_alignment_horizontal(AlignmentHorizontal::Right)
-        .set_margin_color(Sides::new(red, none, none, none))
-        .set_borders_color(Borders {
-            left: Some(red),
-            ..*new.get_borders_color()
-        })
-        .set_padding_color(Sides::new(none, none, red, none));
-    let config = SpannedConfig::from_compact_config(rt.alloc(), compact)?;
+        .set_margin_color(Sides::new(red(), none, none, none))
+        .set_padding_color(Sides::new(none, none, red(), none))
+}
+
+#[test]
+fn takes_compact_settings_of_the_table(rt: HostRuntime) -> Result<(), Fail> {
+    let config = SpannedConfig::from_compact_config(rt.alloc(), compact())?;
     assert!(rt; *config.get_margin() == INDENTS);
     assert!(rt; *config.get_borders() == borders(Some('-'), None, Some('|')));
+    assert!(rt; config.get_borders_color().top.is_none());
     expect_sides(&rt, config.get_margin_color(), ["\x1b[31m", "-", "-", "-"]);
-    assert_eq!(rt; shown(&config.get_borders_color().left), "\x1b[31m");
-    assert_eq!(rt; shown(&config.get_borders_color().top), "-");
+    Ok(())
+}
+
+#[test]
+fn takes_compact_settings_of_cells(rt: HostRuntime) -> Result<(), Fail> {
+    let config = SpannedConfig::from_compact_config(rt.alloc(), compact())?;
     let pos = at(3, 4);
     assert!(rt; *config.get_padding(pos) == INDENTS);
     expect_sides(
@@ -313,36 +418,125 @@ fn takes_compact_settings(rt: HostRuntime) -> Result<(), Fail> {
         ["-", "-", "\x1b[31m", "-"],
     );
     assert!(rt; config.get_alignment_horizontal(pos) == AlignmentHorizontal::Right);
-    assert!(rt; config.get_alignment_vertical(pos) == AlignmentVertical::Top);
-    assert!(rt; !config.get_line_alignment(pos));
-    assert_eq!(rt; config.get_justification(pos), ' ');
+    expect_layout(&rt, &config, pos);
     Ok(())
 }
 
 #[test]
+fn takes_compact_glyph_colors(rt: HostRuntime) -> Result<(), Fail> {
+    let new = CompactConfig::new();
+    let colored = new.set_borders_color(Borders {
+        left: Some(red()),
+        ..*new.get_borders_color()
+    });
+    let config = SpannedConfig::from_compact_config(rt.alloc(), colored)?;
+    assert_eq!(rt; shown(&config.get_borders_color().left), "\x1b[31m");
+    assert_eq!(rt; shown(&config.get_borders_color().top), "-");
+    Ok(())
+}
+
+fn expect_color(rt: &impl Abort, config: &ColoredConfig, pos: Position, wanted: &str) {
+    let found = config.get_colors().get_color(pos);
+    assert_eq!(rt; found.map_or("-", |color| color.get_prefix()), wanted);
+}
+
+#[test]
 fn colors_cells(rt: HostRuntime) -> Result<(), Fail> {
-    let alloc = rt.alloc();
-    let mut config = ColoredConfig::new(SpannedConfig::new(alloc));
-    assert!(rt; config.get_colors().get_color(at(0, 0)).is_none());
-    config.set_color(Entity::Row(1), color(alloc, "row")?)?;
-    config.set_color(Entity::Cell(1, 1), color(alloc, "cell")?)?;
-    let colors = config.get_colors();
-    assert!(rt; colors.get_color(at(0, 1)).is_none());
-    assert_eq!(rt;
-        colors
-            .get_color(at(1, 0))
-            .map_or("-", |found| found.get_prefix()),
-        "row"
-    );
-    assert_eq!(rt;
-        colors
-            .get_color(at(1, 1))
-            .map_or("-", |found| found.get_prefix()),
-        "cell"
-    );
-    // the settings are changed apart
+    let mut config = ColoredConfig::new(SpannedConfig::new(rt.alloc()));
+    expect_color(&rt, &config, at(1, 1), "-");
+    config.set_color(Entity::Row(1), color(rt.alloc(), "row")?)?;
+    config.set_color(Entity::Cell(1, 1), color(rt.alloc(), "cell")?)?;
+    expect_color(&rt, &config, at(0, 1), "-");
+    expect_color(&rt, &config, at(1, 0), "row");
+    expect_color(&rt, &config, at(1, 1), "cell");
+    Ok(())
+}
+
+#[test]
+fn lends_settings(rt: HostRuntime) -> Result<(), Fail> {
+    let mut config = ColoredConfig::new(SpannedConfig::new(rt.alloc()));
+    config.set_color(Entity::Row(1), color(rt.alloc(), "row")?)?;
     config.spanned_mut().set_margin(INDENTS);
     assert!(rt; *config.spanned().get_margin() == INDENTS);
-    assert!(rt; config.get_colors().get_color(at(0, 1)).is_none());
+    expect_color(&rt, &config, at(1, 0), "row");
+    Ok(())
+}
+
+// The tests below are run with each request for memory refused in turn: what was set before a refused
+// call is then kept, what the call was to set is not there, and the refusal is handed on.
+
+fn insert(map: &mut EntityMap<char>, entity: Entity, value: char) -> Result<(), Fault> {
+    map.insert(entity, value)?;
+    Ok(())
+}
+
+#[test]
+fn keeps_what_a_map_has(rt: HostRuntime) -> Result<(), Fail> {
+    let mut map = EntityMap::new(rt.alloc(), 'a');
+    for col in 0..9 {
+        let refused = insert(&mut map, Entity::Column(col), 'b');
+        if refused.is_err() {
+            for before in 0..col {
+                assert_eq!(rt; *map.get(at(1, before)), 'b');
+            }
+            assert_eq!(rt; *map.get(at(1, col)), 'a');
+        }
+        refused?;
+    }
+    Ok(())
+}
+
+#[test]
+fn keeps_paddings(rt: HostRuntime) -> Result<(), Fail> {
+    let mut config = SpannedConfig::new(rt.alloc());
+    for row in 0..9 {
+        let refused = config.set_padding(Entity::Row(row), INDENTS);
+        if refused.is_err() {
+            for before in 0..row {
+                assert!(rt; *config.get_padding(at(before, 1)) == INDENTS);
+            }
+            assert!(rt; *config.get_padding(at(row, 1)) == NO_INDENTS);
+            assert!(rt; *config.get_margin() == NO_INDENTS);
+        }
+        refused?;
+    }
+    Ok(())
+}
+
+#[test]
+fn keeps_spans(rt: HostRuntime) -> Result<(), Fail> {
+    let mut config = SpannedConfig::new(rt.alloc());
+    for row in 0..40 {
+        let refused = config.set_column_span(at(row, 0), 2);
+        if refused.is_err() {
+            for before in 0..row {
+                assert_eq!(rt; config.get_column_span(at(before, 0)), Some(2));
+            }
+            assert_eq!(rt; config.get_column_span(at(row, 0)), None);
+            assert!(rt; config.is_cell_visible(at(row, 1)));
+        }
+        refused?;
+    }
+    Ok(())
+}
+
+fn bold(alloc: Global) -> Result<ANSIBuf, Fault> {
+    Ok(ANSIBuf::new(alloc, "\x1b[1m", "\x1b[22m")?)
+}
+
+#[test]
+fn keeps_colors(rt: HostRuntime) -> Result<(), Fail> {
+    let mut config = ColoredConfig::new(SpannedConfig::new(rt.alloc()));
+    for col in 0..9 {
+        let color = bold(rt.alloc())?;
+        let refused = config.set_color(Entity::Column(col), color);
+        if refused.is_err() {
+            for before in 0..col {
+                assert!(rt; config.get_colors().get_color(at(0, before)).is_some());
+            }
+            assert!(rt; config.get_colors().get_color(at(0, col)).is_none());
+        }
+        refused?;
+    }
     Ok(())
 }
