@@ -1,5 +1,5 @@
 -- Good spans part a table.
-use Rattle.std.proofs.Common.{◌≡◌, ◌≢◌, ℕ, Bool, true, false, ◌&&◌, ◌==◌, List, [], refl, sym, ap, ◌∙◌, subst, arith}
+use Rattle.std.proofs.Common.{◌≡◌, ◌≢◌, ℕ, true, false, ◌&&◌, ◌==◌, List, [], refl, sym, ap, ◌∙◌, subst, arith}
 use Rattle.std.proofs.lemmas.Bool.Decides.{nat_tests}
 use Rattle.grid_config_values.specs.declared.position.Position.{Position}
 use Rattle.grid_config_spans.specs.declared.extent.Extent.{Extent}
@@ -32,14 +32,14 @@ pub visible_apart : (spans : List (Position × Extent)) (rows columns : ℕ) (a 
     IsInTable rows columns place → IsVisible spans a → IsVisible spans b → Holds a (extent_at spans a) place → Holds b (extent_at spans b) place → a ≡ b
 visible_apart spans rows columns a b place good in_table a_seen b_seen in_a in_b = elim (single_or_anchor spans a) [
   | Single a_single ↦
-    let here = single_holds a place (subst (λ (e : Extent). Holds a e place) a_single in_a) in
-    sym (a_seen b (subst (λ (p : Position). Holds b (extent_at spans b) p) (sym here) in_b))
+      let here = single_holds a place (subst (λ (e : Extent). Holds a e place) a_single in_a) in
+      sym (a_seen b (subst (λ (p : Position). Holds b (extent_at spans b) p) (sym here) in_b))
   | Anchor a_anchor ↦ elim (single_or_anchor spans b) [
     | Single b_single ↦
-      let here = single_holds b place (subst (λ (e : Extent). Holds b e place) b_single in_b) in
-      b_seen a (subst (λ (p : Position). Holds a (extent_at spans a) p) (sym here) in_a)
+        let here = single_holds b place (subst (λ (e : Extent). Holds b e place) b_single in_b) in
+        b_seen a (subst (λ (p : Position). Holds a (extent_at spans a) p) (sym here) in_a)
     | Anchor b_anchor ↦
-      good.apart a b place a_anchor b_anchor (in_table_before rows columns a place (extent_at spans a) in_table in_a) (in_table_before rows columns b place (extent_at spans b) in_table in_b) in_a in_b
+        good.apart a b place a_anchor b_anchor (in_table_before rows columns a place (extent_at spans a) in_table in_a) (in_table_before rows columns b place (extent_at spans b) in_table in_b) in_a in_b
   ]
 ]
 
@@ -58,8 +58,8 @@ holder_is_visible spans rows columns a place good in_table held other b b_holds 
   | Anchor a_anchor ↦ elim (single_or_anchor spans b) [
     | Single b_single ↦ single_holds b a (subst (λ (e : Extent). Holds b e a) b_single b_holds)
     | Anchor b_anchor ↦
-      let a_table = in_table_before rows columns a place (extent_at spans a) in_table held in
-      good.apart b a a b_anchor a_anchor (in_table_before rows columns b a (extent_at spans b) a_table b_holds) a_table b_holds (holds_itself a place (extent_at spans a) held)
+        let a_table = in_table_before rows columns a place (extent_at spans a) in_table held in
+        good.apart b a a b_anchor a_anchor (in_table_before rows columns b a (extent_at spans b) a_table b_holds) a_table b_holds (holds_itself a place (extent_at spans a) held)
   ]
 ]
 

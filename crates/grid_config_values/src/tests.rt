@@ -145,153 +145,83 @@ fn indents_and_sides_have_their_parts(rt: HostRuntime) -> Result<(), Fail> {
     Ok(())
 }
 
-// Which of the six kinds of boundaries are there: left, between columns, right, top, between rows, bottom.
-fn there(borders: Borders<char>) -> [bool; 6] {
-    [
-        borders.has_left(),
-        borders.has_vertical(),
-        borders.has_right(),
-        borders.has_top(),
-        borders.has_horizontal(),
-        borders.has_bottom(),
-    ]
+// A glyph of a boundary, where it is set.
+fn glyph(is_set: bool) -> Option<char> {
+    if is_set { Some('+') } else { None }
 }
 
 #[test]
-fn each_glyph_makes_its_boundaries(rt: HostRuntime) -> Result<(), Fail> {
-    let none: Borders<char> = Borders::empty();
-    let glyph = Some('+');
-    // a glyph, and the boundaries that it stands on
-    let cases = [
-        (none, ""),
-        (
-            Borders {
-                left: glyph,
-                ..none
-            },
-            "l",
-        ),
-        (
-            Borders {
-                vertical: glyph,
-                ..none
-            },
-            "v",
-        ),
-        (
-            Borders {
-                right: glyph,
-                ..none
-            },
-            "r",
-        ),
-        (Borders { top: glyph, ..none }, "t"),
-        (
-            Borders {
-                horizontal: glyph,
-                ..none
-            },
-            "h",
-        ),
-        (
-            Borders {
-                bottom: glyph,
-                ..none
-            },
-            "b",
-        ),
-        (
-            Borders {
-                top_left: glyph,
-                ..none
-            },
-            "lt",
-        ),
-        (
-            Borders {
-                top_intersection: glyph,
-                ..none
-            },
-            "vt",
-        ),
-        (
-            Borders {
-                top_right: glyph,
-                ..none
-            },
-            "rt",
-        ),
-        (
-            Borders {
-                left_intersection: glyph,
-                ..none
-            },
-            "lh",
-        ),
-        (
-            Borders {
-                intersection: glyph,
-                ..none
-            },
-            "vh",
-        ),
-        (
-            Borders {
-                right_intersection: glyph,
-                ..none
-            },
-            "rh",
-        ),
-        (
-            Borders {
-                bottom_left: glyph,
-                ..none
-            },
-            "lb",
-        ),
-        (
-            Borders {
-                bottom_intersection: glyph,
-                ..none
-            },
-            "vb",
-        ),
-        (
-            Borders {
-                bottom_right: glyph,
-                ..none
-            },
-            "rb",
-        ),
-    ];
-    for (borders, names) in cases {
-        let wanted = ["l", "v", "r", "t", "h", "b"].map(|name| names.contains(name));
-        assert_eq!(rt; there(borders), wanted, "of {borders:?}");
+fn a_glyph_makes_its_boundaries(rt: HostRuntime) -> Result<(), Fail> {
+    // a crossing alone, then the line between two columns alone
+    for crosses in [true, false] {
+        let borders = Borders {
+            top_intersection: glyph(crosses),
+            vertical: glyph(!crosses),
+            ..Borders::empty()
+        };
+        assert!(rt; borders.has_vertical());
+        assert_eq!(rt; borders.has_top(), crosses);
+        assert!(rt; !borders.has_left() && !borders.has_right());
+        assert!(rt; !borders.has_horizontal() && !borders.has_bottom());
+    }
+    // a corner alone, then the frame's line alone
+    for is_corner in [true, false] {
+        let borders = Borders {
+            bottom_right: glyph(is_corner),
+            right: glyph(!is_corner),
+            ..Borders::empty()
+        };
+        assert!(rt; borders.has_right());
+        assert_eq!(rt; borders.has_bottom(), is_corner);
+        assert!(rt; !borders.has_left() && !borders.has_vertical());
+        assert!(rt; !borders.has_top() && !borders.has_horizontal());
     }
     Ok(())
 }
 
 #[test]
 fn boundaries_are_counted(rt: HostRuntime) -> Result<(), Fail> {
-    let none: Borders<char> = Borders::empty();
     let glyph = Some('|');
     let borders = Borders {
         left: glyph,
         vertical: glyph,
         bottom: glyph,
-        ..none
+        ..Borders::empty()
     };
-    let columns = [0, 1, 2, 3].map(|j| borders.has_vertical_at(j, 3));
-    assert_eq!(rt; columns, [true, true, true, false]);
-    let rows = [0, 1, 2, 3].map(|i| borders.has_horizontal_at(i, 3));
-    assert_eq!(rt; rows, [false, false, false, true]);
+    assert!(rt; borders.has_vertical_at(0, 3) && borders.has_vertical_at(2, 3));
+    assert!(rt; !borders.has_vertical_at(3, 3));
+    assert!(rt; !borders.has_horizontal_at(0, 3) && !borders.has_horizontal_at(2, 3));
+    assert!(rt; borders.has_horizontal_at(3, 3));
     // the first boundary of no columns is the left one
     assert!(rt; borders.has_vertical_at(0, 0));
     assert!(rt; !borders.has_horizontal_at(0, 0));
     assert!(rt; !borders.has_vertical_at(1, 1));
     assert!(rt; borders.has_horizontal_at(1, 1));
-    let counts = [0, 1, 2, 3].map(|n| (borders.count_vertical(n), borders.count_horizontal(n)));
-    assert_eq!(rt; counts, [(1, 0), (1, 1), (2, 1), (3, 1)]);
+    let columns = [
+        borders.count_vertical(0),
+        borders.count_vertical(1),
+        borders.count_vertical(2),
+        borders.count_vertical(3),
+    ];
+    assert_eq!(rt; columns, [1, 1, 2, 3]);
+    let rows = [
+        borders.count_horizontal(0),
+        borders.count_horizontal(1),
+        borders.count_horizontal(3),
+    ];
+    assert_eq!(rt; rows, [0, 1, 1]);
+    Ok(())
+}
+
+#[test]
+fn the_most_boundaries_are_counted(rt: HostRuntime) -> Result<(), Fail> {
+    let glyph = Some('|');
+    let borders = Borders {
+        left: glyph,
+        vertical: glyph,
+        bottom: glyph,
+        ..Borders::empty()
+    };
     let most = usize::MAX - 1;
     assert_eq!(rt; borders.count_vertical(most), most);
     assert_eq!(rt; borders.count_horizontal(most), 1);
@@ -310,7 +240,7 @@ fn hash_of(value: &impl Hash) -> u64 {
 }
 
 #[test]
-fn equal_values_compare_and_hash_alike(rt: HostRuntime) -> Result<(), Fail> {
+fn equal_sides_compare_and_hash_alike(rt: HostRuntime) -> Result<(), Fail> {
     let one = Sides::filled(Indent::spaced(1));
     let other = Sides {
         bottom: Indent::new(1, '-'),
@@ -319,6 +249,11 @@ fn equal_values_compare_and_hash_alike(rt: HostRuntime) -> Result<(), Fail> {
     let copy = one;
     assert!(rt; one == copy && one.cmp(&copy).is_eq() && hash_of(&one) == hash_of(&copy));
     assert!(rt; one != other && one.cmp(&other).is_ne());
+    Ok(())
+}
+
+#[test]
+fn equal_borders_compare_and_hash_alike(rt: HostRuntime) -> Result<(), Fail> {
     let none: Borders<char> = Borders::empty();
     let plain = Borders {
         top: Some('-'),
@@ -327,6 +262,11 @@ fn equal_values_compare_and_hash_alike(rt: HostRuntime) -> Result<(), Fail> {
     let copy = plain;
     assert!(rt; plain == copy && plain.cmp(&copy).is_eq() && hash_of(&plain) == hash_of(&copy));
     assert!(rt; plain != none && plain.cmp(&none).is_ne());
+    Ok(())
+}
+
+#[test]
+fn alignments_and_formattings_are_ordered(rt: HostRuntime) -> Result<(), Fail> {
     assert!(rt; AlignmentHorizontal::Left < AlignmentHorizontal::Right);
     assert!(rt; AlignmentVertical::Top < AlignmentVertical::Bottom);
     assert!(rt; Formatting::new(false, false, true) < Formatting::new(false, true, false));
