@@ -1,5 +1,5 @@
 //! All settings of a table.
-ghost use Rattle.std.specs.Prelude.{◌≡◌, ◌<◌, ◌==◌, ◌↔◌, if◌then◌else◌, None, Some, Err, IfErr, OnErr, OnOk, IfOk, IsTrue};
+ghost use Rattle.std.specs.Prelude.{◌≡◌, ◌≢◌, ◌<◌, ◌==◌, ◌↔◌, if◌then◌else◌, None, Some, Err, IfErr, OnErr, OnOk, IfOk, IsTrue};
 ghost use Rattle.grid_config_values.specs.declared.fault.Fault.TheVariants.{Memory, Spans as BadSpan};
 ghost use Rattle.grid_config_values.specs.Glyphs.{boundary_count, boundary_kind, has_column_boundary, has_row_boundary};
 ghost use Rattle.grid_config_spans.specs.Spans.{AreGood, IsVisible, SetsColumns, SetsRows, extent_at};
@@ -383,6 +383,7 @@ impl SpannedConfig {
         ensures zero { result ≡ Err BadSpan ↔ (n ≡ 0) }
         ensures set { OnOk result (SetsColumns self.old.spans self.new.spans pos n) }
         ensures refused { OnErr result (self.new.spans ≡ self.old.spans) }
+        ensures fault { n ≢ 0 → IfErr result (λ fault. fault ≡ Memory) }
         ensures others { KeepsOthers CellSpans self.old self.new }
     {
         self.spans.set_column_span(pos, n)
@@ -401,6 +402,7 @@ impl SpannedConfig {
         ensures zero { result ≡ Err BadSpan ↔ (n ≡ 0) }
         ensures set { OnOk result (SetsRows self.old.spans self.new.spans pos n) }
         ensures refused { OnErr result (self.new.spans ≡ self.old.spans) }
+        ensures fault { n ≢ 0 → IfErr result (λ fault. fault ≡ Memory) }
         ensures others { KeepsOthers CellSpans self.old self.new }
     {
         self.spans.set_row_span(pos, n)

@@ -1,4 +1,5 @@
 pub mod Clearing
 pub mod ClosedColors
+pub mod Equality
 pub mod Sequences
 pub mod Styles

@@ -3,3 +3,4 @@ pub mod Closing
 pub mod Clearing
 pub mod FirstColor
 pub mod Fault
+pub mod Equality

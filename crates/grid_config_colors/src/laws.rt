@@ -1,15 +1,25 @@
 //! Laws of the definitions that the other contracts cite.
 
-ghost use Rattle.std.specs.Prelude.{◌≡◌, ◌↔◌, List};
+ghost use Rattle.std.specs.Prelude.{◌≡◌, ◌↔◌, IsTrue, List};
+ghost use Rattle.std.specs.declared.cmp.Ordering.TheVariants.{Equal};
 ghost use Rattle.ansi_scan.specs.Sequences.{Piece};
 ghost use Rattle.ansi_scan.specs.Attributes.{Attributes, plain_attributes};
 ghost use Rattle.ansi_str.specs.StyledText.{style_after_all};
+ghost use Rattle.grid_config_colors.specs.declared.borrowed.ANSIStr.{ANSIStr as Borrowed};
 ghost use Rattle.grid_config_colors.specs.Closing.{Clears};
 ghost use Rattle.grid_config_colors.specs.Clearing.{ClearsEach, codes_of};
+ghost use Rattle.grid_config_colors.specs.Colors.{color_of};
+ghost use Rattle.grid_config_colors.specs.Equality.{compared, equal};
 
 /// The two wordings of a suffix that clears a style are one: read from plain and from the style it ends
 /// plain, or read from plain it ends plain and one of its codes clears each attribute that is set.
 pub fn one_meaning()
     ensures { (style : Attributes) (suffix : List Piece) →
         Clears style suffix ↔ ((style_after_all plain_attributes suffix ≡ plain_attributes) × ClearsEach style (codes_of suffix)) }
+{}
+
+/// `==` of borrowed colours is equality of both texts, and `cmp` finds the same ones equal.
+pub fn equal_colors_have_the_same_texts()
+    ensures equality { (a b : Borrowed) → IsTrue (equal a b) ↔ (color_of a ≡ color_of b) }
+    ensures order { (a b : Borrowed) → (compared a b ≡ Equal) ↔ (color_of a ≡ color_of b) }
 {}

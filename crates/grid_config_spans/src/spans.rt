@@ -74,6 +74,7 @@ impl Spans {
         ensures ok { OnOk result (SetsColumns self.old self.new pos n) }
         ensures err { OnErr result (self.new ≡ self.old) }
         ensures one { n ≡ 1 → IsOk result }
+        ensures memory { n ≢ 0 → IfErr result (λ fault. fault ≡ Memory) }
     {
         let columns = span(n)?;
         let extent = self.extent(pos);
@@ -87,6 +88,7 @@ impl Spans {
         ensures ok { OnOk result (SetsRows self.old self.new pos n) }
         ensures err { OnErr result (self.new ≡ self.old) }
         ensures one { n ≡ 1 → IsOk result }
+        ensures memory { n ≢ 0 → IfErr result (λ fault. fault ≡ Memory) }
     {
         let rows = span(n)?;
         let extent = self.extent(pos);

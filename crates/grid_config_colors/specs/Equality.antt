@@ -1,0 +1,12 @@
+-- What `==` and `cmp` of borrowed colours answer.
+use Rattle.std.specs.Prelude.{Bool}
+use Rattle.std.specs.declared.cmp.Ordering.{Ordering}
+use Rattle.grid_config_colors.specs.contracts.borrowed.ANSIStrPartialEq.TheImpl.{ghosts as equality}
+use Rattle.grid_config_colors.specs.contracts.borrowed.ANSIStrOrd.TheImpl.{ghosts as order}
+use Rattle.grid_config_colors.specs.declared.borrowed.ANSIStr.{ANSIStr}
+
+abbrev pub equal : ANSIStr → ANSIStr → Bool
+equal a b = equality.eq a b
+
+abbrev pub compared : ANSIStr → ANSIStr → Ordering
+compared a b = order.cmp a b
