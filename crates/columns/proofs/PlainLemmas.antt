@@ -6,7 +6,7 @@ use Rattle.std.proofs.lemmas.Bool.{and_parts}
 use Rattle.std.proofs.lemmas.Bool.Decides.{nat_tests}
 use Rattle.std.proofs.lemmas.Str.{chars-IsAscii}
 use Rattle.unicode_width.proofs.Rules.{str_width-printable}
-use Rattle.columns.specs.Measures.{measure}
+use Rattle.grid_records_measure.specs.Measures.{measure}
 use Rattle.columns.specs.Printing.{is_plain}
 
 in_range-ascii : (b : ℕ) → is_in_range 0x20 0x7E b ≡ true → b < 128
