@@ -17,11 +17,11 @@ use Rattle.ansi_scan.proofs.Uniqueness.{ArePiecesOf-unique}
 use Rattle.ansi_str.specs.StyledText.{has_escape, strip, style_after_all}
 use Rattle.ansi_str.specs.Parts.{through_place}
 use Rattle.ansi_str.specs.Cuts.{AreGoodBounds, cut_part}
-use Rattle.ansi_str.proofs.Stripping.{strip-without_escape}
+use Rattle.ansi_str_text.proofs.Stripping.{strip-without_escape}
 use Rattle.ansi_str.proofs.PartLemmas.{take_nil}
 use Rattle.ansi_str.proofs.PlainParts.{plain_part}
 use Rattle.ansi_str.proofs.CutParts.{first_part-slice}
-use Rattle.ansi_str.proofs.Utf8Lemmas.{EachUtf8-pieces, IsUtf8-strip}
+use Rattle.ansi_str_text.proofs.Utf8Pieces.{IsUtf8-shown_text}
 use Rattle.grid_records_measure.specs.Cutting.{IsLongestFront, IsCutAt, IsPlainCut, lacking, replacement}
 use Rattle.grid_records_measure.specs.Filling.{has_room, used_behind, columns_with, front, front_columns, behind_front}
 use Rattle.grid_records_measure.proofs.FillingLemmas.{front-parted, lacking-left, goes-on, stops, IsLongestFront-front, IsLongestFront-unique}
@@ -197,11 +197,6 @@ scalars-behind : (xs ys : List ℕ) → scalars (xs ++ ys) ≡ true → scalars 
 scalars-behind [] ys all = all
 scalars-behind (x ∷ xs) ys all = scalars-behind xs ys (and_parts (scalar x) (scalars (xs ++ ys)) all).1
 
-pub IsUtf8-shown : (text : List ℕ) → IsUtf8 text → IsUtf8 (strip (pieces text))
-IsUtf8-shown text utf8 =
-    let of_text = ArePiecesOf-pieces text in
-    IsUtf8-strip (pieces text) (EachUtf8-pieces (pieces text) of_text.stand (subst IsUtf8 (sym of_text.joins) utf8))
-
 pub front-boundary : (width : ℕ) (bs : List ℕ) → IsUtf8 bs → IsCharBoundary bs (length (encode_utf8_all (front width 0 (chars bs))))
 front-boundary width bs utf8 =
     let cs = chars bs in
@@ -276,8 +271,8 @@ cut-bounds width text place ps utf8 at of_text =
     let same = ArePiecesOf-unique text (pieces text) ps (ArePiecesOf-pieces text) of_text in
     subst (λ (of : List Piece). AreGoodBounds (strip of) 0 (Some place)) same (record {
       ordered = omega arith;
-      start_good = λ some. IsCharBoundary-start (strip (pieces text)) (IsUtf8-shown text utf8);
-      end_good = λ short. subst (λ n. IsCharBoundary (strip (pieces text)) n) (sym at) (front-boundary width (strip (pieces text)) (IsUtf8-shown text utf8));
+      start_good = λ some. IsCharBoundary-start (strip (pieces text)) (IsUtf8-shown_text text utf8);
+      end_good = λ short. subst (λ n. IsCharBoundary (strip (pieces text)) n) (sym at) (front-boundary width (strip (pieces text)) (IsUtf8-shown_text text utf8));
     })
 
 pub cut-is : (width : ℕ) (text : List ℕ) (place n : ℕ) (ps : List Piece) (cut bytes : List ℕ) → place ≡ length (encode_utf8_all (shown_front width text)) → n ≡ shown_lacking width text

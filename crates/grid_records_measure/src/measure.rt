@@ -1,9 +1,11 @@
 //! The measures of texts and their lines, without memory.
-ghost use Rattle.std.specs.Prelude.{◌≡◌, List, chars};
+ghost use Rattle.std.specs.Prelude.{◌≡◌, List, chars, length};
 ghost use Rattle.ansi_scan.specs.Sequences.{Piece, ArePiecesOf};
 ghost use Rattle.ansi_str.specs.StyledText.{strip};
 ghost use Rattle.grid_records_measure.specs.Measures.{measure};
+ghost use Rattle.grid_records_measure.specs.TextLines.{shown_lines, widest};
 
+use crate::raw_lines::split_line;
 use ansi_str::AnsiStr;
 use ansi_str_text::stripped_chars;
 use unicode_width::{UnicodeWidthStr, char_iter_width};
@@ -18,6 +20,31 @@ pub fn get_line_width(text: &str) -> usize
     } else {
         text.width()
     }
+}
+
+/// The columns of the widest line of a text. Takes no memory.
+pub fn get_text_width(text: &str) -> usize
+    ensures { (pieces : List Piece) → ArePiecesOf text.now pieces → result ≡ widest (shown_lines pieces) }
+{
+    let (_, width) = get_text_dimension(text);
+    width
+}
+
+/// How many lines a text has, and the columns of the widest. Takes no memory.
+pub fn get_text_dimension(text: &str) -> (usize, usize)
+    ensures lines { (pieces : List Piece) → ArePiecesOf text.now pieces → result.0 ≡ length (shown_lines pieces) }
+    ensures width { (pieces : List Piece) → ArePiecesOf text.now pieces → result.1 ≡ widest (shown_lines pieces) }
+{
+    let (line, mut rest) = split_line(text);
+    let mut count = 1;
+    let mut width = get_line_width(line);
+    while let Some(others) = rest {
+        let (line, behind) = split_line(others);
+        count += 1;
+        width = width.max(get_line_width(line));
+        rest = behind;
+    }
+    (count, width)
 }
 
 #[cfg(test)]

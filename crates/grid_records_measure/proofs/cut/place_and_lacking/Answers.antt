@@ -4,11 +4,12 @@ use Rattle.std.proofs.lemmas.Str.{chars-nil}
 use Rattle.ansi_scan.specs.Pieces.{pieces}
 use Rattle.ansi_str.specs.StyledText.{strip}
 use Rattle.ansi_str.specs.Blocks.{Block, text_of_block}
+use Rattle.ansi_str_text.proofs.Utf8Pieces.{IsUtf8-shown_text}
 use Rattle.ansi_str.proofs.RestLemmas.{strip-fits}
 use Rattle.grid_records_measure.specs.Filling.{front, front_columns, behind_front}
 use Rattle.grid_records_measure.proofs.FillingLemmas.{lacking-none}
 use Rattle.grid_records_measure.proofs.LineLemmas.{shown-blocks}
-use Rattle.grid_records_measure.proofs.CutLemmas.{all-fit, some-left, fits-on, stops-in, lacking-some, front-fits, front-longer, IsUtf8-shown}
+use Rattle.grid_records_measure.proofs.CutLemmas.{all-fit, some-left, fits-on, stops-in, lacking-some, front-fits, front-longer}
 use Rattle.grid_records_measure.proofs.cut.place_and_lacking.Goals as goal
 
 pub loop-block-init : goal.loop-block-init
@@ -35,7 +36,7 @@ overflow_add-place c =
     let step = ap chars (ap (flat_map text_of_block) c.in-Some.ensures.steps ∙ ap (λ bytes. bytes ++ rest) (sym c.text-shown.ensures)) in
     let here = front-longer width used shown rest c.text-shown.utf8 in
     let left = ap (λ cs. length (encode_utf8_all (front width used cs))) step in
-    let all = front-fits width 0 (strip (pieces text)) (IsUtf8-shown text c.utf8.text) in
+    let all = front-fits width 0 (strip (pieces text)) (IsUtf8-shown_text text c.utf8.text) in
     let fits : c.loop-block.place + c.fill-len.result.0 ≤ length text = omega (arith, here, left, all, strip-fits text, c.loop-block.invariant.place, c.fill-len.ensures.len) in
     search (rules, fits)
 

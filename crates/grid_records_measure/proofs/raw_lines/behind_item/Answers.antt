@@ -3,7 +3,7 @@ use Rattle.std.proofs.Common.{◌∙◌, ◌∷◌, List, ℕ, ap, sym, arith, s
 use Rattle.ansi_scan.specs.Sequences.{Piece}
 use Rattle.ansi_scan.specs.Pieces.{pieces}
 use Rattle.ansi_scan.specs.Scan.{items_left}
-use Rattle.ansi_str.proofs.FirstItem.{IsFirstItem-items, pieces-nothing}
+use Rattle.ansi_str_text.proofs.FirstItem.{IsFirstItem-items, pieces-nothing}
 use Rattle.ansi_str.proofs.Walks.{empty-nothing}
 use Rattle.grid_records_measure.proofs.raw_lines.behind_item.Goals as goal
 
