@@ -2,7 +2,7 @@ use Rattle.std.proofs.Common.{◌≡◌, [], ◌∷◌, ◌++◌, map, chars, ap
 use Rattle.std.proofs.lemmas.List.{map_push}
 use Rattle.grid_records_measure.specs.Measures.{measure}
 use Rattle.columns.specs.Printing.{shown}
-use Rattle.columns.proofs.PlainLemmas.{measure-printable}
+use Rattle.grid_records_measure.proofs.PrintableLemmas.{measure-printable}
 use Rattle.columns.proofs.rows.push_cell.Goals as goal
 use Rattle.columns.proofs.rows.push_cell.Goals.{then-plain, else-plain}
 
