@@ -4,3 +4,4 @@ pub mod TabLemmas
 pub mod CutLemmas
 pub mod RawLineLemmas
 pub mod Drained
+pub mod PlainLemmas
