@@ -5,3 +5,4 @@ pub mod CutLemmas
 pub mod RawLineLemmas
 pub mod Drained
 pub mod PrintableLemmas
+pub mod PlainLemmas
