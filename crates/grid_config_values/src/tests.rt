@@ -213,26 +213,6 @@ fn boundaries_are_counted(rt: HostRuntime) -> Result<(), Fail> {
     Ok(())
 }
 
-#[test]
-fn the_most_boundaries_are_counted(rt: HostRuntime) -> Result<(), Fail> {
-    let glyph = Some('|');
-    let borders = Borders {
-        left: glyph,
-        vertical: glyph,
-        bottom: glyph,
-        ..Borders::empty()
-    };
-    let most = usize::MAX - 1;
-    assert_eq!(rt; borders.count_vertical(most), most);
-    assert_eq!(rt; borders.count_horizontal(most), 1);
-    let framed = Borders {
-        right: glyph,
-        ..borders
-    };
-    assert_eq!(rt; framed.count_vertical(most), usize::MAX);
-    Ok(())
-}
-
 fn hash_of(value: &impl Hash) -> u64 {
     let mut hasher = DefaultHasher::new();
     value.hash(&mut hasher);
