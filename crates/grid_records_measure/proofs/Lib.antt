@@ -5,3 +5,4 @@ pub mod CutLemmas
 pub mod RawLineLemmas
 pub mod Drained
 pub mod PlainLemmas
+pub mod ShownCuts
