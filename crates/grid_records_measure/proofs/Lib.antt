@@ -6,3 +6,4 @@ pub mod RawLineLemmas
 pub mod Drained
 pub mod PrintableLemmas
 pub mod PlainLemmas
+pub mod ShownCuts
