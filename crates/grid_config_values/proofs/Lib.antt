@@ -1,3 +1,4 @@
 pub mod Settings
 pub mod Rectangles
 pub mod Boundaries
+pub mod Equality

@@ -1,13 +1,18 @@
 //! Laws of the definitions that the other contracts cite.
-ghost use Rattle.std.specs.Prelude.{◌≡◌, ◌<◌, ◌||◌, ◌⊎◌, ◌↔◌, All, IsTrue, List, ◌∷◌, ◌++◌, false, is_some};
+ghost use Rattle.std.specs.Prelude.{◌≡◌, ◌<◌, ◌||◌, ◌⊎◌, ◌↔◌, All, IsTrue, List, ◌∷◌, ◌++◌, false, is_some, true};
 ghost use Rattle.std.specs.declared.cmp.Ordering.TheVariants.{Equal, Less};
 ghost use Rattle.grid_config_values.specs.declared.borders.Borders.{Borders as BorderSet};
 ghost use Rattle.grid_config_values.specs.declared.entity.Entity.{Entity as CellSet};
 ghost use Rattle.grid_config_values.specs.declared.position.Position.{Position as Place};
+ghost use Rattle.grid_config_values.specs.declared.sides.Indent.{Indent as OneIndent};
+ghost use Rattle.grid_config_values.specs.declared.sides.Sides.{Sides as FourSides};
 ghost use Rattle.grid_config_values.specs.Entities.{covers};
 ghost use Rattle.grid_config_values.specs.Glyphs.{Between, First, Last, has_column_boundary, has_row_boundary};
 ghost use Rattle.grid_config_values.specs.Order.{position_cmp};
 ghost use Rattle.grid_config_values.specs.Settings.{value_after};
+
+use crate::borders::Borders;
+use crate::sides::{Indent, Sides};
 
 /// The last call that covers a position decides, whatever stands before it; where none covers it the
 /// value is the one from the start.
@@ -33,4 +38,11 @@ pub fn boundaries_by_name<T>()
     ensures top { (b : BorderSet T) → has_row_boundary b First ≡ (is_some b.top || is_some b.top_left || is_some b.top_intersection || is_some b.top_right) }
     ensures horizontal { (b : BorderSet T) → has_row_boundary b Between ≡ (is_some b.horizontal || is_some b.left_intersection || is_some b.intersection || is_some b.right_intersection) }
     ensures bottom { (b : BorderSet T) → has_row_boundary b Last ≡ (is_some b.bottom || is_some b.bottom_left || is_some b.bottom_intersection || is_some b.bottom_right) }
+{}
+
+/// `==` of sides and borders is equality of all their parts, where it is that of the parts.
+pub fn equal_values_are_the_same<T: PartialEq>()
+    ensures indents { (a b : OneIndent) → ⟦<Indent as PartialEq>⟧.eq a b ≡ true → a ≡ b }
+    ensures sides { ((x y : T) → T.eq x y ≡ true → x ≡ y) → (a b : FourSides T) → ⟦<Sides<T> as PartialEq>⟧.eq a b ≡ true → a ≡ b }
+    ensures borders { ((x y : T) → T.eq x y ≡ true → x ≡ y) → (a b : BorderSet T) → ⟦<Borders<T> as PartialEq>⟧.eq a b ≡ true → a ≡ b }
 {}
