@@ -1,7 +1,6 @@
 -- The characters from the back, turned round, are those that the text shows.
 use Rattle.std.proofs.Common.{rules, ◌≡◌, ◌<◌, ◌^◌, ℕ, List, length, reverse, ap, sym, ◌∙◌, arith}
 use Rattle.std.specs.Prelude.{chars, encode_utf8_all}
-use Rattle.ansi_scan.specs.Sequences.{Piece}
 use Rattle.ansi_str.specs.StyledText.{strip}
 use Rattle.ansi_str_text.proofs.Stripping.{strip-without_escape}
 use Rattle.grid_records_measure.specs.Measures.{measure}
