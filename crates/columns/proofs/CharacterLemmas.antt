@@ -4,7 +4,7 @@ use Rattle.std.specs.List.{slice_split, onto_first}
 use Rattle.std.proofs.lemmas.Simd.{map-map}
 use Rattle.std.proofs.lemmas.List.Concat.{flat_map_single}
 use Rattle.columns.specs.Rows.{line_feed, tab, without_empty_last, row_texts, rows_of}
-use Rattle.columns.specs.Measures.{measure}
+use Rattle.grid_records_measure.specs.Measures.{measure}
 use Rattle.columns.specs.Picture.{picture_items}
 use Rattle.columns.specs.Readings.{read_rows}
 use Rattle.columns.specs.Layout.{grid_of, character_line, character_rows, table_characters, characters_of, styled_line, styled_rows, plain, picture_of}

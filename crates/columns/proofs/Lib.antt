@@ -7,7 +7,6 @@ pub mod PartLemmas
 pub mod PassLemmas
 pub mod PictureLemmas
 pub mod PlaceLemmas
-pub mod PlainLemmas
 pub mod PrintLemmas
 pub mod PrintingLemmas
 pub mod Ranges

@@ -6,7 +6,7 @@ use Rattle.std.proofs.lemmas.List.{length-replicate}
 use Rattle.std.proofs.lemmas.List.Elements.{All-from_recursion}
 use Rattle.unicode_width.proofs.Rules.{str_width-printable}
 use Rattle.columns.specs.Rows.{rows_of}
-use Rattle.columns.specs.Measures.{measure}
+use Rattle.grid_records_measure.specs.Measures.{measure}
 use Rattle.columns.specs.Glyphs.{ascii, boundary_kind, intersection_glyph, horizontal_glyph, vertical_glyph}
 use Rattle.columns.specs.Estimates.{Line, empty_line, cell_at}
 use Rattle.columns.specs.Frame.{boundary_at, Place, RowBoundary, RowLine, Outside, place}

@@ -14,7 +14,7 @@ use Rattle.ansi_scan.proofs.Existence.{ArePiecesOf-pieces}
 use Rattle.ansi_scan.proofs.Uniqueness.{pieces-ArePiecesOf}
 use Rattle.ansi_str.specs.StyledText.{styled}
 use Rattle.columns.specs.Rows.{line_feed, tab, stripped, styled_characters, without_empty_last, rows_of, row_texts, parts_at, without_bare_last, row_parts, cell_parts}
-use Rattle.columns.specs.Measures.{measure}
+use Rattle.grid_records_measure.specs.Measures.{measure}
 use Rattle.columns.specs.Estimates.{Line}
 use Rattle.columns.specs.Picture.{picture_items}
 use Rattle.columns.specs.Readings.{read_line, read_rows}

@@ -15,7 +15,7 @@ use Rattle.ansi_str.specs.Parts.{split_part}
 use Rattle.ansi_str.specs.Matches.{bounds_between}
 use Rattle.ansi_str_text.proofs.Stripping.{has_escape-strip}
 use Rattle.columns.specs.Rows.{tab, stripped, styled_characters, places, parts_at, row_parts, cell_parts, rows_of}
-use Rattle.columns.specs.Measures.{measure}
+use Rattle.grid_records_measure.specs.Measures.{measure}
 use Rattle.columns.specs.Estimates.{Line, greatest, column_widths, row_heights}
 use Rattle.columns.specs.Totals.{total}
 use Rattle.columns.specs.Picture.{picture_items}

@@ -2,7 +2,7 @@
 use Rattle.std.specs.Prelude.{ℕ, ◌^◌, ◌<◌, List, [], ◌∷◌, map, chars, encode_utf8}
 use Rattle.ansi_scan.specs.Attributes.{Attributes, plain_attributes}
 use Rattle.columns.specs.Rows.{rows_of, stripped, cell_parts}
-use Rattle.columns.specs.Measures.{measure}
+use Rattle.grid_records_measure.specs.Measures.{measure}
 use Rattle.columns.specs.Glyphs.{ascii}
 use Rattle.columns.specs.Estimates.{Line, Padding, column_widths, row_heights}
 use Rattle.columns.specs.Totals.{total}

@@ -5,7 +5,6 @@ pub mod Frame
 pub mod Glyphs
 pub mod TableShown
 pub mod Layout
-pub mod Measures
 pub mod Picture
 pub mod Printing
 pub mod Readings

@@ -5,7 +5,7 @@ use Rattle.std.specs.Borrow.{Bor}
 use Rattle.std.specs.Int.{is_in_range}
 use Rattle.std.specs.List.{range_with_len, list_all}
 use Rattle.columns.specs.Rows.{stripped, cell_parts}
-use Rattle.columns.specs.Measures.{measure}
+use Rattle.grid_records_measure.specs.Measures.{measure}
 use Rattle.columns.specs.Estimates.{Line, empty_line, greatest}
 use Rattle.columns.specs.Layout.{part_line}
 use Rattle.columns.specs.declared.rows.Cell.{Cell}

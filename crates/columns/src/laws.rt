@@ -14,7 +14,7 @@ ghost use Rattle.columns.specs.Readings.{read_rows};
 ghost use Rattle.columns.specs.Layout.{one_each, grid_of, character_rows, table_characters, characters_of, plain, picture_of, output_of};
 ghost use Rattle.columns.specs.TableShown.{ShowsTableOf};
 ghost use Rattle.columns.specs.Run.{HasTable};
-ghost use Rattle.columns.specs.Measures.{measure};
+ghost use Rattle.grid_records_measure.specs.Measures.{measure};
 
 /// Tables worked out by hand.
 #[tactic(auto, unfolding(unicode_width::specs::Width::str_width, unicode_width::specs::Width::step, unicode_width::specs::Width::past_emoji))]

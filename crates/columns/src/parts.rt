@@ -6,8 +6,9 @@ ghost use Rattle.columns.specs.Rows.{stripped, tab, line_feed, parts_at, row_par
 ghost use Rattle.columns.specs.Layout.{part_line};
 ghost use Rattle.columns.specs.Printing.{bytes, shown, cut, last_is_bare};
 
-use crate::rows::{Cell, width_of};
+use crate::rows::Cell;
 use ansi_str::{AnsiStr, get_blocks};
+use grid_records_measure::get_line_width;
 use std::alloc::{AllocError, Global};
 use std::borrow::CowStr;
 
@@ -59,20 +60,19 @@ pub fn measured<'a>(alloc: Global, parts: &'a [CowStr<'a>]) -> Result<Vec<Cell<'
 {
     let mut cells = Vec::with_capacity(alloc, parts.len())?;
     for part in parts {
-        cells.push(measured_cell(alloc, part)?)?;
+        cells.push(measured_cell(part))?;
     }
     Ok(cells)
 }
 
 /// The part as a cell.
-fn measured_cell<'a>(alloc: Global, part: &'a str) -> Result<Cell<'a>, AllocError>
-    ensures { IfOk result (λ cell. shown cell ≡ part_line part.now) }
+fn measured_cell(part: &str) -> Cell<'_>
+    ensures { shown result ≡ part_line part.now }
 {
-    let shown = part.ansi_strip(alloc)?;
-    Ok(Cell {
+    Cell {
         text: part,
-        width: width_of(&shown),
-    })
+        width: get_line_width(part),
+    }
 }
 
 /// Appends the parts of a text at a character, of which there is one at least.

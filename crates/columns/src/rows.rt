@@ -1,7 +1,7 @@
 //! The rows and cells of a text, which borrow it.
 ghost use Rattle.std.specs.Prelude.{◌≡◌, [], ◌∷◌, ◌++◌, map, sum, vec_len, IfOk, OnOk, IsTrue, chars};
 ghost use Rattle.std.specs.Int.{is_in_range};
-ghost use Rattle.columns.specs.Measures.{measure};
+ghost use Rattle.grid_records_measure.specs.Measures.{measure};
 ghost use Rattle.columns.specs.Rows.{rows_of};
 ghost use Rattle.columns.specs.Printing.{shown, byte_line, is_plain, rows_shown};
 
@@ -72,24 +72,6 @@ fn push_cell<'a>(cells: &mut Vec<Cell<'a>>, text: &'a str, plain: bool) -> Resul
     let width = if plain { text.len() } else { measure(text) };
     cells.push(Cell { text, width })?;
     Ok(())
-}
-
-/// The columns that a text without sequences takes.
-pub fn width_of(text: &str) -> usize
-    ensures { result ≡ measure (chars text.now) }
-{
-    if is_plain(text) {
-        text.len()
-    } else {
-        measure(text)
-    }
-}
-
-/// Whether each byte is a printable ASCII character.
-fn is_plain(text: &str) -> bool
-    ensures { result ≡ is_plain text.now }
-{
-    text.as_bytes().iter().all(|byte| is_printable(*byte))
 }
 
 /// The columns that a text takes.

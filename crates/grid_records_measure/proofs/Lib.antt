@@ -5,4 +5,5 @@ pub mod CutLemmas
 pub mod RawLineLemmas
 pub mod Drained
 pub mod PlainLemmas
+pub mod PrintableLemmas
 pub mod ShownCuts

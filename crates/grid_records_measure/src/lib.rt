@@ -5,6 +5,7 @@ mod characters;
 mod cut;
 pub mod laws;
 mod measure;
+mod printable;
 mod raw_lines;
 mod tabs;
 mod text_lines;

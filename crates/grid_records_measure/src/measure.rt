@@ -5,6 +5,7 @@ ghost use Rattle.ansi_str.specs.StyledText.{strip};
 ghost use Rattle.grid_records_measure.specs.Measures.{measure};
 ghost use Rattle.grid_records_measure.specs.TextLines.{shown_lines, widest};
 
+use crate::printable::printable_width;
 use crate::raw_lines::split_line;
 use ansi_str::AnsiStr;
 use ansi_str_text::stripped_chars;
@@ -15,10 +16,12 @@ use unicode_width::{UnicodeWidthStr, char_iter_width};
 pub fn get_line_width(text: &str) -> usize
     ensures { (pieces : List Piece) → ArePiecesOf text.now pieces → result ≡ measure (chars (strip pieces)) }
 {
-    if text.ansi_has_any() {
-        char_iter_width(stripped_chars(text))
-    } else {
-        text.width()
+    if !text.ansi_has_any() {
+        return text.width();
+    }
+    match printable_width(text) {
+        Some(width) => width,
+        None => char_iter_width(stripped_chars(text)),
     }
 }
 

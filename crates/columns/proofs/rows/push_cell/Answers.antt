@@ -1,8 +1,8 @@
 use Rattle.std.proofs.Common.{◌≡◌, [], ◌∷◌, ◌++◌, map, chars, ap, sym, ◌∙◌}
 use Rattle.std.proofs.lemmas.List.{map_push}
-use Rattle.columns.specs.Measures.{measure}
+use Rattle.grid_records_measure.specs.Measures.{measure}
 use Rattle.columns.specs.Printing.{shown}
-use Rattle.columns.proofs.PlainLemmas.{measure-printable}
+use Rattle.grid_records_measure.proofs.PrintableLemmas.{measure-printable}
 use Rattle.columns.proofs.rows.push_cell.Goals as goal
 use Rattle.columns.proofs.rows.push_cell.Goals.{then-plain, else-plain}
 

@@ -1,0 +1,37 @@
+//! The width of a text that shows printable ASCII alone, of which each byte takes one column.
+ghost use Rattle.std.specs.Prelude.{◌≡◌, IfSome, chars};
+ghost use Rattle.std.specs.Int.{is_in_range};
+ghost use Rattle.std.specs.List.{list_all};
+ghost use Rattle.ansi_scan.specs.Pieces.{pieces};
+ghost use Rattle.ansi_str.specs.StyledText.{strip};
+ghost use Rattle.grid_records_measure.specs.Measures.{measure};
+
+use ansi_scan::{Kind, scan};
+
+/// The columns that the text takes without its sequences, where it shows printable ASCII alone.
+pub(crate) fn printable_width(text: &str) -> Option<usize>
+    ensures { IfSome result (λ width. width ≡ measure (chars (strip (pieces text.now)))) }
+{
+    let mut width = 0;
+    let mut rest = text;
+    while let Some(item) = scan(rest).next() {
+        if let Kind::Text = item.kind {
+            let shown = &rest[..item.end];
+            if !is_printable(shown) {
+                return None;
+            }
+            width += shown.len();
+        }
+        rest = &rest[item.end..];
+    }
+    Some(width)
+}
+
+/// Whether each byte is printable ASCII.
+fn is_printable(text: &str) -> bool
+    ensures { result ≡ list_all (is_in_range 0x20 0x7E) text.now }
+{
+    text.as_bytes()
+        .iter()
+        .all(|byte| matches!(*byte, b' '..=b'~'))
+}
