@@ -1,5 +1,5 @@
 -- What a cut at a width shows.
-use Rattle.std.proofs.Common.{◌≡◌, ◌≤◌, ◌<◌, ◌-◌, ℕ, zero, suc, ◌+◌, ◌&&◌, Bool, true, false, cond, List, [], ◌∷◌, ◌++◌, length, take, drop, map, replicate, chars, encode_utf8_all, slice_range, refl, ap, sym, subst, ◌∙◌, arith, append-nil, append_assoc}
+use Rattle.std.proofs.Common.{◌≡◌, ◌≤◌, ◌<◌, ◌-◌, ℕ, zero, suc, ◌&&◌, Bool, true, false, cond, List, [], ◌∷◌, ◌++◌, length, take, map, replicate, chars, encode_utf8_all, slice_range, refl, ap, sym, subst, ◌∙◌, arith, append-nil, append_assoc}
 use Rattle.std.specs.List.{list_all}
 use Rattle.std.specs.Str.{IsUtf8, IsCharBoundary}
 use Rattle.std.proofs.Math.Seq.{take-append_seam}
@@ -7,8 +7,8 @@ use Rattle.std.proofs.Math.Utf8.{scalars, scalar, encode}
 use Rattle.std.proofs.lemmas.Bool.{and_parts}
 use Rattle.std.proofs.lemmas.List.{map-append}
 use Rattle.std.proofs.lemmas.Str.{chars-append, chars-encodes, encodes-append, encodes-chars, scalars-chars, IsCharBoundary-start, IsCharBoundary-at_seam, chars-nil, length-le-encodes}
-use Rattle.ansi_scan.specs.declared.items.Kind.TheVariants.{Text, Broken}
-use Rattle.ansi_scan.specs.Sequences.{Piece, ArePiecesOf, EachStands, NoneBroken, is_plain, joined}
+use Rattle.ansi_scan.specs.declared.items.Kind.TheVariants.{Text}
+use Rattle.ansi_scan.specs.Sequences.{Piece, ArePiecesOf, NoneBroken, is_plain}
 use Rattle.ansi_scan.specs.Joining.{is_text_kind, put_before, put_all_before}
 use Rattle.ansi_scan.specs.Pieces.{pieces}
 use Rattle.ansi_scan.specs.Attributes.{Attributes, plain_attributes}
@@ -16,7 +16,7 @@ use Rattle.ansi_scan.proofs.Existence.{ArePiecesOf-pieces}
 use Rattle.ansi_scan.proofs.Uniqueness.{ArePiecesOf-unique}
 use Rattle.ansi_scan.proofs.Joins.{ArePiecesOf-append, NoneBroken-put_all_before}
 use Rattle.ansi_str.specs.StyledText.{IsClosed, strip, style_after, style_after_all, styled, styled_from, text_of}
-use Rattle.ansi_str.specs.Parts.{before_place, from_place, through_place, dressed, split_part}
+use Rattle.ansi_str.specs.Parts.{from_place, through_place, dressed, split_part}
 use Rattle.ansi_str.specs.Cuts.{cut_part}
 use Rattle.ansi_str_text.proofs.Utf8Pieces.{EachUtf8, EachUtf8-pieces, IsUtf8-shown_text}
 use Rattle.ansi_str.proofs.PartLemmas.{style_by-text}
@@ -92,7 +92,7 @@ unfolding fill_pieces
 ArePiecesOf-fill zero = record { joins = refl; stand = tt }
 ArePiecesOf-fill (suc n) = record {
   joins = append-nil (encode_utf8_all (replicate (suc n) replacement));
-  stand = (record { some = some-fill n; plain = filled-plain (suc n); ends = tt }, tt)
+  stand = (record { some = some-fill n; plain = filled-plain (suc n); ends = tt }, tt);
 }
 
 NoneBroken-fill : (n : ℕ) → NoneBroken (fill_pieces n)
@@ -194,8 +194,8 @@ module _ (width : ℕ) (text : List ℕ) (ps : List Piece) (utf8 : IsUtf8 text) 
             ∙ ap (λ shown. shown ++ map (λ c. (c, plain_attributes)) (replicate n replacement)) (shown-front first of_first);
         closed = subst IsClosed (sym same) (record {
           none_broken = NoneBroken-put_all_before first (fill_pieces n) closed.none_broken (NoneBroken-fill n);
-          plain = style-put_all_before plain_attributes first (fill_pieces n) ∙ ap (λ style. style_after_all style (fill_pieces n)) closed.plain ∙ style-fill plain_attributes n
-        })
+          plain = style-put_all_before plain_attributes first (fill_pieces n) ∙ ap (λ style. style_after_all style (fill_pieces n)) closed.plain ∙ style-fill plain_attributes n;
+        });
       }
 
 pub cut-shows : (width : ℕ) (text bytes : List ℕ) (ps qs : List Piece) → IsUtf8 text → ArePiecesOf text ps → NoneBroken ps → IsCutAt width ps bytes → ArePiecesOf bytes qs → ShowsCut width ps qs
