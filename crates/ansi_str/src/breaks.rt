@@ -11,9 +11,10 @@ use std::alloc::{AllocError, Global};
 use std::borrow::CowStr;
 
 /// The parts of a text between places of the text without its sequences, one more than there are
-/// places. A part has the sequences that stand behind its first place, up to its last place: the first
-/// part those at its first place too. It begins with the start of the style known behind the parts
-/// before it, and ends with the end of the style then open. The only refusal is for memory.
+/// places, of which `are_places` is true. A part has the sequences that stand behind its first place, up
+/// to its last place: the first part those at its first place too. It begins with the start of the style
+/// known behind the parts before it, and ends with the end of the style then open. The only refusal is
+/// for memory.
 pub fn split_places<'a>(
     alloc: Global,
     text: &'a str,

@@ -50,9 +50,9 @@ pub trait AnsiStr {
         ensures answers { has_escape (text self.now) ≡ false → IsOk result }
         ensures borrows { IfOk result (λ found. IfSome found (λ part. IsOwnedStr part → IsTrue (has_escape (text self.now)))) };
 
-    /// The text between good bounds, with all sequences that stand at or before its end, and the end of the
-    /// style then open. A bound past the end counts as the end. A text without ESC is answered by a
-    /// borrow, without memory; else the only refusal is for memory.
+    /// The text between good bounds, as `is_good_range` tells them, with all sequences that stand at or
+    /// before its end, and the end of the style then open. A bound past the end counts as the end. A text
+    /// without ESC is answered by a borrow, without memory; else the only refusal is for memory.
     fn ansi_cut<R: AnsiRange>(&self, alloc: Global, range: R) -> Result<CowStr<'_>, AllocError>
         requires { (pieces : List Piece) → ArePiecesOf (text self.now) pieces →
             AreGoodBounds (strip pieces) (R.start range) (R.end range) }
@@ -62,8 +62,8 @@ pub trait AnsiStr {
         ensures borrows { IfOk result (λ part. IsOwnedStr part → IsTrue (has_escape (text self.now))) };
 
     /// The two parts of `split_places` at one place, which is a character boundary of the text without its
-    /// sequences, or past its end and counts as the end. A text without ESC is answered by borrows,
-    /// without memory; else the only refusal is for memory.
+    /// sequences, or past its end and counts as the end (`is_good_range` tells it of `mid..`). A text
+    /// without ESC is answered by borrows, without memory; else the only refusal is for memory.
     fn ansi_split_at(
         &self,
         alloc: Global,
