@@ -193,7 +193,7 @@ lacking-some width cs some = lacking-by width cs (behind_front width 0 cs) refl 
 
 -- ---- the place of the cut
 
-scalars-behind : (xs ys : List ℕ) → scalars (xs ++ ys) ≡ true → scalars ys ≡ true
+pub scalars-behind : (xs ys : List ℕ) → scalars (xs ++ ys) ≡ true → scalars ys ≡ true
 scalars-behind [] ys all = all
 scalars-behind (x ∷ xs) ys all = scalars-behind xs ys (and_parts (scalar x) (scalars (xs ++ ys)) all).1
 

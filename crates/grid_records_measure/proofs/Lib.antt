@@ -4,4 +4,6 @@ pub mod TabLemmas
 pub mod CutLemmas
 pub mod RawLineLemmas
 pub mod Drained
+pub mod PlainLemmas
 pub mod PrintableLemmas
+pub mod ShownCuts

@@ -1,8 +1,9 @@
 -- The cut of a text at a width.
-use Rattle.std.specs.Prelude.{◌≡◌, ◌≤◌, ◌<◌, ◌-◌, ℕ, false, List, [], ◌∷◌, ◌++◌, length, replicate, chars, encode_utf8_all}
+use Rattle.std.specs.Prelude.{◌≡◌, ◌≤◌, ◌<◌, ◌-◌, ℕ, false, List, [], ◌∷◌, ◌++◌, length, map, replicate, take, chars, encode_utf8_all}
 use Rattle.std.specs.List.{slice_split}
 use Rattle.ansi_scan.specs.Sequences.{Piece}
-use Rattle.ansi_str.specs.StyledText.{has_escape, strip}
+use Rattle.ansi_scan.specs.Attributes.{plain_attributes}
+use Rattle.ansi_str.specs.StyledText.{IsClosed, has_escape, strip, styled}
 use Rattle.ansi_str.specs.Cuts.{cut_part}
 use Rattle.grid_records_measure.specs.Measures.{columns}
 use Rattle.grid_records_measure.specs.TextLines.{is_line_feed}
@@ -59,3 +60,12 @@ pub record IsPlainCut (width : ℕ) (text : List ℕ) : Type 0 where
   pub left : List ℕ
   pub longest : IsLongestFront width (chars text) kept left
   pub none_lacking : lacking width kept left ≡ 0
+
+-- the pieces show the characters that are kept in the styles that they have in the text, and then replacement characters in
+-- the plain style; and no style is open at the end
+pub record ShowsCut (width : ℕ) (text cut : List Piece) : Type 0 where
+  pub kept : List ℕ
+  pub left : List ℕ
+  pub longest : IsLongestFront width (chars (strip text)) kept left
+  pub shown : styled cut ≡ take (length kept) (styled text) ++ map (λ c. (c, plain_attributes)) (replicate (lacking width kept left) replacement)
+  pub closed : IsClosed cut

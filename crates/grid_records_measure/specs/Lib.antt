@@ -4,3 +4,4 @@ pub mod Tabs
 pub mod Cutting
 pub mod Filling
 pub mod RawLines
+pub mod PlainCharacters

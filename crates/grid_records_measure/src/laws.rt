@@ -1,13 +1,16 @@
 //! Laws of the definitions that the other contracts cite.
 
-ghost use Rattle.std.specs.Prelude.{All, ◌≡◌, ◌<◌, ℕ, List, length, map};
-ghost use Rattle.std.specs.List.{join_with_byte};
+ghost use Rattle.std.specs.Prelude.{All, ◌≡◌, ◌<◌, ℕ, List, length, map, true};
+ghost use Rattle.std.specs.List.{join_with_byte, list_all, sum_by};
+ghost use Rattle.std.specs.Str.{IsUtf8};
 ghost use Rattle.ansi_scan.specs.Pieces.{pieces as pieces_of};
 ghost use Rattle.ansi_scan.specs.Sequences.{Piece, ArePiecesOf, NoneBroken};
 ghost use Rattle.ansi_str.specs.StyledText.{strip};
 ghost use Rattle.ansi_str.specs.Lines.{IsClosedLine};
+ghost use Rattle.grid_records_measure.specs.Measures.{columns, measure, own_width};
+ghost use Rattle.grid_records_measure.specs.PlainCharacters.{is_one_column, is_plain_character, is_two_columns};
 ghost use Rattle.grid_records_measure.specs.TextLines.{AreLinesOf, line_feed, shown_lines};
-ghost use Rattle.grid_records_measure.specs.Cutting.{IsLongestFront};
+ghost use Rattle.grid_records_measure.specs.Cutting.{IsCutAt, IsLongestFront, ShowsCut};
 
 /// The lines of a text are one list: there is such a list, and no other.
 pub fn one_list_of_lines()
@@ -43,4 +46,22 @@ pub fn one_longest_front()
         (kept : List ℕ) × (left : List ℕ) × IsLongestFront width characters kept left }
     ensures one { (width : ℕ) (characters kept left others more : List ℕ) →
         IsLongestFront width characters kept left → IsLongestFront width characters others more → kept ≡ others }
+{}
+
+/// The cut of a whole text at a width shows the characters of its longest front, in the styles that they
+/// have in the text, and then replacement characters in the plain style; and it is closed.
+pub fn cuts_show_their_fronts()
+    ensures { (width : ℕ) (text bytes : List ℕ) (pieces of_cut : List Piece) → IsUtf8 text → ArePiecesOf text pieces →
+        NoneBroken pieces → IsCutAt width pieces bytes → ArePiecesOf bytes of_cut → ShowsCut width pieces of_cut }
+{}
+
+/// Where all characters are plain, what a line measures is the sum of the columns that they take one by
+/// one, which is also the sum of what they cost. A plain character takes one column or two.
+pub fn plain_characters_add_up()
+    ensures one { (c : ℕ) → is_one_column c ≡ true → own_width c ≡ 1 }
+    ensures two { (c : ℕ) → is_two_columns c ≡ true → own_width c ≡ 2 }
+    ensures sum { (characters : List ℕ) → list_all is_plain_character characters ≡ true →
+        measure characters ≡ sum_by own_width characters }
+    ensures costs { (characters : List ℕ) → list_all is_plain_character characters ≡ true →
+        columns characters ≡ measure characters }
 {}
