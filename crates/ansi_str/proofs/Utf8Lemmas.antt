@@ -3,20 +3,18 @@ use Rattle.std.proofs.Common.{◌≡◌, ℕ, ◌+◌, ◌-◌, ◌<◌, ◌≤�
 use Rattle.std.specs.Prelude.{if◌then◌else◌}
 use Rattle.std.specs.List.{AllByRecursion, list_all}
 use Rattle.std.specs.Str.{IsUtf8, IsCharBoundary}
-use Rattle.std.proofs.Math.Seq.{take-append_seam, drop-append_seam}
+use Rattle.std.proofs.Math.Seq.{take-append_seam}
 use Rattle.std.proofs.lemmas.Bool.{and_parts}
 use Rattle.std.proofs.lemmas.Bool.Decides.{nat_tests}
 use Rattle.std.proofs.lemmas.List.{length-drop, get_or-drop, get_or_append_left, get_or-append_right}
 use Rattle.std.proofs.lemmas.List.Elements.{All-from_recursion, All-head, All-tail, All-map}
-use Rattle.std.proofs.lemmas.Str.{IsUtf8-nil, IsUtf8-append, IsUtf8-take, IsUtf8-drop, IsUtf8-from_ascii, IsCharBoundary-start, IsCharBoundary-end, IsCharBoundary-from_take, IsCharBoundary-from_rest}
+use Rattle.std.proofs.lemmas.Str.{IsUtf8-take, IsUtf8-drop, IsUtf8-from_ascii, IsCharBoundary-start, IsCharBoundary-end, IsCharBoundary-from_take, IsCharBoundary-from_rest}
 use Rattle.std.proofs.lemmas.Str.Ascii.{IsAscii-from_all}
-use Rattle.ansi_scan.specs.Sequences.{Piece, joined, EachStands, ArePiecesOf, NoneBroken, IsSgr, is_numeric}
-use Rattle.ansi_scan.specs.Joining.{is_text_kind}
+use Rattle.ansi_scan.specs.Sequences.{Piece, ArePiecesOf, NoneBroken, IsSgr, is_numeric}
 use Rattle.ansi_scan.specs.Pieces.{pieces}
 use Rattle.ansi_scan.specs.Attributes.{Attributes, IsRendition, plain_attributes}
 use Rattle.ansi_scan.specs.StartsAndEnds.{start_sequences, end_sequences}
 use Rattle.ansi_scan.specs.Rendition.{sgr_parameters}
-use Rattle.ansi_scan.proofs.Boundaries.{IsCharBoundary-behind}
 use Rattle.ansi_scan.proofs.Renditions.{IsSgr-if_read}
 use Rattle.ansi_scan.proofs.Existence.{ArePiecesOf-pieces}
 use Rattle.ansi_scan.proofs.Kept.{IsRendition-plain}
@@ -25,7 +23,7 @@ use Rattle.ansi_str.specs.StyledText.{text_of, strip, style_after_all}
 use Rattle.ansi_str.specs.Parts.{from_place, before_place, through_place, split_part, dressed}
 use Rattle.ansi_str.specs.Matches.{Occurs, AreMatchesFrom, AreMatches, behind_match, bounds_between, split_bounds, styled_parts}
 use Rattle.ansi_str.specs.Lines.{IsClosedText}
-use Rattle.ansi_str.proofs.PartLemmas.{text_of-text, text_of-sequence}
+use Rattle.ansi_str.proofs.PartLemmas.{text_of-text}
 use Rattle.ansi_str.proofs.StyleLemmas.{split_part-slice}
 use Rattle.ansi_str.proofs.PlaceLemmas.{none, inside, past, reach, has_text, from-inside, from-past, through-inside, through-past, strip-from}
 use Rattle.ansi_str.proofs.DressedLemmas.{renditions, dressed_pieces, joined-dressed, short, long, cut, IsRendition-after, IsClosed-split_part}
