@@ -1,5 +1,5 @@
 -- `==`, as it is derived, is equality of all fields.
-use Rattle.std.proofs.Common.{◌≡◌, ℕ, Bool, true, false, ◌&&◌, ◌==◌, Option, None, Some, List, [], ◌∷◌, refl, ap}
+use Rattle.std.proofs.Common.{◌≡◌, Bool, true, ◌&&◌, ◌==◌, Option, None, Some, List, [], ◌∷◌, refl, ap}
 use Rattle.std.specs.Option.{option_eq}
 use Rattle.std.proofs.lemmas.Bool.{and_parts, eqb-true}
 use Rattle.grid_config_values.specs.declared.borders.Borders.{Borders}
