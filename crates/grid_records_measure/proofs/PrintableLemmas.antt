@@ -1,5 +1,5 @@
 -- Printable ASCII takes a column a byte.
-use Rattle.std.proofs.Common.{◌≡◌, ℕ, ◌+◌, ◌<◌, ◌≤◌, zero, suc, Bool, true, false, List, [], ◌∷◌, ◌++◌, length, slice_range, get_or, refl, ap, sym, ◌∙◌, subst, arith, append_assoc, append-nil, length-append}
+use Rattle.std.proofs.Common.{◌≡◌, ℕ, ◌+◌, ◌<◌, ◌≤◌, zero, suc, Bool, true, false, List, [], ◌∷◌, ◌++◌, length, get_or, refl, ap, sym, ◌∙◌, arith, append_assoc, append-nil, length-append}
 use Rattle.std.specs.Prelude.{chars}
 use Rattle.std.specs.Int.{is_in_range}
 use Rattle.std.specs.List.{list_all}
@@ -7,13 +7,10 @@ use Rattle.std.proofs.lemmas.Bool.{and_parts}
 use Rattle.std.proofs.lemmas.Bool.Decides.{nat_tests}
 use Rattle.std.proofs.lemmas.Str.{chars-IsAscii}
 use Rattle.unicode_width.proofs.Rules.{str_width-printable}
-use Rattle.ansi_scan.specs.declared.items.Item.{Item}
-use Rattle.ansi_scan.specs.Places.{AreItemsOf}
-use Rattle.ansi_scan.specs.Sequences.{ArePiecesOf}
 use Rattle.ansi_scan.specs.Pieces.{pieces}
 use Rattle.ansi_scan.proofs.Existence.{ArePiecesOf-pieces}
 use Rattle.ansi_scan.proofs.Joins.{list_all-append}
-use Rattle.ansi_str_text.specs.StyledText.{shown, strip}
+use Rattle.ansi_str_text.specs.StyledText.{strip}
 use Rattle.ansi_str_text.proofs.CharacterLemmas.{length-strip}
 use Rattle.grid_records_measure.specs.Measures.{measure}
 

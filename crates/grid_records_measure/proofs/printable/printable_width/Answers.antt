@@ -1,5 +1,5 @@
 -- An item at a time is passed, as long as all is printable.
-use Rattle.std.proofs.Common.{rules, ◌≡◌, ◌+◌, ◌++◌, ◌<◌, ◌^◌, ℕ, List, length, drop, slice_range, refl, ap, sym, ◌∙◌, subst, arith}
+use Rattle.std.proofs.Common.{rules, ◌≡◌, ◌++◌, ◌<◌, ◌^◌, ℕ, List, length, drop, slice_range, refl, ap, sym, ◌∙◌, subst, arith}
 use Rattle.ansi_scan.specs.declared.items.Kind.{Kind}
 use Rattle.ansi_scan.specs.Pieces.{pieces}
 use Rattle.ansi_scan.specs.Scan.{items_left}
