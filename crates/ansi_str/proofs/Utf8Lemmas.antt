@@ -28,7 +28,6 @@ use Rattle.ansi_str.proofs.StyleLemmas.{split_part-slice}
 use Rattle.ansi_str.proofs.PlaceLemmas.{none, inside, past, reach, has_text, from-inside, from-past, through-inside, through-past, strip-from}
 use Rattle.ansi_str.proofs.DressedLemmas.{renditions, dressed_pieces, joined-dressed, short, long, cut, IsRendition-after, IsClosed-split_part}
 use Rattle.ansi_str.proofs.CharLemmas.{hold_both}
-
 pub use Rattle.ansi_str_text.proofs.Utf8Pieces.{EachUtf8, EachUtf8-pieces, IsUtf8-joined, IsUtf8-text_of, IsUtf8-strip}
 
 -- ---- boundaries of characters in the text without its sequences

@@ -37,13 +37,13 @@ loop-item-preserved c =
           subst Passed (sym w.width-is)
           (IsPassed-text c.loop-item.width rest c.args.text.now w.range-shown.result.now behind c.loop-item.invariant.1
           (strip-first rest w.range-shown.result.now behind (items_left c.scan.result) (items_left c.next.new.self) c.in-Some.item c.scan.ensures.items c.in-Some.ensures.steps w.range-shown.ensures.value c.range_from-rest.ensures.value
-              ∙ ap (λ (kind : Kind). shown kind w.range-shown.result.now ++ strip (pieces behind)) w.in-Text.is)
+          ∙ ap (λ (kind : Kind). shown kind w.range-shown.result.now ++ strip (pieces behind)) w.in-Text.is)
           (sym w.is_printable.ensures ∙ w.if-not-is_printable.false))
       | in_default-kind w ↦
           subst Passed (sym w.width-is)
           (IsPassed-other c.loop-item.width rest c.args.text.now behind c.loop-item.invariant.1
           (strip-first rest (slice_range rest 0 c.in-Some.item.end) behind (items_left c.scan.result) (items_left c.next.new.self) c.in-Some.item c.scan.ensures.items c.in-Some.ensures.steps refl c.range_from-rest.ensures.value
-              ∙ ap (λ (bs : List ℕ). bs ++ strip (pieces behind)) (shown-sequence c.in-Some.item.kind (slice_range rest 0 c.in-Some.item.end) w.in_default-kind.not-Text)))
+          ∙ ap (λ (bs : List ℕ). bs ++ strip (pieces behind)) (shown-sequence c.in-Some.item.kind (slice_range rest 0 c.in-Some.item.end) w.in_default-kind.not-Text)))
     ] in
     (c.range_from-rest.utf8, passed)
 
