@@ -1,12 +1,11 @@
 //! The rows and cells of a text, which borrow it.
 ghost use Rattle.std.specs.Prelude.{◌≡◌, [], ◌∷◌, ◌++◌, map, sum, vec_len, IfOk, OnOk, IsTrue, chars};
 ghost use Rattle.std.specs.Int.{is_in_range};
-ghost use Rattle.grid_records_measure.specs.Measures.{measure};
 ghost use Rattle.columns.specs.Rows.{rows_of};
 ghost use Rattle.columns.specs.Printing.{shown, byte_line, is_plain, rows_shown};
 
+use grid_records_measure::get_string_width;
 use std::alloc::{AllocError, Global};
-use unicode_width::UnicodeWidthStr;
 
 /// A cell: its text, and the columns that the text takes.
 #[derive(Clone, Copy)]
@@ -69,16 +68,11 @@ fn push_cell<'a>(cells: &mut Vec<Cell<'a>>, text: &'a str, plain: bool) -> Resul
     requires { IsTrue plain → IsTrue (is_plain text.now) }
     ensures { OnOk result (map shown cells.new.items ≡ map shown cells.old.items ++ byte_line text.now ∷ []) }
 {
-    let width = if plain { text.len() } else { measure(text) };
+    let width = if plain {
+        text.len()
+    } else {
+        get_string_width(text)
+    };
     cells.push(Cell { text, width })?;
     Ok(())
-}
-
-/// The columns that a text takes.
-// Few cells come here, and without it `push_cell` is short enough to stand in the loop.
-#[inline(never)]
-fn measure(text: &str) -> usize
-    ensures { result ≡ measure (chars text.now) }
-{
-    text.width()
 }
