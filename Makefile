@@ -1,7 +1,7 @@
 # `rt` proves, builds and tests; `rt help` tells its commands. What follows only calls it.
 
 PROGRAM := crates/columns/out/columns
-TESTS := crates/ansi_str/out/ansi_str_tests
+TESTS := crates/ansi_str/out/ansi_str_tests crates/grid_config/out/grid_config_tests
 INPUT ?= examples/nightly.tsv
 PREFIX ?= /usr/local
 
@@ -52,5 +52,5 @@ $(PROGRAM): $(SOURCES)
 
 # `rt test` proves and builds the tests, and runs them.
 $(TESTS): $(SOURCES)
-	@cd crates/ansi_str && rt test < /dev/null > /dev/null
+	@cd $(@D)/.. && rt test < /dev/null > /dev/null
 	@touch $@

@@ -6,9 +6,12 @@ import sys
 
 ROOT = os.path.dirname(os.path.dirname(os.path.abspath(__file__)))
 PROGRAM = "crates/columns/out/columns"
-# The tests of ansi_str, as a program.
-TESTS = "crates/ansi_str/out/ansi_str_tests"
 SECONDS = 120
+
+
+def tests_of(crate):
+    """The tests of a crate, as a program."""
+    return f"crates/{crate}/out/{crate}_tests"
 
 
 def arguments(what):

@@ -1,6 +1,5 @@
 -- The settings of a table whose cells have colours.
 use Rattle.std.specs.Prelude.{Option}
-use Rattle.std.specs.Borrow.{Lends, MutBor, Fml}
 use Rattle.grid_config_values.specs.declared.entity_map.EntityMap.{EntityMap}
 use Rattle.grid_config_colors.specs.Colors.{Color}
 use Rattle.grid_config.specs.Settings.{Settings}

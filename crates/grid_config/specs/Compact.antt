@@ -1,11 +1,12 @@
 -- The settings of a compact table.
-use Rattle.std.specs.Prelude.{ℕ, Option, None}
+use Rattle.std.specs.Prelude.{ℕ}
 use Rattle.std.specs.Option.{option_map}
 use Rattle.grid_config_values.specs.declared.alignment.AlignmentHorizontal.{AlignmentHorizontal}
 use Rattle.grid_config_values.specs.declared.alignment.AlignmentHorizontal.TheVariants.{Left}
 use Rattle.grid_config_values.specs.declared.borders.Borders.{Borders}
 use Rattle.grid_config_values.specs.declared.sides.Indent.{Indent}
 use Rattle.grid_config_values.specs.declared.sides.Sides.{Sides}
+use Rattle.grid_config_values.specs.Glyphs.{no_borders}
 use Rattle.grid_config_colors.specs.declared.borrowed.ANSIStr.{ANSIStr}
 use Rattle.grid_config_colors.specs.Colors.{Color, color_of, no_color}
 use Rattle.grid_config.specs.declared.compact.CompactConfig.{CompactConfig}
@@ -23,26 +24,6 @@ pub record Compact : Type 0 where
 -- one value at each side
 abbrev pub each_side : {T : Type 0} → T → Sides T
 each_side value = record { left = value; right = value; top = value; bottom = value }
-
--- nothing on any boundary
-abbrev pub no_borders : {T : Type 0} → Borders T
-no_borders = record {
-  top = None;
-  top_left = None;
-  top_right = None;
-  top_intersection = None;
-  bottom = None;
-  bottom_left = None;
-  bottom_right = None;
-  bottom_intersection = None;
-  horizontal = None;
-  left_intersection = None;
-  right_intersection = None;
-  intersection = None;
-  vertical = None;
-  left = None;
-  right = None;
-}
 
 -- size 0; its fill is a space
 abbrev pub no_indent : Indent

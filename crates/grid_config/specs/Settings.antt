@@ -9,10 +9,11 @@ use Rattle.grid_config_values.specs.declared.entity_map.EntityMap.{EntityMap}
 use Rattle.grid_config_values.specs.declared.position.Position.{Position}
 use Rattle.grid_config_values.specs.declared.sides.Indent.{Indent}
 use Rattle.grid_config_values.specs.declared.sides.Sides.{Sides}
+use Rattle.grid_config_values.specs.Glyphs.{no_borders}
 use Rattle.grid_config_values.specs.Settings.{value_at}
 use Rattle.grid_config_spans.specs.declared.extent.Extent.{Extent}
 use Rattle.grid_config_colors.specs.Colors.{Color, is_no_color}
-use Rattle.grid_config.specs.Compact.{Compact, each_side, no_borders, no_indent}
+use Rattle.grid_config.specs.Compact.{Compact, each_side, no_indent}
 
 -- the settings of the whole table, then those that each cell has, then the spans
 pub record Settings : Type 0 where

@@ -1,5 +1,4 @@
 //! The settings of a table whose cells are all alike.
-use crate::whole::no_borders;
 use grid_config_colors::ANSIStr;
 use grid_config_values::{AlignmentHorizontal, Borders, Indent, Sides};
 
@@ -28,11 +27,11 @@ impl CompactConfig {
         let color = ANSIStr::empty();
         CompactConfig {
             margin: Sides::new(indent, indent, indent, indent),
-            borders: no_borders(),
+            borders: Borders::empty(),
             padding: Sides::new(indent, indent, indent, indent),
             alignment_horizontal: AlignmentHorizontal::Left,
             margin_color: Sides::new(color, color, color, color),
-            borders_color: no_borders(),
+            borders_color: Borders::empty(),
             padding_color: Sides::new(color, color, color, color),
         }
     }

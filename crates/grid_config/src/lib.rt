@@ -22,3 +22,6 @@ pub use spanned::SpannedConfig;
 pub mod ansi {
     pub use grid_config_colors::{ANSIBuf, ANSIStr};
 }
+
+#[cfg(test)]
+mod tests;

@@ -1,5 +1,6 @@
 //! All settings of a table.
-ghost use Rattle.std.specs.Prelude.{◌≡◌, ◌≢◌, ◌<◌, ◌==◌, ◌↔◌, if◌then◌else◌, None, Some, Err, IfErr, OnErr, OnOk, IfOk, IsTrue};
+ghost use Rattle.std.specs.Prelude.{◌≡◌, ◌≢◌, ◌<◌, ◌==◌, ◌↔◌, if◌then◌else◌, None, Some, Err, IfErr, OnErr, OnOk, IfOk, IsOk, IsTrue};
+ghost use Rattle.grid_config_values.specs.declared.entity.Entity.TheVariants.{Global as EveryCell};
 ghost use Rattle.grid_config_values.specs.declared.fault.Fault.TheVariants.{Memory, Spans as BadSpan};
 ghost use Rattle.grid_config_values.specs.Glyphs.{boundary_count, boundary_kind, has_column_boundary, has_row_boundary};
 ghost use Rattle.grid_config_spans.specs.Spans.{AreGood, IsVisible, SetsColumns, SetsRows, extent_at};
@@ -159,11 +160,12 @@ impl SpannedConfig {
     }
 
     /// Sets the padding of cells, for the cells of the entity. Refused for memory alone, and then
-    /// nothing has changed.
+    /// nothing has changed; for all cells never.
     pub fn set_padding(&mut self, entity: Entity, value: Sides<Indent>) -> Result<(), Fault>
         ensures set { OnOk result (SetsCovered self.old.padding self.new.padding entity value) }
         ensures refused { OnErr result (IsUnchanged self.old.padding self.new.padding) }
         ensures fault { IfErr result (λ fault. fault ≡ Memory) }
+        ensures global { entity ≡ EveryCell → IsOk result }
         ensures others { KeepsOthers Padding self.old self.new }
     {
         self.cells.padding.insert(entity, value)?;
@@ -177,8 +179,8 @@ impl SpannedConfig {
         self.cells.padding.get(pos)
     }
 
-    /// Sets the colours of cells' paddings, for the cells of the entity. Refused for memory alone, and then
-    /// nothing has changed.
+    /// Sets the colours of cells' paddings, for the cells of the entity. Refused for memory alone, and
+    /// then nothing has changed; for all cells never.
     pub fn set_padding_color(
         &mut self,
         entity: Entity,
@@ -187,6 +189,7 @@ impl SpannedConfig {
         ensures set { OnOk result (SetsCovered self.old.padding_color self.new.padding_color entity value) }
         ensures refused { OnErr result (IsUnchanged self.old.padding_color self.new.padding_color) }
         ensures fault { IfErr result (λ fault. fault ≡ Memory) }
+        ensures global { entity ≡ EveryCell → IsOk result }
         ensures others { KeepsOthers PaddingColor self.old self.new }
     {
         self.cells.padding_color.insert(entity, value)?;
@@ -200,8 +203,8 @@ impl SpannedConfig {
         self.cells.padding_color.get(pos)
     }
 
-    /// Sets where cells' texts stand between their left and right padding, for the cells of the entity. Refused for memory alone, and then
-    /// nothing has changed.
+    /// Sets where cells' texts stand between their left and right padding, for the cells of the entity.
+    /// Refused for memory alone, and then nothing has changed; for all cells never.
     pub fn set_alignment_horizontal(
         &mut self,
         entity: Entity,
@@ -210,6 +213,7 @@ impl SpannedConfig {
         ensures set { OnOk result (SetsCovered self.old.alignment_horizontal self.new.alignment_horizontal entity value) }
         ensures refused { OnErr result (IsUnchanged self.old.alignment_horizontal self.new.alignment_horizontal) }
         ensures fault { IfErr result (λ fault. fault ≡ Memory) }
+        ensures global { entity ≡ EveryCell → IsOk result }
         ensures others { KeepsOthers HorizontalAlignment self.old self.new }
     {
         self.cells.alignment_horizontal.insert(entity, value)?;
@@ -223,8 +227,8 @@ impl SpannedConfig {
         *self.cells.alignment_horizontal.get(pos)
     }
 
-    /// Sets where cells' texts stand between their top and bottom padding, for the cells of the entity. Refused for memory alone, and then
-    /// nothing has changed.
+    /// Sets where cells' texts stand between their top and bottom padding, for the cells of the entity.
+    /// Refused for memory alone, and then nothing has changed; for all cells never.
     pub fn set_alignment_vertical(
         &mut self,
         entity: Entity,
@@ -233,6 +237,7 @@ impl SpannedConfig {
         ensures set { OnOk result (SetsCovered self.old.alignment_vertical self.new.alignment_vertical entity value) }
         ensures refused { OnErr result (IsUnchanged self.old.alignment_vertical self.new.alignment_vertical) }
         ensures fault { IfErr result (λ fault. fault ≡ Memory) }
+        ensures global { entity ≡ EveryCell → IsOk result }
         ensures others { KeepsOthers VerticalAlignment self.old self.new }
     {
         self.cells.alignment_vertical.insert(entity, value)?;
@@ -246,12 +251,13 @@ impl SpannedConfig {
         *self.cells.alignment_vertical.get(pos)
     }
 
-    /// Sets whether each line of a cell is aligned by itself, for the cells of the entity. Refused for memory alone, and then
-    /// nothing has changed.
+    /// Sets whether each line of a cell is aligned by itself, for the cells of the entity. Refused for
+    /// memory alone, and then nothing has changed; for all cells never.
     pub fn set_line_alignment(&mut self, entity: Entity, value: bool) -> Result<(), Fault>
         ensures set { OnOk result (SetsCovered self.old.line_alignment self.new.line_alignment entity value) }
         ensures refused { OnErr result (IsUnchanged self.old.line_alignment self.new.line_alignment) }
         ensures fault { IfErr result (λ fault. fault ≡ Memory) }
+        ensures global { entity ≡ EveryCell → IsOk result }
         ensures others { KeepsOthers LineAlignment self.old self.new }
     {
         self.cells.line_alignment.insert(entity, value)?;
@@ -265,12 +271,13 @@ impl SpannedConfig {
         *self.cells.line_alignment.get(pos)
     }
 
-    /// Sets whether white space at the ends of cells' lines is left out, for the cells of the entity. Refused for memory alone, and then
-    /// nothing has changed.
+    /// Sets whether white space at the ends of cells' lines is left out, for the cells of the entity.
+    /// Refused for memory alone, and then nothing has changed; for all cells never.
     pub fn set_trim_horizontal(&mut self, entity: Entity, value: bool) -> Result<(), Fault>
         ensures set { OnOk result (SetsCovered self.old.trim_horizontal self.new.trim_horizontal entity value) }
         ensures refused { OnErr result (IsUnchanged self.old.trim_horizontal self.new.trim_horizontal) }
         ensures fault { IfErr result (λ fault. fault ≡ Memory) }
+        ensures global { entity ≡ EveryCell → IsOk result }
         ensures others { KeepsOthers TrimHorizontal self.old self.new }
     {
         self.cells.trim_horizontal.insert(entity, value)?;
@@ -284,12 +291,13 @@ impl SpannedConfig {
         *self.cells.trim_horizontal.get(pos)
     }
 
-    /// Sets whether blank lines at the ends of cells' texts are left out, for the cells of the entity. Refused for memory alone, and then
-    /// nothing has changed.
+    /// Sets whether blank lines at the ends of cells' texts are left out, for the cells of the entity.
+    /// Refused for memory alone, and then nothing has changed; for all cells never.
     pub fn set_trim_vertical(&mut self, entity: Entity, value: bool) -> Result<(), Fault>
         ensures set { OnOk result (SetsCovered self.old.trim_vertical self.new.trim_vertical entity value) }
         ensures refused { OnErr result (IsUnchanged self.old.trim_vertical self.new.trim_vertical) }
         ensures fault { IfErr result (λ fault. fault ≡ Memory) }
+        ensures global { entity ≡ EveryCell → IsOk result }
         ensures others { KeepsOthers TrimVertical self.old self.new }
     {
         self.cells.trim_vertical.insert(entity, value)?;
@@ -303,12 +311,13 @@ impl SpannedConfig {
         *self.cells.trim_vertical.get(pos)
     }
 
-    /// Sets what fills the columns that cells' lines leave free, for the cells of the entity. Refused for memory alone, and then
-    /// nothing has changed.
+    /// Sets what fills the columns that cells' lines leave free, for the cells of the entity. Refused
+    /// for memory alone, and then nothing has changed; for all cells never.
     pub fn set_justification(&mut self, entity: Entity, value: char) -> Result<(), Fault>
         ensures set { OnOk result (SetsCovered self.old.justification self.new.justification entity value) }
         ensures refused { OnErr result (IsUnchanged self.old.justification self.new.justification) }
         ensures fault { IfErr result (λ fault. fault ≡ Memory) }
+        ensures global { entity ≡ EveryCell → IsOk result }
         ensures others { KeepsOthers Justification self.old self.new }
     {
         self.cells.justification.insert(entity, value)?;
@@ -323,7 +332,7 @@ impl SpannedConfig {
     }
 
     /// Sets the colour of that fill, for the cells of the entity. Refused for memory alone, and then
-    /// nothing has changed.
+    /// nothing has changed; for all cells never.
     pub fn set_justification_color(
         &mut self,
         entity: Entity,
@@ -332,6 +341,7 @@ impl SpannedConfig {
         ensures set { OnOk result (SetsCovered self.old.justification_color self.new.justification_color entity value) }
         ensures refused { OnErr result (IsUnchanged self.old.justification_color self.new.justification_color) }
         ensures fault { IfErr result (λ fault. fault ≡ Memory) }
+        ensures global { entity ≡ EveryCell → IsOk result }
         ensures others { KeepsOthers JustificationColor self.old self.new }
     {
         self.cells.justification_color.insert(entity, value)?;
@@ -377,13 +387,14 @@ impl SpannedConfig {
         self.whole.borders.count_horizontal(rows)
     }
 
-    /// Sets how many columns the cell at this place takes; 1 takes its span away. Refused as `Spans`
-    /// for 0, and for memory, and then nothing has changed.
+    /// Sets how many columns the cell at this place takes; 1 takes its span away, and is never refused.
+    /// Refused as `Spans` for 0, and for memory, and then nothing has changed.
     pub fn set_column_span(&mut self, pos: Position, n: usize) -> Result<(), Fault>
         ensures zero { result ≡ Err BadSpan ↔ (n ≡ 0) }
         ensures set { OnOk result (SetsColumns self.old.spans self.new.spans pos n) }
         ensures refused { OnErr result (self.new.spans ≡ self.old.spans) }
         ensures fault { n ≢ 0 → IfErr result (λ fault. fault ≡ Memory) }
+        ensures one { n ≡ 1 → IsOk result }
         ensures others { KeepsOthers CellSpans self.old self.new }
     {
         self.spans.set_column_span(pos, n)
@@ -396,13 +407,14 @@ impl SpannedConfig {
         self.spans.get_column_span(pos)
     }
 
-    /// Sets how many rows the cell at this place takes; 1 takes its span away. Refused as `Spans` for
-    /// 0, and for memory, and then nothing has changed.
+    /// Sets how many rows the cell at this place takes; 1 takes its span away, and is never refused.
+    /// Refused as `Spans` for 0, and for memory, and then nothing has changed.
     pub fn set_row_span(&mut self, pos: Position, n: usize) -> Result<(), Fault>
         ensures zero { result ≡ Err BadSpan ↔ (n ≡ 0) }
         ensures set { OnOk result (SetsRows self.old.spans self.new.spans pos n) }
         ensures refused { OnErr result (self.new.spans ≡ self.old.spans) }
         ensures fault { n ≢ 0 → IfErr result (λ fault. fault ≡ Memory) }
+        ensures one { n ≡ 1 → IsOk result }
         ensures others { KeepsOthers CellSpans self.old self.new }
     {
         self.spans.set_row_span(pos, n)

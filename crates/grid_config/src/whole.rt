@@ -1,6 +1,7 @@
 //! The settings that a table has as a whole.
 ghost use Rattle.std.specs.Prelude.{◌≡◌, None};
-ghost use Rattle.grid_config.specs.Compact.{each_side, no_borders, no_indent};
+ghost use Rattle.grid_config_values.specs.Glyphs.{no_borders};
+ghost use Rattle.grid_config.specs.Compact.{each_side, no_indent};
 
 use grid_config_colors::ANSIBuf;
 use grid_config_values::{Borders, Indent, Sides};
@@ -25,31 +26,8 @@ impl WholeSettings {
         WholeSettings {
             margin: Sides::filled(Indent::zero()),
             margin_color: Sides::new(None, None, None, None),
-            borders: no_borders(),
-            borders_color: no_borders(),
+            borders: Borders::empty(),
+            borders_color: Borders::empty(),
         }
-    }
-}
-
-/// Nothing on any boundary.
-pub(crate) const fn no_borders<T>() -> Borders<T>
-    ensures { result ≡ no_borders }
-{
-    Borders {
-        top: None,
-        top_left: None,
-        top_right: None,
-        top_intersection: None,
-        bottom: None,
-        bottom_left: None,
-        bottom_right: None,
-        bottom_intersection: None,
-        horizontal: None,
-        left_intersection: None,
-        right_intersection: None,
-        intersection: None,
-        vertical: None,
-        left: None,
-        right: None,
     }
 }
