@@ -10,11 +10,11 @@ ghost use Rattle.std.specs.Str.Pattern.{FindsText};
 ghost use Rattle.std.specs.declared.str.Split.{Split};
 ghost use Rattle.ansi_scan.specs.Pieces.{pieces as pieces_of};
 ghost use Rattle.ansi_scan.specs.Sequences.{Piece, ArePiecesOf, IsWhole, NoneBroken, joined};
-ghost use Rattle.ansi_scan.specs.Attributes.{plain_attributes};
+ghost use Rattle.ansi_scan.specs.Attributes.{Attributes, IsRendition, plain_attributes};
 ghost use Rattle.ansi_str.specs.StyledText.{IsClosed, has_escape, strip, style_after_all, styled, styled_from};
 ghost use Rattle.ansi_str.specs.Cuts.{AreGoodBounds, IsGoodBound, cut_part, later_part, parts_at};
 ghost use Rattle.ansi_str.specs.Walking.{from_text, sequences};
-ghost use Rattle.ansi_scan.specs.StartsAndEnds.{end_bytes};
+ghost use Rattle.ansi_scan.specs.StartsAndEnds.{start_bytes, end_bytes};
 ghost use Rattle.ansi_str.specs.Parts.{before_place, dressed, from_place, split_part, through_place};
 ghost use Rattle.ansi_str.specs.Matches.{AreMatches, split_bounds, styled_parts, text_parts};
 ghost use Rattle.ansi_str.specs.Lines.{IsClosedLine, IsClosedText};
@@ -25,6 +25,19 @@ ghost use Rattle.ansi_str.specs.declared.edits.Edit.{Edit};
 ghost use Rattle.ansi_str.specs.Edits.{OneFails, TakeInTurn};
 
 pub use ansi_str_text::laws::blocks_in_order;
+
+/// Read as a text, the start of a style gives it from plain, and leaves it where it is known; its end
+/// gives plain from it. Both are whole texts of sequences alone, which show nothing.
+pub fn starts_and_ends_as_texts()
+    ensures start { (a : Attributes) (pieces : List Piece) → IsRendition a → ArePiecesOf (start_bytes a) pieces →
+        (style_after_all plain_attributes pieces ≡ a) × (style_after_all a pieces ≡ a) }
+    ensures start_shows { (a : Attributes) (pieces : List Piece) → IsRendition a → ArePiecesOf (start_bytes a) pieces →
+        (strip pieces ≡ []) × NoneBroken pieces }
+    ensures end { (a : Attributes) (pieces : List Piece) → ArePiecesOf (end_bytes a) pieces →
+        style_after_all a pieces ≡ plain_attributes }
+    ensures end_shows { (a : Attributes) (pieces : List Piece) → ArePiecesOf (end_bytes a) pieces →
+        (strip pieces ≡ []) × NoneBroken pieces }
+{}
 
 /// Without its sequences a text has no ESC, and without its sequences once more it is the same.
 pub fn stripped_once()
