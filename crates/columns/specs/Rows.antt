@@ -7,13 +7,11 @@ use Rattle.ansi_scan.specs.Attributes.{Attributes}
 use Rattle.ansi_str.specs.StyledText.{strip, styled}
 use Rattle.ansi_str.specs.Matches.{split_bounds, styled_parts}
 
--- U+000A LINE FEED; a carriage return before it is an ordinary character
-abbrev pub line_feed : ℕ
-line_feed = 0x0a
+-- a line feed ends a row; a carriage return before it is an ordinary character
+pub use Rattle.grid_records_measure.specs.TextLines.{line_feed}
 
--- U+0009 CHARACTER TABULATION
-abbrev pub tab : ℕ
-tab = 0x09
+-- a tab parts two cells
+pub use Rattle.grid_records_measure.specs.Tabs.{tab}
 
 -- the lists, but for a last one that is empty
 abbrev pub without_empty_last : {X : Type 0} → List (List X) → List (List X)
