@@ -1,5 +1,5 @@
 -- The start and the end of a style, read as texts.
-use Rattle.std.proofs.Common.{◌≡◌, ℕ, All, List, [], ◌∷◌, ◌++◌, refl, sym, subst, ◌∙◌, append-nil}
+use Rattle.std.proofs.Common.{◌≡◌, ℕ, All, List, [], sym, subst, ◌∙◌, append-nil}
 use Rattle.std.specs.List.{concat}
 use Rattle.ansi_scan.specs.Sequences.{Piece, EachStands, ArePiecesOf, NoneBroken}
 use Rattle.ansi_scan.specs.Attributes.{Attributes, IsRendition, plain_attributes}
@@ -8,10 +8,7 @@ use Rattle.ansi_scan.proofs.Uniqueness.{ArePiecesOf-unique}
 use Rattle.ansi_scan.proofs.Effects.{start_from_plain, start_from_itself, end_from_itself, start_bytes-sequences, end_bytes-sequences, start_sequences_are_read, end_sequences_are_read}
 use Rattle.ansi_str.specs.StyledText.{strip, style_after_all}
 use Rattle.ansi_str.proofs.DressedLemmas.{renditions, IsRead, joined-renditions, EachStands-renditions, NoneBroken-renditions, style_after_all-renditions}
-
-strip-renditions : (sequences : List (List ℕ)) → strip (renditions sequences) ≡ []
-strip-renditions [] = refl
-strip-renditions (bytes ∷ others) = strip-renditions others
+use Rattle.ansi_str.proofs.SliceLemmas.{strip-renditions}
 
 -- the pieces of a text that is sequences of renditions alone are those
 pub pieces-renditions : (bytes : List ℕ) (sequences : List (List ℕ)) (pieces : List Piece) → bytes ≡ concat sequences → All IsRead sequences → ArePiecesOf bytes pieces → pieces ≡ renditions sequences

@@ -281,9 +281,9 @@ pub fn worked_cuts()
 {}
 
 /// The parts of a whole text that is split at places show the characters of their slices, in the styles
-/// that they have in the text, and they are closed. In UTF-8, the characters that a later part shows,
-/// each with its style, are the slice of those that the text shows, as of a part of a split; the first
-/// part is a cut.
+/// that they have in the text, and they are closed. Without its sequences a later part is the slice of the
+/// text without its own; in UTF-8, the characters that it shows, each with its style, are the slice of
+/// those that the text shows, as of a part of a split. The first part is a cut.
 pub fn breaks_show_their_slices()
     ensures first { (text : List ℕ) (pieces of_part : List Piece) (b : ℕ) → ArePiecesOf text pieces → NoneBroken pieces →
         ArePiecesOf (cut_part 0 b pieces) of_part → styled of_part ≡ styled_from plain_attributes (through_place b pieces) }
@@ -295,6 +295,8 @@ pub fn breaks_show_their_slices()
         (through_place (b - a) (from_text (from_place a pieces))) }
     ensures later_closed { (text : List ℕ) (pieces of_part : List Piece) (a b : ℕ) → a ≤ b → ArePiecesOf text pieces → NoneBroken pieces →
         ArePiecesOf (later_part a b pieces) of_part → IsClosed of_part }
+    ensures later_stripped { (text : List ℕ) (pieces of_part : List Piece) (a b : ℕ) → a ≤ b → ArePiecesOf text pieces → NoneBroken pieces →
+        ArePiecesOf (later_part a b pieces) of_part → strip of_part ≡ slice_range (strip pieces) a b }
     ensures later_slice { (text : List ℕ) (pieces of_part : List Piece) (a b : ℕ) → a ≤ b → IsUtf8 text →
         ArePiecesOf text pieces → NoneBroken pieces → IsCharBoundary (strip pieces) a → IsCharBoundary (strip pieces) b →
         ArePiecesOf (later_part a b pieces) of_part →
@@ -312,14 +314,17 @@ pub fn sides_show_the_text()
 {}
 
 /// A cut of a whole text shows the characters of its slice, in the styles that they have in the text, and
-/// it is closed. In UTF-8, the characters that it shows, each with its style, are the slice of those that
-/// the text shows, from the number of characters before the cut on.
+/// it is closed. Without its sequences it is the slice of the text without its own; in UTF-8, the
+/// characters that it shows, each with its style, are the slice of those that the text shows, from the
+/// number of characters before the cut on.
 pub fn cuts_show_their_slices()
     ensures shown { (text : List ℕ) (pieces of_cut : List Piece) (a b : ℕ) → a ≤ b → ArePiecesOf text pieces → NoneBroken pieces →
         ArePiecesOf (cut_part a b pieces) of_cut →
         styled of_cut ≡ styled_from (style_after_all plain_attributes (before_place a pieces)) (through_place (b - a) (from_place a pieces)) }
     ensures closed { (text : List ℕ) (pieces of_cut : List Piece) (a b : ℕ) → a ≤ b → ArePiecesOf text pieces → NoneBroken pieces →
         ArePiecesOf (cut_part a b pieces) of_cut → IsClosed of_cut }
+    ensures stripped { (text : List ℕ) (pieces of_cut : List Piece) (a b : ℕ) → a ≤ b → ArePiecesOf text pieces → NoneBroken pieces →
+        ArePiecesOf (cut_part a b pieces) of_cut → strip of_cut ≡ slice_range (strip pieces) a b }
     ensures slice { (text : List ℕ) (pieces of_cut : List Piece) (a b : ℕ) → a ≤ b → IsUtf8 text →
         ArePiecesOf text pieces → NoneBroken pieces → IsCharBoundary (strip pieces) a → IsCharBoundary (strip pieces) b →
         ArePiecesOf (cut_part a b pieces) of_cut →

@@ -1,5 +1,5 @@
 -- The lemmas of `WholeCuts` and `CutSlices`.
-use Rattle.ansi_str.proofs.WholeCuts.{first_part-shows, first_part-closed, later_part-shows, later_part-closed}
+use Rattle.ansi_str.proofs.WholeCuts.{first_part-shows, first_part-closed, later_part-shows, later_part-closed, later_part-strip}
 use Rattle.ansi_str.proofs.CutSlices.{later_part-slice_shown}
 use Rattle.ansi_str.proofs.laws.breaks_show_their_slices.Goals as goal
 
@@ -17,3 +17,6 @@ returns-clause-later_closed c = λ text pieces of_part a b order of_text whole o
 
 pub returns-clause-later_slice : goal.returns-clause-later_slice
 returns-clause-later_slice c = later_part-slice_shown
+
+pub returns-clause-later_stripped : goal.returns-clause-later_stripped
+returns-clause-later_stripped c = λ text pieces of_part a b order of_text whole of_the_part. later_part-strip text pieces of_text whole a b order of_part of_the_part

@@ -1,5 +1,5 @@
 -- The lemmas of `WholeSlices` and `CutSlices`.
-use Rattle.ansi_str.proofs.WholeSlices.{cut-shows, cut-closed}
+use Rattle.ansi_str.proofs.WholeSlices.{cut-shows, cut-closed, cut-strip}
 use Rattle.ansi_str.proofs.CutSlices.{cut-slice}
 use Rattle.ansi_str.proofs.laws.cuts_show_their_slices.Goals as goal
 
@@ -11,3 +11,6 @@ returns-clause-closed c = λ text pieces of_cut a b order of_text whole of_the_c
 
 pub returns-clause-slice : goal.returns-clause-slice
 returns-clause-slice c = cut-slice
+
+pub returns-clause-stripped : goal.returns-clause-stripped
+returns-clause-stripped c = λ text pieces of_cut a b order of_text whole of_the_cut. cut-strip text pieces of_cut a b order of_text whole of_the_cut
