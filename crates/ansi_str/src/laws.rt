@@ -20,7 +20,7 @@ ghost use Rattle.ansi_str.specs.Matches.{AreMatches, split_bounds, styled_parts,
 ghost use Rattle.ansi_str.specs.Lines.{IsClosedLine, IsClosedText};
 ghost use Rattle.ansi_str.specs.WorkedParts.{SplitsInto, black_text, black_word, half_red_text, red_text, red_word, spaced_text, two_lines};
 ghost use Rattle.ansi_str.specs.Searches.{BeginsWith, EndsWith};
-ghost use Rattle.ansi_str.specs.Keeping.{IsTrimmed, kept, sequences as sequences_of, without_end, without_front};
+ghost use Rattle.ansi_str.specs.Keeping.{IsTrimmed, kept, sequences_among, without_end, without_front};
 ghost use Rattle.ansi_str.specs.declared.edits.Edit.{Edit};
 ghost use Rattle.ansi_str.specs.Edits.{OneFails, TakeInTurn};
 
@@ -229,7 +229,7 @@ pub fn sequences_are_kept()
     ensures shown { (a b : ℕ) (text : List ℕ) (pieces left : List Piece) → ArePiecesOf text pieces → NoneBroken pieces →
         ArePiecesOf (kept a b pieces) left → strip left ≡ slice_range (strip pieces) a b }
     ensures sequences { (a b : ℕ) (text : List ℕ) (pieces left : List Piece) → ArePiecesOf text pieces → NoneBroken pieces →
-        ArePiecesOf (kept a b pieces) left → sequences_of left ≡ sequences_of pieces }
+        ArePiecesOf (kept a b pieces) left → sequences_among left ≡ sequences_among pieces }
     ensures whole { (a b : ℕ) (text : List ℕ) (pieces left : List Piece) → ArePiecesOf text pieces → NoneBroken pieces →
         ArePiecesOf (kept a b pieces) left → NoneBroken left }
 {}
