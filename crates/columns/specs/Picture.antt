@@ -7,7 +7,6 @@ use Rattle.columns.specs.Glyphs.{Borders, boundary_kind, intersection_glyph, hor
 use Rattle.columns.specs.Estimates.{Line, empty_line, Padding, cell_at}
 use Rattle.columns.specs.Totals.{total}
 use Rattle.columns.specs.Frame.{boundary_at, Place, RowBoundary, RowLine, Outside, place}
-
 -- what fills a cell
 pub use Rattle.grid_records_measure.specs.Tabs.{space}
 
