@@ -10,7 +10,7 @@ use Rattle.std.proofs.lemmas.List.Elements.{All-nil, All-cons, All-append}
 use Rattle.std.proofs.lemmas.List.Sums.{fold-append}
 use Rattle.std.proofs.lemmas.List.Folds.{list_all-append}
 use Rattle.ansi_scan_style.specs.Rendition.{is_parameter_byte, is_digit, with_digit, number}
-use Rattle.ansi_scan_style.specs.Digits.{number_after, number_by_steps}
+use Rattle.ansi_scan_style.specs.Digits.{number_after}
 
 -- a longer number is no smaller
 with_digit_le : (n : ℕ) (digits : List ℕ) → n ≤ fold with_digit n digits
@@ -50,6 +50,9 @@ fold-number_after : (n : ℕ) (bytes : List ℕ) → n ≤ 255 → fold number_a
 fold-number_after n [] small = ap (λ b. if b then Some n else None) (sym (le-leb n 255 small))
 fold-number_after n (byte ∷ bytes) small =
     number_from-cons (is_digit byte) (nat_le (with_digit n byte) 255) n byte bytes refl (λ fits. fold-number_after (with_digit n byte) bytes fits)
+
+abbrev number_by_steps : List ℕ → Option ℕ
+number_by_steps parameter = fold number_after (Some 0) parameter
 
 -- one byte after the other gives the number
 pub number_by_steps-number : (parameter : List ℕ) → number_by_steps parameter ≡ number parameter

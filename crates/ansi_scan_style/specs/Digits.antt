@@ -1,5 +1,5 @@
 -- The number of a parameter, one byte after the other.
-use Rattle.std.specs.Prelude.{ℕ, ◌&&◌, Option, None, Some, List, fold, nat_le, if◌then◌else◌}
+use Rattle.std.specs.Prelude.{ℕ, ◌&&◌, Option, None, Some, nat_le, if◌then◌else◌}
 use Rattle.ansi_scan_style.specs.Rendition.{is_digit, with_digit}
 
 -- the number so far with one byte more: none past 255, and none where one is no digit
@@ -7,6 +7,3 @@ abbrev pub number_after : Option ℕ → ℕ → Option ℕ
 number_after None byte = None
 number_after (Some n) byte =
     if is_digit byte && nat_le (with_digit n byte) 255 then Some (with_digit n byte) else None
-
-abbrev pub number_by_steps : List ℕ → Option ℕ
-number_by_steps parameter = fold number_after (Some 0) parameter

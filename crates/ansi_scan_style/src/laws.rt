@@ -1,6 +1,6 @@
 //! Laws of the definitions that the other contracts cite.
 
-ghost use Rattle.std.specs.Prelude.{◌≡◌, ◌≢◌, ◌<◌, ◌≤◌, ◌↔◌, ℕ, All, IsSome, IsTrue, false, List, Option, None, Some, [], ◌∷◌, ◌++◌, fold, length};
+ghost use Rattle.std.specs.Prelude.{◌≡◌, ◌≢◌, ◌<◌, ◌≤◌, ◌↔◌, ℕ, All, IsSome, IsTrue, codes, false, List, Option, None, Some, [], ◌∷◌, ◌++◌, fold, length};
 ghost use Rattle.std.specs.Fmt.{decimal};
 ghost use Rattle.std.specs.List.{concat, list_all};
 ghost use Rattle.std.specs.declared.cmp.Ordering.TheVariants.{Equal};
@@ -33,9 +33,10 @@ pub fn plain_writes_nothing()
     ensures end { end_bytes plain_attributes ≡ [] }
 {}
 
-/// `RESET_ALL` clears every style.
+/// `RESET_ALL` is `ESC [ 0 m`, and clears every style.
 pub fn reset_clears_all()
-    ensures { (a : Attributes) → applied a RESET_ALL.now ≡ plain_attributes }
+    ensures spelled { RESET_ALL.now ≡ codes "\u{1b}[0m" }
+    ensures clears { (a : Attributes) → applied a RESET_ALL.now ≡ plain_attributes }
 {}
 
 /// The bytes of a start and of an end are those of such sequences alone.

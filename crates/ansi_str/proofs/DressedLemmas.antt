@@ -32,14 +32,14 @@ abbrev pub renditions : List (List ℕ) → List Piece
 renditions [] = []
 renditions (bytes ∷ others) = record { kind = Sgr; bytes = bytes } ∷ renditions others
 
-abbrev IsRead : List ℕ → Type 0
+abbrev pub IsRead : List ℕ → Type 0
 IsRead bytes = IsSome (sgr_parameters bytes)
 
 pub joined-renditions : (sequences : List (List ℕ)) → joined (renditions sequences) ≡ concat sequences
 joined-renditions [] = refl
 joined-renditions (bytes ∷ others) = ap (λ rest. bytes ++ rest) (joined-renditions others)
 
-EachStands-renditions : (sequences : List (List ℕ)) (after : List Piece) → All IsRead sequences → EachStands after → EachStands (renditions sequences ++ after)
+pub EachStands-renditions : (sequences : List (List ℕ)) (after : List Piece) → All IsRead sequences → EachStands after → EachStands (renditions sequences ++ after)
 EachStands-renditions [] after all each = each
 EachStands-renditions (bytes ∷ others) after all each =
     (IsSgr-if_read bytes (All-head IsRead bytes others all), EachStands-renditions others after (All-tail IsRead bytes others all) each)

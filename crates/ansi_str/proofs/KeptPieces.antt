@@ -9,7 +9,7 @@ use Rattle.ansi_scan.specs.Joining.{is_text_kind}
 use Rattle.ansi_scan.proofs.Uniqueness.{ArePiecesOf-unique}
 use Rattle.ansi_str.specs.StyledText.{text_of, strip}
 use Rattle.ansi_str.specs.Parts.{taken_piece, taken}
-use Rattle.ansi_str.specs.Keeping.{kept, sequences}
+use Rattle.ansi_str.specs.Keeping.{kept, sequences_among}
 use Rattle.ansi_str.proofs.PartLemmas.{text_of-text, text_of-sequence, taken_piece-text, taken_piece-sequence}
 use Rattle.ansi_str.proofs.PlaceLemmas.{list_all-drop}
 use Rattle.ansi_str.proofs.DressedLemmas.{Stands-before, list_all-take, other_kind}
@@ -128,22 +128,22 @@ NoneBroken-kept a b place (p ∷ ps) whole =
     let next = place + length (text_of p) in
     whole-of_kind (a - place) (b - place) p (kept_pieces a b next ps) (is_text_kind p.kind) whole.0 (NoneBroken-kept a b next ps whole.1)
 
-sequences-text_if : (bytes : List ℕ) (rest : List Piece) (none : Bool) → sequences (text_if bytes none ++ rest) ≡ sequences rest
-sequences-text_if bytes rest true = refl
-sequences-text_if bytes rest false = refl
+sequences_among-text_if : (bytes : List ℕ) (rest : List Piece) (none : Bool) → sequences_among (text_if bytes none ++ rest) ≡ sequences_among rest
+sequences_among-text_if bytes rest true = refl
+sequences_among-text_if bytes rest false = refl
 
-sequences-of_kind : (a b : ℕ) (p : Piece) (ps rest : List Piece) (text : Bool) → is_text_kind p.kind ≡ text → sequences rest ≡ sequences ps → sequences (of_kind text a b p ++ rest) ≡ sequences (p ∷ ps)
-sequences-of_kind a b p ps rest true e same =
+sequences_among-of_kind : (a b : ℕ) (p : Piece) (ps rest : List Piece) (text : Bool) → is_text_kind p.kind ≡ text → sequences_among rest ≡ sequences_among ps → sequences_among (of_kind text a b p ++ rest) ≡ sequences_among (p ∷ ps)
+sequences_among-of_kind a b p ps rest true e same =
     let slice = slice_range p.bytes a b in
-    sequences-text_if slice rest (length slice == 0) ∙ same ∙ sym (ap (λ t. if t then sequences ps else p ∷ sequences ps) e)
-sequences-of_kind a b p ps rest false e same =
-    ap (λ t. if t then sequences rest else p ∷ sequences rest) e ∙ ap (λ others. p ∷ others) same ∙ sym (ap (λ t. if t then sequences ps else p ∷ sequences ps) e)
+    sequences_among-text_if slice rest (length slice == 0) ∙ same ∙ sym (ap (λ t. if t then sequences_among ps else p ∷ sequences_among ps) e)
+sequences_among-of_kind a b p ps rest false e same =
+    ap (λ t. if t then sequences_among rest else p ∷ sequences_among rest) e ∙ ap (λ others. p ∷ others) same ∙ sym (ap (λ t. if t then sequences_among ps else p ∷ sequences_among ps) e)
 
-sequences-kept : (a b place : ℕ) (ps : List Piece) → sequences (kept_pieces a b place ps) ≡ sequences ps
-sequences-kept a b place [] = refl
-sequences-kept a b place (p ∷ ps) =
+sequences_among-kept : (a b place : ℕ) (ps : List Piece) → sequences_among (kept_pieces a b place ps) ≡ sequences_among ps
+sequences_among-kept a b place [] = refl
+sequences_among-kept a b place (p ∷ ps) =
     let next = place + length (text_of p) in
-    sequences-of_kind (a - place) (b - place) p ps (kept_pieces a b next ps) (is_text_kind p.kind) refl (sequences-kept a b next ps)
+    sequences_among-of_kind (a - place) (b - place) p ps (kept_pieces a b next ps) (is_text_kind p.kind) refl (sequences_among-kept a b next ps)
 
 -- ---- the pieces of what is kept
 
@@ -157,8 +157,8 @@ module _ (a b : ℕ) (text : List ℕ) (ps left : List Piece) (of_text : ArePiec
       let to : b - 0 ≡ b = omega arith in
       ap strip pieces_kept ∙ strip-kept a b 0 ps ∙ ap (λ n. slice_range (strip ps) n (b - 0)) from ∙ ap (slice_range (strip ps) a) to
 
-  pub kept_sequences : sequences left ≡ sequences ps
-  kept_sequences = ap sequences pieces_kept ∙ sequences-kept a b 0 ps
+  pub kept_sequences : sequences_among left ≡ sequences_among ps
+  kept_sequences = ap sequences_among pieces_kept ∙ sequences_among-kept a b 0 ps
 
   pub kept_whole : NoneBroken left
   kept_whole = subst NoneBroken (sym pieces_kept) (NoneBroken-kept a b 0 ps whole)

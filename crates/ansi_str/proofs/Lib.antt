@@ -17,6 +17,8 @@ pub mod CutParts
 pub mod CutSteps
 pub mod BreakSteps
 pub mod WholeCuts
+pub mod CutSlices
+pub mod StartLemmas
 pub mod WholeSlices
 pub mod MergeLemmas
 pub mod LineLemmas

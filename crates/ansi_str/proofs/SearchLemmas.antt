@@ -1,6 +1,6 @@
 -- Searches in what a text shows, over steps through the text.
 use Rattle.std.proofs.Common.{◌≡◌, ℕ, zero, suc, ◌+◌, ◌-◌, ◌<◌, ◌≤◌, ◌==◌, ◌&&◌, Bool, true, false, not, Option, None, Some, IsTrue, List, [], ◌∷◌, ◌++◌, length, take, drop, refl, ap, sym, subst, ◌∙◌, arith, length-append, eqb-true}
-use Rattle.std.specs.Prelude.{MatchOption, is_some, if◌then◌else◌}
+use Rattle.std.specs.Prelude.{MatchOption, Result, Ok, Err, IfErr, is_some, if◌then◌else◌}
 use Rattle.std.specs.List.{prefix_len}
 use Rattle.std.specs.Str.{IsUtf8, IsCharBoundary}
 use Rattle.std.proofs.Math.ListN.{get_or}
@@ -213,6 +213,11 @@ module _ (p t : List ℕ) (k : ℕ) (is_shared : k ≡ shared_len p t) (left : L
 -- the pieces of a text are those of the function
 pub of_pieces : (P : List Piece → Type 0) (text : List ℕ) → P (pieces text) → (ps : List Piece) → ArePiecesOf text ps → P ps
 of_pieces P text h ps of_text = subst P (pieces-ArePiecesOf text ps of_text) h
+
+-- what is refused only where P holds
+pub refused_where : {T E P : Type 0} → P → (r : Result T E) → IfErr r (λ _. P)
+refused_where h (Ok x) = tt
+refused_where h (Err e) = h
 
 -- what is found exactly where P holds
 pub found_where : {A : Type 0} (P : Type 0) (Q : A → Type 0) (r : Option A) (found : Bool) → MatchOption r (¬ P) (λ x. P × Q x) → found ≡ is_some r → (IsTrue found → P) × (P → IsTrue found)

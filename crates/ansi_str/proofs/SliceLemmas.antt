@@ -16,11 +16,11 @@ use Rattle.ansi_str.proofs.DressedLemmas.{renditions, dressed_pieces, pieces_of_
 pub strip-append : (ps qs : List Piece) → strip (ps ++ qs) ≡ strip ps ++ strip qs
 strip-append ps qs = flat_map-append text_of ps qs
 
-strip-renditions : (sequences : List (List ℕ)) → strip (renditions sequences) ≡ []
+pub strip-renditions : (sequences : List (List ℕ)) → strip (renditions sequences) ≡ []
 strip-renditions [] = refl
 strip-renditions (bytes ∷ others) = strip-renditions others
 
-strip-dressed_pieces : (style : Attributes) (slice : List Piece) → strip (dressed_pieces style slice) ≡ strip slice
+pub strip-dressed_pieces : (style : Attributes) (slice : List Piece) → strip (dressed_pieces style slice) ≡ strip slice
 strip-dressed_pieces style slice =
     let ends = renditions (end_sequences (style_after_all style slice)) in
     strip-append (renditions (start_sequences style)) (slice ++ ends)

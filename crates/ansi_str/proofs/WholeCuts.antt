@@ -1,5 +1,5 @@
 -- What the parts of a whole text show that is split at places.
-use Rattle.std.proofs.Common.{◌≡◌, ℕ, ◌-◌, ◌<◌, ◌≤◌, Bool, true, false, List, [], ◌∷◌, ◌++◌, length, map, take, drop, refl, ap, sym, subst, ◌∙◌, arith, append_assoc, append-nil, length-append}
+use Rattle.std.proofs.Common.{◌≡◌, ℕ, ◌-◌, ◌<◌, ◌≤◌, Bool, true, false, List, [], ◌∷◌, ◌++◌, length, map, take, drop, slice_range, refl, ap, sym, subst, ◌∙◌, arith, append_assoc, append-nil, length-append}
 use Rattle.std.specs.Prelude.{chars, if◌then◌else◌}
 use Rattle.std.specs.Str.{IsUtf8}
 use Rattle.std.proofs.lemmas.List.{map-append, take-append-drop, length-drop}
@@ -17,6 +17,7 @@ use Rattle.ansi_str.proofs.PartLemmas.{text_of-text, text_of-sequence, style_by-
 use Rattle.ansi_str.proofs.PlaceLemmas.{none, inside, past, reach, has_text, from-inside, from-past, before-inside, before-past, through-inside, through-past, EachStands-from, strip-from}
 use Rattle.ansi_str.proofs.PlaceSums.{through-all, through-parted, style-through_split}
 use Rattle.ansi_str.proofs.DressedLemmas.{dressed_pieces, styled_from-append, EachStands-through, NoneBroken-through, NoneBroken-from, ArePiecesOf-dressed, styled-dressed, IsClosed-dressed, IsRendition-after}
+use Rattle.ansi_str.proofs.SliceLemmas.{strip-dressed_pieces, strip-through}
 use Rattle.ansi_str.proofs.Utf8Lemmas.{EachUtf8, EachUtf8-pieces, boundary-second, boundary-bytes}
 use Rattle.ansi_str.proofs.CutParts.{first_part-slice, later_part-slice}
 use Rattle.ansi_str.proofs.BreakSteps.{EachStands-from_text, strip-from_text}
@@ -30,6 +31,9 @@ module _ (bytes : List ℕ) (style : Attributes) (slice qs : List Piece) (same :
 
   pub dressed-shows : styled qs ≡ styled_from style slice
   dressed-shows = ap styled its_pieces ∙ styled-dressed style slice rendition
+
+  pub dressed-strip : strip qs ≡ strip slice
+  dressed-strip = ap strip its_pieces ∙ strip-dressed_pieces style slice
 
   pub dressed-closed : IsClosed qs
   dressed-closed = subst IsClosed (sym its_pieces) (IsClosed-dressed style slice rendition whole)
@@ -69,6 +73,12 @@ module _ (text : List ℕ) (ps : List Piece) (of_text : ArePiecesOf text ps) (wh
     pub later_part-shows : styled qs ≡ styled_from opened (through_place (b - a) left)
     later_part-shows = dressed-shows (later_part a b ps) opened (through_place (b - a) left) qs (later_part-slice a b ps order of_text.stand)
         (IsRendition-after plain_attributes (through_place a ps) IsRendition-plain) left_stands (NoneBroken-through (b - a) left left_whole) of_part
+
+    pub later_part-strip : strip qs ≡ slice_range (strip ps) a b
+    later_part-strip =
+        dressed-strip (later_part a b ps) opened (through_place (b - a) left) qs (later_part-slice a b ps order of_text.stand)
+        (IsRendition-after plain_attributes (through_place a ps) IsRendition-plain) left_stands (NoneBroken-through (b - a) left left_whole) of_part
+        ∙ strip-through (b - a) left ∙ ap (take (b - a)) (strip-from_text (from_place a ps) ∙ strip-from a ps)
 
     pub later_part-closed : IsClosed qs
     later_part-closed = dressed-closed (later_part a b ps) opened (through_place (b - a) left) qs (later_part-slice a b ps order of_text.stand)

@@ -1,5 +1,5 @@
 -- What a cut of a whole text shows.
-use Rattle.std.proofs.Common.{◌≡◌, ◌≢◌, ℕ, ◌-◌, ◌≤◌, Bool, true, false, List, [], ◌∷◌, ◌++◌, length, map, refl, ap, sym, subst, ◌∙◌, append-nil}
+use Rattle.std.proofs.Common.{◌≡◌, ◌≢◌, ℕ, ◌-◌, ◌≤◌, Bool, true, false, List, [], ◌∷◌, ◌++◌, length, map, take, slice_range, refl, ap, sym, subst, ◌∙◌, append-nil}
 use Rattle.std.specs.Prelude.{chars, if◌then◌else◌}
 use Rattle.std.proofs.lemmas.List.Sums.{fold-append}
 use Rattle.std.proofs.lemmas.Str.{chars-nil}
@@ -11,19 +11,18 @@ use Rattle.ansi_scan.specs.Attributes.{Attributes, plain_attributes}
 use Rattle.ansi_scan.specs.StartsAndEnds.{end_bytes, end_sequences}
 use Rattle.ansi_scan.proofs.Uniqueness.{ArePiecesOf-unique}
 use Rattle.ansi_scan.proofs.Effects.{end_from_itself, end_bytes-sequences}
-use Rattle.ansi_str.specs.StyledText.{text_of, style_after, style_after_all, styled_from, styled, IsClosed}
+use Rattle.ansi_str.specs.StyledText.{text_of, strip, style_after, style_after_all, styled_from, styled, IsClosed}
 use Rattle.ansi_str.specs.Parts.{from_place, before_place, through_place}
 use Rattle.ansi_str.specs.Walking.{sequences}
 use Rattle.ansi_str.specs.Cuts.{cut_part}
+use Rattle.ansi_str.specs.Keeping.{sequences_among as only}
 use Rattle.ansi_str.proofs.PartLemmas.{text_of-sequence, style_by-text}
-use Rattle.ansi_str.proofs.PlaceLemmas.{none, inside, past, reach, has_text, before-inside, before-past, EachStands-from}
+use Rattle.ansi_str.proofs.PlaceLemmas.{none, inside, past, reach, has_text, before-inside, before-past, EachStands-from, strip-from}
 use Rattle.ansi_str.proofs.DressedLemmas.{renditions, joined-append, joined-renditions, ends_stand, styled_from-append, styled_from-renditions, style_after_all-renditions, EachStands-append, EachStands-through, NoneBroken-append, NoneBroken-renditions, NoneBroken-through, NoneBroken-from, NoTextFirst-renditions}
+use Rattle.ansi_str.proofs.SliceLemmas.{strip-append, strip-renditions, strip-through}
 use Rattle.ansi_str.proofs.CutParts.{sequences-text, sequences-sequence, cut_part-slice, style-cut}
 
--- the sequences, as pieces
-abbrev pub only : List Piece → List Piece
-only [] = []
-only (p ∷ ps) = if is_text_kind p.kind then only ps else p ∷ only ps
+-- ---- the sequences, as pieces
 
 module _ (p : Piece) (ps : List Piece) where
   only-text : is_text_kind p.kind ≡ true → only (p ∷ ps) ≡ only ps
@@ -62,6 +61,14 @@ shown-only style (p ∷ ps) = by (is_text_kind p.kind) refl (λ other. shown-onl
         ap (styled_from style) (only-sequence p ps e)
         ∙ ap (λ bytes. map (in_style style) (chars bytes) ++ styled_from (style_after style p) (only ps)) (text_of-sequence p e)
         ∙ ap (λ cs. map (in_style style) cs ++ styled_from (style_after style p) (only ps)) chars-nil ∙ others (style_after style p)
+
+strip-only : (ps : List Piece) → strip (only ps) ≡ []
+strip-only [] = refl
+strip-only (p ∷ ps) = by (is_text_kind p.kind) refl (strip-only ps)
+  where
+    by : (text : Bool) → is_text_kind p.kind ≡ text → strip (only ps) ≡ [] → strip (only (p ∷ ps)) ≡ []
+    by true e others = ap strip (only-text p ps e) ∙ others
+    by false e others = ap strip (only-sequence p ps e) ∙ ap (λ bytes. bytes ++ strip (only ps)) (text_of-sequence p e) ∙ others
 
 -- a whole sequence stands before any pieces
 Stands-anywhere : (kind : Kind) (bytes : List ℕ) (ps qs : List Piece) → Stands kind bytes ps → kind ≢ Broken → is_text_kind kind ≡ false → Stands kind bytes qs
@@ -139,6 +146,14 @@ module _ (text : List ℕ) (ps qs : List Piece) (a b : ℕ) (order : a ≤ b) (o
       ∙ ap (λ s. styled_from s (slice ++ ends)) (style-only plain_attributes (before_place a ps))
       ∙ styled_from-append known slice ends
       ∙ ap (λ cs. styled_from known slice ++ cs) (styled_from-renditions open_style (end_sequences open_style)) ∙ append-nil (styled_from known slice)
+
+  pub cut-strip : strip qs ≡ slice_range (strip ps) a b
+  cut-strip =
+      ap strip its_pieces ∙ strip-append before (slice ++ ends)
+      ∙ ap (λ bytes. bytes ++ strip (slice ++ ends)) (strip-only (before_place a ps))
+      ∙ strip-append slice ends
+      ∙ ap (λ bytes. strip slice ++ bytes) (strip-renditions (end_sequences open_style)) ∙ append-nil (strip slice)
+      ∙ strip-through (b - a) (from_place a ps) ∙ ap (take (b - a)) (strip-from a ps)
 
   cut-plain : style_after_all plain_attributes (before ++ (slice ++ ends)) ≡ plain_attributes
   cut-plain =

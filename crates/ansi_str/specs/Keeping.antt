@@ -33,6 +33,6 @@ abbrev pub IsTrimmed : List Piece → List ℕ → Type 0
 IsTrimmed pieces bytes = (a : ℕ) × (b : ℕ) × IsTrimmedAt (strip pieces) a b × (bytes ≡ kept a b pieces)
 
 -- the sequences among the pieces
-abbrev pub sequences : List Piece → List Piece
-sequences [] = []
-sequences (piece ∷ pieces) = if is_text_kind piece.kind then sequences pieces else piece ∷ sequences pieces
+abbrev pub sequences_among : List Piece → List Piece
+sequences_among [] = []
+sequences_among (piece ∷ pieces) = if is_text_kind piece.kind then sequences_among pieces else piece ∷ sequences_among pieces

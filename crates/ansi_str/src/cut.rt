@@ -1,5 +1,5 @@
 //! Cuts of a text: the text between two places, with the sequences among and before it.
-ghost use Rattle.std.specs.Prelude.{◌≡◌, ◌↔◌, ◌++◌, ℕ, List, length, unwrap_or, IfOk, IfSome, IsOk, IsSome, IsTrue, false, string_bytes};
+ghost use Rattle.std.specs.Prelude.{◌≡◌, ◌↔◌, ◌++◌, ℕ, List, length, unwrap_or, IfErr, IfOk, IfSome, IsOk, IsSome, IsTrue, false, string_bytes};
 ghost use Rattle.std.specs.Cow.{IsOwnedStr, cow_str_bytes};
 ghost use Rattle.ansi_scan.specs.Sequences.{Piece, ArePiecesOf};
 ghost use Rattle.ansi_scan.specs.Pieces.{pieces};
@@ -29,6 +29,8 @@ pub(crate) fn get(
         cow_str_bytes part ≡ cut_part start (unwrap_or end (length (strip pieces))) pieces)) }
     ensures answers { has_escape text.now ≡ false → IsOk result }
     ensures borrows { IfOk result (λ found. IfSome found (λ part. IsOwnedStr part → IsTrue (has_escape text.now))) }
+    ensures refuses { IfErr result (λ _. (pieces : List Piece) → ArePiecesOf text.now pieces →
+        AreGoodBounds (strip pieces) start end) }
 {
     if !are_good_bounds(text, start, end) {
         return Ok(None);

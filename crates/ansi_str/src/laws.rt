@@ -10,21 +10,34 @@ ghost use Rattle.std.specs.Str.Pattern.{FindsText};
 ghost use Rattle.std.specs.declared.str.Split.{Split};
 ghost use Rattle.ansi_scan.specs.Pieces.{pieces as pieces_of};
 ghost use Rattle.ansi_scan.specs.Sequences.{Piece, ArePiecesOf, IsWhole, NoneBroken, joined};
-ghost use Rattle.ansi_scan.specs.Attributes.{plain_attributes};
+ghost use Rattle.ansi_scan.specs.Attributes.{Attributes, IsRendition, plain_attributes};
 ghost use Rattle.ansi_str.specs.StyledText.{IsClosed, has_escape, strip, style_after_all, styled, styled_from};
 ghost use Rattle.ansi_str.specs.Cuts.{AreGoodBounds, IsGoodBound, cut_part, later_part, parts_at};
 ghost use Rattle.ansi_str.specs.Walking.{from_text, sequences};
-ghost use Rattle.ansi_scan.specs.StartsAndEnds.{end_bytes};
+ghost use Rattle.ansi_scan.specs.StartsAndEnds.{start_bytes, end_bytes};
 ghost use Rattle.ansi_str.specs.Parts.{before_place, dressed, from_place, split_part, through_place};
 ghost use Rattle.ansi_str.specs.Matches.{AreMatches, split_bounds, styled_parts, text_parts};
 ghost use Rattle.ansi_str.specs.Lines.{IsClosedLine, IsClosedText};
 ghost use Rattle.ansi_str.specs.WorkedParts.{SplitsInto, black_text, black_word, half_red_text, red_text, red_word, spaced_text, two_lines};
 ghost use Rattle.ansi_str.specs.Searches.{BeginsWith, EndsWith};
-ghost use Rattle.ansi_str.specs.Keeping.{IsTrimmed, kept, sequences as sequences_of, without_end, without_front};
+ghost use Rattle.ansi_str.specs.Keeping.{IsTrimmed, kept, sequences_among, without_end, without_front};
 ghost use Rattle.ansi_str.specs.declared.edits.Edit.{Edit};
 ghost use Rattle.ansi_str.specs.Edits.{OneFails, TakeInTurn};
 
 pub use ansi_str_text::laws::blocks_in_order;
+
+/// Read as a text, the start of a style gives it from plain, and leaves it where it is known; its end
+/// gives plain from it. Both are whole texts of sequences alone, which show nothing.
+pub fn starts_and_ends_as_texts()
+    ensures start { (a : Attributes) (pieces : List Piece) → IsRendition a → ArePiecesOf (start_bytes a) pieces →
+        (style_after_all plain_attributes pieces ≡ a) × (style_after_all a pieces ≡ a) }
+    ensures start_shows { (a : Attributes) (pieces : List Piece) → IsRendition a → ArePiecesOf (start_bytes a) pieces →
+        (strip pieces ≡ []) × NoneBroken pieces }
+    ensures end { (a : Attributes) (pieces : List Piece) → ArePiecesOf (end_bytes a) pieces →
+        style_after_all a pieces ≡ plain_attributes }
+    ensures end_shows { (a : Attributes) (pieces : List Piece) → ArePiecesOf (end_bytes a) pieces →
+        (strip pieces ≡ []) × NoneBroken pieces }
+{}
 
 /// Without its sequences a text has no ESC, and without its sequences once more it is the same.
 pub fn stripped_once()
@@ -216,7 +229,7 @@ pub fn sequences_are_kept()
     ensures shown { (a b : ℕ) (text : List ℕ) (pieces left : List Piece) → ArePiecesOf text pieces → NoneBroken pieces →
         ArePiecesOf (kept a b pieces) left → strip left ≡ slice_range (strip pieces) a b }
     ensures sequences { (a b : ℕ) (text : List ℕ) (pieces left : List Piece) → ArePiecesOf text pieces → NoneBroken pieces →
-        ArePiecesOf (kept a b pieces) left → sequences_of left ≡ sequences_of pieces }
+        ArePiecesOf (kept a b pieces) left → sequences_among left ≡ sequences_among pieces }
     ensures whole { (a b : ℕ) (text : List ℕ) (pieces left : List Piece) → ArePiecesOf text pieces → NoneBroken pieces →
         ArePiecesOf (kept a b pieces) left → NoneBroken left }
 {}
@@ -268,7 +281,9 @@ pub fn worked_cuts()
 {}
 
 /// The parts of a whole text that is split at places show the characters of their slices, in the styles
-/// that they have in the text, and they are closed.
+/// that they have in the text, and they are closed. Without its sequences a later part is the slice of the
+/// text without its own; in UTF-8, the characters that it shows, each with its style, are the slice of
+/// those that the text shows, as of a part of a split. The first part is a cut.
 pub fn breaks_show_their_slices()
     ensures first { (text : List ℕ) (pieces of_part : List Piece) (b : ℕ) → ArePiecesOf text pieces → NoneBroken pieces →
         ArePiecesOf (cut_part 0 b pieces) of_part → styled of_part ≡ styled_from plain_attributes (through_place b pieces) }
@@ -280,6 +295,13 @@ pub fn breaks_show_their_slices()
         (through_place (b - a) (from_text (from_place a pieces))) }
     ensures later_closed { (text : List ℕ) (pieces of_part : List Piece) (a b : ℕ) → a ≤ b → ArePiecesOf text pieces → NoneBroken pieces →
         ArePiecesOf (later_part a b pieces) of_part → IsClosed of_part }
+    ensures later_stripped { (text : List ℕ) (pieces of_part : List Piece) (a b : ℕ) → a ≤ b → ArePiecesOf text pieces → NoneBroken pieces →
+        ArePiecesOf (later_part a b pieces) of_part → strip of_part ≡ slice_range (strip pieces) a b }
+    ensures later_slice { (text : List ℕ) (pieces of_part : List Piece) (a b : ℕ) → a ≤ b → IsUtf8 text →
+        ArePiecesOf text pieces → NoneBroken pieces → IsCharBoundary (strip pieces) a → IsCharBoundary (strip pieces) b →
+        ArePiecesOf (later_part a b pieces) of_part →
+        styled of_part ≡ slice_range (styled pieces)
+        (length (chars (take a (strip pieces)))) (length (chars (take b (strip pieces)))) }
 {}
 
 /// The two sides of a whole text that is split at a place, one behind the other, show what the text
@@ -292,13 +314,22 @@ pub fn sides_show_the_text()
 {}
 
 /// A cut of a whole text shows the characters of its slice, in the styles that they have in the text, and
-/// it is closed.
+/// it is closed. Without its sequences it is the slice of the text without its own; in UTF-8, the
+/// characters that it shows, each with its style, are the slice of those that the text shows, from the
+/// number of characters before the cut on.
 pub fn cuts_show_their_slices()
     ensures shown { (text : List ℕ) (pieces of_cut : List Piece) (a b : ℕ) → a ≤ b → ArePiecesOf text pieces → NoneBroken pieces →
         ArePiecesOf (cut_part a b pieces) of_cut →
         styled of_cut ≡ styled_from (style_after_all plain_attributes (before_place a pieces)) (through_place (b - a) (from_place a pieces)) }
     ensures closed { (text : List ℕ) (pieces of_cut : List Piece) (a b : ℕ) → a ≤ b → ArePiecesOf text pieces → NoneBroken pieces →
         ArePiecesOf (cut_part a b pieces) of_cut → IsClosed of_cut }
+    ensures stripped { (text : List ℕ) (pieces of_cut : List Piece) (a b : ℕ) → a ≤ b → ArePiecesOf text pieces → NoneBroken pieces →
+        ArePiecesOf (cut_part a b pieces) of_cut → strip of_cut ≡ slice_range (strip pieces) a b }
+    ensures slice { (text : List ℕ) (pieces of_cut : List Piece) (a b : ℕ) → a ≤ b → IsUtf8 text →
+        ArePiecesOf text pieces → NoneBroken pieces → IsCharBoundary (strip pieces) a → IsCharBoundary (strip pieces) b →
+        ArePiecesOf (cut_part a b pieces) of_cut →
+        styled of_cut ≡ slice_range (styled pieces)
+        (length (chars (take a (strip pieces)))) (length (chars (take b (strip pieces)))) }
 {}
 
 /// The edits of a list that stands behind another are done behind them; what edits leave of a text is one

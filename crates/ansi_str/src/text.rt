@@ -1,5 +1,5 @@
 //! The calls on styled text.
-ghost use Rattle.std.specs.Prelude.{◌≡◌, ◌≤◌, ◌+◌, ℕ, List, length, IfOk, IfSome, IsOk, IsTrue, MatchOption, false, ◌↔◌, string_bytes, [], ◌∷◌, min, unwrap_or, IsSome};
+ghost use Rattle.std.specs.Prelude.{◌≡◌, ◌≤◌, ◌+◌, ℕ, List, length, IfErr, IfOk, IfSome, IsOk, IsTrue, MatchOption, false, ◌↔◌, string_bytes, [], ◌∷◌, min, unwrap_or, IsSome};
 ghost use Rattle.std.specs.Cow.{IsOwnedStr, cow_str_bytes};
 ghost use Rattle.std.specs.Str.{IsCharBoundary};
 ghost use Rattle.ansi_scan.specs.Sequences.{Piece, ArePiecesOf, IsWhole};
@@ -37,7 +37,8 @@ pub trait AnsiStr {
 
     /// What `ansi_cut` answers where the bounds are good, else none. Bounds are places in the text without
     /// its sequences: an end is not below the start, and each that is below the length is a character
-    /// boundary.
+    /// boundary. A text without ESC is answered by a borrow. Neither that nor bounds that are not good take
+    /// memory; else the only refusal is for memory.
     fn ansi_get<R: AnsiRange>(
         &self,
         alloc: Global,
@@ -48,7 +49,9 @@ pub trait AnsiStr {
         ensures part { IfOk result (λ found. IfSome found (λ part. (pieces : List Piece) → ArePiecesOf (text self.now) pieces →
             cow_str_bytes part ≡ cut_part (R.start range) (unwrap_or (R.end range) (length (strip pieces))) pieces)) }
         ensures answers { has_escape (text self.now) ≡ false → IsOk result }
-        ensures borrows { IfOk result (λ found. IfSome found (λ part. IsOwnedStr part → IsTrue (has_escape (text self.now)))) };
+        ensures borrows { IfOk result (λ found. IfSome found (λ part. IsOwnedStr part → IsTrue (has_escape (text self.now)))) }
+        ensures refuses { IfErr result (λ _. (pieces : List Piece) → ArePiecesOf (text self.now) pieces →
+            AreGoodBounds (strip pieces) (R.start range) (R.end range)) };
 
     /// The text between good bounds, as `is_good_range` tells them, with all sequences that stand at or
     /// before its end, and the end of the style then open. A bound past the end counts as the end. A text
@@ -100,9 +103,9 @@ pub trait AnsiStr {
     fn ansi_find(&self, pattern: &str) -> Option<usize>
         ensures { (pieces : List Piece) → ArePiecesOf (text self.now) pieces → IsFound pattern.now (strip pieces) result };
 
-    /// The text without the prefix, where it begins with that once its sequences are left out. Every
-    /// sequence is kept, and none is added. A text without ESC is answered by a borrow, without memory;
-    /// else the only refusal is for memory.
+    /// The text without the prefix, where it begins with that once its sequences are left out, else none.
+    /// Every sequence is kept, and none is added. A text without ESC is answered by a borrow. Neither that
+    /// nor a text without the prefix takes memory; else the only refusal is for memory.
     fn ansi_strip_prefix(
         &self,
         alloc: Global,
@@ -112,7 +115,9 @@ pub trait AnsiStr {
             (¬ (BeginsWith prefix.now (strip pieces)))
             (λ left. BeginsWith prefix.now (strip pieces) × (cow_str_bytes left ≡ without_front (length prefix.now) pieces))) }
         ensures answers { has_escape (text self.now) ≡ false → IsOk result }
-        ensures borrows { IfOk result (λ found. IfSome found (λ left. IsOwnedStr left → IsTrue (has_escape (text self.now)))) };
+        ensures borrows { IfOk result (λ found. IfSome found (λ left. IsOwnedStr left → IsTrue (has_escape (text self.now)))) }
+        ensures refuses { IfErr result (λ _. (pieces : List Piece) → ArePiecesOf (text self.now) pieces →
+            BeginsWith prefix.now (strip pieces)) };
 
     /// The text without the suffix, likewise.
     fn ansi_strip_suffix(
@@ -124,7 +129,9 @@ pub trait AnsiStr {
             (¬ (EndsWith suffix.now (strip pieces)))
             (λ left. EndsWith suffix.now (strip pieces) × (cow_str_bytes left ≡ without_end (length suffix.now) pieces))) }
         ensures answers { has_escape (text self.now) ≡ false → IsOk result }
-        ensures borrows { IfOk result (λ found. IfSome found (λ left. IsOwnedStr left → IsTrue (has_escape (text self.now)))) };
+        ensures borrows { IfOk result (λ found. IfSome found (λ left. IsOwnedStr left → IsTrue (has_escape (text self.now)))) }
+        ensures refuses { IfErr result (λ _. (pieces : List Piece) → ArePiecesOf (text self.now) pieces →
+            EndsWith suffix.now (strip pieces)) };
 
     /// The text without the white space that `str::trim` takes from it once its sequences are left out.
     /// Every sequence is kept, and none is added. A text without ESC is answered by a borrow, without

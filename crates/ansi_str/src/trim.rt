@@ -1,5 +1,5 @@
 //! Text taken away at both ends of what a text shows. Every sequence is kept, and none is added.
-ghost use Rattle.std.specs.Prelude.{◌≡◌, ◌≤◌, ◌<◌, ℕ, List, IfOk, IfSome, IsOk, IsTrue, MatchOption, false, length, slice_range, string_bytes};
+ghost use Rattle.std.specs.Prelude.{◌≡◌, ◌≤◌, ◌<◌, ℕ, List, IfErr, IfOk, IfSome, IsOk, IsTrue, MatchOption, false, length, slice_range, string_bytes};
 ghost use Rattle.std.specs.Cow.{IsOwnedStr, cow_str_bytes};
 ghost use Rattle.std.specs.Str.{IsCharBoundary};
 ghost use Rattle.ansi_scan.specs.Pieces.{pieces as pieces_of};
@@ -27,6 +27,7 @@ pub(crate) fn strip_prefix<'a>(
         (λ left. BeginsWith prefix.now (strip pieces) × (cow_str_bytes left ≡ without_front (length prefix.now) pieces))) }
     ensures answers { has_escape text.now ≡ false → IsOk result }
     ensures borrows { IfOk result (λ found. IfSome found (λ left. IsOwnedStr left → IsTrue (has_escape text.now))) }
+    ensures refuses { IfErr result (λ _. (pieces : List Piece) → ArePiecesOf text.now pieces → BeginsWith prefix.now (strip pieces)) }
 {
     if !starts_with(text, prefix) {
         return Ok(None);
@@ -46,6 +47,7 @@ pub(crate) fn strip_suffix<'a>(
         (λ left. EndsWith suffix.now (strip pieces) × (cow_str_bytes left ≡ without_end (length suffix.now) pieces))) }
     ensures answers { has_escape text.now ≡ false → IsOk result }
     ensures borrows { IfOk result (λ found. IfSome found (λ left. IsOwnedStr left → IsTrue (has_escape text.now))) }
+    ensures refuses { IfErr result (λ _. (pieces : List Piece) → ArePiecesOf text.now pieces → EndsWith suffix.now (strip pieces)) }
 {
     let Some(to) = find_end(text, suffix) else {
         return Ok(None);

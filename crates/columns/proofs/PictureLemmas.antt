@@ -13,7 +13,7 @@ use Rattle.ansi_scan.specs.Attributes.{plain_attributes}
 use Rattle.ansi_scan.proofs.Existence.{ArePiecesOf-pieces}
 use Rattle.ansi_scan.proofs.Uniqueness.{pieces-ArePiecesOf}
 use Rattle.ansi_str.specs.StyledText.{styled}
-use Rattle.columns.specs.Rows.{line_feed, tab, stripped, styled_characters, without_empty_last, rows_of, row_texts, parts_at, without_bare_last, row_parts, cell_parts}
+use Rattle.columns.specs.Rows.{line_feed, tab, stripped, without_empty_last, rows_of, row_texts, parts_at, without_bare_last, row_parts, cell_parts}
 use Rattle.grid_records_measure.specs.Measures.{measure}
 use Rattle.columns.specs.Estimates.{Line}
 use Rattle.columns.specs.Picture.{picture_items}
@@ -22,7 +22,7 @@ use Rattle.columns.specs.Layout.{grid_of, characters_of, styled_line, styled_row
 use Rattle.columns.specs.TableShown.{ShowsTableOf}
 use Rattle.columns.proofs.ReadingLemmas.{read-table}
 use Rattle.columns.proofs.ShowLemmas.{Styled, Shows, Shows-ascii, Shows-flat_map, Shows-styled, Shows-closed, IsUtf8-stripped, characters_of-styled}
-use Rattle.columns.proofs.SplitLemmas.{IsWholeText, IsClosedPart, whole-closed, styled-parts_at, closed-parts_at}
+use Rattle.columns.proofs.SplitLemmas.{styled_characters, IsWholeText, IsClosedPart, whole-closed, styled-parts_at, closed-parts_at}
 use Rattle.columns.proofs.ItemLemmas.{AllByRecursion-keeps, AllByRecursion-map_of, map-same, items-hold}
 
 -- ---- the rows and cells of the bytes are those of the styled characters

@@ -11,9 +11,13 @@ use Rattle.columns.specs.Estimates.{Line, empty_line, Padding, cell_at, greatest
 use Rattle.columns.specs.Totals.{total}
 use Rattle.columns.specs.Frame.{boundary_at, Place, RowBoundary, RowLine, Outside, place}
 use Rattle.columns.specs.Picture.{space, Grid, Piece, across, fill_piece, boundary_pieces, cell_pieces, row_pieces, pieces_at, picture_line, line_items, picture_items}
-use Rattle.columns.specs.Readings.{read_line, read_rows, read_grid}
+use Rattle.columns.specs.Readings.{read_line, read_rows}
 use Rattle.columns.specs.Layout.{one_each, grid_of}
 use Rattle.columns.proofs.Maps.{flat_map-flat_map, map-flat_map, get_or-map}
+
+-- the same table with its cells read so; its sizes stay
+abbrev pub read_grid : {X Y : Type 0} → (X → List Y) → Grid X → Grid Y
+read_grid f grid = record { borders = grid.borders; padding = grid.padding; rows = read_rows f grid.rows; widths = grid.widths; heights = grid.heights }
 
 map-across : {X Y : Type 0} (f : X → Y) (n : ℕ) (boundary column : ℕ → List X) → map f (across n boundary column) ≡ across n (λ j. map f (boundary j)) (λ j. map f (column j))
 map-across f n boundary column =

@@ -8,12 +8,17 @@ use Rattle.ansi_scan.specs.Sequences.{NoneBroken}
 use Rattle.ansi_scan.specs.Pieces.{pieces}
 use Rattle.ansi_scan.proofs.Existence.{ArePiecesOf-pieces}
 use Rattle.ansi_scan.proofs.Uniqueness.{ArePiecesOf-unique}
-use Rattle.ansi_str.specs.StyledText.{IsClosed}
+use Rattle.ansi_scan.specs.Attributes.{Attributes}
+use Rattle.ansi_str.specs.StyledText.{IsClosed, styled}
 use Rattle.ansi_str.specs.Lines.{IsClosedText}
 use Rattle.ansi_str.proofs.Utf8Lemmas.{All-closed, All-utf8}
 use Rattle.ansi_str.proofs.CutLemmas.{shown-parts}
-use Rattle.columns.specs.Rows.{stripped, styled_characters, places, parts_at}
+use Rattle.columns.specs.Rows.{stripped, places, parts_at}
 use Rattle.columns.proofs.PlaceLemmas.{AreMatches-places}
+
+-- the characters that a text shows, each with its style
+abbrev pub styled_characters : List ℕ → List (ℕ × Attributes)
+styled_characters text = styled (pieces text)
 
 -- text without a broken sequence
 pub record IsWholeText (text : List ℕ) : Type 0 where

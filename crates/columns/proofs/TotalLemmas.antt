@@ -14,7 +14,7 @@ use Rattle.ansi_str.specs.StyledText.{has_escape, strip, styled}
 use Rattle.ansi_str.specs.Parts.{split_part}
 use Rattle.ansi_str.specs.Matches.{bounds_between}
 use Rattle.ansi_str_text.proofs.Stripping.{has_escape-strip}
-use Rattle.columns.specs.Rows.{tab, stripped, styled_characters, places, parts_at, row_parts, cell_parts, rows_of}
+use Rattle.columns.specs.Rows.{tab, stripped, places, parts_at, row_parts, cell_parts, rows_of}
 use Rattle.grid_records_measure.specs.Measures.{measure}
 use Rattle.columns.specs.Estimates.{Line, greatest, column_widths, row_heights}
 use Rattle.columns.specs.Totals.{total}
@@ -25,7 +25,7 @@ use Rattle.columns.specs.Printing.{byte_line, line_rows, content_width, content_
 use Rattle.columns.proofs.ReadingLemmas.{read-column_widths, read-row_heights}
 use Rattle.columns.proofs.PrintingLemmas.{one_line, one_line-widths, one_line-heights, ones-total, grid_text-picture}
 use Rattle.columns.proofs.ItemLemmas.{map-same}
-use Rattle.columns.proofs.SplitLemmas.{IsWholeText}
+use Rattle.columns.proofs.SplitLemmas.{styled_characters, IsWholeText}
 use Rattle.columns.proofs.ShowLemmas.{Styled, TextsAreUtf8-pieces, chars-strip_from, IsUtf8-strip, characters_of-styled}
 use Rattle.columns.proofs.PlaceLemmas.{stripped-without_escape, plain_cells, cell_parts-plain}
 use Rattle.columns.proofs.PictureLemmas.{Chunk, chunk_bytes, chunk_styled, chunk_rows, bytes-rows, styled-rows, output-shows_table}

@@ -7,9 +7,8 @@ use Rattle.columns.specs.Glyphs.{Borders, boundary_kind, intersection_glyph, hor
 use Rattle.columns.specs.Estimates.{Line, empty_line, Padding, cell_at}
 use Rattle.columns.specs.Totals.{total}
 use Rattle.columns.specs.Frame.{boundary_at, Place, RowBoundary, RowLine, Outside, place}
-
-abbrev pub space : ℕ
-space = 0x20
+-- what fills a cell
+pub use Rattle.grid_records_measure.specs.Tabs.{space}
 
 -- what a table is drawn from
 pub record Grid (X : Type 0) : Type 0 where

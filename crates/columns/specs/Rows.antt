@@ -3,17 +3,12 @@
 use Rattle.std.specs.Prelude.{ℕ, ◌+◌, ◌==◌, List, [], ◌∷◌, ◌++◌, map, length, if◌then◌else◌}
 use Rattle.std.specs.List.{slice_split}
 use Rattle.ansi_scan.specs.Pieces.{pieces}
-use Rattle.ansi_scan.specs.Attributes.{Attributes}
-use Rattle.ansi_str.specs.StyledText.{strip, styled}
+use Rattle.ansi_str.specs.StyledText.{strip}
 use Rattle.ansi_str.specs.Matches.{split_bounds, styled_parts}
-
--- U+000A LINE FEED; a carriage return before it is an ordinary character
-abbrev pub line_feed : ℕ
-line_feed = 0x0a
-
--- U+0009 CHARACTER TABULATION
-abbrev pub tab : ℕ
-tab = 0x09
+-- a line feed ends a row; a carriage return before it is an ordinary character
+pub use Rattle.grid_records_measure.specs.TextLines.{line_feed}
+-- a tab parts two cells
+pub use Rattle.grid_records_measure.specs.Tabs.{tab}
 
 -- the lists, but for a last one that is empty
 abbrev pub without_empty_last : {X : Type 0} → List (List X) → List (List X)
@@ -34,10 +29,6 @@ rows_of character xs = map (slice_split (λ x. character x == tab)) (row_texts c
 -- a text without its sequences
 abbrev pub stripped : List ℕ → List ℕ
 stripped text = strip (pieces text)
-
--- the characters that a text shows, each with its style
-abbrev pub styled_characters : List ℕ → List (ℕ × Attributes)
-styled_characters text = styled (pieces text)
 
 -- where a byte stands in a text of which the first byte has this place
 abbrev pub places_from : ℕ → ℕ → List ℕ → List ℕ

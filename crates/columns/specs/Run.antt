@@ -53,6 +53,7 @@ pub record Serves {T : Type 0} (input : List ℕ) (result : Result T RunFault) (
   pub writes : Writes (output_of input) result old new
   pub shows : HasTable input → ShowsTableOf input (output_of input)
 
--- where the table is empty, the writer is not even touched
-abbrev pub LeavesAlone : {T : Type 0} → List ℕ → T → T → Type 0
-LeavesAlone input old new = length (output_of input) ≡ 0 → new ≡ old
+-- where the input has no table, and where its table is empty, the writer is not even touched
+pub record LeavesAlone {T : Type 0} (input : List ℕ) (old new : T) : Type 0 where
+  pub no_table : ¬ (HasTable input) → new ≡ old
+  pub empty : length (output_of input) ≡ 0 → new ≡ old

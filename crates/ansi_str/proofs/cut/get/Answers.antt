@@ -6,6 +6,7 @@ use Rattle.ansi_scan.proofs.Existence.{ArePiecesOf-pieces}
 use Rattle.ansi_scan.proofs.Uniqueness.{ArePiecesOf-unique}
 use Rattle.ansi_str.specs.StyledText.{strip}
 use Rattle.ansi_str.specs.Cuts.{AreGoodBounds}
+use Rattle.ansi_str.proofs.SearchLemmas.{of_pieces, refused_where}
 use Rattle.ansi_str.proofs.cut.get.Goals as goal
 
 pub returns-then-not-are_good_bounds-clause-good : goal.returns-then-not-are_good_bounds-clause-good
@@ -30,3 +31,8 @@ returns-clause-good c = λ ps of_text.
           (c.are_good_bounds.ensures.0 c.if-not-are_good_bounds.false),
       λ _. refl,
     )
+
+pub returns-in_err-cut-clause-refuses : goal.returns-in_err-cut-clause-refuses
+returns-in_err-cut-clause-refuses c =
+    refused_where (of_pieces (λ (ps : List Piece). AreGoodBounds (strip ps) c.args.start c.args.end) c.args.text.now
+    (c.are_good_bounds.ensures.0 c.if-not-are_good_bounds.false)) c.from_residual.result

@@ -1,5 +1,6 @@
--- The lemmas of `WholeCuts`.
-use Rattle.ansi_str.proofs.WholeCuts.{first_part-shows, first_part-closed, later_part-shows, later_part-closed}
+-- The lemmas of `WholeCuts` and `CutSlices`.
+use Rattle.ansi_str.proofs.WholeCuts.{first_part-shows, first_part-closed, later_part-shows, later_part-closed, later_part-strip}
+use Rattle.ansi_str.proofs.CutSlices.{later_part-slice_shown}
 use Rattle.ansi_str.proofs.laws.breaks_show_their_slices.Goals as goal
 
 pub returns-clause-first : goal.returns-clause-first
@@ -13,3 +14,9 @@ returns-clause-later c = λ text pieces of_part a b order of_text whole of_the_p
 
 pub returns-clause-later_closed : goal.returns-clause-later_closed
 returns-clause-later_closed c = λ text pieces of_part a b order of_text whole of_the_part. later_part-closed text pieces of_text whole a b order of_part of_the_part
+
+pub returns-clause-later_slice : goal.returns-clause-later_slice
+returns-clause-later_slice c = later_part-slice_shown
+
+pub returns-clause-later_stripped : goal.returns-clause-later_stripped
+returns-clause-later_stripped c = λ text pieces of_part a b order of_text whole of_the_part. later_part-strip text pieces of_text whole a b order of_part of_the_part

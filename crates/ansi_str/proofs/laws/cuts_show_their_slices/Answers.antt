@@ -1,5 +1,6 @@
--- The lemmas of `WholeSlices`.
-use Rattle.ansi_str.proofs.WholeSlices.{cut-shows, cut-closed}
+-- The lemmas of `WholeSlices` and `CutSlices`.
+use Rattle.ansi_str.proofs.WholeSlices.{cut-shows, cut-closed, cut-strip}
+use Rattle.ansi_str.proofs.CutSlices.{cut-slice}
 use Rattle.ansi_str.proofs.laws.cuts_show_their_slices.Goals as goal
 
 pub returns-clause-shown : goal.returns-clause-shown
@@ -7,3 +8,9 @@ returns-clause-shown c = λ text pieces of_cut a b order of_text whole of_the_cu
 
 pub returns-clause-closed : goal.returns-clause-closed
 returns-clause-closed c = λ text pieces of_cut a b order of_text whole of_the_cut. cut-closed text pieces of_cut a b order of_text whole of_the_cut
+
+pub returns-clause-slice : goal.returns-clause-slice
+returns-clause-slice c = cut-slice
+
+pub returns-clause-stripped : goal.returns-clause-stripped
+returns-clause-stripped c = λ text pieces of_cut a b order of_text whole of_the_cut. cut-strip text pieces of_cut a b order of_text whole of_the_cut

@@ -9,7 +9,7 @@ use Rattle.ansi_str.specs.Searches.{BeginsWith}
 use Rattle.ansi_str.specs.Keeping.{without_front}
 use Rattle.ansi_str.proofs.FindLemmas.{IsUtf8-shown}
 use Rattle.ansi_str.proofs.RestLemmas.{strip-fits}
-use Rattle.ansi_str.proofs.SearchLemmas.{of_pieces}
+use Rattle.ansi_str.proofs.SearchLemmas.{of_pieces, refused_where}
 use Rattle.ansi_str.proofs.KeepLemmas.{kept-past}
 use Rattle.ansi_str.proofs.TrimLemmas.{begins-cut}
 use Rattle.ansi_str.proofs.trim.strip_prefix.Goals as goal
@@ -29,3 +29,9 @@ returns-clause-kept c =
     let begins = (c.starts_with.ensures (pieces text) (ArePiecesOf-pieces text)).0 c.if-not-starts_with.false in
     of_pieces (λ (ps : List Piece). BeginsWith p (strip ps) × (cow_str_bytes c.in_ok-keep.field-0 ≡ without_front (length p) ps)) text
     (begins, c.in_ok-keep.ensures.kept ∙ kept-past (length p) (length text) (pieces text) (strip-fits text))
+
+pub returns-in_err-keep-clause-refuses : goal.returns-in_err-keep-clause-refuses
+returns-in_err-keep-clause-refuses c =
+    let text = c.args.text.now in
+    refused_where (of_pieces (λ (ps : List Piece). BeginsWith c.args.prefix.now (strip ps)) text
+    ((c.starts_with.ensures (pieces text) (ArePiecesOf-pieces text)).0 c.if-not-starts_with.false)) c.from_residual.result

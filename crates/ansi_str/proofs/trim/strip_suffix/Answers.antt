@@ -8,7 +8,7 @@ use Rattle.ansi_str.specs.StyledText.{strip}
 use Rattle.ansi_str.specs.Searches.{EndsWith}
 use Rattle.ansi_str.specs.Keeping.{kept, without_end}
 use Rattle.ansi_str.proofs.FindLemmas.{IsUtf8-shown}
-use Rattle.ansi_str.proofs.SearchLemmas.{of_pieces}
+use Rattle.ansi_str.proofs.SearchLemmas.{of_pieces, refused_where}
 use Rattle.ansi_str.proofs.trim.strip_suffix.Goals as goal
 
 pub returns-in_default-clause-kept : goal.returns-in_default-clause-kept
@@ -25,3 +25,7 @@ returns-clause-kept c =
     let to : c.in-Some.to ≡ length (strip (pieces text)) - length p = omega (arith, sum) in
     of_pieces (λ (ps : List Piece). EndsWith p (strip ps) × (cow_str_bytes c.in_ok-keep.field-0 ≡ without_end (length p) ps)) text
     (c.in-Some.ensures.0, c.in_ok-keep.ensures.kept ∙ ap (λ n. kept 0 n (pieces text)) to)
+
+pub returns-in_err-keep-clause-refuses : goal.returns-in_err-keep-clause-refuses
+returns-in_err-keep-clause-refuses c =
+    refused_where (of_pieces (λ (ps : List Piece). EndsWith c.args.suffix.now (strip ps)) c.args.text.now c.in-Some.ensures.0) c.from_residual.result
