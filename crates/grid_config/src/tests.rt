@@ -163,6 +163,15 @@ fn compares_compact_settings(rt: HostRuntime) {
 
 // ---- settings of a table that begins as a compact one
 
+// What a cell has that nothing was set for, and that a compact table does not say.
+fn expect_layout(rt: &impl Abort, config: &SpannedConfig, pos: Position) {
+    assert!(rt; config.get_alignment_vertical(pos) == AlignmentVertical::Top);
+    assert!(rt; !config.get_line_alignment(pos));
+    assert!(rt; !config.get_trim_horizontal(pos) && !config.get_trim_vertical(pos));
+    assert!(rt; config.get_justification(pos) == ' ');
+    assert!(rt; config.get_justification_color(pos).is_none());
+}
+
 fn compact() -> CompactConfig {
     CompactConfig::new()
         .set_margin(INDENTS)
@@ -196,13 +205,4 @@ fn takes_compact_settings(rt: HostRuntime) -> Result<(), AllocError> {
     expect_compact_colors(&rt, &config);
     end(config);
     Ok(())
-}
-
-// What a cell has that nothing was set for, and that a compact table does not say.
-fn expect_layout(rt: &impl Abort, config: &SpannedConfig, pos: Position) {
-    assert!(rt; config.get_alignment_vertical(pos) == AlignmentVertical::Top);
-    assert!(rt; !config.get_line_alignment(pos));
-    assert!(rt; !config.get_trim_horizontal(pos) && !config.get_trim_vertical(pos));
-    assert!(rt; config.get_justification(pos) == ' ');
-    assert!(rt; config.get_justification_color(pos).is_none());
 }

@@ -121,9 +121,21 @@ fn set_justifications(
     Ok(())
 }
 
-fn set_each(rt: &impl Abort, config: &mut SpannedConfig, alloc: Global) -> Result<(), Fault> {
+fn set_whole(rt: &impl Abort, config: &mut SpannedConfig, alloc: Global) -> Result<(), Fault> {
     set_margins(rt, config, alloc)?;
     set_borders(rt, config, alloc)?;
+    Ok(())
+}
+
+#[test]
+fn sets_the_whole(rt: HostRuntime) -> Result<(), Fault> {
+    let mut config = SpannedConfig::new(rt.alloc());
+    let outcome = set_whole(&rt, &mut config, rt.alloc());
+    end(config);
+    outcome
+}
+
+fn set_cells(rt: &impl Abort, config: &mut SpannedConfig, alloc: Global) -> Result<(), Fault> {
     set_paddings(rt, config)?;
     set_padding_colors(rt, config, alloc)?;
     set_alignments(rt, config)?;
@@ -132,9 +144,9 @@ fn set_each(rt: &impl Abort, config: &mut SpannedConfig, alloc: Global) -> Resul
 }
 
 #[test]
-fn sets_each_once(rt: HostRuntime) -> Result<(), Fault> {
+fn sets_cells(rt: HostRuntime) -> Result<(), Fault> {
     let mut config = SpannedConfig::new(rt.alloc());
-    let outcome = set_each(&rt, &mut config, rt.alloc());
+    let outcome = set_cells(&rt, &mut config, rt.alloc());
     end(config);
     outcome
 }
