@@ -1,0 +1,3 @@
+pub mod Giving
+pub mod Rows
+pub mod Cells

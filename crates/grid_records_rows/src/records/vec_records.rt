@@ -1,0 +1,7 @@
+//! Rows in vectors.
+
+pub mod cell;
+pub mod text;
+
+pub use cell::Cell;
+pub use text::Text;
