@@ -2,6 +2,11 @@
 ghost use Rattle.std.specs.Prelude.{◌≡◌, ℕ, Bool, List, length};
 ghost use Rattle.grid_records_rows.specs.Giving.{GivesRows};
 
+mod given;
+mod sources;
+
+pub use given::{GivenCells, GivenRows};
+
 use crate::records::RecordTexts;
 use crate::records::vec_records::Cell;
 use std::alloc::AllocError;
