@@ -6,5 +6,5 @@ pub mod records;
 
 pub use dimension::Dimension;
 pub use records::into_records::IntoRecords;
-pub use records::vec_records::{Cell, Text, VecRecords, are_equally_long};
+pub use records::vec_records::{Cell, FromText, Text, VecRecords, are_equally_long};
 pub use records::{ExactRecords, PeekableRecords, RecordTexts, Records, RecordsMut};

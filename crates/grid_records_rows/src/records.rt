@@ -13,7 +13,7 @@ pub use exact_records::ExactRecords;
 pub use into_records::IntoRecords;
 pub use peekable_records::PeekableRecords;
 pub use records_mut::RecordsMut;
-pub use vec_records::{Cell, Text, VecRecords};
+pub use vec_records::{Cell, FromText, Text, VecRecords};
 
 /// What contracts see of a source of rows: the texts of its cells by rows, and whether a cell may be
 /// refused for memory.

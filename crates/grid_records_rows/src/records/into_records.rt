@@ -5,17 +5,18 @@ ghost use Rattle.grid_records_rows.specs.Giving.{GivesRows};
 mod given;
 mod sources;
 
-pub use given::{GivenCells, GivenRows};
-
 use crate::records::RecordTexts;
 use crate::records::vec_records::Cell;
+pub use given::{GivenCells, GivenRows};
 use std::alloc::AllocError;
 
 /// A source of rows of cells. An iterator over its rows gives iterators over their cells, and each of
 /// these answers a cell or a refusal for memory.
 pub trait IntoRecords: RecordTexts {
     type Cell: Cell;
+
     type IterColumns: Iterator<Item = Result<Self::Cell, AllocError>>;
+
     type IterRows: Iterator<Item = Self::IterColumns>;
 
     /// The rows.

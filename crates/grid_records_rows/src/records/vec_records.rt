@@ -5,13 +5,12 @@ ghost use Rattle.grid_records_rows.specs.Sources.{AreEquallyLong, columns_of, te
 pub mod cell;
 pub mod text;
 
-pub use cell::Cell;
-pub use text::Text;
-
 use crate::records::into_records::{GivenRows, IntoRecords};
 use crate::records::{ExactRecords, PeekableRecords, RecordTexts, Records, RecordsMut};
+pub use cell::Cell;
 use grid_config_values::Position;
 use std::slice;
+pub use text::{FromText, Text};
 
 /// Rows in vectors, each of as many cells.
 #[derive(Debug, Drop)]
@@ -64,10 +63,10 @@ impl<T: Cell> PeekableRecords for VecRecords<T> {
     }
 }
 
-impl RecordsMut for VecRecords<Text> {
+impl<T: FromText> RecordsMut for VecRecords<T> {
     fn set(&mut self, pos: Position, text: Text) {
         let row = &mut self.rows[pos.row];
-        row[pos.col] = text;
+        row[pos.col] = T::from_text(text);
     }
 }
 

@@ -3,8 +3,8 @@ ghost use Rattle.std.specs.Prelude.{List, false, map};
 ghost use Rattle.grid_records_rows.specs.Sources.{texts_of_rows};
 
 use crate::records::RecordTexts;
-use crate::records::into_records::given::{GivenCells, GivenRows};
 use crate::records::into_records::IntoRecords;
+use crate::records::into_records::given::{GivenCells, GivenRows};
 use crate::records::vec_records::Cell;
 use std::slice;
 

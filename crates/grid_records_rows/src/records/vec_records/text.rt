@@ -35,3 +35,16 @@ impl Cell for Text {
         self.text.as_str()
     }
 }
+
+/// A cell that can be made of a text, without memory.
+pub trait FromText: Cell {
+    /// A cell with this text. Takes no memory.
+    fn from_text(given: Text) -> Self
+        ensures { Self.text result ≡ given };
+}
+
+impl FromText for Text {
+    fn from_text(given: Text) -> Text {
+        given
+    }
+}

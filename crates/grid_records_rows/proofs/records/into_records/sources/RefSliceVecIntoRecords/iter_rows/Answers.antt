@@ -12,7 +12,11 @@ returns g c =
       ends = search rules;
       each = each_becomes iter_steps _ (λ s. s.0) (λ cells. cells.0) (λ row texts. map g.T.Cell.text (vec_items row.now) ≡ texts) _
           (λ row cells texts same became.
-          record { can_next = search rules; ends = search rules; each =
-            each_answered AllocError iter_steps (λ s. s.0) (λ cell. g.T.Cell.text cell.now) false cells texts (each_of_slice g.T.Cell.text cells.0 texts (ap (map g.T.Cell.text) became.0 ∙ same)) })
+          record {
+            can_next = search rules;
+            ends = search rules;
+            each =
+                each_answered AllocError iter_steps (λ s. s.0) (λ cell. g.T.Cell.text cell.now) false cells texts (each_of_slice g.T.Cell.text cells.0 texts (ap (map g.T.Cell.text) became.0 ∙ same));
+          })
           _ _ (each_of_slice (λ row. map g.T.Cell.text (vec_items row)) c.iter.result _ (ap (map (λ row. map g.T.Cell.text (vec_items row))) c.iter.ensures.rest));
     }
