@@ -1,4 +1,7 @@
+pub mod Adapters
+pub mod FittingLemmas
 pub mod Giving
+pub mod LineAt
 pub mod Loops
 pub mod Sources
 pub mod Tables

@@ -1,6 +1,6 @@
 -- Tables of rows that are equally long.
 use Rattle.std.proofs.Common.{rules, arith, ◌≡◌, ◌-◌, ◌<◌, ℕ, suc, List, [], ◌∷◌, ◌++◌, All, ap, map, length, get_or, refl, sym, ◌∙◌, take, replicate, subst, Vec, vec_items, vec_len, slice_set}
-use Rattle.std.proofs.lemmas.List.{append-nil, get_or-map, length-map, map-set, take_all}
+use Rattle.std.proofs.lemmas.List.{append-nil, get_or-map, get_or-replicate, length-map, length-replicate, map-set, take_all}
 use Rattle.std.proofs.lemmas.List.Elements.{All-map}
 use Rattle.std.specs.Vec.{with_item}
 use Rattle.grid_config_values.specs.declared.Position.{Position}
@@ -14,7 +14,8 @@ fitted_row-same row n long =
     let none : n - length row ≡ 0 = omega arith in
     rw (all, none) (append-nil row)
 
-fitted-same : (rows : List (List (List ℕ))) (n : ℕ) → All (λ row. length row ≡ n) rows → fitted n rows ≡ rows
+-- rows of so many texts are fitted already
+pub fitted-same : (rows : List (List (List ℕ))) (n : ℕ) → All (λ row. length row ≡ n) rows → fitted n rows ≡ rows
 fitted-same [] n long = refl
 fitted-same (row ∷ rows) n long =
     rw (fitted_row-same row n (long 0 row (omega arith))) (ap (λ v. row ∷ v) (fitted-same rows n (λ k d lt. long (suc k) d (omega arith))))
@@ -36,3 +37,9 @@ set_text {T} {Z} text rows pos row cell is inside =
     let at : row_at (texts_of_rows text rows) pos.row ≡ texts row = get_or-map texts rows pos.row row [] (omega (arith, inside.0, length-map rows texts)) ∙ ap texts (sym is) in
     map-set texts rows pos.row (with_item row pos.col cell)
     ∙ ap (λ v. slice_set (texts_of_rows text rows) pos.row v) (map-set text (vec_items row) pos.col cell ∙ ap (λ v. slice_set v pos.col (text cell)) (sym at))
+
+-- rows of so many empty texts are fitted already
+pub fitted_empty : (rows columns : ℕ) → fitted columns (replicate rows (replicate columns [])) ≡ replicate rows (replicate columns [])
+fitted_empty rows columns =
+    fitted-same (replicate rows (replicate columns [])) columns
+    (λ k d lt. ap length (get_or-replicate rows k (replicate columns []) d (simp length-replicate at lt)) ∙ length-replicate columns [])

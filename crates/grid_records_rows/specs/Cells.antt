@@ -1,5 +1,5 @@
 -- The lines of a cell's text, and what they measure.
-use Rattle.std.specs.Prelude.{◌≡◌, ℕ, List, [], length, slice_index_or}
+use Rattle.std.specs.Prelude.{◌≡◌, ℕ, List, [], None, Option, Some, length, slice_index_or}
 use Rattle.ansi_scan.specs.Sequences.{Piece, ArePiecesOf}
 use Rattle.grid_records_measure.specs.TextLines.{AreLinesOf, line_measure, shown_lines, widest}
 
@@ -23,3 +23,8 @@ HasWidth text width = (pieces : List Piece) → ArePiecesOf text pieces → widt
 -- the line with this number measures so many columns
 abbrev pub HasLineWidth : List ℕ → ℕ → ℕ → Type 0
 HasLineWidth text index width = (pieces : List Piece) → ArePiecesOf text pieces → width ≡ line_measure (line_at (shown_lines pieces) index)
+
+-- the text of a cell, and where there is none the empty one
+abbrev pub text_or_empty : {C : Type 0} → (C → List ℕ) → Option C → List ℕ
+text_or_empty text None = []
+text_or_empty text (Some cell) = text cell

@@ -1,4 +1,5 @@
 pub mod Giving
 pub mod Sources
 pub mod Rows
+pub mod Fitting
 pub mod Cells

@@ -18,3 +18,17 @@ pub trait Dimension {
     fn get_height(&self, row: usize) -> usize
         ensures { result ≡ height self.now row };
 }
+
+impl<D: Dimension> Dimension for &D {
+    ghost width = { λ d. D.width d.now };
+
+    ghost height = { λ d. D.height d.now };
+
+    fn get_width(&self, column: usize) -> usize {
+        D::get_width(self, column)
+    }
+
+    fn get_height(&self, row: usize) -> usize {
+        D::get_height(self, row)
+    }
+}

@@ -2,9 +2,12 @@
 #![tactic(auto)]
 
 pub mod dimension;
+mod lines;
 pub mod records;
 
 pub use dimension::Dimension;
-pub use records::into_records::IntoRecords;
+pub use records::into_records::{IntoRecords, LimitColumns, LimitRows, SkipRows};
 pub use records::vec_records::{Cell, FromText, Text, VecRecords, are_equally_long};
-pub use records::{ExactRecords, PeekableRecords, RecordTexts, Records, RecordsMut};
+pub use records::{
+    EmptyRecords, ExactRecords, IterRecords, PeekableRecords, RecordTexts, Records, RecordsMut,
+};

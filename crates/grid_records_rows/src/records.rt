@@ -3,14 +3,18 @@ ghost use Rattle.std.specs.Prelude.{◌≡◌, ℕ, Bool, List, length};
 ghost use Rattle.grid_records_rows.specs.Giving.{GivesRows};
 ghost use Rattle.grid_records_rows.specs.Rows.{fitted};
 
+pub mod empty;
 pub mod exact_records;
 pub mod into_records;
+pub mod iter_records;
 pub mod peekable_records;
 pub mod records_mut;
 pub mod vec_records;
 
+pub use empty::EmptyRecords;
 pub use exact_records::ExactRecords;
 pub use into_records::IntoRecords;
+pub use iter_records::IterRecords;
 pub use peekable_records::PeekableRecords;
 pub use records_mut::RecordsMut;
 pub use vec_records::{Cell, FromText, Text, VecRecords};

@@ -2,12 +2,20 @@
 ghost use Rattle.std.specs.Prelude.{◌≡◌, ℕ, Bool, List, length};
 ghost use Rattle.grid_records_rows.specs.Giving.{GivesRows};
 
+pub mod fitted;
 mod given;
+mod limit_columns;
+mod limit_rows;
+mod skip_rows;
 mod sources;
 
 use crate::records::RecordTexts;
 use crate::records::vec_records::Cell;
+pub use fitted::{Fitted, FittedCells, FittedRows};
 pub use given::{GivenCells, GivenRows};
+pub use limit_columns::{LimitColumns, LimitedRows};
+pub use limit_rows::LimitRows;
+pub use skip_rows::SkipRows;
 use std::alloc::AllocError;
 
 /// A source of rows of cells. An iterator over its rows gives iterators over their cells, and each of

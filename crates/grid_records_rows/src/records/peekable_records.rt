@@ -7,6 +7,7 @@ ghost use Rattle.grid_records_rows.specs.Rows.{text_at};
 
 use crate::records::RecordTexts;
 use grid_config_values::Position;
+use crate::lines::{line_of, line_width_of};
 use grid_records_measure::{count_lines, get_text_width};
 use std::alloc::{AllocError, Global};
 use std::borrow::CowStr;
@@ -16,6 +17,16 @@ pub trait PeekableRecords: RecordTexts {
     /// The text of the cell at this place, and outside the empty text.
     fn get_text(&self, pos: Position) -> &str
         ensures { result.now ≡ text_at (Self.rows self.now) pos };
+
+    /// The line with this number, with its styles opened and ended within, and behind the last the empty
+    /// text. Without ESC it is a borrow, without memory; else the only refusal is for memory.
+    fn get_line(&self, alloc: Global, pos: Position, line: usize) -> Result<CowStr<'_>, AllocError>
+        ensures line { IfOk result (λ out. IsLineAt (text_at (Self.rows self.now) pos) line (cow_str_bytes out)) }
+        ensures answers { has_escape (text_at (Self.rows self.now) pos) ≡ false → IsOk result }
+        ensures borrows { IfOk result (λ out. has_escape (text_at (Self.rows self.now) pos) ≡ false → ¬ (IsOwnedStr out)) }
+    {
+        line_of(alloc, self.get_text(pos), line)
+    }
 
     /// How many lines this text has. Takes no memory.
     fn count_lines(&self, pos: Position) -> usize
@@ -29,5 +40,12 @@ pub trait PeekableRecords: RecordTexts {
         ensures { HasWidth (text_at (Self.rows self.now) pos) result }
     {
         get_text_width(self.get_text(pos))
+    }
+
+    /// The columns of the line with this number, and behind the last 0. Takes no memory.
+    fn get_line_width(&self, pos: Position, line: usize) -> usize
+        ensures { HasLineWidth (text_at (Self.rows self.now) pos) line result }
+    {
+        line_width_of(self.get_text(pos), line)
     }
 }

@@ -2,8 +2,9 @@
 ghost use Rattle.std.specs.Prelude.{◌≡◌, ℕ, List, IfOk, IsOk, false, string_bytes};
 ghost use Rattle.std.specs.Cow.{IsOwnedStr, cow_str_bytes};
 ghost use Rattle.ansi_str.specs.StyledText.{has_escape};
-ghost use Rattle.grid_records_rows.specs.Cells.{HasLineCount, HasLineWidth, HasWidth, IsLineAt};
+ghost use Rattle.grid_records_rows.specs.Cells.{HasLineCount, HasLineWidth, HasWidth, IsLineAt, text_or_empty};
 
+use crate::lines::{line_of, line_width_of};
 use grid_records_measure::{count_lines, get_text_width};
 use std::alloc::{AllocError, Global};
 use std::borrow::CowStr;
@@ -15,6 +16,16 @@ pub trait Cell: Drop {
     /// The text.
     fn text(&self) -> &str
         ensures { result.now ≡ text self.now };
+
+    /// The line with this number, with its styles opened and ended within, and behind the last the empty
+    /// text. Without ESC it is a borrow, without memory; else the only refusal is for memory.
+    fn line(&self, alloc: Global, index: usize) -> Result<CowStr<'_>, AllocError>
+        ensures line { IfOk result (λ out. IsLineAt (text self.now) index (cow_str_bytes out)) }
+        ensures answers { has_escape (text self.now) ≡ false → IsOk result }
+        ensures borrows { IfOk result (λ out. has_escape (text self.now) ≡ false → ¬ (IsOwnedStr out)) }
+    {
+        line_of(alloc, self.text(), index)
+    }
 
     /// How many lines the text has. Takes no memory.
     fn count_lines(&self) -> usize
@@ -28,6 +39,13 @@ pub trait Cell: Drop {
         ensures { HasWidth (text self.now) result }
     {
         get_text_width(self.text())
+    }
+
+    /// The columns of the line with this number, and behind the last 0. Takes no memory.
+    fn line_width(&self, index: usize) -> usize
+        ensures { HasLineWidth (text self.now) index result }
+    {
+        line_width_of(self.text(), index)
     }
 }
 
@@ -52,5 +70,17 @@ impl<'a, C: Cell> Cell for &'a C {
 
     fn text(&self) -> &str {
         C::text(self)
+    }
+}
+
+/// A cell that a row may lack: `None` has the empty text.
+impl<C: Cell> Cell for Option<C> {
+    ghost text = { λ cell. text_or_empty C.text cell };
+
+    fn text(&self) -> &str {
+        match self {
+            Some(cell) => cell.text(),
+            None => "",
+        }
     }
 }
