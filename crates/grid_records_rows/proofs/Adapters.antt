@@ -13,9 +13,10 @@ each_taken : {S A B : Type 0} (steps : S → Option A → S → Type 0) (tie : A
     GivesEach steps tie (take_source s) ys → GivesEach (take_steps steps) tie s (take n ys)
 each_taken steps tie zero s ys count gives = λ x t step. absurd (omega (arith, step.1, count))
 each_taken steps tie (suc n) s [] count gives = λ x t step. gives x (take_source t) step.0
-each_taken steps tie (suc n) s (y ∷ ys) count gives =
-    (λ t step. gives.0 (take_source t) (step (omega (arith, count))),
-        λ x t step. let next = gives.1 x (take_source t) step.0 in (next.0, each_taken steps tie n t ys (omega (arith, count, step.1)) next.1))
+each_taken steps tie (suc n) s (y ∷ ys) count gives = (
+  λ t step. gives.0 (take_source t) (step (omega (arith, count))),
+  λ x t step. let next = gives.1 x (take_source t) step.0 in (next.0, each_taken steps tie n t ys (omega (arith, count, step.1)) next.1),
+)
 
 -- the first items of an iterator
 pub gives_taken : {S A B : Type 0} {can : S → Type 0} {left : S → Count} {steps : S → Option A → S → Type 0} {tie : A → B → Type 0} {it : S} {ys : List B} (s : Take S) (n : ℕ) →
@@ -54,11 +55,12 @@ none_left steps tie s (y ∷ ys) u gives step = absurd (gives.0 u step)
 skip_later : {S A B : Type 0} (steps : S → Option A → S → Type 0) (tie : A → B → Type 0) (s : Skip S) (ys : List B) → skip_count s ≡ 0 →
     GivesEach steps tie (skip_source s) ys → GivesEach (skip_steps steps) tie s ys
 skip_later steps tie s [] none gives = λ x t step. gives x (skip_source t) (at_zero steps (skip_source s) (skip_source t) (Some x) (skip_count s) none step.1)
-skip_later steps tie s (y ∷ ys) none gives =
-    (λ t step. gives.0 (skip_source t) (at_zero steps (skip_source s) (skip_source t) None (skip_count s) none step.1),
-        λ x t step.
-            let next = gives.1 x (skip_source t) (at_zero steps (skip_source s) (skip_source t) (Some x) (skip_count s) none step.1) in
-            (next.0, skip_later steps tie t ys step.0 next.1))
+skip_later steps tie s (y ∷ ys) none gives = (
+  λ t step. gives.0 (skip_source t) (at_zero steps (skip_source s) (skip_source t) None (skip_count s) none step.1),
+  λ x t step.
+      let next = gives.1 x (skip_source t) (at_zero steps (skip_source s) (skip_source t) (Some x) (skip_count s) none step.1) in
+      (next.0, skip_later steps tie t ys step.0 next.1),
+)
 
 past : {A B : Type 0} (xs : List A) (ys : List B) (z : B) (zs : List B) (n : ℕ) → drop (length xs) ys ≡ [] → length xs ≤ n → drop n ys ≡ z ∷ zs → ⊥
 past xs ys z zs n none le some =
@@ -72,16 +74,17 @@ each_skipped steps tie n s ys [] count left gives = λ x t step.
     let run = step.1 in
     let after = each_after steps tie run.0 ys (skip_source s) run.1.0 gives run.1.1 in
     subst (λ v. GivesEach steps tie run.1.0 v) (ap (λ k. drop k ys) (run.2 ∙ count) ∙ left) after x (skip_source t) run.1.2
-each_skipped steps tie n s ys (z ∷ zs) count left gives =
-    (λ t step.
-        let run = step.1 in
-        let after = each_after steps tie run.0 ys (skip_source s) run.1.0 gives run.1.1 in
-        past run.0 ys z zs n (none_left steps tie run.1.0 (drop (length run.0) ys) (skip_source t) after run.1.2) (omega (arith, run.2, count)) left,
-        λ x t step.
-            let run = step.1 in
-            let after = each_after steps tie run.0 ys (skip_source s) run.1.0 gives run.1.1 in
-            let next = (subst (λ v. GivesEach steps tie run.1.0 v) (ap (λ k. drop k ys) (run.2 ∙ count) ∙ left) after).1 x (skip_source t) run.1.2 in
-            (next.0, skip_later steps tie t zs step.0 next.1))
+each_skipped steps tie n s ys (z ∷ zs) count left gives = (
+  λ t step.
+      let run = step.1 in
+      let after = each_after steps tie run.0 ys (skip_source s) run.1.0 gives run.1.1 in
+      past run.0 ys z zs n (none_left steps tie run.1.0 (drop (length run.0) ys) (skip_source t) after run.1.2) (omega (arith, run.2, count)) left,
+  λ x t step.
+      let run = step.1 in
+      let after = each_after steps tie run.0 ys (skip_source s) run.1.0 gives run.1.1 in
+      let next = (subst (λ v. GivesEach steps tie run.1.0 v) (ap (λ k. drop k ys) (run.2 ∙ count) ∙ left) after).1 x (skip_source t) run.1.2 in
+      (next.0, skip_later steps tie t zs step.0 next.1),
+)
 
 -- the items of an iterator behind its first
 pub gives_skipped : {S A B : Type 0} {can : S → Type 0} {left : S → Count} {steps : S → Option A → S → Type 0} {tie : A → B → Type 0} {it : S} {ys : List B} (s : Skip S) (n : ℕ) →
@@ -100,8 +103,9 @@ pub each_limited : {R S Cells B : Type 0} (steps : S → Option Cells → S → 
     (s : R) (rows : List (List B)) → limit_of s ≡ limit → GivesEach steps tie (inside s) rows →
     GivesEach (λ s r t. (limit_of t ≡ limit_of s) × GivesTaken steps (limit_of s) (inside s) r (inside t)) wanted s (map (take limit) rows)
 each_limited steps inside limit_of tie wanted limit follows s [] is gives = λ cells t step. gives (take_source cells) (inside t) step.1.0
-each_limited steps inside limit_of tie wanted limit follows s (texts ∷ rows) is gives =
-    (λ t step. gives.0 (inside t) step.1,
-        λ cells t step.
-            let next = gives.1 (take_source cells) (inside t) step.1.0 in
-            (follows cells texts next.0 (step.1.1 ∙ is), each_limited steps inside limit_of tie wanted limit follows t rows (step.0 ∙ is) next.1))
+each_limited steps inside limit_of tie wanted limit follows s (texts ∷ rows) is gives = (
+  λ t step. gives.0 (inside t) step.1,
+  λ cells t step.
+      let next = gives.1 (take_source cells) (inside t) step.1.0 in
+      (follows cells texts next.0 (step.1.1 ∙ is), each_limited steps inside limit_of tie wanted limit follows t rows (step.0 ∙ is) next.1),
+)

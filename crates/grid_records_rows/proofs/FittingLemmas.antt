@@ -76,26 +76,29 @@ module _ {S C E : Type 0} (steps : S → Option (Result C E) → S → Type 0) (
     blanks : (n : ℕ) (s : F) → cells_of s ≡ None → left_of s ≡ n → GivesEach (λ s r t. FitsCell steps (cells_of s) (left_of s) r (cells_of t) (left_of t)) (IsAnswer (text_or_empty text) may_refuse) s (replicate n [])
     unfolding Steps
     blanks zero s none left = λ answer t step. omega (arith, step.0, left)
-    blanks (suc n) s none left =
-        (λ t step. omega (arith, step, left),
-            λ answer t step.
-                let next = blank (cells_of s) (cells_of t) answer none step.1 in
-                (subst (λ v. IsAnswer (text_or_empty text) may_refuse v []) (sym next.0) refl, blanks n t next.1 (omega (arith, step.0, left))))
+    blanks (suc n) s none left = (
+      λ t step. omega (arith, step, left),
+      λ answer t step.
+          let next = blank (cells_of s) (cells_of t) answer none step.1 in
+          (subst (λ v. IsAnswer (text_or_empty text) may_refuse v []) (sym next.0) refl, blanks n t next.1 (omega (arith, step.0, left))),
+    )
 
     fits : (n : ℕ) (row : List (List ℕ)) (s : F) (it : S) → cells_of s ≡ Some it → left_of s ≡ n → GivesEach steps (IsAnswer text may_refuse) it row →
         GivesEach (λ s r t. FitsCell steps (cells_of s) (left_of s) r (cells_of t) (left_of t)) (IsAnswer (text_or_empty text) may_refuse) s (fit n row)
     unfolding Steps fit
     fits zero row s it is left gives = λ answer t step. omega (arith, step.0, left)
-    fits (suc n) [] s it is left gives =
-        (λ t step. omega (arith, step, left),
-            λ answer t step.
-                let next = ended (cells_of s) (cells_of t) answer it is gives step.1 in
-                (subst (λ v. IsAnswer (text_or_empty text) may_refuse v []) (sym next.0) refl, blanks n t next.1 (omega (arith, step.0, left))))
-    fits (suc n) (wanted ∷ row) s it is left gives =
-        (λ t step. omega (arith, step, left),
-            λ answer t step.
-                let next = goes (cells_of s) (cells_of t) answer it wanted row is gives step.1 in
-                (next.tied, fits n row t next.rest next.is (omega (arith, step.0, left)) next.gives))
+    fits (suc n) [] s it is left gives = (
+      λ t step. omega (arith, step, left),
+      λ answer t step.
+          let next = ended (cells_of s) (cells_of t) answer it is gives step.1 in
+          (subst (λ v. IsAnswer (text_or_empty text) may_refuse v []) (sym next.0) refl, blanks n t next.1 (omega (arith, step.0, left))),
+    )
+    fits (suc n) (wanted ∷ row) s it is left gives = (
+      λ t step. omega (arith, step, left),
+      λ answer t step.
+          let next = goes (cells_of s) (cells_of t) answer it wanted row is gives step.1 in
+          (next.tied, fits n row t next.rest next.is (omega (arith, step.0, left)) next.gives),
+    )
 
     -- a row of which so many cells are wanted
     pub gives_fitted : {can : S → Type 0} {left : S → Count} (s : F) (it : S) (n : ℕ) (row : List (List ℕ)) → cells_of s ≡ Some it → left_of s ≡ n → Gives can left steps (IsAnswer text may_refuse) it row →
@@ -114,8 +117,9 @@ pub each_fitted : {R S Row Cells : Type 0} (steps : S → Option Row → S → T
     (s : R) (rows : List (List (List ℕ))) → columns_of s ≡ n → GivesEach steps tie (inside s) rows →
     GivesEach (λ s r t. (columns_of t ≡ columns_of s) × GivesFitted steps (columns_of s) (inside s) r cells_of left_of (inside t)) wanted s (map (fitted_row n) rows)
 each_fitted steps inside columns_of cells_of left_of tie wanted n follows s [] is gives = λ cells t step. gives step.1.0 (inside t) step.1.1
-each_fitted steps inside columns_of cells_of left_of tie wanted n follows s (texts ∷ rows) is gives =
-    (λ t step. gives.0 (inside t) step.1,
-        λ cells t step.
-            let next = gives.1 step.1.0 (inside t) step.1.1 in
-            (follows step.1.0 cells texts next.0 step.1.2 (step.1.3 ∙ is), each_fitted steps inside columns_of cells_of left_of tie wanted n follows t rows (step.0 ∙ is) next.1))
+each_fitted steps inside columns_of cells_of left_of tie wanted n follows s (texts ∷ rows) is gives = (
+  λ t step. gives.0 (inside t) step.1,
+  λ cells t step.
+      let next = gives.1 step.1.0 (inside t) step.1.1 in
+      (follows step.1.0 cells texts next.0 step.1.2 (step.1.3 ∙ is), each_fitted steps inside columns_of cells_of left_of tie wanted n follows t rows (step.0 ∙ is) next.1),
+)

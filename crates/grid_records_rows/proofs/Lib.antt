@@ -5,3 +5,4 @@ pub mod LineAt
 pub mod Loops
 pub mod Sources
 pub mod Tables
+pub mod TruncatingLemmas

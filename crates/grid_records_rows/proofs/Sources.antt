@@ -16,11 +16,12 @@ each_of_slice {A} {B} f it ys is =
 
 each_of_vec-all : {A B : Type 0} (f : A → B) (it : IntoIter A Global) (xs : List A) → into_iter_items it ≡ xs → into_iter_len it ≡ length xs → GivesEach into_iter_steps (λ x y. f x ≡ y) it (map f xs)
 each_of_vec-all f it [] items len = λ x t step. omega (arith, step.1, len)
-each_of_vec-all f it (x ∷ xs) items len =
-    (λ t step. omega (arith, step.0, len),
-        λ y t step.
-            let same : y ≡ x = cc (items, step.0) in
-            (ap f same, each_of_vec-all f t xs (cc (items, step.0)) (omega (arith, step.1, len))))
+each_of_vec-all f it (x ∷ xs) items len = (
+  λ t step. omega (arith, step.0, len),
+  λ y t step.
+      let same : y ≡ x = cc (items, step.0) in
+      (ap f same, each_of_vec-all f t xs (cc (items, step.0)) (omega (arith, step.1, len))),
+)
 
 pub each_of_vec : {A B : Type 0} (f : A → B) (it : IntoIter A Global) (xs : List A) (ys : List B) → into_iter_items it ≡ xs → into_iter_len it ≡ length xs → map f xs ≡ ys → GivesEach into_iter_steps (λ x y. f x ≡ y) it ys
 each_of_vec f it xs ys items len same = subst (λ v. GivesEach into_iter_steps (λ x y. f x ≡ y) it v) same (each_of_vec-all f it xs items len)
@@ -45,6 +46,7 @@ pub each_empty_row : {S Cells : Type 0} (left_of columns_of : S → ℕ) (cells_
     ((cells : Cells) → cells_of cells ≡ columns → wanted cells (replicate columns [])) → (s : S) → left_of s ≡ n → columns_of s ≡ columns →
     GivesEach {A = Cells} (λ s r t. GivesEmptyCells (left_of s) (columns_of s) r cells_of (left_of t) (columns_of t)) wanted s (replicate n (replicate columns []))
 each_empty_row left_of columns_of cells_of wanted columns zero follows s is wide = λ cells t step. omega (arith, step.0, is)
-each_empty_row left_of columns_of cells_of wanted columns (suc n) follows s is wide =
-    (λ t step. omega (arith, step, is),
-        λ cells t step. (follows cells (step.2 ∙ wide), each_empty_row left_of columns_of cells_of wanted columns n follows t (omega (arith, step.0, is)) (step.1 ∙ wide)))
+each_empty_row left_of columns_of cells_of wanted columns (suc n) follows s is wide = (
+  λ t step. omega (arith, step, is),
+  λ cells t step. (follows cells (step.2 ∙ wide), each_empty_row left_of columns_of cells_of wanted columns n follows t (omega (arith, step.0, is)) (step.1 ∙ wide)),
+)

@@ -2,4 +2,5 @@ pub mod Giving
 pub mod Sources
 pub mod Rows
 pub mod Fitting
+pub mod Truncating
 pub mod Cells

@@ -8,6 +8,7 @@ mod limit_columns;
 mod limit_rows;
 mod skip_rows;
 mod sources;
+pub mod truncate_content;
 
 use crate::records::RecordTexts;
 use crate::records::vec_records::Cell;
@@ -17,6 +18,7 @@ pub use limit_columns::{LimitColumns, LimitedRows};
 pub use limit_rows::LimitRows;
 pub use skip_rows::SkipRows;
 use std::alloc::AllocError;
+pub use truncate_content::TruncateContent;
 
 /// A source of rows of cells. An iterator over its rows gives iterators over their cells, and each of
 /// these answers a cell or a refusal for memory.

@@ -52,7 +52,11 @@ impl<I: IntoRecords> Records for IterRecords<I> {
     ghost columns = { λ s. s.count_columns };
 
     fn iter_rows(self) -> FittedRows<I::IterRows> {
-        Fitted::new(self.iter, self.count_columns).iter_rows()
+        let fitted = Fitted {
+            records: self.iter,
+            columns: self.count_columns,
+        };
+        fitted.iter_rows()
     }
 
     fn count_columns(&self) -> usize {

@@ -5,9 +5,9 @@ ghost use Rattle.ansi_str.specs.StyledText.{has_escape};
 ghost use Rattle.grid_records_rows.specs.Cells.{HasLineCount, HasLineWidth, HasWidth, IsLineAt};
 ghost use Rattle.grid_records_rows.specs.Rows.{text_at};
 
+use crate::lines::{line_of, line_width_of};
 use crate::records::RecordTexts;
 use grid_config_values::Position;
-use crate::lines::{line_of, line_width_of};
 use grid_records_measure::{count_lines, get_text_width};
 use std::alloc::{AllocError, Global};
 use std::borrow::CowStr;

@@ -23,7 +23,7 @@ returns-in-None c = λ ps of_text.
     let text = c.args.text.now in
     let same = ArePiecesOf-unique text (pieces text) ps (ArePiecesOf-pieces text) of_text in
     sym no_columns ∙ sym (ap line_measure (left_last (shown_lines (pieces text)) c.loop.counter c.args.index _ []
-        (c.loop.invariant.left ∙ c.split_line.ensures.lines ∙ ap (λ v. strip (pieces c.split_line.result.0.now) ∷ lines_behind v) c.in-None.is) c.loop-test.true))
+    (c.loop.invariant.left ∙ c.split_line.ensures.lines ∙ ap (λ v. strip (pieces c.split_line.result.0.now) ∷ lines_behind v) c.in-None.is) c.loop-test.true))
     ∙ ap (λ (of : List Piece). line_measure (line_at (shown_lines of) c.args.index)) same
 
 pub returns : goal.returns
@@ -33,5 +33,5 @@ returns c = λ ps of_text.
     let same = ArePiecesOf-unique text (pieces text) ps (ArePiecesOf-pieces text) of_text in
     c.get_line_width.ensures (pieces line) (ArePiecesOf-pieces line)
     ∙ sym (ap line_measure (left_at (shown_lines (pieces text)) c.loop.counter c.args.index (strip (pieces line)) [] _
-        (c.loop.invariant.left ∙ c.split_line-2.ensures.lines) c.loop.auto.counter-end c.loop-test.false))
+    (c.loop.invariant.left ∙ c.split_line-2.ensures.lines) c.loop.auto.counter-end c.loop-test.false))
     ∙ ap (λ (of : List Piece). line_measure (line_at (shown_lines of) c.args.index)) same

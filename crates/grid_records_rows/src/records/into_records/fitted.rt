@@ -13,8 +13,8 @@ use std::alloc::AllocError;
 /// and further ones are left out.
 #[derive(Debug, Drop)]
 pub struct Fitted<I> {
-    records: I,
-    columns: usize,
+    pub(crate) records: I,
+    pub(crate) columns: usize,
 }
 
 impl<I: IntoRecords> Fitted<I> {

@@ -5,7 +5,7 @@ use crate::records::vec_records::Cell;
 use std::alloc::{AllocError, Global};
 use std::marker::Model;
 
-/// A cell's text, with what makes its lines quick to find.
+/// A cell's text.
 #[derive(Debug, Drop)]
 pub struct Text {
     text: String,
