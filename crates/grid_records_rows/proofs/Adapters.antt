@@ -1,5 +1,5 @@
 -- What an iterator gives that takes or passes over items of another.
-use Rattle.std.proofs.Common.{◌≡◌, ◌∙◌, ◌≤◌, ◌+◌, ◌-◌, ℕ, zero, suc, List, [], ◌∷◌, ap, arith, drop, length, map, refl, subst, sym, take}
+use Rattle.std.proofs.Common.{◌≡◌, ◌∙◌, ◌≤◌, ◌-◌, ℕ, zero, suc, List, [], ◌∷◌, ap, arith, drop, length, map, refl, subst, sym, take}
 use Rattle.std.proofs.lemmas.List.{length-drop}
 use Rattle.std.specs.Prelude.{MatchOption, None, Option, Some}
 use Rattle.std.specs.Iterator.{Count, IsFinite, SkipsThenYields, Yields, at_most, count_map, count_min}

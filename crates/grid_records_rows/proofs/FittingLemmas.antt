@@ -1,7 +1,6 @@
 -- Rows of as many cells, from rows of any.
-use Rattle.std.proofs.Common.{◌≡◌, ◌∙◌, ◌+◌, ◌-◌, ℕ, zero, suc, Bool, List, [], ◌∷◌, ◌++◌, ap, arith, length, map, refl, replicate, subst, sym, take}
-use Rattle.std.proofs.lemmas.List.{take_all}
-use Rattle.std.specs.Prelude.{Err, IfSome, MatchOption, MatchResult, None, Ok, Option, Result, Some}
+use Rattle.std.proofs.Common.{◌≡◌, ◌∙◌, ◌-◌, ℕ, zero, suc, Bool, List, [], ◌∷◌, ap, arith, length, map, refl, replicate, subst, sym}
+use Rattle.std.specs.Prelude.{Err, IfSome, MatchOption, None, Ok, Option, Result, Some}
 use Rattle.std.specs.Iterator.{Count, at_most}
 use Rattle.grid_records_rows.specs.Cells.{text_or_empty}
 use Rattle.grid_records_rows.specs.Fitting.{AnswersNext, AnswersNone, FitsCell, GivesFitted}

@@ -1,6 +1,6 @@
 -- How an iterator is shown to give a list.
 use Rattle.std.proofs.Common.{◌≡◌, ℕ, List, [], ◌∷◌, ap, arith, length, refl, subst, map, Bool}
-use Rattle.std.specs.Prelude.{MatchOption, MatchResult, None, Ok, Err, Option, Result, Some}
+use Rattle.std.specs.Prelude.{MatchOption, None, Ok, Err, Option, Result, Some}
 use Rattle.std.specs.Iterator.{Count}
 use Rattle.grid_records_rows.specs.Giving.{Gives, GivesEach, IsAnswer}
 use Rattle.grid_records_rows.specs.Sources.{AnswersCell, GivesCellsOf}

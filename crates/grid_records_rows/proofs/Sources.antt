@@ -1,5 +1,5 @@
 -- Iterators of the standard library give their lists.
-use Rattle.std.proofs.Common.{arith, ◌≡◌, ◌∙◌, ℕ, zero, suc, List, [], ◌∷◌, ap, length, map, refl, replicate, Bool, Bor, Global, Iter, subst}
+use Rattle.std.proofs.Common.{arith, ◌≡◌, ◌∙◌, ℕ, zero, suc, List, [], ◌∷◌, ap, length, map, replicate, Bool, Bor, Global, Iter, subst}
 use Rattle.std.specs.Prelude.{Err, MatchResult, Ok, Result}
 use Rattle.std.specs.Array.Iter.{array_into_iter_items, array_steps}
 use Rattle.std.specs.Slice.Iter.{iter_rest, iter_steps}

@@ -1,5 +1,5 @@
 -- Tables of rows that are equally long.
-use Rattle.std.proofs.Common.{rules, arith, ◌≡◌, ◌-◌, ◌<◌, ℕ, suc, List, [], ◌∷◌, ◌++◌, All, ap, map, length, get_or, refl, sym, ◌∙◌, take, replicate, subst, Vec, vec_items, vec_len, slice_set}
+use Rattle.std.proofs.Common.{arith, ◌≡◌, ◌-◌, ℕ, suc, List, [], ◌∷◌, All, ap, map, length, get_or, refl, sym, ◌∙◌, take, replicate, Vec, vec_items, slice_set}
 use Rattle.std.proofs.lemmas.List.{append-nil, get_or-map, get_or-replicate, length-map, length-replicate, map-set, take_all}
 use Rattle.std.proofs.lemmas.List.Elements.{All-map}
 use Rattle.std.specs.Vec.{with_item}

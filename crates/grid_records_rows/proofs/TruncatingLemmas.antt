@@ -2,7 +2,7 @@
 use Rattle.std.proofs.Common.{◌≡◌, ◌≤◌, ◌<◌, ◌∙◌, ℕ, Bool, true, List, [], ◌∷◌, ap, arith, chars, false, nat_le, map, refl, subst, sym}
 use Rattle.std.proofs.lemmas.Bool.{le-leb, lt-leb}
 use Rattle.std.proofs.lemmas.List.{append_cancel_left}
-use Rattle.std.specs.Prelude.{◌++◌, Err, IfOk, None, Ok, Option, Result, Some}
+use Rattle.std.specs.Prelude.{◌++◌, Err, IfOk, Ok, Option, Result, Some}
 use Rattle.std.specs.Iterator.{Count}
 use Rattle.ansi_scan.specs.Pieces.{pieces}
 use Rattle.ansi_scan.specs.Sequences.{ArePiecesOf, Piece}

@@ -1,5 +1,5 @@
 -- Rows of as many cells.
-use Rattle.std.specs.Prelude.{◌≡◌, ◌+◌, ℕ, Err, List, MatchOption, MatchResult, None, Ok, Option, Result, Some}
+use Rattle.std.specs.Prelude.{◌≡◌, ◌+◌, ℕ, Err, MatchOption, MatchResult, None, Ok, Option, Result, Some}
 
 -- a call gives the cells of the next row, and how many are wanted
 abbrev pub GivesFitted : {S Row Cells : Type 0} → (S → Option Row → S → Type 0) → ℕ → S → Option Cells → (Cells → Option Row) → (Cells → ℕ) → S → Type 0

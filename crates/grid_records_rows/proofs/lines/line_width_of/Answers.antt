@@ -1,5 +1,5 @@
 -- The lines that are shown come off one by one.
-use Rattle.std.proofs.Common.{rules, ◌≡◌, ◌∙◌, ◌∷◌, List, [], ap, sym}
+use Rattle.std.proofs.Common.{rules, ◌∙◌, ◌∷◌, List, [], ap, sym}
 use Rattle.ansi_scan.specs.Sequences.{Piece}
 use Rattle.ansi_scan.specs.Pieces.{pieces}
 use Rattle.ansi_scan.proofs.Existence.{ArePiecesOf-pieces}

@@ -1,5 +1,4 @@
-use Rattle.std.proofs.Common.{rules, false, refl, sym, replicate, []}
-use Rattle.std.proofs.lemmas.List.{get_or-replicate, length-replicate}
+use Rattle.std.proofs.Common.{rules, false, refl, sym}
 use Rattle.std.specs.declared.alloc.AllocError.{AllocError}
 use Rattle.grid_records_rows.proofs.Giving.{gives_list}
 use Rattle.grid_records_rows.proofs.Sources.{each_empty_row, each_empty_text}

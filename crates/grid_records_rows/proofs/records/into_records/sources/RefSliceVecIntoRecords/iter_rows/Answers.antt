@@ -1,6 +1,6 @@
-use Rattle.std.proofs.Common.{rules, map, ap, ◌∙◌, ◌≡◌, vec_items, List, false}
+use Rattle.std.proofs.Common.{rules, map, ap, ◌∙◌, ◌≡◌, vec_items, false}
 use Rattle.std.specs.declared.alloc.AllocError.{AllocError}
-use Rattle.std.specs.Slice.Iter.{iter_rest, iter_steps}
+use Rattle.std.specs.Slice.Iter.{iter_steps}
 use Rattle.grid_records_rows.proofs.Giving.{each_answered, each_becomes}
 use Rattle.grid_records_rows.proofs.Sources.{each_of_slice}
 use Rattle.grid_records_rows.proofs.records.into_records.sources.RefSliceVecIntoRecords.iter_rows.Goals as goal

@@ -1,4 +1,4 @@
-use Rattle.std.proofs.Common.{rules, map, ap, ◌∙◌, ◌≡◌, vec_items, false, refl}
+use Rattle.std.proofs.Common.{rules, map, ◌∙◌, ◌≡◌, vec_items, false, refl}
 use Rattle.std.specs.declared.alloc.AllocError.{AllocError}
 use Rattle.std.specs.Vec.Iter.{into_iter_steps}
 use Rattle.grid_records_rows.proofs.Giving.{each_answered, each_becomes}
