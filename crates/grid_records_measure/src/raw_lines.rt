@@ -13,7 +13,7 @@ use ansi_scan::scan;
 const ESC: u8 = 0x1b;
 
 /// The first line of a text as it stands there, and what stands behind its line feed.
-pub(crate) fn split_line(text: &str) -> (&str, Option<&str>)
+pub fn split_line(text: &str) -> (&str, Option<&str>)
     ensures lines { shown_lines (pieces text.now) ≡ strip (pieces result.0.now) ∷ lines_behind result.1 }
     ensures shorter { IfSome result.1 (λ rest. length rest.now < length text.now) }
 {

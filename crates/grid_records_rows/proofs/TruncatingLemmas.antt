@@ -1,0 +1,92 @@
+-- What is left of the cells of a source.
+use Rattle.std.proofs.Common.{◌≡◌, ◌≤◌, ◌<◌, ◌∙◌, ℕ, Bool, true, List, [], ◌∷◌, ap, arith, chars, false, nat_le, map, refl, subst, sym}
+use Rattle.std.proofs.lemmas.Bool.{le-leb, lt-leb}
+use Rattle.std.proofs.lemmas.List.{append_cancel_left}
+use Rattle.std.specs.Prelude.{◌++◌, Err, IfOk, Ok, Option, Result, Some}
+use Rattle.std.specs.Iterator.{Count}
+use Rattle.ansi_scan.specs.Pieces.{pieces}
+use Rattle.ansi_scan.specs.Sequences.{ArePiecesOf, Piece}
+use Rattle.ansi_scan.proofs.Existence.{ArePiecesOf-pieces}
+use Rattle.ansi_str.specs.StyledText.{strip}
+use Rattle.grid_records_measure.specs.Cutting.{IsCutAt, cut_bytes}
+use Rattle.grid_records_measure.specs.Filling.{behind_front, front}
+use Rattle.grid_records_measure.proofs.FillingLemmas.{IsLongestFront-front, IsLongestFront-unique}
+use Rattle.grid_records_rows.specs.Giving.{Gives, GivesEach, IsAnswer}
+use Rattle.grid_records_rows.specs.Truncating.{GivesTruncated, GivesTruncatedRow, IsTruncated, cut_text, next_column, text_of_truncated, text_width, truncated_row, truncated_text}
+use Rattle.grid_records_rows.specs.declared.records.into_records.truncate_content.Truncated.{Truncated}
+
+-- a text has one cut at a width
+pub cut-unique : (width : ℕ) (text bytes : List ℕ) → IsCutAt width (pieces text) bytes → bytes ≡ cut_text width text
+cut-unique width text bytes cut =
+    let characters = chars (strip (pieces text)) in
+    let longest = IsLongestFront-front width characters in
+    let kept = IsLongestFront-unique width characters cut.0 cut.1 (front width 0 characters) (behind_front width 0 characters) cut.2 longest in
+    let left = append_cancel_left (front width 0 characters) cut.1 (behind_front width 0 characters)
+    (ap (λ v. v ++ cut.1) (sym kept) ∙ sym cut.2.parted ∙ longest.parted) in
+    cut.3 ∙ ap (λ v. cut_bytes width (pieces text) v cut.1) kept ∙ ap (λ v. cut_bytes width (pieces text) (front width 0 characters) v) left
+
+tied : {C E : Type 0} (text : C → List ℕ) (may_refuse : Bool) (width : ℕ) (wanted : List ℕ) (given : Result C E) (answer : Result (Truncated C) E) →
+    IsTruncated text width given answer → IsAnswer text may_refuse given wanted → IsAnswer (text_of_truncated text) true answer (truncated_text width wanted)
+tied text may_refuse width wanted (Ok whole) (Ok cell) is same = is ∙ ap (truncated_text width) same
+tied text may_refuse width wanted (Err _) (Ok cell) never same = absurd never
+tied text may_refuse width wanted given (Err _) is same = refl
+
+module _ {S C E D F : Type 0} (steps : S → Option (Result C E) → S → Type 0) (text : C → List ℕ) (may_refuse : Bool) (width : D → ℕ → ℕ) (inside : F → S) (dimension_of : F → D) (column_of : F → ℕ) where
+  each_truncated : (d : D) (column : ℕ) (row : List (List ℕ)) (s : F) → dimension_of s ≡ d → column_of s ≡ column → GivesEach steps (IsAnswer text may_refuse) (inside s) row →
+      GivesEach {A = Result (Truncated C) E} (λ s r t. (dimension_of t ≡ dimension_of s) × GivesTruncated steps text (width (dimension_of s)) (column_of s) (inside s) r (inside t) (column_of t))
+      (IsAnswer (text_of_truncated text) true) s (truncated_row (width d) column row)
+  each_truncated d column [] s same at gives = λ answer t step. gives step.1.1.0 (inside t) step.1.1.1
+  each_truncated d column (wanted ∷ row) s same at gives = (
+    λ t step. gives.0 (inside t) step.1,
+    λ answer t step.
+        let next = gives.1 step.1.1.0 (inside t) step.1.1.1 in
+        let wide : width (dimension_of s) (column_of s) ≡ width d column = ap (λ v. width v (column_of s)) same ∙ ap (width d) at in (
+          subst (λ v. IsAnswer (text_of_truncated text) true answer (truncated_text v wanted)) wide
+              (tied text may_refuse (width (dimension_of s) (column_of s)) wanted step.1.1.0 answer step.1.1.2 next.0),
+          each_truncated d (next_column column) row t (step.0 ∙ same) (step.1.0 ∙ ap next_column at) next.1,
+        ),
+  )
+
+  -- the cells of a row, from its first column on
+  pub gives_truncated : {can : S → Type 0} {left : S → Count} (d : D) (row : List (List ℕ)) (s : F) → dimension_of s ≡ d → column_of s ≡ 0 → Gives can left steps (IsAnswer text may_refuse) (inside s) row →
+      Gives {A = Result (Truncated C) E} (λ s. can (inside s)) (λ s. left (inside s)) (λ s r t. (dimension_of t ≡ dimension_of s) × GivesTruncated steps text (width (dimension_of s)) (column_of s) (inside s) r (inside t) (column_of t))
+      (IsAnswer (text_of_truncated text) true) s (truncated_row (width d) 0 row)
+  gives_truncated d row s same at gives =
+      record { can_next = gives.can_next; ends = gives.ends; each = each_truncated d 0 row s same at gives.each }
+
+-- the rows
+pub each_truncated_row : {R S Row Cells D : Type 0} (steps : S → Option Row → S → Type 0) (inside : R → S) (dimension_in : R → D) (cells_of : Cells → Row) (dimension_of : Cells → D) (column_of : Cells → ℕ)
+    (tie : Row → List (List ℕ) → Type 0) (wanted : Cells → List (List ℕ) → Type 0) (width : ℕ → ℕ) (d : D) →
+    ((cells : Cells) (texts : List (List ℕ)) → tie (cells_of cells) texts → dimension_of cells ≡ d → column_of cells ≡ 0 → wanted cells (truncated_row width 0 texts)) →
+    (s : R) (rows : List (List (List ℕ))) → dimension_in s ≡ d → GivesEach steps tie (inside s) rows →
+    GivesEach (λ s r t. (dimension_in t ≡ dimension_in s) × GivesTruncatedRow steps (dimension_in s) (inside s) r cells_of dimension_of column_of (inside t)) wanted s (map (truncated_row width 0) rows)
+each_truncated_row steps inside dimension_in cells_of dimension_of column_of tie wanted width d follows s [] same gives = λ cells t step. gives (cells_of cells) (inside t) step.1.0
+each_truncated_row steps inside dimension_in cells_of dimension_of column_of tie wanted width d follows s (texts ∷ rows) same gives = (
+  λ t step. gives.0 (inside t) step.1,
+  λ cells t step.
+      let next = gives.1 (cells_of cells) (inside t) step.1.0 in
+      (follows cells texts next.0 (step.1.1 ∙ same) step.1.2, each_truncated_row steps inside dimension_in cells_of dimension_of column_of tie wanted width d follows t rows (step.0 ∙ same) next.1),
+)
+
+-- a text that measures at most so many columns stays
+pub whole_text : (width found : ℕ) (text : List ℕ) → found ≡ text_width text → found ≤ width → text ≡ truncated_text width text
+whole_text width found text is le =
+    let yes : nat_le (text_width text) width ≡ true = le-leb (text_width text) width (omega (arith, is, le)) in
+    rw yes refl
+
+-- and of a wider one the cut is left
+pub cut_is_left : (width found : ℕ) (text shown bytes out : List ℕ) → found ≡ text_width text → width < found → shown ≡ text →
+    ((ps : List Piece) → ArePiecesOf shown ps → IsCutAt width ps bytes) → out ≡ bytes → out ≡ truncated_text width text
+cut_is_left width found text shown bytes out is lt same cut owned =
+    let no : nat_le (text_width text) width ≡ false = lt-leb (text_width text) width (omega (arith, is, lt)) in
+    let left = cut-unique width shown bytes (cut (pieces shown) (ArePiecesOf-pieces shown)) in
+    rw no (owned ∙ left ∙ ap (cut_text width) same)
+
+-- what is left of a cell that came
+pub truncated_next : {S C E : Type 0} (steps : S → Option (Result C E) → S → Type 0) (text : C → List ℕ) (width : ℕ → ℕ) (column found column_then : ℕ) (s t : S) (given : Result C E) (cell : C) (answer : Result (Truncated C) E) →
+    given ≡ Ok cell → steps s (Some given) t → column_then ≡ next_column column → found ≡ width column → IfOk answer (λ out. text_of_truncated text out ≡ truncated_text found (text cell)) →
+    GivesTruncated steps text width column s (Some answer) t column_then
+truncated_next steps text width column found column_then s t given cell (Ok out) was step at wide is =
+    (at, (Ok cell, subst (λ v. steps s (Some v) t) was step, is ∙ ap (λ v. truncated_text v (text cell)) wide))
+truncated_next steps text width column found column_then s t given cell (Err _) was step at wide is =
+    (at, (Ok cell, subst (λ v. steps s (Some v) t) was step, tt))

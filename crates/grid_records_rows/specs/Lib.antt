@@ -1,0 +1,6 @@
+pub mod Giving
+pub mod Sources
+pub mod Rows
+pub mod Fitting
+pub mod Truncating
+pub mod Cells

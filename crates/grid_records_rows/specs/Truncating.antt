@@ -1,0 +1,56 @@
+-- Cells that are cut at the widths of their columns.
+use Rattle.std.specs.Prelude.{◌≡◌, ◌+◌, ◌^◌, ◌-◌, ℕ, List, [], ◌∷◌, MatchOption, MatchResult, None, Option, Result, Some, chars, if◌then◌else◌, map, nat_le, nat_lt, string_bytes}
+use Rattle.ansi_scan.specs.Pieces.{pieces}
+use Rattle.ansi_str.specs.StyledText.{strip}
+use Rattle.grid_records_measure.specs.Cutting.{cut_bytes}
+use Rattle.grid_records_measure.specs.Filling.{behind_front, front}
+use Rattle.grid_records_measure.specs.TextLines.{shown_lines, widest}
+use Rattle.grid_records_rows.specs.declared.records.into_records.truncate_content.Truncated.{Truncated}
+use Rattle.grid_records_rows.specs.declared.records.into_records.truncate_content.Truncated.TheVariants.{Cut, Whole}
+
+-- the columns of the widest line of a text
+abbrev pub text_width : List ℕ → ℕ
+text_width text = widest (shown_lines (pieces text))
+
+-- the cut of a text at a width: its longest front that fits, and a replacement character for each column that is lacking
+abbrev pub cut_text : ℕ → List ℕ → List ℕ
+cut_text width text =
+    let characters = chars (strip (pieces text)) in
+    cut_bytes width (pieces text) (front width 0 characters) (behind_front width 0 characters)
+
+-- the text where it measures at most so many columns, and else its cut
+abbrev pub truncated_text : ℕ → List ℕ → List ℕ
+truncated_text width text = if nat_le (text_width text) width then text else cut_text width text
+
+-- the number of the next column; no number is greater than that of the last that a `usize` counts
+abbrev pub next_column : ℕ → ℕ
+next_column column = if nat_lt column (2 ^ 64 - 1) then column + 1 else column
+
+-- the texts of a row from a column on, each cut at the width of its column
+abbrev pub truncated_row : (ℕ → ℕ) → ℕ → List (List ℕ) → List (List ℕ)
+truncated_row width column [] = []
+truncated_row width column (text ∷ row) = truncated_text (width column) text ∷ truncated_row width (next_column column) row
+
+abbrev pub truncated_rows : (ℕ → ℕ) → List (List (List ℕ)) → List (List (List ℕ))
+truncated_rows width rows = map (truncated_row width 0) rows
+
+abbrev pub text_of_truncated : {C : Type 0} → (C → List ℕ) → Truncated C → List ℕ
+text_of_truncated text (Whole cell) = text cell
+text_of_truncated text (Cut kept) = string_bytes kept
+
+-- the answer is what is left of the cell that came, or a refusal
+abbrev pub IsTruncated : {C E : Type 0} → (C → List ℕ) → ℕ → Result C E → Result (Truncated C) E → Type 0
+IsTruncated text width given answer =
+    MatchResult answer (λ cell. MatchResult given (λ whole. text_of_truncated text cell ≡ truncated_text width (text whole)) (λ _. ⊥)) (λ _. Unit {0})
+
+-- a call answers what is left of the next cell
+abbrev pub GivesTruncated : {S C E : Type 0} → (S → Option (Result C E) → S → Type 0) → (C → List ℕ) → (ℕ → ℕ) → ℕ → S → Option (Result (Truncated C) E) → S → ℕ → Type 0
+GivesTruncated {C = C} {E = E} steps text width column s found t column_then =
+    MatchOption found (steps s None t)
+    (λ answer. (column_then ≡ next_column column) × ((given : Result C E) × steps s (Some given) t × IsTruncated text (width column) given answer))
+
+-- a call gives the next row, from its first column on
+abbrev pub GivesTruncatedRow : {S Cells D Row : Type 0} → (S → Option Row → S → Type 0) → D → S → Option Cells → (Cells → Row) → (Cells → D) → (Cells → ℕ) → S → Type 0
+GivesTruncatedRow steps dimension s found cells_of dimension_of column_of t =
+    MatchOption found (steps s None t)
+    (λ cells. steps s (Some (cells_of cells)) t × (dimension_of cells ≡ dimension) × (column_of cells ≡ 0))

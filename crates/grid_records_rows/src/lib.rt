@@ -1,0 +1,16 @@
+//! Records of cells with a text: sources of rows, tables of rows, and what shortens them.
+#![tactic(auto)]
+
+pub mod dimension;
+mod lines;
+pub mod records;
+
+pub use dimension::Dimension;
+pub use records::into_records::{IntoRecords, LimitColumns, LimitRows, SkipRows, TruncateContent};
+pub use records::vec_records::{Cell, FromText, Text, VecRecords, are_equally_long};
+pub use records::{
+    EmptyRecords, ExactRecords, IterRecords, PeekableRecords, RecordTexts, Records, RecordsMut,
+};
+
+#[cfg(test)]
+mod tests;

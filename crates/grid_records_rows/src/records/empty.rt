@@ -1,0 +1,118 @@
+//! Rows of empty texts.
+ghost use Rattle.std.specs.Prelude.{◌≡◌, ◌+◌, [], false, replicate};
+ghost use Rattle.std.specs.Iterator.{at_most};
+ghost use Rattle.grid_records_rows.specs.Sources.{GivesEmptyCells, GivesEmptyText};
+
+use crate::records::into_records::IntoRecords;
+use crate::records::{ExactRecords, RecordTexts, Records};
+use std::alloc::AllocError;
+
+/// Rows of empty texts.
+#[derive(Clone, Copy, Debug, Default, PartialEq, Eq)]
+pub struct EmptyRecords {
+    rows: usize,
+    columns: usize,
+}
+
+impl EmptyRecords {
+    /// So many rows of so many empty texts. Takes no memory.
+    pub const fn new(rows: usize, columns: usize) -> EmptyRecords
+        ensures rows { ⟦<EmptyRecords as RecordTexts>⟧.rows result ≡ replicate rows (replicate columns []) }
+        ensures columns { ⟦<EmptyRecords as Records>⟧.columns result ≡ columns }
+    {
+        EmptyRecords { rows, columns }
+    }
+}
+
+impl RecordTexts for EmptyRecords {
+    ghost rows = { λ s. replicate s.rows (replicate s.columns []) };
+
+    ghost may_refuse = { λ _. false };
+}
+
+impl IntoRecords for EmptyRecords {
+    type Cell = &'static str;
+
+    type IterColumns = EmptyCells;
+
+    type IterRows = EmptyRows;
+
+    fn iter_rows(self) -> EmptyRows {
+        EmptyRows {
+            left: self.rows,
+            columns: self.columns,
+        }
+    }
+}
+
+impl Records for EmptyRecords {
+    type Iter = EmptyRecords;
+
+    ghost columns = { λ s. s.columns };
+
+    fn iter_rows(self) -> EmptyRows {
+        EmptyRows {
+            left: self.rows,
+            columns: self.columns,
+        }
+    }
+
+    fn count_columns(&self) -> usize {
+        self.columns
+    }
+
+    fn hint_count_rows(&self) -> Option<usize> {
+        Some(self.rows)
+    }
+}
+
+impl ExactRecords for EmptyRecords {
+    fn count_rows(&self) -> usize {
+        self.rows
+    }
+}
+
+/// The rows that are left.
+#[derive(Clone, Copy, Debug)]
+pub struct EmptyRows {
+    left: usize,
+    columns: usize,
+}
+
+impl Iterator for EmptyRows {
+    type Item = EmptyCells;
+
+    ghost next_gives = { λ s r t. GivesEmptyCells s.left s.columns r (λ cells. cells.left) t.left t.columns };
+
+    ghost remaining = { λ s. at_most s.left };
+
+    fn next(&mut self) -> Option<EmptyCells> {
+        if self.left == 0 {
+            return None;
+        }
+        self.left -= 1;
+        Some(EmptyCells { left: self.columns })
+    }
+}
+
+/// The empty texts that are left of a row.
+#[derive(Clone, Copy, Debug)]
+pub struct EmptyCells {
+    left: usize,
+}
+
+impl Iterator for EmptyCells {
+    type Item = Result<&'static str, AllocError>;
+
+    ghost next_gives = { λ s r t. GivesEmptyText s.left r t.left };
+
+    ghost remaining = { λ s. at_most s.left };
+
+    fn next(&mut self) -> Option<Result<&'static str, AllocError>> {
+        if self.left == 0 {
+            return None;
+        }
+        self.left -= 1;
+        Some(Ok(""))
+    }
+}

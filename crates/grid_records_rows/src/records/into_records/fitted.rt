@@ -1,0 +1,112 @@
+//! The rows of a source, each of as many cells.
+ghost use Rattle.std.specs.Prelude.{◌≡◌, IfSome, OnSome};
+ghost use Rattle.std.specs.Iterator.{IsFinite, at_most};
+ghost use Rattle.grid_records_rows.specs.Fitting.{GivesFitted, FitsCell};
+ghost use Rattle.grid_records_rows.specs.Rows.{fitted};
+
+use crate::records::RecordTexts;
+use crate::records::into_records::IntoRecords;
+use crate::records::vec_records::Cell;
+use std::alloc::AllocError;
+
+/// The rows of a source, each of as many cells: a cell that a row lacks is `None`, whose text is empty,
+/// and further ones are left out.
+#[derive(Debug, Drop)]
+pub struct Fitted<I> {
+    pub(crate) records: I,
+    pub(crate) columns: usize,
+}
+
+impl<I: IntoRecords> Fitted<I> {
+    /// So many cells of each row. Takes no memory.
+    pub fn new(records: I, columns: usize) -> Fitted<I>
+        ensures rows { ⟦<Fitted<I> as RecordTexts>⟧.rows result ≡ fitted columns (I.RecordTexts.rows records) }
+        ensures refuses { ⟦<Fitted<I> as RecordTexts>⟧.may_refuse result ≡ I.RecordTexts.may_refuse records }
+    {
+        Fitted { records, columns }
+    }
+}
+
+impl<I: IntoRecords> RecordTexts for Fitted<I> {
+    ghost rows = { λ s. fitted s.columns (I.RecordTexts.rows s.records) };
+
+    ghost may_refuse = { λ s. I.RecordTexts.may_refuse s.records };
+}
+
+impl<I: IntoRecords> IntoRecords for Fitted<I> {
+    type Cell = Option<I::Cell>;
+
+    type IterColumns = FittedCells<I::IterColumns>;
+
+    type IterRows = FittedRows<I::IterRows>;
+
+    fn iter_rows(self) -> FittedRows<I::IterRows> {
+        FittedRows {
+            rows: self.records.iter_rows(),
+            columns: self.columns,
+        }
+    }
+}
+
+/// Rows of which each has as many cells.
+#[derive(Debug, Drop)]
+pub struct FittedRows<I> {
+    rows: I,
+    columns: usize,
+}
+
+impl<C, I: Iterator> Iterator for FittedRows<I>
+where
+    I::Item: Iterator<Item = Result<C, AllocError>>,
+{
+    type Item = FittedCells<I::Item>;
+
+    ghost can_next = { λ s. I.can_next s.rows };
+
+    ghost next_gives = { λ s r t. (t.columns ≡ s.columns) × GivesFitted I.next_gives s.columns s.rows r (λ cells. cells.cells) (λ cells. cells.left) t.rows };
+
+    ghost remaining = { λ s. I.remaining s.rows };
+
+    fn next(&mut self) -> Option<FittedCells<I::Item>> {
+        let cells = self.rows.next()?;
+        Some(FittedCells {
+            cells: Some(cells),
+            left: self.columns,
+        })
+    }
+}
+
+/// As many cells of a row, `None` for each that it lacks.
+#[derive(Debug, Drop)]
+pub struct FittedCells<I> {
+    cells: Option<I>,
+    left: usize,
+}
+
+impl<C, I: Iterator<Item = Result<C, AllocError>>> Iterator for FittedCells<I> {
+    type Item = Result<Option<C>, AllocError>;
+
+    ghost can_next = { λ s. IfSome s.cells I.can_next };
+
+    ghost next_gives = { λ s r t. FitsCell I.next_gives s.cells s.left r t.cells t.left };
+
+    ghost remaining = { λ s. at_most s.left };
+
+    fn next(&mut self) -> Option<Result<Option<C>, AllocError>> {
+        if self.left == 0 {
+            return None;
+        }
+        self.left -= 1;
+        let Some(cells) = &mut self.cells else {
+            return Some(Ok(None));
+        };
+        match cells.next() {
+            Some(Ok(cell)) => Some(Ok(Some(cell))),
+            Some(Err(refusal)) => Some(Err(refusal)),
+            None => {
+                self.cells = None;
+                Some(Ok(None))
+            }
+        }
+    }
+}

@@ -1,0 +1,69 @@
+//! The first cells of each row of a source.
+ghost use Rattle.std.specs.Prelude.{◌≡◌, map, take};
+ghost use Rattle.grid_records_rows.specs.Sources.{GivesTaken};
+
+use crate::records::RecordTexts;
+use crate::records::into_records::IntoRecords;
+use std::iter::Take;
+
+/// The first cells of each row of a source.
+#[derive(Debug, Drop)]
+pub struct LimitColumns<I> {
+    records: I,
+    limit: usize,
+}
+
+impl<I: IntoRecords> LimitColumns<I> {
+    /// As many cells of each row of the source, or all where it has fewer. Takes no memory.
+    pub fn new(records: I, limit: usize) -> LimitColumns<I>
+        ensures { ⟦<LimitColumns<I> as RecordTexts>⟧.rows result ≡ map (take limit) (I.RecordTexts.rows records) }
+    {
+        LimitColumns { records, limit }
+    }
+}
+
+impl<I: IntoRecords> RecordTexts for LimitColumns<I> {
+    ghost rows = { λ s. map (take s.limit) (I.RecordTexts.rows s.records) };
+
+    ghost may_refuse = { λ s. I.RecordTexts.may_refuse s.records };
+}
+
+impl<I: IntoRecords> IntoRecords for LimitColumns<I> {
+    type Cell = I::Cell;
+
+    type IterColumns = Take<I::IterColumns>;
+
+    type IterRows = LimitedRows<I::IterRows>;
+
+    fn iter_rows(self) -> LimitedRows<I::IterRows> {
+        LimitedRows {
+            rows: self.records.iter_rows(),
+            limit: self.limit,
+        }
+    }
+}
+
+/// Rows of which the first cells are given.
+#[derive(Debug, Drop)]
+pub struct LimitedRows<I> {
+    rows: I,
+    limit: usize,
+}
+
+impl<I: Iterator> Iterator for LimitedRows<I>
+where
+    I::Item: Iterator,
+{
+    type Item = Take<I::Item>;
+
+    ghost can_next = { λ s. I.can_next s.rows };
+
+    ghost next_gives = { λ s r t. (t.limit ≡ s.limit) × GivesTaken I.next_gives s.limit s.rows r t.rows };
+
+    ghost remaining = { λ s. I.remaining s.rows };
+
+    fn next(&mut self) -> Option<Take<I::Item>> {
+        let cells = self.rows.next()?;
+        Some(cells.take(self.limit))
+    }
+}

@@ -1,0 +1,157 @@
+//! The cells of a source, cut at the widths of their columns.
+ghost use Rattle.std.specs.Prelude.{◌≡◌, IfOk, true};
+ghost use Rattle.grid_records_rows.specs.Truncating.{GivesTruncated, GivesTruncatedRow, next_column, text_of_truncated, truncated_rows, truncated_text};
+
+use crate::dimension::Dimension;
+use crate::records::RecordTexts;
+use crate::records::into_records::IntoRecords;
+use crate::records::vec_records::Cell;
+use grid_records_measure::cut_width;
+use std::alloc::{AllocError, Global};
+
+/// The cells of a source, each cut at the width of its column where it measures more. A cell is cut when
+/// it is read, and may then be refused for memory.
+#[derive(Debug, Drop)]
+pub struct TruncateContent<I, D> {
+    alloc: Global,
+    records: I,
+    dimension: D,
+}
+
+impl<I: IntoRecords, D: Dimension + Copy> TruncateContent<I, D> {
+    /// The cells of the source, cut at these widths. Takes no memory itself.
+    pub fn new(alloc: Global, records: I, dimension: D) -> TruncateContent<I, D>
+        ensures { ⟦<TruncateContent<I, D> as RecordTexts>⟧.rows result ≡ truncated_rows (D.width dimension) (I.RecordTexts.rows records) }
+    {
+        TruncateContent {
+            alloc,
+            records,
+            dimension,
+        }
+    }
+}
+
+impl<I: IntoRecords, D: Dimension + Copy> RecordTexts for TruncateContent<I, D> {
+    ghost rows = { λ s. truncated_rows (D.width s.dimension) (I.RecordTexts.rows s.records) };
+
+    ghost may_refuse = { λ _. true };
+}
+
+impl<I: IntoRecords, D: Dimension + Copy> IntoRecords for TruncateContent<I, D> {
+    type Cell = Truncated<I::Cell>;
+
+    type IterColumns = TruncatedCells<I::IterColumns, D>;
+
+    type IterRows = TruncatedRows<I::IterRows, D>;
+
+    fn iter_rows(self) -> TruncatedRows<I::IterRows, D> {
+        TruncatedRows {
+            alloc: self.alloc,
+            rows: self.records.iter_rows(),
+            dimension: self.dimension,
+        }
+    }
+}
+
+/// A cell as it came, or what is left of its text.
+#[derive(Debug, Drop)]
+pub enum Truncated<C> {
+    /// The cell as it came.
+    Whole(C),
+    /// The front of its text.
+    Cut(String),
+}
+
+impl<C: Cell> Cell for Truncated<C> {
+    ghost text = { λ cell. text_of_truncated C.text cell };
+
+    fn text(&self) -> &str {
+        match self {
+            Truncated::Whole(cell) => cell.text(),
+            Truncated::Cut(text) => text.as_str(),
+        }
+    }
+}
+
+/// The cell, cut where it measures more than this width.
+fn truncate<C: Cell>(alloc: Global, cell: C, width: usize) -> Result<Truncated<C>, AllocError>
+    ensures { IfOk result (λ out. text_of_truncated C.text out ≡ truncated_text width (C.text cell)) }
+{
+    if cell.width() <= width {
+        return Ok(Truncated::Whole(cell));
+    }
+    let cut = cut_width(alloc, cell.text(), width)?.into_owned(alloc)?;
+    Ok(Truncated::Cut(cut))
+}
+
+/// Rows whose cells are cut.
+#[derive(Debug, Drop)]
+pub struct TruncatedRows<I, D> {
+    alloc: Global,
+    rows: I,
+    dimension: D,
+}
+
+impl<C: Cell, D: Dimension + Copy, I: Iterator> Iterator for TruncatedRows<I, D>
+where
+    I::Item: Iterator<Item = Result<C, AllocError>>,
+{
+    type Item = TruncatedCells<I::Item, D>;
+
+    ghost can_next = { λ s. I.can_next s.rows };
+
+    ghost next_gives = { λ s r t. (t.dimension ≡ s.dimension) × GivesTruncatedRow I.next_gives s.dimension s.rows r (λ cells. cells.cells) (λ cells. cells.dimension) (λ cells. cells.column) t.rows };
+
+    ghost remaining = { λ s. I.remaining s.rows };
+
+    fn next(&mut self) -> Option<TruncatedCells<I::Item, D>> {
+        let cells = self.rows.next()?;
+        Some(TruncatedCells {
+            alloc: self.alloc,
+            cells,
+            dimension: self.dimension,
+            column: 0,
+        })
+    }
+}
+
+/// The cells of a row, cut.
+#[derive(Debug, Drop)]
+pub struct TruncatedCells<I, D> {
+    alloc: Global,
+    cells: I,
+    dimension: D,
+    column: usize,
+}
+
+impl<C: Cell, D: Dimension + Copy, I: Iterator<Item = Result<C, AllocError>>> Iterator
+    for TruncatedCells<I, D> {
+    type Item = Result<Truncated<C>, AllocError>;
+
+    ghost can_next = { λ s. I.can_next s.cells };
+
+    ghost next_gives = { λ s r t. (t.dimension ≡ s.dimension) × GivesTruncated I.next_gives C.text (D.width s.dimension) s.column s.cells r t.cells t.column };
+
+    ghost remaining = { λ s. I.remaining s.cells };
+
+    fn next(&mut self) -> Option<Result<Truncated<C>, AllocError>> {
+        let answer = self.cells.next()?;
+        let column = self.column;
+        self.column = next_column(column);
+        match answer {
+            Ok(cell) => Some(truncate(self.alloc, cell, self.dimension.get_width(column))),
+            Err(refusal) => Some(Err(refusal)),
+        }
+    }
+}
+
+/// The number of the next column; no number is greater than the greatest.
+fn next_column(column: usize) -> usize
+    ensures { result ≡ next_column column }
+{
+    if column < usize::MAX {
+        column + 1
+    } else {
+        column
+    }
+}

@@ -1,0 +1,69 @@
+//! A source of rows with a column count.
+ghost use Rattle.std.specs.Prelude.{◌≡◌};
+
+use crate::records::into_records::IntoRecords;
+use crate::records::into_records::fitted::{Fitted, FittedRows};
+use crate::records::{RecordTexts, Records};
+
+/// A source of rows with a column count, and a hint how many rows it has.
+#[derive(Debug, Drop)]
+pub struct IterRecords<I> {
+    iter: I,
+    count_columns: usize,
+    count_rows: Option<usize>,
+}
+
+impl<I: IntoRecords> IterRecords<I> {
+    /// The rows of the source, so many columns, and the hint. Takes no memory.
+    pub fn new(iter: I, count_columns: usize, count_rows: Option<usize>) -> IterRecords<I>
+        ensures rows { ⟦<IterRecords<I> as RecordTexts>⟧.rows result ≡ I.RecordTexts.rows iter }
+        ensures columns { ⟦<IterRecords<I> as Records>⟧.columns result ≡ count_columns }
+        ensures refuses { ⟦<IterRecords<I> as RecordTexts>⟧.may_refuse result ≡ I.RecordTexts.may_refuse iter }
+    {
+        IterRecords {
+            iter,
+            count_columns,
+            count_rows,
+        }
+    }
+}
+
+impl<I: IntoRecords> RecordTexts for IterRecords<I> {
+    ghost rows = { λ s. I.RecordTexts.rows s.iter };
+
+    ghost may_refuse = { λ s. I.RecordTexts.may_refuse s.iter };
+}
+
+impl<I: IntoRecords> IntoRecords for IterRecords<I> {
+    type Cell = I::Cell;
+
+    type IterColumns = I::IterColumns;
+
+    type IterRows = I::IterRows;
+
+    fn iter_rows(self) -> I::IterRows {
+        self.iter.iter_rows()
+    }
+}
+
+impl<I: IntoRecords> Records for IterRecords<I> {
+    type Iter = Fitted<I>;
+
+    ghost columns = { λ s. s.count_columns };
+
+    fn iter_rows(self) -> FittedRows<I::IterRows> {
+        let fitted = Fitted {
+            records: self.iter,
+            columns: self.count_columns,
+        };
+        fitted.iter_rows()
+    }
+
+    fn count_columns(&self) -> usize {
+        self.count_columns
+    }
+
+    fn hint_count_rows(&self) -> Option<usize> {
+        self.count_rows
+    }
+}
