@@ -1,0 +1,3 @@
+pub mod Estimates
+pub mod Totals
+pub mod Worked
