@@ -1,0 +1,3 @@
+pub mod ShareLemmas
+pub mod Growing
+pub mod MeetLemmas

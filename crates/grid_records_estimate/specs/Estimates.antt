@@ -55,7 +55,7 @@ boundaries_within has_boundary need = length (filter has_boundary (range_with_le
 abbrev pub with_shares : ℕ → List ℕ → List ℕ
 with_shares n [] = []
 with_shares n (size ∷ sizes) =
-    let count = 1 + length sizes in
+    let count = length (size ∷ sizes) in
     (size + n / count + n % count) ∷ map (λ other. other + n / count) sizes
 
 -- the sizes of a need's tracks, which get what they and the boundaries between them lack

@@ -1,3 +1,4 @@
 pub mod Estimates
 pub mod Totals
 pub mod Worked
+pub mod Collecting

@@ -3,5 +3,6 @@
 
 pub mod laws;
 mod need;
+mod shares;
 
 pub use need::Need;
