@@ -1,3 +1,11 @@
 pub mod ShareLemmas
 pub mod Growing
 pub mod MeetLemmas
+pub mod CollectLemmas
+pub mod Each
+pub mod Order
+pub mod Totalling
+pub mod Counting
+pub mod Enumerated
+pub mod Singles
+pub mod FinishLemmas

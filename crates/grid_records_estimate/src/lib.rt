@@ -1,8 +1,10 @@
 //! Estimates of the widths and heights of a table's cells, and their totals.
 #![tactic(auto)]
 
+mod collector;
 pub mod laws;
 mod need;
 mod shares;
 
+pub use collector::Collector;
 pub use need::Need;
