@@ -1,0 +1,4 @@
+pub mod Giving
+pub mod Loops
+pub mod Sources
+pub mod Tables

@@ -1,0 +1,38 @@
+-- Tables of rows that are equally long.
+use Rattle.std.proofs.Common.{rules, arith, ◌≡◌, ◌-◌, ◌<◌, ℕ, suc, List, [], ◌∷◌, ◌++◌, All, ap, map, length, get_or, refl, sym, ◌∙◌, take, replicate, subst, Vec, vec_items, vec_len, slice_set}
+use Rattle.std.proofs.lemmas.List.{append-nil, get_or-map, length-map, map-set, take_all}
+use Rattle.std.proofs.lemmas.List.Elements.{All-map}
+use Rattle.std.specs.Vec.{with_item}
+use Rattle.grid_config_values.specs.declared.Position.{Position}
+use Rattle.grid_records_rows.specs.Rows.{IsInside, fitted, fitted_row, row_at, with_text}
+use Rattle.grid_records_rows.specs.Sources.{AreEquallyLong, columns_of, texts_of_rows}
+
+-- a row of so many texts is fitted already
+fitted_row-same : (row : List (List ℕ)) (n : ℕ) → length row ≡ n → fitted_row n row ≡ row
+fitted_row-same row n long =
+    let all : take n row ≡ row = take_all n row (omega arith) in
+    let none : n - length row ≡ 0 = omega arith in
+    rw (all, none) (append-nil row)
+
+fitted-same : (rows : List (List (List ℕ))) (n : ℕ) → All (λ row. length row ≡ n) rows → fitted n rows ≡ rows
+fitted-same [] n long = refl
+fitted-same (row ∷ rows) n long =
+    rw (fitted_row-same row n (long 0 row (omega arith))) (ap (λ v. row ∷ v) (fitted-same rows n (λ k d lt. long (suc k) d (omega arith))))
+
+-- equally long rows are fitted already
+pub fitted_table : {T Z : Type 0} (text : T → List ℕ) (rows : List (Vec T Z)) → AreEquallyLong rows → fitted (columns_of rows) (texts_of_rows text rows) ≡ texts_of_rows text rows
+fitted_table {T} {Z} text rows long =
+    let texts = λ (row : Vec T Z). map text (vec_items row) in
+    fitted-same (texts_of_rows text rows) (columns_of rows)
+    (All-map (λ row. length row ≡ columns_of rows) texts rows
+    (λ k d lt. let row = get_or rows k d in length-map (vec_items row) text ∙ sym row.ok.0 ∙ long k d lt))
+
+-- one cell that is set is one text that is set
+pub set_text : {T Z : Type 0} (text : T → List ℕ) (rows : List (Vec T Z)) (pos : Position) (row : Vec T Z) (cell : T) →
+    row ≡ get_or rows pos.row row → IsInside (texts_of_rows text rows) pos →
+    texts_of_rows text (slice_set rows pos.row (with_item row pos.col cell)) ≡ with_text (texts_of_rows text rows) pos (text cell)
+set_text {T} {Z} text rows pos row cell is inside =
+    let texts = λ (row : Vec T Z). map text (vec_items row) in
+    let at : row_at (texts_of_rows text rows) pos.row ≡ texts row = get_or-map texts rows pos.row row [] (omega (arith, inside.0, length-map rows texts)) ∙ ap texts (sym is) in
+    map-set texts rows pos.row (with_item row pos.col cell)
+    ∙ ap (λ v. slice_set (texts_of_rows text rows) pos.row v) (map-set text (vec_items row) pos.col cell ∙ ap (λ v. slice_set v pos.col (text cell)) (sym at))

@@ -1,0 +1,4 @@
+pub mod Giving
+pub mod Sources
+pub mod Rows
+pub mod Cells

@@ -1,0 +1,11 @@
+//! Records with a row count.
+ghost use Rattle.std.specs.Prelude.{◌≡◌, length};
+
+use crate::records::RecordTexts;
+
+/// Records with a row count.
+pub trait ExactRecords: RecordTexts {
+    /// How many rows there are.
+    fn count_rows(&self) -> usize
+        ensures { result ≡ length (Self.rows self.now) };
+}

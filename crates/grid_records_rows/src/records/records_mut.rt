@@ -1,0 +1,15 @@
+//! Records whose texts can be set.
+ghost use Rattle.std.specs.Prelude.{◌≡◌};
+ghost use Rattle.grid_records_rows.specs.Rows.{IsInside, with_text};
+
+use crate::records::RecordTexts;
+use crate::records::vec_records::Text;
+use grid_config_values::Position;
+
+/// Records whose texts can be set.
+pub trait RecordsMut: RecordTexts {
+    /// Sets the text of the cell at this place, and no other. Takes no memory.
+    fn set(&mut self, pos: Position, text: Text)
+        requires { IsInside (Self.rows self.old) pos }
+        ensures { Self.rows self.new ≡ with_text (Self.rows self.old) pos text };
+}

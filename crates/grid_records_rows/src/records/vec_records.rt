@@ -1,0 +1,95 @@
+//! Rows in vectors.
+ghost use Rattle.std.specs.Prelude.{◌≡◌, ◌↔◌, IsTrue, List, false, length};
+ghost use Rattle.grid_records_rows.specs.Sources.{AreEquallyLong, columns_of, texts_of_rows};
+
+pub mod cell;
+pub mod text;
+
+use crate::records::into_records::{GivenRows, IntoRecords};
+use crate::records::{ExactRecords, PeekableRecords, RecordTexts, Records, RecordsMut};
+pub use cell::Cell;
+use grid_config_values::Position;
+use std::slice;
+pub use text::{FromText, Text};
+
+/// Rows in vectors, each of as many cells.
+#[derive(Debug, Drop)]
+pub struct VecRecords<T> {
+    rows: Vec<Vec<T>>,
+    ghost equally_long: { AreEquallyLong rows.items },
+}
+
+/// Whether all rows have as many cells. Takes no memory.
+pub fn are_equally_long<T>(rows: &[Vec<T>]) -> bool
+    ensures { IsTrue result ↔ AreEquallyLong rows.now }
+{
+    match rows {
+        [] => true,
+        [first, others @ ..] => others.iter().all(|row| row.len() == first.len()),
+    }
+}
+
+impl<T: Cell> VecRecords<T> {
+    /// These rows, on condition that each has as many cells. Takes no memory.
+    pub fn new(rows: Vec<Vec<T>>) -> VecRecords<T>
+        requires { AreEquallyLong rows.items }
+        ensures { ⟦<VecRecords<T> as RecordTexts>⟧.rows result ≡ texts_of_rows T.text rows.items }
+    {
+        VecRecords { rows }
+    }
+}
+
+impl<T: Cell> RecordTexts for VecRecords<T> {
+    ghost rows = { λ records. texts_of_rows T.text records.rows.items };
+
+    ghost may_refuse = { λ _. false };
+}
+
+impl<T: Cell> ExactRecords for VecRecords<T> {
+    fn count_rows(&self) -> usize {
+        self.rows.len()
+    }
+}
+
+impl<T: Cell> PeekableRecords for VecRecords<T> {
+    fn get_text(&self, pos: Position) -> &str {
+        let Some(row) = self.rows.get(pos.row) else {
+            return "";
+        };
+        match row.get(pos.col) {
+            Some(cell) => cell.text(),
+            None => "",
+        }
+    }
+}
+
+impl<T: FromText> RecordsMut for VecRecords<T> {
+    fn set(&mut self, pos: Position, text: Text) {
+        let row = &mut self.rows[pos.row];
+        row[pos.col] = T::from_text(text);
+    }
+}
+
+impl<'a, T: Cell> RecordTexts for &'a VecRecords<T> {
+    ghost rows = { λ records. texts_of_rows T.text records.now.rows.items };
+
+    ghost may_refuse = { λ _. false };
+}
+
+impl<'a, T: Cell> Records for &'a VecRecords<T> {
+    type Iter = &'a [Vec<T>];
+
+    ghost columns = { λ records. columns_of records.now.rows.items };
+
+    fn iter_rows(self) -> GivenRows<slice::Iter<'a, Vec<T>>> {
+        self.rows.as_slice().iter_rows()
+    }
+
+    fn count_columns(&self) -> usize {
+        self.rows.first().map_or(0, |row| row.len())
+    }
+
+    fn hint_count_rows(&self) -> Option<usize> {
+        Some(self.rows.len())
+    }
+}
