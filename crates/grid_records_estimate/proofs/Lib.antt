@@ -9,3 +9,6 @@ pub mod Counting
 pub mod Enumerated
 pub mod Singles
 pub mod FinishLemmas
+pub mod Visibility
+pub mod ReadLemmas
+pub mod TableLemmas

@@ -2,3 +2,5 @@ pub mod Estimates
 pub mod Totals
 pub mod Worked
 pub mod Collecting
+pub mod Sizing
+pub mod Reading

@@ -4,7 +4,9 @@
 mod collector;
 pub mod laws;
 mod need;
+mod reading;
 mod shares;
+mod sizing;
 
 pub use collector::Collector;
 pub use need::Need;
