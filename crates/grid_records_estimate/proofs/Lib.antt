@@ -12,3 +12,4 @@ pub mod FinishLemmas
 pub mod Visibility
 pub mod ReadLemmas
 pub mod TableLemmas
+pub mod SizeLemmas

@@ -4,3 +4,4 @@ pub mod Worked
 pub mod Collecting
 pub mod Sizing
 pub mod Reading
+pub mod Sizes

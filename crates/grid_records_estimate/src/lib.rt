@@ -6,6 +6,7 @@ pub mod laws;
 mod need;
 mod reading;
 mod shares;
+mod sizes;
 mod sizing;
 
 pub use collector::Collector;

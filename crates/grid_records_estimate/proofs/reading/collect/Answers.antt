@@ -1,4 +1,4 @@
-use Rattle.std.proofs.Common.{◌≡◌, ◌+◌, ◌-◌, ◌<◌, ◌≤◌, suc, [], ◌∷◌, ◌++◌, drop, length, ap, sym, ◌∙◌, refl, arith, length-append, length-drop}
+use Rattle.std.proofs.Common.{◌≡◌, ◌+◌, [], ◌∷◌, ◌++◌, drop, length, ap, sym, ◌∙◌, refl, arith, length-append}
 use Rattle.std.proofs.lemmas.List.{length-map}
 use Rattle.grid_records_rows.specs.Rows.{fitted, fitted_row}
 use Rattle.grid_records_rows.proofs.Loops.{next_given, none_given}

@@ -1,7 +1,7 @@
-use Rattle.std.proofs.Common.{◌≡◌, ℕ, ◌+◌, List, [], ◌∷◌, ◌++◌, true, false, ap, sym, ◌∙◌, OnOk, rules}
+use Rattle.std.proofs.Common.{◌≡◌, ◌+◌, [], ◌∷◌, ◌++◌, true, ap, sym, ◌∙◌}
 use Rattle.std.specs.List.{flat_map}
 use Rattle.grid_records_estimate.specs.Collecting.{HasCollected}
-use Rattle.grid_records_estimate.specs.Reading.{HasRead, cell_heights, cell_widths}
+use Rattle.grid_records_estimate.specs.Reading.{cell_heights, cell_widths}
 use Rattle.grid_records_estimate.specs.Sizing.{is_visible}
 use Rattle.grid_records_estimate.specs.declared.need.Need.{Need}
 use Rattle.grid_records_estimate.proofs.MeetLemmas.{OnOk-implies}

@@ -1,4 +1,4 @@
-use Rattle.std.proofs.Common.{◌≡◌, ◌+◌, [], ◌∷◌, ◌++◌, drop, length, subst}
+use Rattle.std.proofs.Common.{[], ◌∷◌, ◌++◌, drop, length, subst}
 use Rattle.grid_config_values.specs.declared.position.Position.{Position}
 use Rattle.grid_records_estimate.specs.Reading.{HasRead}
 use Rattle.grid_records_rows.proofs.Loops.{next_text, none_given}

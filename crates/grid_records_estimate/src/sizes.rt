@@ -1,0 +1,71 @@
+//! The least sizes of a table, and its totals.
+ghost use Rattle.std.specs.Prelude.{◌≡◌, ◌^◌, ◌≤◌, IfErr, IfOk};
+ghost use Rattle.grid_records_estimate.specs.Collecting.{PassesMax};
+ghost use Rattle.grid_records_estimate.specs.Sizes.{IsRefusal, table_heights, table_widths};
+ghost use Rattle.grid_records_estimate.specs.Totals.{total as total_of};
+
+use crate::collector::Collector;
+use crate::reading::collect;
+use crate::shares::sum;
+use crate::sizing::Sizing;
+use grid_config::Fault;
+use grid_records_rows::Records;
+use std::alloc::Global;
+
+/// The least widths of a table's columns.
+pub(crate) fn widths<R: Records, S: Sizing>(
+    alloc: Global,
+    records: R,
+    cfg: &S,
+) -> Result<Vec<usize>, Fault>
+    ensures ok { IfOk result (λ sizes. sizes.items ≡ table_widths (S.sizing cfg.now) (R.columns records) (R.rows records)) }
+    ensures refused { IfErr result (λ fault. IsRefusal fault (PassesMax (table_widths (S.sizing cfg.now) (R.columns records) (R.rows records)))) }
+{
+    let columns = records.count_columns();
+    let mut widths = Collector::new(alloc);
+    let mut heights = Collector::new(alloc);
+    let rows = collect(records, cfg, &mut widths, &mut heights)?;
+    if rows == 0 {
+        return Ok(Vec::new(alloc));
+    }
+    widths.finish(columns, cfg.borders().has_vertical())
+}
+
+/// The least heights of a table's rows.
+pub(crate) fn heights<R: Records, S: Sizing>(
+    alloc: Global,
+    records: R,
+    cfg: &S,
+) -> Result<Vec<usize>, Fault>
+    ensures ok { IfOk result (λ sizes. sizes.items ≡ table_heights (S.sizing cfg.now) (R.columns records) (R.rows records)) }
+    ensures refused { IfErr result (λ fault. IsRefusal fault (PassesMax (table_heights (S.sizing cfg.now) (R.columns records) (R.rows records)))) }
+{
+    let columns = records.count_columns();
+    let mut widths = Collector::new(alloc);
+    let mut heights = Collector::new(alloc);
+    let rows = collect(records, cfg, &mut widths, &mut heights)?;
+    if columns == 0 {
+        return Ok(Vec::new(alloc));
+    }
+    heights.finish(rows, cfg.borders().has_horizontal())
+}
+
+/// The sizes with the boundaries that are there and both margins, and 0 where there are no sizes.
+pub(crate) fn total(
+    sizes: &[usize],
+    boundaries: usize,
+    before: usize,
+    behind: usize,
+) -> Result<usize, Fault>
+    ensures ok { IfOk result (λ n. n ≡ total_of sizes.now boundaries before behind) }
+    ensures refused { IfErr result (λ fault. IsRefusal fault (2 ^ 64 ≤ total_of sizes.now boundaries before behind)) }
+{
+    if sizes.is_empty() {
+        return Ok(0);
+    }
+    let edges = boundaries as u128 + before as u128 + behind as u128;
+    match sum(sizes).checked_add(edges) {
+        Some(total) => usize::try_from(total).map_err(|_| Fault::Range),
+        None => Err(Fault::Range),
+    }
+}
