@@ -1,6 +1,6 @@
 -- The sizes of a table that was read.
 use Rattle.std.proofs.Common.{◌≡◌, ℕ, zero, suc, ◌+◌, ◌-◌, ◌^◌, ◌==◌, ◌<◌, ◌≤◌, ◌⊎◌, inl, inr, Bool, true, false, if◌then◌else◌, List, [], ◌∷◌, ◌++◌, map, length, take, replicate, get_or, sum, fold, refl, ap, sym, ◌∙◌, subst, arith, Result, Ok, Err, length-append}
-use Rattle.std.specs.Prelude.{IfErr}
+use Rattle.std.specs.Prelude.{IfErr, IfOk}
 use Rattle.std.specs.List.{range_with_len}
 use Rattle.std.proofs.lemmas.Bool.Decides.{nat_tests}
 use Rattle.std.proofs.lemmas.List.{get_or-map, length-map, length-replicate, length-take}
@@ -146,3 +146,12 @@ module _ (sizing : Sizing) (columns : ℕ) (rows : List (List (List ℕ))) (coun
   unfolding table_heights
   total-heights = total-length (row_axis sizing columns (fitted columns rows)) count before behind
       ∙ ap (λ n. total (track_sizes (row_axis sizing columns (fitted columns rows))) (count n) before behind) (length-map rows (fitted_row columns))
+
+-- the same number by another name
+pub IfOk-same : {E : Type 0} (r : Result ℕ E) (a b : ℕ) → a ≡ b → IfOk r (λ n. n ≡ a) → IfOk r (λ n. n ≡ b)
+IfOk-same (Ok n) a b e h = h ∙ e
+IfOk-same (Err f) a b e h = h
+
+pub IfErr-same : {T : Type 0} (r : Result T Fault) (a b : ℕ) → a ≡ b → IfErr r (λ fault. IsRefusal fault (2 ^ 64 ≤ a)) → IfErr r (λ fault. IsRefusal fault (2 ^ 64 ≤ b))
+IfErr-same (Ok n) a b e h = h
+IfErr-same (Err fault) a b e h = IsRefusal-implies fault (2 ^ 64 ≤ a) (2 ^ 64 ≤ b) (λ high. let P : ℕ → Type 0 = λ n. 2 ^ 64 ≤ n in subst P e high) h

@@ -2,12 +2,18 @@
 #![tactic(auto)]
 
 mod collector;
+mod compact;
+mod iter;
 pub mod laws;
 mod need;
+mod peekable;
 mod reading;
 mod shares;
 mod sizes;
 mod sizing;
 
 pub use collector::Collector;
+pub use compact::CompactGridDimension;
+pub use iter::IterGridDimension;
 pub use need::Need;
+pub use peekable::PeekableGridDimension;

@@ -1,7 +1,7 @@
 //! The least sizes of a table, and its totals.
 ghost use Rattle.std.specs.Prelude.{◌≡◌, ◌^◌, ◌≤◌, IfErr, IfOk};
 ghost use Rattle.grid_records_estimate.specs.Collecting.{PassesMax};
-ghost use Rattle.grid_records_estimate.specs.Sizes.{IsRefusal, table_heights, table_widths};
+ghost use Rattle.grid_records_estimate.specs.Sizes.{IsRefusal, height_total, table_heights, table_widths, width_total};
 ghost use Rattle.grid_records_estimate.specs.Totals.{total as total_of};
 
 use crate::collector::Collector;
@@ -48,6 +48,44 @@ pub(crate) fn heights<R: Records, S: Sizing>(
         return Ok(Vec::new(alloc));
     }
     heights.finish(rows, cfg.borders().has_horizontal())
+}
+
+/// The columns that a table takes with its boundaries and margins.
+pub(crate) fn width_total<R: Records, S: Sizing>(
+    alloc: Global,
+    records: R,
+    cfg: &S,
+) -> Result<usize, Fault>
+    ensures ok { IfOk result (λ n. n ≡ width_total (S.sizing cfg.now) (R.columns records) (R.rows records)) }
+    ensures refused { IfErr result (λ fault. IsRefusal fault (2 ^ 64 ≤ width_total (S.sizing cfg.now) (R.columns records) (R.rows records))) }
+{
+    let sizes = widths(alloc, records, cfg)?;
+    let margin = cfg.margin();
+    total(
+        &sizes,
+        cfg.borders().count_vertical(sizes.len()),
+        margin.left.size,
+        margin.right.size,
+    )
+}
+
+/// The lines that a table takes with its boundaries and margins.
+pub(crate) fn height_total<R: Records, S: Sizing>(
+    alloc: Global,
+    records: R,
+    cfg: &S,
+) -> Result<usize, Fault>
+    ensures ok { IfOk result (λ n. n ≡ height_total (S.sizing cfg.now) (R.columns records) (R.rows records)) }
+    ensures refused { IfErr result (λ fault. IsRefusal fault (2 ^ 64 ≤ height_total (S.sizing cfg.now) (R.columns records) (R.rows records))) }
+{
+    let sizes = heights(alloc, records, cfg)?;
+    let margin = cfg.margin();
+    total(
+        &sizes,
+        cfg.borders().count_horizontal(sizes.len()),
+        margin.top.size,
+        margin.bottom.size,
+    )
 }
 
 /// The sizes with the boundaries that are there and both margins, and 0 where there are no sizes.
