@@ -5,3 +5,4 @@ pub mod Collecting
 pub mod Sizing
 pub mod Reading
 pub mod Sizes
+pub mod Kept

@@ -3,6 +3,7 @@
 
 mod collector;
 mod compact;
+mod estimate;
 mod iter;
 pub mod laws;
 mod need;
@@ -14,6 +15,7 @@ mod sizing;
 
 pub use collector::Collector;
 pub use compact::CompactGridDimension;
+pub use estimate::Estimate;
 pub use iter::IterGridDimension;
 pub use need::Need;
 pub use peekable::PeekableGridDimension;

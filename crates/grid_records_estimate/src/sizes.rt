@@ -1,5 +1,5 @@
 //! The least sizes of a table, and its totals.
-ghost use Rattle.std.specs.Prelude.{◌≡◌, ◌^◌, ◌≤◌, IfErr, IfOk};
+ghost use Rattle.std.specs.Prelude.{◌≡◌, ◌+◌, ◌^◌, ◌<◌, ◌≤◌, ◌⊎◌, IfErr, IfOk, length};
 ghost use Rattle.grid_records_estimate.specs.Collecting.{PassesMax};
 ghost use Rattle.grid_records_estimate.specs.Sizes.{IsRefusal, height_total, table_heights, table_widths, width_total};
 ghost use Rattle.grid_records_estimate.specs.Totals.{total as total_of};
@@ -48,6 +48,37 @@ pub(crate) fn heights<R: Records, S: Sizing>(
         return Ok(Vec::new(alloc));
     }
     heights.finish(rows, cfg.borders().has_horizontal())
+}
+
+/// The least widths and the least heights, of one reading.
+pub(crate) fn both<R: Records, S: Sizing>(
+    alloc: Global,
+    records: R,
+    cfg: &S,
+) -> Result<(Vec<usize>, Vec<usize>), Fault>
+    ensures widths { IfOk result (λ sizes. sizes.0.items ≡ table_widths (S.sizing cfg.now) (R.columns records) (R.rows records)) }
+    ensures heights { IfOk result (λ sizes. sizes.1.items ≡ table_heights (S.sizing cfg.now) (R.columns records) (R.rows records)) }
+    ensures refused { IfErr result (λ fault. IsRefusal fault
+        (PassesMax (table_widths (S.sizing cfg.now) (R.columns records) (R.rows records)) ⊎ PassesMax (table_heights (S.sizing cfg.now) (R.columns records) (R.rows records)))) }
+{
+    let columns = records.count_columns();
+    let mut widths = Collector::new(alloc);
+    let mut heights = Collector::new(alloc);
+    let rows = collect(records, cfg, &mut widths, &mut heights)?;
+    if rows == 0 {
+        return Ok((Vec::new(alloc), Vec::new(alloc)));
+    }
+    if columns == 0 {
+        return Ok((Vec::new(alloc), Vec::new(alloc)));
+    }
+    let columns = match widths.finish(columns, cfg.borders().has_vertical()) {
+        Ok(sizes) => sizes,
+        Err(fault) => return Err(fault),
+    };
+    match heights.finish(rows, cfg.borders().has_horizontal()) {
+        Ok(rows) => Ok((columns, rows)),
+        Err(fault) => Err(fault),
+    }
 }
 
 /// The columns that a table takes with its boundaries and margins.
