@@ -1,5 +1,5 @@
 //! All settings of a table.
-ghost use Rattle.std.specs.Prelude.{◌≡◌, ◌≢◌, ◌<◌, ◌==◌, ◌↔◌, if◌then◌else◌, None, Some, Err, IfErr, OnErr, OnOk, IfOk, IsOk, IsTrue};
+ghost use Rattle.std.specs.Prelude.{◌≡◌, ◌≢◌, ◌<◌, ◌==◌, ◌↔◌, if◌then◌else◌, None, Some, Err, IfErr, IfSome, OnErr, OnOk, IfOk, IsOk, IsTrue};
 ghost use Rattle.grid_config_values.specs.declared.entity.Entity.TheVariants.{Global as EveryCell};
 ghost use Rattle.grid_config_values.specs.declared.fault.Fault.TheVariants.{Memory, Spans as BadSpan};
 ghost use Rattle.grid_config_values.specs.Glyphs.{boundary_count, boundary_kind, has_column_boundary, has_row_boundary};
@@ -402,7 +402,8 @@ impl SpannedConfig {
 
     /// How many columns the cell at this place takes: `None` for one.
     pub fn get_column_span(&self, pos: Position) -> Option<usize>
-        ensures { let n = (extent_at self.now.spans pos).columns in result ≡ (if n == 1 then None else Some n) }
+        ensures value { let n = (extent_at self.now.spans pos).columns in result ≡ (if n == 1 then None else Some n) }
+        ensures several { IfSome result (λ n. 1 < n) }
     {
         self.spans.get_column_span(pos)
     }
@@ -422,7 +423,8 @@ impl SpannedConfig {
 
     /// How many rows the cell at this place takes: `None` for one.
     pub fn get_row_span(&self, pos: Position) -> Option<usize>
-        ensures { let n = (extent_at self.now.spans pos).rows in result ≡ (if n == 1 then None else Some n) }
+        ensures value { let n = (extent_at self.now.spans pos).rows in result ≡ (if n == 1 then None else Some n) }
+        ensures several { IfSome result (λ n. 1 < n) }
     {
         self.spans.get_row_span(pos)
     }

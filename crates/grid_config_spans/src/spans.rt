@@ -1,5 +1,5 @@
 //! The cells that span several columns or rows.
-ghost use Rattle.std.specs.Prelude.{false, ◌≡◌, ◌≢◌, ◌+◌, ◌≤◌, ◌<◌, ◌↔◌, [], if◌then◌else◌, ◌==◌, IsOk, IsTrue, IfErr, OnErr, OnOk, None, Some, Err, Ok};
+ghost use Rattle.std.specs.Prelude.{false, ◌≡◌, ◌≢◌, ◌+◌, ◌≤◌, ◌<◌, ◌↔◌, [], if◌then◌else◌, ◌==◌, IsOk, IsTrue, IfErr, IfSome, OnErr, OnOk, None, Some, Err, Ok};
 ghost use Rattle.grid_config_values.specs.declared.fault.Fault.TheVariants.{Memory, Spans as BadSpan};
 ghost use Rattle.std.specs.List.{All, list_all, list_any};
 ghost use Rattle.std.specs.Map.{lookup};
@@ -55,14 +55,16 @@ impl Spans {
 
     /// How many columns the cell at this place takes: `None` for one.
     pub fn get_column_span(&self, pos: Position) -> Option<usize>
-        ensures { let n = (extent_at self.now pos).columns in result ≡ (if n == 1 then None else Some n) }
+        ensures value { let n = (extent_at self.now pos).columns in result ≡ (if n == 1 then None else Some n) }
+        ensures several { IfSome result (λ n. 1 < n) }
     {
         span_of(self.extent(pos).columns)
     }
 
     /// How many rows the cell at this place takes: `None` for one.
     pub fn get_row_span(&self, pos: Position) -> Option<usize>
-        ensures { let n = (extent_at self.now pos).rows in result ≡ (if n == 1 then None else Some n) }
+        ensures value { let n = (extent_at self.now pos).rows in result ≡ (if n == 1 then None else Some n) }
+        ensures several { IfSome result (λ n. 1 < n) }
     {
         span_of(self.extent(pos).rows)
     }
@@ -218,7 +220,9 @@ fn span(n: usize) -> Result<usize, Fault>
 
 // A number of columns or rows, where it is not one.
 fn span_of(n: usize) -> Option<usize>
-    ensures { result ≡ (if n == 1 then None else Some n) }
+    requires { 0 < n }
+    ensures value { result ≡ (if n == 1 then None else Some n) }
+    ensures several { IfSome result (λ k. 1 < k) }
 {
     if n == 1 { None } else { Some(n) }
 }

@@ -1,0 +1,15 @@
+pub mod ShareLemmas
+pub mod Growing
+pub mod MeetLemmas
+pub mod CollectLemmas
+pub mod Each
+pub mod Order
+pub mod Totalling
+pub mod Counting
+pub mod Enumerated
+pub mod Singles
+pub mod FinishLemmas
+pub mod Visibility
+pub mod ReadLemmas
+pub mod TableLemmas
+pub mod SizeLemmas

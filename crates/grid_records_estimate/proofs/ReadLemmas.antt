@@ -1,0 +1,153 @@
+-- One cell more that was read.
+use Rattle.std.proofs.Common.{◌≡◌, ℕ, suc, ◌+◌, ◌-◌, ◌≤◌, arith, length-drop, Bool, true, false, List, [], ◌∷◌, ◌++◌, if◌then◌else◌, length, drop, refl, ap, sym, ◌∙◌, subst, append_assoc}
+use Rattle.std.specs.List.{flat_map}
+use Rattle.std.proofs.lemmas.List.Concat.{flat_map-append}
+use Rattle.ansi_scan.specs.Pieces.{pieces}
+use Rattle.ansi_scan.specs.Sequences.{ArePiecesOf, Piece}
+use Rattle.ansi_scan.proofs.Existence.{ArePiecesOf-pieces}
+use Rattle.grid_config.specs.Spans.{extent_at}
+use Rattle.grid_config_values.specs.declared.position.Position.{Position}
+use Rattle.grid_records_measure.specs.TextLines.{shown_lines, widest}
+use Rattle.grid_records_estimate.proofs.Order.{same_need}
+use Rattle.grid_records_estimate.specs.Collecting.{Collected, HasCollected}
+use Rattle.grid_records_estimate.specs.Reading.{HasRead, Placed, cell_heights, cell_widths, row_cells, table_cells}
+use Rattle.grid_records_estimate.specs.Sizing.{Sizing, is_visible, place, text_height, text_width}
+use Rattle.grid_records_estimate.specs.declared.need.Need.{Need}
+
+append-nil : {X : Type 0} (xs : List X) → xs ++ [] ≡ xs
+append-nil [] = refl
+append-nil (x ∷ xs) = ap (λ ys. x ∷ ys) (append-nil xs)
+
+one_more : (ask : Placed → List Need) (cells : List Placed) (cell : Placed) → flat_map ask (cells ++ cell ∷ []) ≡ flat_map ask cells ++ ask cell
+one_more ask cells cell = flat_map-append ask cells (cell ∷ []) ∙ ap (λ ys. flat_map ask cells ++ ys) (append-nil (ask cell))
+
+hidden : (ask : Placed → List Need) (kept : Collected) (cells : List Placed) (cell : Placed) → ask cell ≡ [] → HasCollected kept (flat_map ask cells) → HasCollected kept (flat_map ask (cells ++ cell ∷ []))
+hidden ask kept cells cell none h =
+    let P : List Need → Type 0 = λ xs. HasCollected kept xs in
+    subst P (sym (one_more ask cells cell ∙ ap (λ ys. flat_map ask cells ++ ys) none ∙ append-nil (flat_map ask cells))) h
+
+added : (ask : Placed → List Need) (kept : Collected) (cells : List Placed) (cell : Placed) (need : Need) → ask cell ≡ need ∷ [] → HasCollected kept (flat_map ask cells ++ need ∷ []) → HasCollected kept (flat_map ask (cells ++ cell ∷ []))
+added ask kept cells cell need is h =
+    let P : List Need → Type 0 = λ xs. HasCollected kept xs in
+    subst P (sym (one_more ask cells cell ∙ ap (λ ys. flat_map ask cells ++ ys) is)) h
+
+-- a cell that is hidden asks for nothing
+pub HasRead-hidden : (sizing : Sizing) (widths heights : Collected) (before : List Placed) (cell : Placed) → is_visible sizing.spans cell.0 ≡ false
+    → HasRead sizing widths heights before → HasRead sizing widths heights (before ++ cell ∷ [])
+HasRead-hidden sizing widths heights before cell off h = record {
+  widths_are = hidden (cell_widths sizing) widths before cell (rw off refl) h.widths_are;
+  heights_are = hidden (cell_heights sizing) heights before cell (rw off refl) h.heights_are;
+}
+
+pub HasRead-added : (sizing : Sizing) (widths heights : Collected) (before : List Placed) (cell : Placed) (width height : Need)
+    → cell_widths sizing cell ≡ width ∷ [] → cell_heights sizing cell ≡ height ∷ []
+    → HasCollected widths (flat_map (cell_widths sizing) before ++ width ∷ []) → HasCollected heights (flat_map (cell_heights sizing) before ++ height ∷ [])
+    → HasRead sizing widths heights (before ++ cell ∷ [])
+HasRead-added sizing widths heights before cell width height w h ws hs = record {
+  widths_are = added (cell_widths sizing) widths before cell width w ws;
+  heights_are = added (cell_heights sizing) heights before cell height h hs;
+}
+
+text_width-is : (text : List ℕ) (width : ℕ) → ((ps : List Piece) → ArePiecesOf text ps → width ≡ widest (shown_lines ps)) → width ≡ text_width text
+unfolding text_width
+text_width-is text width h = h (pieces text) (ArePiecesOf-pieces text)
+
+text_height-is : (text : List ℕ) (lines : ℕ) → ((ps : List Piece) → ArePiecesOf text ps → lines ≡ length (shown_lines ps)) → lines ≡ text_height text
+unfolding text_height
+text_height-is text lines h = h (pieces text) (ArePiecesOf-pieces text)
+
+three : (a b c x y z : ℕ) → a ≡ x → b ≡ y → c ≡ z → a + b + c ≡ x + y + z
+three a b c x y z e f g = ap (λ n. n + b + c) e ∙ ap (λ n. x + n + c) f ∙ ap (λ n. x + y + n) g
+
+-- what a visible cell asks, by what was measured
+pub asks-width : (sizing : Sizing) (pos : Position) (shown text : List ℕ) (long width left right : ℕ) → is_visible sizing.spans pos ≡ true → shown ≡ text
+    → long ≡ (extent_at sizing.spans pos).columns → ((ps : List Piece) → ArePiecesOf shown ps → width ≡ widest (shown_lines ps))
+    → left ≡ (sizing.padding pos).left.size → right ≡ (sizing.padding pos).right.size
+    → cell_widths sizing (pos, text) ≡ record { length = long; first = pos.col; crossing = pos.row; size = width + left + right } ∷ []
+asks-width sizing pos shown text long width left right on same columns measures l r =
+    let wide : width ≡ text_width text = text_width-is shown width measures ∙ ap text_width same in
+    let size = three width left right (text_width text) (sizing.padding pos).left.size (sizing.padding pos).right.size wide l r in
+    let asked : Need = record { length = (extent_at sizing.spans pos).columns; first = pos.col; crossing = pos.row; size = text_width text + (sizing.padding pos).left.size + (sizing.padding pos).right.size } in
+    let found : Need = record { length = long; first = pos.col; crossing = pos.row; size = width + left + right } in
+    rw on (ap (λ need. need ∷ []) (same_need asked found (sym columns) refl refl (sym size)))
+
+pub asks-height : (sizing : Sizing) (pos : Position) (shown text : List ℕ) (long lines top bottom : ℕ) → is_visible sizing.spans pos ≡ true → shown ≡ text
+    → long ≡ (extent_at sizing.spans pos).rows → ((ps : List Piece) → ArePiecesOf shown ps → lines ≡ length (shown_lines ps))
+    → top ≡ (sizing.padding pos).top.size → bottom ≡ (sizing.padding pos).bottom.size
+    → cell_heights sizing (pos, text) ≡ record { length = long; first = pos.row; crossing = pos.col; size = lines + top + bottom } ∷ []
+asks-height sizing pos shown text long lines top bottom on same rows counts t b =
+    let high : lines ≡ text_height text = text_height-is shown lines counts ∙ ap text_height same in
+    let size = three lines top bottom (text_height text) (sizing.padding pos).top.size (sizing.padding pos).bottom.size high t b in
+    let asked : Need = record { length = (extent_at sizing.spans pos).rows; first = pos.row; crossing = pos.col; size = text_height text + (sizing.padding pos).top.size + (sizing.padding pos).bottom.size } in
+    let found : Need = record { length = long; first = pos.row; crossing = pos.col; size = lines + top + bottom } in
+    rw on (ap (λ need. need ∷ []) (same_need asked found (sym rows) refl refl (sym size)))
+
+-- of a row, these cells were read, and these texts are left
+pub record RowRead (sizing : Sizing) (widths heights : Collected) (before : List Placed) (row column : ℕ) (left texts : List (List ℕ)) : Type 0 where
+  pub done : List Placed
+  pub read : HasRead sizing widths heights (before ++ done)
+  pub rest : done ++ row_cells row column left ≡ row_cells row 0 texts
+
+pub RowRead-none : (sizing : Sizing) (widths heights : Collected) (before : List Placed) (row : ℕ) (texts : List (List ℕ)) → HasRead sizing widths heights before
+    → RowRead sizing widths heights before row 0 texts texts
+RowRead-none sizing widths heights before row texts h = record {
+  done = [];
+  read = let P : List Placed → Type 0 = λ cells. HasRead sizing widths heights cells in subst P (sym (append-nil before)) h;
+  rest = refl;
+}
+
+pub RowRead-more : (sizing : Sizing) (old_widths old_heights widths heights : Collected) (before : List Placed) (row column next : ℕ) (text : List ℕ) (left others texts : List (List ℕ))
+    → (old : RowRead sizing old_widths old_heights before row column left texts) → left ≡ text ∷ others → next ≡ column + 1
+    → HasRead sizing widths heights ((before ++ old.done) ++ (place row column, text) ∷ [])
+    → RowRead sizing widths heights before row next others texts
+RowRead-more sizing old_widths old_heights widths heights before row column next text left others texts old split step h = record {
+  done = old.done ++ (place row column, text) ∷ [];
+  read = let P : List Placed → Type 0 = λ cells. HasRead sizing widths heights cells in subst P (append_assoc before old.done ((place row column, text) ∷ [])) h;
+  rest = ap (λ n. (old.done ++ (place row column, text) ∷ []) ++ row_cells row n others) step
+      ∙ append_assoc old.done ((place row column, text) ∷ []) (row_cells row (column + 1) others)
+      ∙ ap (λ texts. old.done ++ row_cells row column texts) (sym split) ∙ old.rest;
+}
+
+pub RowRead-all : (sizing : Sizing) (widths heights : Collected) (before : List Placed) (row column : ℕ) (left texts : List (List ℕ))
+    → RowRead sizing widths heights before row column left texts → left ≡ [] → HasRead sizing widths heights (before ++ row_cells row 0 texts)
+RowRead-all sizing widths heights before row column left texts r none =
+    let all : r.done ≡ row_cells row 0 texts = sym (append-nil r.done) ∙ ap (λ texts. r.done ++ row_cells row column texts) (sym none) ∙ r.rest in
+    let P : List Placed → Type 0 = λ cells. HasRead sizing widths heights (before ++ cells) in
+    subst P all r.read
+
+-- of a table, these cells were read, and these rows are left
+pub record TableRead (sizing : Sizing) (widths heights : Collected) (row : ℕ) (left rows : List (List (List ℕ))) : Type 0 where
+  pub done : List Placed
+  pub read : HasRead sizing widths heights done
+  pub rest : done ++ table_cells row left ≡ table_cells 0 rows
+
+pub TableRead-more : (sizing : Sizing) (old_widths old_heights widths heights : Collected) (row next : ℕ) (texts : List (List ℕ)) (left others rows : List (List (List ℕ)))
+    → (old : TableRead sizing old_widths old_heights row left rows) → left ≡ texts ∷ others → next ≡ row + 1
+    → HasRead sizing widths heights (old.done ++ row_cells row 0 texts)
+    → TableRead sizing widths heights next others rows
+TableRead-more sizing old_widths old_heights widths heights row next texts left others rows old split step h = record {
+  done = old.done ++ row_cells row 0 texts;
+  read = h;
+  rest = ap (λ n. (old.done ++ row_cells row 0 texts) ++ table_cells n others) step
+      ∙ append_assoc old.done (row_cells row 0 texts) (table_cells (row + 1) others)
+      ∙ ap (λ rest. old.done ++ table_cells row rest) (sym split) ∙ old.rest;
+}
+
+pub TableRead-all : (sizing : Sizing) (widths heights : Collected) (row : ℕ) (left rows : List (List (List ℕ)))
+    → TableRead sizing widths heights row left rows → left ≡ [] → HasRead sizing widths heights (table_cells 0 rows)
+TableRead-all sizing widths heights row left rows r none =
+    let all : r.done ≡ table_cells 0 rows = sym (append-nil r.done) ∙ ap (λ rest. r.done ++ table_cells row rest) (sym none) ∙ r.rest in
+    let P : List Placed → Type 0 = λ cells. HasRead sizing widths heights cells in
+    subst P all r.read
+
+-- where one more is taken, there was one left
+pub more_than : {X : Type 0} (xs : List X) (n m : ℕ) (x : X) (others : List X) → m ≡ n + 1 → drop n xs ≡ x ∷ others → m ≤ length xs
+more_than xs n m x others same split =
+    let long : length (drop n xs) ≡ suc (length others) = ap length split in
+    omega (arith, length-drop n xs)
+
+-- where none is left, all were taken
+pub no_more_than : {X : Type 0} (xs : List X) (n : ℕ) → n ≤ length xs → drop n xs ≡ [] → n ≡ length xs
+no_more_than xs n inside none =
+    let long : length (drop n xs) ≡ 0 = ap length none in
+    omega (arith, length-drop n xs)

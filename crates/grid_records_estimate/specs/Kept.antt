@@ -1,0 +1,16 @@
+-- The sizes that a dimension keeps.
+use Rattle.std.specs.Prelude.{◌≡◌, ℕ, List, []}
+use Rattle.grid_records_estimate.specs.Sizes.{table_heights, table_widths}
+use Rattle.grid_records_estimate.specs.Sizing.{Sizing}
+
+-- of each column and row by its number; behind the last every size is 0
+pub record Kept : Type 0 where
+  pub widths : List ℕ
+  pub heights : List ℕ
+
+abbrev pub none_kept : Kept
+none_kept = record { widths = []; heights = [] }
+
+-- the least sizes of a table
+abbrev pub least_sizes : Sizing → ℕ → List (List (List ℕ)) → Kept
+least_sizes sizing columns rows = record { widths = table_widths sizing columns rows; heights = table_heights sizing columns rows }

@@ -1,0 +1,83 @@
+-- What the sizes of a table follow from, besides its texts: some of its settings. And a table by its columns and by its rows.
+use Rattle.std.specs.Prelude.{ℕ, ◌+◌, ◌==◌, Bool, not, ◌&&◌, List, [], length, if◌then◌else◌}
+use Rattle.std.specs.List.{list_any}
+use Rattle.ansi_scan.specs.Pieces.{pieces}
+use Rattle.grid_config.specs.Compact.{Compact}
+use Rattle.grid_config.specs.Glyphs.{Between, BoundaryKind, boundary_kind, has_column_boundary, has_row_boundary}
+use Rattle.grid_config.specs.Maps.{value_at}
+use Rattle.grid_config.specs.Settings.{Settings}
+use Rattle.grid_config.specs.Spans.{extent_at}
+use Rattle.grid_config_spans.specs.Search.{holds}
+use Rattle.grid_config_spans.specs.declared.extent.Extent.{Extent}
+use Rattle.grid_config_values.specs.Order.{same_place}
+use Rattle.grid_config_values.specs.declared.borders.Borders.{Borders}
+use Rattle.grid_config_values.specs.declared.position.Position.{Position}
+use Rattle.grid_config_values.specs.declared.sides.Indent.{Indent}
+use Rattle.grid_config_values.specs.declared.sides.Sides.{Sides}
+use Rattle.grid_records_measure.specs.TextLines.{shown_lines, widest}
+use Rattle.grid_records_rows.specs.Rows.{text_at}
+use Rattle.grid_records_estimate.specs.Estimates.{Axis}
+
+-- ---- settings
+
+-- the settings that sizes follow from
+pub record Sizing : Type 0 where
+  pub margin : Sides Indent
+  pub borders : Borders ℕ
+  pub padding : Position → Sides Indent
+  pub spans : List (Position × Extent)
+
+abbrev pub sizing_of : Settings → Sizing
+sizing_of settings = record { margin = settings.margin; borders = settings.borders; padding = value_at settings.padding; spans = settings.spans }
+
+-- of a compact table: every cell has the same padding, and none spans several
+abbrev pub compact_sizing : Compact → Sizing
+compact_sizing compact = record { margin = compact.margin; borders = compact.borders; padding = λ _. compact.padding; spans = [] }
+
+-- whether the rectangle of no other cell holds the place: `IsVisible`, as a test
+abbrev pub is_visible : List (Position × Extent) → Position → Bool
+is_visible spans place = not (list_any (λ span. holds span.0 (extent_at spans span.0) place && not (same_place span.0 place)) spans)
+
+-- ---- texts
+
+-- what the widest line of a text measures, and how many lines it has
+unfoldable pub text_width : List ℕ → ℕ
+text_width text = widest (shown_lines (pieces text))
+
+unfoldable pub text_height : List ℕ → ℕ
+text_height text = length (shown_lines (pieces text))
+
+-- ---- the table of these texts, row by row, in so many columns
+
+abbrev pub place : ℕ → ℕ → Position
+place row column = record { row = row; col = column }
+
+-- a cell needs its text and the paddings at its left and right
+abbrev pub width_need : Sizing → Position → List ℕ → ℕ
+width_need sizing pos text = let padding = sizing.padding pos in text_width text + padding.left.size + padding.right.size
+
+-- its lines and the paddings at its top and bottom
+abbrev pub height_need : Sizing → Position → List ℕ → ℕ
+height_need sizing pos text = let padding = sizing.padding pos in text_height text + padding.top.size + padding.bottom.size
+
+-- by its columns, which the rows cross
+abbrev pub column_axis : Sizing → ℕ → List (List (List ℕ)) → Axis
+column_axis sizing columns rows = record {
+  tracks = columns;
+  crossings = length rows;
+  is_visible = λ column row. is_visible sizing.spans (place row column);
+  span = λ column row. (extent_at sizing.spans (place row column)).columns;
+  need = λ column row. width_need sizing (place row column) (text_at rows (place row column));
+  has_boundary = λ j. has_column_boundary sizing.borders (boundary_kind j columns);
+}
+
+-- by its rows, which the columns cross
+abbrev pub row_axis : Sizing → ℕ → List (List (List ℕ)) → Axis
+row_axis sizing columns rows = record {
+  tracks = length rows;
+  crossings = columns;
+  is_visible = λ row column. is_visible sizing.spans (place row column);
+  span = λ row column. (extent_at sizing.spans (place row column)).rows;
+  need = λ row column. height_need sizing (place row column) (text_at rows (place row column));
+  has_boundary = λ i. has_row_boundary sizing.borders (boundary_kind i (length rows));
+}

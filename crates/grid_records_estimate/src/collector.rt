@@ -1,0 +1,118 @@
+//! What the cells of a table need, collected cell by cell, and the sizes that hold them.
+ghost use Rattle.std.specs.Prelude.{◌≡◌, ℕ, ◌+◌, ◌^◌, ◌<◌, ◌==◌, ◌⊎◌, [], ◌∷◌, ◌++◌, Err, IfErr, IfOk, List, OnErr, OnOk, None, Some, if◌then◌else◌, map, max, slice_index};
+ghost use Rattle.std.specs.List.Sorted.{IsPermutation, IsSorted};
+ghost use Rattle.grid_config_values.specs.declared.fault.Fault.TheVariants.{Memory, Range};
+ghost use Rattle.grid_records_estimate.specs.Estimates.{Axis, track_sizes};
+ghost use Rattle.grid_records_estimate.specs.Collecting.{AreFirstBelow, Describes, HasCollected, PassesMax, clipped, is_plain};
+
+use crate::need::Need;
+use crate::shares::meet_all;
+use grid_config_values::Fault;
+use std::alloc::{AllocError, Global};
+use std::marker::Model;
+
+/// What the visible cells of a table need along one axis. Of the cells that take one column it keeps
+/// the greatest need of each; what spans several columns is kept as it came.
+#[derive(Debug, Drop)]
+pub struct Collector {
+    sizes: Vec<usize>,
+    others: Vec<Need>,
+}
+
+impl Model for Collector {
+    ghost use Rattle.grid_records_estimate.specs.Collecting.{Collected, AreSound};
+
+    ghost Value = { Collected };
+
+    ghost view = { λ collector. record { sizes = collector.sizes.items; others = collector.others.items } };
+
+    ghost invariant = { λ collector. AreSound collector.others.items };
+}
+
+impl Collector {
+    ghost use Rattle.grid_records_estimate.specs.declared.need.Need.{Need as OneNeed};
+
+    /// Nothing is needed yet. Takes no memory.
+    pub fn new(alloc: Global) -> Collector
+        ensures { HasCollected result [] }
+    {
+        Collector {
+            sizes: Vec::new(alloc),
+            others: Vec::new(alloc),
+        }
+    }
+
+    /// Adds what one cell needs. Refused for memory alone, and then nothing has changed.
+    pub fn add(&mut self, need: Need) -> Result<(), AllocError>
+        requires some { 0 < need.length }
+        requires room { need.first < usize.MAX }
+        requires small { need.size < 2 ^ 66 }
+        ensures ok { (needs : List OneNeed) → HasCollected self.old needs → OnOk result (HasCollected self.new (needs ++ need ∷ [])) }
+        ensures err { OnErr result (self.new ≡ self.old) }
+    {
+        match plain_size(need) {
+            Some(size) => raise(&mut self.sizes, need.first, size),
+            None => Ok(self.others.push(need)?),
+        }
+    }
+
+    /// The least sizes of so many columns that hold what was added: first the cells that take one
+    /// column, then the shorter spans before the longer ones. Refused as `Range` exactly where a size
+    /// passes `usize::MAX`, and for memory.
+    pub fn finish(self, tracks: usize, between: bool) -> Result<Vec<usize>, Fault>
+        requires { AreFirstBelow tracks self.others }
+        ensures ok { (axis : Axis) → Describes axis tracks between self → IfOk result (λ sizes. sizes.items ≡ track_sizes axis) }
+        ensures range { (axis : Axis) → Describes axis tracks between self → result ≡ Err Range → PassesMax (track_sizes axis) }
+        ensures fault { IfErr result (λ fault. (fault ≡ Memory) ⊎ (fault ≡ Range)) }
+    {
+        let Collector { mut sizes, others } = self;
+        sizes.resize(tracks, 0)?;
+        meet_all(&mut sizes, &in_order(others, tracks), between)?;
+        Ok(sizes)
+    }
+}
+
+// What the need asks of one column, where it is of one alone and fits.
+fn plain_size(need: Need) -> Option<usize>
+    ensures { result ≡ (if is_plain need then Some need.size else None) }
+{
+    if need.length != 1 {
+        return None;
+    }
+    usize::try_from(need.size).ok()
+}
+
+// Raises the size of a column to this one, where it is less.
+fn raise(sizes: &mut Vec<usize>, track: usize, size: usize) -> Result<(), AllocError>
+    requires { track < usize.MAX }
+    ensures ok { OnOk result ((k : ℕ) → slice_index sizes.new.items k ≡
+        (if k == track then max (slice_index sizes.old.items k) size else slice_index sizes.old.items k)) }
+    ensures err { OnErr result (sizes.new.items ≡ sizes.old.items) }
+{
+    if sizes.len() <= track {
+        sizes.resize(track + 1, 0)?;
+    }
+    sizes[track] = sizes[track].max(size);
+    Ok(())
+}
+
+// The needs in the order in which they are met, with their spans clipped to the table.
+fn in_order(mut needs: Vec<Need>, tracks: usize) -> Vec<Need>
+    requires { AreFirstBelow tracks needs.items }
+    ensures moved { IsPermutation (map (clipped tracks) needs.items) result.items }
+    ensures sorted { IsSorted ⟦<Need as Ord>⟧.cmp result.items }
+{
+    clip(&mut needs, tracks);
+    needs.sort_unstable();
+    needs
+}
+
+// Spans count only inside the table.
+fn clip(needs: &mut [Need], tracks: usize)
+    requires { AreFirstBelow tracks needs.old }
+    ensures { needs.new ≡ map (clipped tracks) needs.old }
+{
+    for need in needs.iter_mut() {
+        need.length = need.length.min(tracks - need.first);
+    }
+}

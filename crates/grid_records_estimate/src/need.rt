@@ -1,0 +1,15 @@
+//! What a cell needs along one axis.
+
+/// What a cell needs of the columns that it takes; or of the rows, where rows stand for columns and
+/// columns for rows. One that is less is met before one that is greater.
+#[derive(Clone, Copy, Debug, PartialEq, Eq, PartialOrd, Ord)]
+pub struct Need {
+    /// How many columns it takes.
+    pub length: usize,
+    /// The first of them.
+    pub first: usize,
+    /// Its row.
+    pub crossing: usize,
+    /// How much they have to measure together, with the boundaries between them.
+    pub size: u128,
+}

@@ -1,0 +1,99 @@
+//! A table is read once, row by row, and what its visible cells need is collected.
+ghost use Rattle.std.specs.Prelude.{◌≡◌, ◌<◌, ℕ, ◌+◌, ◌++◌, [], ◌∷◌, Bool, IfOk, List, OnOk, length};
+ghost use Rattle.std.specs.Iterator.{IsFinite};
+ghost use Rattle.grid_records_rows.specs.Giving.{GivesTexts};
+ghost use Rattle.grid_records_rows.specs.Rows.{fitted};
+ghost use Rattle.grid_records_estimate.specs.Collecting.{HasCollected};
+ghost use Rattle.grid_records_estimate.specs.Reading.{HasRead, Placed, row_cells, table_cells};
+
+use crate::collector::Collector;
+use crate::need::Need;
+use crate::sizing::Sizing;
+use grid_config::Position;
+use grid_records_measure::get_text_dimension;
+use grid_records_rows::{Cell, Records};
+use std::alloc::AllocError;
+
+/// Collects what the visible cells of a table need of its columns and of its rows, and counts its rows.
+/// More rows than a `usize` counts are refused as memory is.
+pub(crate) fn collect<R: Records, S: Sizing>(
+    records: R,
+    cfg: &S,
+    widths: &mut Collector,
+    heights: &mut Collector,
+) -> Result<usize, AllocError>
+    ensures rows { IfOk result (λ rows. rows ≡ length (R.rows records)) }
+    ensures read { HasRead (S.sizing cfg.now) widths.old heights.old [] →
+        OnOk result (HasRead (S.sizing cfg.now) widths.new heights.new (table_cells 0 (fitted (R.columns records) (R.rows records)))) }
+{
+    let mut row = 0usize;
+    for cells in records.iter_rows() {
+        let next = after(row)?;
+        collect_row(cells, row, cfg, widths, heights)?;
+        row = next;
+    }
+    Ok(row)
+}
+
+// Collects what the visible cells of a row need.
+fn collect_row<C: Cell, I: Iterator<Item = Result<C, AllocError>>, S: Sizing>(
+    cells: I,
+    row: usize,
+    cfg: &S,
+    widths: &mut Collector,
+    heights: &mut Collector,
+) -> Result<(), AllocError>
+    requires can { I.can_next cells }
+    requires ends { IsFinite (I.remaining cells) }
+    requires room { row < usize.MAX }
+    ensures { (texts : List (List ℕ)) (may_refuse : Bool) (before : List Placed) →
+        GivesTexts I.can_next I.remaining I.next_gives C.text may_refuse cells texts → HasRead (S.sizing cfg.now) widths.old heights.old before →
+        OnOk result (HasRead (S.sizing cfg.now) widths.new heights.new (before ++ row_cells row 0 texts)) }
+{
+    let mut column = 0usize;
+    for cell in cells {
+        let next = after(column)?;
+        collect_cell(&cell?, Position::new(row, column), cfg, widths, heights)?;
+        column = next;
+    }
+    Ok(())
+}
+
+// The next row or column. Past `usize::MAX` no memory holds what they need.
+fn after(number: usize) -> Result<usize, AllocError>
+    ensures { IfOk result (λ next. next ≡ number + 1) }
+{
+    number.checked_add(1).ok_or(AllocError)
+}
+
+// Collects what a cell needs, where it is visible.
+fn collect_cell<C: Cell, S: Sizing>(
+    cell: &C,
+    pos: Position,
+    cfg: &S,
+    widths: &mut Collector,
+    heights: &mut Collector,
+) -> Result<(), AllocError>
+    requires row { pos.row < usize.MAX }
+    requires column { pos.col < usize.MAX }
+    ensures { (before : List Placed) → HasRead (S.sizing cfg.now) widths.old heights.old before →
+        OnOk result (HasRead (S.sizing cfg.now) widths.new heights.new (before ++ (pos, C.text cell.now) ∷ [])) }
+{
+    if !cfg.is_visible(pos) {
+        return Ok(());
+    }
+    let (lines, width) = get_text_dimension(cell.text());
+    let padding = cfg.padding(pos);
+    widths.add(Need {
+        length: cfg.columns(pos),
+        first: pos.col,
+        crossing: pos.row,
+        size: width as u128 + padding.left.size as u128 + padding.right.size as u128,
+    })?;
+    heights.add(Need {
+        length: cfg.rows(pos),
+        first: pos.row,
+        crossing: pos.col,
+        size: lines as u128 + padding.top.size as u128 + padding.bottom.size as u128,
+    })
+}
