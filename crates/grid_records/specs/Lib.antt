@@ -1,0 +1,11 @@
+pub use Rattle.grid_records_measure.specs.Measures
+pub use Rattle.grid_records_measure.specs.TextLines
+pub use Rattle.grid_records_measure.specs.Tabs
+pub use Rattle.grid_records_measure.specs.Cutting
+pub use Rattle.grid_records_measure.specs.PlainCharacters
+pub use Rattle.grid_records_rows.specs.Giving
+pub use Rattle.grid_records_rows.specs.Rows
+pub use Rattle.grid_records_rows.specs.Cells
+pub use Rattle.grid_records_estimate.specs.Estimates
+pub use Rattle.grid_records_estimate.specs.Sizes
+pub use Rattle.grid_records_estimate.specs.Totals
