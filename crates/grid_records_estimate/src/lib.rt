@@ -19,3 +19,6 @@ pub use estimate::Estimate;
 pub use iter::IterGridDimension;
 pub use need::Need;
 pub use peekable::PeekableGridDimension;
+
+#[cfg(test)]
+mod tests;
