@@ -4,3 +4,4 @@ pub mod Rows
 pub mod Fitting
 pub mod Truncating
 pub mod Cells
+pub mod Laws

@@ -41,6 +41,14 @@ impl<I: IntoRecords> IntoRecords for IterRecords<I> {
 
     type IterRows = I::IterRows;
 
+    ghost rows_left = { I.rows_left };
+
+    ghost may_refuse_left = { I.may_refuse_left };
+
+    ghost gives = { I.gives };
+
+    ghost passes = { I.passes };
+
     fn iter_rows(self) -> I::IterRows {
         self.iter.iter_rows()
     }

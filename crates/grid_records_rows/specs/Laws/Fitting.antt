@@ -4,8 +4,8 @@ use Rattle.std.specs.Prelude.{Err, IfSome, MatchOption, None, Ok, Option, Result
 use Rattle.std.specs.Iterator.{Count, at_most}
 use Rattle.grid_records_rows.specs.Cells.{text_or_empty}
 use Rattle.grid_records_rows.specs.Fitting.{AnswersNext, AnswersNone, FitsCell, GivesFitted}
-use Rattle.grid_records_rows.specs.Giving.{Gives, GivesEach, IsAnswer}
-use Rattle.grid_records_rows.specs.Rows.{fitted_row}
+use Rattle.grid_records_rows.specs.Giving.{Gives, GivesEach, GivesRows, IsAnswer}
+use Rattle.grid_records_rows.specs.Rows.{fitted, fitted_row}
 
 -- the same, text by text
 fit : ℕ → List (List ℕ) → List (List ℕ)
@@ -122,3 +122,18 @@ each_fitted steps inside columns_of cells_of left_of tie wanted n follows s (tex
       let next = gives.1 step.1.0 (inside t) step.1.1 in
       (follows step.1.0 cells texts next.0 step.1.2 (step.1.3 ∙ is), each_fitted steps inside columns_of cells_of left_of tie wanted n follows t rows (step.0 ∙ is) next.1),
 )
+
+-- and where they are given, so are those
+pub gives_fitted_rows : {R S Row Cells C E : Type 0} (row_steps : S → Option Row → S → Type 0) (steps : Row → Option (Result C E) → Row → Type 0) (text : C → List ℕ)
+    (inside : R → S) (columns_of : R → ℕ) (cells_of : Cells → Option Row) (left_of : Cells → ℕ)
+    {row_can : S → Type 0} {row_left : S → Count} {can : Row → Type 0} {left : Row → Count} {may_refuse : Bool} {rows : List (List (List ℕ))} (s : R) →
+    GivesRows row_can row_left row_steps can left steps text may_refuse (inside s) rows →
+    GivesRows (λ s. row_can (inside s)) (λ s. row_left (inside s)) (λ s r t. (columns_of t ≡ columns_of s) × GivesFitted row_steps (columns_of s) (inside s) r cells_of left_of (inside t))
+    (λ cells. IfSome (cells_of cells) can) (λ cells. at_most (left_of cells)) (λ s r t. FitsCell steps (cells_of s) (left_of s) r (cells_of t) (left_of t)) (text_or_empty text) may_refuse s (fitted (columns_of s) rows)
+gives_fitted_rows row_steps steps text inside columns_of cells_of left_of {may_refuse = may_refuse} {rows = rows} s gives =
+    record {
+      can_next = gives.can_next;
+      ends = gives.ends;
+      each = each_fitted row_steps inside columns_of cells_of left_of _ _ (columns_of s)
+          (λ row cells texts given is count. gives_fitted steps text may_refuse cells_of left_of cells row (columns_of s) texts is count given) s rows refl gives.each;
+    }

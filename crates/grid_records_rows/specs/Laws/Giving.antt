@@ -1,8 +1,8 @@
 -- How an iterator is shown to give a list.
 use Rattle.std.proofs.Common.{◌≡◌, ℕ, List, [], ◌∷◌, ap, arith, length, refl, subst, map, Bool}
 use Rattle.std.specs.Prelude.{MatchOption, None, Ok, Err, Option, Result, Some}
-use Rattle.std.specs.Iterator.{Count}
-use Rattle.grid_records_rows.specs.Giving.{Gives, GivesEach, IsAnswer}
+use Rattle.std.specs.Iterator.{Count, IsFinite}
+use Rattle.grid_records_rows.specs.Giving.{Gives, GivesEach, GivesRows, GivesTexts, IsAnswer}
 use Rattle.grid_records_rows.specs.Sources.{AnswersCell, GivesCellsOf}
 
 -- a call gave an item tied to the first that was left, and left the others, or none where none was left
@@ -59,6 +59,22 @@ each_becomes steps becomes inside cells_of tie wanted follows s (texts ∷ rows)
       (follows step.0 cells texts next.0 step.2, each_becomes steps becomes inside cells_of tie wanted follows t rows next.1),
 )
 
+-- the same, of rows whose cells are given
+pub each_given : {S R Row Cells I C : Type 0} (E : Type 0) (row_steps : S → Option Row → S → Type 0) (becomes : Row → I → Type 0) (inside : R → S) (cells_of : Cells → I)
+    (cell_steps : I → Option C → I → Type 0) (text : C → List ℕ) (can : Cells → Type 0) (left : Cells → Count) (may_refuse : Bool) (texts_of : Row → List (List ℕ)) →
+    ((cells : Cells) → can cells × IsFinite (left cells)) → ((row : Row) (it : I) → becomes row it → GivesEach cell_steps (λ cell wanted. text cell ≡ wanted) it (texts_of row)) →
+    (s : R) (rows : List (List (List ℕ))) → GivesEach row_steps (λ row texts. texts_of row ≡ texts) (inside s) rows →
+    GivesEach {A = Cells} (λ s r t. GivesCellsOf row_steps becomes (inside s) r cells_of (inside t))
+    (GivesTexts {E = E} can left (λ s r t. AnswersCell cell_steps (cells_of s) r (cells_of t)) text may_refuse) s rows
+each_given E row_steps becomes inside cells_of cell_steps text can left may_refuse texts_of ends cells_are =
+    each_becomes row_steps becomes inside cells_of (λ row texts. texts_of row ≡ texts) _
+    (λ row cells texts same became.
+    record {
+      can_next = (ends cells).0;
+      ends = (ends cells).1;
+      each = each_answered E cell_steps cells_of text may_refuse cells texts (subst (λ v. GivesEach cell_steps (λ cell wanted. text cell ≡ wanted) (cells_of cells) v) same (cells_are row (cells_of cells) became));
+    })
+
 -- an iterator that shows the values that are left gives what f makes of them
 pub each_mapped : {S A V B : Type 0} (steps : S → Option A → S → Type 0) (view : A → V) (rest : S → List V) (f : V → B) →
     ((s t : S) → steps s None t → rest s ≡ []) → ((s : S) (x : A) (t : S) → steps s (Some x) t → rest s ≡ view x ∷ rest t) →
@@ -79,3 +95,9 @@ empty (x ∷ xs) h = absurd (omega (arith, h))
 pub gives_list : {S A B : Type 0} {can : S → Type 0} {left : S → Count} {steps : S → Option A → S → Type 0} {tie : A → B → Type 0} {s : S} {ys zs : List B} →
     ys ≡ zs → Gives can left steps tie s ys → Gives can left steps tie s zs
 gives_list {can = can} {left = left} {steps = steps} {tie = tie} {s = s} same gives = subst (λ v. Gives can left steps tie s v) same gives
+
+-- and the same of rows, where as many may be refused
+pub gives_rows : {R S C E : Type 0} {row_can : R → Type 0} {row_left : R → Count} {row_steps : R → Option S → R → Type 0} {can : S → Type 0} {left : S → Count} {steps : S → Option (Result C E) → S → Type 0} {text : C → List ℕ} {r : R}
+    (before after : Bool) (ys zs : List (List (List ℕ))) → before ≡ after → ys ≡ zs → GivesRows row_can row_left row_steps can left steps text before r ys → GivesRows row_can row_left row_steps can left steps text after r zs
+gives_rows {row_can = row_can} {row_left = row_left} {row_steps = row_steps} {can = can} {left = left} {steps = steps} {text = text} {r = r} before after ys zs same is gives =
+    subst (λ v. GivesRows row_can row_left row_steps can left steps text v r zs) same (subst (λ v. GivesRows row_can row_left row_steps can left steps text before r v) is gives)
