@@ -1,3 +1,4 @@
+pub mod Keeping
 pub mod LineAt
 pub mod Loops
 pub mod Tables

@@ -1,4 +1,5 @@
 pub mod Giving
+pub mod Buffering
 pub mod Sources
 pub mod Rows
 pub mod Fitting

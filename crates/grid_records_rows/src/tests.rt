@@ -69,6 +69,69 @@ fn limits_and_skips(rt: HostRuntime) -> Result<(), Fail> {
     Ok(())
 }
 
+// The rows that are kept of a source, and then all its rows.
+fn text_of_buffered<R: IntoRecords + Drop>(
+    alloc: Global,
+    records: R,
+    count: usize,
+) -> Result<String, AllocError> {
+    let buffered = BufRecords::new(alloc, records, count)?;
+    let mut out = text_of_source(alloc, buffered.as_slice())?;
+    out.push_str("and\n")?;
+    out.push_str(text_of_source(alloc, buffered)?.as_str())?;
+    Ok(out)
+}
+
+#[test]
+fn keeps_the_first_rows(rt: HostRuntime) -> Result<(), Fail> {
+    let alloc = rt.alloc();
+    let rows = vec![in alloc;
+        vec![in alloc; "a", "b"]?,
+        vec![in alloc]?,
+        vec![in alloc; "c"]?,
+    ]?;
+    let text = text_of_buffered(alloc, rows.as_slice(), 0)?;
+    assert_eq!(rt; text.as_str(), "and\na|b|\n\nc|\n");
+    let text = text_of_buffered(alloc, rows.as_slice(), 1)?;
+    assert_eq!(rt; text.as_str(), "a|b|\nand\na|b|\n\nc|\n");
+    let text = text_of_buffered(alloc, rows.as_slice(), 3)?;
+    assert_eq!(rt; text.as_str(), "a|b|\n\nc|\nand\na|b|\n\nc|\n");
+    let text = text_of_buffered(alloc, rows, usize::MAX)?;
+    assert_eq!(rt; text.as_str(), "a|b|\n\nc|\nand\na|b|\n\nc|\n");
+    Ok(())
+}
+
+#[test]
+fn keeps_cells_of_other_sources(rt: HostRuntime) -> Result<(), Fail> {
+    let alloc = rt.alloc();
+    let source = [["abc", "d"], ["ef", "ghi"], ["j", "k"]];
+    let cut = TruncateContent::new(alloc, source, Same(2));
+    let text = text_of_buffered(alloc, SkipRows::new(cut, 1), 1)?;
+    assert_eq!(rt; text.as_str(), "ef|gh|\nand\nef|gh|\nj|k|\n");
+    Ok(())
+}
+
+#[test]
+fn keeps_rows_twice(rt: HostRuntime) -> Result<(), Fail> {
+    let alloc = rt.alloc();
+    let a = String::from_str(alloc, "a")?;
+    let b = String::from_str(alloc, "b")?;
+    let c = String::from_str(alloc, "c")?;
+    let rows = vec![in alloc; vec![in alloc; a]?, vec![in alloc; b]?, vec![in alloc; c]?]?;
+    let once = BufRecords::new(alloc, rows, 1)?;
+    let text = text_of_buffered(alloc, once, 2)?;
+    assert_eq!(rt; text.as_str(), "a|\nb|\nand\na|\nb|\nc|\n");
+    Ok(())
+}
+
+#[test]
+fn keeps_empty_rows(rt: HostRuntime) -> Result<(), Fail> {
+    let alloc = rt.alloc();
+    let text = text_of_buffered(alloc, EmptyRecords::new(2, 1), 1)?;
+    assert_eq!(rt; text.as_str(), "|\nand\n|\n|\n");
+    Ok(())
+}
+
 #[test]
 fn fits_rows_to_the_column_count(rt: HostRuntime) -> Result<(), Fail> {
     let alloc = rt.alloc();

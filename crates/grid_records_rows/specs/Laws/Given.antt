@@ -1,11 +1,11 @@
 -- Rows that a vector, a slice or an array holds are given.
-use Rattle.std.proofs.Common.{◌≡◌, ℕ, List, ap, drop, map, refl, Bool, Bor, Global, Iter, Vec, vec_items}
+use Rattle.std.proofs.Common.{◌≡◌, ◌∙◌, ℕ, List, [], ◌∷◌, ap, arith, drop, map, refl, take, Bool, Bor, Global, Iter, Vec, vec_items}
 use Rattle.std.specs.declared.alloc.AllocError.{AllocError}
-use Rattle.std.specs.Prelude.{Some}
+use Rattle.std.specs.Prelude.{None, Some}
 use Rattle.std.specs.Array.Iter.{array_into_iter_items, array_steps}
 use Rattle.std.specs.Iterator.{Count, IsFinite}
 use Rattle.std.specs.Slice.Iter.{iter_rest, iter_steps}
-use Rattle.std.specs.Vec.Iter.{into_iter_steps}
+use Rattle.std.specs.Vec.Iter.{into_iter_items, into_iter_steps}
 use Rattle.std.specs.declared.array.IntoIter.{IntoIter as ArrayIter}
 use Rattle.std.specs.declared.vec.IntoIter.{IntoIter}
 use Rattle.grid_records_rows.specs.Giving.{GivesEach, GivesTexts}
@@ -41,6 +41,22 @@ module _ {T R Cells : Type 0} (text : T → List ℕ) (can : Cells → Type 0) (
       each_given AllocError array_steps becomes inside cells_of array_steps text can left may_refuse (map text) ends
       (λ row it h. each_of_array text it (map text row) (ap (map text) (became row it h)))
       s (map (map text) (array_into_iter_items (inside s))) (each_of_array (map text) (inside s) (map (map text) (array_into_iter_items (inside s))) refl)
+
+-- behind the end of a vector nothing comes
+pub vec_stays : {T : Type 0} (s t : IntoIter T Global) → into_iter_steps s None t → (row : T) (u : IntoIter T Global) → ¬ (into_iter_steps t (Some row) u)
+vec_stays s t ended row u step = omega (arith, ended.1, step.1)
+
+-- a row that is given was the first, and at the end none is left
+pub vec_goes : {T : Type 0} (text : T → List ℕ) (s t : IntoIter (Vec T Global) Global) (row : Vec T Global) → into_iter_steps s (Some row) t →
+    (y : List (List ℕ)) × (texts_of_rows text (items_left s) ≡ y ∷ texts_of_rows text (items_left t))
+vec_goes text s t row step = (map text (vec_items row), ap (texts_of_rows text) (left_item s t row step))
+
+pub vec_stops : {T : Type 0} (text : T → List ℕ) (s t : IntoIter (Vec T Global) Global) → into_iter_steps s None t →
+    (texts_of_rows text (items_left s) ≡ []) × (texts_of_rows text (items_left t) ≡ [])
+vec_stops text s t step = (
+  ap (λ n. texts_of_rows text (take n (into_iter_items s))) step.0,
+  ap (λ n. texts_of_rows text (take n (into_iter_items t))) step.1,
+)
 
 -- the row that was given is left no more
 pub vec_passes : {T : Type 0} (text : T → List ℕ) (s t : IntoIter (Vec T Global) Global) (row : Vec T Global) → into_iter_steps s (Some row) t →

@@ -2,6 +2,7 @@
 ghost use Rattle.std.specs.Prelude.{◌≡◌, ℕ, Bool, List, Some};
 ghost use Rattle.grid_records_rows.specs.Giving.{GivesRows, HasPassedOne};
 
+pub mod buf_records;
 pub mod fitted;
 mod given;
 mod limit_columns;
@@ -12,6 +13,7 @@ pub mod truncate_content;
 
 use crate::records::RecordTexts;
 use crate::records::vec_records::Cell;
+pub use buf_records::{BufRecords, BufferedRows, KeptTexts};
 pub use fitted::{Fitted, FittedCells, FittedRows};
 pub use given::{GivenCells, GivenRows};
 pub use limit_columns::{LimitColumns, LimitedRows};
