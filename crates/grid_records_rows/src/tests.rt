@@ -144,6 +144,8 @@ fn fits_rows_to_the_column_count(rt: HostRuntime) -> Result<(), Fail> {
     let records = IterRecords::new(rows.as_slice(), 2, Some(7));
     assert_eq!(rt; records.count_columns(), 2);
     assert_eq!(rt; records.hint_count_rows(), Some(7));
+    let text = text_of_records(alloc, &records)?;
+    assert_eq!(rt; text.as_str(), "a|b|\n||\nd||\n");
     let text = text_of_records(alloc, records)?;
     assert_eq!(rt; text.as_str(), "a|b|\n||\nd||\n");
     let text = text_of_source(alloc, IterRecords::new(rows.as_slice(), 2, None))?;
@@ -200,6 +202,45 @@ fn looks_up_cells(rt: HostRuntime) -> Result<(), Fail> {
     let text = text_of_records(alloc, &records)?;
     assert_eq!(rt; text.as_str(), "a\n漢b|b|\nc|d|\n");
     Ok(())
+}
+
+#[test]
+fn gives_its_own_rows(rt: HostRuntime) -> Result<(), Fail> {
+    let alloc = rt.alloc();
+    let rows = vec![in alloc; vec![in alloc; "a", "b"]?, vec![in alloc; "c", "d"]?]?;
+    assert!(rt; are_equally_long(rows.as_slice()));
+    let text = text_of_records(alloc, VecRecords::new(rows))?;
+    assert_eq!(rt; text.as_str(), "a|b|\nc|d|\n");
+    Ok(())
+}
+
+// What is asked of records by places, and how many rows there are.
+fn expect_shape<R: PeekableRecords + ExactRecords + Drop>(
+    rt: &impl Abort,
+    alloc: Global,
+    records: R,
+    rows: usize,
+    first: &str,
+) -> Result<(), Fail> {
+    let pos = Position::new(0, 0);
+    assert_eq!(rt; records.count_rows(), rows);
+    assert_eq!(rt; records.get_text(pos), first);
+    assert_eq!(rt; records.count_lines(pos), 2);
+    assert_eq!(rt; records.get_width(pos), 3);
+    assert_eq!(rt; records.get_line_width(pos, 0), 1);
+    let line = records.get_line(alloc, pos, 0)?;
+    assert_eq!(rt; line.as_str(), "a");
+    Ok(())
+}
+
+#[test]
+fn looks_up_cells_behind_a_reference(rt: HostRuntime) -> Result<(), Fail> {
+    let alloc = rt.alloc();
+    let text = Text::new(alloc, String::from_str(alloc, "a\n漢b")?)?;
+    let rows = vec![in alloc; vec![in alloc; text]?]?;
+    assert!(rt; are_equally_long(rows.as_slice()));
+    let records = VecRecords::new(rows);
+    expect_shape(&rt, alloc, &records, 1, "a\n漢b")
 }
 
 #[test]

@@ -75,3 +75,25 @@ impl<I: IntoRecords> Records for IterRecords<I> {
         self.count_rows
     }
 }
+
+impl<'a, I: IntoRecords + Copy> Records for &'a IterRecords<I> {
+    type Iter = Fitted<I>;
+
+    ghost columns = { λ s. s.now.count_columns };
+
+    fn iter_rows(self) -> FittedRows<I::IterRows> {
+        let fitted = Fitted {
+            records: self.iter,
+            columns: self.count_columns,
+        };
+        fitted.iter_rows()
+    }
+
+    fn count_columns(&self) -> usize {
+        IterRecords::count_columns(self)
+    }
+
+    fn hint_count_rows(&self) -> Option<usize> {
+        IterRecords::hint_count_rows(self)
+    }
+}
