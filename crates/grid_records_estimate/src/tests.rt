@@ -1,7 +1,9 @@
+ghost use Rattle.std.specs.Prelude.{◌<◌};
+
 use crate::{CompactGridDimension, Estimate, IterGridDimension, PeekableGridDimension};
 use grid_config::{Borders, CompactConfig, Entity, Fault, Indent, Position, Sides, SpannedConfig};
-use grid_records_rows::{Dimension, EmptyRecords, IterRecords};
-use std::alloc::Global;
+use grid_records_rows::{Dimension, EmptyRecords, Records, VecRecords, are_equally_long};
+use std::alloc::{AllocError, Global};
 use std::process::Abort;
 use std::test::Fail;
 
@@ -23,7 +25,7 @@ const INDENTS: Sides<Indent> = Sides {
     bottom: Indent { size: 4, fill: ' ' },
 };
 
-// No line of text is as wide as what is padded so.
+// As many columns at the left as there can be.
 const ENDLESS: Sides<Indent> = Sides {
     left: Indent {
         size: usize::MAX,
@@ -34,29 +36,49 @@ const ENDLESS: Sides<Indent> = Sides {
     bottom: Indent { size: 0, fill: ' ' },
 };
 
+fn row(alloc: Global, cells: &[&str]) -> Result<Vec<String>, AllocError> {
+    let mut row = Vec::new(alloc);
+    for cell in cells {
+        row.push(String::from_str(alloc, *cell)?)?;
+    }
+    Ok(row)
+}
+
+fn rows_of(alloc: Global, columns: usize, cells: &[&str]) -> Result<Vec<Vec<String>>, AllocError>
+    requires { 0 < columns }
+{
+    let mut rows = Vec::new(alloc);
+    for cells in cells.chunks(columns) {
+        rows.push(row(alloc, cells)?)?;
+    }
+    Ok(rows)
+}
+
+// The table of these cells, row by row.
+fn table(
+    rt: &impl Abort,
+    alloc: Global,
+    columns: usize,
+    cells: &[&str],
+) -> Result<VecRecords<String>, AllocError>
+    requires { 0 < columns }
+{
+    let rows = rows_of(alloc, columns, cells)?;
+    assert!(rt; are_equally_long(&rows));
+    Ok(VecRecords::new(rows))
+}
+
 // Drops the settings of a test. They are large, and each place that drops them is proved by itself: so
 // the tests lend them to functions, which return early without them, and end here.
 fn end(cfg: SpannedConfig) {
     drop(cfg);
 }
 
-// A table whose first cell spans both columns.
-fn shared() -> IterRecords<[[&'static str; 2]; 2]> {
-    IterRecords::new([["abcdefgh", "hidden"], ["a", "b\nc\nd"]], 2, None)
-}
-
-// The settings of that table: all boundaries, a margin and no padding.
-fn set_shared(cfg: &mut SpannedConfig) -> Result<(), Fault> {
-    cfg.set_borders(ascii());
-    cfg.set_margin(INDENTS);
-    cfg.set_column_span(Position::new(0, 0), 2)
-}
-
 fn expect(rt: &impl Abort, found: &Vec<usize>, wanted: &[usize]) {
     assert_eq!(rt; found.as_slice(), wanted);
 }
 
-// An estimate through the traits, of the table above.
+// An estimate through the traits: of two columns of 4 and 3, and of two rows of 1 and 3.
 fn expect_estimate<R, C, D: Estimate<R, C> + Dimension>(
     rt: &impl Abort,
     alloc: Global,
@@ -81,177 +103,215 @@ fn expect_estimate<R, C, D: Estimate<R, C> + Dimension>(
     Ok(())
 }
 
-fn expect_read_once(rt: &impl Abort, alloc: Global, cfg: &mut SpannedConfig) -> Result<(), Fail> {
+// A table whose first cell spans both columns, with all boundaries, a margin and no padding.
+const SHARED: [&str; 4] = ["abcdefgh", "hidden", "a", "b\nc\nd"];
+
+fn set_shared(cfg: &mut SpannedConfig) -> Result<(), Fault> {
+    cfg.set_borders(ascii());
+    cfg.set_margin(INDENTS);
+    cfg.set_column_span(Position::new(0, 0), 2)
+}
+
+fn expect_read_once<R: Records + Copy>(
+    rt: &impl Abort,
+    alloc: Global,
+    records: R,
+    cfg: &mut SpannedConfig,
+) -> Result<(), Fail> {
     set_shared(cfg)?;
+    expect(rt, &IterGridDimension::width(alloc, records, cfg)?, &[4, 3]);
     expect(
         rt,
-        &IterGridDimension::width(alloc, shared(), cfg)?,
-        &[4, 3],
-    );
-    expect(
-        rt,
-        &IterGridDimension::height(alloc, shared(), cfg)?,
+        &IterGridDimension::height(alloc, records, cfg)?,
         &[1, 3],
     );
-    let (widths, heights) = IterGridDimension::dimension(alloc, shared(), cfg)?;
+    let (widths, heights) = IterGridDimension::dimension(alloc, records, cfg)?;
     expect(rt, &widths, &[4, 3]);
     expect(rt, &heights, &[1, 3]);
-    assert_eq!(rt; IterGridDimension::width_total(alloc, shared(), cfg)?, 13);
-    assert_eq!(rt; IterGridDimension::height_total(alloc, shared(), cfg)?, 14);
+    assert_eq!(rt; IterGridDimension::width_total(alloc, records, cfg)?, 13);
+    assert_eq!(rt; IterGridDimension::height_total(alloc, records, cfg)?, 14);
     expect_estimate(
         rt,
         alloc,
         &mut IterGridDimension::default(alloc),
-        shared(),
+        records,
         cfg,
     )
 }
 
 #[test]
 fn sizes_of_a_table_that_is_read_once(rt: HostRuntime) -> Result<(), Fail> {
+    let records = table(&rt, rt.alloc(), 2, SHARED.as_slice())?;
     let mut cfg = SpannedConfig::new(rt.alloc());
-    let result = expect_read_once(&rt, rt.alloc(), &mut cfg);
+    let result = expect_read_once(&rt, rt.alloc(), &records, &mut cfg);
     end(cfg);
     result
 }
 
-fn expect_looked_up(rt: &impl Abort, alloc: Global, cfg: &mut SpannedConfig) -> Result<(), Fail> {
+fn expect_looked_up<R: Records + Copy>(
+    rt: &impl Abort,
+    alloc: Global,
+    records: R,
+    cfg: &mut SpannedConfig,
+) -> Result<(), Fail> {
     set_shared(cfg)?;
     expect(
         rt,
-        &PeekableGridDimension::width(alloc, shared(), cfg)?,
+        &PeekableGridDimension::width(alloc, records, cfg)?,
         &[4, 3],
     );
     expect(
         rt,
-        &PeekableGridDimension::height(alloc, shared(), cfg)?,
+        &PeekableGridDimension::height(alloc, records, cfg)?,
         &[1, 3],
     );
-    let (widths, heights) = PeekableGridDimension::dimension(alloc, shared(), cfg)?;
+    let (widths, heights) = PeekableGridDimension::dimension(alloc, records, cfg)?;
     expect(rt, &widths, &[4, 3]);
     expect(rt, &heights, &[1, 3]);
     assert_eq!(rt;
-        PeekableGridDimension::width_total(alloc, shared(), cfg)?,
+        PeekableGridDimension::width_total(alloc, records, cfg)?,
         13
     );
     assert_eq!(rt;
-        PeekableGridDimension::height_total(alloc, shared(), cfg)?,
+        PeekableGridDimension::height_total(alloc, records, cfg)?,
         14
     );
     expect_estimate(
         rt,
         alloc,
         &mut PeekableGridDimension::default(alloc),
-        shared(),
+        records,
         cfg,
     )
 }
 
 #[test]
 fn sizes_of_a_table_that_is_looked_up(rt: HostRuntime) -> Result<(), Fail> {
+    let records = table(&rt, rt.alloc(), 2, SHARED.as_slice())?;
     let mut cfg = SpannedConfig::new(rt.alloc());
-    let result = expect_looked_up(&rt, rt.alloc(), &mut cfg);
+    let result = expect_looked_up(&rt, rt.alloc(), &records, &mut cfg);
     end(cfg);
     result
 }
 
-// A table of cells that are all padded.
-fn padded() -> IterRecords<[[&'static str; 2]; 2]> {
-    IterRecords::new([["ab", "c"], ["d\ne", "fghij"]], 2, None)
+fn expect_compact<R: Records + Copy>(
+    rt: &impl Abort,
+    alloc: Global,
+    records: R,
+    cfg: &CompactConfig,
+) -> Result<(), Fail> {
+    expect(
+        rt,
+        &CompactGridDimension::width(alloc, records, cfg)?,
+        &[5, 8],
+    );
+    expect(
+        rt,
+        &CompactGridDimension::height(alloc, records, cfg)?,
+        &[8, 9],
+    );
+    let (widths, heights) = CompactGridDimension::dimension(alloc, records, cfg)?;
+    expect(rt, &widths, &[5, 8]);
+    expect(rt, &heights, &[8, 9]);
+    assert_eq!(rt; CompactGridDimension::width_total(alloc, records, cfg)?, 16);
+    assert_eq!(rt;
+        CompactGridDimension::height_total(alloc, records, cfg)?,
+        20
+    );
+    Ok(())
 }
 
 #[test]
 fn sizes_of_a_compact_table(rt: HostRuntime) -> Result<(), Fail> {
     let alloc = rt.alloc();
+    let padded = table(&rt, alloc, 2, &["ab", "c", "d\ne", "fghij"])?;
     let cfg = CompactConfig::new()
         .set_borders(ascii())
         .set_padding(INDENTS);
-    expect(
-        &rt,
-        &CompactGridDimension::width(alloc, padded(), &cfg)?,
-        &[5, 8],
-    );
-    expect(
-        &rt,
-        &CompactGridDimension::height(alloc, padded(), &cfg)?,
-        &[8, 9],
-    );
-    let (widths, heights) = CompactGridDimension::dimension(alloc, padded(), &cfg)?;
-    expect(&rt, &widths, &[5, 8]);
-    expect(&rt, &heights, &[8, 9]);
-    assert_eq!(rt;
-        CompactGridDimension::width_total(alloc, padded(), &cfg)?,
-        16
-    );
-    assert_eq!(rt;
-        CompactGridDimension::height_total(alloc, padded(), &cfg)?,
-        20
-    );
-    let unpadded = CompactConfig::new();
-    let records = IterRecords::new([["abcd", "c"], ["", "fgh\n\n"]], 2, None);
+    expect_compact(&rt, alloc, &padded, &cfg)?;
+    let records = table(&rt, alloc, 2, &["abcd", "c", "", "fgh\n\n"])?;
     let mut sizes = CompactGridDimension::default(alloc);
-    expect_estimate(&rt, alloc, &mut sizes, records, &unpadded)
+    expect_estimate(&rt, alloc, &mut sizes, &records, &CompactConfig::new())
 }
 
-// Cells that span columns or rows: their row and column, and how many.
+// Cells that span columns: their row and column, and how many.
 type Spanning<'a> = &'a [(usize, usize, usize)];
 
-fn set_and_measure(
+fn set_and_measure<R: Records + Copy>(
     alloc: Global,
     cfg: &mut SpannedConfig,
-    rows: [[&'static str; 3]; 2],
-    columns: Spanning<'_>,
+    records: R,
+    spans: Spanning<'_>,
 ) -> Result<Vec<usize>, Fault> {
-    for (row, col, n) in columns {
+    for (row, col, n) in spans {
         cfg.set_column_span(Position::new(*row, *col), *n)?;
     }
-    IterGridDimension::width(alloc, IterRecords::new(rows, 3, None), cfg)
+    IterGridDimension::width(alloc, records, cfg)
 }
 
-// The widths of a table without boundaries.
-fn widths_of(
+// The widths of a table of three columns without boundaries.
+fn expect_spanned(
+    rt: &impl Abort,
     alloc: Global,
-    rows: [[&'static str; 3]; 2],
-    columns: Spanning<'_>,
-) -> Result<Vec<usize>, Fault> {
+    cells: &[&str],
+    spans: Spanning<'_>,
+    wanted: &[usize],
+) -> Result<(), Fail> {
+    let records = table(rt, alloc, 3, cells)?;
     let mut cfg = SpannedConfig::new(alloc);
-    let result = set_and_measure(alloc, &mut cfg, rows, columns);
+    let result = set_and_measure(alloc, &mut cfg, &records, spans);
     end(cfg);
-    result
+    expect(rt, &result?, wanted);
+    Ok(())
 }
 
 #[test]
 fn spans_of_columns(rt: HostRuntime) -> Result<(), Fail> {
     let alloc = rt.alloc();
     // the whole remainder goes to the first
-    let widths = widths_of(alloc, [["xx", "", ""], ["", "", ""]], &[(0, 0, 3)])?;
-    expect(&rt, &widths, &[2, 0, 0]);
+    expect_spanned(&rt, alloc, &["xx", "", ""], &[(0, 0, 3)], &[2, 0, 0])?;
     // a span that reaches out of the table is clipped, and then the shorter
-    let rows = [["xxxxxx", "", ""], ["", "yyyyy", ""]];
-    let widths = widths_of(alloc, rows, &[(0, 0, 3), (1, 1, 4)])?;
-    expect(&rt, &widths, &[1, 3, 2]);
-    // spans of two columns each, of which both take the second
-    let rows = [["xxxx", "hidden", "x"], ["x", "yyyyy", "hidden"]];
-    let widths = widths_of(alloc, rows, &[(0, 0, 2), (1, 1, 2)])?;
-    expect(&rt, &widths, &[3, 3, 2]);
-    // a cell whose span has only its own column in the table, and one behind the last row
-    let rows = [["x", "", "zzz"], ["", "yy", ""]];
-    let widths = widths_of(alloc, rows, &[(0, 2, 5), (2, 0, 3)])?;
-    expect(&rt, &widths, &[1, 2, 3]);
-    Ok(())
+    let cells = ["xxxxxx", "", "", "", "yyyyy", ""];
+    expect_spanned(
+        &rt,
+        alloc,
+        cells.as_slice(),
+        &[(0, 0, 3), (1, 1, 4)],
+        &[1, 3, 2],
+    )?;
+    // two spans that both take the second column
+    let cells = ["xxxx", "hidden", "x", "x", "yyyyy", "hidden"];
+    expect_spanned(
+        &rt,
+        alloc,
+        cells.as_slice(),
+        &[(0, 0, 2), (1, 1, 2)],
+        &[3, 3, 2],
+    )?;
+    // a span that has one column in the table, and one behind the last row
+    let cells = ["x", "", "zzz", "", "yy", ""];
+    expect_spanned(
+        &rt,
+        alloc,
+        cells.as_slice(),
+        &[(0, 2, 5), (2, 0, 3)],
+        &[1, 2, 3],
+    )
 }
 
-fn expect_heights(rt: &impl Abort, alloc: Global, cfg: &mut SpannedConfig) -> Result<(), Fail> {
-    let rows = [["a\nb\nc\nd\ne", "f"], ["hidden", "g"]];
+fn expect_heights<R: Records + Copy>(
+    rt: &impl Abort,
+    alloc: Global,
+    records: R,
+    cfg: &mut SpannedConfig,
+) -> Result<(), Fail> {
     cfg.set_row_span(Position::new(0, 0), 2)?;
-    let records = IterRecords::new(rows, 2, None);
     expect(
         rt,
         &PeekableGridDimension::height(alloc, records, cfg)?,
         &[3, 2],
     );
     cfg.set_borders(ascii());
-    let records = IterRecords::new(rows, 2, None);
     expect(
         rt,
         &PeekableGridDimension::height(alloc, records, cfg)?,
@@ -262,18 +322,14 @@ fn expect_heights(rt: &impl Abort, alloc: Global, cfg: &mut SpannedConfig) -> Re
 
 #[test]
 fn spans_of_rows(rt: HostRuntime) -> Result<(), Fail> {
+    let records = table(&rt, rt.alloc(), 2, &["a\nb\nc\nd\ne", "f", "hidden", "g"])?;
     let mut cfg = SpannedConfig::new(rt.alloc());
-    let result = expect_heights(&rt, rt.alloc(), &mut cfg);
+    let result = expect_heights(&rt, rt.alloc(), &records, &mut cfg);
     end(cfg);
     result
 }
 
-// One cell.
-fn single() -> IterRecords<[[&'static str; 1]; 1]> {
-    IterRecords::new([["a"]], 1, None)
-}
-
-// That an estimate is refused, and the sizes stay that were kept.
+// That an estimate is refused, and the sizes of one column and one line stay.
 fn expect_refused<R, C, D: Estimate<R, C> + Dimension>(
     rt: &impl Abort,
     alloc: Global,
@@ -281,50 +337,63 @@ fn expect_refused<R, C, D: Estimate<R, C> + Dimension>(
     records: R,
     cfg: &C,
 ) {
-    let kept = (sizes.get_width(0), sizes.get_height(0));
-    assert_eq!(rt; kept, (1, 1));
+    assert_eq!(rt; (sizes.get_width(0), sizes.get_height(0)), (1, 1));
     assert_eq!(rt; sizes.estimate(alloc, records, cfg), Err(Fault::Range));
-    assert_eq!(rt; (sizes.get_width(0), sizes.get_height(0)), kept);
+    assert_eq!(rt; (sizes.get_width(0), sizes.get_height(0)), (1, 1));
 }
 
-#[test]
-fn a_refused_estimate_keeps_the_sizes(rt: HostRuntime) -> Result<(), Fail> {
-    let alloc = rt.alloc();
+fn expect_compact_range<R: Records + Copy>(
+    rt: &impl Abort,
+    alloc: Global,
+    records: R,
+) -> Result<(), Fail> {
     let cfg = CompactConfig::new();
     let mut sizes = CompactGridDimension::default(alloc);
-    sizes.estimate(alloc, single(), &cfg)?;
-    let endless = cfg.set_padding(ENDLESS);
-    expect_refused(&rt, alloc, &mut sizes, single(), &endless);
+    sizes.estimate(alloc, records, &cfg)?;
+    let padded = cfg.set_padding(ENDLESS);
+    expect_refused(rt, alloc, &mut sizes, records, &padded);
     expect(
-        &rt,
-        &CompactGridDimension::height(alloc, single(), &endless)?,
+        rt,
+        &CompactGridDimension::height(alloc, records, &padded)?,
         &[1],
     );
     let margin = cfg.set_margin(ENDLESS);
     expect(
-        &rt,
-        &CompactGridDimension::width(alloc, single(), &margin)?,
+        rt,
+        &CompactGridDimension::width(alloc, records, &margin)?,
         &[1],
     );
-    let total = CompactGridDimension::width_total(alloc, single(), &margin);
+    let total = CompactGridDimension::width_total(alloc, records, &margin);
     assert_eq!(rt; total, Err(Fault::Range));
     Ok(())
 }
 
-fn expect_range(rt: &impl Abort, alloc: Global, cfg: &mut SpannedConfig) -> Result<(), Fail> {
+#[test]
+fn a_refused_estimate_keeps_the_sizes(rt: HostRuntime) -> Result<(), Fail> {
+    let records = table(&rt, rt.alloc(), 1, &["a"])?;
+    expect_compact_range(&rt, rt.alloc(), &records)
+}
+
+fn expect_range<R: Records + Copy>(
+    rt: &impl Abort,
+    alloc: Global,
+    records: R,
+    cfg: &mut SpannedConfig,
+) -> Result<(), Fail> {
     let mut sizes = PeekableGridDimension::default(alloc);
-    sizes.estimate(alloc, single(), cfg)?;
+    sizes.estimate(alloc, records, cfg)?;
     cfg.set_padding(Entity::Global, ENDLESS)?;
-    let width = PeekableGridDimension::width(alloc, single(), cfg);
+    let width = PeekableGridDimension::width(alloc, records, cfg);
     assert!(rt; matches!(width, Err(Fault::Range)));
-    expect_refused(rt, alloc, &mut sizes, single(), cfg);
+    expect_refused(rt, alloc, &mut sizes, records, cfg);
     Ok(())
 }
 
 #[test]
 fn a_width_past_the_range_is_refused(rt: HostRuntime) -> Result<(), Fail> {
+    let records = table(&rt, rt.alloc(), 1, &["a"])?;
     let mut cfg = SpannedConfig::new(rt.alloc());
-    let result = expect_range(&rt, rt.alloc(), &mut cfg);
+    let result = expect_range(&rt, rt.alloc(), &records, &mut cfg);
     end(cfg);
     result
 }
