@@ -1,3 +1,4 @@
+pub mod AloneLemmas
 pub mod CharacterLemmas
 pub mod FrameLemmas
 pub mod ItemLemmas

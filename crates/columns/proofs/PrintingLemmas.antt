@@ -11,12 +11,13 @@ use Rattle.std.proofs.lemmas.Simd.{map-map}
 use Rattle.std.proofs.lemmas.Bool.Decides.{nat_tests}
 use Rattle.columns.specs.Rows.{line_feed}
 use Rattle.columns.specs.Glyphs.{BoundaryKind, First, Between, Last, ascii, boundary_kind, intersection_glyph, horizontal_glyph, vertical_glyph}
-use Rattle.columns.specs.Estimates.{Line, empty_line, cell_at, greatest, cell_width, column_count, column_width, column_widths, row_height, row_heights}
+use Rattle.columns.specs.Estimates.{Line, empty_line, cell_at, greatest, cell_width, column_count, column_widths, row_heights}
 use Rattle.columns.specs.Totals.{total}
 use Rattle.columns.specs.Frame.{boundary_at}
 use Rattle.columns.specs.Picture.{Grid, Piece, across, fill, fill_piece, boundary_pieces, cell_pieces, row_pieces, pieces_at, picture_line, line_items, picture_items}
 use Rattle.columns.specs.Layout.{one_each, grid_of}
 use Rattle.columns.specs.Printing.{content_width, content_widths, cells_text, row_text, border_part, border_text, grid_text}
+use Rattle.columns.proofs.AloneLemmas.{column_width, column_widths-alone, row_height, row_heights-alone}
 use Rattle.columns.proofs.Maps.{flat_map-flat_map, get_or-map}
 use Rattle.columns.proofs.Ranges.{flat_map-range_more, flat_map-range_all}
 use Rattle.columns.proofs.FrameLemmas.{place-boundary, place-row}
@@ -51,7 +52,8 @@ one_line-width row rows j =
 pub one_line-widths : (row : List (Line ℕ)) (rows : List (List (Line ℕ))) → column_widths one_each (map one_line (row ∷ rows)) ≡ map (λ content. content + 2) (content_widths (row ∷ rows))
 one_line-widths row rows =
     let columns = greatest (map (λ cells. length cells) (row ∷ rows)) in
-    ap (λ n. map (column_width one_each (map one_line (row ∷ rows))) (range_with_len 0 n)) (one_line-count (row ∷ rows))
+    column_widths-alone one_each (map one_line (row ∷ rows))
+    ∙ ap (λ n. map (column_width one_each (map one_line (row ∷ rows))) (range_with_len 0 n)) (one_line-count (row ∷ rows))
     ∙ (λ n. map (λ j. one_line-width row rows j n) (range_with_len 0 columns))
     ∙ sym (map-map (λ (content : ℕ). content + 2) (content_width (row ∷ rows)) (range_with_len 0 columns))
 
@@ -71,7 +73,8 @@ pub one_line-heights : (rows : List (List (Line ℕ))) → 0 < greatest (map (λ
 one_line-heights rows h =
     let columns = greatest (map (λ row. length row) rows) in
     let some : (columns == 0) ≡ false = grind (arith, nat_tests) in
-    ap (λ n. if n == 0 then [] else map (row_height n) (map one_line rows)) (one_line-count rows)
+    row_heights-alone (map one_line rows)
+    ∙ ap (λ n. if n == 0 then [] else map (row_height n) (map one_line rows)) (one_line-count rows)
     ∙ ap (λ b. if b then [] else map (row_height columns) (map one_line rows)) some
     ∙ map-map (row_height columns) one_line rows
     ∙ (λ n. map (λ row. greatest (map (λ j. length (one_line-cell row j n)) (range_with_len 0 columns))) rows)

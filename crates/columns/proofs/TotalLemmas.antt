@@ -16,6 +16,7 @@ use Rattle.ansi_str.specs.Matches.{bounds_between}
 use Rattle.ansi_str_text.proofs.Stripping.{has_escape-strip}
 use Rattle.columns.specs.Rows.{tab, stripped, places, parts_at, row_parts, cell_parts, rows_of}
 use Rattle.grid_records_measure.specs.Measures.{measure}
+use Rattle.grid_records_estimate.specs.Estimates.{track_sizes}
 use Rattle.columns.specs.Estimates.{Line, greatest, column_widths, row_heights}
 use Rattle.columns.specs.Totals.{total}
 use Rattle.columns.specs.Picture.{picture_items}
@@ -74,6 +75,7 @@ some_columns (text ∷ texts) row rows e =
     omega arith
 
 pub output-none : (text : List ℕ) → line_rows text ≡ [] → output_of text ≡ []
+unfolding track_sizes
 output-none text e = output-picture text ∙ ap (λ found. picture_items encode_utf8 (grid_of (map one_line found))) e
 
 pub output-some : (text : List ℕ) (rows : List (List (Line ℕ))) → line_rows text ≡ rows → 0 < length rows → output_of text ≡ grid_text (content_widths rows) rows
@@ -86,7 +88,7 @@ output-some text (row ∷ rows) e some =
 
 total-some : (sizes : List ℕ) → 0 < length sizes → total sizes ≡ sum sizes + length sizes + 1
 total-some [] h = absurd (omega arith)
-total-some (size ∷ sizes) h = refl
+total-some (size ∷ sizes) h = omega arith
 
 padded-sum : (contents : List ℕ) → sum (map (λ content. content + 2) contents) + length (map (λ content. content + 2) contents) ≡ sum_by (λ content. content + 3) contents
 padded-sum [] = refl
@@ -134,7 +136,7 @@ total-height text row rows whole e =
     ∙ ap total (one_line-heights (row ∷ rows) some) ∙ ones-total (length (row ∷ rows)) several ∙ same
 
 pub fits-none : (text : List ℕ) → IsWholeText text → line_rows text ≡ [] → TableFits text
-unfolding TableFits
+unfolding TableFits track_sizes
 fits-none text whole e =
     let width : total (column_widths one_each (character_rows (chars (stripped text)))) ≡ 0 = ap total (character-widths text whole) ∙ ap (λ found. total (column_widths one_each (map one_line found))) e in
     let height : total (row_heights (character_rows (chars (stripped text)))) ≡ 0 = ap total (character-heights text whole) ∙ ap (λ found. total (row_heights (map one_line found))) e in
