@@ -16,22 +16,18 @@ use Rattle.columns.specs.Totals.{total}
 use Rattle.columns.specs.Frame.{boundary_at}
 use Rattle.columns.specs.Picture.{Grid, Piece, across, fill, fill_piece, boundary_pieces, cell_pieces, row_pieces, pieces_at, picture_line, line_items, picture_items}
 use Rattle.columns.specs.Layout.{one_each, grid_of}
-use Rattle.columns.specs.Printing.{content_width, content_widths, cells_text, row_text, border_part, border_text, grid_text}
+use Rattle.columns.specs.Printing.{one_line, content_width, content_widths, cells_text, row_text, border_part, border_text, grid_text}
 use Rattle.columns.proofs.AloneLemmas.{column_width, column_widths-alone, row_height, row_heights-alone}
 use Rattle.columns.proofs.Maps.{flat_map-flat_map, get_or-map}
 use Rattle.columns.proofs.Ranges.{flat_map-range_more, flat_map-range_all}
 use Rattle.columns.proofs.FrameLemmas.{place-boundary, place-row}
 
--- a row of cells of one line each
-abbrev pub one_line : List (Line ℕ) → List (List (Line ℕ))
-one_line row = map (λ line. line ∷ []) row
-
 -- ---- sizes
 
-one_line-cell : (row : List (Line ℕ)) (j : ℕ) → cell_at (one_line row) j ≡ slice_index_or row j empty_line ∷ []
+pub one_line-cell : (row : List (Line ℕ)) (j : ℕ) → cell_at (one_line row) j ≡ slice_index_or row j empty_line ∷ []
 one_line-cell row j = get_or-map (λ (line : Line ℕ). line ∷ []) row j empty_line
 
-one_line-count : (rows : List (List (Line ℕ))) → column_count (map one_line rows) ≡ greatest (map (λ row. length row) rows)
+pub one_line-count : (rows : List (List (Line ℕ))) → column_count (map one_line rows) ≡ greatest (map (λ row. length row) rows)
 one_line-count rows =
     ap greatest (map-map (λ (row : List (List (Line ℕ))). length row) one_line rows)
     ∙ (λ n. greatest (map (λ row. length-map row (λ (line : Line ℕ). line ∷ []) n) rows))

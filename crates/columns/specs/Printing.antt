@@ -1,6 +1,6 @@
 -- What the printing functions append, line by line, in a table whose rows are one line high. That this is the picture
 -- is proved in `proofs/PrintingLemmas`.
-use Rattle.std.specs.Prelude.{◌*◌, ◌<◌, sum_by, ℕ, ◌+◌, ◌-◌, ◌≤◌, Bool, ◌==◌, false, List, [], ◌∷◌, ◌++◌, map, flat_map, length, take, drop, replicate, slice_index, slice_index_or, vec_items, chars}
+use Rattle.std.specs.Prelude.{◌<◌, ℕ, ◌-◌, ◌≤◌, Bool, ◌==◌, false, List, [], ◌∷◌, ◌++◌, map, flat_map, length, take, drop, replicate, slice_index, slice_index_or, vec_items, chars}
 use Rattle.std.specs.Borrow.{Bor}
 use Rattle.std.specs.Int.{is_in_range}
 use Rattle.std.specs.List.{range_with_len, list_all}
@@ -26,6 +26,10 @@ byte_line bytes = record { measure = measure (chars bytes); items = bytes }
 -- the rows of a text, each cell its one line
 abbrev pub line_rows : List ℕ → List (List (Line ℕ))
 line_rows text = map (map part_line) (cell_parts text)
+
+-- a row of cells of one line each
+abbrev pub one_line : List (Line ℕ) → List (List (Line ℕ))
+one_line row = map (λ line. line ∷ []) row
 
 -- there is a last part, and it shows nothing
 abbrev pub last_is_bare : List (List ℕ) → Bool
@@ -70,14 +74,6 @@ border_text contents = flat_map border_part contents ++ 0x2b ∷ 0x0a ∷ []
 
 abbrev pub rows_text : List ℕ → List (List (Line ℕ)) → List ℕ
 rows_text contents rows = flat_map (λ row. row_text contents row ++ border_text contents) rows
-
--- the columns of the contents, each with its padding and the boundary before it, and the last boundary
-abbrev pub table_width : List ℕ → ℕ
-table_width contents = 1 + sum_by (λ content. content + 3) contents
-
--- each row and the boundary before it, and the last boundary
-abbrev pub table_height : ℕ → ℕ
-table_height rows = rows * 2 + 1
 
 abbrev pub grid_text : List ℕ → List (List (Line ℕ)) → List ℕ
 grid_text contents rows = border_text contents ++ rows_text contents rows

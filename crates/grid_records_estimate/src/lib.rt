@@ -19,6 +19,7 @@ pub use estimate::Estimate;
 pub use iter::IterGridDimension;
 pub use need::Need;
 pub use peekable::PeekableGridDimension;
+pub use sizes::total;
 
 #[cfg(test)]
 mod tests;

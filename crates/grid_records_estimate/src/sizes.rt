@@ -119,8 +119,10 @@ pub(crate) fn height_total<R: Records, S: Sizing>(
     )
 }
 
-/// The sizes with the boundaries that are there and both margins, and 0 where there are no sizes.
-pub(crate) fn total(
+/// The sizes of a table's columns or rows together with the boundaries that are there and the margins
+/// before and behind, 0 where there are no sizes. Refused as `Range` where they pass `usize::MAX`.
+/// Takes no memory.
+pub fn total(
     sizes: &[usize],
     boundaries: usize,
     before: usize,
