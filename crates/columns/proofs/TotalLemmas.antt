@@ -132,10 +132,6 @@ pub widths-padded : (text : List ℕ) (rows : List (List (Line ℕ))) → line_r
 widths-padded text [] e some = absurd (omega arith)
 widths-padded text (row ∷ rows) e some = one_line-widths row rows
 
-pub unpadded : (contents : List ℕ) → map (λ width. width - 2) (map (λ content. content + 2) contents) ≡ contents
-unpadded [] = refl
-unpadded (content ∷ contents) = let first : content + 2 - 2 ≡ content = omega arith in (λ n. first n ∷ unpadded contents n)
-
 greatest-padded : (contents : List ℕ) → greatest contents ≤ sum (map (λ content. content + 2) contents)
 greatest-padded [] = omega arith
 greatest-padded (content ∷ contents) = omega (arith, sum_by-cons (λ n. n) (content + 2) (map (λ content. content + 2) contents), greatest-padded contents)

@@ -6,8 +6,8 @@ use Rattle.std.specs.Int.{is_in_range}
 use Rattle.std.specs.List.{range_with_len, list_all}
 use Rattle.columns.specs.Rows.{stripped, cell_parts}
 use Rattle.grid_records_measure.specs.Measures.{measure}
-use Rattle.columns.specs.Estimates.{Line, empty_line, greatest}
-use Rattle.columns.specs.Layout.{part_line}
+use Rattle.columns.specs.Estimates.{Line, column_widths, empty_line}
+use Rattle.columns.specs.Layout.{one_each, part_line}
 use Rattle.columns.specs.declared.rows.Cell.{Cell}
 use Rattle.columns.specs.declared.rows.Rows.{Rows}
 
@@ -50,12 +50,9 @@ cut (n ∷ ns) xs = take n xs ∷ cut ns (drop n xs)
 abbrev pub rows_shown : Rows → List (List (Line ℕ))
 rows_shown rows = cut (vec_items rows.counts) (map shown (vec_items rows.cells))
 
--- the greatest measure in column j
-abbrev pub content_width : List (List (Line ℕ)) → ℕ → ℕ
-content_width rows j = greatest (map (λ row. (slice_index_or row j empty_line).measure) rows)
-
+-- what texts have of the widths: all but the padding
 abbrev pub content_widths : List (List (Line ℕ)) → List ℕ
-content_widths rows = map (content_width rows) (range_with_len 0 (greatest (map (λ row. length row) rows)))
+content_widths rows = map (λ width. width - 2) (column_widths one_each (map one_line rows))
 
 abbrev pub cell_text : ℕ → Line ℕ → List ℕ
 cell_text content line = 0x7c ∷ 0x20 ∷ (line.items ++ (replicate (content - line.measure) 0x20 ++ 0x20 ∷ []))

@@ -42,7 +42,7 @@ pub fn sizes_of(alloc: Global, rows: &Rows<'_>) -> Result<Sizes, Fault>
 }
 
 /// The sizes with how much the widths and heights take together. Refused as `Range` where either passes
-/// `usize::MAX`, and never for memory.
+/// `usize::MAX`.
 fn totalled(widths: Vec<usize>, heights: &[usize], borders: &Borders<char>) -> Result<Sizes, Fault>
     requires { borders.now ≡ all_set ascii }
     ensures widths { IfOk result (λ sizes. sizes.widths.items ≡ widths.items) }

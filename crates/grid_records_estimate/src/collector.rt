@@ -86,13 +86,13 @@ fn plain_size(need: Need) -> Option<usize>
 // Zeroes for the columns up to so many. It is apart from the way of every cell, since it is seldom called.
 #[cold]
 #[inline(never)]
-fn lengthen(sizes: &mut Vec<usize>, tracks: usize) -> Result<(), AllocError>
-    requires { vec_len sizes.old ≤ tracks }
-    ensures long { OnOk result (vec_len sizes.new ≡ tracks) }
+fn lengthen(sizes: &mut Vec<usize>, count: usize) -> Result<(), AllocError>
+    requires { vec_len sizes.old ≤ count }
+    ensures long { OnOk result (vec_len sizes.new ≡ count) }
     ensures ok { OnOk result ((k : ℕ) → slice_index sizes.new.items k ≡ slice_index sizes.old.items k) }
     ensures err { OnErr result (sizes.new.items ≡ sizes.old.items) }
 {
-    sizes.resize(tracks, 0)?;
+    sizes.resize(count, 0)?;
     Ok(())
 }
 

@@ -10,7 +10,7 @@ use Rattle.columns.specs.Printing.{one_line, shown, content_widths, cut, rows_sh
 use Rattle.columns.proofs.SizeLemmas.{cut-some}
 use Rattle.columns.proofs.PictureLemmas.{whole_text}
 use Rattle.columns.proofs.OneLineLemmas.{cells-measured}
-use Rattle.columns.proofs.TotalLemmas.{TableFits-lines, lines-TableFits, contents-room, fits-none, output-none, output-some, unpadded, widths-padded}
+use Rattle.columns.proofs.TotalLemmas.{TableFits-lines, lines-TableFits, contents-room, fits-none, output-none, output-some, widths-padded}
 use Rattle.columns.proofs.layout.table_of_rows.Goals as goal
 use Rattle.columns.proofs.layout.table_of_rows.Goals.{After-new}
 
@@ -41,7 +41,7 @@ module _ (text : List ℕ) (rows : Rows) (widths contents : List ℕ) (are : row
   padded = widths-padded text (rows_shown rows) (sym are) some
 
   contents_are : contents ≡ content_widths (rows_shown rows)
-  contents_are = left ∙ ap (map (λ width. width - 2)) (wide ∙ padded) ∙ unpadded (content_widths (rows_shown rows))
+  contents_are = left ∙ ap (map (λ width. width - 2)) wide
 
   contents_small : total (column_widths one_each (map one_line (rows_shown rows))) < 2 ^ 64 → greatest contents + 1 < 2 ^ 64
   contents_small fits =
