@@ -1,5 +1,5 @@
 -- Rows cut from a list of cells, and the greatest measures of their columns.
-use Rattle.std.proofs.Common.{◌≡◌, ℕ, suc, ◌+◌, ◌-◌, ◌<◌, ◌≤◌, max, List, [], ◌∷◌, map, length, sum, take, drop, get_or, refl, ap, sym, subst, ◌∙◌, arith, add-one, zero, length-drop, ext_get_or, All, ◌==◌, false}
+use Rattle.std.proofs.Common.{◌≡◌, ℕ, suc, ◌+◌, ◌-◌, ◌<◌, ◌≤◌, List, [], ◌∷◌, map, length, sum, take, drop, get_or, refl, ap, sym, subst, ◌∙◌, arith, add-one, zero, length-drop, All, ◌==◌, false}
 use Rattle.std.proofs.lemmas.Bool.Decides.{nat_tests}
 use Rattle.std.proofs.Math.Seq.{drop-cons}
 use Rattle.std.proofs.lemmas.List.{take_rest, length-take-le}
