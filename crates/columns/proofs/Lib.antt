@@ -1,8 +1,11 @@
+pub mod AloneLemmas
 pub mod CharacterLemmas
+pub mod EstimateLemmas
 pub mod FrameLemmas
 pub mod ItemLemmas
 pub mod Maps
 pub mod MeasureLemmas
+pub mod OneLineLemmas
 pub mod PartLemmas
 pub mod PassLemmas
 pub mod PictureLemmas
@@ -11,6 +14,7 @@ pub mod PrintLemmas
 pub mod PrintingLemmas
 pub mod Ranges
 pub mod ReadingLemmas
+pub mod RecordLemmas
 pub mod RowLemmas
 pub mod ServeLemmas
 pub mod ShowLemmas

@@ -65,18 +65,18 @@ styled-without_bare_last (part ∷ next ∷ parts) all =
     ap (λ others. styled_characters part ∷ others) (styled-without_bare_last (next ∷ parts) all.1)
     ∙ sym (without_empty_last-more (styled_characters part) (styled_characters next) (map styled_characters parts))
 
-closed-if : (bare : Bool) (part : List ℕ) → IsClosedPart part → AllByRecursion IsClosedPart (if bare then [] else part ∷ [])
-closed-if true part closed = tt
-closed-if false part closed = (closed, tt)
+one-if : (P : List ℕ → Type 0) (bare : Bool) (part : List ℕ) → P part → AllByRecursion P (if bare then [] else part ∷ [])
+one-if P true part here = tt
+one-if P false part here = (here, tt)
 
-closed-without_bare_last : (parts : List (List ℕ)) → AllByRecursion IsClosedPart parts → AllByRecursion IsClosedPart (without_bare_last parts)
-closed-without_bare_last [] all = tt
-closed-without_bare_last (part ∷ []) all = closed-if (length (stripped part) == 0) part all.0
-closed-without_bare_last (part ∷ next ∷ parts) all = (all.0, closed-without_bare_last (next ∷ parts) all.1)
+pub without_bare_last-keeps : (P : List ℕ → Type 0) (parts : List (List ℕ)) → AllByRecursion P parts → AllByRecursion P (without_bare_last parts)
+without_bare_last-keeps P [] all = tt
+without_bare_last-keeps P (part ∷ []) all = one-if P (length (stripped part) == 0) part all.0
+without_bare_last-keeps P (part ∷ next ∷ parts) all = (all.0, without_bare_last-keeps P (next ∷ parts) all.1)
 
 module _ (text : List ℕ) (whole : IsWholeText text) where
-  closed_rows : AllByRecursion IsClosedPart (row_parts text)
-  closed_rows = closed-without_bare_last (parts_at line_feed text) (closed-parts_at line_feed text (lit< tt) whole)
+  pub closed_rows : AllByRecursion IsClosedPart (row_parts text)
+  closed_rows = without_bare_last-keeps IsClosedPart (parts_at line_feed text) (closed-parts_at line_feed text (lit< tt) whole)
 
   pub closed_cells : AllByRecursion (AllByRecursion IsClosedPart) (cell_parts text)
   closed_cells =
@@ -191,7 +191,7 @@ output-shows text whole =
 abbrev EndsPlain : Styled → Type 0
 EndsPlain x = x.0 ≡ line_feed → x.1 ≡ plain_attributes
 
-abbrev Fails : {X : Type 0} → (X → Bool) → X → Type 0
+abbrev pub Fails : {X : Type 0} → (X → Bool) → X → Type 0
 Fails p x = p x ≡ false
 
 onto-first : {X : Type 0} (P : X → Type 0) (x : X) (parts : List (List X)) → P x → AllByRecursion (AllByRecursion P) parts → AllByRecursion (AllByRecursion P) (onto_first x parts)
@@ -199,7 +199,7 @@ onto-first P x [] here all = ((here, tt), tt)
 onto-first P x (part ∷ parts) here all = ((here, all.0), all.1)
 
 -- no element of a part passes the test
-slice_split-fails : {X : Type 0} (p : X → Bool) (xs : List X) → AllByRecursion (AllByRecursion (Fails p)) (slice_split p xs)
+pub slice_split-fails : {X : Type 0} (p : X → Bool) (xs : List X) → AllByRecursion (AllByRecursion (Fails p)) (slice_split p xs)
 slice_split-fails p [] = (tt, tt)
 slice_split-fails {X} p (x ∷ xs) =
     let rest = slice_split-fails p xs in
@@ -210,7 +210,7 @@ slice_split-fails {X} p (x ∷ xs) =
     ] in
     step (p x) refl
 
-slice_split-keeps : {X : Type 0} (P : X → Type 0) (p : X → Bool) (xs : List X) → AllByRecursion P xs → AllByRecursion (AllByRecursion P) (slice_split p xs)
+pub slice_split-keeps : {X : Type 0} (P : X → Type 0) (p : X → Bool) (xs : List X) → AllByRecursion P xs → AllByRecursion (AllByRecursion P) (slice_split p xs)
 slice_split-keeps P p [] all = (tt, tt)
 slice_split-keeps P p (x ∷ xs) all =
     let rest = slice_split-keeps P p xs all.1 in

@@ -11,26 +11,23 @@ use Rattle.std.proofs.lemmas.Simd.{map-map}
 use Rattle.std.proofs.lemmas.Bool.Decides.{nat_tests}
 use Rattle.columns.specs.Rows.{line_feed}
 use Rattle.columns.specs.Glyphs.{BoundaryKind, First, Between, Last, ascii, boundary_kind, intersection_glyph, horizontal_glyph, vertical_glyph}
-use Rattle.columns.specs.Estimates.{Line, empty_line, cell_at, greatest, cell_width, column_count, column_width, column_widths, row_height, row_heights}
+use Rattle.columns.specs.Estimates.{Line, empty_line, cell_at, greatest, cell_width, column_count, column_widths, row_heights}
 use Rattle.columns.specs.Totals.{total}
 use Rattle.columns.specs.Frame.{boundary_at}
 use Rattle.columns.specs.Picture.{Grid, Piece, across, fill, fill_piece, boundary_pieces, cell_pieces, row_pieces, pieces_at, picture_line, line_items, picture_items}
 use Rattle.columns.specs.Layout.{one_each, grid_of}
-use Rattle.columns.specs.Printing.{content_width, content_widths, cells_text, row_text, border_part, border_text, grid_text}
+use Rattle.columns.specs.Printing.{one_line, content_widths, cells_text, row_text, border_part, border_text, grid_text}
+use Rattle.columns.proofs.AloneLemmas.{column_width, column_widths-alone, row_height, row_heights-alone}
 use Rattle.columns.proofs.Maps.{flat_map-flat_map, get_or-map}
 use Rattle.columns.proofs.Ranges.{flat_map-range_more, flat_map-range_all}
 use Rattle.columns.proofs.FrameLemmas.{place-boundary, place-row}
 
--- a row of cells of one line each
-abbrev pub one_line : List (Line ℕ) → List (List (Line ℕ))
-one_line row = map (λ line. line ∷ []) row
-
 -- ---- sizes
 
-one_line-cell : (row : List (Line ℕ)) (j : ℕ) → cell_at (one_line row) j ≡ slice_index_or row j empty_line ∷ []
+pub one_line-cell : (row : List (Line ℕ)) (j : ℕ) → cell_at (one_line row) j ≡ slice_index_or row j empty_line ∷ []
 one_line-cell row j = get_or-map (λ (line : Line ℕ). line ∷ []) row j empty_line
 
-one_line-count : (rows : List (List (Line ℕ))) → column_count (map one_line rows) ≡ greatest (map (λ row. length row) rows)
+pub one_line-count : (rows : List (List (Line ℕ))) → column_count (map one_line rows) ≡ greatest (map (λ row. length row) rows)
 one_line-count rows =
     ap greatest (map-map (λ (row : List (List (Line ℕ))). length row) one_line rows)
     ∙ (λ n. greatest (map (λ row. length-map row (λ (line : Line ℕ). line ∷ []) n) rows))
@@ -38,6 +35,13 @@ one_line-count rows =
 greatest-plus : {A : Type 0} (f : A → ℕ) (x : A) (xs : List A) → greatest (map (λ y. f y + 2) (x ∷ xs)) ≡ greatest (map f (x ∷ xs)) + 2
 greatest-plus f x [] = omega arith
 greatest-plus f x (y ∷ ys) = omega (arith, greatest-plus f y ys)
+
+-- the greatest measure in column j
+abbrev pub content_width : List (List (Line ℕ)) → ℕ → ℕ
+content_width rows j = greatest (map (λ row. (slice_index_or row j empty_line).measure) rows)
+
+abbrev pub greatest_measures : List (List (Line ℕ)) → List ℕ
+greatest_measures rows = map (content_width rows) (range_with_len 0 (greatest (map (λ row. length row) rows)))
 
 one_line-width : (row : List (Line ℕ)) (rows : List (List (Line ℕ))) (j : ℕ) → column_width one_each (map one_line (row ∷ rows)) j ≡ content_width (row ∷ rows) j + 2
 one_line-width row rows j =
@@ -48,12 +52,25 @@ one_line-width row rows j =
     ∙ (λ n. greatest (map (λ cells. padded cells n) (row ∷ rows)))
     ∙ greatest-plus measured row rows
 
-pub one_line-widths : (row : List (Line ℕ)) (rows : List (List (Line ℕ))) → column_widths one_each (map one_line (row ∷ rows)) ≡ map (λ content. content + 2) (content_widths (row ∷ rows))
-one_line-widths row rows =
+one_line-padded : (row : List (Line ℕ)) (rows : List (List (Line ℕ))) → column_widths one_each (map one_line (row ∷ rows)) ≡ map (λ content. content + 2) (greatest_measures (row ∷ rows))
+one_line-padded row rows =
     let columns = greatest (map (λ cells. length cells) (row ∷ rows)) in
-    ap (λ n. map (column_width one_each (map one_line (row ∷ rows))) (range_with_len 0 n)) (one_line-count (row ∷ rows))
+    column_widths-alone one_each (map one_line (row ∷ rows))
+    ∙ ap (λ n. map (column_width one_each (map one_line (row ∷ rows))) (range_with_len 0 n)) (one_line-count (row ∷ rows))
     ∙ (λ n. map (λ j. one_line-width row rows j n) (range_with_len 0 columns))
     ∙ sym (map-map (λ (content : ℕ). content + 2) (content_width (row ∷ rows)) (range_with_len 0 columns))
+
+pub unpadded : (contents : List ℕ) → map (λ width. width - 2) (map (λ content. content + 2) contents) ≡ contents
+unpadded [] = refl
+unpadded (content ∷ contents) = let first : content + 2 - 2 ≡ content = omega arith in (λ n. first n ∷ unpadded contents n)
+
+-- what the widths leave beside the padding are the greatest measures
+pub content_widths-measured : (rows : List (List (Line ℕ))) → content_widths rows ≡ greatest_measures rows
+content_widths-measured [] = ap (map (λ width. width - 2)) (column_widths-alone one_each (let none : List (List (List (Line ℕ))) = [] in none))
+content_widths-measured (row ∷ rows) = ap (map (λ width. width - 2)) (one_line-padded row rows) ∙ unpadded (greatest_measures (row ∷ rows))
+
+pub one_line-widths : (row : List (Line ℕ)) (rows : List (List (Line ℕ))) → column_widths one_each (map one_line (row ∷ rows)) ≡ map (λ content. content + 2) (content_widths (row ∷ rows))
+one_line-widths row rows = one_line-padded row rows ∙ ap (map (λ content. content + 2)) (sym (content_widths-measured (row ∷ rows)))
 
 greatest-ones : (a n : ℕ) → greatest (map (λ (j : ℕ). 1) (range_with_len a (suc n))) ≡ 1
 greatest-ones a zero = refl
@@ -71,7 +88,8 @@ pub one_line-heights : (rows : List (List (Line ℕ))) → 0 < greatest (map (λ
 one_line-heights rows h =
     let columns = greatest (map (λ row. length row) rows) in
     let some : (columns == 0) ≡ false = grind (arith, nat_tests) in
-    ap (λ n. if n == 0 then [] else map (row_height n) (map one_line rows)) (one_line-count rows)
+    row_heights-alone (map one_line rows)
+    ∙ ap (λ n. if n == 0 then [] else map (row_height n) (map one_line rows)) (one_line-count rows)
     ∙ ap (λ b. if b then [] else map (row_height columns) (map one_line rows)) some
     ∙ map-map (row_height columns) one_line rows
     ∙ (λ n. map (λ row. greatest (map (λ j. length (one_line-cell row j n)) (range_with_len 0 columns))) rows)

@@ -7,12 +7,13 @@ use Rattle.std.proofs.lemmas.List.Folds.{flat_map-map}
 use Rattle.std.proofs.lemmas.Simd.{map-map}
 use Rattle.columns.specs.Rows.{line_feed}
 use Rattle.columns.specs.Glyphs.{Borders, BoundaryKind, boundary_kind, intersection_glyph, horizontal_glyph, vertical_glyph}
-use Rattle.columns.specs.Estimates.{Line, empty_line, Padding, cell_at, greatest, cell_width, column_count, column_width, column_widths, row_height, row_heights}
+use Rattle.columns.specs.Estimates.{Line, empty_line, Padding, cell_at, greatest, cell_width, column_count, column_widths, row_heights}
 use Rattle.columns.specs.Totals.{total}
 use Rattle.columns.specs.Frame.{boundary_at, Place, RowBoundary, RowLine, Outside, place}
 use Rattle.columns.specs.Picture.{space, Grid, Piece, across, fill_piece, boundary_pieces, cell_pieces, row_pieces, pieces_at, picture_line, line_items, picture_items}
 use Rattle.columns.specs.Readings.{read_line, read_rows}
 use Rattle.columns.specs.Layout.{one_each, grid_of}
+use Rattle.columns.proofs.AloneLemmas.{column_width, column_widths-alone, row_height, row_heights-alone}
 use Rattle.columns.proofs.Maps.{flat_map-flat_map, map-flat_map, get_or-map}
 
 -- the same table with its cells read so; its sizes stay
@@ -125,8 +126,10 @@ module _ {X Y : Type 0} (f : X → List Y) (item : ℕ → List X) where
 
   pub read-column_widths : (padding : Padding) (rows : List (List (List (Line X)))) → column_widths padding (read_rows f rows) ≡ column_widths padding rows
   read-column_widths padding rows =
-      ap (λ n. map (column_width padding (read_rows f rows)) (range_with_len 0 n)) (read-column_count rows)
+      column_widths-alone padding (read_rows f rows)
+      ∙ ap (λ n. map (column_width padding (read_rows f rows)) (range_with_len 0 n)) (read-column_count rows)
       ∙ (λ n. map (λ j. read-column_width padding rows j n) (range_with_len 0 (column_count rows)))
+      ∙ sym (column_widths-alone padding rows)
 
   read-row_height : (columns : ℕ) (row : List (List (Line X))) → row_height columns (map (map (read_line f)) row) ≡ row_height columns row
   read-row_height columns row =
@@ -135,8 +138,10 @@ module _ {X Y : Type 0} (f : X → List Y) (item : ℕ → List X) where
 
   pub read-row_heights : (rows : List (List (List (Line X)))) → row_heights (read_rows f rows) ≡ row_heights rows
   read-row_heights rows =
-      ap (λ n. if n == 0 then [] else map (row_height n) (read_rows f rows)) (read-column_count rows)
+      row_heights-alone (read_rows f rows)
+      ∙ ap (λ n. if n == 0 then [] else map (row_height n) (read_rows f rows)) (read-column_count rows)
       ∙ ap (λ heights. if column_count rows == 0 then [] else heights) (map-map (row_height (column_count rows)) (map (map (read_line f))) rows ∙ (λ n. map (λ row. read-row_height (column_count rows) row n) rows))
+      ∙ sym (row_heights-alone rows)
 
   pub read-grid_of : (rows : List (List (List (Line X)))) → read_grid f (grid_of rows) ≡ grid_of (read_rows f rows)
   read-grid_of rows =

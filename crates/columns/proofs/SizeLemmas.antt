@@ -1,5 +1,5 @@
--- The greatest measures of columns, row by row.
-use Rattle.std.proofs.Common.{◌≡◌, ℕ, suc, ◌+◌, ◌-◌, ◌<◌, ◌≤◌, max, List, [], ◌∷◌, map, length, sum, take, drop, get_or, refl, ap, sym, ◌∙◌, arith, add-one, zero, length-drop, ext_get_or, All, ◌==◌, false}
+-- Rows cut from a list of cells, and the greatest measures of their columns.
+use Rattle.std.proofs.Common.{◌≡◌, ℕ, suc, ◌+◌, ◌-◌, ◌<◌, ◌≤◌, List, [], ◌∷◌, map, length, sum, take, drop, get_or, refl, ap, sym, subst, ◌∙◌, arith, add-one, zero, length-drop, All, ◌==◌, false}
 use Rattle.std.proofs.lemmas.Bool.Decides.{nat_tests}
 use Rattle.std.proofs.Math.Seq.{drop-cons}
 use Rattle.std.proofs.lemmas.List.{take_rest, length-take-le}
@@ -7,8 +7,9 @@ use Rattle.std.proofs.lemmas.List.Sums.{sum_by-cons}
 use Rattle.std.specs.List.{drop-map}
 use Rattle.std.proofs.lemmas.List.FromFn.{length-map-range_with_len, get_or-map-range_with_len}
 use Rattle.columns.specs.Estimates.{Line, empty_line, greatest}
-use Rattle.columns.specs.Printing.{shown, cut, content_width, content_widths, Fits}
+use Rattle.columns.specs.Printing.{shown, cut, content_widths, Fits}
 use Rattle.columns.specs.declared.rows.Cell.{Cell}
+use Rattle.columns.proofs.PrintingLemmas.{content_width, content_widths-measured, greatest_measures}
 
 -- the first of the rows that are left, and the others
 pub cut-step : {X : Type 0} (counts : List ℕ) (i : ℕ) (xs : List X) → i < length counts
@@ -16,16 +17,6 @@ pub cut-step : {X : Type 0} (counts : List ℕ) (i : ℕ) (xs : List X) → i < 
 cut-step counts i xs h =
     let next : drop i counts ≡ get_or counts i 0 ∷ drop (i + 1) counts = rw add-one (drop-cons counts i 0 h) in
     ap (λ ns. cut ns xs) next
-
--- the first of the rows that are left gives its cell to column j, and the others stay
-pub content_width-step : (counts : List ℕ) (i j width : ℕ) (lines : List (Line ℕ)) → i < length counts
-    → max width (content_width (cut (drop i counts) lines) j)
-    ≡ max (max width (get_or (take (get_or counts i 0) lines) j empty_line).measure) (content_width (cut (drop (i + 1) counts) (drop (get_or counts i 0) lines)) j)
-content_width-step counts i j width lines h =
-    let front = (get_or (take (get_or counts i 0) lines) j empty_line).measure in
-    let others = content_width (cut (drop (i + 1) counts) (drop (get_or counts i 0) lines)) j in
-    let grouped : max width (max front others) ≡ max (max width front) others = omega arith in
-    ap (λ rows. max width (content_width rows j)) (cut-step counts i lines h) ∙ grouped
 
 pub sum-step : (counts : List ℕ) (i : ℕ) → i < length counts → sum (drop i counts) ≡ get_or counts i 0 + sum (drop (i + 1) counts)
 sum-step counts i h =
@@ -50,38 +41,24 @@ length-cut {X} (n ∷ ns) xs h =
     let left : sum ns ≡ length (drop n xs) = omega (arith, total, length-drop n xs) in
     ap (λ k. k ∷ map (λ piece. length piece) (cut ns (drop n xs))) (length-take-le n xs fits) ∙ ap (λ ks. n ∷ ks) (length-cut ns (drop n xs) left)
 
--- columns that were widened from 0 hold the greatest measures
-pub content_widths-from : (rows : List (List (Line ℕ))) (n : ℕ) (zeros contents : List ℕ) → greatest (map (λ row. length row) rows) ≡ n → length contents ≡ n
-    → ((j : ℕ) → j < n → get_or zeros j 0 ≡ 0)
-    → ((j : ℕ) → j < n → get_or contents j 0 ≡ max (get_or zeros j 0) (content_width rows j))
-    → contents ≡ content_widths rows
-content_widths-from rows n zeros contents most len none wider =
-    let wide = content_width rows in
-    let size : length (content_widths rows) ≡ length contents = length-map-range_with_len wide 0 (greatest (map (λ row. length row) rows)) ∙ most ∙ sym len in
-    ext_get_or 0 contents (content_widths rows) (sym size) (λ j h.
-    let inside : j < n = omega arith in
-    let here : j < greatest (map (λ row. length row) rows) = omega arith in
-    let same : 0 + j ≡ j = omega arith in
-    let zero_there = none j inside in
-    let first = wider j inside in
-    let value : max (get_or zeros j 0) (wide j) ≡ wide j = omega arith in
-    first ∙ value ∙ sym (get_or-map-range_with_len wide 0 (greatest (map (λ row. length row) rows)) j j 0 here same))
-
 content_width-among : (rows : List (List (Line ℕ))) (k j : ℕ) (d : List (Line ℕ)) → k < length rows → (get_or (get_or rows k d) j empty_line).measure ≤ content_width rows j
 content_width-among [] k j d h = absurd (omega arith)
 content_width-among (row ∷ rows) zero j d h = omega arith
 content_width-among (row ∷ rows) (suc k) j d h = let below : k < length rows = omega arith in omega (arith, content_width-among rows k j d below)
 
 -- each cell fits the greatest measure of its column
-pub content_widths-fit : (rows : List (List (Line ℕ))) → All (Fits (content_widths rows)) rows
-content_widths-fit rows = λ k d h j inside.
+measures-fit : (rows : List (List (Line ℕ))) → All (Fits (greatest_measures rows)) rows
+measures-fit rows = λ k d h j inside.
     let wide = content_width rows in
     let columns = greatest (map (λ row. length row) rows) in
-    let size : length (content_widths rows) ≡ columns = length-map-range_with_len wide 0 columns in
+    let size : length (greatest_measures rows) ≡ columns = length-map-range_with_len wide 0 columns in
     let below : j < columns = omega arith in
     let same : 0 + j ≡ j = omega arith in
-    let there : get_or (content_widths rows) j 0 ≡ wide j = get_or-map-range_with_len wide 0 columns j j 0 below same in
+    let there : get_or (greatest_measures rows) j 0 ≡ wide j = get_or-map-range_with_len wide 0 columns j j 0 below same in
     rw there (content_width-among rows k j d h)
+
+pub content_widths-fit : (rows : List (List (Line ℕ))) → All (Fits (content_widths rows)) rows
+content_widths-fit rows = subst (λ (contents : List ℕ). All (Fits contents) rows) (sym (content_widths-measured rows)) (measures-fit rows)
 
 pub length-cut_counts : {X : Type 0} (counts : List ℕ) (xs : List X) → length (cut counts xs) ≡ length counts
 length-cut_counts [] xs = refl

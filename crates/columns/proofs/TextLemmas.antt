@@ -13,11 +13,10 @@ use Rattle.columns.specs.Estimates.{Line}
 use Rattle.columns.specs.Picture.{picture_items}
 use Rattle.columns.specs.Readings.{read_line, read_rows}
 use Rattle.columns.specs.Layout.{grid_of, character_line, character_rows, table_characters}
-use Rattle.columns.specs.Printing.{byte_line}
+use Rattle.columns.specs.Printing.{one_line, byte_line}
 use Rattle.columns.proofs.RowLemmas.{slice_split-parts}
 use Rattle.columns.proofs.ItemLemmas.{map-same}
 use Rattle.columns.proofs.ReadingLemmas.{read-table}
-use Rattle.columns.proofs.PrintingLemmas.{one_line}
 
 -- the elements put before the first part
 abbrev onto_front : {X : Type 0} → List X → List (List X) → List (List X)

@@ -7,11 +7,12 @@ use Rattle.std.proofs.lemmas.List.{take_more}
 use Rattle.std.proofs.lemmas.List.Sums.{sum_by-cons, sum_by-append}
 use Rattle.std.proofs.lemmas.List.FromFn.{length-map-range_with_len, get_or-map-range_with_len}
 use Rattle.columns.specs.Glyphs.{boundary_kind, intersection_glyph, horizontal_glyph, vertical_glyph}
-use Rattle.columns.specs.Estimates.{Line, empty_line, Padding, cell_at, greatest, cell_width, column_count, column_width, column_widths, row_height, row_heights}
+use Rattle.columns.specs.Estimates.{Line, empty_line, Padding, cell_at, greatest, cell_width, column_count, column_widths, row_heights}
 use Rattle.columns.specs.Totals.{total}
 use Rattle.columns.specs.Frame.{boundary_at, Place, RowBoundary, RowLine, Outside, place}
 use Rattle.columns.specs.Picture.{Grid, Piece, Tiles, across, fill_piece, boundary_pieces, cell_pieces, row_pieces, pieces_at, picture_line}
 use Rattle.columns.specs.Layout.{one_each, grid_of}
+use Rattle.columns.proofs.AloneLemmas.{column_width, column_widths-alone, row_height, row_heights-alone}
 use Rattle.columns.proofs.Ranges.{flat_map-range_more}
 
 Tiles-append : {X : Type 0} (a b c : ℕ) (xs ys : List (Piece X)) → Tiles a xs b → Tiles b ys c → Tiles a (xs ++ ys) c
@@ -25,7 +26,7 @@ boundary_at-more sizes i h =
 
 total-boundary : (sizes : List ℕ) → 0 < length sizes → total sizes ≡ boundary_at sizes (length sizes) + 1
 total-boundary [] h = absurd (omega arith)
-total-boundary (size ∷ sizes) h = ap (λ taken. sum taken + length (size ∷ sizes) + 1) (sym (take-length (size ∷ sizes)))
+total-boundary (size ∷ sizes) h = let all = ap sum (take-length (size ∷ sizes)) in omega (arith, all)
 
 module _ {X : Type 0} (sizes : List ℕ) (boundary column : ℕ → List (Piece X))
     (at_boundary : (j : ℕ) → Tiles (boundary_at sizes j) (boundary j) (boundary_at sizes j + 1))
@@ -81,7 +82,8 @@ module _ {X : Type 0} (item : ℕ → List X) (padding : Padding) where
   cell-fits rows i j k some inside =
       let needed = λ (row : List (List (Line X))). padding.left + cell_width (cell_at row j) + padding.right in
       let same : 0 + j ≡ j = omega arith in
-      let width : slice_index (column_widths padding rows) j ≡ column_width padding rows j = get_or-map-range_with_len (column_width padding rows) 0 (column_count rows) j j 0 inside same in
+      let width : slice_index (column_widths padding rows) j ≡ column_width padding rows j =
+      ap (λ widths. slice_index widths j) (column_widths-alone padding rows) ∙ get_or-map-range_with_len (column_width padding rows) 0 (column_count rows) j j 0 inside same in
       let least : (row : List (List (Line X))) → needed [] ≤ needed row = λ row. omega arith in
       let most : needed (slice_index_or rows i []) ≤ column_width padding rows j = greatest-least needed rows i [] (some_rows rows some) least in
       let line = line-fits (cell_at (slice_index_or rows i []) j) k in
@@ -143,14 +145,17 @@ total-some : (sizes : List ℕ) (y : ℕ) → y < total sizes → y ≤ sum size
 total-some [] y h = absurd (omega arith)
 total-some (size ∷ sizes) y h = omega arith
 
+length-widths : {X : Type 0} (rows : List (List (List (Line X)))) → length (column_widths one_each rows) ≡ column_count rows
+length-widths rows = ap (λ widths. length widths) (column_widths-alone one_each rows) ∙ length-map-range_with_len (column_width one_each rows) 0 (column_count rows)
+
 Tiles-place : {X : Type 0} (item : ℕ → List X) (rows : List (List (List (Line X)))) (p : Place) → 0 < column_count rows → IsInside p
     → Tiles 0 (pieces_at item (grid_of rows) p) (total (column_widths one_each rows))
 Tiles-place item rows (RowBoundary i) some inside =
-    let size = length-map-range_with_len (column_width one_each rows) 0 (column_count rows) in
+    let size = length-widths rows in
     let long : 0 < length (column_widths one_each rows) = omega (arith, size) in
     Tiles-boundary item (grid_of rows) i long
 Tiles-place item rows (RowLine i k) some inside =
-    let size = length-map-range_with_len (column_width one_each rows) 0 (column_count rows) in
+    let size = length-widths rows in
     let long : 0 < length (column_widths one_each rows) = omega (arith, size) in
     Tiles-row item one_each (grid_of rows) i k refl long
     (λ j h. let below : j < column_count rows = omega (arith, size) in cell-fits item one_each rows i j k some below)
@@ -158,7 +163,7 @@ Tiles-place item rows Outside some inside = absurd inside
 
 columns_of_heights : {X : Type 0} (rows : List (List (List (Line X)))) (y : ℕ) (none : Bool) → (column_count rows == 0) ≡ none → y < total (row_heights rows) → 0 < column_count rows
 columns_of_heights rows y true e h =
-    let gone : row_heights rows ≡ [] = ap (λ b. if b then [] else map (row_height (column_count rows)) rows) e in
+    let gone : row_heights rows ≡ [] = row_heights-alone rows ∙ ap (λ b. if b then [] else map (row_height (column_count rows)) rows) e in
     let short : total (row_heights rows) ≡ 0 = ap total gone in
     absurd (omega (arith, short))
 columns_of_heights rows y false e h = grind (arith, nat_tests)

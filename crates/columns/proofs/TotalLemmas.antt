@@ -1,12 +1,11 @@
 -- The output of a text and its totals, by the lines of its cells.
-use Rattle.std.proofs.Common.{◌≡◌, ℕ, ◌+◌, ◌^◌, ◌<◌, ◌≤◌, sum, sum_by, false, List, [], ◌∷◌, map, length, refl, ap, sym, subst, ◌∙◌, arith}
+use Rattle.std.proofs.Common.{◌≡◌, ℕ, ◌+◌, ◌^◌, ◌<◌, ◌≤◌, sum, false, List, [], ◌∷◌, map, length, ap, sym, subst, ◌∙◌, arith}
 use Rattle.std.specs.Prelude.{encode_utf8, encode_utf8_all, chars, IsUtf8}
 use Rattle.std.specs.List.{AllByRecursion}
 use Rattle.std.proofs.lemmas.Simd.{map-map}
 use Rattle.std.proofs.lemmas.Str.{encodes-chars}
 use Rattle.std.proofs.lemmas.List.{length-map}
 use Rattle.std.proofs.lemmas.List.Sums.{sum_by-cons}
-use Rattle.std.proofs.lemmas.List.FromFn.{length-map-range_with_len}
 use Rattle.ansi_scan.specs.Sequences.{Piece, ArePiecesOf, NoneBroken}
 use Rattle.ansi_scan.specs.Pieces.{pieces}
 use Rattle.ansi_scan.specs.Attributes.{plain_attributes}
@@ -16,14 +15,15 @@ use Rattle.ansi_str.specs.Matches.{bounds_between}
 use Rattle.ansi_str_text.proofs.Stripping.{has_escape-strip}
 use Rattle.columns.specs.Rows.{tab, stripped, places, parts_at, row_parts, cell_parts, rows_of}
 use Rattle.grid_records_measure.specs.Measures.{measure}
+use Rattle.grid_records_estimate.specs.Estimates.{track_sizes}
 use Rattle.columns.specs.Estimates.{Line, greatest, column_widths, row_heights}
 use Rattle.columns.specs.Totals.{total}
 use Rattle.columns.specs.Picture.{picture_items}
 use Rattle.columns.specs.Readings.{read_rows}
-use Rattle.columns.specs.Layout.{one_each, grid_of, character_rows, table_characters, characters_of, styled_rows, part_line, part_rows, output_of, TableFits}
-use Rattle.columns.specs.Printing.{byte_line, line_rows, content_width, content_widths, grid_text, table_width, table_height}
+use Rattle.columns.specs.Layout.{TotalsFit, one_each, grid_of, character_rows, table_characters, characters_of, styled_rows, part_line, part_rows, output_of, TableFits}
+use Rattle.columns.specs.Printing.{one_line, byte_line, line_rows, content_widths, grid_text}
 use Rattle.columns.proofs.ReadingLemmas.{read-column_widths, read-row_heights}
-use Rattle.columns.proofs.PrintingLemmas.{one_line, one_line-widths, one_line-heights, ones-total, grid_text-picture}
+use Rattle.columns.proofs.PrintingLemmas.{one_line-widths, grid_text-picture}
 use Rattle.columns.proofs.ItemLemmas.{map-same}
 use Rattle.columns.proofs.SplitLemmas.{styled_characters, IsWholeText}
 use Rattle.columns.proofs.ShowLemmas.{Styled, TextsAreUtf8-pieces, chars-strip_from, IsUtf8-strip, characters_of-styled}
@@ -74,6 +74,7 @@ some_columns (text ∷ texts) row rows e =
     omega arith
 
 pub output-none : (text : List ℕ) → line_rows text ≡ [] → output_of text ≡ []
+unfolding track_sizes
 output-none text e = output-picture text ∙ ap (λ found. picture_items encode_utf8 (grid_of (map one_line found))) e
 
 pub output-some : (text : List ℕ) (rows : List (List (Line ℕ))) → line_rows text ≡ rows → 0 < length rows → output_of text ≡ grid_text (content_widths rows) rows
@@ -83,15 +84,6 @@ output-some text (row ∷ rows) e some =
     ∙ grid_text-picture row rows (some_columns (row_parts text) row rows e)
 
 -- ---- totals
-
-total-some : (sizes : List ℕ) → 0 < length sizes → total sizes ≡ sum sizes + length sizes + 1
-total-some [] h = absurd (omega arith)
-total-some (size ∷ sizes) h = refl
-
-padded-sum : (contents : List ℕ) → sum (map (λ content. content + 2) contents) + length (map (λ content. content + 2) contents) ≡ sum_by (λ content. content + 3) contents
-padded-sum [] = refl
-padded-sum (content ∷ contents) =
-    omega (arith, sum_by-cons (λ n. n) (content + 2) (map (λ content. content + 2) contents), sum_by-cons (λ n. n + 3) content contents, padded-sum contents)
 
 -- sizes that a reading leaves are those of the characters
 sizes-kept : (sizes : (X : Type 0) → List (List (List (Line X))) → List ℕ) → ((X Y : Type 0) (f : X → List Y) (rows : List (List (List (Line X)))) → sizes Y (read_rows f rows) ≡ sizes X rows)
@@ -112,54 +104,41 @@ character-widths text whole = sizes-kept (λ X rows. column_widths one_each rows
 character-heights : (text : List ℕ) → IsWholeText text → row_heights (character_rows (chars (stripped text))) ≡ row_heights (map one_line (line_rows text))
 character-heights text whole = sizes-kept (λ X rows. row_heights rows) (λ X Y f rows. read-row_heights f (λ c. []) rows) text whole
 
-total-width : (text : List ℕ) (row : List (Line ℕ)) (rows : List (List (Line ℕ))) → IsWholeText text → line_rows text ≡ row ∷ rows
-    → total (column_widths one_each (character_rows (chars (stripped text)))) ≡ table_width (content_widths (row ∷ rows))
-total-width text row rows whole e =
-    let contents = content_widths (row ∷ rows) in
-    let padded = map (λ (content : ℕ). content + 2) contents in
-    let columns = greatest (map (λ cells. length cells) (row ∷ rows)) in
-    let some : 0 < columns = some_columns (row_parts text) row rows e in
-    let size : length padded ≡ columns = length-map contents (λ (content : ℕ). content + 2) ∙ length-map-range_with_len (content_width (row ∷ rows)) 0 columns in
-    let long : 0 < length padded = omega arith in
-    ap total (character-widths text whole) ∙ ap (λ found. total (column_widths one_each (map one_line found))) e
-    ∙ ap total (one_line-widths row rows) ∙ total-some padded long ∙ (let sums = padded-sum contents in omega (arith, sums))
-
-total-height : (text : List ℕ) (row : List (Line ℕ)) (rows : List (List (Line ℕ))) → IsWholeText text → line_rows text ≡ row ∷ rows
-    → total (row_heights (character_rows (chars (stripped text)))) ≡ table_height (length (row ∷ rows))
-total-height text row rows whole e =
-    let some = some_columns (row_parts text) row rows e in
-    let several : 0 < length (row ∷ rows) = omega arith in
-    let same : length (row ∷ rows) + length (row ∷ rows) + 1 ≡ table_height (length (row ∷ rows)) = omega arith in
-    ap total (character-heights text whole) ∙ ap (λ found. total (row_heights (map one_line found))) e
-    ∙ ap total (one_line-heights (row ∷ rows) some) ∙ ones-total (length (row ∷ rows)) several ∙ same
-
 pub fits-none : (text : List ℕ) → IsWholeText text → line_rows text ≡ [] → TableFits text
-unfolding TableFits
+unfolding TableFits track_sizes
 fits-none text whole e =
     let width : total (column_widths one_each (character_rows (chars (stripped text)))) ≡ 0 = ap total (character-widths text whole) ∙ ap (λ found. total (column_widths one_each (map one_line found))) e in
     let height : total (row_heights (character_rows (chars (stripped text)))) ≡ 0 = ap total (character-heights text whole) ∙ ap (λ found. total (row_heights (map one_line found))) e in
     record { width = omega (arith, width); height = omega (arith, height) }
 
--- the table fits exactly where the sums of the code do
-pub TableFits-sums : (text : List ℕ) (rows : List (List (Line ℕ))) → IsWholeText text → line_rows text ≡ rows → 0 < length rows
-    → table_width (content_widths rows) < 2 ^ 64 → table_height (length rows) < 2 ^ 64 → TableFits text
+-- the table fits exactly where that of its lines does
+pub TableFits-lines : (text : List ℕ) (rows : List (List (Line ℕ))) → IsWholeText text → line_rows text ≡ rows → TotalsFit (grid_of (map one_line rows)) → TableFits text
 unfolding TableFits
-TableFits-sums text [] whole e some width height = absurd (omega arith)
-TableFits-sums text (row ∷ rows) whole e some width height = record { width = omega (arith, total-width text row rows whole e); height = omega (arith, total-height text row rows whole e) }
+TableFits-lines text rows whole e fits =
+    let width = ap total (character-widths text whole) ∙ ap (λ found. total (column_widths one_each (map one_line found))) e in
+    let height = ap total (character-heights text whole) ∙ ap (λ found. total (row_heights (map one_line found))) e in
+    record { width = omega (arith, width, fits.width); height = omega (arith, height, fits.height) }
 
-pub TableFits-width : (text : List ℕ) (rows : List (List (Line ℕ))) → IsWholeText text → line_rows text ≡ rows → 0 < length rows → TableFits text → table_width (content_widths rows) < 2 ^ 64
+pub lines-TableFits : (text : List ℕ) (rows : List (List (Line ℕ))) → IsWholeText text → line_rows text ≡ rows → TableFits text → TotalsFit (grid_of (map one_line rows))
 unfolding TableFits
-TableFits-width text [] whole e some fits = absurd (omega arith)
-TableFits-width text (row ∷ rows) whole e some fits = omega (arith, total-width text row rows whole e, fits.width)
+lines-TableFits text rows whole e fits =
+    let width = ap total (character-widths text whole) ∙ ap (λ found. total (column_widths one_each (map one_line found))) e in
+    let height = ap total (character-heights text whole) ∙ ap (λ found. total (row_heights (map one_line found))) e in
+    record { width = omega (arith, width, fits.width); height = omega (arith, height, fits.height) }
 
-pub TableFits-height : (text : List ℕ) (rows : List (List (Line ℕ))) → IsWholeText text → line_rows text ≡ rows → 0 < length rows → TableFits text → table_height (length rows) < 2 ^ 64
-unfolding TableFits
-TableFits-height text [] whole e some fits = absurd (omega arith)
-TableFits-height text (row ∷ rows) whole e some fits = omega (arith, total-height text row rows whole e, fits.height)
+-- ---- contents
 
-pub greatest-sum : (contents : List ℕ) → greatest contents ≤ sum_by (λ content. content + 3) contents
-greatest-sum [] = omega arith
-greatest-sum (content ∷ contents) = omega (arith, sum_by-cons (λ n. n + 3) content contents, greatest-sum contents)
+pub widths-padded : (text : List ℕ) (rows : List (List (Line ℕ))) → line_rows text ≡ rows → 0 < length rows → column_widths one_each (map one_line rows) ≡ map (λ content. content + 2) (content_widths rows)
+widths-padded text [] e some = absurd (omega arith)
+widths-padded text (row ∷ rows) e some = one_line-widths row rows
+
+greatest-padded : (contents : List ℕ) → greatest contents ≤ sum (map (λ content. content + 2) contents)
+greatest-padded [] = omega arith
+greatest-padded (content ∷ contents) = omega (arith, sum_by-cons (λ n. n) (content + 2) (map (λ content. content + 2) contents), greatest-padded contents)
+
+pub contents-room : (contents : List ℕ) → total (map (λ content. content + 2) contents) < 2 ^ 64 → greatest contents + 1 < 2 ^ 64
+contents-room [] fits = omega arith
+contents-room (content ∷ contents) fits = omega (arith, greatest-padded (content ∷ contents), fits)
 
 -- ---- without sequences
 

@@ -1,6 +1,8 @@
 -- The least sizes that hold the cells of a table: a width for each column, a height for each row.
-use Rattle.std.specs.Prelude.{ℕ, ◌+◌, ◌==◌, max, List, [], ◌∷◌, map, length, slice_index_or, if◌then◌else◌}
-use Rattle.std.specs.List.{range_with_len}
+use Rattle.std.specs.Prelude.{ℕ, ◌+◌, true, List, [], ◌∷◌, map, length, slice_index_or}
+use Rattle.grid_records_estimate.specs.Estimates.{Axis, track_sizes}
+-- the greatest of some numbers, and 0 where there is none
+pub use Rattle.grid_records_estimate.specs.Estimates.{greatest}
 
 -- a line of a cell: the columns that it measures, and its items (characters, bytes or styled characters)
 pub record Line (X : Type 0) : Type 0 where
@@ -19,11 +21,6 @@ pub record Padding : Type 0 where
 abbrev pub cell_at : {X : Type 0} → List (List (Line X)) → ℕ → List (Line X)
 cell_at row j = slice_index_or row j (empty_line ∷ [])
 
--- the greatest of the numbers, and 0 where there is none
-abbrev pub greatest : List ℕ → ℕ
-greatest [] = 0
-greatest (n ∷ ns) = max n (greatest ns)
-
 abbrev pub cell_width : {X : Type 0} → List (Line X) → ℕ
 cell_width lines = greatest (map (λ line. line.measure) lines)
 
@@ -31,17 +28,30 @@ cell_width lines = greatest (map (λ line. line.measure) lines)
 abbrev pub column_count : {X : Type 0} → List (List (List (Line X))) → ℕ
 column_count rows = greatest (map (λ row. length row) rows)
 
--- the least width that holds each cell of column j with its padding
-abbrev pub column_width : {X : Type 0} → Padding → List (List (List (Line X))) → ℕ → ℕ
-column_width padding rows j = greatest (map (λ row. padding.left + cell_width (cell_at row j) + padding.right) rows)
+-- tracks of which each cell takes one, with all boundaries
+abbrev pub plain_axis : ℕ → ℕ → (ℕ → ℕ → ℕ) → Axis
+plain_axis tracks crossings need = record {
+  tracks = tracks;
+  crossings = crossings;
+  is_visible = λ _ _. true;
+  span = λ _ _. 1;
+  need = need;
+  has_boundary = λ _. true;
+}
 
+-- a table by its columns: a cell needs its widest line and its padding
+abbrev pub column_axis : {X : Type 0} → Padding → List (List (List (Line X))) → Axis
+column_axis padding rows =
+    plain_axis (column_count rows) (length rows) (λ j i. padding.left + cell_width (cell_at (slice_index_or rows i []) j) + padding.right)
+
+-- and by its rows: a cell needs its lines
+abbrev pub row_axis : {X : Type 0} → List (List (List (Line X))) → Axis
+row_axis rows = plain_axis (length rows) (column_count rows) (λ i j. length (cell_at (slice_index_or rows i []) j))
+
+-- the least widths of the columns
 abbrev pub column_widths : {X : Type 0} → Padding → List (List (List (Line X))) → List ℕ
-column_widths padding rows = map (column_width padding rows) (range_with_len 0 (column_count rows))
+column_widths padding rows = track_sizes (column_axis padding rows)
 
--- the least height that holds each cell of a row, in a table of so many columns
-abbrev pub row_height : {X : Type 0} → ℕ → List (List (Line X)) → ℕ
-row_height columns row = greatest (map (λ j. length (cell_at row j)) (range_with_len 0 columns))
-
--- none where there are no columns
+-- the least heights of the rows, none where there are no columns
 abbrev pub row_heights : {X : Type 0} → List (List (List (Line X))) → List ℕ
-row_heights rows = if column_count rows == 0 then [] else map (row_height (column_count rows)) rows
+row_heights rows = track_sizes (row_axis rows)

@@ -8,7 +8,9 @@ pub mod Layout
 pub mod Picture
 pub mod Printing
 pub mod Readings
+pub mod Records
 pub mod Rows
 pub mod Run
+pub mod Settings
 pub mod Streams
 pub mod Totals

@@ -1,13 +1,13 @@
 -- What the printing functions append, line by line, in a table whose rows are one line high. That this is the picture
 -- is proved in `proofs/PrintingLemmas`.
-use Rattle.std.specs.Prelude.{◌*◌, ◌<◌, sum_by, ℕ, ◌+◌, ◌-◌, ◌≤◌, Bool, ◌==◌, false, List, [], ◌∷◌, ◌++◌, map, flat_map, length, take, drop, replicate, slice_index, slice_index_or, vec_items, chars}
+use Rattle.std.specs.Prelude.{◌<◌, ℕ, ◌-◌, ◌≤◌, Bool, ◌==◌, false, List, [], ◌∷◌, ◌++◌, map, flat_map, length, take, drop, replicate, slice_index, slice_index_or, vec_items, chars}
 use Rattle.std.specs.Borrow.{Bor}
 use Rattle.std.specs.Int.{is_in_range}
 use Rattle.std.specs.List.{range_with_len, list_all}
 use Rattle.columns.specs.Rows.{stripped, cell_parts}
 use Rattle.grid_records_measure.specs.Measures.{measure}
-use Rattle.columns.specs.Estimates.{Line, empty_line, greatest}
-use Rattle.columns.specs.Layout.{part_line}
+use Rattle.columns.specs.Estimates.{Line, column_widths, empty_line}
+use Rattle.columns.specs.Layout.{one_each, part_line}
 use Rattle.columns.specs.declared.rows.Cell.{Cell}
 use Rattle.columns.specs.declared.rows.Rows.{Rows}
 
@@ -26,6 +26,10 @@ byte_line bytes = record { measure = measure (chars bytes); items = bytes }
 -- the rows of a text, each cell its one line
 abbrev pub line_rows : List ℕ → List (List (Line ℕ))
 line_rows text = map (map part_line) (cell_parts text)
+
+-- a row of cells of one line each
+abbrev pub one_line : List (Line ℕ) → List (List (Line ℕ))
+one_line row = map (λ line. line ∷ []) row
 
 -- there is a last part, and it shows nothing
 abbrev pub last_is_bare : List (List ℕ) → Bool
@@ -46,12 +50,9 @@ cut (n ∷ ns) xs = take n xs ∷ cut ns (drop n xs)
 abbrev pub rows_shown : Rows → List (List (Line ℕ))
 rows_shown rows = cut (vec_items rows.counts) (map shown (vec_items rows.cells))
 
--- the greatest measure in column j
-abbrev pub content_width : List (List (Line ℕ)) → ℕ → ℕ
-content_width rows j = greatest (map (λ row. (slice_index_or row j empty_line).measure) rows)
-
+-- what texts have of the widths: all but the padding
 abbrev pub content_widths : List (List (Line ℕ)) → List ℕ
-content_widths rows = map (content_width rows) (range_with_len 0 (greatest (map (λ row. length row) rows)))
+content_widths rows = map (λ width. width - 2) (column_widths one_each (map one_line rows))
 
 abbrev pub cell_text : ℕ → Line ℕ → List ℕ
 cell_text content line = 0x7c ∷ 0x20 ∷ (line.items ++ (replicate (content - line.measure) 0x20 ++ 0x20 ∷ []))
@@ -70,14 +71,6 @@ border_text contents = flat_map border_part contents ++ 0x2b ∷ 0x0a ∷ []
 
 abbrev pub rows_text : List ℕ → List (List (Line ℕ)) → List ℕ
 rows_text contents rows = flat_map (λ row. row_text contents row ++ border_text contents) rows
-
--- the columns of the contents, each with its padding and the boundary before it, and the last boundary
-abbrev pub table_width : List ℕ → ℕ
-table_width contents = 1 + sum_by (λ content. content + 3) contents
-
--- each row and the boundary before it, and the last boundary
-abbrev pub table_height : ℕ → ℕ
-table_height rows = rows * 2 + 1
 
 abbrev pub grid_text : List ℕ → List (List (Line ℕ)) → List ℕ
 grid_text contents rows = border_text contents ++ rows_text contents rows

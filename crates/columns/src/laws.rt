@@ -17,7 +17,7 @@ ghost use Rattle.columns.specs.Run.{HasTable};
 ghost use Rattle.grid_records_measure.specs.Measures.{measure};
 
 /// Tables worked out by hand.
-#[tactic(auto, unfolding(unicode_width::specs::Width::str_width, unicode_width::specs::Width::step, unicode_width::specs::Width::past_emoji))]
+#[tactic(auto, unfolding(grid_records_estimate::specs::Estimates::track_sizes, unicode_width::specs::Width::str_width, unicode_width::specs::Width::step, unicode_width::specs::Width::past_emoji))]
 pub fn worked_tables()
     ensures empty { table_characters [] ≡ [] }
     ensures two_by_two { table_characters (codes "a\tb\n1\t2\n") ≡ codes "+---+---+\n| a | b |\n+---+---+\n| 1 | 2 |\n+---+---+\n" }

@@ -8,7 +8,8 @@ ghost use Rattle.columns.specs.Printing.{rows_shown, line_rows};
 use crate::parts::{cell_parts, measured, row_parts, texts};
 use crate::print::grid_text;
 use crate::rows::{Rows, rows_of};
-use crate::sizes::{content_widths, table_height, table_width};
+use crate::sizes::{sizes_of, without_padding};
+use grid_config::Fault;
 use std::alloc::{AllocError, Global};
 
 /// Why a text has no table.
@@ -27,6 +28,21 @@ impl From<AllocError> for LayoutFault {
 
     fn from(_error: AllocError) -> LayoutFault {
         LayoutFault::Memory
+    }
+}
+
+/// Estimates are refused for these two reasons alone.
+impl From<Fault> for LayoutFault {
+    ghost use Rattle.grid_config_values.specs.declared.fault.Fault.TheVariants.{Range as SizeRange};
+    ghost use Rattle.columns.specs.declared.layout.LayoutFault.TheVariants.{Range};
+
+    ghost from_gives = { λ given fault. fault ≡ Range → given ≡ SizeRange };
+
+    fn from(fault: Fault) -> LayoutFault {
+        match fault {
+            Fault::Range => LayoutFault::Range,
+            _ => LayoutFault::Memory,
+        }
     }
 }
 
@@ -66,17 +82,16 @@ fn table_of_rows(alloc: Global, text: &str, rows: &Rows<'_>) -> Result<String, L
     if rows.counts.is_empty() {
         return Ok(String::new(alloc));
     }
-    let contents = content_widths(alloc, rows)?;
-    let Some(width) = table_width(&contents) else {
-        return Err(LayoutFault::Range);
+    let sizes = match sizes_of(alloc, rows) {
+        Ok(sizes) => sizes,
+        Err(fault) => return Err(LayoutFault::from(fault)),
     };
-    let Some(height) = table_height(rows.counts.len()) else {
-        return Err(LayoutFault::Range);
-    };
-    let size = width
+    let size = sizes
+        .width
         .saturating_add(1)
-        .saturating_mul(height)
+        .saturating_mul(sizes.height)
         .saturating_add(text.len());
+    let contents = without_padding(sizes.widths);
     let table = grid_text(alloc, rows, &contents, size)?;
     Ok(table)
 }

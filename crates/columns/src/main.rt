@@ -11,6 +11,7 @@ mod layout;
 mod output;
 mod parts;
 mod print;
+mod records;
 mod rows;
 mod run;
 mod sizes;

@@ -1,5 +1,5 @@
 //! What the cells of a table need, collected cell by cell, and the sizes that hold them.
-ghost use Rattle.std.specs.Prelude.{◌≡◌, ℕ, ◌+◌, ◌^◌, ◌<◌, ◌==◌, ◌⊎◌, [], ◌∷◌, ◌++◌, Err, IfErr, IfOk, List, OnErr, OnOk, None, Some, if◌then◌else◌, map, max, slice_index};
+ghost use Rattle.std.specs.Prelude.{◌≡◌, ℕ, ◌+◌, ◌^◌, ◌<◌, ◌≤◌, ◌==◌, ◌⊎◌, [], ◌∷◌, ◌++◌, Err, IfErr, IfOk, List, OnErr, OnOk, None, Some, if◌then◌else◌, map, max, slice_index, vec_len};
 ghost use Rattle.std.specs.List.Sorted.{IsPermutation, IsSorted};
 ghost use Rattle.grid_config_values.specs.declared.fault.Fault.TheVariants.{Memory, Range};
 ghost use Rattle.grid_records_estimate.specs.Estimates.{Axis, track_sizes};
@@ -43,6 +43,7 @@ impl Collector {
     }
 
     /// Adds what one cell needs. Refused for memory alone, and then nothing has changed.
+    #[inline(always)]
     pub(crate) fn add(&mut self, need: Need) -> Result<(), AllocError>
         requires some { 0 < need.length }
         requires room { need.first < usize.MAX }
@@ -82,6 +83,19 @@ fn plain_size(need: Need) -> Option<usize>
     usize::try_from(need.size).ok()
 }
 
+// Zeroes for the columns up to so many. It is apart from the way of every cell, since it is seldom called.
+#[cold]
+#[inline(never)]
+fn lengthen(sizes: &mut Vec<usize>, count: usize) -> Result<(), AllocError>
+    requires { vec_len sizes.old ≤ count }
+    ensures long { OnOk result (vec_len sizes.new ≡ count) }
+    ensures ok { OnOk result ((k : ℕ) → slice_index sizes.new.items k ≡ slice_index sizes.old.items k) }
+    ensures err { OnErr result (sizes.new.items ≡ sizes.old.items) }
+{
+    sizes.resize(count, 0)?;
+    Ok(())
+}
+
 // Raises the size of a column to this one, where it is less.
 fn raise(sizes: &mut Vec<usize>, track: usize, size: usize) -> Result<(), AllocError>
     requires { track < usize.MAX }
@@ -90,7 +104,7 @@ fn raise(sizes: &mut Vec<usize>, track: usize, size: usize) -> Result<(), AllocE
     ensures err { OnErr result (sizes.new.items ≡ sizes.old.items) }
 {
     if sizes.len() <= track {
-        sizes.resize(track + 1, 0)?;
+        lengthen(sizes, track + 1)?;
     }
     sizes[track] = sizes[track].max(size);
     Ok(())

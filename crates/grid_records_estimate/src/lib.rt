@@ -17,6 +17,7 @@ pub use compact::CompactGridDimension;
 pub use estimate::Estimate;
 pub use iter::IterGridDimension;
 pub use peekable::PeekableGridDimension;
+pub use sizes::total;
 
 #[cfg(test)]
 mod tests;

@@ -10,7 +10,6 @@ use crate::collector::Collector;
 use crate::need::Need;
 use crate::sizing::Sizing;
 use grid_config::Position;
-use grid_records_measure::get_text_dimension;
 use grid_records_rows::{Cell, Records};
 use std::alloc::AllocError;
 
@@ -82,7 +81,7 @@ fn collect_cell<C: Cell, S: Sizing>(
     if !cfg.is_visible(pos) {
         return Ok(());
     }
-    let (lines, width) = get_text_dimension(cell.text());
+    let (lines, width) = cell.dimension();
     let padding = cfg.padding(pos);
     widths.add(Need {
         length: cfg.columns(pos),

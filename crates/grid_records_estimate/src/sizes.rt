@@ -1,5 +1,6 @@
 //! The least sizes of a table, and its totals.
 ghost use Rattle.std.specs.Prelude.{◌≡◌, ◌+◌, ◌^◌, ◌<◌, ◌≤◌, ◌⊎◌, IfErr, IfOk, length};
+ghost use Rattle.grid_config_values.specs.declared.fault.Fault.TheVariants.{Range};
 ghost use Rattle.grid_records_estimate.specs.Collecting.{PassesMax};
 ghost use Rattle.grid_records_estimate.specs.Sizes.{IsRefusal, height_total, table_heights, table_widths, width_total};
 ghost use Rattle.grid_records_estimate.specs.Totals.{total as total_of};
@@ -119,8 +120,10 @@ pub(crate) fn height_total<R: Records, S: Sizing>(
     )
 }
 
-/// The sizes with the boundaries that are there and both margins, and 0 where there are no sizes.
-pub(crate) fn total(
+/// The sizes of a table's columns or rows together with the boundaries that are there and the margins
+/// before and behind, 0 where there are no sizes. Refused as `Range` where they pass `usize::MAX`.
+/// Takes no memory.
+pub fn total(
     sizes: &[usize],
     boundaries: usize,
     before: usize,
@@ -128,6 +131,7 @@ pub(crate) fn total(
 ) -> Result<usize, Fault>
     ensures ok { IfOk result (λ n. n ≡ total_of sizes.now boundaries before behind) }
     ensures refused { IfErr result (λ fault. IsRefusal fault (2 ^ 64 ≤ total_of sizes.now boundaries before behind)) }
+    ensures range { IfErr result (λ fault. fault ≡ Range) }
 {
     if sizes.is_empty() {
         return Ok(0);

@@ -7,9 +7,10 @@ use Rattle.ansi_scan.specs.Pieces.{pieces, first_pieces, front, at_escape, seque
 use Rattle.ansi_scan.specs.Attributes.{plain_attributes}
 use Rattle.ansi_scan.specs.Rendition.{applied, after_parameters}
 use Rattle.ansi_scan.specs.StartsAndEnds.{start_bytes, start_sequences, end_bytes, end_sequences}
+use Rattle.grid_records_estimate.specs.Estimates.{track_sizes}
 use Rattle.columns.specs.Layout.{output_of}
 use Rattle.columns.proofs.laws.worked_outputs.Goals as goal
 
 pub returns : goal.returns
-unfolding output_of pieces first_pieces front at_escape sequence_front opened control_from string_from escape_from applied after_parameters plain_attributes start_bytes start_sequences end_bytes end_sequences digits str_width step past_emoji chars encode
+unfolding output_of track_sizes pieces first_pieces front at_escape sequence_front opened control_from string_from escape_from applied after_parameters plain_attributes start_bytes start_sequences end_bytes end_sequences digits str_width step past_emoji chars encode
 returns c = record { two_cells = refl; two_lines = refl; lone_sequence = refl; tab_in_a_string = refl; same_color_twice = refl }

@@ -1,10 +1,16 @@
-use Rattle.std.proofs.Common.{◌≡◌, ℕ, List, ◌<◌, ◌^◌, ◌∙◌, [], map, length, ap, sym, subst, vec_len, eqb-true, arith}
-use Rattle.std.proofs.lemmas.List.{nil_from_length}
-use Rattle.columns.specs.Estimates.{greatest}
-use Rattle.columns.specs.Printing.{shown, cut, rows_shown, line_rows, grid_text, table_width, table_height}
-use Rattle.columns.proofs.SizeLemmas.{length-cut_counts, cut-some}
+use Rattle.std.proofs.Common.{◌≡◌, ◌==◌, ℕ, ◌+◌, ◌-◌, ◌<◌, ◌^◌, ◌∙◌, Bool, false, inl, inr, List, [], map, length, ap, sym, vec_len, eqb-true, arith}
+use Rattle.std.proofs.lemmas.List.{length-map, nil_from_length}
+use Rattle.grid_config_values.specs.declared.fault.Fault.TheVariants.{Memory, Range as SizeRange}
+use Rattle.columns.specs.Estimates.{column_widths, greatest}
+use Rattle.columns.specs.Layout.{one_each}
+use Rattle.columns.specs.Totals.{total}
+use Rattle.columns.specs.declared.layout.LayoutFault.TheVariants.{Range}
+use Rattle.columns.specs.declared.rows.Rows.{Rows}
+use Rattle.columns.specs.Printing.{one_line, shown, content_widths, cut, rows_shown, line_rows, grid_text}
+use Rattle.columns.proofs.SizeLemmas.{cut-some}
 use Rattle.columns.proofs.PictureLemmas.{whole_text}
-use Rattle.columns.proofs.TotalLemmas.{output-none, output-some, fits-none, TableFits-sums, TableFits-width, greatest-sum}
+use Rattle.columns.proofs.OneLineLemmas.{cells-measured}
+use Rattle.columns.proofs.TotalLemmas.{TableFits-lines, lines-TableFits, contents-room, fits-none, output-none, output-some, widths-padded}
 use Rattle.columns.proofs.layout.table_of_rows.Goals as goal
 use Rattle.columns.proofs.layout.table_of_rows.Goals.{After-new}
 
@@ -22,28 +28,62 @@ returns-then-is_empty-clause-table c = c.new.ensures.bytes ∙ sym (output-none 
 pub returns-then-is_empty-clause-fits : goal.returns-then-is_empty-clause-fits
 returns-then-is_empty-clause-fits c = fits-none c.args.text.now (whole_text c.args.text.now c.utf8.text c.requires.text) (none c)
 
-pub returns-in_default-clause-range : goal.returns-in_default-clause-range
-returns-in_default-clause-range c = λ _ fits.
-    let rows = rows_shown c.args.rows.now in
-    let some = cut-some (vec_len c.args.rows.now.counts) c.args.rows.now.counts.items (map shown c.args.rows.now.cells.items) (sym c.is_empty.ensures ∙ c.if-is_empty.false) c.args.rows.now.counts.ok.0 in
-    let width = TableFits-width c.args.text.now rows (whole_text c.args.text.now c.utf8.text c.requires.text) (sym c.requires.rows) some fits in
-    c.in_default.ensures (subst (λ (contents : List ℕ). table_width contents < 2 ^ 64) (sym (c.deref.ensures.value ∙ c.in_ok-contents.ensures)) width)
+pub sizes_of-requires-clause-measured : goal.sizes_of-requires-clause-measured
+sizes_of-requires-clause-measured c =
+    let text = c.args.text.now in
+    let rows = c.args.rows.now in
+    cells-measured text rows (whole_text text c.utf8.text c.requires.text) (c.requires.whole ∙ rows.cells.ok.0 ∙ sym (length-map rows.cells.items shown)) c.requires.rows
+
+-- what the widths leave beside the padding
+module _ (text : List ℕ) (rows : Rows) (widths contents : List ℕ) (are : rows_shown rows ≡ line_rows text) (some : 0 < length (rows_shown rows))
+    (wide : widths ≡ column_widths one_each (map one_line (rows_shown rows))) (left : contents ≡ map (λ width. width - 2) widths) where
+  padded : column_widths one_each (map one_line (rows_shown rows)) ≡ map (λ content. content + 2) (content_widths (rows_shown rows))
+  padded = widths-padded text (rows_shown rows) (sym are) some
+
+  contents_are : contents ≡ content_widths (rows_shown rows)
+  contents_are = left ∙ ap (map (λ width. width - 2)) wide
+
+  contents_small : total (column_widths one_each (map one_line (rows_shown rows))) < 2 ^ 64 → greatest contents + 1 < 2 ^ 64
+  contents_small fits =
+      let few : total (map (λ content. content + 2) (content_widths (rows_shown rows))) < 2 ^ 64 = omega (arith, ap total padded, fits) in
+      omega (arith, ap greatest contents_are, contents-room (content_widths (rows_shown rows)) few)
+
+some_rows : (rows : Rows) (empty : Bool) → empty ≡ (vec_len rows.counts == 0) → empty ≡ false → 0 < length (rows_shown rows)
+some_rows rows empty is not = cut-some (vec_len rows.counts) rows.counts.items (map shown rows.cells.items) (sym is ∙ not) rows.counts.ok.0
+
+pub grid_text-requires-clause-contents : goal.grid_text-requires-clause-contents
+grid_text-requires-clause-contents c =
+    let rows = c.args.rows.now in
+    c.deref.ensures.value
+    ∙ contents_are c.args.text.now rows c.in-Ok.sizes.widths.items c.without_padding-contents.result.items c.requires.rows (some_rows rows c.is_empty.result c.is_empty.ensures c.if-is_empty.false)
+    c.in-Ok.ensures.widths c.without_padding-contents.ensures
 
 pub grid_text-requires-clause-room : goal.grid_text-requires-clause-room
-grid_text-requires-clause-room c = omega (arith, c.in-Some.ensures, ap greatest (c.deref.ensures.value ∙ sym c.deref-2.ensures.value), greatest-sum c.deref.result.now)
+grid_text-requires-clause-room c =
+    let rows = c.args.rows.now in
+    let fits = c.in-Ok.ensures.fits in
+    contents_small c.args.text.now rows c.in-Ok.sizes.widths.items c.deref.result.now c.requires.rows (some_rows rows c.is_empty.result c.is_empty.ensures c.if-is_empty.false)
+    c.in-Ok.ensures.widths (c.deref.ensures.value ∙ c.without_padding-contents.ensures) fits.width
+
+pub returns-in-Err-clause-range : goal.returns-in-Err-clause-range
+returns-in-Err-clause-range c = λ is fits.
+    let text = c.args.text.now in
+    let lines = lines-TableFits text (rows_shown c.args.rows.now) (whole_text text c.utf8.text c.requires.text) (sym c.requires.rows) fits in
+    let range : c.from.result ≡ Range = cc is in
+    elim c.in-Err.ensures.refused [
+      | inl memory ↦ let clash : Memory ≡ SizeRange = sym memory ∙ c.from.ensures range in cc clash
+      | inr passes ↦ passes.1 lines
+    ]
 
 pub returns-clause-table : goal.returns-clause-table
 returns-clause-table c =
-    let rows = rows_shown c.args.rows.now in
-    let some = cut-some (vec_len c.args.rows.now.counts) c.args.rows.now.counts.items (map shown c.args.rows.now.cells.items) (sym c.is_empty.ensures ∙ c.if-is_empty.false) c.args.rows.now.counts.ok.0 in
-    c.in_ok-table.ensures ∙ ap (λ contents. grid_text contents rows) (c.deref-2.ensures.value ∙ c.in_ok-contents.ensures)
-    ∙ sym (output-some c.args.text.now rows (sym c.requires.rows) some)
+    let rows = c.args.rows.now in
+    let some = some_rows rows c.is_empty.result c.is_empty.ensures c.if-is_empty.false in
+    c.in_ok-table.ensures
+    ∙ ap (λ contents. grid_text contents (rows_shown rows)) (c.deref.ensures.value
+    ∙ contents_are c.args.text.now rows c.in-Ok.sizes.widths.items c.without_padding-contents.result.items c.requires.rows some c.in-Ok.ensures.widths c.without_padding-contents.ensures)
+    ∙ sym (output-some c.args.text.now (rows_shown rows) (sym c.requires.rows) some)
 
 pub returns-clause-fits : goal.returns-clause-fits
 returns-clause-fits c =
-    let rows = rows_shown c.args.rows.now in
-    let some = cut-some (vec_len c.args.rows.now.counts) c.args.rows.now.counts.items (map shown c.args.rows.now.cells.items) (sym c.is_empty.ensures ∙ c.if-is_empty.false) c.args.rows.now.counts.ok.0 in
-    let width = subst (λ (contents : List ℕ). table_width contents < 2 ^ 64) (c.deref.ensures.value ∙ c.in_ok-contents.ensures) c.in-Some.ensures.0 in
-    let count : length rows ≡ c.len.result = length-cut_counts c.args.rows.now.counts.items (map shown c.args.rows.now.cells.items) ∙ sym c.args.rows.now.counts.ok.0 ∙ sym c.len.ensures in
-    let height = subst (λ (n : ℕ). table_height n < 2 ^ 64) (sym count) c.in-Some-table_height.ensures.0 in
-    TableFits-sums c.args.text.now rows (whole_text c.args.text.now c.utf8.text c.requires.text) (sym c.requires.rows) some width height
+    TableFits-lines c.args.text.now (rows_shown c.args.rows.now) (whole_text c.args.text.now c.utf8.text c.requires.text) (sym c.requires.rows) c.in-Ok.ensures.fits

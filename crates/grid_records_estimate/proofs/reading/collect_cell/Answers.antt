@@ -1,4 +1,4 @@
-use Rattle.std.proofs.Common.{◌≡◌, ◌+◌, [], ◌∷◌, ◌++◌, true, ap, sym, ◌∙◌}
+use Rattle.std.proofs.Common.{◌≡◌, ◌+◌, [], ◌∷◌, ◌++◌, true, refl, ap, sym, ◌∙◌}
 use Rattle.std.specs.List.{flat_map}
 use Rattle.grid_records_estimate.specs.Collecting.{HasCollected}
 use Rattle.grid_records_estimate.specs.Reading.{cell_heights, cell_widths}
@@ -15,12 +15,12 @@ returns g c = λ before h.
     let text = g.C.Cell.text c.args.cell.now in
     let on : is_visible sizing.spans pos ≡ true = sym c.is_visible.ensures ∙ c.if-not-is_visible.false in
     let padding = c.padding-padding.result.now in
-    let width : Need = record { length = c.columns.result; first = pos.col; crossing = pos.row; size = c.get_text_dimension-lines.result.1 + padding.left.size + padding.right.size } in
-    let height : Need = record { length = c.rows.result; first = pos.row; crossing = pos.col; size = c.get_text_dimension-lines.result.0 + padding.top.size + padding.bottom.size } in
-    let wide = asks-width sizing pos c.text.result.now text c.columns.result c.get_text_dimension-lines.result.1 padding.left.size padding.right.size on c.text.ensures
-    c.columns.ensures.value c.get_text_dimension-lines.ensures.width (ap (λ sides. sides.left.size) c.padding-padding.ensures) (ap (λ sides. sides.right.size) c.padding-padding.ensures) in
-    let high = asks-height sizing pos c.text.result.now text c.rows.result c.get_text_dimension-lines.result.0 padding.top.size padding.bottom.size on c.text.ensures
-    c.rows.ensures.value c.get_text_dimension-lines.ensures.lines (ap (λ sides. sides.top.size) c.padding-padding.ensures) (ap (λ sides. sides.bottom.size) c.padding-padding.ensures) in
+    let width : Need = record { length = c.columns.result; first = pos.col; crossing = pos.row; size = c.dimension-lines.result.1 + padding.left.size + padding.right.size } in
+    let height : Need = record { length = c.rows.result; first = pos.row; crossing = pos.col; size = c.dimension-lines.result.0 + padding.top.size + padding.bottom.size } in
+    let wide = asks-width sizing pos text text c.columns.result c.dimension-lines.result.1 padding.left.size padding.right.size on refl
+    c.columns.ensures.value c.dimension-lines.ensures.width (ap (λ sides. sides.left.size) c.padding-padding.ensures) (ap (λ sides. sides.right.size) c.padding-padding.ensures) in
+    let high = asks-height sizing pos text text c.rows.result c.dimension-lines.result.0 padding.top.size padding.bottom.size on refl
+    c.rows.ensures.value c.dimension-lines.ensures.lines (ap (λ sides. sides.top.size) c.padding-padding.ensures) (ap (λ sides. sides.bottom.size) c.padding-padding.ensures) in
     let first : HasCollected c.add.new.self (flat_map (cell_widths sizing) before ++ width ∷ []) = c.in_ok-add.ensures.ok (flat_map (cell_widths sizing) before) h.widths_are in
     OnOk-implies c.add-2.result
     (λ (second : HasCollected c.add-2.new.self (flat_map (cell_heights sizing) before ++ height ∷ [])).

@@ -5,7 +5,7 @@ ghost use Rattle.ansi_str.specs.StyledText.{has_escape};
 ghost use Rattle.grid_records_rows.specs.Cells.{HasLineCount, HasLineWidth, HasWidth, IsLineAt, text_or_empty};
 
 use crate::lines::{line_of, line_width_of};
-use grid_records_measure::{count_lines, get_text_width};
+use grid_records_measure::{count_lines, get_text_dimension, get_text_width};
 use std::alloc::{AllocError, Global};
 use std::borrow::CowStr;
 
@@ -39,6 +39,14 @@ pub trait Cell: Drop {
         ensures { HasWidth (text self.now) result }
     {
         get_text_width(self.text())
+    }
+
+    /// How many lines the text has, and the columns of the widest, of one reading. Takes no memory.
+    fn dimension(&self) -> (usize, usize)
+        ensures lines { HasLineCount (text self.now) result.0 }
+        ensures width { HasWidth (text self.now) result.1 }
+    {
+        get_text_dimension(self.text())
     }
 
     /// The columns of the line with this number, and behind the last 0. Takes no memory.
