@@ -1,0 +1,69 @@
+-- `==` of the settings of compact tables, as it is derived, is equality of all seven.
+use Rattle.std.proofs.Common.{◌≡◌, ◌∙◌, ℕ, Bool, true, ◌==◌, Option, None, Some, [], ◌∷◌, refl, ap}
+use Rattle.std.specs.Option.{option_eq, option_map}
+use Rattle.std.specs.Ordering.{is_eq}
+use Rattle.std.specs.declared.cmp.Ordering.TheVariants.{Equal}
+use Rattle.std.proofs.lemmas.Bool.{eqb-true}
+use Rattle.grid_config_values.specs.declared.alignment.AlignmentHorizontal.{AlignmentHorizontal}
+use Rattle.grid_config_values.specs.declared.alignment.AlignmentHorizontal.TheVariants.{Left, Center, Right}
+use Rattle.grid_config_values.specs.contracts.alignment.AlignmentHorizontalPartialEq.TheImpl.{ghosts as alignments}
+use Rattle.grid_config_values.proofs.Equality.{each_passes, indent_eq, indent_same, option_same, sides_eq, sides_same, borders_eq, borders_same}
+use Rattle.grid_config_colors.specs.Colors.{color_of}
+use Rattle.grid_config_colors.specs.Equality.{equal as equal_colors}
+use Rattle.grid_config_colors.proofs.Equality.{equal_texts}
+use Rattle.grid_config.specs.contracts.compact.CompactConfigOrd.TheImpl.Laws.{matches_eq-law}
+use Rattle.grid_config.specs.declared.compact.CompactConfig.{CompactConfig}
+use Rattle.grid_config.specs.Compact.{compact_of}
+use Rattle.grid_config.specs.Equality.{compared, equal}
+
+alignment_same : (a b : AlignmentHorizontal) → alignments.eq a b ≡ true → a ≡ b
+alignment_same Left Left e = refl
+alignment_same Left Center e = cc
+alignment_same Left Right e = cc
+alignment_same Center Left e = cc
+alignment_same Center Center e = refl
+alignment_same Center Right e = cc
+alignment_same Right Left e = cc
+alignment_same Right Center e = cc
+alignment_same Right Right e = refl
+
+glyph_same : (a b : Option ℕ) → option_eq (λ c d. c == d) a b ≡ true → a ≡ b
+glyph_same None None e = refl
+glyph_same None (Some d) e = cc
+glyph_same (Some c) None e = cc
+glyph_same (Some c) (Some d) e = ap Some (eqb-true c d e)
+
+abbrev glyph_eq : ℕ → ℕ → Bool
+glyph_eq c d = c == d
+
+pub settings_same : (a b : CompactConfig) → equal a b ≡ true → compact_of a ≡ compact_of b
+settings_same a b e =
+    let each = each_passes (sides_eq indent_eq a.margin b.margin) (
+    borders_eq glyph_eq a.borders b.borders
+    ∷ sides_eq indent_eq a.padding b.padding
+    ∷ alignments.eq a.alignment_horizontal b.alignment_horizontal
+    ∷ sides_eq equal_colors a.margin_color b.margin_color
+    ∷ borders_eq equal_colors a.borders_color b.borders_color
+    ∷ sides_eq equal_colors a.padding_color b.padding_color
+    ∷ []
+    ) e in
+    let margin : a.margin ≡ b.margin = sides_same indent_eq (λ x. x) indent_same a.margin b.margin each.0 in
+    let glyphs : a.borders ≡ b.borders = borders_same glyph_eq (λ x. x) glyph_same a.borders b.borders each.1.0 in
+    let padding : a.padding ≡ b.padding = sides_same indent_eq (λ x. x) indent_same a.padding b.padding each.1.1.0 in
+    let alignment = alignment_same a.alignment_horizontal b.alignment_horizontal each.1.1.1.0 in
+    let margin_color = sides_same equal_colors color_of equal_texts a.margin_color b.margin_color each.1.1.1.1.0 in
+    let borders_color = borders_same equal_colors (option_map color_of) (option_same equal_colors color_of equal_texts) a.borders_color b.borders_color each.1.1.1.1.1.0 in
+    let padding_color = sides_same equal_colors color_of equal_texts a.padding_color b.padding_color each.1.1.1.1.1.1 in
+    λ i. record {
+      margin = margin i;
+      borders = glyphs i;
+      padding = padding i;
+      alignment_horizontal = alignment i;
+      margin_color = margin_color i;
+      borders_color = borders_color i;
+      padding_color = padding_color i;
+    }
+
+-- the order finds equal what `==` does
+pub compared_same : (a b : CompactConfig) → compared a b ≡ Equal → compact_of a ≡ compact_of b
+compared_same a b e = settings_same a b (matches_eq-law a b ∙ ap is_eq e)
