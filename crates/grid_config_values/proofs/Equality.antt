@@ -1,5 +1,5 @@
 -- `==`, as it is derived, is equality of all fields.
-use Rattle.std.proofs.Common.{◌≡◌, Bool, true, ◌&&◌, ◌==◌, Option, None, Some, List, [], ◌∷◌, refl, ap}
+use Rattle.std.proofs.Common.{◌≡◌, Bool, true, ◌&&◌, ◌==◌, Option, None, Some, List, [], ◌∷◌, refl, ap, ◌∙◌}
 use Rattle.std.specs.Option.{option_eq, option_map}
 use Rattle.std.proofs.lemmas.Bool.{and_parts, eqb-true}
 use Rattle.grid_config_values.specs.declared.borders.Borders.{Borders}
@@ -29,6 +29,10 @@ indent_same a b e =
     let parts = and_parts (a.size == b.size) (a.fill == b.fill) e in
     λ i. record { size = eqb-true a.size b.size parts.0 i; fill = eqb-true a.fill b.fill parts.1 i }
 
+pub passes_all : (t : Bool) (others : List Bool) → EachPasses t others → all_pass t others ≡ true
+passes_all t [] e = e
+passes_all t (u ∷ others) e = ap (λ b. b && all_pass u others) e.0 ∙ passes_all u others e.1
+
 -- what passes `==` shows the same by this function
 abbrev pub ShowsSame : {X V : Type 0} → (X → X → Bool) → (X → V) → Type 0
 ShowsSame {X} E show = (x y : X) → E x y ≡ true → show x ≡ show y
@@ -38,6 +42,16 @@ option_same E show same None None e = refl
 option_same E show same None (Some y) e = cc
 option_same E show same (Some x) None e = cc
 option_same E show same (Some x) (Some y) e = ap Some (same x y e)
+
+-- what shows the same by this function passes `==`
+abbrev pub SameShown : {X V : Type 0} → (X → X → Bool) → (X → V) → Type 0
+SameShown {X} E show = (x y : X) → show x ≡ show y → E x y ≡ true
+
+pub option_passes : {T U : Type 0} (E : T → T → Bool) (show : T → U) → SameShown E show → SameShown (option_eq E) (option_map show)
+option_passes E show passes None None e = refl
+option_passes E show passes None (Some y) e = cc
+option_passes E show passes (Some x) None e = cc
+option_passes E show passes (Some x) (Some y) e = let inside : show x ≡ show y = cc in passes x y inside
 
 -- sides and borders with what each part shows
 abbrev pub shown_sides : {T U : Type 0} → (T → U) → Sides T → Sides U
@@ -71,6 +85,11 @@ sides_same E show same a b e =
     let each = each_passes (E a.left b.left) (E a.right b.right ∷ E a.top b.top ∷ E a.bottom b.bottom ∷ []) e in
     λ i. record { left = same a.left b.left each.0 i; right = same a.right b.right each.1.0 i; top = same a.top b.top each.1.1.0 i; bottom = same a.bottom b.bottom each.1.1.1 i }
 
+pub sides_passes : {T U : Type 0} (E : T → T → Bool) (show : T → U) → SameShown E show → (a b : Sides T) → shown_sides show a ≡ shown_sides show b → sides_eq E a b ≡ true
+sides_passes {U = U} E show passes a b e =
+    passes_all (E a.left b.left) (E a.right b.right ∷ E a.top b.top ∷ E a.bottom b.bottom ∷ [])
+    (passes a.left b.left (ap (λ (s : Sides U). s.left) e), (passes a.right b.right (ap (λ (s : Sides U). s.right) e), (passes a.top b.top (ap (λ (s : Sides U). s.top) e), passes a.bottom b.bottom (ap (λ (s : Sides U). s.bottom) e))))
+
 abbrev other_tests : {T : Type 0} → (T → T → Bool) → Borders T → Borders T → List Bool
 other_tests E a b = option_eq E a.top_left b.top_left ∷ option_eq E a.top_right b.top_right ∷ option_eq E a.top_intersection b.top_intersection ∷ option_eq E a.bottom b.bottom ∷ option_eq E a.bottom_left b.bottom_left ∷ option_eq E a.bottom_right b.bottom_right ∷ option_eq E a.bottom_intersection b.bottom_intersection ∷ option_eq E a.horizontal b.horizontal ∷ option_eq E a.left_intersection b.left_intersection ∷ option_eq E a.right_intersection b.right_intersection ∷ option_eq E a.intersection b.intersection ∷ option_eq E a.vertical b.vertical ∷ option_eq E a.left b.left ∷ option_eq E a.right b.right ∷ []
 
@@ -97,3 +116,8 @@ borders_same E show same a b e =
       left = same a.left b.left each.1.1.1.1.1.1.1.1.1.1.1.1.1.0 i;
       right = same a.right b.right each.1.1.1.1.1.1.1.1.1.1.1.1.1.1 i;
     }
+
+pub borders_passes : {T U : Type 0} (E : T → T → Bool) (show : Option T → Option U) → SameShown (option_eq E) show → (a b : Borders T) → shown_borders show a ≡ shown_borders show b → borders_eq E a b ≡ true
+borders_passes {U = U} E show passes a b e =
+    passes_all (option_eq E a.top b.top) (other_tests E a b)
+    (passes a.top b.top (ap (λ (s : Borders U). s.top) e), (passes a.top_left b.top_left (ap (λ (s : Borders U). s.top_left) e), (passes a.top_right b.top_right (ap (λ (s : Borders U). s.top_right) e), (passes a.top_intersection b.top_intersection (ap (λ (s : Borders U). s.top_intersection) e), (passes a.bottom b.bottom (ap (λ (s : Borders U). s.bottom) e), (passes a.bottom_left b.bottom_left (ap (λ (s : Borders U). s.bottom_left) e), (passes a.bottom_right b.bottom_right (ap (λ (s : Borders U). s.bottom_right) e), (passes a.bottom_intersection b.bottom_intersection (ap (λ (s : Borders U). s.bottom_intersection) e), (passes a.horizontal b.horizontal (ap (λ (s : Borders U). s.horizontal) e), (passes a.left_intersection b.left_intersection (ap (λ (s : Borders U). s.left_intersection) e), (passes a.right_intersection b.right_intersection (ap (λ (s : Borders U). s.right_intersection) e), (passes a.intersection b.intersection (ap (λ (s : Borders U). s.intersection) e), (passes a.vertical b.vertical (ap (λ (s : Borders U). s.vertical) e), (passes a.left b.left (ap (λ (s : Borders U). s.left) e), passes a.right b.right (ap (λ (s : Borders U). s.right) e)))))))))))))))
