@@ -6,7 +6,7 @@ ghost use Rattle.grid_config_values.specs.Glyphs.{boundary_count, boundary_kind,
 ghost use Rattle.grid_config_spans.specs.Spans.{AreGood, IsVisible, SetsColumns, SetsRows, extent_at, single};
 ghost use Rattle.grid_config_values.specs.Settings.{IsUnchanged, SetsCovered, value_at};
 ghost use Rattle.grid_config.specs.Compact.{compact_of};
-ghost use Rattle.grid_config.specs.Settings.{KeepsOthers, StartsWith, compact_start, new_start};
+ghost use Rattle.grid_config.specs.Settings.{IsUncolored, KeepsOthers, StartsWith, compact_start, new_start};
 ghost use Rattle.grid_config.specs.Settings.{Margin, MarginColor, BorderGlyphs, BorderColors, Padding, PaddingColor, HorizontalAlignment, VerticalAlignment, LineAlignment, TrimHorizontal, TrimVertical, Justification, JustificationColor, CellSpans};
 
 use crate::cells::CellSettings;
@@ -71,9 +71,10 @@ impl SpannedConfig {
     }
 
     /// The settings of a compact table, for the whole table, and else those of `new`. A colour whose
-    /// texts are empty is none, but on a border. Refused for memory alone.
+    /// texts are empty is none, but on a border. Refused for memory alone, and without colours never.
     pub fn from_compact_config(alloc: Global, c: CompactConfig) -> Result<SpannedConfig, AllocError>
-        ensures { IfOk result (StartsWith (compact_start (compact_of c))) }
+        ensures settings { IfOk result (StartsWith (compact_start (compact_of c))) }
+        ensures answers { IsUncolored (compact_of c) → IsOk result }
     {
         let padding_color = owned_sides(alloc, c.get_padding_color())?;
         Ok(SpannedConfig {
