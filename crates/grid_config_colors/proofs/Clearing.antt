@@ -1,5 +1,5 @@
 -- Each attribute follows the codes that set and clear it, whatever was set before.
-use Rattle.std.proofs.Common.{◌≡◌, ℕ, Bool, true, false, ◌&&◌, ◌||◌, Option, None, Some, List, [], ◌∷◌, ◌++◌, map, flat_map, fold, refl, ap, sym, ◌∙◌, arith, ◌==◌, nat_le, if◌then◌else◌}
+use Rattle.std.proofs.Common.{◌≡◌, ℕ, Bool, true, false, ◌||◌, Option, None, Some, List, [], ◌∷◌, ◌++◌, map, fold, refl, ap, sym, ◌∙◌, arith, ◌==◌, if◌then◌else◌}
 use Rattle.std.specs.Prelude.{IsTrue, is_some}
 use Rattle.std.specs.List.{AllByRecursion, list_any, slice_split}
 use Rattle.std.proofs.lemmas.Bool.{false≢true}

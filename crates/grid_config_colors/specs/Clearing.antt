@@ -3,7 +3,6 @@ use Rattle.std.specs.Prelude.{ℕ, ◌==◌, Bool, ◌||◌, Option, None, Some,
 use Rattle.std.specs.List.{AllByRecursion, list_any, slice_split}
 use Rattle.ansi_scan.specs.declared.items.Kind.{Kind}
 use Rattle.ansi_scan.specs.declared.items.Kind.TheVariants.{Text, Sgr, Csi, Osc, Esc, Str, Broken}
-use Rattle.ansi_scan_style.specs.declared.next.Layer.{Layer}
 use Rattle.ansi_scan_style.specs.declared.next.Next.{Next}
 use Rattle.ansi_scan_style.specs.declared.next.Next.TheVariants.{Code, Form, Index, Red, Green, Blue, Nothing}
 use Rattle.ansi_scan.specs.Sequences.{Piece}

@@ -1,6 +1,6 @@
 -- Which colours are closed: what the prefix sets (SELECT GRAPHIC RENDITION, ECMA-48, 8.3.117), the suffix
 -- clears.
-use Rattle.std.specs.Prelude.{◌≡◌, ◌≢◌, ℕ, List}
+use Rattle.std.specs.Prelude.{◌≡◌, ◌≢◌, List}
 use Rattle.std.specs.List.{AllByRecursion}
 use Rattle.ansi_scan.specs.declared.items.Kind.TheVariants.{Text}
 use Rattle.ansi_scan.specs.Sequences.{Piece, NoneBroken, ArePiecesOf}

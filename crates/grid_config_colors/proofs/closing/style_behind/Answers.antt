@@ -1,16 +1,13 @@
-use Rattle.std.proofs.Common.{◌≡◌, ◌∙◌, ℕ, List, ap, sym}
+use Rattle.std.proofs.Common.{◌≡◌, ◌∙◌, List, ap, sym}
 use Rattle.std.proofs.lemmas.Iterator.Consumers.{YieldsList-from_first, YieldsList-end}
 use Rattle.std.proofs.lemmas.List.{map-id}
 use Rattle.ansi_scan.specs.declared.items.Item.{Item}
-use Rattle.ansi_scan.specs.declared.items.Kind.{Kind}
 use Rattle.ansi_scan.specs.Scan.{items_left}
-use Rattle.ansi_scan.specs.Places.{piece_at, placed}
-use Rattle.ansi_scan.specs.Attributes.{Attributes}
-use Rattle.ansi_scan.specs.Rendition.{applied}
+use Rattle.ansi_scan.specs.Places.{placed}
 use Rattle.ansi_scan.proofs.Reading.{fold-placed}
 use Rattle.ansi_scan.proofs.Uniqueness.{ArePiecesOf-unique}
-use Rattle.ansi_str.specs.StyledText.{style_by, style_after, style_after_all}
-use Rattle.grid_config_colors.proofs.Styles.{style_behind, style_behind-more, style_by-other}
+use Rattle.ansi_str.specs.StyledText.{style_after, style_after_all}
+use Rattle.grid_config_colors.proofs.Styles.{style_behind}
 use Rattle.grid_config_colors.proofs.closing.style_behind.Goals as goal
 
 pub returns : goal.returns

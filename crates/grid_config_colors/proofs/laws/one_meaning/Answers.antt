@@ -1,4 +1,3 @@
-use Rattle.std.proofs.Common.{rules}
 use Rattle.grid_config_colors.proofs.Clearing.{clears_each, plain_behind}
 use Rattle.grid_config_colors.proofs.laws.one_meaning.Goals as goal
 
