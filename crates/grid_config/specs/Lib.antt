@@ -2,6 +2,7 @@ pub mod Compact
 pub mod Settings
 pub mod Coloring
 pub mod Lending
+pub mod Equality
 pub use Rattle.grid_config_values.specs.Entities
 pub use Rattle.grid_config_values.specs.Glyphs
 pub use Rattle.grid_config_values.specs.Settings as Maps

@@ -139,3 +139,9 @@ compact_start compact = record {
   padding_color = side_colors_if compact.padding_color;
   alignment_horizontal = compact.alignment_horizontal;
 }
+
+-- no colour is set: none is at a side of the margin or the padding, and none on a border
+pub record IsUncolored (compact : Compact) : Type 0 where
+  pub margin : side_colors_if compact.margin_color ≡ each_side None
+  pub padding : side_colors_if compact.padding_color ≡ each_side None
+  pub borders : compact.borders_color ≡ no_borders

@@ -5,6 +5,7 @@ mod cells;
 mod colored;
 mod compact;
 pub mod config;
+pub mod laws;
 mod owning;
 mod spanned;
 mod whole;

@@ -1,8 +1,9 @@
 //! Colours that own their texts, made of colours that borrow them.
-ghost use Rattle.std.specs.Prelude.{◌≡◌, IfOk};
+ghost use Rattle.std.specs.Prelude.{◌≡◌, IfOk, IsOk, None};
 ghost use Rattle.std.specs.Option.{option_map};
 ghost use Rattle.grid_config_colors.specs.Colors.{color_of};
-ghost use Rattle.grid_config.specs.Compact.{border_colors, side_colors};
+ghost use Rattle.grid_config_values.specs.Glyphs.{no_borders};
+ghost use Rattle.grid_config.specs.Compact.{border_colors, each_side, side_colors};
 ghost use Rattle.grid_config.specs.Settings.{color_if, side_colors_if};
 
 use grid_config_colors::{ANSIBuf, ANSIStr};
@@ -14,7 +15,8 @@ pub(crate) fn owned_sides(
     alloc: Global,
     colors: &Sides<ANSIStr<'static>>,
 ) -> Result<Sides<Option<ANSIBuf>>, AllocError>
-    ensures { IfOk result (λ owned. owned ≡ side_colors_if (side_colors colors.now)) }
+    ensures colors { IfOk result (λ owned. owned ≡ side_colors_if (side_colors colors.now)) }
+    ensures none { side_colors_if (side_colors colors.now) ≡ each_side None → IsOk result }
 {
     Ok(Sides {
         left: owned_if(alloc, colors.left)?,
@@ -26,7 +28,8 @@ pub(crate) fn owned_sides(
 
 // The colour, none where both its texts are empty.
 fn owned_if(alloc: Global, color: ANSIStr<'static>) -> Result<Option<ANSIBuf>, AllocError>
-    ensures { IfOk result (λ owned. owned ≡ color_if (color_of color.entry)) }
+    ensures color { IfOk result (λ owned. owned ≡ color_if (color_of color.entry)) }
+    ensures none { color_if (color_of color.entry) ≡ None → IsOk result }
 {
     if color.is_empty() {
         return Ok(None);
@@ -39,7 +42,8 @@ pub(crate) fn owned_borders(
     alloc: Global,
     colors: &Borders<ANSIStr<'static>>,
 ) -> Result<Borders<ANSIBuf>, AllocError>
-    ensures { IfOk result (λ owned. owned ≡ border_colors colors.now) }
+    ensures colors { IfOk result (λ owned. owned ≡ border_colors colors.now) }
+    ensures none { border_colors colors.now ≡ no_borders → IsOk result }
 {
     Ok(Borders {
         top: owned_glyph(alloc, colors.top)?,
@@ -65,7 +69,8 @@ fn owned_glyph(
     alloc: Global,
     color: Option<ANSIStr<'static>>,
 ) -> Result<Option<ANSIBuf>, AllocError>
-    ensures { IfOk result (λ owned. owned ≡ option_map color_of color.entry) }
+    ensures color { IfOk result (λ owned. owned ≡ option_map color_of color.entry) }
+    ensures none { option_map color_of color.entry ≡ None → IsOk result }
 {
     match color {
         None => Ok(None),

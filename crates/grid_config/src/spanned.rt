@@ -3,10 +3,10 @@ ghost use Rattle.std.specs.Prelude.{◌≡◌, ◌≢◌, ◌<◌, ◌==◌, ◌
 ghost use Rattle.grid_config_values.specs.declared.entity.Entity.TheVariants.{Global as EveryCell};
 ghost use Rattle.grid_config_values.specs.declared.fault.Fault.TheVariants.{Memory, Spans as BadSpan};
 ghost use Rattle.grid_config_values.specs.Glyphs.{boundary_count, boundary_kind, has_column_boundary, has_row_boundary};
-ghost use Rattle.grid_config_spans.specs.Spans.{AreGood, IsVisible, SetsColumns, SetsRows, extent_at};
+ghost use Rattle.grid_config_spans.specs.Spans.{AreGood, IsVisible, SetsColumns, SetsRows, extent_at, single};
 ghost use Rattle.grid_config_values.specs.Settings.{IsUnchanged, SetsCovered, value_at};
 ghost use Rattle.grid_config.specs.Compact.{compact_of};
-ghost use Rattle.grid_config.specs.Settings.{KeepsOthers, StartsWith, compact_start, new_start};
+ghost use Rattle.grid_config.specs.Settings.{IsUncolored, KeepsOthers, StartsWith, compact_start, new_start};
 ghost use Rattle.grid_config.specs.Settings.{Margin, MarginColor, BorderGlyphs, BorderColors, Padding, PaddingColor, HorizontalAlignment, VerticalAlignment, LineAlignment, TrimHorizontal, TrimVertical, Justification, JustificationColor, CellSpans};
 
 use crate::cells::CellSettings;
@@ -71,9 +71,10 @@ impl SpannedConfig {
     }
 
     /// The settings of a compact table, for the whole table, and else those of `new`. A colour whose
-    /// texts are empty is none, but on a border. Refused for memory alone.
+    /// texts are empty is none, but on a border. Refused for memory alone, and without colours never.
     pub fn from_compact_config(alloc: Global, c: CompactConfig) -> Result<SpannedConfig, AllocError>
-        ensures { IfOk result (StartsWith (compact_start (compact_of c))) }
+        ensures settings { IfOk result (StartsWith (compact_start (compact_of c))) }
+        ensures answers { IsUncolored (compact_of c) → IsOk result }
     {
         let padding_color = owned_sides(alloc, c.get_padding_color())?;
         Ok(SpannedConfig {
@@ -387,14 +388,16 @@ impl SpannedConfig {
         self.whole.borders.count_horizontal(rows)
     }
 
-    /// Sets how many columns the cell at this place takes; 1 takes its span away, and is never refused.
-    /// Refused as `Spans` for 0, and for memory, and then nothing has changed.
+    /// Sets how many columns the cell at this place takes; 1 takes its span away, and is never refused, nor
+    /// is another span for a cell that has one. Refused as `Spans` for 0, and for memory, and then nothing
+    /// has changed.
     pub fn set_column_span(&mut self, pos: Position, n: usize) -> Result<(), Fault>
         ensures zero { result ≡ Err BadSpan ↔ (n ≡ 0) }
         ensures set { OnOk result (SetsColumns self.old.spans self.new.spans pos n) }
         ensures refused { OnErr result (self.new.spans ≡ self.old.spans) }
         ensures fault { n ≢ 0 → IfErr result (λ fault. fault ≡ Memory) }
         ensures one { n ≡ 1 → IsOk result }
+        ensures kept { n ≢ 0 → extent_at self.old.spans pos ≢ single → IsOk result }
         ensures others { KeepsOthers CellSpans self.old self.new }
     {
         self.spans.set_column_span(pos, n)
@@ -408,14 +411,16 @@ impl SpannedConfig {
         self.spans.get_column_span(pos)
     }
 
-    /// Sets how many rows the cell at this place takes; 1 takes its span away, and is never refused.
-    /// Refused as `Spans` for 0, and for memory, and then nothing has changed.
+    /// Sets how many rows the cell at this place takes; 1 takes its span away, and is never refused, nor is
+    /// another span for a cell that has one. Refused as `Spans` for 0, and for memory, and then nothing has
+    /// changed.
     pub fn set_row_span(&mut self, pos: Position, n: usize) -> Result<(), Fault>
         ensures zero { result ≡ Err BadSpan ↔ (n ≡ 0) }
         ensures set { OnOk result (SetsRows self.old.spans self.new.spans pos n) }
         ensures refused { OnErr result (self.new.spans ≡ self.old.spans) }
         ensures fault { n ≢ 0 → IfErr result (λ fault. fault ≡ Memory) }
         ensures one { n ≡ 1 → IsOk result }
+        ensures kept { n ≢ 0 → extent_at self.old.spans pos ≢ single → IsOk result }
         ensures others { KeepsOthers CellSpans self.old self.new }
     {
         self.spans.set_row_span(pos, n)

@@ -70,12 +70,14 @@ impl Spans {
     }
 
     /// Sets how many columns the cell at this place takes; 1 takes its span away. Refused as `Spans` for
-    /// 0, and for want of memory, and then nothing has changed. What it takes away takes no memory.
+    /// 0, and for want of memory, and then nothing has changed. What it takes away takes no memory, nor
+    /// does another span for a cell that has one.
     pub fn set_column_span(&mut self, pos: Position, n: usize) -> Result<(), Fault>
         ensures zero { result ≡ Err BadSpan ↔ (n ≡ 0) }
         ensures ok { OnOk result (SetsColumns self.old self.new pos n) }
         ensures err { OnErr result (self.new ≡ self.old) }
         ensures one { n ≡ 1 → IsOk result }
+        ensures kept { n ≢ 0 → extent_at self.old pos ≢ single → IsOk result }
         ensures memory { n ≢ 0 → IfErr result (λ fault. fault ≡ Memory) }
     {
         let columns = span(n)?;
@@ -84,12 +86,14 @@ impl Spans {
     }
 
     /// Sets how many rows the cell at this place takes; 1 takes its span away. Refused as `Spans` for 0,
-    /// and for want of memory, and then nothing has changed. What it takes away takes no memory.
+    /// and for want of memory, and then nothing has changed. What it takes away takes no memory, nor does
+    /// another span for a cell that has one.
     pub fn set_row_span(&mut self, pos: Position, n: usize) -> Result<(), Fault>
         ensures zero { result ≡ Err BadSpan ↔ (n ≡ 0) }
         ensures ok { OnOk result (SetsRows self.old self.new pos n) }
         ensures err { OnErr result (self.new ≡ self.old) }
         ensures one { n ≡ 1 → IsOk result }
+        ensures kept { n ≢ 0 → extent_at self.old pos ≢ single → IsOk result }
         ensures memory { n ≢ 0 → IfErr result (λ fault. fault ≡ Memory) }
     {
         let rows = span(n)?;

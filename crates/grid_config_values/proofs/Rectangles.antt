@@ -8,7 +8,7 @@ use Rattle.grid_config_values.specs.declared.entity.Entity.{Entity}
 use Rattle.grid_config_values.specs.declared.entity.Entity.TheVariants.{Column, Row}
 use Rattle.grid_config_values.specs.declared.position.Position.{Position}
 use Rattle.grid_config_values.specs.Entities.{covers, covered_positions, table_positions}
-use Rattle.grid_config_values.specs.Rectangles.{is_named, in_row, numbers, places_from, rectangle}
+use Rattle.grid_config_values.specs.Rectangles.{is_named, row_places, numbers, places_from, rectangle}
 
 -- every number is kept
 pub filter_all : (xs : List ℕ) → filter (λ _. true) xs ≡ xs
@@ -28,18 +28,18 @@ module _ (rows_test cols_test : ℕ → Bool) where
   abbrev in_both : Position → Bool
   in_both p = rows_test p.row && cols_test p.col
 
-  in_row_kept : (row : ℕ) (cols : List ℕ) → rows_test row ≡ true → filter in_both (in_row row cols) ≡ in_row row (filter cols_test cols)
+  in_row_kept : (row : ℕ) (cols : List ℕ) → rows_test row ≡ true → filter in_both (row_places row cols) ≡ row_places row (filter cols_test cols)
   in_row_kept row [] e = refl
   in_row_kept row (col ∷ cols) e = grind (arith, in_row_kept row cols e)
 
-  in_row_dropped : (row : ℕ) (cols : List ℕ) → rows_test row ≡ false → filter in_both (in_row row cols) ≡ []
+  in_row_dropped : (row : ℕ) (cols : List ℕ) → rows_test row ≡ false → filter in_both (row_places row cols) ≡ []
   in_row_dropped row [] e = refl
   in_row_dropped row (col ∷ cols) e = grind (arith, in_row_dropped row cols e)
 
   -- a test of the row and a test of the column pick a rectangle
   pub filter-rectangle : (rows cols : List ℕ) → filter in_both (rectangle rows cols) ≡ rectangle (filter rows_test rows) (filter cols_test cols)
   filter-rectangle [] cols = refl
-  filter-rectangle (row ∷ rows) cols = grind (arith, filter-append in_both (in_row row cols) (rectangle rows cols), in_row_kept row cols, in_row_dropped row cols, filter-rectangle rows cols)
+  filter-rectangle (row ∷ rows) cols = grind (arith, filter-append in_both (row_places row cols) (rectangle rows cols), in_row_kept row cols, in_row_dropped row cols, filter-rectangle rows cols)
 
   -- the places of a table at which both tests hold
   pub filter-table_positions : (rows cols : ℕ) → filter in_both (table_positions rows cols) ≡ rectangle (filter rows_test (range_with_len 0 rows)) (filter cols_test (range_with_len 0 cols))

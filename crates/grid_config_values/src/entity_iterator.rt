@@ -24,11 +24,11 @@ impl Model for EntityIterator {
 
     ghost Value = { List Place };
 
-    ghost use Rattle.grid_config_values.specs.Rectangles.{IsInside, places_left};
+    ghost use Rattle.grid_config_values.specs.Rectangles.{IsNextInside, places_left};
 
     ghost view = { places_left };
 
-    ghost invariant = { IsInside };
+    ghost invariant = { IsNextInside };
 }
 
 impl EntityIterator {

@@ -1,10 +1,10 @@
 -- The first line of a text, and what stands behind it.
-use Rattle.std.proofs.Common.{◌≡◌, ◌≤◌, ◌<◌, ◌==◌, ℕ, suc, ◌+◌, ◌-◌, Bool, true, false, cond, Option, Some, None, unwrap_or, List, [], ◌∷◌, ◌++◌, length, take, drop, refl, ap, sym, subst, ◌∙◌, arith, append-nil, append_assoc, length-take, if◌then◌else◌}
+use Rattle.std.proofs.Common.{◌≡◌, ◌≤◌, ◌<◌, ◌==◌, ℕ, suc, ◌+◌, ◌-◌, Bool, true, false, cond, Option, Some, None, unwrap_or, List, [], ◌∷◌, ◌++◌, length, slice_index, take, drop, refl, ap, sym, subst, ◌∙◌, arith, append-nil, append_assoc, length-take, if◌then◌else◌}
 use Rattle.std.specs.List.{slice_split, onto_first}
 use Rattle.std.specs.Option.{option_map}
 use Rattle.std.proofs.Math.Seq.{take-length}
 use Rattle.std.proofs.lemmas.Bool.Decides.{nat_tests}
-use Rattle.std.proofs.lemmas.List.{take-append-drop}
+use Rattle.std.proofs.lemmas.List.{nil_from_length, take-append-drop}
 use Rattle.ansi_scan.specs.declared.items.Kind.{Kind}
 use Rattle.ansi_scan.specs.declared.items.Kind.TheVariants.{Text, Sgr, Csi, Osc, Esc, Str, Broken}
 use Rattle.ansi_scan.specs.Sequences.{Piece, EachStands, NoTextFirst, Stands, escape, is_plain, joined}
@@ -141,6 +141,11 @@ splits-where found bs e = subst (λ o. SplitsAt o (slice_split is_line_feed bs) 
 
 -- ---- the first line
 
+-- a list with its first element taken off
+first-and-others : (rest others : List ℕ) (b : ℕ) → 0 < length rest → slice_index rest 0 ≡ b → others ≡ drop 1 rest → rest ≡ b ∷ others
+first-and-others [] others b some first is_others = absurd (omega arith)
+first-and-others (a ∷ rest) others b some first is_others = ap (λ c. c ∷ rest) first ∙ ap (λ bs. b ∷ bs) (sym is_others)
+
 module _ (text rest : List ℕ) (from : IsFromLineFeed text rest) where
   abbrev n : ℕ
   n = bytes_to line_feed text
@@ -174,3 +179,15 @@ module _ (text rest : List ℕ) (from : IsFromLineFeed text rest) where
 
   pub front-is : (front : List ℕ) × (text ≡ front ++ rest)
   front-is = (joined (through_place n (pieces text)), byte-slice line_feed text plain_attributes rest from.0 from.1)
+
+  line-is_front : (line : List ℕ) → line ≡ take (length text - length rest) text → line ≡ front-is.0
+  line-is_front line is_line = is_line ∙ slice-bytes text front-is.0 rest front-is.1
+
+  pub whole-last : (line : List ℕ) → line ≡ take (length text - length rest) text → length rest ≡ 0 → text ≡ line
+  whole-last line is_line empty =
+      front-is.1 ∙ ap (λ bs. front-is.0 ++ bs) (nil_from_length rest empty) ∙ append-nil front-is.0 ∙ sym (line-is_front line is_line)
+
+  pub whole-more : (line behind : List ℕ) → line ≡ take (length text - length rest) text → behind ≡ drop 1 rest → 0 < length rest → text ≡ line ++ line_feed ∷ behind
+  whole-more line behind is_line is_behind some =
+      front-is.1 ∙ ap (λ bs. bs ++ rest) (sym (line-is_front line is_line))
+      ∙ ap (λ bs. line ++ bs) (first-and-others rest behind line_feed some (from.1.at some) is_behind)

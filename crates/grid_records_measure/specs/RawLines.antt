@@ -1,5 +1,5 @@
 -- What is left of a text behind its first line, as it stands there: the tool by which the measures of its lines are found.
-use Rattle.std.specs.Prelude.{ℕ, List, [], Option, None, Some}
+use Rattle.std.specs.Prelude.{◌≡◌, ℕ, List, [], ◌∷◌, ◌++◌, Option, None, Some}
 use Rattle.std.specs.Borrow.{Bor}
 use Rattle.ansi_scan.specs.Pieces.{pieces}
 use Rattle.ansi_scan.specs.Attributes.{Attributes, plain_attributes}
@@ -14,3 +14,8 @@ IsFromLineFeed text rest = (style : Attributes) × Lands line_feed text plain_at
 abbrev pub lines_behind : Option (Bor (List ℕ)) → List (List ℕ)
 lines_behind None = []
 lines_behind (Some rest) = shown_lines (pieces rest.now)
+
+-- the text is a line, and where something stands behind it, a line feed and that
+abbrev pub IsLineAndRest : List ℕ → List ℕ → Option (Bor (List ℕ)) → Type 0
+IsLineAndRest text line None = text ≡ line
+IsLineAndRest text line (Some rest) = text ≡ line ++ line_feed ∷ rest.now

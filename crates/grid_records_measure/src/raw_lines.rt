@@ -5,15 +5,17 @@ ghost use Rattle.ansi_scan.specs.Pieces.{pieces};
 ghost use Rattle.ansi_str.specs.StyledText.{strip};
 ghost use Rattle.ansi_str.specs.Walking.{IsBehindFirst, begins_with_escape, is_other};
 ghost use Rattle.grid_records_measure.specs.TextLines.{line_feed, shown_lines};
-ghost use Rattle.grid_records_measure.specs.RawLines.{IsFromLineFeed, lines_behind};
+ghost use Rattle.grid_records_measure.specs.RawLines.{IsFromLineFeed, IsLineAndRest, lines_behind};
 
 use ansi_scan::scan;
 
 /// ESCAPE (ECMA-48, 8.3.48).
 const ESC: u8 = 0x1b;
 
-/// The first line of a text as it stands there, and what stands behind its line feed.
+/// The first line of a text as it stands there, byte for byte, and what stands behind its line feed; the
+/// whole text where it shows none. Takes no memory.
 pub fn split_line(text: &str) -> (&str, Option<&str>)
+    ensures parted { IsLineAndRest text.now result.0.now result.1 }
     ensures lines { shown_lines (pieces text.now) ≡ strip (pieces result.0.now) ∷ lines_behind result.1 }
     ensures shorter { IfSome result.1 (λ rest. length rest.now < length text.now) }
 {

@@ -3,7 +3,7 @@ use Rattle.std.proofs.Common.{◌≡◌, ◌<◌, ◌-◌, ◌==◌, ◌∙◌, 
 use Rattle.std.specs.Str.{IsCharBoundary}
 use Rattle.std.proofs.lemmas.Bool.Decides.{nat_tests}
 use Rattle.std.proofs.lemmas.Str.{IsCharBoundary-at_seam, IsCharBoundary-after_ascii}
-use Rattle.grid_records_measure.proofs.RawLineLemmas.{front-is, line-last, line-more}
+use Rattle.grid_records_measure.proofs.RawLineLemmas.{front-is, line-last, line-more, whole-last, whole-more}
 use Rattle.grid_records_measure.proofs.raw_lines.split_line.Goals as goal
 
 pub overflow_sub-text : goal.overflow_sub-text
@@ -22,6 +22,15 @@ range-line-requires-clause-end_boundary c =
     let len : length front.0 ≡ length text - length rest = omega (arith, all, length-append front.0 rest) in
     subst (λ n. IsCharBoundary text n) len (IsCharBoundary-at_seam text front.0 rest front.1 c.from_line_feed-rest.utf8)
 
+pub returns-then-is_empty-clause-parted : goal.returns-then-is_empty-clause-parted
+returns-then-is_empty-clause-parted c =
+    let text = c.args.text.now in
+    let rest = c.from_line_feed-rest.result.now in
+    let test : (length rest == 0) ≡ true = sym c.is_empty.ensures ∙ c.if-is_empty.true in
+    let empty : length rest ≡ 0 = grind (arith, nat_tests) in
+    let from_start : length text - length rest - 0 ≡ length text - length rest = omega arith in
+    whole-last text rest c.from_line_feed-rest.ensures c.range-line.result.now (c.range-line.ensures.value ∙ ap (λ n. take n text) from_start) empty
+
 pub returns-then-is_empty-clause-lines : goal.returns-then-is_empty-clause-lines
 returns-then-is_empty-clause-lines c =
     let text = c.args.text.now in
@@ -38,6 +47,15 @@ range_from-requires c = λ _.
     let some : 0 < length rest = grind (arith, nat_tests) in
     let at = c.from_line_feed-rest.ensures.1.at some in
     IsCharBoundary-after_ascii rest 0 c.from_line_feed-rest.utf8 some (omega (arith, at))
+
+pub returns-clause-parted : goal.returns-clause-parted
+returns-clause-parted c =
+    let text = c.args.text.now in
+    let rest = c.from_line_feed-rest.result.now in
+    let test : (length rest == 0) ≡ false = sym c.is_empty.ensures ∙ c.if-is_empty.false in
+    let some : 0 < length rest = grind (arith, nat_tests) in
+    let from_start : length text - length rest - 0 ≡ length text - length rest = omega arith in
+    whole-more text rest c.from_line_feed-rest.ensures c.range-line.result.now c.range_from.result.now (c.range-line.ensures.value ∙ ap (λ n. take n text) from_start) c.range_from.ensures.value some
 
 pub returns-clause-lines : goal.returns-clause-lines
 returns-clause-lines c =

@@ -2,14 +2,14 @@ use Rattle.std.proofs.Common.{◌∙◌, ap}
 use Rattle.grid_config.specs.Settings.{side_colors_if}
 use Rattle.grid_config.proofs.spanned.SpannedConfig.from_compact_config.Goals as goal
 
-pub returns : goal.returns
-returns c = record {
+pub returns-clause-settings : goal.returns-clause-settings
+returns-clause-settings c = record {
   margin = c.get_margin.ensures;
-  margin_color = c.in_ok-owned_sides.ensures ∙ ap side_colors_if c.get_margin_color.ensures;
+  margin_color = c.in_ok-owned_sides.ensures.colors ∙ ap side_colors_if c.get_margin_color.ensures;
   borders = c.get_borders.ensures;
-  borders_color = c.in_ok-owned_borders.ensures ∙ c.get_borders_color.ensures;
+  borders_color = c.in_ok-owned_borders.ensures.colors ∙ c.get_borders_color.ensures;
   padding = λ p. c.new.ensures.padding p ∙ c.get_padding.ensures;
-  padding_color = λ p. c.new.ensures.padding_color p ∙ c.in_ok-padding_color.ensures ∙ ap side_colors_if c.get_padding_color.ensures;
+  padding_color = λ p. c.new.ensures.padding_color p ∙ c.in_ok-padding_color.ensures.colors ∙ ap side_colors_if c.get_padding_color.ensures;
   alignment_horizontal = λ p. c.new.ensures.alignment_horizontal p ∙ c.get_alignment_horizontal.ensures;
   alignment_vertical = c.new.ensures.alignment_vertical;
   line_alignment = c.new.ensures.line_alignment;
