@@ -1,8 +1,4 @@
-pub mod Adapters
-pub mod FittingLemmas
-pub mod Giving
+pub mod Keeping
 pub mod LineAt
 pub mod Loops
-pub mod Sources
 pub mod Tables
-pub mod TruncatingLemmas

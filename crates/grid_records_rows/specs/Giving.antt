@@ -1,5 +1,5 @@
 -- Iterators that give a list, and iterators that give rows of texts.
-use Rattle.std.specs.Prelude.{◌≡◌, ℕ, Bool, true, List, [], ◌∷◌, Option, None, Some, Result, MatchResult}
+use Rattle.std.specs.Prelude.{◌≡◌, ℕ, Bool, true, List, [], ◌∷◌, Option, None, Some, Result, MatchResult, drop}
 use Rattle.std.specs.Iterator.{Count, IsFinite}
 
 -- every run of calls from s gives as many items as the list has, each tied to the element at its place, and then `None`
@@ -26,3 +26,7 @@ GivesTexts can left steps text may_refuse s row = Gives can left steps (IsAnswer
 abbrev pub GivesRows : {R S C E : Type 0} → (R → Type 0) → (R → Count) → (R → Option S → R → Type 0) → (S → Type 0) → (S → Count) → (S → Option (Result C E) → S → Type 0) → (C → List ℕ) → Bool → R → List (List (List ℕ)) → Type 0
 GivesRows row_can row_left row_steps can left steps text may_refuse r rows =
     Gives row_can row_left row_steps (GivesTexts can left steps text may_refuse) r rows
+
+-- of the rows that were left the first is gone, and whether a cell may be refused stays
+abbrev pub HasPassedOne : List (List (List ℕ)) → Bool → List (List (List ℕ)) → Bool → Type 0
+HasPassedOne before may_refuse after may_refuse_then = (after ≡ drop 1 before) × (may_refuse_then ≡ may_refuse)

@@ -27,6 +27,12 @@ pub trait RecordTexts {
     ghost may_refuse: { Self → Bool };
 }
 
+impl<'a, R: RecordTexts> RecordTexts for &'a R {
+    ghost rows = { λ records. R.rows records.now };
+
+    ghost may_refuse = { λ records. R.may_refuse records.now };
+}
+
 /// Rows of cells with a column count.
 pub trait Records: RecordTexts {
     type Iter: IntoRecords;

@@ -69,6 +69,69 @@ fn limits_and_skips(rt: HostRuntime) -> Result<(), Fail> {
     Ok(())
 }
 
+// The rows that are kept of a source, and then all its rows.
+fn text_of_buffered<R: IntoRecords + Drop>(
+    alloc: Global,
+    records: R,
+    count: usize,
+) -> Result<String, AllocError> {
+    let buffered = BufRecords::new(alloc, records, count)?;
+    let mut out = text_of_source(alloc, buffered.as_slice())?;
+    out.push_str("and\n")?;
+    out.push_str(text_of_source(alloc, buffered)?.as_str())?;
+    Ok(out)
+}
+
+#[test]
+fn keeps_the_first_rows(rt: HostRuntime) -> Result<(), Fail> {
+    let alloc = rt.alloc();
+    let rows = vec![in alloc;
+        vec![in alloc; "a", "b"]?,
+        vec![in alloc]?,
+        vec![in alloc; "c"]?,
+    ]?;
+    let text = text_of_buffered(alloc, rows.as_slice(), 0)?;
+    assert_eq!(rt; text.as_str(), "and\na|b|\n\nc|\n");
+    let text = text_of_buffered(alloc, rows.as_slice(), 1)?;
+    assert_eq!(rt; text.as_str(), "a|b|\nand\na|b|\n\nc|\n");
+    let text = text_of_buffered(alloc, rows.as_slice(), 3)?;
+    assert_eq!(rt; text.as_str(), "a|b|\n\nc|\nand\na|b|\n\nc|\n");
+    let text = text_of_buffered(alloc, rows, usize::MAX)?;
+    assert_eq!(rt; text.as_str(), "a|b|\n\nc|\nand\na|b|\n\nc|\n");
+    Ok(())
+}
+
+#[test]
+fn keeps_cells_of_other_sources(rt: HostRuntime) -> Result<(), Fail> {
+    let alloc = rt.alloc();
+    let source = [["abc", "d"], ["ef", "ghi"], ["j", "k"]];
+    let cut = TruncateContent::new(alloc, source, Same(2));
+    let text = text_of_buffered(alloc, SkipRows::new(cut, 1), 1)?;
+    assert_eq!(rt; text.as_str(), "ef|gh|\nand\nef|gh|\nj|k|\n");
+    Ok(())
+}
+
+#[test]
+fn keeps_rows_twice(rt: HostRuntime) -> Result<(), Fail> {
+    let alloc = rt.alloc();
+    let a = String::from_str(alloc, "a")?;
+    let b = String::from_str(alloc, "b")?;
+    let c = String::from_str(alloc, "c")?;
+    let rows = vec![in alloc; vec![in alloc; a]?, vec![in alloc; b]?, vec![in alloc; c]?]?;
+    let once = BufRecords::new(alloc, rows, 1)?;
+    let text = text_of_buffered(alloc, once, 2)?;
+    assert_eq!(rt; text.as_str(), "a|\nb|\nand\na|\nb|\nc|\n");
+    Ok(())
+}
+
+#[test]
+fn keeps_empty_rows(rt: HostRuntime) -> Result<(), Fail> {
+    let alloc = rt.alloc();
+    let text = text_of_buffered(alloc, EmptyRecords::new(2, 1), 1)?;
+    assert_eq!(rt; text.as_str(), "|\nand\n|\n|\n");
+    Ok(())
+}
+
 #[test]
 fn fits_rows_to_the_column_count(rt: HostRuntime) -> Result<(), Fail> {
     let alloc = rt.alloc();
@@ -81,6 +144,8 @@ fn fits_rows_to_the_column_count(rt: HostRuntime) -> Result<(), Fail> {
     let records = IterRecords::new(rows.as_slice(), 2, Some(7));
     assert_eq!(rt; records.count_columns(), 2);
     assert_eq!(rt; records.hint_count_rows(), Some(7));
+    let text = text_of_records(alloc, &records)?;
+    assert_eq!(rt; text.as_str(), "a|b|\n||\nd||\n");
     let text = text_of_records(alloc, records)?;
     assert_eq!(rt; text.as_str(), "a|b|\n||\nd||\n");
     let text = text_of_source(alloc, IterRecords::new(rows.as_slice(), 2, None))?;
@@ -137,6 +202,45 @@ fn looks_up_cells(rt: HostRuntime) -> Result<(), Fail> {
     let text = text_of_records(alloc, &records)?;
     assert_eq!(rt; text.as_str(), "a\n漢b|b|\nc|d|\n");
     Ok(())
+}
+
+#[test]
+fn gives_its_own_rows(rt: HostRuntime) -> Result<(), Fail> {
+    let alloc = rt.alloc();
+    let rows = vec![in alloc; vec![in alloc; "a", "b"]?, vec![in alloc; "c", "d"]?]?;
+    assert!(rt; are_equally_long(rows.as_slice()));
+    let text = text_of_records(alloc, VecRecords::new(rows))?;
+    assert_eq!(rt; text.as_str(), "a|b|\nc|d|\n");
+    Ok(())
+}
+
+// What is asked of records by places, and how many rows there are.
+fn expect_shape<R: PeekableRecords + ExactRecords + Drop>(
+    rt: &impl Abort,
+    alloc: Global,
+    records: R,
+    rows: usize,
+    first: &str,
+) -> Result<(), Fail> {
+    let pos = Position::new(0, 0);
+    assert_eq!(rt; records.count_rows(), rows);
+    assert_eq!(rt; records.get_text(pos), first);
+    assert_eq!(rt; records.count_lines(pos), 2);
+    assert_eq!(rt; records.get_width(pos), 3);
+    assert_eq!(rt; records.get_line_width(pos, 0), 1);
+    let line = records.get_line(alloc, pos, 0)?;
+    assert_eq!(rt; line.as_str(), "a");
+    Ok(())
+}
+
+#[test]
+fn looks_up_cells_behind_a_reference(rt: HostRuntime) -> Result<(), Fail> {
+    let alloc = rt.alloc();
+    let text = Text::new(alloc, String::from_str(alloc, "a\n漢b")?)?;
+    let rows = vec![in alloc; vec![in alloc; text]?]?;
+    assert!(rt; are_equally_long(rows.as_slice()));
+    let records = VecRecords::new(rows);
+    expect_shape(&rt, alloc, &records, 1, "a\n漢b")
 }
 
 #[test]

@@ -1,7 +1,10 @@
 //! Rows of empty texts.
-ghost use Rattle.std.specs.Prelude.{◌≡◌, ◌+◌, [], false, replicate};
+ghost use Rattle.std.proofs.Common.{ap};
+ghost use Rattle.std.specs.Prelude.{◌≡◌, ◌+◌, [], false, refl, replicate};
 ghost use Rattle.std.specs.Iterator.{at_most};
 ghost use Rattle.grid_records_rows.specs.Sources.{GivesEmptyCells, GivesEmptyText};
+ghost use Rattle.grid_records_rows.specs.Laws.Leaving.{passed_same};
+ghost use Rattle.grid_records_rows.specs.Laws.Sources.{each_empty_row, each_empty_text};
 
 use crate::records::into_records::IntoRecords;
 use crate::records::{ExactRecords, RecordTexts, Records};
@@ -36,6 +39,14 @@ impl IntoRecords for EmptyRecords {
     type IterColumns = EmptyCells;
 
     type IterRows = EmptyRows;
+
+    ghost rows_left = { λ s. replicate s.left (replicate s.columns []) };
+
+    ghost may_refuse_left = { λ _. false };
+
+    ghost gives = { λ s. record { can_next = tt; ends = tt; each = each_empty_row (λ s. s.left) (λ s. s.columns) (λ cells. cells.left) _ s.columns s.left (λ cells is. record { can_next = tt; ends = tt; each = each_empty_text _ (λ s. s.left) false s.columns cells is }) s refl refl } };
+
+    ghost passes = { λ s t _ step. (passed_same t.left s.left (replicate s.columns []) (replicate t.columns []) step.0 (ap (λ n. replicate n []) step.1), refl) };
 
     fn iter_rows(self) -> EmptyRows {
         EmptyRows {

@@ -9,3 +9,9 @@ pub trait ExactRecords: RecordTexts {
     fn count_rows(&self) -> usize
         ensures { result ≡ length (Self.rows self.now) };
 }
+
+impl<'a, R: ExactRecords> ExactRecords for &'a R {
+    fn count_rows(&self) -> usize {
+        R::count_rows(self)
+    }
+}

@@ -41,6 +41,14 @@ impl<I: IntoRecords> IntoRecords for IterRecords<I> {
 
     type IterRows = I::IterRows;
 
+    ghost rows_left = { I.rows_left };
+
+    ghost may_refuse_left = { I.may_refuse_left };
+
+    ghost gives = { I.gives };
+
+    ghost passes = { I.passes };
+
     fn iter_rows(self) -> I::IterRows {
         self.iter.iter_rows()
     }
@@ -65,5 +73,27 @@ impl<I: IntoRecords> Records for IterRecords<I> {
 
     fn hint_count_rows(&self) -> Option<usize> {
         self.count_rows
+    }
+}
+
+impl<'a, I: IntoRecords + Copy> Records for &'a IterRecords<I> {
+    type Iter = Fitted<I>;
+
+    ghost columns = { λ s. s.now.count_columns };
+
+    fn iter_rows(self) -> FittedRows<I::IterRows> {
+        let fitted = Fitted {
+            records: self.iter,
+            columns: self.count_columns,
+        };
+        fitted.iter_rows()
+    }
+
+    fn count_columns(&self) -> usize {
+        IterRecords::count_columns(self)
+    }
+
+    fn hint_count_rows(&self) -> Option<usize> {
+        IterRecords::hint_count_rows(self)
     }
 }

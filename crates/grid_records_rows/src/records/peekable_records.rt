@@ -49,3 +49,30 @@ pub trait PeekableRecords: RecordTexts {
         line_width_of(self.get_text(pos), line)
     }
 }
+
+impl<'a, R: PeekableRecords> PeekableRecords for &'a R {
+    fn get_text(&self, pos: Position) -> &str {
+        R::get_text(self, pos)
+    }
+
+    fn get_line(
+        &self,
+        alloc: Global,
+        pos: Position,
+        line: usize,
+    ) -> Result<CowStr<'_>, AllocError> {
+        R::get_line(self, alloc, pos, line)
+    }
+
+    fn count_lines(&self, pos: Position) -> usize {
+        R::count_lines(self, pos)
+    }
+
+    fn get_width(&self, pos: Position) -> usize {
+        R::get_width(self, pos)
+    }
+
+    fn get_line_width(&self, pos: Position, line: usize) -> usize {
+        R::get_line_width(self, pos, line)
+    }
+}

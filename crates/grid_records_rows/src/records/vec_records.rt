@@ -9,7 +9,7 @@ use crate::records::into_records::{GivenRows, IntoRecords};
 use crate::records::{ExactRecords, PeekableRecords, RecordTexts, Records, RecordsMut};
 pub use cell::Cell;
 use grid_config_values::Position;
-use std::slice;
+use std::{slice, vec};
 pub use text::{FromText, Text};
 
 /// Rows in vectors, each of as many cells.
@@ -70,10 +70,22 @@ impl<T: FromText> RecordsMut for VecRecords<T> {
     }
 }
 
-impl<'a, T: Cell> RecordTexts for &'a VecRecords<T> {
-    ghost rows = { λ records. texts_of_rows T.text records.now.rows.items };
+impl<T: Cell> Records for VecRecords<T> {
+    type Iter = Vec<Vec<T>>;
 
-    ghost may_refuse = { λ _. false };
+    ghost columns = { λ records. columns_of records.rows.items };
+
+    fn iter_rows(self) -> GivenRows<vec::IntoIter<Vec<T>>> {
+        self.rows.iter_rows()
+    }
+
+    fn count_columns(&self) -> usize {
+        self.rows.first().map_or(0, |row| row.len())
+    }
+
+    fn hint_count_rows(&self) -> Option<usize> {
+        Some(self.rows.len())
+    }
 }
 
 impl<'a, T: Cell> Records for &'a VecRecords<T> {
@@ -86,10 +98,10 @@ impl<'a, T: Cell> Records for &'a VecRecords<T> {
     }
 
     fn count_columns(&self) -> usize {
-        self.rows.first().map_or(0, |row| row.len())
+        VecRecords::count_columns(self)
     }
 
     fn hint_count_rows(&self) -> Option<usize> {
-        Some(self.rows.len())
+        VecRecords::hint_count_rows(self)
     }
 }

@@ -1,8 +1,10 @@
 //! The rows of a source, each of as many cells.
-ghost use Rattle.std.specs.Prelude.{◌≡◌, IfSome, OnSome};
+ghost use Rattle.std.specs.Prelude.{◌≡◌, IfSome, OnSome, Some};
 ghost use Rattle.std.specs.Iterator.{IsFinite, at_most};
 ghost use Rattle.grid_records_rows.specs.Fitting.{GivesFitted, FitsCell};
-ghost use Rattle.grid_records_rows.specs.Rows.{fitted};
+ghost use Rattle.grid_records_rows.specs.Rows.{fitted, fitted_row};
+ghost use Rattle.grid_records_rows.specs.Laws.Fitting.{gives_fitted_rows};
+ghost use Rattle.grid_records_rows.specs.Laws.Leaving.{passed_made};
 
 use crate::records::RecordTexts;
 use crate::records::into_records::IntoRecords;
@@ -39,6 +41,14 @@ impl<I: IntoRecords> IntoRecords for Fitted<I> {
     type IterColumns = FittedCells<I::IterColumns>;
 
     type IterRows = FittedRows<I::IterRows>;
+
+    ghost rows_left = { λ s. fitted s.columns (I.rows_left s.rows) };
+
+    ghost may_refuse_left = { λ s. I.may_refuse_left s.rows };
+
+    ghost gives = { λ s. gives_fitted_rows I.IterRows.next_gives I.IterColumns.next_gives I.Cell.text (λ s. s.rows) (λ s. s.columns) (λ cells. cells.cells) (λ cells. cells.left) s (I.gives s.rows) };
+
+    ghost passes = { λ s t _ step. let passed = I.passes s.rows t.rows step.1.0 step.1.1 in (passed_made fitted_row _ _ _ _ step.0 passed.0, passed.1) };
 
     fn iter_rows(self) -> FittedRows<I::IterRows> {
         FittedRows {

@@ -1,6 +1,9 @@
 //! The first cells of each row of a source.
-ghost use Rattle.std.specs.Prelude.{◌≡◌, map, take};
+ghost use Rattle.std.specs.Iterator.Adapters.{take_source};
+ghost use Rattle.std.specs.Prelude.{◌≡◌, map, refl, take};
 ghost use Rattle.grid_records_rows.specs.Sources.{GivesTaken};
+ghost use Rattle.grid_records_rows.specs.Laws.Adapters.{each_limited, gives_taken};
+ghost use Rattle.grid_records_rows.specs.Laws.Leaving.{passed_made};
 
 use crate::records::RecordTexts;
 use crate::records::into_records::IntoRecords;
@@ -34,6 +37,14 @@ impl<I: IntoRecords> IntoRecords for LimitColumns<I> {
     type IterColumns = Take<I::IterColumns>;
 
     type IterRows = LimitedRows<I::IterRows>;
+
+    ghost rows_left = { λ s. map (take s.limit) (I.rows_left s.rows) };
+
+    ghost may_refuse_left = { λ s. I.may_refuse_left s.rows };
+
+    ghost gives = { λ s. record { can_next = (I.gives s.rows).can_next; ends = (I.gives s.rows).ends; each = each_limited I.IterRows.next_gives (λ s. s.rows) (λ s. s.limit) _ _ s.limit (λ cells texts gives count. gives_taken cells s.limit refl count gives) s _ refl (I.gives s.rows).each } };
+
+    ghost passes = { λ s t cells step. let passed = I.passes s.rows t.rows (take_source cells) step.1.0 in (passed_made take _ _ _ _ step.0 passed.0, passed.1) };
 
     fn iter_rows(self) -> LimitedRows<I::IterRows> {
         LimitedRows {

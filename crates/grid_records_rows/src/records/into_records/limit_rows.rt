@@ -1,5 +1,8 @@
 //! The first rows of a source.
-ghost use Rattle.std.specs.Prelude.{◌≡◌, take};
+ghost use Rattle.std.specs.Iterator.Adapters.{take_count, take_source};
+ghost use Rattle.std.specs.Prelude.{◌≡◌, refl, take};
+ghost use Rattle.grid_records_rows.specs.Laws.Adapters.{gives_taken};
+ghost use Rattle.grid_records_rows.specs.Laws.Leaving.{passed_taken};
 
 use crate::records::RecordTexts;
 use crate::records::into_records::IntoRecords;
@@ -33,6 +36,14 @@ impl<I: IntoRecords> IntoRecords for LimitRows<I> {
     type IterColumns = I::IterColumns;
 
     type IterRows = Take<I::IterRows>;
+
+    ghost rows_left = { λ s. take (take_count s) (I.rows_left (take_source s)) };
+
+    ghost may_refuse_left = { λ s. I.may_refuse_left (take_source s) };
+
+    ghost gives = { λ s. gives_taken s (take_count s) refl refl (I.gives (take_source s)) };
+
+    ghost passes = { λ s t cells step. (passed_taken I.IterRows.next_gives I.rows_left (λ s t cells step. (I.passes s t cells step).0) s t cells step, (I.passes (take_source s) (take_source t) cells step.0).1) };
 
     fn iter_rows(self) -> Take<I::IterRows> {
         self.records.iter_rows().take(self.limit)

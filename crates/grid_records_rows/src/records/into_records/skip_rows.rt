@@ -1,5 +1,8 @@
 //! The rows of a source behind its first.
-ghost use Rattle.std.specs.Prelude.{◌≡◌, drop};
+ghost use Rattle.std.specs.Iterator.Adapters.{skip_count, skip_source};
+ghost use Rattle.std.specs.Prelude.{◌≡◌, drop, refl};
+ghost use Rattle.grid_records_rows.specs.Laws.Adapters.{gives_skipped};
+ghost use Rattle.grid_records_rows.specs.Laws.Leaving.{passed_skipped, refusing_skipped};
 
 use crate::records::RecordTexts;
 use crate::records::into_records::IntoRecords;
@@ -33,6 +36,14 @@ impl<I: IntoRecords> IntoRecords for SkipRows<I> {
     type IterColumns = I::IterColumns;
 
     type IterRows = Skip<I::IterRows>;
+
+    ghost rows_left = { λ s. drop (skip_count s) (I.rows_left (skip_source s)) };
+
+    ghost may_refuse_left = { λ s. I.may_refuse_left (skip_source s) };
+
+    ghost gives = { λ s. gives_skipped s (skip_count s) refl refl (I.gives (skip_source s)) };
+
+    ghost passes = { λ s t cells step. (passed_skipped I.IterRows.next_gives I.rows_left (λ s t cells step. (I.passes s t cells step).0) s t cells step, refusing_skipped I.IterRows.next_gives I.may_refuse_left (λ s t cells step. (I.passes s t cells step).1) s t cells step) };
 
     fn iter_rows(self) -> Skip<I::IterRows> {
         self.records.iter_rows().skip(self.count)

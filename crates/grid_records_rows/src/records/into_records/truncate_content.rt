@@ -1,6 +1,8 @@
 //! The cells of a source, cut at the widths of their columns.
-ghost use Rattle.std.specs.Prelude.{◌≡◌, IfOk, true};
-ghost use Rattle.grid_records_rows.specs.Truncating.{GivesTruncated, GivesTruncatedRow, next_column, text_of_truncated, truncated_rows, truncated_text};
+ghost use Rattle.std.specs.Prelude.{◌≡◌, IfOk, refl, true};
+ghost use Rattle.grid_records_rows.specs.Truncating.{GivesTruncated, GivesTruncatedRow, next_column, text_of_truncated, truncated_row, truncated_rows, truncated_text};
+ghost use Rattle.grid_records_rows.specs.Laws.Leaving.{passed_made};
+ghost use Rattle.grid_records_rows.specs.Laws.Truncating.{each_truncated_row, gives_truncated};
 
 use crate::dimension::Dimension;
 use crate::records::RecordTexts;
@@ -43,6 +45,14 @@ impl<I: IntoRecords, D: Dimension + Copy> IntoRecords for TruncateContent<I, D> 
     type IterColumns = TruncatedCells<I::IterColumns, D>;
 
     type IterRows = TruncatedRows<I::IterRows, D>;
+
+    ghost rows_left = { λ s. truncated_rows (D.width s.dimension) (I.rows_left s.rows) };
+
+    ghost may_refuse_left = { λ _. true };
+
+    ghost gives = { λ s. record { can_next = (I.gives s.rows).can_next; ends = (I.gives s.rows).ends; each = each_truncated_row I.IterRows.next_gives (λ s. s.rows) (λ s. s.dimension) (λ cells. cells.cells) (λ cells. cells.dimension) (λ cells. cells.column) _ _ (D.width s.dimension) s.dimension (λ cells texts gives same at. gives_truncated I.IterColumns.next_gives I.Cell.text _ D.width (λ cells. cells.cells) (λ cells. cells.dimension) (λ cells. cells.column) s.dimension texts cells same at gives) s _ refl (I.gives s.rows).each } };
+
+    ghost passes = { λ s t cells step. (passed_made (λ d. truncated_row (D.width d) 0) _ _ _ _ step.0 (I.passes s.rows t.rows cells.cells step.1.0).0, refl) };
 
     fn iter_rows(self) -> TruncatedRows<I::IterRows, D> {
         TruncatedRows {

@@ -2,7 +2,7 @@ use Rattle.ansi_scan.specs.Pieces.{pieces}
 use Rattle.ansi_scan.proofs.Existence.{ArePiecesOf-pieces}
 use Rattle.std.specs.Cow.{cow_str_bytes}
 use Rattle.std.specs.String.{string_bytes}
-use Rattle.grid_records_rows.proofs.TruncatingLemmas.{cut_is_left, whole_text}
+use Rattle.grid_records_rows.specs.Laws.Truncating.{cut_is_left, whole_text}
 use Rattle.grid_records_rows.proofs.records.into_records.truncate_content.truncate.Goals as goal
 
 pub returns-then-width : goal.returns-then-width

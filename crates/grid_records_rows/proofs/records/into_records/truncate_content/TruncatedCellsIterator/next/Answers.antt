@@ -1,5 +1,5 @@
 use Rattle.std.proofs.Common.{refl}
-use Rattle.grid_records_rows.proofs.TruncatingLemmas.{truncated_next}
+use Rattle.grid_records_rows.specs.Laws.Truncating.{truncated_next}
 use Rattle.grid_records_rows.proofs.records.into_records.truncate_content.TruncatedCellsIterator.next.Goals as goal
 
 pub returns-in-Ok-clause-steps : goal.returns-in-Ok-clause-steps

@@ -1,0 +1,155 @@
+-- Kept rows are given first, and then the rest of the source.
+use Rattle.std.proofs.Common.{◌≡◌, ◌∙◌, ℕ, Bool, List, [], ◌∷◌, ◌++◌, T, ap, drop, refl, subst, sym}
+use Rattle.std.specs.Prelude.{IfSome, MatchOption, None, Option, Result, Some, cond, false, true}
+use Rattle.std.specs.Iterator.{Count, IsFinite, at_most, count_add}
+use Rattle.either.specs.Either.{MatchEither, either}
+use Rattle.either.specs.Iterator.{either_steps}
+use Rattle.either.specs.declared.Either.{Either}
+use Rattle.either.specs.declared.Either.TheVariants.{Left, Right}
+use Rattle.grid_records_rows.specs.Buffering.{GivesBuffered, of_rest}
+use Rattle.grid_records_rows.specs.Giving.{Gives, GivesEach, GivesRows, GivesTexts, HasPassedOne, IsAnswer}
+
+-- one of two iterators gives what it gives
+module _ {S T A B : Type 0} (lefts : S → Option A → S → Type 0) (rights : T → Option A → T → Type 0) (tie : A → B → Type 0) where
+  each_left : (s : S) (ys : List B) → GivesEach lefts tie s ys → GivesEach (either_steps lefts rights) tie (Left s) ys
+  each_left s [] gives = λ x t. elim t as (λ v. either_steps lefts rights (Left s) (Some x) v → ⊥) [ Left t ↦ λ step. gives x t step | Right _ ↦ λ never. never ]
+  each_left s (y ∷ ys) gives = (
+    λ t. elim t as (λ v. either_steps lefts rights (Left s) None v → ⊥) [ Left t ↦ λ step. gives.0 t step | Right _ ↦ λ never. never ],
+    λ x t. elim t as (λ v. either_steps lefts rights (Left s) (Some x) v → tie x y × GivesEach (either_steps lefts rights) tie v ys) [
+      | Left t ↦ λ step. let next = gives.1 x t step in (next.0, each_left t ys next.1)
+      | Right _ ↦ λ never. absurd never
+    ],
+  )
+
+  each_right : (s : T) (ys : List B) → GivesEach rights tie s ys → GivesEach (either_steps lefts rights) tie (Right s) ys
+  each_right s [] gives = λ x t. elim t as (λ v. either_steps lefts rights (Right s) (Some x) v → ⊥) [ Right t ↦ λ step. gives x t step | Left _ ↦ λ never. never ]
+  each_right s (y ∷ ys) gives = (
+    λ t. elim t as (λ v. either_steps lefts rights (Right s) None v → ⊥) [ Right t ↦ λ step. gives.0 t step | Left _ ↦ λ never. never ],
+    λ x t. elim t as (λ v. either_steps lefts rights (Right s) (Some x) v → tie x y × GivesEach (either_steps lefts rights) tie v ys) [
+      | Right t ↦ λ step. let next = gives.1 x t step in (next.0, each_right t ys next.1)
+      | Left _ ↦ λ never. absurd never
+    ],
+  )
+
+  pub gives_left : {can : S → Type 0} {left : S → Count} {can_right : T → Type 0} {left_right : T → Count} (s : S) (ys : List B) → Gives can left lefts tie s ys →
+      Gives (λ s. MatchEither s can can_right) (either left left_right) (either_steps lefts rights) tie (Left s) ys
+  gives_left s ys gives = record { can_next = gives.can_next; ends = gives.ends; each = each_left s ys gives.each }
+
+  pub gives_right : {can : S → Type 0} {left : S → Count} {can_right : T → Type 0} {left_right : T → Count} (s : T) (ys : List B) → Gives can_right left_right rights tie s ys →
+      Gives (λ s. MatchEither s can can_right) (either left left_right) (either_steps lefts rights) tie (Right s) ys
+  gives_right s ys gives = record { can_next = gives.can_next; ends = gives.ends; each = each_right s ys gives.each }
+
+-- kept rows come first
+module _ {K R Kept Rest B F : Type 0} (kept_steps : K → Option Kept → K → Type 0) (rest_steps : R → Option Rest → R → Type 0) (kept_of : F → K) (rest_of : F → Option R)
+    (kept_tie : Kept → B → Type 0) (rest_tie : Rest → B → Type 0) (tie : Either Kept Rest → B → Type 0)
+    (lefts : (row : Kept) (y : B) → kept_tie row y → tie (Left row) y) (rights : (row : Rest) (y : B) → rest_tie row y → tie (Right row) y)
+    (stays : (s t : K) → kept_steps s None t → (row : Kept) (u : K) → ¬ (kept_steps t (Some row) u)) where
+  abbrev Steps : F → Option (Either Kept Rest) → F → Type 0
+  Steps s r t = GivesBuffered kept_steps rest_steps (kept_of s) (rest_of s) r (kept_of t) (rest_of t)
+
+  ended : (s : F) → GivesEach kept_steps kept_tie (kept_of s) [] → rest_of s ≡ None → GivesEach Steps tie s []
+  ended s gives none = λ x t. elim x as (λ v. Steps s (Some v) t → ⊥) [
+    | Left row ↦ λ step. gives row (kept_of t) step.0
+    | Right row ↦ λ step. cc (none, step.1.2)
+  ]
+
+  of_the_rest : (s : F) (it : R) (zs : List B) → GivesEach kept_steps kept_tie (kept_of s) [] → rest_of s ≡ Some it → GivesEach rest_steps rest_tie it zs → GivesEach Steps tie s zs
+  of_the_rest s it [] gives is rest = λ x t. elim x as (λ v. Steps s (Some v) t → ⊥) [
+    | Left row ↦ λ step. gives row (kept_of t) step.0
+    | Right row ↦ λ step.
+        let same : step.1.0 ≡ it = cc (is, step.1.2) in
+        rest row step.1.1 (subst (λ v. rest_steps v (Some row) step.1.1) same step.1.4)
+  ]
+  of_the_rest s it (z ∷ zs) gives is rest = (
+    λ t step. let last = subst (λ v. MatchOption v (Unit {0}) (λ it. (then : R) × rest_steps it None then)) is step.1 in rest.0 last.0 last.1,
+    λ x t. elim x as (λ v. Steps s (Some v) t → tie v z × GivesEach Steps tie t zs) [
+      | Left row ↦ λ step. absurd (gives row (kept_of t) step.0)
+      | Right row ↦ λ step.
+          let same : step.1.0 ≡ it = cc (is, step.1.2) in
+          let next = rest.1 row step.1.1 (subst (λ v. rest_steps v (Some row) step.1.1) same step.1.4) in
+          (rights row z next.0, of_the_rest t step.1.1 zs (stays (kept_of s) (kept_of t) step.0) step.1.3 next.1)
+    ],
+  )
+
+  from_rest : (s : F) (zs : List B) (r : Option R) → rest_of s ≡ r → GivesEach kept_steps kept_tie (kept_of s) [] →
+      ((it : R) → rest_of s ≡ Some it → GivesEach rest_steps rest_tie it zs) → (rest_of s ≡ None → zs ≡ []) → GivesEach Steps tie s zs
+  from_rest s zs None is gives rest none = subst (λ v. GivesEach Steps tie s v) (sym (none is)) (ended s gives is)
+  from_rest s zs (Some it) is gives rest none = of_the_rest s it zs gives is (rest it is)
+
+  -- all that is left of both
+  pub each_buffered : (s : F) (ys zs : List B) → GivesEach kept_steps kept_tie (kept_of s) ys →
+      ((it : R) → rest_of s ≡ Some it → GivesEach rest_steps rest_tie it zs) → (rest_of s ≡ None → zs ≡ []) → GivesEach Steps tie s (ys ++ zs)
+  each_buffered s [] zs gives rest none = from_rest s zs (rest_of s) refl gives rest none
+  each_buffered s (y ∷ ys) zs gives rest none = (
+    λ t step. gives.0 (kept_of t) step.0,
+    λ x t. elim x as (λ v. Steps s (Some v) t → tie v y × GivesEach Steps tie t (ys ++ zs)) [
+      | Left row ↦ λ step.
+          let next = gives.1 row (kept_of t) step.0 in
+          (lefts row y next.0, each_buffered t ys zs next.1 (λ it is. rest it (sym step.1 ∙ is)) (λ is. none (sym step.1 ∙ is)))
+      | Right row ↦ λ step. absurd (gives.0 (kept_of t) step.0)
+    ],
+  )
+
+both_end : (a b : Count) → IsFinite a → IsFinite b → IsFinite (count_add a b)
+both_end a b = elim a.bounded as (λ v. T v → T b.bounded → T (cond v b.bounded false)) [ true ↦ λ _ ends. ends | false ↦ λ never _. absurd never ]
+
+module _ {R S C E : Type 0} {can : R → Type 0} {left : R → Count} {steps : R → Option S → R → Type 0} {cell_can : S → Type 0} {cell_left : S → Count} {cell_steps : S → Option (Result C E) → S → Type 0} {text : C → List ℕ} where
+  -- every rest gives what is left of it
+  pub rest_gives : (refuses : R → Bool) (rows : R → List (List (List ℕ))) (r : Option R) → ((it : R) → GivesRows can left steps cell_can cell_left cell_steps text (refuses it) it (rows it)) →
+      (it : R) → r ≡ Some it → GivesRows can left steps cell_can cell_left cell_steps text (of_rest refuses false r) it (of_rest rows [] r)
+  rest_gives refuses rows None each it is = absurd (cc is)
+  rest_gives refuses rows (Some other) each it is =
+      let same : other ≡ it = cc is in
+      subst (λ v. GivesRows can left steps cell_can cell_left cell_steps text (refuses other) v (rows other)) same (each other)
+
+  rest_can : {may_refuse : Bool} (zs : List (List (List ℕ))) (r : Option R) → ((it : R) → r ≡ Some it → GivesRows can left steps cell_can cell_left cell_steps text may_refuse it zs) → IfSome r can
+  rest_can zs None gives = tt
+  rest_can zs (Some it) gives = (gives it refl).can_next
+
+  rest_ends : {may_refuse : Bool} (zs : List (List (List ℕ))) (r : Option R) → ((it : R) → r ≡ Some it → GivesRows can left steps cell_can cell_left cell_steps text may_refuse it zs) →
+      IsFinite (of_rest left (at_most 0) r)
+  rest_ends zs None gives = tt
+  rest_ends zs (Some it) gives = (gives it refl).ends
+
+-- rows that are kept, and then those of the rest
+pub gives_buffered : {K R Kept Rest C E F : Type 0} (kept_steps : K → Option Kept → K → Type 0) (rest_steps : R → Option Rest → R → Type 0)
+    (kept_cells : Kept → Option (Result C E) → Kept → Type 0) (rest_cells : Rest → Option (Result C E) → Rest → Type 0) (kept_of : F → K) (rest_of : F → Option R) (text : C → List ℕ)
+    {kept_can : K → Type 0} {kept_left : K → Count} {rest_may : R → Type 0} {rest_left : R → Count}
+    {kept_cell_can : Kept → Type 0} {kept_cell_left : Kept → Count} {rest_cell_can : Rest → Type 0} {rest_cell_left : Rest → Count} →
+    ((s t : K) → kept_steps s None t → (row : Kept) (u : K) → ¬ (kept_steps t (Some row) u)) → (may_refuse : Bool) (s : F) (ys zs : List (List (List ℕ))) →
+    GivesRows kept_can kept_left kept_steps kept_cell_can kept_cell_left kept_cells text may_refuse (kept_of s) ys →
+    ((it : R) → rest_of s ≡ Some it → GivesRows rest_may rest_left rest_steps rest_cell_can rest_cell_left rest_cells text may_refuse it zs) → (rest_of s ≡ None → zs ≡ []) →
+    GivesRows (λ s. IfSome (rest_of s) rest_may) (λ s. count_add (kept_left (kept_of s)) (of_rest rest_left (at_most 0) (rest_of s)))
+    (λ s r t. GivesBuffered kept_steps rest_steps (kept_of s) (rest_of s) r (kept_of t) (rest_of t))
+    (λ cells. MatchEither cells kept_cell_can rest_cell_can) (either kept_cell_left rest_cell_left) (either_steps kept_cells rest_cells) text may_refuse s (ys ++ zs)
+gives_buffered kept_steps rest_steps kept_cells rest_cells kept_of rest_of text {kept_left = kept_left} {rest_left = rest_left} stays may_refuse s ys zs kept rest none =
+    record {
+      can_next = rest_can zs (rest_of s) rest;
+      ends = both_end (kept_left (kept_of s)) (of_rest rest_left (at_most 0) (rest_of s)) kept.ends (rest_ends zs (rest_of s) rest);
+      each = each_buffered kept_steps rest_steps kept_of rest_of _ _ _
+          (λ row y given. gives_left kept_cells rest_cells (IsAnswer text may_refuse) row y given)
+          (λ row y given. gives_right kept_cells rest_cells (IsAnswer text may_refuse) row y given)
+          stays s ys zs kept.each (λ it is. (rest it is).each) none;
+    }
+
+-- and the row that was given is left no more
+pub passed_buffered : {K R Kept Rest : Type 0} (kept_steps : K → Option Kept → K → Type 0) (rest_steps : R → Option Rest → R → Type 0)
+    (kept_rows : K → List (List (List ℕ))) (rest_rows : R → List (List (List ℕ))) (refuses : R → Bool) →
+    ((s t : K) (row : Kept) → kept_steps s (Some row) t → (y : List (List ℕ)) × (kept_rows s ≡ y ∷ kept_rows t)) →
+    ((s t : K) → kept_steps s None t → (kept_rows s ≡ []) × (kept_rows t ≡ [])) →
+    ((s t : R) (row : Rest) → rest_steps s (Some row) t → HasPassedOne (rest_rows s) (refuses s) (rest_rows t) (refuses t)) →
+    (k t : K) (r u : Option R) (row : Either Kept Rest) → GivesBuffered kept_steps rest_steps k r (Some row) t u →
+    HasPassedOne (kept_rows k ++ of_rest rest_rows [] r) (of_rest refuses false r) (kept_rows t ++ of_rest rest_rows [] u) (of_rest refuses false u)
+passed_buffered kept_steps rest_steps kept_rows rest_rows refuses goes stops passes k t r u (Left row) step = (
+  ap (λ v. kept_rows t ++ of_rest rest_rows [] v) step.1 ∙ sym (ap (λ v. drop 1 (v ++ of_rest rest_rows [] r)) (goes k t row step.0).1),
+  ap (of_rest refuses false) step.1,
+)
+passed_buffered kept_steps rest_steps kept_rows rest_rows refuses goes stops passes k t r u (Right row) step =
+    let none = stops k t step.0 in
+    let passed = passes step.1.0 step.1.1 row step.1.4 in (
+      ap (λ v. v ++ of_rest rest_rows [] u) none.1
+          ∙ ap (of_rest rest_rows []) step.1.3
+          ∙ passed.0
+          ∙ sym (ap (λ v. drop 1 (v ++ of_rest rest_rows [] r)) none.0 ∙ ap (λ v. drop 1 (of_rest rest_rows [] v)) step.1.2),
+      ap (of_rest refuses false) step.1.3 ∙ passed.1 ∙ sym (ap (of_rest refuses false) step.1.2),
+    )

@@ -1,0 +1,136 @@
+//! A source whose first rows are kept.
+ghost use Rattle.std.proofs.Common.{◌∙◌, ap};
+ghost use Rattle.std.specs.Iterator.{IsFinite, at_most, count_add};
+ghost use Rattle.std.specs.Prelude.{◌≡◌, ◌++◌, Bool, IfOk, IfSome, IsTrue, List, [], false, map, take, ℕ};
+ghost use Rattle.grid_records_rows.specs.Buffering.{GivesBuffered, of_rest};
+ghost use Rattle.grid_records_rows.specs.Sources.{items_left, texts_of_rows};
+ghost use Rattle.grid_records_rows.specs.Giving.{GivesTexts};
+ghost use Rattle.grid_records_rows.specs.Laws.Buffering.{gives_buffered, passed_buffered, rest_gives};
+ghost use Rattle.grid_records_rows.specs.Laws.Given.{vec_gives, vec_goes, vec_stays, vec_stops};
+ghost use Rattle.grid_records_rows.specs.Laws.Sources.{all_items};
+
+use crate::records::RecordTexts;
+use crate::records::into_records::IntoRecords;
+use crate::records::into_records::given::{GivenCells, GivenRows};
+use crate::records::vec_records::Cell;
+use either::{Either, Left, Right};
+use std::alloc::{AllocError, Global};
+use std::vec;
+
+/// What contracts see of a source with some rows kept: their texts.
+pub trait KeptTexts: RecordTexts {
+    ghost kept: { Self → List (List (List ℕ)) };
+}
+
+/// A source of which the first rows were read and are kept.
+#[derive(Drop)]
+pub struct BufRecords<I: IntoRecords> {
+    kept: Vec<Vec<I::Cell>>,
+    rest: Option<I::IterRows>,
+}
+
+impl<I: IntoRecords> BufRecords<I> {
+    /// The rows of the source, the first of which are read and kept: so many, or all where it has fewer.
+    /// The only refusal is for memory, of a cell that is read or of room to keep it.
+    pub fn new(alloc: Global, records: I, count: usize) -> Result<BufRecords<I>, AllocError>
+        ensures rows { IfOk result (λ out. ⟦<BufRecords<I> as RecordTexts>⟧.rows out ≡ I.RecordTexts.rows records) }
+        ensures kept { IfOk result (λ out. ⟦<BufRecords<I> as KeptTexts>⟧.kept out ≡ take count (I.RecordTexts.rows records)) }
+        ensures refuses { IfOk result (λ out. IsTrue (⟦<BufRecords<I> as RecordTexts>⟧.may_refuse out) → IsTrue (I.RecordTexts.may_refuse records)) }
+    {
+        let mut rest = records.iter_rows();
+        let mut kept = Vec::new(alloc);
+        for _ in 0..count {
+            let Some(cells) = rest.next() else {
+                return Ok(BufRecords { kept, rest: None });
+            };
+            kept.push(read_row(alloc, cells)?)?;
+        }
+        Ok(BufRecords {
+            kept,
+            rest: Some(rest),
+        })
+    }
+
+    /// The rows that are kept. Takes no memory.
+    pub fn as_slice(&self) -> &[Vec<I::Cell>]
+        ensures { texts_of_rows I.Cell.text result.now ≡ ⟦<BufRecords<I> as KeptTexts>⟧.kept self.now }
+    {
+        self.kept.as_slice()
+    }
+}
+
+impl<I: IntoRecords> RecordTexts for BufRecords<I> {
+    ghost rows = { λ s. texts_of_rows I.Cell.text s.kept.items ++ of_rest I.rows_left [] s.rest };
+
+    ghost may_refuse = { λ s. of_rest I.may_refuse_left false s.rest };
+}
+
+impl<I: IntoRecords> KeptTexts for BufRecords<I> {
+    ghost kept = { λ s. texts_of_rows I.Cell.text s.kept.items };
+}
+
+impl<I: IntoRecords> IntoRecords for BufRecords<I> {
+    type Cell = I::Cell;
+
+    type IterColumns = Either<GivenCells<vec::IntoIter<I::Cell>>, I::IterColumns>;
+
+    type IterRows = BufferedRows<I::Cell, I::IterRows>;
+
+    ghost rows_left = { λ s. texts_of_rows I.Cell.text (items_left s.kept.0) ++ of_rest I.rows_left [] s.rest };
+
+    ghost may_refuse_left = { λ s. of_rest I.may_refuse_left false s.rest };
+
+    ghost gives = { λ s. gives_buffered ⟦<GivenRows<vec::IntoIter<Vec<I::Cell>>> as Iterator>⟧.next_gives I.IterRows.next_gives _ I.IterColumns.next_gives (λ s. s.kept) (λ s. s.rest) I.Cell.text {kept_can = ⟦<GivenRows<vec::IntoIter<Vec<I::Cell>>> as Iterator>⟧.can_next} {kept_left = ⟦<GivenRows<vec::IntoIter<Vec<I::Cell>>> as Iterator>⟧.remaining} (λ s t ended row u step. vec_stays s.0 t.0 ended step.0 u.0 step.1) (of_rest I.may_refuse_left false s.rest) s (texts_of_rows I.Cell.text (items_left s.kept.0)) (of_rest I.rows_left [] s.rest) (record { can_next = tt; ends = tt; each = vec_gives I.Cell.text _ _ _ (λ _. (tt, tt)) (λ s. s.0) (λ cells. cells.0) (λ row it became. all_items it _ became.0 (became.1 ∙ row.ok.0)) s.kept }) (rest_gives I.may_refuse_left I.rows_left s.rest I.gives) (ap (of_rest I.rows_left [])) };
+
+    ghost passes = { λ s t cells step. passed_buffered ⟦<GivenRows<vec::IntoIter<Vec<I::Cell>>> as Iterator>⟧.next_gives I.IterRows.next_gives (λ s. texts_of_rows I.Cell.text (items_left s.0)) I.rows_left I.may_refuse_left (λ s t row step. vec_goes I.Cell.text s.0 t.0 step.0 step.1) (λ s t ended. vec_stops I.Cell.text s.0 t.0 ended) I.passes s.kept t.kept s.rest t.rest cells step };
+
+    fn iter_rows(self) -> BufferedRows<I::Cell, I::IterRows> {
+        BufferedRows {
+            kept: GivenRows(self.kept.into_iter()),
+            rest: self.rest,
+        }
+    }
+}
+
+/// The cells of a row, one by one.
+fn read_row<C: Cell, I: Iterator<Item = Result<C, AllocError>>>(
+    alloc: Global,
+    cells: I,
+) -> Result<Vec<C>, AllocError>
+    requires can { I.can_next cells }
+    requires ends { IsFinite (I.remaining cells) }
+    ensures { IfOk result (λ row. (texts : List (List ℕ)) (may_refuse : Bool) → GivesTexts I.can_next I.remaining I.next_gives C.text may_refuse cells texts → map C.text row.items ≡ texts) }
+{
+    let mut row = Vec::new(alloc);
+    for cell in cells {
+        row.push(cell?)?;
+    }
+    Ok(row)
+}
+
+/// The kept rows, and then the rest of the source.
+#[derive(Drop)]
+pub struct BufferedRows<C, I> {
+    kept: GivenRows<vec::IntoIter<Vec<C>>>,
+    rest: Option<I>,
+}
+
+impl<C: Drop, I: Iterator> Iterator for BufferedRows<C, I> {
+    type Item = Either<GivenCells<vec::IntoIter<C>>, I::Item>;
+
+    ghost can_next = { λ s. IfSome s.rest I.can_next };
+
+    ghost next_gives = { λ s r t. GivesBuffered ⟦<GivenRows<vec::IntoIter<Vec<C>>> as Iterator>⟧.next_gives I.next_gives s.kept s.rest r t.kept t.rest };
+
+    ghost remaining = { λ s. count_add (⟦<GivenRows<vec::IntoIter<Vec<C>>> as Iterator>⟧.remaining s.kept) (of_rest I.remaining (at_most 0) s.rest) };
+
+    fn next(&mut self) -> Option<Self::Item> {
+        if let Some(cells) = self.kept.next() {
+            return Some(Left(cells));
+        }
+        let Some(rest) = &mut self.rest else {
+            return None;
+        };
+        Some(Right(rest.next()?))
+    }
+}
