@@ -13,3 +13,6 @@ pub mod Visibility
 pub mod ReadLemmas
 pub mod TableLemmas
 pub mod SizeLemmas
+pub mod Members
+pub mod RoomLemmas
+pub mod CompactLemmas

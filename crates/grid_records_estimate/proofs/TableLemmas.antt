@@ -1,14 +1,14 @@
 -- A table that was read is described by its columns, and by its rows.
-use Rattle.std.proofs.Common.{◌≡◌, ℕ, zero, suc, ◌+◌, ◌-◌, ◌==◌, ◌<◌, ◌≤◌, Bool, true, false, not, if◌then◌else◌, List, [], ◌∷◌, ◌++◌, map, length, get_or, refl, ap, sym, ◌∙◌, subst, arith, append_assoc}
-use Rattle.std.specs.List.{filter, flat_map, range_with_len}
+use Rattle.std.proofs.Common.{◌≡◌, ℕ, zero, suc, ◌+◌, ◌==◌, ◌<◌, ◌≤◌, Bool, true, false, not, if◌then◌else◌, List, [], ◌∷◌, ◌++◌, length, get_or, refl, ap, sym, ◌∙◌, subst, arith, append_assoc}
+use Rattle.std.specs.List.{flat_map, range_with_len}
 use Rattle.std.specs.List.Sorted.{IsPermutation}
 use Rattle.std.proofs.lemmas.Bool.Decides.{nat_tests}
 use Rattle.std.proofs.lemmas.List.Concat.{flat_map-append}
 use Rattle.std.proofs.lemmas.List.Sorted.{IsPermutation-append_comm, IsPermutation-append_left, IsPermutation-append_right, IsPermutation-refl, IsPermutation-trans}
-use Rattle.grid_config.specs.Glyphs.{Between, BoundaryKind, boundary_kind, has_column_boundary, has_row_boundary}
+use Rattle.grid_config.specs.Glyphs.{Between, boundary_kind, has_column_boundary, has_row_boundary}
 use Rattle.grid_records_rows.specs.Rows.{row_at, text_at}
 use Rattle.grid_records_estimate.specs.declared.need.Need.{Need}
-use Rattle.grid_records_estimate.specs.Collecting.{AreFirstBelow, Collected, Describes, HasBetween, HasCollected, all_needs, is_plain}
+use Rattle.grid_records_estimate.specs.Collecting.{AreFirstBelow, Collected, Describes, HasBetween, all_needs, is_plain}
 use Rattle.grid_records_estimate.specs.Reading.{HasRead, Placed, cell_heights, cell_widths, row_cells, table_cells}
 use Rattle.grid_records_estimate.specs.Sizing.{Sizing, column_axis, is_visible, place, row_axis}
 use Rattle.grid_records_estimate.proofs.Each.{All-from_Each, Each, Each-filter, Each-flat_map}

@@ -1,5 +1,5 @@
 -- The sizes that a dimension keeps.
-use Rattle.std.specs.Prelude.{◌≡◌, ℕ, List, []}
+use Rattle.std.specs.Prelude.{ℕ, List, []}
 use Rattle.grid_records_estimate.specs.Sizes.{table_heights, table_widths}
 use Rattle.grid_records_estimate.specs.Sizing.{Sizing}
 

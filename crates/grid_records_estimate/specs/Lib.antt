@@ -1,5 +1,6 @@
 pub mod Estimates
 pub mod Totals
+pub mod Room
 pub mod Worked
 pub mod Collecting
 pub mod Sizing

@@ -1,9 +1,9 @@
 -- What the sizes of a table follow from, besides its texts: some of its settings. And a table by its columns and by its rows.
-use Rattle.std.specs.Prelude.{ℕ, ◌+◌, ◌==◌, Bool, not, ◌&&◌, List, [], length, if◌then◌else◌}
+use Rattle.std.specs.Prelude.{ℕ, ◌+◌, Bool, not, ◌&&◌, List, [], length}
 use Rattle.std.specs.List.{list_any}
 use Rattle.ansi_scan.specs.Pieces.{pieces}
 use Rattle.grid_config.specs.Compact.{Compact}
-use Rattle.grid_config.specs.Glyphs.{Between, BoundaryKind, boundary_kind, has_column_boundary, has_row_boundary}
+use Rattle.grid_config.specs.Glyphs.{boundary_kind, has_column_boundary, has_row_boundary}
 use Rattle.grid_config.specs.Maps.{value_at}
 use Rattle.grid_config.specs.Settings.{Settings}
 use Rattle.grid_config.specs.Spans.{extent_at}

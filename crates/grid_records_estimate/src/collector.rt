@@ -14,7 +14,7 @@ use std::marker::Model;
 /// What the visible cells of a table need along one axis. Of the cells that take one column it keeps
 /// the greatest need of each; what spans several columns is kept as it came.
 #[derive(Debug, Drop)]
-pub struct Collector {
+pub(crate) struct Collector {
     sizes: Vec<usize>,
     others: Vec<Need>,
 }
@@ -33,7 +33,7 @@ impl Collector {
     ghost use Rattle.grid_records_estimate.specs.declared.need.Need.{Need as OneNeed};
 
     /// Nothing is needed yet. Takes no memory.
-    pub fn new(alloc: Global) -> Collector
+    pub(crate) fn new(alloc: Global) -> Collector
         ensures { HasCollected result [] }
     {
         Collector {
@@ -44,7 +44,7 @@ impl Collector {
 
     /// Adds what one cell needs. Refused for memory alone, and then nothing has changed.
     #[inline(always)]
-    pub fn add(&mut self, need: Need) -> Result<(), AllocError>
+    pub(crate) fn add(&mut self, need: Need) -> Result<(), AllocError>
         requires some { 0 < need.length }
         requires room { need.first < usize.MAX }
         requires small { need.size < 2 ^ 66 }
@@ -60,7 +60,7 @@ impl Collector {
     /// The least sizes of so many columns that hold what was added: first the cells that take one
     /// column, then the shorter spans before the longer ones. Refused as `Range` exactly where a size
     /// passes `usize::MAX`, and for memory.
-    pub fn finish(self, tracks: usize, between: bool) -> Result<Vec<usize>, Fault>
+    pub(crate) fn finish(self, tracks: usize, between: bool) -> Result<Vec<usize>, Fault>
         requires { AreFirstBelow tracks self.others }
         ensures ok { (axis : Axis) → Describes axis tracks between self → IfOk result (λ sizes. sizes.items ≡ track_sizes axis) }
         ensures range { (axis : Axis) → Describes axis tracks between self → result ≡ Err Range → PassesMax (track_sizes axis) }

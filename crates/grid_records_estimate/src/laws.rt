@@ -1,6 +1,12 @@
 //! Laws of the definitions that the other contracts cite.
-ghost use Rattle.std.specs.Prelude.{◌≡◌, ℕ, [], ◌∷◌, true, false};
-ghost use Rattle.grid_records_estimate.specs.Estimates.{track_sizes};
+ghost use Rattle.std.specs.Prelude.{◌≡◌, ℕ, List, [], ◌∷◌, true, false};
+ghost use Rattle.grid_config.specs.Compact.{Compact as CompactSettings};
+ghost use Rattle.grid_config.specs.Settings.{Settings as TableSettings, StartsWith, compact_start};
+ghost use Rattle.grid_records_rows.specs.Rows.{fitted};
+ghost use Rattle.grid_records_estimate.specs.Estimates.{Axis as TableAxis, track_sizes};
+ghost use Rattle.grid_records_estimate.specs.Room.{LeaveRoom};
+ghost use Rattle.grid_records_estimate.specs.Sizes.{height_total, table_heights, table_widths, width_total};
+ghost use Rattle.grid_records_estimate.specs.Sizing.{Sizing as TableSizing, column_axis, compact_sizing, row_axis, sizing_of};
 ghost use Rattle.grid_records_estimate.specs.Totals.{total};
 ghost use Rattle.grid_records_estimate.specs.Worked.{table};
 
@@ -23,4 +29,27 @@ pub fn worked_estimates()
 pub fn worked_totals()
     ensures with_margins { total (4 ∷ 3 ∷ []) 3 1 2 ≡ 13 }
     ensures empty { total [] 1 5 6 ≡ 0 }
+{}
+
+/// The least sizes of a table leave each of its visible cells the room that it needs: the tracks that
+/// the cell takes, and the boundaries between them, are together no less.
+pub fn sizes_leave_room()
+    ensures tracks { (axis : TableAxis) → LeaveRoom axis (track_sizes axis) }
+    ensures widths { (sizing : TableSizing) (columns : ℕ) (rows : List (List (List ℕ))) →
+        LeaveRoom (column_axis sizing columns (fitted columns rows)) (table_widths sizing columns rows) }
+    ensures heights { (sizing : TableSizing) (columns : ℕ) (rows : List (List (List ℕ))) →
+        LeaveRoom (row_axis sizing columns (fitted columns rows)) (table_heights sizing columns rows) }
+{}
+
+/// A compact table has the sizes and the totals of a table whose settings begin as the compact ones,
+/// as those that `SpannedConfig::from_compact_config` makes of them.
+pub fn compact_settings_give_the_same_sizes()
+    ensures widths { (compact : CompactSettings) (settings : TableSettings) (columns : ℕ) (rows : List (List (List ℕ))) →
+        StartsWith (compact_start compact) settings → table_widths (sizing_of settings) columns rows ≡ table_widths (compact_sizing compact) columns rows }
+    ensures heights { (compact : CompactSettings) (settings : TableSettings) (columns : ℕ) (rows : List (List (List ℕ))) →
+        StartsWith (compact_start compact) settings → table_heights (sizing_of settings) columns rows ≡ table_heights (compact_sizing compact) columns rows }
+    ensures width_total { (compact : CompactSettings) (settings : TableSettings) (columns : ℕ) (rows : List (List (List ℕ))) →
+        StartsWith (compact_start compact) settings → width_total (sizing_of settings) columns rows ≡ width_total (compact_sizing compact) columns rows }
+    ensures height_total { (compact : CompactSettings) (settings : TableSettings) (columns : ℕ) (rows : List (List (List ℕ))) →
+        StartsWith (compact_start compact) settings → height_total (sizing_of settings) columns rows ≡ height_total (compact_sizing compact) columns rows }
 {}

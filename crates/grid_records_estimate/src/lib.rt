@@ -13,11 +13,9 @@ mod shares;
 mod sizes;
 mod sizing;
 
-pub use collector::Collector;
 pub use compact::CompactGridDimension;
 pub use estimate::Estimate;
 pub use iter::IterGridDimension;
-pub use need::Need;
 pub use peekable::PeekableGridDimension;
 pub use sizes::total;
 

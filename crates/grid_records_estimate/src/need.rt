@@ -3,13 +3,13 @@
 /// What a cell needs of the columns that it takes; or of the rows, where rows stand for columns and
 /// columns for rows. One that is less is met before one that is greater.
 #[derive(Clone, Copy, Debug, PartialEq, Eq, PartialOrd, Ord)]
-pub struct Need {
+pub(crate) struct Need {
     /// How many columns it takes.
-    pub length: usize,
+    pub(crate) length: usize,
     /// The first of them.
-    pub first: usize,
+    pub(crate) first: usize,
     /// Its row.
-    pub crossing: usize,
+    pub(crate) crossing: usize,
     /// How much they have to measure together, with the boundaries between them.
-    pub size: u128,
+    pub(crate) size: u128,
 }

@@ -1,4 +1,4 @@
-use Rattle.std.proofs.Common.{◌≡◌, [], ap, sym, ◌∙◌, inl, inr, Err}
+use Rattle.std.proofs.Common.{ap, sym, ◌∙◌, inl, inr, Err}
 use Rattle.grid_config.specs.Glyphs.{Between, has_column_boundary, has_row_boundary}
 use Rattle.grid_records_rows.specs.Rows.{fitted}
 use Rattle.grid_records_estimate.specs.Reading.{HasRead, table_cells}

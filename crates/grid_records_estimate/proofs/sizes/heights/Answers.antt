@@ -1,9 +1,9 @@
-use Rattle.std.proofs.Common.{◌≡◌, [], ap, sym, ◌∙◌}
-use Rattle.grid_config.specs.Glyphs.{Between, has_column_boundary, has_row_boundary}
+use Rattle.std.proofs.Common.{ap, sym, ◌∙◌}
+use Rattle.grid_config.specs.Glyphs.{Between, has_row_boundary}
 use Rattle.grid_records_rows.specs.Rows.{fitted}
 use Rattle.grid_records_estimate.specs.Reading.{HasRead, table_cells}
-use Rattle.grid_records_estimate.specs.Sizes.{table_heights, table_widths}
-use Rattle.grid_records_estimate.specs.Sizing.{column_axis, row_axis}
+use Rattle.grid_records_estimate.specs.Sizes.{table_heights}
+use Rattle.grid_records_estimate.specs.Sizing.{row_axis}
 use Rattle.grid_records_estimate.proofs.SizeLemmas.{first-rows, no_columns-heights, refusal, rows-described}
 use Rattle.grid_records_estimate.proofs.sizes.heights.Goals as goal
 
