@@ -1,8 +1,10 @@
 //! The rows of a text as records, so that their sizes can be estimated.
-ghost use Rattle.std.specs.Prelude.{◌≡◌, All, false, length, sum, vec_len};
+ghost use Rattle.std.proofs.Common.{ap, sym};
+ghost use Rattle.std.specs.Prelude.{◌≡◌, All, drop, false, length, refl, sum, vec_len};
 ghost use Rattle.std.specs.Iterator.{at_most};
 ghost use Rattle.grid_records_rows.specs.Cells.{HasLineCount, HasWidth};
 ghost use Rattle.columns.specs.Estimates.{greatest};
+ghost use Rattle.columns.specs.Giving.{each_cell, each_row};
 ghost use Rattle.columns.specs.Printing.{cut};
 ghost use Rattle.columns.specs.Records.{GivesRow, GivesText, IsMeasured, TakesOne, row_texts, table_texts};
 
@@ -79,6 +81,14 @@ impl<'a> IntoRecords for MeasuredRows<'a> {
     type IterColumns = RowCells<'a>;
 
     type IterRows = MeasuredRows<'a>;
+
+    ghost rows_left = { λ s. table_texts s.columns s.counts.now s.cells.now };
+
+    ghost may_refuse_left = { λ _. false };
+
+    ghost gives = { λ s. record { can_next = tt; ends = tt; each = each_row (λ s. s.columns) (λ s. length s.counts.now) (λ row. row_texts row.left row.cells.now) (λ s. table_texts s.columns s.counts.now s.cells.now) _ (λ row. record { can_next = tt; ends = tt; each = each_cell _ (λ cell. cell.text.now) (λ row. row.left) (λ row. row_texts row.left row.cells.now) row }) s } };
+
+    ghost passes = { λ s t _ step. (sym (ap (drop 1) step.2), refl) };
 
     fn iter_rows(self) -> MeasuredRows<'a> {
         self
