@@ -1,19 +1,18 @@
 -- `==` of the settings of compact tables, as it is derived, is equality of all seven.
-use Rattle.std.proofs.Common.{◌≡◌, ◌∙◌, ℕ, Bool, true, ◌&&◌, ◌==◌, Option, None, Some, [], ◌∷◌, refl, ap, sym, arith}
+use Rattle.std.proofs.Common.{◌≡◌, ◌∙◌, ℕ, Bool, true, ◌&&◌, ◌==◌, Option, None, Some, List, [], ◌∷◌, refl, ap, sym, arith}
 use Rattle.std.specs.Option.{option_eq, option_map}
 use Rattle.std.specs.Ordering.{is_eq}
-use Rattle.std.specs.declared.cmp.Ordering.{Ordering}
-use Rattle.std.specs.declared.cmp.Ordering.TheVariants.{Less, Equal, Greater}
+use Rattle.std.specs.declared.cmp.Ordering.TheVariants.{Equal}
 use Rattle.std.proofs.lemmas.Bool.{eqb-true}
 use Rattle.std.proofs.lemmas.Bool.Decides.{nat_tests}
 use Rattle.grid_config_values.specs.declared.sides.Indent.{Indent}
 use Rattle.grid_config_values.specs.declared.alignment.AlignmentHorizontal.{AlignmentHorizontal}
 use Rattle.grid_config_values.specs.declared.alignment.AlignmentHorizontal.TheVariants.{Left, Center, Right}
 use Rattle.grid_config_values.specs.contracts.alignment.AlignmentHorizontalPartialEq.TheImpl.{ghosts as alignments}
-use Rattle.grid_config_values.proofs.Equality.{each_passes, passes_all, indent_eq, indent_same, option_same, option_passes, sides_eq, sides_same, sides_passes, borders_eq, borders_same, borders_passes}
+use Rattle.grid_config_values.proofs.Equality.{each_passes, passes_all, indent_eq, indent_same, option_same, option_passes, same_option, sides_eq, sides_same, sides_passes, borders_eq, borders_same, borders_passes}
 use Rattle.grid_config_colors.specs.Colors.{color_of}
 use Rattle.grid_config_colors.specs.Equality.{equal as equal_colors}
-use Rattle.grid_config_colors.proofs.Equality.{equal_texts, same_texts}
+use Rattle.grid_config_colors.proofs.Equality.{equal_shows, equal_texts, same_texts}
 use Rattle.grid_config.specs.contracts.compact.CompactConfigOrd.TheImpl.Laws.{matches_eq-law}
 use Rattle.grid_config.specs.declared.compact.CompactConfig.{CompactConfig}
 use Rattle.grid_config.specs.Compact.{Compact, compact_of}
@@ -21,6 +20,9 @@ use Rattle.grid_config.specs.Equality.{compared, equal}
 
 number_passes : (m n : ℕ) → m ≡ n → (m == n) ≡ true
 number_passes m n e = grind (arith, nat_tests)
+
+abbrev glyph_eq : ℕ → ℕ → Bool
+glyph_eq c d = c == d
 
 alignment_same : (a b : AlignmentHorizontal) → alignments.eq a b ≡ true → a ≡ b
 alignment_same Left Left e = refl
@@ -33,12 +35,6 @@ alignment_same Right Left e = cc
 alignment_same Right Center e = cc
 alignment_same Right Right e = refl
 
-glyph_same : (a b : Option ℕ) → option_eq (λ c d. c == d) a b ≡ true → a ≡ b
-glyph_same None None e = refl
-glyph_same None (Some d) e = cc
-glyph_same (Some c) None e = cc
-glyph_same (Some c) (Some d) e = ap Some (eqb-true c d e)
-
 alignment_passes : (a b : AlignmentHorizontal) → a ≡ b → alignments.eq a b ≡ true
 alignment_passes Left Left e = refl
 alignment_passes Left Center e = cc
@@ -50,7 +46,7 @@ alignment_passes Right Left e = cc
 alignment_passes Right Center e = cc
 alignment_passes Right Right e = refl
 
-glyph_passes : (a b : Option ℕ) → a ≡ b → option_eq (λ c d. c == d) a b ≡ true
+glyph_passes : (a b : Option ℕ) → a ≡ b → option_eq glyph_eq a b ≡ true
 glyph_passes None None e = refl
 glyph_passes None (Some d) e = cc
 glyph_passes (Some c) None e = cc
@@ -61,12 +57,9 @@ indent_passes a b e =
     let fill = number_passes a.fill b.fill (ap (λ (i : Indent). i.fill) e) in
     ap (λ t. t && (a.fill == b.fill)) (number_passes a.size b.size (ap (λ (i : Indent). i.size) e)) ∙ fill
 
-abbrev glyph_eq : ℕ → ℕ → Bool
-glyph_eq c d = c == d
-
-pub settings_same : (a b : CompactConfig) → equal a b ≡ true → compact_of a ≡ compact_of b
-settings_same a b e =
-    let each = each_passes (sides_eq indent_eq a.margin b.margin) (
+-- the tests behind that of the margin
+abbrev other_tests : CompactConfig → CompactConfig → List Bool
+other_tests a b =
     borders_eq glyph_eq a.borders b.borders
     ∷ sides_eq indent_eq a.padding b.padding
     ∷ alignments.eq a.alignment_horizontal b.alignment_horizontal
@@ -74,9 +67,12 @@ settings_same a b e =
     ∷ borders_eq equal_colors a.borders_color b.borders_color
     ∷ sides_eq equal_colors a.padding_color b.padding_color
     ∷ []
-    ) e in
+
+pub settings_same : (a b : CompactConfig) → equal a b ≡ true → compact_of a ≡ compact_of b
+settings_same a b e =
+    let each = each_passes (sides_eq indent_eq a.margin b.margin) (other_tests a b) e in
     let margin : a.margin ≡ b.margin = sides_same indent_eq (λ x. x) indent_same a.margin b.margin each.0 in
-    let glyphs : a.borders ≡ b.borders = borders_same glyph_eq (λ x. x) glyph_same a.borders b.borders each.1.0 in
+    let glyphs : a.borders ≡ b.borders = borders_same glyph_eq (λ x. x) (same_option glyph_eq eqb-true) a.borders b.borders each.1.0 in
     let padding : a.padding ≡ b.padding = sides_same indent_eq (λ x. x) indent_same a.padding b.padding each.1.1.0 in
     let alignment = alignment_same a.alignment_horizontal b.alignment_horizontal each.1.1.1.0 in
     let margin_color = sides_same equal_colors color_of equal_texts a.margin_color b.margin_color each.1.1.1.1.0 in
@@ -94,15 +90,7 @@ settings_same a b e =
 
 pub settings_pass : (a b : CompactConfig) → compact_of a ≡ compact_of b → equal a b ≡ true
 settings_pass a b e =
-    passes_all (sides_eq indent_eq a.margin b.margin) (
-    borders_eq glyph_eq a.borders b.borders
-    ∷ sides_eq indent_eq a.padding b.padding
-    ∷ alignments.eq a.alignment_horizontal b.alignment_horizontal
-    ∷ sides_eq equal_colors a.margin_color b.margin_color
-    ∷ borders_eq equal_colors a.borders_color b.borders_color
-    ∷ sides_eq equal_colors a.padding_color b.padding_color
-    ∷ []
-    ) (
+    passes_all (sides_eq indent_eq a.margin b.margin) (other_tests a b) (
       sides_passes indent_eq (λ x. x) indent_passes a.margin b.margin (ap (λ (c : Compact). c.margin) e),
       (
         borders_passes glyph_eq (λ x. x) glyph_passes a.borders b.borders (ap (λ (c : Compact). c.borders) e),
@@ -125,11 +113,6 @@ settings_pass a b e =
 -- the order finds equal what `==` does
 pub compared_same : (a b : CompactConfig) → compared a b ≡ Equal → compact_of a ≡ compact_of b
 compared_same a b e = settings_same a b (matches_eq-law a b ∙ ap is_eq e)
-
-equal_shows : (o : Ordering) → is_eq o ≡ true → o ≡ Equal
-equal_shows Less e = cc
-equal_shows Equal e = refl
-equal_shows Greater e = cc
 
 pub compared_pass : (a b : CompactConfig) → compact_of a ≡ compact_of b → compared a b ≡ Equal
 compared_pass a b e = equal_shows (compared a b) (sym (matches_eq-law a b) ∙ settings_pass a b e)

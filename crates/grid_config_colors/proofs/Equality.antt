@@ -27,7 +27,7 @@ same_texts a b e =
     ((bytes_eq-Decides a.prefix.now b.prefix.now).1 (ap (λ (color : Color). color.prefix) e))
     ((bytes_eq-Decides a.suffix.now b.suffix.now).1 (ap (λ (color : Color). color.suffix) e))
 
-equal_shows : (o : Ordering) → is_eq o ≡ true → o ≡ Equal
+pub equal_shows : (o : Ordering) → is_eq o ≡ true → o ≡ Equal
 equal_shows Less e = cc
 equal_shows Equal e = refl
 equal_shows Greater e = cc

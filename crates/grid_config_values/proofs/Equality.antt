@@ -43,6 +43,13 @@ option_same E show same None (Some y) e = cc
 option_same E show same (Some x) None e = cc
 option_same E show same (Some x) (Some y) e = ap Some (same x y e)
 
+-- and shows itself, where the parts do
+pub same_option : {T : Type 0} (E : T → T → Bool) → ((x y : T) → E x y ≡ true → x ≡ y) → (x y : Option T) → option_eq E x y ≡ true → x ≡ y
+same_option E same None None e = refl
+same_option E same None (Some y) e = cc
+same_option E same (Some x) None e = cc
+same_option E same (Some x) (Some y) e = ap Some (same x y e)
+
 -- what shows the same by this function passes `==`
 abbrev pub SameShown : {X V : Type 0} → (X → X → Bool) → (X → V) → Type 0
 SameShown {X} E show = (x y : X) → show x ≡ show y → E x y ≡ true
