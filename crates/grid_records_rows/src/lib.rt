@@ -2,6 +2,7 @@
 #![tactic(auto)]
 
 pub mod dimension;
+pub mod laws;
 mod lines;
 pub mod records;
 
