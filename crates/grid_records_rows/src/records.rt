@@ -1,5 +1,5 @@
 //! Rows of cells with a text.
-ghost use Rattle.std.specs.Prelude.{◌≡◌, ℕ, Bool, List, length};
+ghost use Rattle.std.specs.Prelude.{◌≡◌, ℕ, Bool, List, Option};
 ghost use Rattle.grid_records_rows.specs.Giving.{GivesRows};
 ghost use Rattle.grid_records_rows.specs.Rows.{fitted};
 
@@ -39,6 +39,8 @@ pub trait Records: RecordTexts {
 
     ghost columns: { Self → ℕ };
 
+    ghost hint: { Self → Option ℕ };
+
     /// The rows, each of as many cells as there are columns. A cell that a row lacks has an empty text.
     fn iter_rows(self) -> <Self::Iter as IntoRecords>::IterRows
         ensures { GivesRows Self.Iter.IterRows.can_next Self.Iter.IterRows.remaining Self.Iter.IterRows.next_gives Self.Iter.IterColumns.can_next Self.Iter.IterColumns.remaining Self.Iter.IterColumns.next_gives Self.Iter.Cell.text (Self.RecordTexts.may_refuse self) result (fitted (columns self) (Self.RecordTexts.rows self)) };
@@ -47,6 +49,7 @@ pub trait Records: RecordTexts {
     fn count_columns(&self) -> usize
         ensures { result ≡ columns self.now };
 
-    /// How many rows there may be. It is a hint, and no promise.
-    fn hint_count_rows(&self) -> Option<usize>;
+    /// How many rows there may be. It is a hint, and promises nothing of the rows.
+    fn hint_count_rows(&self) -> Option<usize>
+        ensures { result ≡ hint self.now };
 }

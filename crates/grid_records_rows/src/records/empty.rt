@@ -1,6 +1,6 @@
 //! Rows of empty texts.
 ghost use Rattle.std.proofs.Common.{ap};
-ghost use Rattle.std.specs.Prelude.{◌≡◌, ◌+◌, [], false, refl, replicate};
+ghost use Rattle.std.specs.Prelude.{◌≡◌, ◌+◌, Some, [], false, refl, replicate};
 ghost use Rattle.std.specs.Iterator.{at_most};
 ghost use Rattle.grid_records_rows.specs.Sources.{GivesEmptyCells, GivesEmptyText};
 ghost use Rattle.grid_records_rows.specs.Laws.Leaving.{passed_same};
@@ -60,6 +60,8 @@ impl Records for EmptyRecords {
     type Iter = EmptyRecords;
 
     ghost columns = { λ s. s.columns };
+
+    ghost hint = { λ s. Some s.rows };
 
     fn iter_rows(self) -> EmptyRows {
         EmptyRows {

@@ -18,6 +18,7 @@ impl<I: IntoRecords> IterRecords<I> {
     pub fn new(iter: I, count_columns: usize, count_rows: Option<usize>) -> IterRecords<I>
         ensures rows { ⟦<IterRecords<I> as RecordTexts>⟧.rows result ≡ I.RecordTexts.rows iter }
         ensures columns { ⟦<IterRecords<I> as Records>⟧.columns result ≡ count_columns }
+        ensures hint { ⟦<IterRecords<I> as Records>⟧.hint result ≡ count_rows }
         ensures refuses { ⟦<IterRecords<I> as RecordTexts>⟧.may_refuse result ≡ I.RecordTexts.may_refuse iter }
     {
         IterRecords {
@@ -59,6 +60,8 @@ impl<I: IntoRecords> Records for IterRecords<I> {
 
     ghost columns = { λ s. s.count_columns };
 
+    ghost hint = { λ s. s.count_rows };
+
     fn iter_rows(self) -> FittedRows<I::IterRows> {
         let fitted = Fitted {
             records: self.iter,
@@ -80,6 +83,8 @@ impl<'a, I: IntoRecords + Copy> Records for &'a IterRecords<I> {
     type Iter = Fitted<I>;
 
     ghost columns = { λ s. s.now.count_columns };
+
+    ghost hint = { λ s. s.now.count_rows };
 
     fn iter_rows(self) -> FittedRows<I::IterRows> {
         let fitted = Fitted {

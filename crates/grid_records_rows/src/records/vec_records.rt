@@ -1,5 +1,5 @@
 //! Rows in vectors.
-ghost use Rattle.std.specs.Prelude.{◌≡◌, ◌↔◌, IsTrue, List, false, length};
+ghost use Rattle.std.specs.Prelude.{◌≡◌, ◌↔◌, IsTrue, List, Some, false, length, vec_len};
 ghost use Rattle.grid_records_rows.specs.Sources.{AreEquallyLong, columns_of, texts_of_rows};
 
 pub mod cell;
@@ -75,6 +75,8 @@ impl<T: Cell> Records for VecRecords<T> {
 
     ghost columns = { λ records. columns_of records.rows.items };
 
+    ghost hint = { λ records. Some (vec_len records.rows) };
+
     fn iter_rows(self) -> GivenRows<vec::IntoIter<Vec<T>>> {
         self.rows.iter_rows()
     }
@@ -92,6 +94,8 @@ impl<'a, T: Cell> Records for &'a VecRecords<T> {
     type Iter = &'a [Vec<T>];
 
     ghost columns = { λ records. columns_of records.now.rows.items };
+
+    ghost hint = { λ records. Some (vec_len records.now.rows) };
 
     fn iter_rows(self) -> GivenRows<slice::Iter<'a, Vec<T>>> {
         self.rows.as_slice().iter_rows()
