@@ -1,8 +1,8 @@
 -- What is kept so far, and what is left, are all.
-use Rattle.std.proofs.Common.{◌≡◌, ◌∙◌, ◌≤◌, List, [], ◌∷◌, ◌++◌, append_assoc, ap, arith, length, map, refl, subst, sym, take, ℕ}
+use Rattle.std.proofs.Common.{◌≡◌, ◌∙◌, ◌≤◌, List, [], ◌∷◌, ◌++◌, append_assoc, ap, arith, length, map, refl, sym, take, ℕ}
 use Rattle.std.proofs.lemmas.List.{append-nil, map-append, take_all}
 use Rattle.std.proofs.Math.Seq.{take-append_seam}
-use Rattle.std.specs.Prelude.{None, Option, Some, drop}
+use Rattle.std.specs.Prelude.{None, Option}
 use Rattle.std.specs.Iterator.{Count}
 use Rattle.grid_records_rows.specs.Giving.{Gives, GivesEach}
 

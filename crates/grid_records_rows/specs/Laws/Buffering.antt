@@ -7,7 +7,7 @@ use Rattle.either.specs.Iterator.{either_steps}
 use Rattle.either.specs.declared.Either.{Either}
 use Rattle.either.specs.declared.Either.TheVariants.{Left, Right}
 use Rattle.grid_records_rows.specs.Buffering.{GivesBuffered, of_rest}
-use Rattle.grid_records_rows.specs.Giving.{Gives, GivesEach, GivesRows, GivesTexts, HasPassedOne, IsAnswer}
+use Rattle.grid_records_rows.specs.Giving.{Gives, GivesEach, GivesRows, HasPassedOne, IsAnswer}
 
 -- one of two iterators gives what it gives
 module _ {S T A B : Type 0} (lefts : S → Option A → S → Type 0) (rights : T → Option A → T → Type 0) (tie : A → B → Type 0) where

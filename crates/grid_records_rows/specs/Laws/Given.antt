@@ -1,5 +1,5 @@
 -- Rows that a vector, a slice or an array holds are given.
-use Rattle.std.proofs.Common.{◌≡◌, ◌∙◌, ℕ, List, [], ◌∷◌, ap, arith, drop, map, refl, take, Bool, Bor, Global, Iter, Vec, vec_items}
+use Rattle.std.proofs.Common.{◌≡◌, ℕ, List, [], ◌∷◌, ap, arith, drop, map, refl, take, Bool, Bor, Global, Iter, Vec, vec_items}
 use Rattle.std.specs.declared.alloc.AllocError.{AllocError}
 use Rattle.std.specs.Prelude.{None, Some}
 use Rattle.std.specs.Array.Iter.{array_into_iter_items, array_steps}

@@ -1,4 +1,3 @@
-use Rattle.std.proofs.Common.{[], ◌∷◌, ◌++◌, drop, length}
 use Rattle.grid_records_rows.proofs.Keeping.{kept_all, kept_more}
 use Rattle.grid_records_rows.proofs.Loops.{next_text, none_given}
 use Rattle.grid_records_rows.proofs.records.into_records.buf_records.read_row.Goals as goal
