@@ -1,6 +1,6 @@
 //! The rows of a text as records, so that their sizes can be estimated.
 ghost use Rattle.std.proofs.Common.{ap, sym};
-ghost use Rattle.std.specs.Prelude.{◌≡◌, All, drop, false, length, refl, sum, vec_len};
+ghost use Rattle.std.specs.Prelude.{◌≡◌, All, Some, drop, false, length, refl, sum, vec_len};
 ghost use Rattle.std.specs.Iterator.{at_most};
 ghost use Rattle.grid_records_rows.specs.Cells.{HasLineCount, HasWidth};
 ghost use Rattle.columns.specs.Estimates.{greatest};
@@ -99,6 +99,8 @@ impl<'a> Records for MeasuredRows<'a> {
     type Iter = MeasuredRows<'a>;
 
     ghost columns = { λ rows. rows.columns };
+
+    ghost hint = { λ rows. Some (length rows.counts.now) };
 
     fn iter_rows(self) -> MeasuredRows<'a> {
         self
