@@ -9,7 +9,7 @@ pub use grid_records_measure::{
     get_text_dimension, get_text_width, replace_tab,
 };
 pub use grid_records_rows::{
-    Cell, Dimension, EmptyRecords, ExactRecords, FromText, IntoRecords, IterRecords, LimitColumns,
-    LimitRows, PeekableRecords, RecordTexts, Records, RecordsMut, SkipRows, Text, TruncateContent,
-    VecRecords, are_equally_long, records,
+    BufRecords, Cell, Dimension, EmptyRecords, ExactRecords, FromText, IntoRecords, IterRecords,
+    KeptTexts, LimitColumns, LimitRows, PeekableRecords, RecordTexts, Records, RecordsMut,
+    SkipRows, Text, TruncateContent, VecRecords, are_equally_long, records,
 };
