@@ -1,5 +1,5 @@
 -- Cells that are cut at the widths of their columns.
-use Rattle.std.specs.Prelude.{◌≡◌, ◌+◌, ◌^◌, ◌-◌, ℕ, List, [], ◌∷◌, MatchOption, MatchResult, None, Option, Result, Some, chars, if◌then◌else◌, map, nat_le, nat_lt, string_bytes}
+use Rattle.std.specs.Prelude.{◌≡◌, ◌<◌, ◌+◌, ◌^◌, ◌-◌, ℕ, List, [], ◌∷◌, MatchOption, MatchResult, None, Option, Result, Some, chars, if◌then◌else◌, map, nat_le, nat_lt, string_bytes}
 use Rattle.ansi_scan.specs.Pieces.{pieces}
 use Rattle.ansi_str.specs.StyledText.{strip}
 use Rattle.grid_records_measure.specs.Cutting.{cut_bytes}
@@ -38,10 +38,12 @@ abbrev pub text_of_truncated : {C : Type 0} → (C → List ℕ) → Truncated C
 text_of_truncated text (Whole cell) = text cell
 text_of_truncated text (Cut kept) = string_bytes kept
 
--- the answer is what is left of the cell that came, or a refusal
+-- the answer is what is left of the cell that came, or a refusal: the one that came, or of a text that is wider
 abbrev pub IsTruncated : {C E : Type 0} → (C → List ℕ) → ℕ → Result C E → Result (Truncated C) E → Type 0
 IsTruncated text width given answer =
-    MatchResult answer (λ cell. MatchResult given (λ whole. text_of_truncated text cell ≡ truncated_text width (text whole)) (λ _. ⊥)) (λ _. Unit {0})
+    MatchResult answer
+    (λ cell. MatchResult given (λ whole. text_of_truncated text cell ≡ truncated_text width (text whole)) (λ _. ⊥))
+    (λ _. MatchResult given (λ whole. width < text_width (text whole)) (λ _. Unit {0}))
 
 -- a call answers what is left of the next cell
 abbrev pub GivesTruncated : {S C E : Type 0} → (S → Option (Result C E) → S → Type 0) → (C → List ℕ) → (ℕ → ℕ) → ℕ → S → Option (Result (Truncated C) E) → S → ℕ → Type 0

@@ -2,7 +2,7 @@
 use Rattle.std.proofs.Common.{◌≡◌, ◌≤◌, ◌<◌, ◌∙◌, ℕ, Bool, true, List, [], ◌∷◌, ap, arith, chars, false, nat_le, map, refl, subst, sym}
 use Rattle.std.proofs.lemmas.Bool.{le-leb, lt-leb}
 use Rattle.std.proofs.lemmas.List.{append_cancel_left}
-use Rattle.std.specs.Prelude.{◌++◌, Err, IfOk, Ok, Option, Result, Some}
+use Rattle.std.specs.Prelude.{◌++◌, Err, IfErr, IfOk, Ok, Option, Result, Some}
 use Rattle.std.specs.Iterator.{Count}
 use Rattle.ansi_scan.specs.Pieces.{pieces}
 use Rattle.ansi_scan.specs.Sequences.{ArePiecesOf, Piece}
@@ -85,8 +85,19 @@ cut_is_left width found text shown bytes out is lt same cut owned =
 -- what is left of a cell that came
 pub truncated_next : {S C E : Type 0} (steps : S → Option (Result C E) → S → Type 0) (text : C → List ℕ) (width : ℕ → ℕ) (column found column_then : ℕ) (s t : S) (given : Result C E) (cell : C) (answer : Result (Truncated C) E) →
     given ≡ Ok cell → steps s (Some given) t → column_then ≡ next_column column → found ≡ width column → IfOk answer (λ out. text_of_truncated text out ≡ truncated_text found (text cell)) →
-    GivesTruncated steps text width column s (Some answer) t column_then
-truncated_next steps text width column found column_then s t given cell (Ok out) was step at wide is =
+    IfErr answer (λ _. found < text_width (text cell)) → GivesTruncated steps text width column s (Some answer) t column_then
+truncated_next steps text width column found column_then s t given cell (Ok out) was step at wide is _ =
     (at, (Ok cell, subst (λ v. steps s (Some v) t) was step, is ∙ ap (λ v. truncated_text v (text cell)) wide))
-truncated_next steps text width column found column_then s t given cell (Err _) was step at wide is =
-    (at, (Ok cell, subst (λ v. steps s (Some v) t) was step, tt))
+truncated_next steps text width column found column_then s t given cell (Err _) was step at wide _ wider =
+    (at, (Ok cell, subst (λ v. steps s (Some v) t) was step, subst (λ v. v < text_width (text cell)) wide wider))
+
+-- a cut is asked for only of a wider text
+pub is_wider : {T E : Type 0} (result : Result T E) (width found : ℕ) (text : List ℕ) → found ≡ text_width text → width < found → IfErr result (λ _. width < text_width text)
+is_wider (Ok _) width found text is lt = tt
+is_wider (Err _) width found text is lt = omega (arith, is, lt)
+
+-- a cell that came refused is refused
+pub refused_next : {S C E : Type 0} (steps : S → Option (Result C E) → S → Type 0) (text : C → List ℕ) (width : ℕ → ℕ) (column column_then : ℕ) (s t : S) (given : Result C E) (came refusal : E) →
+    given ≡ Err came → steps s (Some given) t → column_then ≡ next_column column → GivesTruncated steps text width column s (Some (Err refusal)) t column_then
+refused_next steps text width column column_then s t given came refusal was step at =
+    (at, (Err came, subst (λ v. steps s (Some v) t) was step, tt))

@@ -1,6 +1,6 @@
 //! The cells of a source, cut at the widths of their columns.
-ghost use Rattle.std.specs.Prelude.{◌≡◌, IfOk, refl, true};
-ghost use Rattle.grid_records_rows.specs.Truncating.{GivesTruncated, GivesTruncatedRow, next_column, text_of_truncated, truncated_row, truncated_rows, truncated_text};
+ghost use Rattle.std.specs.Prelude.{◌≡◌, ◌<◌, IfErr, IfOk, refl, true};
+ghost use Rattle.grid_records_rows.specs.Truncating.{GivesTruncated, GivesTruncatedRow, next_column, text_of_truncated, text_width, truncated_row, truncated_rows, truncated_text};
 ghost use Rattle.grid_records_rows.specs.Laws.Leaving.{passed_made};
 ghost use Rattle.grid_records_rows.specs.Laws.Truncating.{each_truncated_row, gives_truncated};
 
@@ -12,7 +12,7 @@ use grid_records_measure::cut_width;
 use std::alloc::{AllocError, Global};
 
 /// The cells of a source, each cut at the width of its column where it measures more. A cell is cut when
-/// it is read, and may then be refused for memory.
+/// it is read, and may then be refused for memory; a cell that fits never is.
 #[derive(Debug, Drop)]
 pub struct TruncateContent<I, D> {
     alloc: Global,
@@ -83,9 +83,10 @@ impl<C: Cell> Cell for Truncated<C> {
     }
 }
 
-/// The cell, cut where it measures more than this width.
+/// The cell, cut where it measures more than this width. Only a cut may be refused, for memory.
 fn truncate<C: Cell>(alloc: Global, cell: C, width: usize) -> Result<Truncated<C>, AllocError>
-    ensures { IfOk result (λ out. text_of_truncated C.text out ≡ truncated_text width (C.text cell)) }
+    ensures ok { IfOk result (λ out. text_of_truncated C.text out ≡ truncated_text width (C.text cell)) }
+    ensures refused { IfErr result (λ _. width < text_width (C.text cell)) }
 {
     if cell.width() <= width {
         return Ok(Truncated::Whole(cell));
