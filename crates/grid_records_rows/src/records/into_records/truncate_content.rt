@@ -2,7 +2,7 @@
 ghost use Rattle.std.specs.Prelude.{◌≡◌, ◌<◌, IfErr, IfOk, refl, true};
 ghost use Rattle.grid_records_rows.specs.Truncating.{GivesTruncated, GivesTruncatedRow, next_column, text_of_truncated, text_width, truncated_row, truncated_rows, truncated_text};
 ghost use Rattle.grid_records_rows.specs.Laws.Leaving.{passed_made};
-ghost use Rattle.grid_records_rows.specs.Laws.Truncating.{each_truncated_row, gives_truncated};
+ghost use Rattle.grid_records_rows.specs.Laws.Truncating.{truncated_rows_give};
 
 use crate::dimension::Dimension;
 use crate::records::RecordTexts;
@@ -50,7 +50,7 @@ impl<I: IntoRecords, D: Dimension + Copy> IntoRecords for TruncateContent<I, D> 
 
     ghost may_refuse_left = { λ _. true };
 
-    ghost gives = { λ s. record { can_next = (I.gives s.rows).can_next; ends = (I.gives s.rows).ends; each = each_truncated_row I.IterRows.next_gives (λ s. s.rows) (λ s. s.dimension) (λ cells. cells.cells) (λ cells. cells.dimension) (λ cells. cells.column) _ _ (D.width s.dimension) s.dimension (λ cells texts gives same at. gives_truncated I.IterColumns.next_gives I.Cell.text _ D.width (λ cells. cells.cells) (λ cells. cells.dimension) (λ cells. cells.column) s.dimension texts cells same at gives) s _ refl (I.gives s.rows).each } };
+    ghost gives = { λ s. truncated_rows_give I.IterRows.next_gives I.IterColumns.next_gives I.Cell.text D.width (λ s. s.rows) (λ s. s.dimension) (λ cells. cells.cells) (λ cells. cells.dimension) (λ cells. cells.column) s (I.gives s.rows) };
 
     ghost passes = { λ s t cells step. (passed_made (λ d. truncated_row (D.width d) 0) _ _ _ _ step.0 (I.passes s.rows t.rows cells.cells step.1.0).0, refl) };
 
