@@ -2,6 +2,8 @@
 use Rattle.std.specs.Prelude.{ℕ, List, ⊤, ◌++◌, codes, decimal}
 use Rattle.columns.specs.declared.fault.RunFault.{RunFault}
 use Rattle.columns.specs.declared.fault.RunFault.TheVariants.{Read, ReadTooLong, NotUtf8, Escape, Range, LineTooWide, Write, WriteZero, Memory}
+use Rattle.columns.specs.declared.layout.LayoutFault.{LayoutFault}
+use Rattle.columns.specs.declared.layout.LayoutFault.TheVariants.{Range as PassesMax, Memory as NoMemory}
 
 -- the bytes that a fault prints
 abbrev pub fault_text : RunFault → List ℕ
@@ -14,6 +16,11 @@ fault_text (LineTooWide row column) = codes "row " ++ (decimal row ++ (codes " c
 fault_text Write = codes "write failed"
 fault_text WriteZero = codes "writer took nothing"
 fault_text Memory = codes "out of memory"
+
+-- what a run calls it where a text has no table
+abbrev pub run_fault : LayoutFault → RunFault
+run_fault PassesMax = Range
+run_fault NoMemory = Memory
 
 -- a fault that reading may give
 abbrev pub IsOfReading : RunFault → Type 0

@@ -1,4 +1,5 @@
 //! Why a run gave up.
+use crate::layout::LayoutFault;
 use std::alloc::AllocError;
 use std::error::Error;
 use std::fmt;
@@ -61,6 +62,21 @@ impl From<AllocError> for RunFault {
 
     fn from(_error: AllocError) -> RunFault {
         RunFault::Memory
+    }
+}
+
+/// Why the text has no table, by the same names.
+impl From<LayoutFault> for RunFault {
+    ghost use Rattle.std.specs.Prelude.{◌≡◌};
+    ghost use Rattle.columns.specs.Fault.{run_fault};
+
+    ghost from_gives = { λ given fault. fault ≡ run_fault given };
+
+    fn from(fault: LayoutFault) -> RunFault {
+        match fault {
+            LayoutFault::Range => RunFault::Range,
+            LayoutFault::Memory => RunFault::Memory,
+        }
     }
 }
 

@@ -10,7 +10,7 @@ ghost use Rattle.columns.specs.Run.{MayAnswer, Serves, LeavesAlone, HasReadAll, 
 use crate::counted::Counted;
 use crate::fault::RunFault;
 use crate::input::{read_all, text_of};
-use crate::layout::{LayoutFault, plain_table, styled_table};
+use crate::layout::{plain_table, styled_table};
 use crate::output::write_all;
 use ansi_scan::first_broken;
 use ansi_str::AnsiStr;
@@ -86,11 +86,7 @@ fn table_of(alloc: Global, _options: &Options, bytes: &[u8]) -> Result<String, R
     } else {
         plain_table(alloc, text)
     };
-    match table {
-        Ok(table) => Ok(table),
-        Err(LayoutFault::Range) => Err(RunFault::Range),
-        Err(LayoutFault::Memory) => Err(RunFault::Memory),
-    }
+    Ok(table?)
 }
 
 #[cfg(test)]

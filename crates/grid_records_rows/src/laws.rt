@@ -1,12 +1,24 @@
 //! Laws of the definitions that the other contracts cite.
-ghost use Rattle.std.specs.Prelude.{◌≡◌, ℕ, List};
+ghost use Rattle.std.specs.Prelude.{◌≡◌, ℕ, List, Some, length};
 ghost use Rattle.ansi_scan.specs.Pieces.{pieces};
 ghost use Rattle.grid_records_measure.specs.Cutting.{IsCutAt};
+ghost use Rattle.grid_records_rows.specs.Rows.{row_at};
 ghost use Rattle.grid_records_rows.specs.Truncating.{cut_text};
+ghost use Rattle.grid_records_rows.specs.declared.records.vec_records.VecRecords.{VecRecords as Vectors};
+
+use crate::records::vec_records::{Cell, VecRecords};
+use crate::records::{RecordTexts, Records};
 
 /// What is left of a text that is wider than its column is its cut at the column's width, as `cut_width`
 /// gives it: it is one, and there is no other.
 pub fn truncated_texts_are_cuts()
     ensures cut { (width : ℕ) (text : List ℕ) → IsCutAt width (pieces text) (cut_text width text) }
     ensures one { (width : ℕ) (text bytes : List ℕ) → IsCutAt width (pieces text) bytes → bytes ≡ cut_text width text }
+{}
+
+/// Rows in vectors have as many columns as the first row has cells, and give their count as the hint;
+/// so that both follow from the texts, also after one was set.
+pub fn vectors_count_what_they_hold<T: Cell>()
+    ensures columns { (records : Vectors T) → ⟦<VecRecords<T> as Records>⟧.columns records ≡ length (row_at (⟦<VecRecords<T> as RecordTexts>⟧.rows records) 0) }
+    ensures hint { (records : Vectors T) → ⟦<VecRecords<T> as Records>⟧.hint records ≡ Some (length (⟦<VecRecords<T> as RecordTexts>⟧.rows records)) }
 {}

@@ -22,6 +22,7 @@ impl EmptyRecords {
     pub const fn new(rows: usize, columns: usize) -> EmptyRecords
         ensures rows { ⟦<EmptyRecords as RecordTexts>⟧.rows result ≡ replicate rows (replicate columns []) }
         ensures columns { ⟦<EmptyRecords as Records>⟧.columns result ≡ columns }
+        ensures hint { ⟦<EmptyRecords as Records>⟧.hint result ≡ Some rows }
     {
         EmptyRecords { rows, columns }
     }

@@ -78,9 +78,9 @@ impl<I: IntoRecords> Records for IterRecords<I> {
 impl<'a, I: IntoRecords + Copy> Records for &'a IterRecords<I> {
     type Iter = Fitted<I>;
 
-    ghost columns = { λ s. s.now.count_columns };
+    ghost columns = { λ s. ⟦<IterRecords<I> as Records>⟧.columns s.now };
 
-    ghost hint = { λ s. s.now.count_rows };
+    ghost hint = { λ s. ⟦<IterRecords<I> as Records>⟧.hint s.now };
 
     fn iter_rows(self) -> FittedRows<I::IterRows> {
         Fitted::new(self.iter, self.count_columns).iter_rows()

@@ -93,9 +93,9 @@ impl<T: Cell> Records for VecRecords<T> {
 impl<'a, T: Cell> Records for &'a VecRecords<T> {
     type Iter = &'a [Vec<T>];
 
-    ghost columns = { λ records. columns_of records.now.rows.items };
+    ghost columns = { λ records. ⟦<VecRecords<T> as Records>⟧.columns records.now };
 
-    ghost hint = { λ records. Some (vec_len records.now.rows) };
+    ghost hint = { λ records. ⟦<VecRecords<T> as Records>⟧.hint records.now };
 
     fn iter_rows(self) -> GivenRows<slice::Iter<'a, Vec<T>>> {
         self.rows.as_slice().iter_rows()

@@ -1,8 +1,11 @@
-use Rattle.std.proofs.Common.{◌≡◌, List, ℕ, Result, Err, OnOk, IsErrOf, String, Global, refl, ap, sym, subst, ◌∙◌}
+use Rattle.std.proofs.Common.{rules, ◌≡◌, List, ℕ, Result, Err, OnOk, IsErrOf, IsUtf8, String, Global, refl, sym, subst, ◌∙◌}
 use Rattle.ansi_scan.specs.Sequences.{IsWhole}
+use Rattle.columns.specs.declared.fault.RunFault.{RunFault}
 use Rattle.columns.specs.declared.layout.LayoutFault.{LayoutFault}
-use Rattle.columns.specs.declared.layout.LayoutFault.TheVariants.{Range}
+use Rattle.columns.specs.declared.layout.LayoutFault.TheVariants.{Range, Memory}
+use Rattle.columns.specs.Fault.{run_fault}
 use Rattle.columns.specs.Layout.{TableFits}
+use Rattle.columns.specs.Run.{MayAnswer}
 use Rattle.columns.proofs.PlaceLemmas.{IsWhole-without_escape}
 use Rattle.columns.proofs.run.table_of.Goals as goal
 use Rattle.columns.proofs.run.table_of.Goals.{Joined-ansi_has_any, then-ansi_has_any+in_default, else-ansi_has_any}
@@ -25,13 +28,17 @@ known c =
     ] in
     subst (λ bytes. Known bytes c.if-ansi_has_any.table) same of_text
 
-pub returns-in-Ok-clause-answers : goal.returns-in-Ok-clause-answers
-returns-in-Ok-clause-answers c =
-    let facts = subst (Known c.args.bytes.now) c.in-Ok.is (known (goal.at.returns-in-Ok-clause-answers c).Joined-ansi_has_any) in
-    (c.in_ok-text.ensures.ok.1, facts.0, facts.1)
+-- a text has no table for the reason that is told
+refused : (bytes : List ℕ) (given : LayoutFault) (result : Result (String Global) RunFault) → result ≡ Err (run_fault given) → IsUtf8 bytes → IsWhole bytes → (given ≡ Range → ¬ (TableFits bytes)) → MayAnswer bytes result
+refused bytes Range result is utf8 whole passes = subst (MayAnswer bytes) (sym is) (utf8, whole, passes refl)
+refused bytes Memory result is utf8 whole passes = subst (MayAnswer bytes) (sym is) tt
 
-pub returns-in-Err-Range-clause-answers : goal.returns-in-Err-Range-clause-answers
-returns-in-Err-Range-clause-answers c =
-    let facts = known (goal.at.returns-in-Err-Range-clause-answers c).Joined-ansi_has_any in
-    let range : c.in-Err-Range.field-0 ≡ Range = rw c.in-Err-Range.is at c.in-Err-Range.field-0-is in
-    (c.in_ok-text.ensures.ok.1, facts.0, facts.2 (c.in-Err-Range.is ∙ ap (λ fault. Err fault) range))
+pub returns-in_err-table-clause-answers : goal.returns-in_err-table-clause-answers
+returns-in_err-table-clause-answers c =
+    let facts = known (goal.at.returns-in_err-table-clause-answers c).Joined-ansi_has_any in
+    refused c.args.bytes.now c.in_err-table.field-0.0 c.from_residual-in_err-table.result (search rules) c.in_ok-text.ensures.ok.1 facts.0 (λ range. facts.2 (search rules))
+
+pub returns-clause-answers : goal.returns-clause-answers
+returns-clause-answers c =
+    let facts = known (goal.at.returns-clause-answers c).Joined-ansi_has_any in
+    (c.in_ok-text.ensures.ok.1, facts.0, search rules)
