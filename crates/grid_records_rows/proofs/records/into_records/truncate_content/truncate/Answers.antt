@@ -2,15 +2,18 @@ use Rattle.ansi_scan.specs.Pieces.{pieces}
 use Rattle.ansi_scan.proofs.Existence.{ArePiecesOf-pieces}
 use Rattle.std.specs.Cow.{cow_str_bytes}
 use Rattle.std.specs.String.{string_bytes}
+use Rattle.grid_records_measure.specs.TextLines.{text_width}
 use Rattle.grid_records_rows.specs.Laws.Truncating.{cut_is_left, whole_text}
 use Rattle.grid_records_rows.proofs.records.into_records.truncate_content.truncate.Goals as goal
 
 pub returns-then-width : goal.returns-then-width
+unfolding text_width
 returns-then-width g c =
     let text = g.C.Cell.text c.args.cell in
     whole_text c.args.width c.width.result text (c.width.ensures (pieces text) (ArePiecesOf-pieces text)) c.if-width.true
 
 pub returns : goal.returns
+unfolding text_width
 returns g c =
     let text = g.C.Cell.text c.args.cell in
     cut_is_left c.args.width c.width.result text c.text.result.now (cow_str_bytes c.in_ok-cut_width.field-0) (string_bytes c.in_ok-cut.cut)
