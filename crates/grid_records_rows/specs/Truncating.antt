@@ -4,13 +4,9 @@ use Rattle.ansi_scan.specs.Pieces.{pieces}
 use Rattle.ansi_str.specs.StyledText.{strip}
 use Rattle.grid_records_measure.specs.Cutting.{cut_bytes}
 use Rattle.grid_records_measure.specs.Filling.{behind_front, front}
-use Rattle.grid_records_measure.specs.TextLines.{shown_lines, widest}
+use Rattle.grid_records_measure.specs.TextLines.{text_width}
 use Rattle.grid_records_rows.specs.declared.records.into_records.truncate_content.Truncated.{Truncated}
 use Rattle.grid_records_rows.specs.declared.records.into_records.truncate_content.Truncated.TheVariants.{Cut, Whole}
-
--- the columns of the widest line of a text
-abbrev pub text_width : List ℕ → ℕ
-text_width text = widest (shown_lines (pieces text))
 
 -- the cut of a text at a width: its longest front that fits, and a replacement character for each column that is lacking
 abbrev pub cut_text : ℕ → List ℕ → List ℕ

@@ -1,6 +1,7 @@
 //! The cells of a source, cut at the widths of their columns.
 ghost use Rattle.std.specs.Prelude.{◌≡◌, ◌<◌, IfErr, IfOk, refl, true};
-ghost use Rattle.grid_records_rows.specs.Truncating.{GivesTruncated, GivesTruncatedRow, next_column, text_of_truncated, text_width, truncated_row, truncated_rows, truncated_text};
+ghost use Rattle.grid_records_measure.specs.TextLines.{text_width};
+ghost use Rattle.grid_records_rows.specs.Truncating.{GivesTruncated, GivesTruncatedRow, next_column, text_of_truncated, truncated_row, truncated_rows, truncated_text};
 ghost use Rattle.grid_records_rows.specs.Laws.Leaving.{passed_made};
 ghost use Rattle.grid_records_rows.specs.Laws.Truncating.{truncated_rows_give};
 
