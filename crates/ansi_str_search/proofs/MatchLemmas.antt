@@ -28,9 +28,9 @@ pub begins_with-sound : (pattern text : List ℕ) → begins_with pattern text �
 begins_with-sound [] text e = (text, refl)
 begins_with-sound (p ∷ ps) [] e = cc e
 begins_with-sound (p ∷ ps) (b ∷ bs) e =
-    let parts = and_parts (b == p) (begins_with ps bs) e in
+    let parts = and_parts (p == b) (begins_with ps bs) e in
     let rest = begins_with-sound ps bs parts.1 in
-    (rest.0, ap (λ c. c ∷ bs) (eqb-true b p parts.0) ∙ ap (λ cs. p ∷ cs) rest.1)
+    (rest.0, ap (λ c. c ∷ bs) (sym (eqb-true p b parts.0)) ∙ ap (λ cs. p ∷ cs) rest.1)
 
 pub begins_with-append : (pattern behind : List ℕ) → begins_with pattern (pattern ++ behind) ≡ true
 begins_with-append [] behind = refl

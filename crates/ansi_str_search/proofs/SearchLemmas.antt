@@ -126,7 +126,7 @@ byte_tests : (a b : ℕ) → (is_plain b && b == a) ≡ true → (is_plain b ≡
 byte_tests a b e = let parts = and_parts (is_plain b) (b == a) e in (parts.0, eqb-true b a parts.1)
 
 same_first : (a b : ℕ) (others bs : List ℕ) → b ≡ a → begins_with (a ∷ others) (b ∷ bs) ≡ begins_with others bs
-same_first a b others bs e = let test : (b == a) ≡ true = grind (arith, nat_tests) in ap (λ t. t && begins_with others bs) test
+same_first a b others bs e = let test : (a == b) ≡ true = grind (arith, nat_tests) in ap (λ t. t && begins_with others bs) test
 
 abbrev Left : ℕ → List ℕ → List ℕ → Bool
 Left n p t = begins_with (drop n p) (strip (pieces (drop n t)))
@@ -174,7 +174,9 @@ shared-none (a ∷ others) (b ∷ bs) some none text = by (b == a) refl
         let one : shared_len (a ∷ others) (b ∷ bs) ≡ suc (shared_len others bs) =
         ap (λ t. if t && b == a then suc (shared_len others bs) else 0) plain ∙ ap (λ t. if t then suc (shared_len others bs) else 0) e in
         absurd (omega (arith, one, none))
-    by false e = ap (begins_with (a ∷ others)) (strip-byte b bs plain) ∙ ap (λ t. t && begins_with others (strip (pieces bs))) e
+    by false e =
+        let other : (a == b) ≡ false = grind (arith, nat_tests) in
+        ap (begins_with (a ∷ others)) (strip-byte b bs plain) ∙ ap (λ t. t && begins_with others (strip (pieces bs))) other
 
 pub escape-at : (t : List ℕ) (k : ℕ) → begins_with_escape (drop k t) ≡ true → (k < length t) × (get_or t k 0 ≡ escape)
 escape-at [] zero e = cc e

@@ -10,7 +10,8 @@ use Rattle.std.proofs.lemmas.List.{length-drop, get_or-drop, get_or_append_left,
 use Rattle.std.proofs.lemmas.List.Elements.{All-from_recursion, All-head, All-tail, All-map}
 use Rattle.std.proofs.lemmas.Str.{IsUtf8-take, IsUtf8-drop, IsUtf8-from_ascii, IsCharBoundary-start, IsCharBoundary-end, IsCharBoundary-from_take, IsCharBoundary-from_rest}
 use Rattle.std.proofs.lemmas.Str.Ascii.{IsAscii-from_all}
-use Rattle.ansi_scan.specs.Sequences.{Piece, ArePiecesOf, NoneBroken, IsSgr, is_numeric}
+use Rattle.ansi_scan.specs.Sequences.{Piece, ArePiecesOf, NoneBroken, IsSgr}
+use Rattle.ansi_scan.specs.Rendition.{is_numeric}
 use Rattle.ansi_scan.specs.Pieces.{pieces}
 use Rattle.ansi_scan.specs.Attributes.{Attributes, IsRendition, plain_attributes}
 use Rattle.ansi_scan.specs.StartsAndEnds.{start_sequences, end_sequences}

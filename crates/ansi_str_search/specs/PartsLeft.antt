@@ -1,7 +1,8 @@
 -- The parts of a split that are still to come, as a function of what is left of the text: the tool by which the
 -- relation of `Matches` is proved.
-use Rattle.std.specs.Prelude.{ℕ, zero, suc, ◌+◌, ◌==◌, nat_lt, nat_le, Bool, true, false, ◌&&◌, ◌||◌, List, [], ◌∷◌, length, Option, None, Some, if◌then◌else◌}
+use Rattle.std.specs.Prelude.{ℕ, zero, suc, ◌+◌, nat_eq, nat_lt, nat_le, Bool, true, false, ◌&&◌, ◌||◌, List, [], ◌∷◌, length, Option, None, Some, if◌then◌else◌}
 use Rattle.std.specs.Option.{option_map}
+use Rattle.std.specs.List.{starts_with}
 use Rattle.ansi_scan.specs.Sequences.{Piece}
 use Rattle.ansi_scan.specs.Attributes.{Attributes}
 use Rattle.ansi_str_text.specs.StyledText.{strip, style_after_all}
@@ -14,9 +15,7 @@ begins_character (b ∷ bs) = nat_lt b 128 || nat_le 192 b
 
 -- the pattern stands at the front
 abbrev pub begins_with : List ℕ → List ℕ → Bool
-begins_with [] text = true
-begins_with (p ∷ ps) [] = false
-begins_with (p ∷ ps) (b ∷ bs) = b == p && begins_with ps bs
+begins_with pattern text = starts_with nat_eq text pattern
 
 -- the pattern matches at the front
 abbrev pub matches_first : List ℕ → List ℕ → Bool
