@@ -1,5 +1,5 @@
 //! The width of a text that shows printable ASCII alone, of which each byte takes one column.
-ghost use Rattle.std.specs.Prelude.{◌≡◌, IfSome, chars};
+ghost use Rattle.std.specs.Prelude.{◌≡◌, MatchOption, chars, false};
 ghost use Rattle.std.specs.Int.{is_in_range};
 ghost use Rattle.std.specs.List.{list_all};
 ghost use Rattle.ansi_scan.specs.Pieces.{pieces};
@@ -8,9 +8,10 @@ ghost use Rattle.grid_records_measure.specs.Measures.{measure};
 
 use ansi_scan::{Kind, scan};
 
-/// The columns that the text takes without its sequences, where it shows printable ASCII alone.
+/// The columns that the text takes without its sequences, where it shows printable ASCII alone, and none
+/// where it does not.
 pub(crate) fn printable_width(text: &str) -> Option<usize>
-    ensures { IfSome result (λ width. width ≡ measure (chars (strip (pieces text.now)))) }
+    ensures { MatchOption result (list_all (is_in_range 0x20 0x7E) (strip (pieces text.now)) ≡ false) (λ width. width ≡ measure (chars (strip (pieces text.now)))) }
 {
     let mut width = 0;
     let mut rest = text;
