@@ -1,8 +1,9 @@
 -- Printable ASCII takes a column a byte.
-use Rattle.std.proofs.Common.{◌≡◌, ℕ, ◌+◌, ◌<◌, ◌≤◌, zero, suc, true, false, List, [], ◌∷◌, ◌++◌, length, get_or, refl, ap, sym, ◌∙◌, arith, append_assoc, append-nil, length-append}
-use Rattle.std.specs.Prelude.{chars}
+use Rattle.std.proofs.Common.{◌≡◌, ℕ, ◌+◌, ◌<◌, ◌≤◌, zero, suc, Bool, true, false, List, [], ◌∷◌, ◌++◌, length, get_or, refl, ap, sym, ◌∙◌, arith, append_assoc, append-nil, length-append}
+use Rattle.std.specs.Prelude.{◌&&◌, chars}
 use Rattle.std.specs.Int.{is_in_range}
 use Rattle.std.proofs.lemmas.Bool.{and_parts}
+use Rattle.std.proofs.lemmas.List.Folds.{list_all-append as list_all-both}
 use Rattle.std.proofs.lemmas.Bool.Decides.{nat_tests}
 use Rattle.std.proofs.lemmas.Str.{chars-IsAscii}
 use Rattle.unicode_width.proofs.Rules.{str_width-printable}
@@ -45,6 +46,16 @@ IsPassed-text width rest text bytes behind is shows printable = record {
   printable = list_all-append (is_in_range 0x20 0x7E) is.passed bytes is.printable printable;
   counted = (let sum : width + length bytes ≡ length (is.passed ++ bytes) = omega (arith, is.counted, length-append is.passed bytes) in sum);
 }
+
+-- an item of text that has something else
+pub not-printable : (width : ℕ) (rest text bytes behind : List ℕ) → IsPassed width rest text → strip (pieces rest) ≡ bytes ++ strip (pieces behind) → are_printable bytes ≡ false → are_printable (strip (pieces text)) ≡ false
+not-printable width rest text bytes behind is shows other =
+    let left = strip (pieces behind) in
+    ap are_printable (is.shows ∙ ap (λ bs. is.passed ++ bs) shows)
+    ∙ list_all-both (is_in_range 0x20 0x7E) is.passed (bytes ++ left)
+    ∙ ap (λ b. b && are_printable (bytes ++ left)) is.printable
+    ∙ list_all-both (is_in_range 0x20 0x7E) bytes left
+    ∙ ap (λ b. b && are_printable left) other
 
 -- any other item
 pub IsPassed-other : (width : ℕ) (rest text behind : List ℕ) → IsPassed width rest text → strip (pieces rest) ≡ strip (pieces behind) → IsPassed width behind text

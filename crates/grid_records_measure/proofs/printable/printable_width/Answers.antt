@@ -8,7 +8,7 @@ use Rattle.ansi_str_text.proofs.FirstItem.{pieces-nothing}
 use Rattle.ansi_str_text.proofs.FirstBlock.{shorter}
 use Rattle.ansi_str_text.proofs.Stripping.{shown-sequence}
 use Rattle.ansi_str_text.proofs.LastLemmas.{strip-first}
-use Rattle.grid_records_measure.proofs.PrintableLemmas.{IsPassed, IsPassed-text, IsPassed-other, IsPassed-end, IsPassed-fits}
+use Rattle.grid_records_measure.proofs.PrintableLemmas.{IsPassed, IsPassed-text, IsPassed-other, IsPassed-end, IsPassed-fits, not-printable}
 use Rattle.grid_records_measure.proofs.printable.printable_width.Goals as goal
 use Rattle.grid_records_measure.proofs.printable.printable_width.Goals.{in-Text+else-not-is_printable, in_default-kind}
 
@@ -46,6 +46,15 @@ loop-item-preserved c =
           ∙ ap (λ (bs : List ℕ). bs ++ strip (pieces behind)) (shown-sequence c.in-Some.item.kind (slice_range rest 0 c.in-Some.item.end) w.in_default-kind.not-Text)))
     ] in
     (c.range_from-rest.utf8, passed)
+
+pub returns-then-not-is_printable : goal.returns-then-not-is_printable
+returns-then-not-is_printable c =
+    let rest : List ℕ = c.loop-item.rest.now in
+    let behind : List ℕ = drop c.in-Some.item.end rest in
+    not-printable c.loop-item.width rest c.args.text.now c.range-shown.result.now behind c.loop-item.invariant.1
+    (strip-first rest c.range-shown.result.now behind (items_left c.scan.result) (items_left c.next.new.self) c.in-Some.item c.scan.ensures.items c.in-Some.ensures.steps c.range-shown.ensures.value refl
+    ∙ ap (λ (kind : Kind). shown kind c.range-shown.result.now ++ strip (pieces behind)) c.in-Text.is)
+    (sym c.is_printable.ensures ∙ c.if-not-is_printable.true)
 
 pub returns : goal.returns
 returns c =
