@@ -6,8 +6,10 @@ ghost use Rattle.grid_records_estimate.specs.Sizing.{Sizing as TableSizing, comp
 
 use grid_config::{Borders, CompactConfig, Indent, Position, Sides, SpannedConfig};
 
-/// The settings that the sizes of a table follow from.
+/// The settings that the sizes of a table follow from. The trait isn't given out: there are no settings
+/// but the two below.
 pub trait Sizing {
+    /// What the sizes follow from.
     ghost sizing: { Self → TableSizing };
 
     /// Whether the rectangle of no other cell holds this place.
