@@ -1,5 +1,5 @@
 //! Cuts of a text: the text between two places, with the sequences among and before it.
-ghost use Rattle.std.specs.Prelude.{◌≡◌, ◌↔◌, ◌++◌, ℕ, List, length, unwrap_or, IfErr, IfOk, IfSome, IsOk, IsSome, IsTrue, false, string_bytes};
+ghost use Rattle.std.specs.Prelude.{◌≡◌, ◌↔◌, ◌++◌, List, length, unwrap_or, IfErr, IfOk, IfSome, IsOk, IsSome, IsTrue, false, string_bytes};
 ghost use Rattle.std.specs.Cow.{IsOwnedStr, cow_str_bytes};
 ghost use Rattle.ansi_scan.specs.Sequences.{Piece, ArePiecesOf};
 ghost use Rattle.ansi_scan.specs.Pieces.{pieces};

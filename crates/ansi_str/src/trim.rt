@@ -1,5 +1,5 @@
 //! Text taken away at both ends of what a text shows. Every sequence is kept, and none is added.
-ghost use Rattle.std.specs.Prelude.{◌≡◌, ◌≤◌, ◌<◌, ℕ, List, IfErr, IfOk, IfSome, IsOk, IsTrue, MatchOption, false, length, slice_range, string_bytes};
+ghost use Rattle.std.specs.Prelude.{◌≡◌, ◌<◌, List, IfErr, IfOk, IfSome, IsOk, IsTrue, MatchOption, false, length, slice_range, string_bytes};
 ghost use Rattle.std.specs.Cow.{IsOwnedStr, cow_str_bytes};
 ghost use Rattle.std.specs.Str.{IsCharBoundary};
 ghost use Rattle.ansi_scan.specs.Pieces.{pieces as pieces_of};

@@ -4,7 +4,7 @@
 //! find the end of what begins there once more. Where that ESC may end a string, each byte before it
 //! is looked at once up to the next ESC, and once more to see how far the item there goes; none of
 //! them is looked at again so. With the look at a character that is given, that makes five at most.
-ghost use Rattle.std.specs.Prelude.{◌≡◌, ◌==◌, ◌<◌, ◌≤◌, [], ◌++◌, false, MatchOption, IfSome, chars, length, slice_index};
+ghost use Rattle.std.specs.Prelude.{◌≡◌, ◌==◌, ◌<◌, [], ◌++◌, false, MatchOption, IfSome, chars, length, slice_index};
 ghost use Rattle.std.specs.Str.{IsCharBoundary};
 ghost use Rattle.ansi_scan.specs.Pieces.{front};
 ghost use Rattle.ansi_str_text.specs.StyledText.{has_escape};

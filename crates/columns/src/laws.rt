@@ -1,5 +1,5 @@
 //! Laws over the definitions, each the contract of a function that does nothing.
-ghost use Rattle.std.specs.Prelude.{◌≡◌, ℕ, ◌+◌, ◌<◌, ◌≤◌, chars, false, codes, length, slice_index, All, List, ◌∷◌, [], ◌++◌, map, flat_map, IsUtf8};
+ghost use Rattle.std.specs.Prelude.{◌≡◌, ℕ, ◌+◌, ◌<◌, ◌≤◌, chars, false, codes, length, slice_index, All, List, ◌∷◌, [], map, flat_map, IsUtf8};
 ghost use Rattle.ansi_scan.specs.Sequences.{Piece, ArePiecesOf, NoneBroken, IsWhole};
 ghost use Rattle.ansi_scan.specs.Attributes.{Attributes};
 ghost use Rattle.std.specs.Str.{encode_utf8_all};

@@ -1,8 +1,8 @@
 //! The rows and cells of a text with escape sequences: its parts at line feeds, and their parts at tabs. Each part opens
 //! and ends its own styles.
-ghost use Rattle.std.specs.Prelude.{◌≡◌, ℕ, ◌==◌, ◌<◌, ◌≤◌, List, [], ◌∷◌, ◌++◌, map, length, sum, vec_len, IfOk, OnOk, IsTrue, chars};
+ghost use Rattle.std.specs.Prelude.{◌≡◌, ℕ, ◌==◌, ◌<◌, ◌≤◌, [], ◌∷◌, ◌++◌, map, length, sum, vec_len, IfOk, OnOk};
 ghost use Rattle.std.specs.Cow.{cow_str_bytes};
-ghost use Rattle.columns.specs.Rows.{stripped, tab, line_feed, parts_at, row_parts};
+ghost use Rattle.columns.specs.Rows.{stripped, tab, parts_at, row_parts};
 ghost use Rattle.columns.specs.Layout.{part_line};
 ghost use Rattle.columns.specs.Printing.{bytes, shown, cut, last_is_bare};
 

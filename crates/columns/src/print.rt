@@ -1,7 +1,7 @@
 //! The text of a table: its rows between boundaries, in the style `ascii`.
-ghost use Rattle.std.specs.Prelude.{◌≡◌, ℕ, ◌+◌, ◌^◌, ◌<◌, ◌≤◌, ◌++◌, [], map, length, sum, vec_len, replicate, slice_index, slice_index_or, All, IfOk, OnOk, string_bytes};
+ghost use Rattle.std.specs.Prelude.{◌≡◌, ◌+◌, ◌^◌, ◌<◌, ◌≤◌, ◌++◌, map, length, sum, vec_len, replicate, slice_index_or, All, IfOk, OnOk, string_bytes};
 ghost use Rattle.columns.specs.Estimates.{greatest, empty_line};
-ghost use Rattle.columns.specs.Printing.{shown, cut, rows_shown, content_widths, Fits, cell_text, cells_text, row_text, border_text, rows_text, grid_text};
+ghost use Rattle.columns.specs.Printing.{shown, cut, rows_shown, content_widths, Fits, cell_text, row_text, border_text, rows_text, grid_text};
 
 use crate::rows::{Cell, Rows};
 use crate::sizes::greatest;

@@ -5,7 +5,6 @@ ghost use Rattle.std.specs.Iterator.{at_most};
 ghost use Rattle.grid_records_rows.specs.Cells.{HasLineCount, HasWidth};
 ghost use Rattle.columns.specs.Estimates.{greatest};
 ghost use Rattle.columns.specs.Giving.{each_cell, each_row};
-ghost use Rattle.columns.specs.Printing.{cut};
 ghost use Rattle.columns.specs.Records.{GivesRow, GivesText, IsMeasured, TakesOne, row_texts, table_texts};
 
 use crate::rows::{Cell, Rows};

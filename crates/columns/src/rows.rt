@@ -1,5 +1,5 @@
 //! The rows and cells of a text, which borrow it.
-ghost use Rattle.std.specs.Prelude.{◌≡◌, [], ◌∷◌, ◌++◌, map, sum, vec_len, IfOk, OnOk, IsTrue, chars};
+ghost use Rattle.std.specs.Prelude.{◌≡◌, [], ◌∷◌, ◌++◌, map, sum, vec_len, IfOk, OnOk, IsTrue};
 ghost use Rattle.std.specs.Int.{is_in_range};
 ghost use Rattle.columns.specs.Rows.{rows_of};
 ghost use Rattle.columns.specs.Printing.{shown, byte_line, rows_shown};

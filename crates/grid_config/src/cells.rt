@@ -1,5 +1,5 @@
 //! The settings that each cell of a table has.
-ghost use Rattle.std.specs.Prelude.{◌≡◌, None, false};
+ghost use Rattle.std.specs.Prelude.{None, false};
 ghost use Rattle.grid_config_values.specs.declared.alignment.AlignmentVertical.TheVariants.{Top};
 ghost use Rattle.grid_config.specs.Settings.{IsEverywhere};
 

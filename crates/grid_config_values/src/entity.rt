@@ -1,5 +1,5 @@
 //! Sets of cells.
-ghost use Rattle.std.specs.Prelude.{◌≡◌, ◌≤◌};
+ghost use Rattle.std.specs.Prelude.{◌≡◌};
 ghost use Rattle.std.specs.List.{filter, range_with_len};
 ghost use Rattle.grid_config_values.specs.Entities.{covered_positions, covers};
 ghost use Rattle.grid_config_values.specs.Rectangles.{is_named, numbers};

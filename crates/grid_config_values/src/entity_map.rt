@@ -1,8 +1,8 @@
 //! The values that were set for sets of cells.
-ghost use Rattle.std.specs.Prelude.{◌≡◌, ℕ, IsOk, OnOk, OnErr};
+ghost use Rattle.std.specs.Prelude.{◌≡◌, IsOk, OnOk, OnErr};
 ghost use Rattle.grid_config_values.specs.declared.entity.Entity.TheVariants.{Global as EveryCell};
 ghost use Rattle.grid_config_values.specs.declared.position.Position.{Position as Place};
-ghost use Rattle.grid_config_values.specs.Settings.{IsUnchanged, SetsCovered, value_at, value_after};
+ghost use Rattle.grid_config_values.specs.Settings.{IsUnchanged, SetsCovered, value_at};
 
 use crate::entity::Entity;
 use crate::position::Position;

@@ -3,7 +3,6 @@ ghost use Rattle.std.specs.Prelude.{◌≡◌, ◌<◌, ℕ, ◌+◌, ◌++◌, 
 ghost use Rattle.std.specs.Iterator.{IsFinite};
 ghost use Rattle.grid_records_rows.specs.Giving.{GivesTexts};
 ghost use Rattle.grid_records_rows.specs.Rows.{fitted};
-ghost use Rattle.grid_records_estimate.specs.Collecting.{HasCollected};
 ghost use Rattle.grid_records_estimate.specs.Reading.{HasRead, IsReading, Placed, row_cells, table_cells};
 
 use crate::collector::Collector;

@@ -1,5 +1,5 @@
 //! Sizes that grow until needs are met.
-ghost use Rattle.std.specs.Prelude.{◌≡◌, ℕ, ◌+◌, ◌-◌, ◌^◌, ◌<◌, ◌≤◌, Bool, Ok, Err, IfErr, OnErr, OnOk, if◌then◌else◌, length, nat_lt, slice_index_or, sum};
+ghost use Rattle.std.specs.Prelude.{◌≡◌, ℕ, ◌+◌, ◌-◌, ◌^◌, ◌<◌, Bool, Ok, Err, IfErr, OnErr, OnOk, if◌then◌else◌, length, nat_lt, sum};
 ghost use Rattle.std.specs.List.{fold};
 ghost use Rattle.grid_config_values.specs.declared.fault.Fault.TheVariants.{Range};
 ghost use Rattle.grid_records_estimate.specs.Estimates.{meet, with_shares};

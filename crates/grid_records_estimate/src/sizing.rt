@@ -1,5 +1,5 @@
 //! The settings that the sizes of a table follow from.
-ghost use Rattle.std.specs.Prelude.{◌≡◌, ◌<◌, IsTrue};
+ghost use Rattle.std.specs.Prelude.{◌≡◌, ◌<◌};
 ghost use Rattle.grid_config.specs.Compact.{compact_of};
 ghost use Rattle.grid_config.specs.Spans.{extent_at};
 ghost use Rattle.grid_records_estimate.specs.Sizing.{Sizing as TableSizing, compact_sizing, is_visible, sizing_of};

@@ -1,9 +1,9 @@
 //! The cut of a text at a width.
-ghost use Rattle.std.specs.Prelude.{◌≡◌, ◌≤◌, ◌<◌, ◌-◌, ◌++◌, ℕ, List, [], IfOk, IfSome, IsOk, OnOk, false, length, replicate, chars, encode_utf8_all, string_bytes};
+ghost use Rattle.std.specs.Prelude.{◌≡◌, ◌≤◌, ◌<◌, ◌-◌, ◌++◌, List, IfOk, IfSome, IsOk, OnOk, length, replicate, chars, encode_utf8_all, string_bytes};
 ghost use Rattle.std.specs.Cow.{IsOwnedStr, cow_str_bytes};
 ghost use Rattle.ansi_scan.specs.Sequences.{Piece, ArePiecesOf};
 ghost use Rattle.ansi_scan.specs.Pieces.{pieces as pieces_of};
-ghost use Rattle.ansi_str.specs.StyledText.{has_escape, strip};
+ghost use Rattle.ansi_str.specs.StyledText.{strip};
 ghost use Rattle.grid_records_measure.specs.Cutting.{IsCutAt, IsPlainCut, lacking, replacement};
 ghost use Rattle.grid_records_measure.specs.Filling.{behind_front, columns_with, front, front_columns};
 

@@ -2,7 +2,7 @@
 ghost use Rattle.std.specs.Prelude.{◌≡◌, ◌<◌, ◌∷◌, IfSome, length};
 ghost use Rattle.ansi_scan.specs.Pieces.{pieces};
 ghost use Rattle.ansi_str.specs.StyledText.{strip};
-ghost use Rattle.grid_records_measure.specs.TextLines.{line_feed, shown_lines};
+ghost use Rattle.grid_records_measure.specs.TextLines.{shown_lines};
 ghost use Rattle.grid_records_measure.specs.RawLines.{IsFromLineFeed, IsLineAndRest, lines_behind};
 
 use ansi_str_search::{begins_with_escape, behind_item, run_len};

@@ -1,5 +1,5 @@
 //! Tabs of a text.
-ghost use Rattle.std.specs.Prelude.{◌≡◌, ◌++◌, List, IfOk, IsOk, IsTrue, OnOk, false, string_bytes, replicate, flat_map};
+ghost use Rattle.std.specs.Prelude.{◌≡◌, ◌++◌, List, IfOk, IsOk, IsTrue, OnOk, false, string_bytes};
 ghost use Rattle.std.specs.Cow.{IsOwnedStr, cow_str_bytes};
 ghost use Rattle.ansi_scan.specs.Sequences.{Piece, ArePiecesOf};
 ghost use Rattle.ansi_scan.specs.Pieces.{pieces as pieces_of};

@@ -1,5 +1,5 @@
 //! The lines of a text.
-ghost use Rattle.std.specs.Prelude.{◌≡◌, ◌+◌, ◌==◌, ◌≤◌, ℕ, List, length};
+ghost use Rattle.std.specs.Prelude.{◌≡◌, ◌+◌, ◌==◌, List, length};
 ghost use Rattle.std.specs.List.{count_by};
 ghost use Rattle.ansi_scan.specs.Sequences.{Piece, ArePiecesOf};
 ghost use Rattle.ansi_str.specs.StyledText.{has_escape};

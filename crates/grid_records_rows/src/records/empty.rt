@@ -1,6 +1,6 @@
 //! Rows of empty texts.
 ghost use Rattle.std.proofs.Common.{ap};
-ghost use Rattle.std.specs.Prelude.{◌≡◌, ◌+◌, Some, [], false, refl, replicate};
+ghost use Rattle.std.specs.Prelude.{◌≡◌, Some, [], false, refl, replicate};
 ghost use Rattle.std.specs.Iterator.{at_most};
 ghost use Rattle.grid_records_rows.specs.Sources.{GivesEmptyCells, GivesEmptyText};
 ghost use Rattle.grid_records_rows.specs.Laws.Leaving.{passed_same};

@@ -1,5 +1,5 @@
 //! Rows in vectors.
-ghost use Rattle.std.specs.Prelude.{◌≡◌, ◌↔◌, IsTrue, List, Some, false, length, vec_len};
+ghost use Rattle.std.specs.Prelude.{◌≡◌, ◌↔◌, IsTrue, Some, false, vec_len};
 ghost use Rattle.grid_records_rows.specs.Sources.{AreEquallyLong, columns_of, texts_of_rows};
 
 pub mod cell;

@@ -1,5 +1,5 @@
 //! A source whose first rows are kept.
-ghost use Rattle.std.proofs.Common.{◌∙◌, ap};
+ghost use Rattle.std.proofs.Common.{◌∙◌};
 ghost use Rattle.std.specs.Iterator.{IsFinite, at_most, count_add};
 ghost use Rattle.std.specs.Prelude.{◌≡◌, ◌++◌, Bool, IfOk, IfSome, IsTrue, List, [], false, map, take, ℕ};
 ghost use Rattle.grid_records_rows.specs.Buffering.{GivesBuffered, of_rest};

@@ -1,6 +1,6 @@
 //! The rows of a source, each of as many cells.
-ghost use Rattle.std.specs.Prelude.{◌≡◌, IfSome, OnSome, Some};
-ghost use Rattle.std.specs.Iterator.{IsFinite, at_most};
+ghost use Rattle.std.specs.Prelude.{◌≡◌, IfSome, Some};
+ghost use Rattle.std.specs.Iterator.{at_most};
 ghost use Rattle.grid_records_rows.specs.Fitting.{GivesFitted, FitsCell};
 ghost use Rattle.grid_records_rows.specs.Rows.{fitted, fitted_row};
 ghost use Rattle.grid_records_rows.specs.Laws.Fitting.{gives_fitted_rows};

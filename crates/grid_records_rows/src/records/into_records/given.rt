@@ -1,5 +1,5 @@
 //! The rows of a value that holds them.
-ghost use Rattle.std.specs.Prelude.{◌≡◌};
+
 ghost use Rattle.grid_records_rows.specs.Sources.{AnswersCell, GivesCellsOf};
 
 use std::alloc::AllocError;

@@ -1,6 +1,6 @@
 //! Vectors, slices and arrays of rows.
 ghost use Rattle.std.specs.Array.Iter.{array_into_iter_items};
-ghost use Rattle.std.specs.Prelude.{List, false, map, refl, vec_items};
+ghost use Rattle.std.specs.Prelude.{false, map, refl, vec_items};
 ghost use Rattle.std.proofs.Common.{◌∙◌};
 ghost use Rattle.std.specs.Slice.Iter.{iter_rest};
 ghost use Rattle.grid_records_rows.specs.Sources.{items_left, texts_of_rows};
