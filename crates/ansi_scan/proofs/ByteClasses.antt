@@ -1,7 +1,8 @@
 -- How the classes of bytes lie to one another.
 use Rattle.std.proofs.Common.{◌≡◌, ◌==◌, ◌<◌, ℕ, true, false, arith}
 use Rattle.std.proofs.lemmas.Bool.Decides.{nat_tests}
-use Rattle.ansi_scan.specs.Sequences.{is_parameter, is_intermediate, is_final, is_numeric, is_escape_final, opens_string, opens_longer}
+use Rattle.ansi_scan.specs.Sequences.{is_parameter, is_intermediate, is_final, is_escape_final, opens_string, opens_longer}
+use Rattle.ansi_scan_style.specs.Rendition.{is_numeric}
 
 pub is_parameter-numeric : (b : ℕ) → is_numeric b ≡ true → is_parameter b ≡ true
 is_parameter-numeric b is_one = grind (arith, nat_tests)

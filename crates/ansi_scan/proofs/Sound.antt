@@ -6,7 +6,8 @@ use Rattle.std.specs.Cmp.Derive.{both_true}
 use Rattle.std.proofs.lemmas.Bool.{and_parts, or_cases, or_from, cond-true, cond-false, cases_Bool, both_ways, not_from_false}
 use Rattle.ansi_scan.specs.declared.items.Kind.{Kind}
 use Rattle.ansi_scan.specs.declared.items.Kind.TheVariants.{Sgr, Csi, Osc, Esc, Str}
-use Rattle.ansi_scan.specs.Sequences.{escape, bell, string_terminator, is_parameter, is_intermediate, is_final, is_numeric, is_escape_final, opens_string, opens_longer, HasForm}
+use Rattle.ansi_scan.specs.Sequences.{escape, bell, string_terminator, is_parameter, is_intermediate, is_final, is_escape_final, opens_string, opens_longer, HasForm}
+use Rattle.ansi_scan_style.specs.Rendition.{is_numeric}
 use Rattle.ansi_scan.specs.Pieces.{control_from, is_inside, string_end, string_from, escape_from, behind_opener, opened, sequence_front}
 use Rattle.ansi_scan.proofs.ByteClasses.{is_numeric-intermediate}
 use Rattle.ansi_scan.proofs.Complete.{control_from-on, control_from-off, sequence_front-Sgr}

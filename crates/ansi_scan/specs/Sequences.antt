@@ -4,8 +4,10 @@
 -- 1991), where a code has seven bits: each begins with ESC. Each byte that decides is ASCII, and no
 -- byte of a character past ASCII is, so the bytes of a text in UTF-8 can be read one by one. The C1
 -- controls of eight bits are text here.
-use Rattle.std.specs.Prelude.{◌≡◌, ◌≢◌, ◌==◌, ◌<◌, ◌⊎◌, ℕ, Bool, not, ◌&&◌, ◌||◌, nat_le, List, [], ◌∷◌, ◌++◌, length, IsTrue}
+use Rattle.std.specs.Prelude.{◌≡◌, ◌≢◌, ◌==◌, ◌<◌, ◌⊎◌, ℕ, Bool, not, ◌&&◌, ◌||◌, List, [], ◌∷◌, ◌++◌, length, IsTrue}
 use Rattle.std.specs.List.{list_all, AllByRecursion}
+use Rattle.std.specs.Int.{is_in_range}
+use Rattle.ansi_scan_style.specs.Rendition.{is_numeric}
 use Rattle.ansi_scan.specs.declared.items.Kind.{Kind}
 use Rattle.ansi_scan.specs.declared.items.Kind.TheVariants.{Text, Sgr, Csi, Osc, Esc, Str, Broken}
 
@@ -23,27 +25,19 @@ bell = 0x07
 abbrev pub string_terminator : List ℕ
 string_terminator = escape ∷ 0x5c ∷ []
 
--- the byte is from `low` to `high`
-abbrev pub is_within : ℕ → ℕ → ℕ → Bool
-is_within low high b = nat_le low b && nat_le b high
-
 -- a parameter byte, an intermediate byte and a final byte of a control sequence, 5.4
 abbrev pub is_parameter : ℕ → Bool
-is_parameter b = is_within 0x30 0x3f b
+is_parameter b = is_in_range 0x30 0x3f b
 
 abbrev pub is_intermediate : ℕ → Bool
-is_intermediate b = is_within 0x20 0x2f b
+is_intermediate b = is_in_range 0x20 0x2f b
 
 abbrev pub is_final : ℕ → Bool
-is_final b = is_within 0x40 0x7e b
-
--- a parameter byte that is a digit, `:` or `;`, 5.4.2
-abbrev pub is_numeric : ℕ → Bool
-is_numeric b = is_within 0x30 0x3b b
+is_final b = is_in_range 0x40 0x7e b
 
 -- a final byte of an escape sequence, ECMA-35
 abbrev pub is_escape_final : ℕ → Bool
-is_escape_final b = is_within 0x30 0x7e b
+is_escape_final b = is_in_range 0x30 0x7e b
 
 -- `P`, `X`, `^` or `_`: behind ESC they open DEVICE CONTROL STRING, 8.3.27, START OF STRING, 8.3.128,
 -- PRIVACY MESSAGE, 8.3.94, and APPLICATION PROGRAM COMMAND, 8.3.2

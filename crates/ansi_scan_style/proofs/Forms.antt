@@ -8,7 +8,7 @@ use Rattle.ansi_scan_style.specs.declared.next.Layer.{Layer}
 use Rattle.ansi_scan_style.specs.declared.next.Layer.TheVariants.{Foreground, Background, Underline}
 use Rattle.ansi_scan_style.specs.declared.next.Next.TheVariants.{Code, Form, Index, Red, Nothing}
 use Rattle.ansi_scan_style.specs.Attributes.{Attributes, after_code}
-use Rattle.ansi_scan_style.specs.Rendition.{is_parameter_byte, sgr_parameters, reading_after, next_after_code, after_parameters}
+use Rattle.ansi_scan_style.specs.Rendition.{is_numeric, sgr_parameters, reading_after, next_after_code, after_parameters}
 use Rattle.ansi_scan_style.specs.ColorForms.{is_color_code, indexed_color, direct_color, color_at_front, after_color}
 use Rattle.ansi_scan_style.specs.Sequences.{layer_code}
 
@@ -102,7 +102,7 @@ sequence_of_parts (x ∷ y ∷ rest) long escape bracket last =
     ∙ ap (λ k. take k rest ++ 109 ∷ []) before)))
 
 pub sequence_from-sgr_parameters : (bytes parameters : List ℕ) → sgr_parameters bytes ≡ Some parameters
-    → (bytes ≡ 27 ∷ 91 ∷ (parameters ++ 109 ∷ [])) × IsTrue (list_all is_parameter_byte parameters)
+    → (bytes ≡ 27 ∷ 91 ∷ (parameters ++ 109 ∷ [])) × IsTrue (list_all is_numeric parameters)
 sequence_from-sgr_parameters bytes parameters e =
     let last = length bytes - 1 in
     let between = slice_range bytes 2 last in
@@ -110,7 +110,7 @@ sequence_from-sgr_parameters bytes parameters e =
     let test_escape = slice_index bytes 0 == 27 in
     let test_bracket = slice_index bytes 1 == 91 in
     let test_last = slice_index bytes last == 109 in
-    let test_all = list_all is_parameter_byte between in
+    let test_all = list_all is_numeric between in
     let both = chosen (test_long && test_escape && test_bracket && test_last && test_all) between parameters e in
     let five = and_parts (test_long && test_escape && test_bracket && test_last) test_all both.0 in
     let four = and_parts (test_long && test_escape && test_bracket) test_last five.0 in
@@ -118,5 +118,5 @@ sequence_from-sgr_parameters bytes parameters e =
     let two = and_parts test_long test_escape three.0 in (
       sequence_of_parts bytes (leb-true 3 (length bytes) two.0) (eqb-true (slice_index bytes 0) 27 two.1) (eqb-true (slice_index bytes 1) 91 three.1) (eqb-true (slice_index bytes last) 109 four.1)
           ∙ ap (λ middle. 27 ∷ 91 ∷ (middle ++ 109 ∷ [])) both.1,
-      ap (list_all is_parameter_byte) (sym both.1) ∙ five.1,
+      ap (list_all is_numeric) (sym both.1) ∙ five.1,
     )

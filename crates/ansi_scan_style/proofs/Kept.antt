@@ -11,7 +11,8 @@ use Rattle.ansi_scan_style.specs.declared.next.Layer.TheVariants.{Foreground, Ba
 use Rattle.ansi_scan_style.specs.declared.next.Next.{Next}
 use Rattle.ansi_scan_style.specs.declared.next.Next.TheVariants.{Code, Form, Index, Red, Green, Blue, Nothing}
 use Rattle.ansi_scan_style.specs.Attributes.{Attributes, plain_attributes, after_code, font_after, foreground_after, background_after, underline_color_after, is_font_code, is_foreground_code, is_background_code, is_no_code, IsColor, IsRendition}
-use Rattle.ansi_scan_style.specs.Rendition.{is_digit, with_digit, number, with_color, next_after, next_after_code, next_after_form, after_parameter, reading_after, after_parameters, after_parameter_bytes, sgr_parameters, applied}
+use Rattle.std.specs.Char.{is_ascii_digit}
+use Rattle.ansi_scan_style.specs.Rendition.{with_digit, number, with_color, next_after, next_after_code, next_after_form, after_parameter, reading_after, after_parameters, after_parameter_bytes, sgr_parameters, applied}
 
 pub IsRendition-plain : IsRendition plain_attributes
 unfolding plain_attributes
@@ -135,7 +136,7 @@ IsByteIf-if true n = elim (nat_le n 255) as (λ t. (nat_le n 255 ≡ t) → IsBy
 
 -- the number of a parameter is a byte
 IsByteIf-number : (parameter : List ℕ) → IsByteIf (number parameter)
-IsByteIf-number parameter = IsByteIf-if (list_all is_digit parameter) (fold with_digit 0 parameter)
+IsByteIf-number parameter = IsByteIf-if (list_all is_ascii_digit parameter) (fold with_digit 0 parameter)
 
 IsRendition-fold : (reading : Attributes × Next) (parts : List (List ℕ)) → IsRendition reading.0 → NumbersFit reading.1 → IsRendition (fold reading_after reading (map number parts)).0
 IsRendition-fold reading [] r fit = r

@@ -9,7 +9,8 @@ use Rattle.std.proofs.lemmas.Bool.Decides.{nat_tests}
 use Rattle.std.proofs.lemmas.List.Elements.{All-nil, All-cons, All-append}
 use Rattle.std.proofs.lemmas.List.Sums.{fold-append}
 use Rattle.std.proofs.lemmas.List.Folds.{list_all-append}
-use Rattle.ansi_scan_style.specs.Rendition.{is_parameter_byte, is_digit, with_digit, number}
+use Rattle.std.specs.Char.{is_ascii_digit}
+use Rattle.ansi_scan_style.specs.Rendition.{is_numeric, with_digit, number}
 use Rattle.ansi_scan_style.specs.Digits.{number_after}
 
 -- a longer number is no smaller
@@ -20,7 +21,7 @@ with_digit_le n (digit ∷ digits) = omega (arith, with_digit_le (with_digit n d
 -- the number of what is left of a parameter, behind this one
 abbrev number_from : ℕ → List ℕ → Option ℕ
 number_from n bytes =
-    if list_all is_digit bytes && nat_le (fold with_digit n bytes) 255 then Some (fold with_digit n bytes) else None
+    if list_all is_ascii_digit bytes && nat_le (fold with_digit n bytes) 255 then Some (fold with_digit n bytes) else None
 
 none_stays : (bytes : List ℕ) → fold number_after None bytes ≡ None
 none_stays [] = refl
@@ -30,8 +31,8 @@ none_stays (byte ∷ bytes) = none_stays bytes
 number_from-large : (n : ℕ) (bytes : List ℕ) → 255 < n → number_from n bytes ≡ None
 number_from-large n bytes large =
     let grows : n ≤ fold with_digit n bytes = with_digit_le n bytes in
-    ap (λ b. if list_all is_digit bytes && b then Some (fold with_digit n bytes) else None) (lt-leb (fold with_digit n bytes) 255 (omega arith))
-    ∙ never (list_all is_digit bytes) (Some (fold with_digit n bytes))
+    ap (λ b. if list_all is_ascii_digit bytes && b then Some (fold with_digit n bytes) else None) (lt-leb (fold with_digit n bytes) 255 (omega arith))
+    ∙ never (list_all is_ascii_digit bytes) (Some (fold with_digit n bytes))
   where
     never : (b : Bool) (o : Option ℕ) → (if b && false then o else None) ≡ None
     never true o = refl
@@ -40,7 +41,7 @@ number_from-large n bytes large =
 number_from-cons : (digit fits : Bool) (n byte : ℕ) (bytes : List ℕ) → nat_le (with_digit n byte) 255 ≡ fits
     → (with_digit n byte ≤ 255 → fold number_after (Some (with_digit n byte)) bytes ≡ number_from (with_digit n byte) bytes)
     → fold number_after (if digit && fits then Some (with_digit n byte) else None) bytes
-    ≡ (if (digit && list_all is_digit bytes) && nat_le (fold with_digit (with_digit n byte) bytes) 255 then Some (fold with_digit (with_digit n byte) bytes) else None)
+    ≡ (if (digit && list_all is_ascii_digit bytes) && nat_le (fold with_digit (with_digit n byte) bytes) 255 then Some (fold with_digit (with_digit n byte) bytes) else None)
 number_from-cons false fits n byte bytes e others = none_stays bytes
 number_from-cons true true n byte bytes e others = others (leb-true (with_digit n byte) 255 e)
 number_from-cons true false n byte bytes e others =
@@ -49,7 +50,7 @@ number_from-cons true false n byte bytes e others =
 fold-number_after : (n : ℕ) (bytes : List ℕ) → n ≤ 255 → fold number_after (Some n) bytes ≡ number_from n bytes
 fold-number_after n [] small = ap (λ b. if b then Some n else None) (sym (le-leb n 255 small))
 fold-number_after n (byte ∷ bytes) small =
-    number_from-cons (is_digit byte) (nat_le (with_digit n byte) 255) n byte bytes refl (λ fits. fold-number_after (with_digit n byte) bytes fits)
+    number_from-cons (is_ascii_digit byte) (nat_le (with_digit n byte) 255) n byte bytes refl (λ fits. fold-number_after (with_digit n byte) bytes fits)
 
 abbrev number_by_steps : List ℕ → Option ℕ
 number_by_steps parameter = fold number_after (Some 0) parameter
@@ -74,18 +75,18 @@ number-decimal n fits =
     ∙ ap Some (omega arith))))
     n (omega arith) fits
 
-pub is_parameter_byte-digit : (d : ℕ) → d < 10 → is_parameter_byte (48 + d) ≡ true
-is_parameter_byte-digit d digit = grind (arith, nat_tests)
+pub is_numeric-digit : (d : ℕ) → d < 10 → is_numeric (48 + d) ≡ true
+is_numeric-digit d digit = grind (arith, nat_tests)
 
 -- the digits of a number are parameter bytes
-pub list_all-decimal : (n : ℕ) → n < 2 ^ 64 → list_all is_parameter_byte (decimal n) ≡ true
+pub list_all-decimal : (n : ℕ) → n < 2 ^ 64 → list_all is_numeric (decimal n) ≡ true
 list_all-decimal n fits =
-    decimal_by_steps (λ m digits. list_all is_parameter_byte digits ≡ true)
-    (λ m digit. ap (λ b. b && true) (is_parameter_byte-digit m digit))
+    decimal_by_steps (λ m digits. list_all is_numeric digits ≡ true)
+    (λ m digit. ap (λ b. b && true) (is_numeric-digit m digit))
     (λ m digits large all.
-    list_all-append is_parameter_byte digits ((48 + m % 10) ∷ [])
-    ∙ (ap (λ b. b && list_all is_parameter_byte ((48 + m % 10) ∷ [])) all
-    ∙ ap (λ b. b && true) (is_parameter_byte-digit (m % 10) (omega arith))))
+    list_all-append is_numeric digits ((48 + m % 10) ∷ [])
+    ∙ (ap (λ b. b && list_all is_numeric ((48 + m % 10) ∷ [])) all
+    ∙ ap (λ b. b && true) (is_numeric-digit (m % 10) (omega arith))))
     n fits
 
 pub is_semicolon-digit : (d : ℕ) → d < 10 → ((48 + d) == 59) ≡ false

@@ -16,7 +16,7 @@ use Rattle.ansi_scan_style.specs.declared.next.Layer.TheVariants.{Foreground, Ba
 use Rattle.ansi_scan_style.specs.declared.sequences.Parameters.{Parameters}
 use Rattle.ansi_scan_style.specs.declared.sequences.Parameters.TheVariants.{Code, Indexed, Direct}
 use Rattle.ansi_scan_style.specs.Attributes.{Attributes, after_code}
-use Rattle.ansi_scan_style.specs.Rendition.{is_parameter_byte, sgr_parameters, number, with_color, after_parameters, after_parameter_bytes, applied}
+use Rattle.ansi_scan_style.specs.Rendition.{is_numeric, sgr_parameters, number, with_color, after_parameters, after_parameter_bytes, applied}
 use Rattle.ansi_scan_style.specs.Sequences.{layer_code, parameter_bytes, sequence_bytes, sequence_if, sequences_of}
 
 -- the cut at each `;`
@@ -91,7 +91,7 @@ after_parameters-parameter_bytes a (Direct layer r g b) fits =
 -- `ESC [`, parameter bytes and `m` have these parameters
 sgr_parameters_of_parts : (bytes parameters : List ℕ) → 3 ≤ length bytes → slice_index bytes 0 ≡ 27 → slice_index bytes 1 ≡ 91
     → slice_index bytes (length bytes - 1) ≡ 109 → slice_range bytes 2 (length bytes - 1) ≡ parameters
-    → list_all is_parameter_byte parameters ≡ true → sgr_parameters bytes ≡ Some parameters
+    → list_all is_numeric parameters ≡ true → sgr_parameters bytes ≡ Some parameters
 sgr_parameters_of_parts bytes parameters long escape bracket last between all = grind (arith, nat_tests, common_steps)
 
 -- what stands between `ESC [` and `m`
@@ -101,22 +101,22 @@ slice_range-sequence parameters = grind (arith, common_steps)
 slice_index-sequence : (parameters : List ℕ) → slice_index (27 ∷ 91 ∷ (parameters ++ 109 ∷ [])) (length (27 ∷ 91 ∷ (parameters ++ 109 ∷ [])) - 1) ≡ 109
 slice_index-sequence parameters = grind (arith, common_steps)
 
-pub sgr_parameters-sequence : (parameters : List ℕ) → list_all is_parameter_byte parameters ≡ true → sgr_parameters (27 ∷ 91 ∷ (parameters ++ 109 ∷ [])) ≡ Some parameters
+pub sgr_parameters-sequence : (parameters : List ℕ) → list_all is_numeric parameters ≡ true → sgr_parameters (27 ∷ 91 ∷ (parameters ++ 109 ∷ [])) ≡ Some parameters
 sgr_parameters-sequence parameters all =
     sgr_parameters_of_parts (27 ∷ 91 ∷ (parameters ++ 109 ∷ [])) parameters
     (omega (arith, length-append parameters (109 ∷ []))) refl refl (slice_index-sequence parameters) (slice_range-sequence parameters) all
 
 -- the same of a number and what follows it
-all_of_number : (n : ℕ) (rest : List ℕ) → n < 256 → list_all is_parameter_byte rest ≡ true → list_all is_parameter_byte (decimal n ++ 59 ∷ rest) ≡ true
+all_of_number : (n : ℕ) (rest : List ℕ) → n < 256 → list_all is_numeric rest ≡ true → list_all is_numeric (decimal n ++ 59 ∷ rest) ≡ true
 all_of_number n rest fits all =
-    list_all-append is_parameter_byte (decimal n) (59 ∷ rest)
-    ∙ (ap (λ b. b && list_all is_parameter_byte rest) (list_all-decimal n (omega arith)) ∙ all)
+    list_all-append is_numeric (decimal n) (59 ∷ rest)
+    ∙ (ap (λ b. b && list_all is_numeric rest) (list_all-decimal n (omega arith)) ∙ all)
 
-all_of_layer : (layer : Layer) (rest : List ℕ) → list_all is_parameter_byte rest ≡ true → list_all is_parameter_byte (decimal (layer_code layer) ++ 59 ∷ rest) ≡ true
+all_of_layer : (layer : Layer) (rest : List ℕ) → list_all is_numeric rest ≡ true → list_all is_numeric (decimal (layer_code layer) ++ 59 ∷ rest) ≡ true
 all_of_layer layer rest all = all_of_number (layer_code layer) rest (layer_code_fits layer) all
 
 -- the bytes of parameters are parameter bytes
-list_all-parameter_bytes : (p : Parameters) → IsReadable p → list_all is_parameter_byte (parameter_bytes p) ≡ true
+list_all-parameter_bytes : (p : Parameters) → IsReadable p → list_all is_numeric (parameter_bytes p) ≡ true
 list_all-parameter_bytes (Code code) fits = let small : code < 256 = code_fits code fits in list_all-decimal code (omega arith)
 list_all-parameter_bytes (Indexed layer n) fits =
     all_of_layer layer (53 ∷ 59 ∷ decimal n) (list_all-decimal n (omega arith))

@@ -2,6 +2,8 @@
 -- and `m`.
 use Rattle.std.specs.Prelude.{ℕ, ◌+◌, ◌-◌, ◌*◌, Bool, ◌&&◌, Option, None, Some, List, map, fold, length, slice_index, slice_range, nat_le, ◌==◌, if◌then◌else◌}
 use Rattle.std.specs.List.{list_all, slice_split}
+use Rattle.std.specs.Int.{is_in_range}
+use Rattle.std.specs.Char.{is_ascii_digit}
 use Rattle.ansi_scan_style.specs.declared.color.AnsiColor.{AnsiColor}
 use Rattle.ansi_scan_style.specs.declared.color.AnsiColor.TheVariants.{Bit8, Bit24}
 use Rattle.ansi_scan_style.specs.declared.next.Layer.{Layer}
@@ -10,20 +12,17 @@ use Rattle.ansi_scan_style.specs.declared.next.Next.{Next}
 use Rattle.ansi_scan_style.specs.declared.next.Next.TheVariants.{Code, Form, Index, Red, Green, Blue, Nothing}
 use Rattle.ansi_scan_style.specs.Attributes.{Attributes, after_code}
 
--- a digit, `:` or `;`
-abbrev pub is_parameter_byte : ℕ → Bool
-is_parameter_byte byte = nat_le 0x30 byte && nat_le byte 0x3b
+-- a parameter byte that is a digit, `:` or `;`, 5.4.2
+abbrev pub is_numeric : ℕ → Bool
+is_numeric byte = is_in_range 0x30 0x3b byte
 
 -- what stands between `ESC [` and the `m` at the end, where these are parameter bytes
 abbrev pub sgr_parameters : List ℕ → Option (List ℕ)
 sgr_parameters bytes = let last = length bytes - 1 in
     if nat_le 3 (length bytes) && slice_index bytes 0 == 27 && slice_index bytes 1 == 91
-    && slice_index bytes last == 109 && list_all is_parameter_byte (slice_range bytes 2 last)
+    && slice_index bytes last == 109 && list_all is_numeric (slice_range bytes 2 last)
     then Some (slice_range bytes 2 last)
     else None
-
-abbrev pub is_digit : ℕ → Bool
-is_digit byte = nat_le 48 byte && nat_le byte 57
 
 -- the number with one digit more
 abbrev pub with_digit : ℕ → ℕ → ℕ
@@ -32,7 +31,7 @@ with_digit n digit = 10 * n + (digit - 48)
 -- the number of a parameter, 0 where it is empty; none where it holds a `:`, and none above 255
 abbrev pub number : List ℕ → Option ℕ
 number parameter = let n = fold with_digit 0 parameter in
-    if list_all is_digit parameter && nat_le n 255 then Some n else None
+    if list_all is_ascii_digit parameter && nat_le n 255 then Some n else None
 
 -- what comes after 38, 48 and 58, and after any other code
 abbrev pub next_after_code : ℕ → Next

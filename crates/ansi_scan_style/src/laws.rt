@@ -9,7 +9,7 @@ ghost use Rattle.ansi_scan_style.specs.declared.color.Color.TheVariants.{BrightP
 ghost use Rattle.ansi_scan_style.specs.declared.next.Layer.{Layer};
 ghost use Rattle.ansi_scan_style.specs.Attributes.{Attributes, IsRendition, after_code, plain_attributes};
 ghost use Rattle.ansi_scan_style.specs.Color.{color_of};
-ghost use Rattle.ansi_scan_style.specs.Rendition.{after_parameters, applied, is_parameter_byte, number, sgr_parameters};
+ghost use Rattle.ansi_scan_style.specs.Rendition.{after_parameters, applied, is_numeric, number, sgr_parameters};
 ghost use Rattle.ansi_scan_style.specs.ColorForms.{after_color, color_at_front, is_color_code};
 ghost use Rattle.ansi_scan_style.specs.Equality.{compared, equal};
 ghost use Rattle.ansi_scan_style.specs.Sequences.{layer_code, start_sequences, start_bytes, end_sequences, end_bytes};
@@ -62,7 +62,7 @@ pub fn sequences_give_renditions()
 
 /// A sequence with parameters is `ESC [`, these parameters, and `m`; other bytes change nothing.
 pub fn sequence_form()
-    ensures form { (bytes parameters : List ℕ) → (sgr_parameters bytes ≡ Some parameters) ↔ ((bytes ≡ 27 ∷ 91 ∷ (parameters ++ 109 ∷ [])) × IsTrue (list_all is_parameter_byte parameters)) }
+    ensures form { (bytes parameters : List ℕ) → (sgr_parameters bytes ≡ Some parameters) ↔ ((bytes ≡ 27 ∷ 91 ∷ (parameters ++ 109 ∷ [])) × IsTrue (list_all is_numeric parameters)) }
     ensures other { (a : Attributes) (bytes : List ℕ) → sgr_parameters bytes ≡ None → applied a bytes ≡ a }
 {}
 

@@ -2,7 +2,7 @@ ghost use Rattle.std.specs.Prelude.{◌≡◌, IsTrue};
 ghost use Rattle.std.specs.List.{list_all};
 ghost use Rattle.std.specs.Option.{option_copied};
 ghost use Rattle.ansi_scan_style.specs.Attributes.{Attributes, plain_attributes};
-ghost use Rattle.ansi_scan_style.specs.Rendition.{applied, is_parameter_byte, number, sgr_parameters};
+ghost use Rattle.ansi_scan_style.specs.Rendition.{applied, is_numeric, number, sgr_parameters};
 ghost use Rattle.ansi_scan_style.specs.Digits.{number_after};
 
 /// Whether the bytes are one of the two shortest sequences that clear everything, without or with
@@ -26,21 +26,21 @@ pub fn sgr_parameters(sequence: &[u8]) -> Option<&[u8]>
         return None;
     }
     let parameters = &sequence[2..last];
-    if !are_parameter_bytes(parameters) {
+    if !are_numeric(parameters) {
         return None;
     }
     Some(parameters)
 }
 
-fn are_parameter_bytes(bytes: &[u8]) -> bool
-    ensures { result ≡ list_all is_parameter_byte bytes.now }
+fn are_numeric(bytes: &[u8]) -> bool
+    ensures { result ≡ list_all is_numeric bytes.now }
 {
-    bytes.iter().all(|byte| is_parameter_byte(*byte))
+    bytes.iter().all(|byte| is_numeric(*byte))
 }
 
 // A digit, `:` or `;`.
-fn is_parameter_byte(byte: u8) -> bool
-    ensures { result ≡ is_parameter_byte byte }
+fn is_numeric(byte: u8) -> bool
+    ensures { result ≡ is_numeric byte }
 {
     0x30 <= byte && byte <= 0x3b
 }

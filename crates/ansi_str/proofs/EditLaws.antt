@@ -10,7 +10,7 @@ use Rattle.ansi_str.specs.StyledText.{strip}
 use Rattle.ansi_str.specs.Keeping.{IsTrimmed, IsTrimmedAt, kept}
 use Rattle.ansi_str.specs.Matches.{split_bounds, styled_parts}
 use Rattle.ansi_str.specs.Edits.{AreParts, FailsOf, LeavesOf, TakesTo, FailsAt, TakeInTurn, OneFails}
-use Rattle.ansi_str.proofs.MatchLists.{AreMatches-unique}
+use Rattle.ansi_str_search.proofs.MatchLists.{AreMatches-unique}
 
 -- ---- one text
 

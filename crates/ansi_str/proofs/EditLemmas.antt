@@ -15,7 +15,7 @@ use Rattle.ansi_str.specs.Cuts.{AreGoodBounds, cut_part}
 use Rattle.ansi_str.specs.Splitting.{PartsLeft, GivesPart}
 use Rattle.ansi_str.specs.Matches.{AreMatches, split_bounds, styled_parts}
 use Rattle.ansi_str.specs.Edits.{AreParts, FailsOf, LeavesOf, TakesTo, TakeInTurn, OneFails}
-use Rattle.ansi_str.proofs.MatchLists.{matches_from, AreMatches-found}
+use Rattle.ansi_str_search.proofs.MatchLists.{matches_from, AreMatches-found}
 
 -- what is said of all pieces of a text is said of its pieces
 pub at_pieces : {T E : Type 0} (text : List ℕ) (P : T → List Piece → Type 0) (r : Result T E) → IfOk r (λ found. (ps : List Piece) → ArePiecesOf text ps → P found ps) → IfOk r (λ found. P found (pieces text))

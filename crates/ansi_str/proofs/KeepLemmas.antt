@@ -15,8 +15,8 @@ use Rattle.ansi_scan.proofs.Uniqueness.{pieces-joined}
 use Rattle.ansi_str.specs.StyledText.{has_escape, text_of, strip}
 use Rattle.ansi_str.specs.Parts.{taken_piece, taken}
 use Rattle.ansi_str.specs.Keeping.{kept}
-use Rattle.ansi_str.proofs.PartLemmas.{text_of-text, text_of-sequence, taken_piece-text, taken_piece-sequence}
-use Rattle.ansi_str.proofs.Utf8Lemmas.{EachUtf8, EachUtf8-pieces, IsUtf8-joined, IsUtf8-strip, boundary-first, boundary-second}
+use Rattle.ansi_str_search.proofs.PartLemmas.{text_of-text, text_of-sequence, taken_piece-text, taken_piece-sequence}
+use Rattle.ansi_str_search.proofs.Utf8Lemmas.{EachUtf8, EachUtf8-pieces, IsUtf8-joined, IsUtf8-strip, boundary-first, boundary-second}
 
 abbrev every : ℕ → List Piece → ℕ → ℕ → List ℕ
 every place ps a b = taken (λ _. true) a b place ps

@@ -10,10 +10,10 @@ use Rattle.ansi_scan.proofs.Uniqueness.{ArePiecesOf-unique}
 use Rattle.ansi_str.specs.StyledText.{text_of, strip}
 use Rattle.ansi_str.specs.Parts.{taken_piece, taken}
 use Rattle.ansi_str.specs.Keeping.{kept, sequences_among}
-use Rattle.ansi_str.proofs.PartLemmas.{text_of-text, text_of-sequence, taken_piece-text, taken_piece-sequence}
-use Rattle.ansi_str.proofs.PlaceLemmas.{list_all-drop}
-use Rattle.ansi_str.proofs.DressedLemmas.{Stands-before, list_all-take, other_kind}
-use Rattle.ansi_str.proofs.MergeLemmas.{slice_both}
+use Rattle.ansi_str_search.proofs.PartLemmas.{text_of-text, text_of-sequence, taken_piece-text, taken_piece-sequence}
+use Rattle.ansi_str_search.proofs.PlaceLemmas.{list_all-drop}
+use Rattle.ansi_str_search.proofs.DressedLemmas.{Stands-before, list_all-take, other_kind}
+use Rattle.ansi_str_search.proofs.MergeLemmas.{slice_both}
 use Rattle.ansi_str.proofs.KeepLemmas.{empty_slice}
 
 -- a piece of text, where that is not empty

@@ -10,9 +10,9 @@ use Rattle.ansi_scan.proofs.Existence.{ArePiecesOf-pieces}
 use Rattle.ansi_str.specs.StyledText.{strip}
 use Rattle.ansi_str.specs.Parts.{from_place}
 use Rattle.ansi_str.specs.Cuts.{AreBreaks}
-use Rattle.ansi_str.proofs.PlaceLemmas.{strip-from}
-use Rattle.ansi_str.proofs.Utf8Lemmas.{EachUtf8-from, EachUtf8-pieces, IsUtf8-joined, boundary-from}
-use Rattle.ansi_str.proofs.PlaceSums.{from-from}
+use Rattle.ansi_str_search.proofs.PlaceLemmas.{strip-from}
+use Rattle.ansi_str_search.proofs.Utf8Lemmas.{EachUtf8-from, EachUtf8-pieces, IsUtf8-joined, boundary-from}
+use Rattle.ansi_str_search.proofs.PlaceSums.{from-from}
 use Rattle.ansi_str.proofs.BreakSteps.{rise-tail}
 
 -- each place is a boundary, and behind the one before it, the first behind `from`

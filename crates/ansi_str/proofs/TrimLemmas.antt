@@ -13,8 +13,8 @@ use Rattle.ansi_scan.specs.Pieces.{pieces}
 use Rattle.ansi_str.specs.StyledText.{strip}
 use Rattle.ansi_str.specs.Searches.{BeginsWith}
 use Rattle.ansi_str.specs.Keeping.{IsTrimmed, IsTrimmedAt, kept}
-use Rattle.ansi_str.proofs.SearchLemmas.{of_pieces}
-use Rattle.ansi_str.proofs.MatchLemmas.{Occurs-ends}
+use Rattle.ansi_str_search.proofs.SearchLemmas.{of_pieces}
+use Rattle.ansi_str_search.proofs.MatchLemmas.{Occurs-ends}
 
 -- a text can be cut behind a prefix
 pub begins-cut : (p text : List ℕ) → IsUtf8 p → IsUtf8 text → BeginsWith p text → IsCharBoundary text (length p)

@@ -5,8 +5,7 @@ ghost use Rattle.ansi_scan.specs.Sequences.{Piece, ArePiecesOf};
 ghost use Rattle.ansi_str.specs.StyledText.{has_escape, strip};
 ghost use Rattle.ansi_str.specs.Cuts.{AreBreaks, IsGoodBound, parts_at};
 
-use crate::places::Place;
-use crate::search::behind_place;
+use ansi_str_search::{Place, behind_place};
 use std::alloc::{AllocError, Global};
 use std::borrow::CowStr;
 

@@ -9,10 +9,9 @@ ghost use Rattle.ansi_str.specs.Parts.{before_place};
 ghost use Rattle.ansi_str.specs.Walking.{sequences};
 ghost use Rattle.ansi_str.specs.Cuts.{AreGoodBounds, IsGoodBound, cut_part};
 
-use crate::places::{Place, behind_item, front, split_item, text_len};
 use crate::ranges::AnsiRange;
-use crate::strip::has_escape;
 use ansi_scan::{Kind, Style};
+use ansi_str_search::{Place, behind_item, front, has_escape, split_item, text_len};
 use std::alloc::{AllocError, Global};
 use std::borrow::CowStr;
 

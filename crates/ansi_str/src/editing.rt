@@ -7,8 +7,8 @@ ghost use Rattle.ansi_str.specs.Edits.{FailsOf, LeavesOf, OneFails, TakeInTurn};
 use crate::breaks::split_at;
 use crate::cut::{get, is_good_bound};
 use crate::edits::Edit;
-use crate::split::AnsiSplit;
 use crate::trim::{strip_prefix, strip_suffix, trim};
+use ansi_str_search::AnsiSplit;
 use std::alloc::{AllocError, Global};
 use std::borrow::CowStr;
 

@@ -6,24 +6,17 @@ mod cut;
 mod editing;
 mod edits;
 pub mod laws;
-mod matches;
-mod places;
 mod ranges;
-mod rest;
-mod search;
-mod split;
-mod strip;
-mod stripped;
 mod text;
 mod trim;
 
+pub use ansi_str_search::AnsiSplit;
 pub use ansi_str_text::{AnsiBlock, AnsiBlockIter, StrippedChars, get_blocks, stripped_chars};
 pub use breaks::{are_places, split_places};
 pub use cut::is_good_range;
 pub use editing::edit;
 pub use edits::Edit;
 pub use ranges::AnsiRange;
-pub use split::AnsiSplit;
 pub use text::AnsiStr;
 
 #[cfg(test)]

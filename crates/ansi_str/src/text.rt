@@ -10,10 +10,11 @@ ghost use Rattle.ansi_str.specs.Keeping.{IsTrimmed, without_end, without_front};
 ghost use Rattle.ansi_str.specs.Cuts.{AreGoodBounds, IsGoodBound, cut_part, parts_at};
 
 use crate::ranges::AnsiRange;
-use crate::split::AnsiSplit;
-use crate::strip::{has_escape, joined_texts};
-use crate::{breaks, cut, search, trim};
+use crate::{breaks, cut, trim};
 use ansi_scan::is_whole;
+use ansi_str_search::{
+    AnsiSplit, ends_with, find, has_escape, is_char_boundary, starts_with, strip_text,
+};
 use std::alloc::{AllocError, Global};
 use std::borrow::CowStr;
 
@@ -182,19 +183,19 @@ impl AnsiStr for &str {
     }
 
     fn ansi_is_char_boundary(&self, index: usize) -> bool {
-        search::is_char_boundary(self, index)
+        is_char_boundary(self, index)
     }
 
     fn ansi_starts_with(&self, pattern: &str) -> bool {
-        search::starts_with(self, pattern)
+        starts_with(self, pattern)
     }
 
     fn ansi_ends_with(&self, pattern: &str) -> bool {
-        search::ends_with(self, pattern)
+        ends_with(self, pattern)
     }
 
     fn ansi_find(&self, pattern: &str) -> Option<usize> {
-        search::find(self, pattern)
+        find(self, pattern)
     }
 
     fn ansi_strip_prefix(
@@ -258,19 +259,19 @@ impl AnsiStr for String {
     }
 
     fn ansi_is_char_boundary(&self, index: usize) -> bool {
-        search::is_char_boundary(self.as_str(), index)
+        is_char_boundary(self.as_str(), index)
     }
 
     fn ansi_starts_with(&self, pattern: &str) -> bool {
-        search::starts_with(self.as_str(), pattern)
+        starts_with(self.as_str(), pattern)
     }
 
     fn ansi_ends_with(&self, pattern: &str) -> bool {
-        search::ends_with(self.as_str(), pattern)
+        ends_with(self.as_str(), pattern)
     }
 
     fn ansi_find(&self, pattern: &str) -> Option<usize> {
-        search::find(self.as_str(), pattern)
+        find(self.as_str(), pattern)
     }
 
     fn ansi_strip_prefix(
@@ -300,16 +301,4 @@ impl AnsiStr for String {
     fn ansi_is_whole(&self) -> bool {
         is_whole(self.as_str())
     }
-}
-
-/// The text without its sequences.
-pub(crate) fn strip_text<'a>(alloc: Global, text: &'a str) -> Result<CowStr<'a>, AllocError>
-    ensures strips { IfOk result (λ out. (pieces : List Piece) → ArePiecesOf text.now pieces → cow_str_bytes out ≡ strip pieces) }
-    ensures answers { has_escape text.now ≡ false → IsOk result }
-    ensures borrows { IfOk result (λ out. IsOwnedStr out → IsTrue (has_escape text.now)) }
-{
-    if !has_escape(text) {
-        return Ok(CowStr::Borrowed(text));
-    }
-    Ok(CowStr::Owned(joined_texts(alloc, text)?))
 }

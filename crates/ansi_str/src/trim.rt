@@ -8,11 +8,8 @@ ghost use Rattle.ansi_str.specs.StyledText.{has_escape, strip};
 ghost use Rattle.ansi_str.specs.Searches.{BeginsWith, EndsWith};
 ghost use Rattle.ansi_str.specs.Keeping.{IsTrimmed, IsTrimmedAt, kept, without_end, without_front};
 
-use crate::places::split_item;
-use crate::search::{find_end, starts_with};
-use crate::strip::has_escape;
-use crate::text::strip_text;
 use ansi_scan::Kind;
+use ansi_str_search::{find_end, has_escape, split_item, starts_with, strip_text};
 use std::alloc::{AllocError, Global};
 use std::borrow::CowStr;
 

@@ -6,7 +6,8 @@ use Rattle.std.proofs.lemmas.Bool.{and_parts}
 use Rattle.std.proofs.lemmas.Bool.Decides.{nat_tests}
 use Rattle.ansi_scan.specs.declared.items.Kind.{Kind}
 use Rattle.ansi_scan.specs.declared.items.Kind.TheVariants.{Text, Sgr, Csi, Osc, Esc, Str, Broken}
-use Rattle.ansi_scan.specs.Sequences.{escape, bell, string_terminator, is_plain, is_parameter, is_intermediate, is_final, is_numeric, is_escape_final, is_string_byte, is_command_byte, opens_string, HasForm}
+use Rattle.ansi_scan.specs.Sequences.{escape, bell, string_terminator, is_plain, is_parameter, is_intermediate, is_final, is_escape_final, is_string_byte, is_command_byte, opens_string, HasForm}
+use Rattle.ansi_scan.specs.Rendition.{is_numeric}
 use Rattle.ansi_scan.proofs.Joins.{list_all-append}
 use Rattle.ansi_str_text.specs.Cutting.{IsOpenString}
 

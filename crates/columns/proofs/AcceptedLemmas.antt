@@ -9,7 +9,7 @@ use Rattle.ansi_scan.proofs.Existence.{ArePiecesOf-pieces}
 use Rattle.ansi_scan.proofs.Uniqueness.{pieces-ArePiecesOf}
 use Rattle.ansi_str.specs.StyledText.{has_escape, strip}
 use Rattle.ansi_str_text.proofs.Stripping.{has_escape-strip, strip-without_escape}
-use Rattle.ansi_str.proofs.RestLemmas.{no_escape-behind}
+use Rattle.ansi_str_search.proofs.RestLemmas.{no_escape-behind}
 use Rattle.columns.specs.Layout.{TotalsFit, grid_of, character_rows, TableFits}
 use Rattle.columns.specs.Rows.{stripped}
 use Rattle.columns.specs.Run.{HasTable}

@@ -11,10 +11,11 @@ use Rattle.grid_config.specs.Compact.{Compact}
 use Rattle.grid_config_values.specs.declared.borders.Borders.{Borders as SetBorders}
 use Rattle.grid_config_spans.specs.Spans.{extent_at}
 use Rattle.grid_config_values.specs.Glyphs.{BoundaryKind, First, Between, Last, boundary_count, boundary_kind, has_column_boundary, has_row_boundary}
+use Rattle.grid_records_measure.specs.TextLines.{text_height, text_width}
 use Rattle.grid_records_estimate.specs.Collecting.{PassesMax}
 use Rattle.grid_records_estimate.specs.Estimates.{track_sizes}
 use Rattle.grid_records_estimate.specs.Sizes.{table_heights, table_widths}
-use Rattle.grid_records_estimate.specs.Sizing.{Sizing, compact_sizing, text_height, text_width}
+use Rattle.grid_records_estimate.specs.Sizing.{Sizing, compact_sizing}
 use Rattle.grid_records_estimate.specs.Sizing.{column_axis as columns_of_table, row_axis as rows_of_table}
 use Rattle.grid_records_estimate.proofs.SizeLemmas.{total-passes}
 use Rattle.columns.specs.Estimates.{Line, empty_line, cell_at, cell_width, column_axis, column_count, column_widths, greatest, row_axis, row_heights}

@@ -9,8 +9,8 @@ use Rattle.ansi_scan.specs.Pieces.{pieces}
 use Rattle.ansi_scan.proofs.Existence.{ArePiecesOf-pieces}
 use Rattle.ansi_scan.proofs.Uniqueness.{pieces-ArePiecesOf}
 use Rattle.ansi_str.specs.StyledText.{strip}
-use Rattle.ansi_str.proofs.AllParts.{strip-styled_parts}
-use Rattle.ansi_str.proofs.StdSplits.{split_at_one_byte}
+use Rattle.ansi_str_search.proofs.AllParts.{strip-styled_parts}
+use Rattle.ansi_str_search.proofs.StdSplits.{split_at_one_byte}
 use Rattle.grid_records_measure.specs.TextLines.{is_line_feed, line_feed, widest}
 use Rattle.grid_records_rows.specs.Cells.{HasLineCount, HasWidth}
 use Rattle.columns.specs.Estimates.{Line}

@@ -9,7 +9,8 @@ use Rattle.std.proofs.lemmas.List.Folds.{list_all-append}
 use Rattle.std.proofs.lemmas.List.{drop_more, drop_all, take_all, take_more, get_or-drop}
 use Rattle.columns.specs.Rows.{line_feed, tab, rows_of}
 use Rattle.columns.specs.Estimates.{Line}
-use Rattle.columns.specs.Printing.{byte_line, cut, is_plain}
+use Rattle.columns.specs.Printing.{byte_line, cut}
+use Rattle.grid_records_measure.specs.Measures.{are_printable}
 use Rattle.columns.proofs.RowLemmas.{rows_from-start, rows_with, rows_with-tab, rows_with-line_feed, rows_with-other, rows_with-last, rows_with-none, sum-more}
 
 -- before the byte at `end`: the present cell begins at `start`, and `count` cells of the present row stand before it;
@@ -18,7 +19,7 @@ pub record Pass (text : List ℕ) (end start count : ℕ) (plain : Bool) (counts
   pub ordered : start ≤ end
   pub few : count ≤ start
   pub boundary : IsCharBoundary text start
-  pub printable : plain ≡ true → is_plain (slice_range text start end) ≡ true
+  pub printable : plain ≡ true → are_printable (slice_range text start end) ≡ true
   pub whole : sum counts + count ≡ length lines
   pub rows : rows_with byte_line counts lines (slice_range text start end) (drop end text) ≡ map (map byte_line) (rows_of (λ b. b) text)
 
@@ -44,7 +45,7 @@ Pass-start text utf8 = record {
   ordered = omega arith;
   few = omega arith;
   boundary = IsCharBoundary-start text utf8;
-  printable = λ _. ap is_plain (cell-empty text 0);
+  printable = λ _. ap are_printable (cell-empty text 0);
   whole = refl;
   rows = rows_from-start byte_line text;
 }
@@ -61,7 +62,7 @@ Pass-tab text end start count plain counts lines pushed utf8 below pass same is 
       ordered = omega arith;
       few = omega arith;
       boundary = IsCharBoundary-after_ascii text end utf8 below ascii;
-      printable = λ _. ap is_plain (cell-empty text (end + 1));
+      printable = λ _. ap are_printable (cell-empty text (end + 1));
       whole = omega (arith, ap length is, length-append lines (byte_line cell ∷ []));
       rows =
           ap (λ lines. rows_with byte_line counts lines (slice_range text (end + 1) (end + 1)) (drop (end + 1) text)) is
@@ -80,7 +81,7 @@ Pass-line_feed text end start count plain counts ended lines pushed utf8 below p
       ordered = omega arith;
       few = omega arith;
       boundary = IsCharBoundary-after_ascii text end utf8 below ascii;
-      printable = λ _. ap is_plain (cell-empty text (end + 1));
+      printable = λ _. ap are_printable (cell-empty text (end + 1));
       whole = omega (arith, ap length is, length-append lines (byte_line cell ∷ []), ap sum ends, sum-more counts (count + 1));
       rows =
           ap (λ lines. rows_with byte_line ended lines (slice_range text (end + 1) (end + 1)) (drop (end + 1) text)) is
@@ -93,7 +94,7 @@ Pass-line_feed text end start count plain counts ended lines pushed utf8 below p
 
 -- a byte within the present cell
 Pass-within : (text : List ℕ) (end start count : ℕ) (plain still_plain : Bool) (counts : List ℕ) (lines : List (Line ℕ)) → end < length text → Pass text end start count plain counts lines
-    → (get_or text end 0 ≡ tab → ⊥) → (get_or text end 0 ≡ line_feed → ⊥) → (still_plain ≡ true → is_plain (slice_range text start end ++ get_or text end 0 ∷ []) ≡ true)
+    → (get_or text end 0 ≡ tab → ⊥) → (get_or text end 0 ≡ line_feed → ⊥) → (still_plain ≡ true → are_printable (slice_range text start end ++ get_or text end 0 ∷ []) ≡ true)
     → Pass text (end + 1) start count still_plain counts lines
 Pass-within text end start count plain still_plain counts lines below pass no_tab no_line_feed printable =
     let cell = slice_range text start end in
@@ -102,7 +103,7 @@ Pass-within text end start count plain still_plain counts lines below pass no_ta
       ordered = omega arith;
       few = pass.few;
       boundary = pass.boundary;
-      printable = λ h. ap is_plain (sym longer) ∙ printable h;
+      printable = λ h. ap are_printable (sym longer) ∙ printable h;
       whole = pass.whole;
       rows =
           ap (λ bytes. rows_with byte_line counts lines bytes (drop (end + 1) text)) (sym longer)
@@ -121,7 +122,7 @@ Pass-printable text end start count plain counts lines below pass here =
     let byte = get_or text end 0 in
     let above : line_feed < byte = above_line_feed byte here in
     Pass-within text end start count plain plain counts lines below pass (λ is_tab. omega arith) (λ is_line_feed. omega arith) (λ h.
-    list_all-append (is_in_range 0x20 0x7E) cell (byte ∷ []) ∙ ap (λ b. b && is_plain (byte ∷ [])) (pass.printable h) ∙ ap (λ b. b && true) here)
+    list_all-append (is_in_range 0x20 0x7E) cell (byte ∷ []) ∙ ap (λ b. b && are_printable (byte ∷ [])) (pass.printable h) ∙ ap (λ b. b && true) here)
 
 pub Pass-other : (text : List ℕ) (end start count : ℕ) (plain : Bool) (counts : List ℕ) (lines : List (Line ℕ)) → end < length text → Pass text end start count plain counts lines
     → (get_or text end 0 ≡ tab → ⊥) → (get_or text end 0 ≡ line_feed → ⊥) → Pass text (end + 1) start count false counts lines

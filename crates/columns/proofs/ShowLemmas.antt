@@ -14,7 +14,7 @@ use Rattle.ansi_scan.proofs.Existence.{ArePiecesOf-pieces}
 use Rattle.ansi_scan.proofs.Uniqueness.{ArePiecesOf-unique}
 use Rattle.ansi_scan.proofs.Joins.{ArePiecesOf-append, NoneBroken-put_all_before}
 use Rattle.ansi_str.specs.StyledText.{shown, text_of, strip, style_by, style_after, style_after_all, styled_from, styled, IsClosed}
-use Rattle.ansi_str.proofs.Utf8Lemmas.{EachUtf8-pieces, IsUtf8-text_of}
+use Rattle.ansi_str_search.proofs.Utf8Lemmas.{EachUtf8-pieces, IsUtf8-text_of}
 use Rattle.columns.specs.Rows.{stripped}
 use Rattle.columns.specs.Layout.{plain, characters_of}
 use Rattle.columns.proofs.ItemLemmas.{AllByRecursion-keeps}

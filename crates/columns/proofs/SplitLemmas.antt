@@ -11,8 +11,8 @@ use Rattle.ansi_scan.proofs.Uniqueness.{ArePiecesOf-unique}
 use Rattle.ansi_scan.specs.Attributes.{Attributes}
 use Rattle.ansi_str.specs.StyledText.{IsClosed, styled}
 use Rattle.ansi_str.specs.Lines.{IsClosedText}
-use Rattle.ansi_str.proofs.Utf8Lemmas.{All-closed, All-utf8}
-use Rattle.ansi_str.proofs.CutLemmas.{shown-parts}
+use Rattle.ansi_str_search.proofs.Utf8Lemmas.{All-closed, All-utf8}
+use Rattle.ansi_str_search.proofs.CutLemmas.{shown-parts}
 use Rattle.columns.specs.Rows.{stripped, places, parts_at}
 use Rattle.columns.proofs.PlaceLemmas.{AreMatches-places}
 

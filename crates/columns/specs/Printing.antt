@@ -2,8 +2,7 @@
 -- is proved in `proofs/PrintingLemmas`.
 use Rattle.std.specs.Prelude.{◌<◌, ℕ, ◌-◌, ◌≤◌, Bool, ◌==◌, false, List, [], ◌∷◌, ◌++◌, map, flat_map, length, take, drop, replicate, slice_index, slice_index_or, vec_items, chars}
 use Rattle.std.specs.Borrow.{Bor}
-use Rattle.std.specs.Int.{is_in_range}
-use Rattle.std.specs.List.{range_with_len, list_all}
+use Rattle.std.specs.List.{range_with_len}
 use Rattle.columns.specs.Rows.{stripped, cell_parts}
 use Rattle.grid_records_measure.specs.Measures.{measure}
 use Rattle.columns.specs.Estimates.{Line, column_widths, empty_line}
@@ -36,10 +35,6 @@ abbrev pub last_is_bare : List (List ℕ) → Bool
 last_is_bare [] = false
 last_is_bare (part ∷ []) = length (stripped part) == 0
 last_is_bare (part ∷ next ∷ parts) = last_is_bare (next ∷ parts)
-
--- each byte is a printable ASCII character, which takes one column
-abbrev pub is_plain : List ℕ → Bool
-is_plain bytes = list_all (is_in_range 0x20 0x7E) bytes
 
 -- a list in pieces of these lengths
 abbrev pub cut : {X : Type 0} → List ℕ → List X → List (List X)

@@ -1,5 +1,5 @@
 //! The table of a text.
-ghost use Rattle.std.specs.Prelude.{◌≡◌, false, sum, vec_len, IfOk, OnOk, IsErrOf, string_bytes};
+ghost use Rattle.std.specs.Prelude.{◌≡◌, ◌↔◌, false, sum, vec_len, IfOk, OnOk, IsErrOf, string_bytes};
 ghost use Rattle.ansi_scan.specs.Sequences.{IsWhole};
 ghost use Rattle.ansi_str.specs.StyledText.{has_escape};
 ghost use Rattle.columns.specs.Layout.{output_of, TableFits};
@@ -31,12 +31,12 @@ impl From<AllocError> for LayoutFault {
     }
 }
 
-/// Estimates are refused for these two reasons alone.
+/// Estimates are refused for these two reasons alone: what is not out of range wants memory.
 impl From<Fault> for LayoutFault {
     ghost use Rattle.grid_config_values.specs.declared.fault.Fault.TheVariants.{Range as SizeRange};
     ghost use Rattle.columns.specs.declared.layout.LayoutFault.TheVariants.{Range};
 
-    ghost from_gives = { λ given fault. fault ≡ Range → given ≡ SizeRange };
+    ghost from_gives = { λ given fault. (fault ≡ Range) ↔ (given ≡ SizeRange) };
 
     fn from(fault: Fault) -> LayoutFault {
         match fault {

@@ -35,7 +35,8 @@ pub fn grid_text(
     Ok(text)
 }
 
-/// A boundary line.
+/// A boundary line. It is apart from the way of every row, since it is made once.
+#[inline(never)]
 fn border_text(alloc: Global, contents: &[usize]) -> Result<String, AllocError>
     ensures { IfOk result (λ text. string_bytes text ≡ border_text contents.now) }
 {

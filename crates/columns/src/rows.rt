@@ -2,7 +2,8 @@
 ghost use Rattle.std.specs.Prelude.{◌≡◌, [], ◌∷◌, ◌++◌, map, sum, vec_len, IfOk, OnOk, IsTrue, chars};
 ghost use Rattle.std.specs.Int.{is_in_range};
 ghost use Rattle.columns.specs.Rows.{rows_of};
-ghost use Rattle.columns.specs.Printing.{shown, byte_line, is_plain, rows_shown};
+ghost use Rattle.columns.specs.Printing.{shown, byte_line, rows_shown};
+ghost use Rattle.grid_records_measure.specs.Measures.{are_printable};
 
 use grid_records_measure::get_string_width;
 use std::alloc::{AllocError, Global};
@@ -65,7 +66,7 @@ fn is_printable(byte: u8) -> bool
 
 /// Appends a cell, measured. Where it is `plain`, it has printable ASCII alone, and a byte takes a column.
 fn push_cell<'a>(cells: &mut Vec<Cell<'a>>, text: &'a str, plain: bool) -> Result<(), AllocError>
-    requires { IsTrue plain → IsTrue (is_plain text.now) }
+    requires { IsTrue plain → IsTrue (are_printable text.now) }
     ensures { OnOk result (map shown cells.new.items ≡ map shown cells.old.items ++ byte_line text.now ∷ []) }
 {
     let width = if plain {

@@ -1,6 +1,7 @@
 //! How wide and how high a table is, by the estimates of records.
 ghost use Rattle.std.specs.Prelude.{◌≡◌, ◌-◌, ◌^◌, ◌<◌, ◌≤◌, ◌⊎◌, All, IfErr, IfOk, OnOk, map, sum, vec_len};
 ghost use Rattle.grid_config.specs.Compact.{compact_of};
+ghost use Rattle.grid_config_values.specs.declared.fault.Fault.TheVariants.{Range};
 ghost use Rattle.grid_records_estimate.specs.Sizes.{IsRefusal};
 ghost use Rattle.columns.specs.Estimates.{column_widths, greatest};
 ghost use Rattle.columns.specs.Glyphs.{ascii};
@@ -42,12 +43,12 @@ pub fn sizes_of(alloc: Global, rows: &Rows<'_>) -> Result<Sizes, Fault>
 }
 
 /// The sizes with how much the widths and heights take together. Refused as `Range` where either passes
-/// `usize::MAX`.
+/// `usize::MAX`. Takes no memory.
 fn totalled(widths: Vec<usize>, heights: &[usize], borders: &Borders<char>) -> Result<Sizes, Fault>
     requires { borders.now ≡ all_set ascii }
     ensures widths { IfOk result (λ sizes. sizes.widths.items ≡ widths.items) }
     ensures fits { OnOk result (total widths.items < 2 ^ 64 × total heights.now < 2 ^ 64) }
-    ensures refused { IfErr result (λ fault. IsRefusal fault ((2 ^ 64 ≤ total widths.items) ⊎ (2 ^ 64 ≤ total heights.now))) }
+    ensures refused { IfErr result (λ fault. (fault ≡ Range) × ((2 ^ 64 ≤ total widths.items) ⊎ (2 ^ 64 ≤ total heights.now))) }
 {
     let boundaries = borders.count_vertical(widths.len());
     let width = match total(&widths, boundaries, 0, 0) {

@@ -188,26 +188,35 @@ resized old new n track same low high k below = step (cases_lt k n) where
   step (inl h) = low k 0 below h
   step (inr h) = let past : length old ≤ k = omega arith in high k 0 h below ∙ sym (get_or_past old k 0 past)
 
-finished-in : (axis : Axis) (between : Bool) (collected : Collected) (start : List ℕ) (others : List Need) (tracks : ℕ) → axis.tracks ≡ tracks
-    → Describes axis tracks between collected → AreSound collected.others → AreFirstBelow tracks collected.others
+finished-in : (axis : Axis) (between : Bool) (collected : Collected) (start : List ℕ) (others : List Need) (tracks crossings : ℕ) → (crossings ≡ 0 → ⊥) → axis.tracks ≡ tracks
+    → Describes axis tracks crossings between collected → AreSound collected.others → AreFirstBelow tracks collected.others
     → IsPermutation (map (clipped tracks) collected.others) others → IsSorted order.cmp others → length start ≡ tracks
     → ((k : ℕ) → k < tracks → get_or start k 0 ≡ get_or collected.sizes k 0)
     → fold (meet axis.has_boundary) start others ≡ track_sizes axis
-finished-in axis between collected start others tracks same =
-    let P : ℕ → Type 0 = λ n. Describes axis n between collected → AreSound collected.others → AreFirstBelow n collected.others
+finished-in axis between collected start others tracks crossings some same =
+    let P : ℕ → Type 0 = λ n. Describes axis n crossings between collected → AreSound collected.others → AreFirstBelow n collected.others
     → IsPermutation (map (clipped n) collected.others) others → IsSorted order.cmp others → length start ≡ n
     → ((k : ℕ) → k < n → get_or start k 0 ≡ get_or collected.sizes k 0)
     → fold (meet axis.has_boundary) start others ≡ track_sizes axis in
     subst P same (λ d sound below moved sorted long given.
-    finished axis collected d.needs others d.kept d.all moved start d.crossed long given (Sorted-from_sort others sorted)
+    let crossed : 0 < axis.crossings = omega (arith, d.crossings_are) in
+    finished axis collected d.needs others d.kept d.all moved start crossed long given (Sorted-from_sort others sorted)
     (Each-map (λ need. IsInside axis.tracks need × (need.first < axis.tracks)) (λ need. (0 < need.length) × (need.first < axis.tracks))
     (λ need p. (p.0.some, p.1)) others (ordered-ready axis.tracks collected.others others sound below moved)))
 
 -- the sizes that are met, where what was collected describes a table
-pub sizes-finished : (axis : Axis) (tracks : ℕ) (between : Bool) (collected : Collected) (start : List ℕ) (others : List Need) (n : ℕ)
-    → Describes axis tracks between collected → AreSound collected.others → AreFirstBelow tracks collected.others
+pub sizes-finished : (axis : Axis) (tracks crossings : ℕ) (between : Bool) (collected : Collected) (start sizes : List ℕ) (others needs : List Need) (n : ℕ)
+    → sizes ≡ start → needs ≡ others
+    → (crossings ≡ 0 → ⊥) → Describes axis tracks crossings between collected → AreSound collected.others → AreFirstBelow tracks collected.others
     → IsPermutation (map (clipped tracks) collected.others) others → IsSorted order.cmp others → length start ≡ tracks → length collected.sizes ≡ n
     → ((k d : ℕ) → k < tracks → k < n → get_or start k d ≡ get_or collected.sizes k d) → ((k d : ℕ) → n ≤ k → k < tracks → get_or start k d ≡ 0)
-    → fold (meet axis.has_boundary) start others ≡ track_sizes axis
-sizes-finished axis tracks between collected start others n d sound below moved sorted long was low high =
-    finished-in axis between collected start others tracks d.tracks_are d sound below moved sorted long (resized collected.sizes start n tracks was low high)
+    → fold (meet axis.has_boundary) sizes needs ≡ track_sizes axis
+sizes-finished axis tracks crossings between collected start sizes others needs n same met some d sound below moved sorted long was low high =
+    ap (λ xs. fold (meet axis.has_boundary) xs needs) same ∙ ap (λ xs. fold (meet axis.has_boundary) start xs) met ∙
+    finished-in axis between collected start others tracks crossings some d.tracks_are d sound below moved sorted long (resized collected.sizes start n tracks was low high)
+
+-- ---- tracks that nothing crosses
+
+pub not_crossed : (axis : Axis) → axis.crossings ≡ 0 → track_sizes axis ≡ []
+unfolding track_sizes
+not_crossed axis e = let test : (axis.crossings == 0) ≡ true = grind (arith, nat_tests) in rw test refl

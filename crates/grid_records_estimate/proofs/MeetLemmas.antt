@@ -1,8 +1,9 @@
 -- One need met, and one after the other.
-use Rattle.std.proofs.Common.{◌≡◌, ℕ, zero, suc, ◌+◌, ◌-◌, ◌^◌, ◌<◌, ◌≤◌, Bool, true, false, if◌then◌else◌, List, [], ◌∷◌, ◌++◌, length, sum, take, drop, get_or, refl, ap, sym, ◌∙◌, subst, arith, fold, Result, Ok, Err, OnOk, OnErr}
+use Rattle.std.proofs.Common.{◌≡◌, ℕ, zero, suc, ◌+◌, ◌-◌, ◌^◌, ◌<◌, ◌≤◌, Bool, true, false, if◌then◌else◌, List, [], ◌∷◌, ◌++◌, length, sum, take, drop, get_or, refl, ap, sym, ◌∙◌, subst, arith, fold, Result, Ok, Err, IfErr, IsErrAnd, OnOk, OnErr}
 use Rattle.std.proofs.lemmas.List.{take-append-drop, get_or-append-add}
 use Rattle.std.proofs.lemmas.List.Sums.{fold-append, fold_more}
 use Rattle.std.specs.List.{filter, range_with_len}
+use Rattle.grid_config_values.specs.declared.fault.Fault.{Fault}
 use Rattle.grid_records_estimate.specs.declared.need.Need.{Need}
 use Rattle.grid_records_estimate.specs.Estimates.{boundaries_within, meet, with_shares}
 use Rattle.grid_records_estimate.specs.Collecting.{HasBetween, PassesMax}
@@ -15,6 +16,11 @@ OnOk-implies (Err e) f p = p
 pub OnErr-implies : {T E P Q : Type 0} (r : Result T E) → (P → Q) → OnErr r P → OnErr r Q
 OnErr-implies (Ok x) f p = p
 OnErr-implies (Err e) f p = f p
+
+-- a fault that is handed on
+pub IfErr-told : {T : Type 0} (r : Result T Fault) (fault : Fault) (P : Fault → Type 0) → IsErrAnd r (λ e. e ≡ fault) → P fault → IfErr r P
+IfErr-told (Ok value) fault P told h = tt
+IfErr-told (Err e) fault P told h = subst P (sym told) h
 
 pub OnErr-always : {T E P : Type 0} (r : Result T E) → P → OnErr r P
 OnErr-always (Ok x) p = tt

@@ -7,11 +7,10 @@ use Rattle.ansi_scan.specs.Sequences.{ArePiecesOf, Piece}
 use Rattle.ansi_scan.proofs.Existence.{ArePiecesOf-pieces}
 use Rattle.grid_config.specs.Spans.{extent_at}
 use Rattle.grid_config_values.specs.declared.position.Position.{Position}
-use Rattle.grid_records_measure.specs.TextLines.{shown_lines, widest}
-use Rattle.grid_records_estimate.proofs.Order.{same_need}
+use Rattle.grid_records_measure.specs.TextLines.{shown_lines, text_height, text_width, widest}
 use Rattle.grid_records_estimate.specs.Collecting.{Collected, HasCollected}
 use Rattle.grid_records_estimate.specs.Reading.{HasRead, Placed, cell_heights, cell_widths, row_cells, table_cells}
-use Rattle.grid_records_estimate.specs.Sizing.{Sizing, is_visible, place, text_height, text_width}
+use Rattle.grid_records_estimate.specs.Sizing.{Sizing, is_visible, place}
 use Rattle.grid_records_estimate.specs.declared.need.Need.{Need}
 
 append-nil : {X : Type 0} (xs : List X) → xs ++ [] ≡ xs
@@ -56,9 +55,6 @@ text_height-is : (text : List ℕ) (lines : ℕ) → ((ps : List Piece) → AreP
 unfolding text_height
 text_height-is text lines h = h (pieces text) (ArePiecesOf-pieces text)
 
-three : (a b c x y z : ℕ) → a ≡ x → b ≡ y → c ≡ z → a + b + c ≡ x + y + z
-three a b c x y z e f g = ap (λ n. n + b + c) e ∙ ap (λ n. x + n + c) f ∙ ap (λ n. x + y + n) g
-
 -- what a visible cell asks, by what was measured
 pub asks-width : (sizing : Sizing) (pos : Position) (shown text : List ℕ) (long width left right : ℕ) → is_visible sizing.spans pos ≡ true → shown ≡ text
     → long ≡ (extent_at sizing.spans pos).columns → ((ps : List Piece) → ArePiecesOf shown ps → width ≡ widest (shown_lines ps))
@@ -66,10 +62,7 @@ pub asks-width : (sizing : Sizing) (pos : Position) (shown text : List ℕ) (lon
     → cell_widths sizing (pos, text) ≡ record { length = long; first = pos.col; crossing = pos.row; size = width + left + right } ∷ []
 asks-width sizing pos shown text long width left right on same columns measures l r =
     let wide : width ≡ text_width text = text_width-is shown width measures ∙ ap text_width same in
-    let size = three width left right (text_width text) (sizing.padding pos).left.size (sizing.padding pos).right.size wide l r in
-    let asked : Need = record { length = (extent_at sizing.spans pos).columns; first = pos.col; crossing = pos.row; size = text_width text + (sizing.padding pos).left.size + (sizing.padding pos).right.size } in
-    let found : Need = record { length = long; first = pos.col; crossing = pos.row; size = width + left + right } in
-    rw on (ap (λ need. need ∷ []) (same_need asked found (sym columns) refl refl (sym size)))
+    rw (on, columns, wide, l, r) refl
 
 pub asks-height : (sizing : Sizing) (pos : Position) (shown text : List ℕ) (long lines top bottom : ℕ) → is_visible sizing.spans pos ≡ true → shown ≡ text
     → long ≡ (extent_at sizing.spans pos).rows → ((ps : List Piece) → ArePiecesOf shown ps → lines ≡ length (shown_lines ps))
@@ -77,10 +70,7 @@ pub asks-height : (sizing : Sizing) (pos : Position) (shown text : List ℕ) (lo
     → cell_heights sizing (pos, text) ≡ record { length = long; first = pos.row; crossing = pos.col; size = lines + top + bottom } ∷ []
 asks-height sizing pos shown text long lines top bottom on same rows counts t b =
     let high : lines ≡ text_height text = text_height-is shown lines counts ∙ ap text_height same in
-    let size = three lines top bottom (text_height text) (sizing.padding pos).top.size (sizing.padding pos).bottom.size high t b in
-    let asked : Need = record { length = (extent_at sizing.spans pos).rows; first = pos.row; crossing = pos.col; size = text_height text + (sizing.padding pos).top.size + (sizing.padding pos).bottom.size } in
-    let found : Need = record { length = long; first = pos.row; crossing = pos.col; size = lines + top + bottom } in
-    rw on (ap (λ need. need ∷ []) (same_need asked found (sym rows) refl refl (sym size)))
+    rw (on, rows, high, t, b) refl
 
 -- of a row, these cells were read, and these texts are left
 pub record RowRead (sizing : Sizing) (widths heights : Collected) (before : List Placed) (row column : ℕ) (left texts : List (List ℕ)) : Type 0 where

@@ -1,21 +1,24 @@
 -- The sizes of a table that was read.
-use Rattle.std.proofs.Common.{◌≡◌, ℕ, zero, suc, ◌+◌, ◌-◌, ◌^◌, ◌==◌, ◌<◌, ◌≤◌, ◌⊎◌, inl, inr, Bool, true, false, if◌then◌else◌, List, [], ◌∷◌, map, length, take, replicate, get_or, sum, fold, refl, ap, sym, ◌∙◌, subst, arith, Result, Ok, Err, length-append}
-use Rattle.std.specs.Prelude.{IfErr, IfOk}
+use Rattle.std.proofs.Common.{◌≡◌, ℕ, zero, suc, ◌+◌, ◌-◌, ◌^◌, ◌==◌, ◌<◌, ◌≤◌, inl, inr, Bool, true, false, List, [], ◌∷◌, map, length, take, replicate, get_or, sum, refl, ap, sym, ◌∙◌, subst, arith, length-append}
 use Rattle.std.specs.List.{range_with_len}
 use Rattle.std.proofs.lemmas.Bool.Decides.{nat_tests}
 use Rattle.std.proofs.lemmas.List.{get_or-map, length-map, length-replicate, length-take}
 use Rattle.std.proofs.lemmas.List.FromFn.{length-map-range_with_len}
 use Rattle.std.proofs.lemmas.List.Sums.{get_or-le-sum_by}
 use Rattle.grid_config_values.specs.declared.fault.Fault.{Fault}
-use Rattle.grid_config_values.specs.declared.fault.Fault.TheVariants.{Memory, Range}
-use Rattle.grid_config.specs.Glyphs.{Between, has_column_boundary, has_row_boundary}
+use Rattle.grid_config_values.specs.declared.borders.Borders.{Borders}
+use Rattle.grid_config_values.specs.declared.sides.Indent.{Indent}
+use Rattle.grid_config_values.specs.declared.sides.Sides.{Sides}
+use Rattle.grid_config.specs.Glyphs.{Between, boundary_count, has_column_boundary, has_row_boundary}
 use Rattle.grid_records_rows.specs.Rows.{fitted, fitted_row, row_at}
-use Rattle.grid_records_estimate.specs.Collecting.{AreFirstBelow, Collected, Describes, PassesMax}
-use Rattle.grid_records_estimate.specs.Estimates.{Axis, least_size, meet, spanning_needs, track_sizes}
-use Rattle.grid_records_estimate.specs.Reading.{HasRead, table_cells}
-use Rattle.grid_records_estimate.specs.Sizes.{IsRefusal, table_heights, table_widths}
+use Rattle.grid_records_estimate.specs.Collecting.{AreFirstBelow, Describes, PassesMax}
+use Rattle.grid_records_estimate.specs.Estimates.{Axis, least_size, spanning_needs, track_sizes}
+use Rattle.grid_records_estimate.specs.Reading.{IsReading}
+use Rattle.grid_records_estimate.specs.Sizes.{IsRefusal, height_total, table_heights, table_widths, width_total}
 use Rattle.grid_records_estimate.specs.Sizing.{Sizing, column_axis, row_axis}
 use Rattle.grid_records_estimate.specs.Totals.{total}
+use Rattle.grid_records_estimate.specs.declared.reading.Reading.{Reading}
+use Rattle.grid_records_estimate.proofs.FinishLemmas.{not_crossed}
 use Rattle.grid_records_estimate.proofs.Singles.{length-fold}
 use Rattle.grid_records_estimate.proofs.TableLemmas.{columns-below, describes-columns, describes-rows, rows-below}
 
@@ -30,75 +33,41 @@ even n rows i below =
     let inside : i < length rows = omega (arith, length-map rows (fitted_row n)) in
     ap length (get_or-map (fitted_row n) rows i [] [] inside) ∙ length-fitted_row n (get_or rows i [])
 
-module _ (sizing : Sizing) (columns : ℕ) (rows : List (List (List ℕ))) (widths heights : Collected) (read : HasRead sizing widths heights (table_cells 0 (fitted columns rows))) where
-  long : length (fitted columns rows) ≡ length rows
-  long = length-map rows (fitted_row columns)
+module _ (sizing : Sizing) (columns : ℕ) (rows : List (List (List ℕ))) (reading : Reading) (is : IsReading sizing columns rows reading) where
+  pub first-columns : AreFirstBelow reading.columns reading.widths.others
+  first-columns =
+      let P : ℕ → Type 0 = λ k. AreFirstBelow k reading.widths.others in
+      subst P (sym is.columns_are) (columns-below columns (fitted columns rows) (even columns rows) sizing reading.widths reading.heights is.read)
 
-  pub first-columns : (n : ℕ) → n ≡ columns → AreFirstBelow n widths.others
-  first-columns n e =
-      let P : ℕ → Type 0 = λ k. AreFirstBelow k widths.others in
-      subst P (sym e) (columns-below columns (fitted columns rows) (even columns rows) sizing widths heights read)
+  pub first-rows : AreFirstBelow reading.rows reading.heights.others
+  first-rows =
+      let P : ℕ → Type 0 = λ k. AreFirstBelow k reading.heights.others in
+      subst P (length-map rows (fitted_row columns) ∙ sym is.rows_are) (rows-below columns (fitted columns rows) (even columns rows) sizing reading.widths reading.heights is.read)
 
-  pub first-rows : (n : ℕ) → n ≡ length rows → AreFirstBelow n heights.others
-  first-rows n e =
-      let P : ℕ → Type 0 = λ k. AreFirstBelow k heights.others in
-      subst P (long ∙ sym e) (rows-below columns (fitted columns rows) (even columns rows) sizing widths heights read)
-
-  pub columns-described : (n r : ℕ) (between : Bool) → n ≡ columns → r ≡ length rows → (r ≡ 0 → ⊥) → between ≡ has_column_boundary sizing.borders Between
-      → Describes (column_axis sizing columns (fitted columns rows)) n between widths
-  columns-described n r between e f some b =
-      let above : 0 < length (fitted columns rows) = omega (arith, long) in
-      let P : ℕ → Type 0 = λ k. Describes (column_axis sizing columns (fitted columns rows)) k between widths in
-      let Q : Bool → Type 0 = λ k. Describes (column_axis sizing columns (fitted columns rows)) columns k widths in
-      subst P (sym e) (subst Q (sym b) (describes-columns columns (fitted columns rows) (even columns rows) sizing widths heights read above))
-
-  pub rows-described : (n r : ℕ) (between : Bool) → n ≡ columns → r ≡ length rows → (n ≡ 0 → ⊥) → between ≡ has_row_boundary sizing.borders Between
-      → Describes (row_axis sizing columns (fitted columns rows)) r between heights
-  rows-described n r between e f some b =
-      let above : 0 < columns = omega arith in
-      let P : ℕ → Type 0 = λ k. Describes (row_axis sizing columns (fitted columns rows)) k between heights in
-      let Q : Bool → Type 0 = λ k. Describes (row_axis sizing columns (fitted columns rows)) (length (fitted columns rows)) k heights in
-      subst P (long ∙ sym f) (subst Q (sym b) (describes-rows columns (fitted columns rows) (even columns rows) sizing widths heights read above))
-
--- ---- tables without rows or columns
-
-not_crossed : (axis : Axis) → axis.crossings ≡ 0 → track_sizes axis ≡ []
-unfolding track_sizes
-not_crossed axis e = let test : (axis.crossings == 0) ≡ true = grind (arith, nat_tests) in rw test refl
-
-no_tracks : (axis : Axis) → axis.tracks ≡ 0 → track_sizes axis ≡ []
-unfolding track_sizes
-no_tracks axis e = step (axis.crossings == 0) where
-  sizes : fold (meet axis.has_boundary) (map (least_size axis) (range_with_len 0 axis.tracks)) (spanning_needs axis) ≡ []
-  sizes = rw e refl
-
-  step : (b : Bool) → (if b then [] else fold (meet axis.has_boundary) (map (least_size axis) (range_with_len 0 axis.tracks)) (spanning_needs axis)) ≡ []
-  step true = refl
-  step false = sizes
-
-module _ (sizing : Sizing) (columns : ℕ) (rows : List (List (List ℕ))) where
-  pub no_rows-widths : (r : ℕ) → r ≡ length rows → r ≡ 0 → table_widths sizing columns rows ≡ []
+  -- what holds of the sizes that the reading calls for
+  pub by_columns : (P : List ℕ → Type 0) (borders : Borders ℕ) (between : Bool) → borders ≡ sizing.borders → between ≡ has_column_boundary borders Between
+      → ((axis : Axis) → Describes axis reading.columns reading.rows between reading.widths → P (track_sizes axis)) → P (table_widths sizing columns rows)
   unfolding table_widths
-  no_rows-widths r e z = not_crossed (column_axis sizing columns (fitted columns rows)) (length-map rows (fitted_row columns) ∙ sym e ∙ z)
+  by_columns P borders between same b sizes =
+      let D : ℕ → ℕ → Bool → Type 0 = λ m n k. Describes (column_axis sizing columns (fitted columns rows)) m n k reading.widths in
+      sizes (column_axis sizing columns (fitted columns rows))
+      (subst (λ k. D reading.columns reading.rows k) (sym (b ∙ ap (λ glyphs. has_column_boundary glyphs Between) same))
+      (subst (λ n. D reading.columns n (has_column_boundary sizing.borders Between)) (length-map rows (fitted_row columns) ∙ sym is.rows_are)
+      (subst (λ m. D m (length (fitted columns rows)) (has_column_boundary sizing.borders Between)) (sym is.columns_are)
+      (describes-columns columns (fitted columns rows) (even columns rows) sizing reading.widths reading.heights is.read))))
 
-  pub no_rows-heights : (r : ℕ) → r ≡ length rows → r ≡ 0 → table_heights sizing columns rows ≡ []
+  pub by_rows : (P : List ℕ → Type 0) (borders : Borders ℕ) (between : Bool) → borders ≡ sizing.borders → between ≡ has_row_boundary borders Between
+      → ((axis : Axis) → Describes axis reading.rows reading.columns between reading.heights → P (track_sizes axis)) → P (table_heights sizing columns rows)
   unfolding table_heights
-  no_rows-heights r e z = no_tracks (row_axis sizing columns (fitted columns rows)) (length-map rows (fitted_row columns) ∙ sym e ∙ z)
-
-  pub no_columns-widths : (n : ℕ) → n ≡ columns → n ≡ 0 → table_widths sizing columns rows ≡ []
-  unfolding table_widths
-  no_columns-widths n e z = no_tracks (column_axis sizing columns (fitted columns rows)) (sym e ∙ z)
-
-  pub no_columns-heights : (n : ℕ) → n ≡ columns → n ≡ 0 → table_heights sizing columns rows ≡ []
-  unfolding table_heights
-  no_columns-heights n e z = not_crossed (row_axis sizing columns (fitted columns rows)) (sym e ∙ z)
+  by_rows P borders between same b sizes =
+      let D : ℕ → ℕ → Bool → Type 0 = λ m n k. Describes (row_axis sizing columns (fitted columns rows)) m n k reading.heights in
+      sizes (row_axis sizing columns (fitted columns rows))
+      (subst (λ k. D reading.rows reading.columns k) (sym (b ∙ ap (λ glyphs. has_row_boundary glyphs Between) same))
+      (subst (λ n. D reading.rows n (has_row_boundary sizing.borders Between)) (sym is.columns_are)
+      (subst (λ m. D m columns (has_row_boundary sizing.borders Between)) (length-map rows (fitted_row columns) ∙ sym is.rows_are)
+      (describes-rows columns (fitted columns rows) (even columns rows) sizing reading.widths reading.heights is.read))))
 
 -- ---- refusals
-
-pub refusal : {T : Type 0} (r : Result T Fault) (P : Type 0) → IfErr r (λ fault. (fault ≡ Memory) ⊎ (fault ≡ Range)) → (r ≡ Err Range → P) → IfErr r (λ fault. IsRefusal fault P)
-refusal (Ok x) P h p = tt
-refusal (Err e) P (inl memory) p = inl memory
-refusal (Err e) P (inr range) p = inr (range, p (ap Err range))
 
 pub IsRefusal-implies : (fault : Fault) (P Q : Type 0) → (P → Q) → IsRefusal fault P → IsRefusal fault Q
 IsRefusal-implies fault P Q f (inl memory) = inl memory
@@ -137,21 +106,20 @@ total-length axis count before behind = step (axis.crossings == 0) refl where
       let some : axis.crossings ≡ 0 → ⊥ = λ z. grind (arith, nat_tests) in
       ap (λ n. total (track_sizes axis) (count n) before behind) (length-track_sizes axis some)
 
-module _ (sizing : Sizing) (columns : ℕ) (rows : List (List (List ℕ))) (count : ℕ → ℕ) (before behind : ℕ) where
-  pub total-widths : total (table_widths sizing columns rows) (count (length (table_widths sizing columns rows))) before behind ≡ total (table_widths sizing columns rows) (count columns) before behind
+-- what holds of the total that was made
+module _ (P : ℕ → Type 0) (sizing : Sizing) (columns : ℕ) (rows : List (List (List ℕ))) {found sizes : List ℕ} {borders : Borders ℕ} {margin : Sides Indent} {counted len : ℕ}
+    (same : found ≡ sizes) (long : len ≡ length sizes) (glyphs : borders ≡ sizing.borders) (round : margin ≡ sizing.margin) where
+  pub total-widths : sizes ≡ table_widths sizing columns rows → counted ≡ boundary_count (has_column_boundary borders) len
+      → P (total found counted margin.left.size margin.right.size) → P (width_total sizing columns rows)
   unfolding table_widths
-  total-widths = total-length (column_axis sizing columns (fitted columns rows)) count before behind
+  total-widths are number =
+      let count = boundary_count (has_column_boundary sizing.borders) in
+      subst P (rw (number, glyphs, long, same, are, round) (total-length (column_axis sizing columns (fitted columns rows)) count sizing.margin.left.size sizing.margin.right.size))
 
-  pub total-heights : total (table_heights sizing columns rows) (count (length (table_heights sizing columns rows))) before behind ≡ total (table_heights sizing columns rows) (count (length rows)) before behind
+  pub total-heights : sizes ≡ table_heights sizing columns rows → counted ≡ boundary_count (has_row_boundary borders) len
+      → P (total found counted margin.top.size margin.bottom.size) → P (height_total sizing columns rows)
   unfolding table_heights
-  total-heights = total-length (row_axis sizing columns (fitted columns rows)) count before behind
-      ∙ ap (λ n. total (track_sizes (row_axis sizing columns (fitted columns rows))) (count n) before behind) (length-map rows (fitted_row columns))
-
--- the same number by another name
-pub IfOk-same : {E : Type 0} (r : Result ℕ E) (a b : ℕ) → a ≡ b → IfOk r (λ n. n ≡ a) → IfOk r (λ n. n ≡ b)
-IfOk-same (Ok n) a b e h = h ∙ e
-IfOk-same (Err f) a b e h = h
-
-pub IfErr-same : {T : Type 0} (r : Result T Fault) (a b : ℕ) → a ≡ b → IfErr r (λ fault. IsRefusal fault (2 ^ 64 ≤ a)) → IfErr r (λ fault. IsRefusal fault (2 ^ 64 ≤ b))
-IfErr-same (Ok n) a b e h = h
-IfErr-same (Err fault) a b e h = IsRefusal-implies fault (2 ^ 64 ≤ a) (2 ^ 64 ≤ b) (λ high. let P : ℕ → Type 0 = λ n. 2 ^ 64 ≤ n in subst P e high) h
+  total-heights are number =
+      let count = boundary_count (has_row_boundary sizing.borders) in
+      subst P (rw (number, glyphs, long, same, are, round) (total-length (row_axis sizing columns (fitted columns rows)) count sizing.margin.top.size sizing.margin.bottom.size
+      ∙ ap (λ n. total (table_heights sizing columns rows) (count n) sizing.margin.top.size sizing.margin.bottom.size) (length-map rows (fitted_row columns))))

@@ -115,20 +115,20 @@ module _ (columns : ℕ) (rows : List (List (List ℕ))) (even : (i : ℕ) → i
         ap (has_row_boundary sizing.borders) kind
 
     module _ (widths heights : Collected) (read : HasRead sizing widths heights (table_cells 0 rows)) where
-      pub describes-columns : 0 < length rows → Describes (column_axis sizing columns rows) columns (has_column_boundary sizing.borders Between) widths
-      describes-columns some = record {
+      pub describes-columns : Describes (column_axis sizing columns rows) columns (length rows) (has_column_boundary sizing.borders Between) widths
+      describes-columns = record {
         tracks_are = refl;
-        crossed = some;
+        crossings_are = refl;
         boundaries = between-columns;
         needs = flat_map (cell_widths sizing) (table_cells 0 rows);
         kept = read.widths_are;
         all = widths-are;
       }
 
-      pub describes-rows : 0 < columns → Describes (row_axis sizing columns rows) (length rows) (has_row_boundary sizing.borders Between) heights
-      describes-rows some = record {
+      pub describes-rows : Describes (row_axis sizing columns rows) (length rows) columns (has_row_boundary sizing.borders Between) heights
+      describes-rows = record {
         tracks_are = refl;
-        crossed = some;
+        crossings_are = refl;
         boundaries = between-rows;
         needs = flat_map (cell_heights sizing) (table_cells 0 rows);
         kept = read.heights_are;

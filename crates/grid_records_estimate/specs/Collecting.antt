@@ -68,9 +68,9 @@ pub record HasCollected (collected : Collected) (needs : List Need) : Type 0 whe
   pub others : collected.others ≡ filter (λ need. not (is_plain need)) needs
 
 -- what is kept is of the needs of all visible cells, in whatever order they came
-pub record Describes (axis : Axis) (tracks : ℕ) (between : Bool) (collected : Collected) : Type 0 where
+pub record Describes (axis : Axis) (tracks crossings : ℕ) (between : Bool) (collected : Collected) : Type 0 where
   pub tracks_are : axis.tracks ≡ tracks
-  pub crossed : 0 < axis.crossings
+  pub crossings_are : axis.crossings ≡ crossings
   pub boundaries : HasBetween axis.has_boundary tracks between
   pub needs : List Need
   pub kept : HasCollected collected needs

@@ -1,11 +1,13 @@
 -- The needs of a table's cells in the order in which its texts are read.
-use Rattle.std.specs.Prelude.{ℕ, ◌+◌, List, [], ◌∷◌, ◌++◌, if◌then◌else◌}
+use Rattle.std.specs.Prelude.{◌≡◌, ℕ, ◌+◌, List, [], ◌∷◌, ◌++◌, length, if◌then◌else◌}
 use Rattle.std.specs.List.{flat_map}
 use Rattle.grid_config.specs.Spans.{extent_at}
 use Rattle.grid_config_values.specs.declared.position.Position.{Position}
+use Rattle.grid_records_rows.specs.Rows.{fitted}
 use Rattle.grid_records_estimate.specs.Collecting.{Collected, HasCollected}
 use Rattle.grid_records_estimate.specs.Sizing.{Sizing, height_need, is_visible, place, width_need}
 use Rattle.grid_records_estimate.specs.declared.need.Need.{Need}
+use Rattle.grid_records_estimate.specs.declared.reading.Reading.{Reading}
 
 -- a cell: its place and its text
 abbrev pub Placed : Type 0
@@ -39,3 +41,9 @@ table_cells row (texts ∷ rows) = row_cells row 0 texts ++ table_cells (row + 1
 pub record HasRead (sizing : Sizing) (widths heights : Collected) (cells : List Placed) : Type 0 where
   pub widths_are : HasCollected widths (flat_map (cell_widths sizing) cells)
   pub heights_are : HasCollected heights (flat_map (cell_heights sizing) cells)
+
+-- these are how many columns and rows a table has, and what its cells ask
+pub record IsReading (sizing : Sizing) (columns : ℕ) (rows : List (List (List ℕ))) (reading : Reading) : Type 0 where
+  pub columns_are : reading.columns ≡ columns
+  pub rows_are : reading.rows ≡ length rows
+  pub read : HasRead sizing reading.widths reading.heights (table_cells 0 (fitted columns rows))

@@ -1,7 +1,6 @@
 -- What the sizes of a table follow from, besides its texts: some of its settings. And a table by its columns and by its rows.
 use Rattle.std.specs.Prelude.{ℕ, ◌+◌, Bool, not, ◌&&◌, List, [], length}
 use Rattle.std.specs.List.{list_any}
-use Rattle.ansi_scan.specs.Pieces.{pieces}
 use Rattle.grid_config.specs.Compact.{Compact}
 use Rattle.grid_config.specs.Glyphs.{boundary_kind, has_column_boundary, has_row_boundary}
 use Rattle.grid_config.specs.Maps.{value_at}
@@ -14,7 +13,7 @@ use Rattle.grid_config_values.specs.declared.borders.Borders.{Borders}
 use Rattle.grid_config_values.specs.declared.position.Position.{Position}
 use Rattle.grid_config_values.specs.declared.sides.Indent.{Indent}
 use Rattle.grid_config_values.specs.declared.sides.Sides.{Sides}
-use Rattle.grid_records_measure.specs.TextLines.{shown_lines, widest}
+use Rattle.grid_records_measure.specs.TextLines.{text_height, text_width}
 use Rattle.grid_records_rows.specs.Rows.{text_at}
 use Rattle.grid_records_estimate.specs.Estimates.{Axis}
 
@@ -37,15 +36,6 @@ compact_sizing compact = record { margin = compact.margin; borders = compact.bor
 -- whether the rectangle of no other cell holds the place: `IsVisible`, as a test
 abbrev pub is_visible : List (Position × Extent) → Position → Bool
 is_visible spans place = not (list_any (λ span. holds span.0 (extent_at spans span.0) place && not (same_place span.0 place)) spans)
-
--- ---- texts
-
--- what the widest line of a text measures, and how many lines it has
-unfoldable pub text_width : List ℕ → ℕ
-text_width text = widest (shown_lines (pieces text))
-
-unfoldable pub text_height : List ℕ → ℕ
-text_height text = length (shown_lines (pieces text))
 
 -- ---- the table of these texts, row by row, in so many columns
 

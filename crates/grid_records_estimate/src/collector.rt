@@ -1,9 +1,9 @@
 //! What the cells of a table need, collected cell by cell, and the sizes that hold them.
 ghost use Rattle.std.specs.Prelude.{◌≡◌, ℕ, ◌+◌, ◌^◌, ◌<◌, ◌≤◌, ◌==◌, ◌⊎◌, [], ◌∷◌, ◌++◌, Err, IfErr, IfOk, List, OnErr, OnOk, None, Some, if◌then◌else◌, map, max, slice_index, vec_len};
 ghost use Rattle.std.specs.List.Sorted.{IsPermutation, IsSorted};
-ghost use Rattle.grid_config_values.specs.declared.fault.Fault.TheVariants.{Memory, Range};
 ghost use Rattle.grid_records_estimate.specs.Estimates.{Axis, track_sizes};
 ghost use Rattle.grid_records_estimate.specs.Collecting.{AreFirstBelow, Describes, HasCollected, PassesMax, clipped, is_plain};
+ghost use Rattle.grid_records_estimate.specs.Sizes.{IsRefusal};
 
 use crate::need::Need;
 use crate::shares::meet_all;
@@ -58,15 +58,23 @@ impl Collector {
     }
 
     /// The least sizes of so many columns that hold what was added: first the cells that take one
-    /// column, then the shorter spans before the longer ones. Refused as `Range` exactly where a size
-    /// passes `usize::MAX`, and for memory.
-    pub(crate) fn finish(self, tracks: usize, between: bool) -> Result<Vec<usize>, Fault>
+    /// column, then the shorter spans before the longer ones; none where no row crosses them. Refused as
+    /// `Range` where a size passes `usize::MAX`, and for memory.
+    pub(crate) fn finish(
+        self,
+        tracks: usize,
+        crossings: usize,
+        between: bool,
+    ) -> Result<Vec<usize>, Fault>
         requires { AreFirstBelow tracks self.others }
-        ensures ok { (axis : Axis) → Describes axis tracks between self → IfOk result (λ sizes. sizes.items ≡ track_sizes axis) }
-        ensures range { (axis : Axis) → Describes axis tracks between self → result ≡ Err Range → PassesMax (track_sizes axis) }
-        ensures fault { IfErr result (λ fault. (fault ≡ Memory) ⊎ (fault ≡ Range)) }
+        ensures ok { (axis : Axis) → Describes axis tracks crossings between self → IfOk result (λ sizes. sizes.items ≡ track_sizes axis) }
+        ensures refused { (axis : Axis) → Describes axis tracks crossings between self → IfErr result (λ fault. IsRefusal fault (PassesMax (track_sizes axis))) }
     {
         let Collector { mut sizes, others } = self;
+        if crossings == 0 {
+            sizes.clear();
+            return Ok(sizes);
+        }
         sizes.resize(tracks, 0)?;
         meet_all(&mut sizes, &in_order(others, tracks), between)?;
         Ok(sizes)

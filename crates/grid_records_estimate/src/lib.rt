@@ -2,22 +2,18 @@
 #![tactic(auto)]
 
 mod collector;
-mod compact;
+mod dimension;
 mod estimate;
-mod iter;
 pub mod laws;
 mod need;
-mod peekable;
 mod reading;
 mod shares;
-mod sizes;
 mod sizing;
+mod totals;
 
-pub use compact::CompactGridDimension;
+pub use dimension::{CompactGridDimension, IterGridDimension, PeekableGridDimension};
 pub use estimate::Estimate;
-pub use iter::IterGridDimension;
-pub use peekable::PeekableGridDimension;
-pub use sizes::total;
+pub use totals::total;
 
 #[cfg(test)]
 mod tests;

@@ -4,18 +4,47 @@ ghost use Rattle.std.specs.Iterator.{IsFinite};
 ghost use Rattle.grid_records_rows.specs.Giving.{GivesTexts};
 ghost use Rattle.grid_records_rows.specs.Rows.{fitted};
 ghost use Rattle.grid_records_estimate.specs.Collecting.{HasCollected};
-ghost use Rattle.grid_records_estimate.specs.Reading.{HasRead, Placed, row_cells, table_cells};
+ghost use Rattle.grid_records_estimate.specs.Reading.{HasRead, IsReading, Placed, row_cells, table_cells};
 
 use crate::collector::Collector;
 use crate::need::Need;
 use crate::sizing::Sizing;
 use grid_config::Position;
 use grid_records_rows::{Cell, Records};
-use std::alloc::AllocError;
+use std::alloc::{AllocError, Global};
 
-/// Collects what the visible cells of a table need of its columns and of its rows, and counts its rows.
-/// More rows than a `usize` counts are refused as memory is.
-pub(crate) fn collect<R: Records, S: Sizing>(
+/// A table that was read: how many columns and rows it has, and what its visible cells need of them.
+#[derive(Drop)]
+pub(crate) struct Reading {
+    pub(crate) columns: usize,
+    pub(crate) rows: usize,
+    pub(crate) widths: Collector,
+    pub(crate) heights: Collector,
+}
+
+/// Reads a table. Refused for memory alone.
+pub(crate) fn read<R: Records, S: Sizing>(
+    alloc: Global,
+    records: R,
+    cfg: &S,
+) -> Result<Reading, AllocError>
+    ensures { IfOk result (λ reading. IsReading (S.sizing cfg.now) (R.columns records) (R.rows records) reading) }
+{
+    let columns = records.count_columns();
+    let mut widths = Collector::new(alloc);
+    let mut heights = Collector::new(alloc);
+    let rows = collect(records, cfg, &mut widths, &mut heights)?;
+    Ok(Reading {
+        columns,
+        rows,
+        widths,
+        heights,
+    })
+}
+
+// Collects what the visible cells of a table need of its columns and of its rows, and counts its rows.
+// More rows than a `usize` counts are refused as memory is.
+fn collect<R: Records, S: Sizing>(
     records: R,
     cfg: &S,
     widths: &mut Collector,

@@ -148,52 +148,6 @@ fn sizes_of_a_table_that_is_read_once(rt: HostRuntime) -> Result<(), Fail> {
     result
 }
 
-fn expect_looked_up<R: Records + Copy>(
-    rt: &impl Abort,
-    alloc: Global,
-    records: R,
-    cfg: &mut SpannedConfig,
-) -> Result<(), Fail> {
-    set_shared(cfg)?;
-    expect(
-        rt,
-        &PeekableGridDimension::width(alloc, records, cfg)?,
-        &[4, 3],
-    );
-    expect(
-        rt,
-        &PeekableGridDimension::height(alloc, records, cfg)?,
-        &[1, 3],
-    );
-    let (widths, heights) = PeekableGridDimension::dimension(alloc, records, cfg)?;
-    expect(rt, &widths, &[4, 3]);
-    expect(rt, &heights, &[1, 3]);
-    assert_eq!(rt;
-        PeekableGridDimension::width_total(alloc, records, cfg)?,
-        13
-    );
-    assert_eq!(rt;
-        PeekableGridDimension::height_total(alloc, records, cfg)?,
-        14
-    );
-    expect_estimate(
-        rt,
-        alloc,
-        &mut PeekableGridDimension::default(alloc),
-        records,
-        cfg,
-    )
-}
-
-#[test]
-fn sizes_of_a_table_that_is_looked_up(rt: HostRuntime) -> Result<(), Fail> {
-    let records = table(&rt, rt.alloc(), 2, SHARED.as_slice())?;
-    let mut cfg = SpannedConfig::new(rt.alloc());
-    let result = expect_looked_up(&rt, rt.alloc(), &records, &mut cfg);
-    end(cfg);
-    result
-}
-
 fn expect_compact<R: Records + Copy>(
     rt: &impl Abort,
     alloc: Global,

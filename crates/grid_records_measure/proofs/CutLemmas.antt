@@ -18,8 +18,8 @@ use Rattle.ansi_str.specs.StyledText.{has_escape, strip, style_after_all}
 use Rattle.ansi_str.specs.Parts.{through_place}
 use Rattle.ansi_str.specs.Cuts.{AreGoodBounds, cut_part}
 use Rattle.ansi_str_text.proofs.Stripping.{strip-without_escape}
-use Rattle.ansi_str.proofs.PartLemmas.{take_nil}
-use Rattle.ansi_str.proofs.PlainParts.{plain_part}
+use Rattle.ansi_str_search.proofs.PartLemmas.{take_nil}
+use Rattle.ansi_str_search.proofs.PlainParts.{plain_part}
 use Rattle.ansi_str.proofs.CutParts.{first_part-slice}
 use Rattle.ansi_str_text.proofs.Utf8Pieces.{IsUtf8-shown_text}
 use Rattle.grid_records_measure.specs.Cutting.{IsLongestFront, IsCutAt, IsPlainCut, lacking, replacement}

@@ -12,10 +12,10 @@ use Rattle.ansi_str.specs.Parts.{split_part}
 use Rattle.ansi_str.specs.Matches.{AreMatches, split_bounds, styled_parts}
 use Rattle.ansi_str.specs.Lines.{IsClosedLine}
 use Rattle.ansi_str_text.proofs.Shown.{text_of_block-blocks_from}
-use Rattle.ansi_str.proofs.MatchLists.{matches_from, AreMatches-found, AreMatches-unique}
-use Rattle.ansi_str.proofs.AllParts.{All-closed_lines, strip-styled_parts}
-use Rattle.ansi_str.proofs.LineLemmas.{split-lines}
-use Rattle.ansi_str.proofs.StdSplits.{split_at_one_byte}
+use Rattle.ansi_str_search.proofs.MatchLists.{matches_from, AreMatches-found, AreMatches-unique}
+use Rattle.ansi_str_search.proofs.AllParts.{All-closed_lines, strip-styled_parts}
+use Rattle.ansi_str_search.proofs.LineLemmas.{split-lines}
+use Rattle.ansi_str_search.proofs.StdSplits.{split_at_one_byte}
 use Rattle.grid_records_measure.specs.TextLines.{line_feed, AreLinesOf, shown_lines}
 
 -- ---- blocks

@@ -1,8 +1,7 @@
 -- Printable ASCII takes a column a byte.
-use Rattle.std.proofs.Common.{◌≡◌, ℕ, ◌+◌, ◌<◌, ◌≤◌, zero, suc, Bool, true, false, List, [], ◌∷◌, ◌++◌, length, get_or, refl, ap, sym, ◌∙◌, arith, append_assoc, append-nil, length-append}
+use Rattle.std.proofs.Common.{◌≡◌, ℕ, ◌+◌, ◌<◌, ◌≤◌, zero, suc, true, false, List, [], ◌∷◌, ◌++◌, length, get_or, refl, ap, sym, ◌∙◌, arith, append_assoc, append-nil, length-append}
 use Rattle.std.specs.Prelude.{◌&&◌, chars}
 use Rattle.std.specs.Int.{is_in_range}
-use Rattle.std.specs.List.{list_all}
 use Rattle.std.proofs.lemmas.Bool.{and_parts}
 use Rattle.std.proofs.lemmas.List.Folds.{list_all-append as list_all-both}
 use Rattle.std.proofs.lemmas.Bool.Decides.{nat_tests}
@@ -13,21 +12,18 @@ use Rattle.ansi_scan.proofs.Existence.{ArePiecesOf-pieces}
 use Rattle.ansi_scan.proofs.Joins.{list_all-append}
 use Rattle.ansi_str_text.specs.StyledText.{strip}
 use Rattle.ansi_str_text.proofs.CharacterLemmas.{length-strip}
-use Rattle.grid_records_measure.specs.Measures.{measure}
-
-abbrev pub is_plain : List ℕ → Bool
-is_plain bytes = list_all (is_in_range 0x20 0x7E) bytes
+use Rattle.grid_records_measure.specs.Measures.{are_printable, measure}
 
 in_range-ascii : (b : ℕ) → is_in_range 0x20 0x7E b ≡ true → b < 128
 in_range-ascii b h = grind (arith, nat_tests)
 
-printable-ascii : (bytes : List ℕ) → is_plain bytes ≡ true → (i : ℕ) → get_or bytes i 0 < 128
+printable-ascii : (bytes : List ℕ) → are_printable bytes ≡ true → (i : ℕ) → get_or bytes i 0 < 128
 printable-ascii [] h i = omega arith
-printable-ascii (b ∷ bs) h zero = in_range-ascii b (and_parts (is_in_range 0x20 0x7E b) (is_plain bs) h).0
-printable-ascii (b ∷ bs) h (suc i) = printable-ascii bs (and_parts (is_in_range 0x20 0x7E b) (is_plain bs) h).1 i
+printable-ascii (b ∷ bs) h zero = in_range-ascii b (and_parts (is_in_range 0x20 0x7E b) (are_printable bs) h).0
+printable-ascii (b ∷ bs) h (suc i) = printable-ascii bs (and_parts (is_in_range 0x20 0x7E b) (are_printable bs) h).1 i
 
 -- printable ASCII takes a column a byte
-pub measure-printable : (bytes : List ℕ) → is_plain bytes ≡ true → measure (chars bytes) ≡ length bytes
+pub measure-printable : (bytes : List ℕ) → are_printable bytes ≡ true → measure (chars bytes) ≡ length bytes
 measure-printable bytes h = ap measure (chars-IsAscii bytes (printable-ascii bytes h)) ∙ str_width-printable false bytes h
 
 -- ---- item by item
@@ -36,14 +32,14 @@ measure-printable bytes h = ap measure (chars-IsAscii bytes (printable-ascii byt
 pub record IsPassed (width : ℕ) (rest text : List ℕ) : Type 0 where
   pub passed : List ℕ
   pub shows : strip (pieces text) ≡ passed ++ strip (pieces rest)
-  pub printable : is_plain passed ≡ true
+  pub printable : are_printable passed ≡ true
   pub counted : width ≡ length passed
 
 pub IsPassed-start : (text : List ℕ) → IsPassed 0 text text
 IsPassed-start text = record { passed = []; shows = refl; printable = refl; counted = refl }
 
 -- an item of text
-pub IsPassed-text : (width : ℕ) (rest text bytes behind : List ℕ) → IsPassed width rest text → strip (pieces rest) ≡ bytes ++ strip (pieces behind) → is_plain bytes ≡ true → IsPassed (width + length bytes) behind text
+pub IsPassed-text : (width : ℕ) (rest text bytes behind : List ℕ) → IsPassed width rest text → strip (pieces rest) ≡ bytes ++ strip (pieces behind) → are_printable bytes ≡ true → IsPassed (width + length bytes) behind text
 IsPassed-text width rest text bytes behind is shows printable = record {
   passed = is.passed ++ bytes;
   shows = is.shows ∙ ap (λ bs. is.passed ++ bs) shows ∙ sym (append_assoc is.passed bytes (strip (pieces behind)));
@@ -52,14 +48,14 @@ IsPassed-text width rest text bytes behind is shows printable = record {
 }
 
 -- an item of text that has something else
-pub not-printable : (width : ℕ) (rest text bytes behind : List ℕ) → IsPassed width rest text → strip (pieces rest) ≡ bytes ++ strip (pieces behind) → is_plain bytes ≡ false → is_plain (strip (pieces text)) ≡ false
+pub not-printable : (width : ℕ) (rest text bytes behind : List ℕ) → IsPassed width rest text → strip (pieces rest) ≡ bytes ++ strip (pieces behind) → are_printable bytes ≡ false → are_printable (strip (pieces text)) ≡ false
 not-printable width rest text bytes behind is shows other =
     let left = strip (pieces behind) in
-    ap is_plain (is.shows ∙ ap (λ bs. is.passed ++ bs) shows)
+    ap are_printable (is.shows ∙ ap (λ bs. is.passed ++ bs) shows)
     ∙ list_all-both (is_in_range 0x20 0x7E) is.passed (bytes ++ left)
-    ∙ ap (λ b. b && is_plain (bytes ++ left)) is.printable
+    ∙ ap (λ b. b && are_printable (bytes ++ left)) is.printable
     ∙ list_all-both (is_in_range 0x20 0x7E) bytes left
-    ∙ ap (λ b. b && is_plain left) other
+    ∙ ap (λ b. b && are_printable left) other
 
 -- any other item
 pub IsPassed-other : (width : ℕ) (rest text behind : List ℕ) → IsPassed width rest text → strip (pieces rest) ≡ strip (pieces behind) → IsPassed width behind text

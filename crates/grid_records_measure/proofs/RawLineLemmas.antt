@@ -17,11 +17,11 @@ use Rattle.ansi_str.specs.StyledText.{strip, text_of}
 use Rattle.ansi_str.specs.Parts.{through_place}
 use Rattle.ansi_str.specs.PartsLeft.{first_match, matches_first}
 use Rattle.ansi_str.specs.Walking.{bytes_to}
-use Rattle.ansi_str.proofs.PartLemmas.{text_of-text, text_of-sequence}
-use Rattle.ansi_str.proofs.PlaceLemmas.{has_text, strip-from, through-inside, through-past}
-use Rattle.ansi_str.proofs.DressedLemmas.{list_all-take, other_kind, short, long, cut}
-use Rattle.ansi_str.proofs.SliceLemmas.{strip-through}
-use Rattle.ansi_str.proofs.ByteParts.{byte-slice, byte-there}
+use Rattle.ansi_str_search.proofs.PartLemmas.{text_of-text, text_of-sequence}
+use Rattle.ansi_str_search.proofs.PlaceLemmas.{has_text, strip-from, through-inside, through-past}
+use Rattle.ansi_str_search.proofs.DressedLemmas.{list_all-take, other_kind, short, long, cut}
+use Rattle.ansi_str_search.proofs.SliceLemmas.{strip-through}
+use Rattle.ansi_str_search.proofs.ByteParts.{byte-slice, byte-there}
 use Rattle.ansi_str.proofs.CutSteps.{slice-bytes}
 use Rattle.grid_records_measure.specs.TextLines.{line_feed, is_line_feed, shown_lines}
 use Rattle.grid_records_measure.specs.RawLines.{IsFromLineFeed}

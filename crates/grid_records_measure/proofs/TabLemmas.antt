@@ -5,7 +5,7 @@ use Rattle.std.proofs.lemmas.List.Folds.{list_any-append}
 use Rattle.ansi_scan.specs.Sequences.{Piece, joined}
 use Rattle.ansi_scan.specs.Joining.{is_text_kind}
 use Rattle.ansi_str.specs.StyledText.{text_of, strip}
-use Rattle.ansi_str.proofs.PartLemmas.{text_of-text}
+use Rattle.ansi_str_search.proofs.PartLemmas.{text_of-text}
 use Rattle.grid_records_measure.specs.Tabs.{tab, has_tab, put_for_tabs, piece_with}
 
 abbrev pub is_tab : ℕ → Bool

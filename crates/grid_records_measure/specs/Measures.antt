@@ -1,6 +1,7 @@
 -- How many columns characters and lines take.
-use Rattle.std.specs.Prelude.{ℕ, false, List, max, unwrap_or}
-use Rattle.std.specs.List.{sum_by}
+use Rattle.std.specs.Prelude.{ℕ, Bool, false, List, max, unwrap_or}
+use Rattle.std.specs.Int.{is_in_range}
+use Rattle.std.specs.List.{list_all, sum_by}
 use Rattle.unicode_width.specs.Width.{char_width, str_width}
 
 -- the columns that `unicode_width` gives the characters as one text: Unicode Standard Annex 11 (East Asian Width), outside
@@ -19,3 +20,7 @@ cost c = max 1 (own_width c)
 -- the columns of a line: the sum of what its characters cost
 abbrev pub columns : List ℕ → ℕ
 columns characters = sum_by cost characters
+
+-- each byte is a printable ASCII character, which takes one column
+abbrev pub are_printable : List ℕ → Bool
+are_printable bytes = list_all (is_in_range 0x20 0x7E) bytes

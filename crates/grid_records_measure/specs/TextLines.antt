@@ -1,6 +1,7 @@
 -- The lines of a text, and what they measure.
-use Rattle.std.specs.Prelude.{◌≡◌, ◌==◌, ℕ, Bool, max, List, [], ◌∷◌, chars}
+use Rattle.std.specs.Prelude.{◌≡◌, ◌==◌, ℕ, Bool, max, List, [], ◌∷◌, chars, length}
 use Rattle.std.specs.List.{slice_split}
+use Rattle.ansi_scan.specs.Pieces.{pieces}
 use Rattle.ansi_scan.specs.Sequences.{Piece}
 use Rattle.ansi_str.specs.StyledText.{strip}
 use Rattle.ansi_str.specs.Matches.{AreMatches, split_bounds, styled_parts}
@@ -32,3 +33,10 @@ line_measure bytes = measure (chars bytes)
 abbrev pub widest : List (List ℕ) → ℕ
 widest [] = 0
 widest (line ∷ lines) = max (line_measure line) (widest lines)
+
+-- the columns of the widest line of a text, and how many lines it has
+unfoldable pub text_width : List ℕ → ℕ
+text_width text = widest (shown_lines (pieces text))
+
+unfoldable pub text_height : List ℕ → ℕ
+text_height text = length (shown_lines (pieces text))

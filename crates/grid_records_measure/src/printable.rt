@@ -1,17 +1,15 @@
 //! The width of a text that shows printable ASCII alone, of which each byte takes one column.
 ghost use Rattle.std.specs.Prelude.{◌≡◌, MatchOption, chars, false};
-ghost use Rattle.std.specs.Int.{is_in_range};
-ghost use Rattle.std.specs.List.{list_all};
 ghost use Rattle.ansi_scan.specs.Pieces.{pieces};
 ghost use Rattle.ansi_str.specs.StyledText.{strip};
-ghost use Rattle.grid_records_measure.specs.Measures.{measure};
+ghost use Rattle.grid_records_measure.specs.Measures.{are_printable, measure};
 
 use ansi_scan::{Kind, scan};
 
 /// The columns that the text takes without its sequences, where it shows printable ASCII alone, and none
 /// where it does not.
 pub(crate) fn printable_width(text: &str) -> Option<usize>
-    ensures { MatchOption result (list_all (is_in_range 0x20 0x7E) (strip (pieces text.now)) ≡ false) (λ width. width ≡ measure (chars (strip (pieces text.now)))) }
+    ensures { MatchOption result (are_printable (strip (pieces text.now)) ≡ false) (λ width. width ≡ measure (chars (strip (pieces text.now)))) }
 {
     let mut width = 0;
     let mut rest = text;
@@ -30,7 +28,7 @@ pub(crate) fn printable_width(text: &str) -> Option<usize>
 
 /// Whether each byte is printable ASCII.
 fn is_printable(text: &str) -> bool
-    ensures { result ≡ list_all (is_in_range 0x20 0x7E) text.now }
+    ensures { result ≡ are_printable text.now }
 {
     text.as_bytes()
         .iter()

@@ -1,16 +1,12 @@
 -- Cells that are cut at the widths of their columns.
-use Rattle.std.specs.Prelude.{◌≡◌, ◌+◌, ◌^◌, ◌-◌, ℕ, List, [], ◌∷◌, MatchOption, MatchResult, None, Option, Result, Some, chars, if◌then◌else◌, map, nat_le, nat_lt, string_bytes}
+use Rattle.std.specs.Prelude.{◌≡◌, ◌<◌, ◌+◌, ◌^◌, ◌-◌, ℕ, List, [], ◌∷◌, MatchOption, MatchResult, None, Option, Result, Some, chars, if◌then◌else◌, map, nat_le, nat_lt, string_bytes}
 use Rattle.ansi_scan.specs.Pieces.{pieces}
 use Rattle.ansi_str.specs.StyledText.{strip}
 use Rattle.grid_records_measure.specs.Cutting.{cut_bytes}
 use Rattle.grid_records_measure.specs.Filling.{behind_front, front}
-use Rattle.grid_records_measure.specs.TextLines.{shown_lines, widest}
+use Rattle.grid_records_measure.specs.TextLines.{text_width}
 use Rattle.grid_records_rows.specs.declared.records.into_records.truncate_content.Truncated.{Truncated}
 use Rattle.grid_records_rows.specs.declared.records.into_records.truncate_content.Truncated.TheVariants.{Cut, Whole}
-
--- the columns of the widest line of a text
-abbrev pub text_width : List ℕ → ℕ
-text_width text = widest (shown_lines (pieces text))
 
 -- the cut of a text at a width: its longest front that fits, and a replacement character for each column that is lacking
 abbrev pub cut_text : ℕ → List ℕ → List ℕ
@@ -38,10 +34,12 @@ abbrev pub text_of_truncated : {C : Type 0} → (C → List ℕ) → Truncated C
 text_of_truncated text (Whole cell) = text cell
 text_of_truncated text (Cut kept) = string_bytes kept
 
--- the answer is what is left of the cell that came, or a refusal
+-- the answer is what is left of the cell that came, or a refusal: the one that came, or of a text that is wider
 abbrev pub IsTruncated : {C E : Type 0} → (C → List ℕ) → ℕ → Result C E → Result (Truncated C) E → Type 0
 IsTruncated text width given answer =
-    MatchResult answer (λ cell. MatchResult given (λ whole. text_of_truncated text cell ≡ truncated_text width (text whole)) (λ _. ⊥)) (λ _. Unit {0})
+    MatchResult answer
+    (λ cell. MatchResult given (λ whole. text_of_truncated text cell ≡ truncated_text width (text whole)) (λ _. ⊥))
+    (λ _. MatchResult given (λ whole. width < text_width (text whole)) (λ _. Unit {0}))
 
 -- a call answers what is left of the next cell
 abbrev pub GivesTruncated : {S C E : Type 0} → (S → Option (Result C E) → S → Type 0) → (C → List ℕ) → (ℕ → ℕ) → ℕ → S → Option (Result (Truncated C) E) → S → ℕ → Type 0

@@ -1,12 +1,12 @@
 -- What an iterator gives that takes or passes over items of another.
 use Rattle.std.proofs.Common.{◌≡◌, ◌∙◌, ◌≤◌, ◌-◌, ℕ, zero, suc, List, [], ◌∷◌, ap, arith, drop, length, map, refl, subst, sym, take}
 use Rattle.std.proofs.lemmas.List.{length-drop}
-use Rattle.std.specs.Prelude.{MatchOption, None, Option, Some}
+use Rattle.std.specs.Prelude.{Bool, MatchOption, None, Option, Result, Some}
 use Rattle.std.specs.Iterator.{Count, IsFinite, SkipsThenYields, Yields, at_most, count_map, count_min}
 use Rattle.std.specs.Iterator.Adapters.{skip_count, skip_source, skip_steps, take_count, take_source, take_steps}
 use Rattle.std.specs.declared.iter.Skip.{Skip}
 use Rattle.std.specs.declared.iter.Take.{Take}
-use Rattle.grid_records_rows.specs.Giving.{Gives, GivesEach}
+use Rattle.grid_records_rows.specs.Giving.{Gives, GivesEach, GivesRows}
 use Rattle.grid_records_rows.specs.Sources.{GivesTaken}
 
 each_taken : {S A B : Type 0} (steps : S → Option A → S → Type 0) (tie : A → B → Type 0) (n : ℕ) (s : Take S) (ys : List B) → take_count s ≡ n →
@@ -98,7 +98,7 @@ gives_skipped {can = can} {left = left} {steps = steps} {tie = tie} {ys = ys} s 
     }
 
 -- rows of which the first cells are taken
-pub each_limited : {R S Cells B : Type 0} (steps : S → Option Cells → S → Type 0) (inside : R → S) (limit_of : R → ℕ) (tie : Cells → List B → Type 0) (wanted : Take Cells → List B → Type 0) (limit : ℕ) →
+each_limited : {R S Cells B : Type 0} (steps : S → Option Cells → S → Type 0) (inside : R → S) (limit_of : R → ℕ) (tie : Cells → List B → Type 0) (wanted : Take Cells → List B → Type 0) (limit : ℕ) →
     ((cells : Take Cells) (texts : List B) → tie (take_source cells) texts → take_count cells ≡ limit → wanted cells (take limit texts)) →
     (s : R) (rows : List (List B)) → limit_of s ≡ limit → GivesEach steps tie (inside s) rows →
     GivesEach (λ s r t. (limit_of t ≡ limit_of s) × GivesTaken steps (limit_of s) (inside s) r (inside t)) wanted s (map (take limit) rows)
@@ -109,3 +109,16 @@ each_limited steps inside limit_of tie wanted limit follows s (texts ∷ rows) i
       let next = gives.1 (take_source cells) (inside t) step.1.0 in
       (follows cells texts next.0 (step.1.1 ∙ is), each_limited steps inside limit_of tie wanted limit follows t rows (step.0 ∙ is) next.1),
 )
+
+-- all rows of a source, of each the first cells
+pub limited_rows_give : {R S C E F : Type 0} {row_can : R → Type 0} {row_left : R → Count} {can : S → Type 0} {left : S → Count} {may_refuse : Bool} {rows : List (List (List ℕ))}
+    (row_steps : R → Option S → R → Type 0) (steps : S → Option (Result C E) → S → Type 0) (text : C → List ℕ) (rows_of : F → R) (limit_of : F → ℕ) (s : F) →
+    GivesRows row_can row_left row_steps can left steps text may_refuse (rows_of s) rows →
+    GivesRows (λ s. row_can (rows_of s)) (λ s. row_left (rows_of s)) (λ s r t. (limit_of t ≡ limit_of s) × GivesTaken row_steps (limit_of s) (rows_of s) r (rows_of t))
+    (λ cells. can (take_source cells)) (λ cells. count_min (at_most (take_count cells)) (left (take_source cells))) (take_steps steps) text may_refuse s (map (take (limit_of s)) rows)
+limited_rows_give {rows = rows} row_steps steps text rows_of limit_of s gives =
+    record {
+      can_next = gives.can_next;
+      ends = gives.ends;
+      each = each_limited row_steps rows_of limit_of _ _ (limit_of s) (λ cells texts given count. gives_taken cells (limit_of s) refl count given) s rows refl gives.each;
+    }

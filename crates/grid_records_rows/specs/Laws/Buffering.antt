@@ -1,13 +1,18 @@
 -- Kept rows are given first, and then the rest of the source.
-use Rattle.std.proofs.Common.{◌≡◌, ◌∙◌, ℕ, Bool, List, [], ◌∷◌, ◌++◌, T, ap, drop, refl, subst, sym}
+use Rattle.std.proofs.Common.{◌≡◌, ◌∙◌, ℕ, Bool, Global, List, Vec, [], ◌∷◌, ◌++◌, T, ap, drop, refl, subst, sym, vec_items}
 use Rattle.std.specs.Prelude.{IfSome, MatchOption, None, Option, Result, Some, cond, false, true}
 use Rattle.std.specs.Iterator.{Count, IsFinite, at_most, count_add}
 use Rattle.either.specs.Either.{MatchEither, either}
 use Rattle.either.specs.Iterator.{either_steps}
 use Rattle.either.specs.declared.Either.{Either}
 use Rattle.either.specs.declared.Either.TheVariants.{Left, Right}
+use Rattle.std.specs.Vec.Iter.{into_iter_len, into_iter_steps}
+use Rattle.std.specs.declared.alloc.AllocError.{AllocError}
+use Rattle.std.specs.declared.vec.IntoIter.{IntoIter}
 use Rattle.grid_records_rows.specs.Buffering.{GivesBuffered, of_rest}
 use Rattle.grid_records_rows.specs.Giving.{Gives, GivesEach, GivesRows, HasPassedOne, IsAnswer}
+use Rattle.grid_records_rows.specs.Sources.{AnswersCell, GivesCellsOf, items_left, texts_of_rows}
+use Rattle.grid_records_rows.specs.Laws.Given.{vec_gives, vec_goes, vec_stays, vec_stops}
 
 -- one of two iterators gives what it gives
 module _ {S T A B : Type 0} (lefts : S → Option A → S → Type 0) (rights : T → Option A → T → Type 0) (tie : A → B → Type 0) where
@@ -111,41 +116,49 @@ module _ {R S C E : Type 0} {can : R → Type 0} {left : R → Count} {steps : R
   rest_ends zs None gives = tt
   rest_ends zs (Some it) gives = (gives it refl).ends
 
--- rows that are kept, and then those of the rest
-pub gives_buffered : {K R Kept Rest C E F : Type 0} (kept_steps : K → Option Kept → K → Type 0) (rest_steps : R → Option Rest → R → Type 0)
-    (kept_cells : Kept → Option (Result C E) → Kept → Type 0) (rest_cells : Rest → Option (Result C E) → Rest → Type 0) (kept_of : F → K) (rest_of : F → Option R) (text : C → List ℕ)
-    {kept_can : K → Type 0} {kept_left : K → Count} {rest_may : R → Type 0} {rest_left : R → Count}
-    {kept_cell_can : Kept → Type 0} {kept_cell_left : Kept → Count} {rest_cell_can : Rest → Type 0} {rest_cell_left : Rest → Count} →
-    ((s t : K) → kept_steps s None t → (row : Kept) (u : K) → ¬ (kept_steps t (Some row) u)) → (may_refuse : Bool) (s : F) (ys zs : List (List (List ℕ))) →
-    GivesRows kept_can kept_left kept_steps kept_cell_can kept_cell_left kept_cells text may_refuse (kept_of s) ys →
-    ((it : R) → rest_of s ≡ Some it → GivesRows rest_may rest_left rest_steps rest_cell_can rest_cell_left rest_cells text may_refuse it zs) → (rest_of s ≡ None → zs ≡ []) →
-    GivesRows (λ s. IfSome (rest_of s) rest_may) (λ s. count_add (kept_left (kept_of s)) (of_rest rest_left (at_most 0) (rest_of s)))
-    (λ s r t. GivesBuffered kept_steps rest_steps (kept_of s) (rest_of s) r (kept_of t) (rest_of t))
-    (λ cells. MatchEither cells kept_cell_can rest_cell_can) (either kept_cell_left rest_cell_left) (either_steps kept_cells rest_cells) text may_refuse s (ys ++ zs)
-gives_buffered kept_steps rest_steps kept_cells rest_cells kept_of rest_of text {kept_left = kept_left} {rest_left = rest_left} stays may_refuse s ys zs kept rest none =
+-- rows that a vector keeps, and then those of the rest
+pub buffered_rows_give : {T R K Cells Rest F : Type 0} (text : T → List ℕ) {becomes : Vec T Global → IntoIter T Global → Type 0} {rest_steps : R → Option Rest → R → Type 0}
+    {rest_cells : Rest → Option (Result T AllocError) → Rest → Type 0}
+    {rest_may : R → Type 0} {rest_left : R → Count} {rest_cell_can : Rest → Type 0} {rest_cell_left : Rest → Count}
+    (inside : K → IntoIter (Vec T Global) Global) (cells_of : Cells → IntoIter T Global) (kept_of : F → K) (rest_of : F → Option R) →
+    ((row : Vec T Global) (it : IntoIter T Global) → becomes row it → items_left it ≡ vec_items row) → (refuses : R → Bool) (rest_rows : R → List (List (List ℕ))) (s : F) →
+    ((it : R) → GivesRows rest_may rest_left rest_steps rest_cell_can rest_cell_left rest_cells text (refuses it) it (rest_rows it)) →
+    GivesRows (λ s. IfSome (rest_of s) rest_may) (λ s. count_add (at_most (into_iter_len (inside (kept_of s)))) (of_rest rest_left (at_most 0) (rest_of s)))
+    (λ s r t. GivesBuffered (λ s r t. GivesCellsOf into_iter_steps becomes (inside s) r cells_of (inside t)) rest_steps (kept_of s) (rest_of s) r (kept_of t) (rest_of t))
+    (λ cells. MatchEither cells (λ _. Unit {0}) rest_cell_can) (either (λ cells. at_most (into_iter_len (cells_of cells))) rest_cell_left)
+    (either_steps (λ s r t. AnswersCell into_iter_steps (cells_of s) r (cells_of t)) rest_cells) text (of_rest refuses false (rest_of s)) s
+    (texts_of_rows text (items_left (inside (kept_of s))) ++ of_rest rest_rows [] (rest_of s))
+buffered_rows_give text {becomes = becomes} {rest_steps = rest_steps} {rest_cells = rest_cells} {rest_left = rest_left} inside cells_of kept_of rest_of became refuses rest_rows s rest =
+    let zs = of_rest rest_rows [] (rest_of s) in
+    let may_refuse = of_rest refuses false (rest_of s) in
+    let of_it = rest_gives refuses rest_rows (rest_of s) rest in
     record {
-      can_next = rest_can zs (rest_of s) rest;
-      ends = both_end (kept_left (kept_of s)) (of_rest rest_left (at_most 0) (rest_of s)) kept.ends (rest_ends zs (rest_of s) rest);
-      each = each_buffered kept_steps rest_steps kept_of rest_of _ _ _
-          (λ row y given. gives_left kept_cells rest_cells (IsAnswer text may_refuse) row y given)
-          (λ row y given. gives_right kept_cells rest_cells (IsAnswer text may_refuse) row y given)
-          stays s ys zs kept.each (λ it is. (rest it is).each) none;
+      can_next = rest_can zs (rest_of s) of_it;
+      ends = rest_ends zs (rest_of s) of_it;
+      each = each_buffered (λ s r t. GivesCellsOf into_iter_steps becomes (inside s) r cells_of (inside t)) rest_steps kept_of rest_of _ _ _
+          (λ row y given. gives_left _ rest_cells (IsAnswer text may_refuse) row y given)
+          (λ row y given. gives_right _ rest_cells (IsAnswer text may_refuse) row y given)
+          (λ s t ended row u step. vec_stays (inside s) (inside t) ended step.0 (inside u) step.1) s (texts_of_rows text (items_left (inside (kept_of s)))) zs
+          (vec_gives text (λ _. Unit {0}) (λ cells. at_most (into_iter_len (cells_of cells))) may_refuse (λ _. (tt, tt)) inside cells_of became (kept_of s))
+          (λ it is. (of_it it is).each) (ap (of_rest rest_rows []));
     }
 
 -- and the row that was given is left no more
-pub passed_buffered : {K R Kept Rest : Type 0} (kept_steps : K → Option Kept → K → Type 0) (rest_steps : R → Option Rest → R → Type 0)
-    (kept_rows : K → List (List (List ℕ))) (rest_rows : R → List (List (List ℕ))) (refuses : R → Bool) →
-    ((s t : K) (row : Kept) → kept_steps s (Some row) t → (y : List (List ℕ)) × (kept_rows s ≡ y ∷ kept_rows t)) →
-    ((s t : K) → kept_steps s None t → (kept_rows s ≡ []) × (kept_rows t ≡ [])) →
+pub passed_buffered : {T R K Cells Rest : Type 0} (text : T → List ℕ) (becomes : Vec T Global → IntoIter T Global → Type 0) (rest_steps : R → Option Rest → R → Type 0)
+    (inside : K → IntoIter (Vec T Global) Global) (cells_of : Cells → IntoIter T Global) (rest_rows : R → List (List (List ℕ))) (refuses : R → Bool) →
     ((s t : R) (row : Rest) → rest_steps s (Some row) t → HasPassedOne (rest_rows s) (refuses s) (rest_rows t) (refuses t)) →
-    (k t : K) (r u : Option R) (row : Either Kept Rest) → GivesBuffered kept_steps rest_steps k r (Some row) t u →
-    HasPassedOne (kept_rows k ++ of_rest rest_rows [] r) (of_rest refuses false r) (kept_rows t ++ of_rest rest_rows [] u) (of_rest refuses false u)
-passed_buffered kept_steps rest_steps kept_rows rest_rows refuses goes stops passes k t r u (Left row) step = (
-  ap (λ v. kept_rows t ++ of_rest rest_rows [] v) step.1 ∙ sym (ap (λ v. drop 1 (v ++ of_rest rest_rows [] r)) (goes k t row step.0).1),
+    (k t : K) (r u : Option R) (row : Either Cells Rest) →
+    GivesBuffered (λ s r t. GivesCellsOf into_iter_steps becomes (inside s) r cells_of (inside t)) rest_steps k r (Some row) t u →
+    HasPassedOne
+    (texts_of_rows text (items_left (inside k)) ++ of_rest rest_rows [] r) (of_rest refuses false r)
+    (texts_of_rows text (items_left (inside t)) ++ of_rest rest_rows [] u) (of_rest refuses false u)
+passed_buffered text becomes rest_steps inside cells_of rest_rows refuses passes k t r u (Left row) step = (
+  ap (λ v. texts_of_rows text (items_left (inside t)) ++ of_rest rest_rows [] v) step.1
+      ∙ sym (ap (λ v. drop 1 (v ++ of_rest rest_rows [] r)) (vec_goes text (inside k) (inside t) step.0.0 step.0.1).1),
   ap (of_rest refuses false) step.1,
 )
-passed_buffered kept_steps rest_steps kept_rows rest_rows refuses goes stops passes k t r u (Right row) step =
-    let none = stops k t step.0 in
+passed_buffered text becomes rest_steps inside cells_of rest_rows refuses passes k t r u (Right row) step =
+    let none = vec_stops text (inside k) (inside t) step.0 in
     let passed = passes step.1.0 step.1.1 row step.1.4 in (
       ap (λ v. v ++ of_rest rest_rows [] u) none.1
           ∙ ap (of_rest rest_rows []) step.1.3

@@ -2,7 +2,7 @@
 use Rattle.std.proofs.Common.{◌≡◌, ◌≤◌, ◌<◌, ◌∙◌, ℕ, Bool, true, List, [], ◌∷◌, ap, arith, chars, false, nat_le, map, refl, subst, sym}
 use Rattle.std.proofs.lemmas.Bool.{le-leb, lt-leb}
 use Rattle.std.proofs.lemmas.List.{append_cancel_left}
-use Rattle.std.specs.Prelude.{◌++◌, Err, IfOk, Ok, Option, Result, Some}
+use Rattle.std.specs.Prelude.{◌++◌, Err, IfErr, IfOk, Ok, Option, Result, Some}
 use Rattle.std.specs.Iterator.{Count}
 use Rattle.ansi_scan.specs.Pieces.{pieces}
 use Rattle.ansi_scan.specs.Sequences.{ArePiecesOf, Piece}
@@ -10,9 +10,10 @@ use Rattle.ansi_scan.proofs.Existence.{ArePiecesOf-pieces}
 use Rattle.ansi_str.specs.StyledText.{strip}
 use Rattle.grid_records_measure.specs.Cutting.{IsCutAt, cut_bytes}
 use Rattle.grid_records_measure.specs.Filling.{behind_front, front}
+use Rattle.grid_records_measure.specs.TextLines.{text_width}
 use Rattle.grid_records_measure.proofs.FillingLemmas.{IsLongestFront-front, IsLongestFront-unique}
-use Rattle.grid_records_rows.specs.Giving.{Gives, GivesEach, IsAnswer}
-use Rattle.grid_records_rows.specs.Truncating.{GivesTruncated, GivesTruncatedRow, IsTruncated, cut_text, next_column, text_of_truncated, text_width, truncated_row, truncated_text}
+use Rattle.grid_records_rows.specs.Giving.{Gives, GivesEach, GivesRows, IsAnswer}
+use Rattle.grid_records_rows.specs.Truncating.{GivesTruncated, GivesTruncatedRow, IsTruncated, cut_text, next_column, text_of_truncated, truncated_row, truncated_rows, truncated_text}
 use Rattle.grid_records_rows.specs.declared.records.into_records.truncate_content.Truncated.{Truncated}
 
 -- a text has one cut at a width
@@ -48,14 +49,14 @@ module _ {S C E D F : Type 0} (steps : S → Option (Result C E) → S → Type 
   )
 
   -- the cells of a row, from its first column on
-  pub gives_truncated : {can : S → Type 0} {left : S → Count} (d : D) (row : List (List ℕ)) (s : F) → dimension_of s ≡ d → column_of s ≡ 0 → Gives can left steps (IsAnswer text may_refuse) (inside s) row →
+  gives_truncated : {can : S → Type 0} {left : S → Count} (d : D) (row : List (List ℕ)) (s : F) → dimension_of s ≡ d → column_of s ≡ 0 → Gives can left steps (IsAnswer text may_refuse) (inside s) row →
       Gives {A = Result (Truncated C) E} (λ s. can (inside s)) (λ s. left (inside s)) (λ s r t. (dimension_of t ≡ dimension_of s) × GivesTruncated steps text (width (dimension_of s)) (column_of s) (inside s) r (inside t) (column_of t))
       (IsAnswer (text_of_truncated text) true) s (truncated_row (width d) 0 row)
   gives_truncated d row s same at gives =
       record { can_next = gives.can_next; ends = gives.ends; each = each_truncated d 0 row s same at gives.each }
 
 -- the rows
-pub each_truncated_row : {R S Row Cells D : Type 0} (steps : S → Option Row → S → Type 0) (inside : R → S) (dimension_in : R → D) (cells_of : Cells → Row) (dimension_of : Cells → D) (column_of : Cells → ℕ)
+each_truncated_row : {R S Row Cells D : Type 0} (steps : S → Option Row → S → Type 0) (inside : R → S) (dimension_in : R → D) (cells_of : Cells → Row) (dimension_of : Cells → D) (column_of : Cells → ℕ)
     (tie : Row → List (List ℕ) → Type 0) (wanted : Cells → List (List ℕ) → Type 0) (width : ℕ → ℕ) (d : D) →
     ((cells : Cells) (texts : List (List ℕ)) → tie (cells_of cells) texts → dimension_of cells ≡ d → column_of cells ≡ 0 → wanted cells (truncated_row width 0 texts)) →
     (s : R) (rows : List (List (List ℕ))) → dimension_in s ≡ d → GivesEach steps tie (inside s) rows →
@@ -67,6 +68,24 @@ each_truncated_row steps inside dimension_in cells_of dimension_of column_of tie
       let next = gives.1 (cells_of cells) (inside t) step.1.0 in
       (follows cells texts next.0 (step.1.1 ∙ same) step.1.2, each_truncated_row steps inside dimension_in cells_of dimension_of column_of tie wanted width d follows t rows (step.0 ∙ same) next.1),
 )
+
+-- all rows of a source, cut
+pub truncated_rows_give : {R S C E Cells D F : Type 0} {row_can : R → Type 0} {row_left : R → Count} {can : S → Type 0} {left : S → Count} {may_refuse : Bool} {rows : List (List (List ℕ))}
+    (row_steps : R → Option S → R → Type 0) (steps : S → Option (Result C E) → S → Type 0) (text : C → List ℕ) (width : D → ℕ → ℕ)
+    (rows_of : F → R) (dimension_in : F → D) (cells_of : Cells → S) (dimension_of : Cells → D) (column_of : Cells → ℕ) (s : F) →
+    GivesRows row_can row_left row_steps can left steps text may_refuse (rows_of s) rows →
+    GivesRows {E = E} (λ s. row_can (rows_of s)) (λ s. row_left (rows_of s))
+    (λ s r t. (dimension_in t ≡ dimension_in s) × GivesTruncatedRow row_steps (dimension_in s) (rows_of s) r cells_of dimension_of column_of (rows_of t))
+    (λ cells. can (cells_of cells)) (λ cells. left (cells_of cells))
+    (λ s r t. (dimension_of t ≡ dimension_of s) × GivesTruncated steps text (width (dimension_of s)) (column_of s) (cells_of s) r (cells_of t) (column_of t))
+    (text_of_truncated text) true s (truncated_rows (width (dimension_in s)) rows)
+truncated_rows_give {rows = rows} row_steps steps text width rows_of dimension_in cells_of dimension_of column_of s gives =
+    record {
+      can_next = gives.can_next;
+      ends = gives.ends;
+      each = each_truncated_row row_steps rows_of dimension_in cells_of dimension_of column_of _ _ (width (dimension_in s)) (dimension_in s)
+          (λ cells texts given same at. gives_truncated steps text _ width cells_of dimension_of column_of (dimension_in s) texts cells same at given) s rows refl gives.each;
+    }
 
 -- a text that measures at most so many columns stays
 pub whole_text : (width found : ℕ) (text : List ℕ) → found ≡ text_width text → found ≤ width → text ≡ truncated_text width text
@@ -85,8 +104,19 @@ cut_is_left width found text shown bytes out is lt same cut owned =
 -- what is left of a cell that came
 pub truncated_next : {S C E : Type 0} (steps : S → Option (Result C E) → S → Type 0) (text : C → List ℕ) (width : ℕ → ℕ) (column found column_then : ℕ) (s t : S) (given : Result C E) (cell : C) (answer : Result (Truncated C) E) →
     given ≡ Ok cell → steps s (Some given) t → column_then ≡ next_column column → found ≡ width column → IfOk answer (λ out. text_of_truncated text out ≡ truncated_text found (text cell)) →
-    GivesTruncated steps text width column s (Some answer) t column_then
-truncated_next steps text width column found column_then s t given cell (Ok out) was step at wide is =
+    IfErr answer (λ _. found < text_width (text cell)) → GivesTruncated steps text width column s (Some answer) t column_then
+truncated_next steps text width column found column_then s t given cell (Ok out) was step at wide is _ =
     (at, (Ok cell, subst (λ v. steps s (Some v) t) was step, is ∙ ap (λ v. truncated_text v (text cell)) wide))
-truncated_next steps text width column found column_then s t given cell (Err _) was step at wide is =
-    (at, (Ok cell, subst (λ v. steps s (Some v) t) was step, tt))
+truncated_next steps text width column found column_then s t given cell (Err _) was step at wide _ wider =
+    (at, (Ok cell, subst (λ v. steps s (Some v) t) was step, subst (λ v. v < text_width (text cell)) wide wider))
+
+-- a cut is asked for only of a wider text
+pub is_wider : {T E : Type 0} (result : Result T E) (width found : ℕ) (text : List ℕ) → found ≡ text_width text → width < found → IfErr result (λ _. width < text_width text)
+is_wider (Ok _) width found text is lt = tt
+is_wider (Err _) width found text is lt = omega (arith, is, lt)
+
+-- a cell that came refused is refused
+pub refused_next : {S C E : Type 0} (steps : S → Option (Result C E) → S → Type 0) (text : C → List ℕ) (width : ℕ → ℕ) (column column_then : ℕ) (s t : S) (given : Result C E) (came refusal : E) →
+    given ≡ Err came → steps s (Some given) t → column_then ≡ next_column column → GivesTruncated steps text width column s (Some (Err refusal)) t column_then
+refused_next steps text width column column_then s t given came refusal was step at =
+    (at, (Err came, subst (λ v. steps s (Some v) t) was step, tt))

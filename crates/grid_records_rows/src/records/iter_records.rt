@@ -63,11 +63,7 @@ impl<I: IntoRecords> Records for IterRecords<I> {
     ghost hint = { λ s. s.count_rows };
 
     fn iter_rows(self) -> FittedRows<I::IterRows> {
-        let fitted = Fitted {
-            records: self.iter,
-            columns: self.count_columns,
-        };
-        fitted.iter_rows()
+        Fitted::new(self.iter, self.count_columns).iter_rows()
     }
 
     fn count_columns(&self) -> usize {
@@ -87,11 +83,7 @@ impl<'a, I: IntoRecords + Copy> Records for &'a IterRecords<I> {
     ghost hint = { λ s. ⟦<IterRecords<I> as Records>⟧.hint s.now };
 
     fn iter_rows(self) -> FittedRows<I::IterRows> {
-        let fitted = Fitted {
-            records: self.iter,
-            columns: self.count_columns,
-        };
-        fitted.iter_rows()
+        Fitted::new(self.iter, self.count_columns).iter_rows()
     }
 
     fn count_columns(&self) -> usize {

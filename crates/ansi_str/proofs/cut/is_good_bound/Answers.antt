@@ -1,6 +1,6 @@
 -- A step over a sequence or over text.
 use Rattle.std.proofs.Common.{◌≡◌, ◌∙◌, ◌-◌, ◌<◌, ◌≤◌, ℕ, List, length, sym, subst, true, false, arith, eqb-true, refl}
-use Rattle.ansi_str.proofs.Walks.{run_none}
+use Rattle.ansi_str_search.proofs.Walks.{run_none}
 use Rattle.ansi_str.proofs.CutSteps.{SameBound, SameBound-plain, bound-inside, bound-sequence, bound-front, bound-end, run-left}
 use Rattle.ansi_str.proofs.cut.is_good_bound.Goals as goal
 

@@ -71,7 +71,7 @@ returns-in-Err-clause-range c = λ is fits.
     let lines = lines-TableFits text (rows_shown c.args.rows.now) (whole_text text c.utf8.text c.requires.text) (sym c.requires.rows) fits in
     let range : c.from.result ≡ Range = cc is in
     elim c.in-Err.ensures.refused [
-      | inl memory ↦ let clash : Memory ≡ SizeRange = sym memory ∙ c.from.ensures range in cc clash
+      | inl memory ↦ let clash : Memory ≡ SizeRange = sym memory ∙ c.from.ensures.0 range in cc clash
       | inr passes ↦ passes.1 lines
     ]
 

@@ -3,7 +3,8 @@ use Rattle.std.specs.Int.{is_in_range}
 use Rattle.std.proofs.lemmas.List.{length-map}
 use Rattle.columns.specs.Rows.{line_feed, tab}
 use Rattle.columns.specs.Estimates.{Line}
-use Rattle.columns.specs.Printing.{shown, byte_line, is_plain}
+use Rattle.columns.specs.Printing.{shown, byte_line}
+use Rattle.grid_records_measure.specs.Measures.{are_printable}
 use Rattle.columns.specs.declared.rows.Cell.{Cell}
 use Rattle.columns.proofs.PassLemmas.{Pass, AreRows, cell-last, Pass-start, Pass-tab, Pass-line_feed, Pass-printable, Pass-other, Pass-last, Pass-none}
 use Rattle.columns.proofs.rows.rows_of.Goals as goal
@@ -20,7 +21,7 @@ loop-end-init c =
     (subst (λ (cells : List Cell). Pass text 0 0 0 true [] (map shown cells)) (sym c.new-cells.ensures.items) (Pass-start text c.utf8.text))
 
 pub push_cell-requires : goal.push_cell-requires
-push_cell-requires c = λ plain. ap is_plain c.range.ensures.value ∙ c.loop-end.invariant.printable plain
+push_cell-requires c = λ plain. ap are_printable c.range.ensures.value ∙ c.loop-end.invariant.printable plain
 
 -- what the arms of the match leave
 joined : (c : goal.Joined-is_printable) (start count : ℕ) (plain : Bool) (counts : Vec ℕ Global) (cells : Vec Cell Global)
@@ -71,7 +72,7 @@ loop-end-preserved c =
 pub push_cell-requires-then-count-gt0 : goal.push_cell-requires-then-count-gt0
 push_cell-requires-then-count-gt0 c = λ plain.
     let all : length c.args.text.now ≤ c.loop-end.end = omega (arith, ap length c.as_bytes-bytes.ensures.value) in
-    ap is_plain (c.range_from.ensures.value ∙ sym (cell-last c.args.text.now c.loop-end.start c.loop-end.end all)) ∙ c.loop-end.invariant.printable plain
+    ap are_printable (c.range_from.ensures.value ∙ sym (cell-last c.args.text.now c.loop-end.start c.loop-end.end all)) ∙ c.loop-end.invariant.printable plain
 
 -- the rows at the end
 rows : (c : goal.Joined-count-gt0) → AreRows c.args.text.now c.if-count-gt0.counts.items (lines c.if-count-gt0.cells)

@@ -1,6 +1,7 @@
-use Rattle.std.proofs.Common.{◌≡◌, ℕ, ◌^◌, ◌<◌, ◌≤◌, ◌⊎◌, All, vec_len, List, map, sum, subst, ◌∙◌, Ok, Err, Result}
+use Rattle.std.proofs.Common.{◌≡◌, ℕ, ◌^◌, ◌<◌, ◌≤◌, ◌⊎◌, All, vec_len, List, map, sum, subst, ◌∙◌, inr, Ok, Err, Result}
 use Rattle.std.specs.Prelude.{IfErr, IfOk}
 use Rattle.grid_config_values.specs.declared.fault.Fault.{Fault}
+use Rattle.grid_config_values.specs.declared.fault.Fault.TheVariants.{Range}
 use Rattle.grid_config.specs.Compact.{compact_of}
 use Rattle.grid_records_estimate.specs.Collecting.{PassesMax}
 use Rattle.grid_records_estimate.specs.Sizes.{IsRefusal, table_heights, table_widths}
@@ -36,9 +37,9 @@ IfOk-same : (r : Result Sizes Fault) (a b : List ℕ) → a ≡ b → IfOk r (λ
 IfOk-same (Ok sizes) a b e h = h ∙ e
 IfOk-same (Err fault) a b e h = h
 
-IfErr-implies : (r : Result Sizes Fault) (P Q : Type 0) → (P → Q) → IfErr r (λ fault. IsRefusal fault P) → IfErr r (λ fault. IsRefusal fault Q)
+IfErr-implies : (r : Result Sizes Fault) (P Q : Type 0) → (P → Q) → IfErr r (λ fault. (fault ≡ Range) × P) → IfErr r (λ fault. IsRefusal fault Q)
 IfErr-implies (Ok sizes) P Q f h = h
-IfErr-implies (Err fault) P Q f h = IsRefusal-implies fault P Q f h
+IfErr-implies (Err fault) P Q f h = inr (h.0, f h.1)
 
 pub returns-in-Ok-clause-widths : goal.returns-in-Ok-clause-widths
 returns-in-Ok-clause-widths c = IfOk-same c.totalled.result _ _ (c.in-Ok.ensures.widths ∙ found_widths c.args.rows.now c.settings-settings.result c.new.result c.requires.whole c.requires.measured c.settings-settings.ensures c.new.ensures.columns c.new.ensures.rows) c.totalled.ensures.widths

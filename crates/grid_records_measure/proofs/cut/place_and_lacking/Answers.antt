@@ -5,7 +5,7 @@ use Rattle.ansi_scan.specs.Pieces.{pieces}
 use Rattle.ansi_str.specs.StyledText.{strip}
 use Rattle.ansi_str.specs.Blocks.{Block, text_of_block}
 use Rattle.ansi_str_text.proofs.Utf8Pieces.{IsUtf8-shown_text}
-use Rattle.ansi_str.proofs.RestLemmas.{strip-fits}
+use Rattle.ansi_str_search.proofs.RestLemmas.{strip-fits}
 use Rattle.grid_records_measure.specs.Filling.{front, front_columns, behind_front}
 use Rattle.grid_records_measure.proofs.FillingLemmas.{lacking-none}
 use Rattle.grid_records_measure.proofs.LineLemmas.{shown-blocks}

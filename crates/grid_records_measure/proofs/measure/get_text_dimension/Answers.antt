@@ -7,7 +7,7 @@ use Rattle.ansi_scan.specs.Pieces.{pieces}
 use Rattle.ansi_scan.proofs.Existence.{ArePiecesOf-pieces}
 use Rattle.ansi_scan.proofs.Uniqueness.{ArePiecesOf-unique}
 use Rattle.ansi_str.specs.StyledText.{strip}
-use Rattle.ansi_str.proofs.RestLemmas.{strip-fits}
+use Rattle.ansi_str_search.proofs.RestLemmas.{strip-fits}
 use Rattle.grid_records_measure.specs.Measures.{measure}
 use Rattle.grid_records_measure.specs.TextLines.{is_line_feed, shown_lines, widest}
 use Rattle.grid_records_measure.specs.RawLines.{lines_behind}

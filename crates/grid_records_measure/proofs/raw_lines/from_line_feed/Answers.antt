@@ -4,9 +4,9 @@ use Rattle.ansi_scan.specs.Pieces.{pieces}
 use Rattle.ansi_scan.specs.Attributes.{plain_attributes}
 use Rattle.ansi_str.specs.StyledText.{style_after}
 use Rattle.ansi_str.specs.Walking.{AreFirstAndRest}
-use Rattle.ansi_str.proofs.Walks.{escape_first}
-use Rattle.ansi_str.proofs.FindLemmas.{other_boundary}
-use Rattle.ansi_str.proofs.Landing.{SameLanding-same, SameLanding-left, SameLanding-sequence, run_over, Lands-end}
+use Rattle.ansi_str_search.proofs.Walks.{escape_first}
+use Rattle.ansi_str_search.proofs.FindLemmas.{other_boundary}
+use Rattle.ansi_str_search.proofs.Landing.{SameLanding-same, SameLanding-left, SameLanding-sequence, run_over, Lands-end}
 use Rattle.grid_records_measure.specs.TextLines.{line_feed}
 use Rattle.grid_records_measure.proofs.raw_lines.from_line_feed.Goals as goal
 

@@ -5,7 +5,7 @@ use Rattle.std.proofs.Common.{◌≡◌, length}
 use Rattle.std.specs.List.{prefix_len}
 use Rattle.ansi_scan.specs.Attributes.{Attributes, plain_attributes}
 use Rattle.ansi_str.specs.Walking.{is_other}
-use Rattle.ansi_str.proofs.Landing.{SameLanding}
+use Rattle.ansi_str_search.proofs.Landing.{SameLanding}
 use Rattle.grid_records_measure.specs.TextLines.{line_feed}
 use Rattle.grid_records_measure.proofs.raw_lines.from_line_feed.Given as goal
 

@@ -5,8 +5,7 @@ ghost use Rattle.std.specs.Prelude.{◌≡◌, ◌++◌, Bool, IfOk, IfSome, IsT
 ghost use Rattle.grid_records_rows.specs.Buffering.{GivesBuffered, of_rest};
 ghost use Rattle.grid_records_rows.specs.Sources.{items_left, texts_of_rows};
 ghost use Rattle.grid_records_rows.specs.Giving.{GivesTexts};
-ghost use Rattle.grid_records_rows.specs.Laws.Buffering.{gives_buffered, passed_buffered, rest_gives};
-ghost use Rattle.grid_records_rows.specs.Laws.Given.{vec_gives, vec_goes, vec_stays, vec_stops};
+ghost use Rattle.grid_records_rows.specs.Laws.Buffering.{buffered_rows_give, passed_buffered};
 ghost use Rattle.grid_records_rows.specs.Laws.Sources.{all_items};
 
 use crate::records::RecordTexts;
@@ -80,9 +79,9 @@ impl<I: IntoRecords> IntoRecords for BufRecords<I> {
 
     ghost may_refuse_left = { λ s. of_rest I.may_refuse_left false s.rest };
 
-    ghost gives = { λ s. gives_buffered ⟦<GivenRows<vec::IntoIter<Vec<I::Cell>>> as Iterator>⟧.next_gives I.IterRows.next_gives _ I.IterColumns.next_gives (λ s. s.kept) (λ s. s.rest) I.Cell.text {kept_can = ⟦<GivenRows<vec::IntoIter<Vec<I::Cell>>> as Iterator>⟧.can_next} {kept_left = ⟦<GivenRows<vec::IntoIter<Vec<I::Cell>>> as Iterator>⟧.remaining} (λ s t ended row u step. vec_stays s.0 t.0 ended step.0 u.0 step.1) (of_rest I.may_refuse_left false s.rest) s (texts_of_rows I.Cell.text (items_left s.kept.0)) (of_rest I.rows_left [] s.rest) (record { can_next = tt; ends = tt; each = vec_gives I.Cell.text _ _ _ (λ _. (tt, tt)) (λ s. s.0) (λ cells. cells.0) (λ row it became. all_items it _ became.0 (became.1 ∙ row.ok.0)) s.kept }) (rest_gives I.may_refuse_left I.rows_left s.rest I.gives) (ap (of_rest I.rows_left [])) };
+    ghost gives = { λ s. buffered_rows_give I.Cell.text (λ s. s.0) (λ cells. cells.0) (λ s. s.kept) (λ s. s.rest) (λ row it became. all_items it _ became.0 (became.1 ∙ row.ok.0)) I.may_refuse_left I.rows_left s I.gives };
 
-    ghost passes = { λ s t cells step. passed_buffered ⟦<GivenRows<vec::IntoIter<Vec<I::Cell>>> as Iterator>⟧.next_gives I.IterRows.next_gives (λ s. texts_of_rows I.Cell.text (items_left s.0)) I.rows_left I.may_refuse_left (λ s t row step. vec_goes I.Cell.text s.0 t.0 step.0 step.1) (λ s t ended. vec_stops I.Cell.text s.0 t.0 ended) I.passes s.kept t.kept s.rest t.rest cells step };
+    ghost passes = { λ s t cells step. passed_buffered I.Cell.text _ I.IterRows.next_gives (λ s. s.0) (λ cells. cells.0) I.rows_left I.may_refuse_left I.passes s.kept t.kept s.rest t.rest cells step };
 
     fn iter_rows(self) -> BufferedRows<I::Cell, I::IterRows> {
         BufferedRows {

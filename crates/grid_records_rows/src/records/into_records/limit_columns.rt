@@ -1,8 +1,8 @@
 //! The first cells of each row of a source.
 ghost use Rattle.std.specs.Iterator.Adapters.{take_source};
-ghost use Rattle.std.specs.Prelude.{◌≡◌, map, refl, take};
+ghost use Rattle.std.specs.Prelude.{◌≡◌, map, take};
 ghost use Rattle.grid_records_rows.specs.Sources.{GivesTaken};
-ghost use Rattle.grid_records_rows.specs.Laws.Adapters.{each_limited, gives_taken};
+ghost use Rattle.grid_records_rows.specs.Laws.Adapters.{limited_rows_give};
 ghost use Rattle.grid_records_rows.specs.Laws.Leaving.{passed_made};
 
 use crate::records::RecordTexts;
@@ -42,7 +42,7 @@ impl<I: IntoRecords> IntoRecords for LimitColumns<I> {
 
     ghost may_refuse_left = { λ s. I.may_refuse_left s.rows };
 
-    ghost gives = { λ s. record { can_next = (I.gives s.rows).can_next; ends = (I.gives s.rows).ends; each = each_limited I.IterRows.next_gives (λ s. s.rows) (λ s. s.limit) _ _ s.limit (λ cells texts gives count. gives_taken cells s.limit refl count gives) s _ refl (I.gives s.rows).each } };
+    ghost gives = { λ s. limited_rows_give I.IterRows.next_gives I.IterColumns.next_gives I.Cell.text (λ s. s.rows) (λ s. s.limit) s (I.gives s.rows) };
 
     ghost passes = { λ s t cells step. let passed = I.passes s.rows t.rows (take_source cells) step.1.0 in (passed_made take _ _ _ _ step.0 passed.0, passed.1) };
 

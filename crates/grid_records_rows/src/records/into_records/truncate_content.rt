@@ -1,8 +1,9 @@
 //! The cells of a source, cut at the widths of their columns.
-ghost use Rattle.std.specs.Prelude.{◌≡◌, IfOk, refl, true};
+ghost use Rattle.std.specs.Prelude.{◌≡◌, ◌<◌, IfErr, IfOk, refl, true};
+ghost use Rattle.grid_records_measure.specs.TextLines.{text_width};
 ghost use Rattle.grid_records_rows.specs.Truncating.{GivesTruncated, GivesTruncatedRow, next_column, text_of_truncated, truncated_row, truncated_rows, truncated_text};
 ghost use Rattle.grid_records_rows.specs.Laws.Leaving.{passed_made};
-ghost use Rattle.grid_records_rows.specs.Laws.Truncating.{each_truncated_row, gives_truncated};
+ghost use Rattle.grid_records_rows.specs.Laws.Truncating.{truncated_rows_give};
 
 use crate::dimension::Dimension;
 use crate::records::RecordTexts;
@@ -12,7 +13,7 @@ use grid_records_measure::cut_width;
 use std::alloc::{AllocError, Global};
 
 /// The cells of a source, each cut at the width of its column where it measures more. A cell is cut when
-/// it is read, and may then be refused for memory.
+/// it is read, and may then be refused for memory; a cell that fits never is.
 #[derive(Debug, Drop)]
 pub struct TruncateContent<I, D> {
     alloc: Global,
@@ -50,7 +51,7 @@ impl<I: IntoRecords, D: Dimension + Copy> IntoRecords for TruncateContent<I, D> 
 
     ghost may_refuse_left = { λ _. true };
 
-    ghost gives = { λ s. record { can_next = (I.gives s.rows).can_next; ends = (I.gives s.rows).ends; each = each_truncated_row I.IterRows.next_gives (λ s. s.rows) (λ s. s.dimension) (λ cells. cells.cells) (λ cells. cells.dimension) (λ cells. cells.column) _ _ (D.width s.dimension) s.dimension (λ cells texts gives same at. gives_truncated I.IterColumns.next_gives I.Cell.text _ D.width (λ cells. cells.cells) (λ cells. cells.dimension) (λ cells. cells.column) s.dimension texts cells same at gives) s _ refl (I.gives s.rows).each } };
+    ghost gives = { λ s. truncated_rows_give I.IterRows.next_gives I.IterColumns.next_gives I.Cell.text D.width (λ s. s.rows) (λ s. s.dimension) (λ cells. cells.cells) (λ cells. cells.dimension) (λ cells. cells.column) s (I.gives s.rows) };
 
     ghost passes = { λ s t cells step. (passed_made (λ d. truncated_row (D.width d) 0) _ _ _ _ step.0 (I.passes s.rows t.rows cells.cells step.1.0).0, refl) };
 
@@ -83,9 +84,10 @@ impl<C: Cell> Cell for Truncated<C> {
     }
 }
 
-/// The cell, cut where it measures more than this width.
+/// The cell, cut where it measures more than this width. Only a cut may be refused, for memory.
 fn truncate<C: Cell>(alloc: Global, cell: C, width: usize) -> Result<Truncated<C>, AllocError>
-    ensures { IfOk result (λ out. text_of_truncated C.text out ≡ truncated_text width (C.text cell)) }
+    ensures ok { IfOk result (λ out. text_of_truncated C.text out ≡ truncated_text width (C.text cell)) }
+    ensures refused { IfErr result (λ _. width < text_width (C.text cell)) }
 {
     if cell.width() <= width {
         return Ok(Truncated::Whole(cell));

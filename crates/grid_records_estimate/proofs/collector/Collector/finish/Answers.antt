@@ -1,10 +1,13 @@
-use Rattle.std.proofs.Common.{◌≡◌, ℕ, List, fold, length, refl, ap, sym, ◌∙◌, subst}
+use Rattle.std.proofs.Common.{◌≡◌, ℕ, List, length, refl, ap, sym, ◌∙◌, subst, inr}
 use Rattle.std.proofs.lemmas.List.{with_items_is}
 use Rattle.grid_records_estimate.specs.declared.need.Need.{Need}
-use Rattle.grid_records_estimate.specs.Estimates.{meet, track_sizes}
 use Rattle.grid_records_estimate.specs.Collecting.{AreFirstBelow, AreInside, Collected, Describes, HasBetween, PassesMax}
-use Rattle.grid_records_estimate.proofs.FinishLemmas.{ordered-inside, sizes-finished}
+use Rattle.grid_records_estimate.proofs.FinishLemmas.{not_crossed, ordered-inside, sizes-finished}
+use Rattle.grid_records_estimate.proofs.MeetLemmas.{IfErr-told}
 use Rattle.grid_records_estimate.proofs.collector.Collector.finish.Goals as goal
+
+pub returns-then-crossings-eq0-clause-ok : goal.returns-then-crossings-eq0-clause-ok
+returns-then-crossings-eq0-clause-ok c = λ axis described. c.clear.ensures.items ∙ sym (not_crossed axis (described.crossings_are ∙ c.if-crossings-eq0.true))
 
 pub meet_all-requires : goal.meet_all-requires
 meet_all-requires c =
@@ -14,42 +17,33 @@ meet_all-requires c =
     (ordered-inside c.args.tracks c.self.inside.others.items c.in_order.result.items (length c.deref_mut.result.now)
     (sym (c.deref_mut.ensures.len ∙ c.in_ok-resize.ensures.len)) c.self.invariant (subst V (sym c.self.view_is) c.requires) c.in_order.ensures.moved)
 
-pub returns-in_err-meet_all-clause-range : goal.returns-in_err-meet_all-clause-range
-returns-in_err-meet_all-clause-range c = λ axis described fault.
+pub returns-in_err-meet_all-clause-refused : goal.returns-in_err-meet_all-clause-refused
+returns-in_err-meet_all-clause-refused c = λ axis described.
     let V : Collected → Type 0 = λ view. AreFirstBelow c.args.tracks view.others in
-    let W : Collected → Type 0 = λ view. Describes axis c.args.tracks c.args.between view in
+    let W : Collected → Type 0 = λ view. Describes axis c.args.tracks c.args.crossings c.args.between view in
     let kept : Collected = record { sizes = c.self.inside.sizes.items; others = c.self.inside.others.items } in
-    let start = c.deref_mut.result.now in
-    let filled = c.resize.new.self.items in
-    let long : length start ≡ c.args.tracks = c.deref_mut.ensures.len ∙ c.in_ok-resize.ensures.len in
+    let long : length c.deref_mut.result.now ≡ c.args.tracks = c.deref_mut.ensures.len ∙ c.in_ok-resize.ensures.len in
     let P : ℕ → Type 0 = λ n. HasBetween axis.has_boundary n c.args.between in
-    let all : fold (meet axis.has_boundary) filled c.in_order.result.items ≡ track_sizes axis =
-    sizes-finished axis c.args.tracks c.args.between kept filled c.in_order.result.items c.self.inside.sizes.len
+    let same = sizes-finished axis c.args.tracks c.args.crossings c.args.between kept c.resize.new.self.items c.deref_mut.result.now c.in_order.result.items c.deref.result.now c.self.inside.sizes.len
+    c.deref_mut.ensures.value c.deref.ensures.value c.if-crossings-eq0.false
     (subst W (sym c.self.view_is) described) c.self.invariant (subst V (sym c.self.view_is) c.requires) c.in_order.ensures.moved c.in_order.ensures.sorted
     (ap length (sym c.deref_mut.ensures.value) ∙ long) (sym c.self.inside.sizes.ok.0)
     (λ k d below inside. c.in_ok-resize.ensures.by_index.0 k d below inside) (λ k d past below. c.in_ok-resize.ensures.by_index.1 k d refl past below) in
-    let same : fold (meet axis.has_boundary) start c.deref.result.now ≡ track_sizes axis =
-    ap (λ xs. fold (meet axis.has_boundary) xs c.deref.result.now) c.deref_mut.ensures.value
-    ∙ ap (λ needs. fold (meet axis.has_boundary) filled needs) c.deref.ensures.value ∙ all in
     let Q : List ℕ → Type 0 = λ xs. PassesMax xs in
-    subst Q same (c.in_err-meet_all.ensures.range axis.has_boundary (subst P (sym long) described.boundaries))
+    IfErr-told c.from_residual-in_err-meet_all.result c.in_err-meet_all.field-0.0 _ c.from_residual-in_err-meet_all.ensures.1
+    (inr (c.in_err-meet_all.ensures.fault, subst Q same (c.in_err-meet_all.ensures.range axis.has_boundary (subst P (sym long) described.boundaries))))
 
 pub returns-clause-ok : goal.returns-clause-ok
 returns-clause-ok c = λ axis described.
     let V : Collected → Type 0 = λ view. AreFirstBelow c.args.tracks view.others in
-    let W : Collected → Type 0 = λ view. Describes axis c.args.tracks c.args.between view in
+    let W : Collected → Type 0 = λ view. Describes axis c.args.tracks c.args.crossings c.args.between view in
     let kept : Collected = record { sizes = c.self.inside.sizes.items; others = c.self.inside.others.items } in
-    let start = c.deref_mut.result.now in
-    let filled = c.resize.new.self.items in
-    let long : length start ≡ c.args.tracks = c.deref_mut.ensures.len ∙ c.in_ok-resize.ensures.len in
+    let long : length c.deref_mut.result.now ≡ c.args.tracks = c.deref_mut.ensures.len ∙ c.in_ok-resize.ensures.len in
     let P : ℕ → Type 0 = λ n. HasBetween axis.has_boundary n c.args.between in
-    let all : fold (meet axis.has_boundary) filled c.in_order.result.items ≡ track_sizes axis =
-    sizes-finished axis c.args.tracks c.args.between kept filled c.in_order.result.items c.self.inside.sizes.len
+    let same = sizes-finished axis c.args.tracks c.args.crossings c.args.between kept c.resize.new.self.items c.deref_mut.result.now c.in_order.result.items c.deref.result.now c.self.inside.sizes.len
+    c.deref_mut.ensures.value c.deref.ensures.value c.if-crossings-eq0.false
     (subst W (sym c.self.view_is) described) c.self.invariant (subst V (sym c.self.view_is) c.requires) c.in_order.ensures.moved c.in_order.ensures.sorted
     (ap length (sym c.deref_mut.ensures.value) ∙ long) (sym c.self.inside.sizes.ok.0)
     (λ k d below inside. c.in_ok-resize.ensures.by_index.0 k d below inside) (λ k d past below. c.in_ok-resize.ensures.by_index.1 k d refl past below) in
-    let same : fold (meet axis.has_boundary) start c.deref.result.now ≡ track_sizes axis =
-    ap (λ xs. fold (meet axis.has_boundary) xs c.deref.result.now) c.deref_mut.ensures.value
-    ∙ ap (λ needs. fold (meet axis.has_boundary) filled needs) c.deref.ensures.value ∙ all in
     with_items_is c.resize.new.self c.meet_all.new.sizes (c.meet_all.auto.sizes ∙ c.deref_mut.ensures.len)
     ∙ c.in_ok-meet_all.ensures.ok axis.has_boundary (subst P (sym long) described.boundaries) ∙ same

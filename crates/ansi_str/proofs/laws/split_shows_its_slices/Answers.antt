@@ -1,6 +1,0 @@
--- A lemma of `CutLemmas`.
-use Rattle.ansi_str.proofs.CutLemmas.{shown-parts}
-use Rattle.ansi_str.proofs.laws.split_shows_its_slices.Goals as goal
-
-pub returns : goal.returns
-returns c = λ byte text pieces matches low utf8 of_text whole are. shown-parts byte text pieces low utf8 of_text whole matches are

@@ -1,0 +1,13 @@
+-- The lemmas of `Utf8Lemmas` and `AllParts`.
+use Rattle.ansi_str_search.proofs.Utf8Lemmas.{All-closed, All-utf8}
+use Rattle.ansi_str_search.proofs.AllParts.{All-closed_lines}
+use Rattle.ansi_str_search.proofs.laws.parts_are_closed_texts.Goals as goal
+
+pub returns-clause-closed : goal.returns-clause-closed
+returns-clause-closed c = All-closed
+
+pub returns-clause-text : goal.returns-clause-text
+returns-clause-text c = All-utf8
+
+pub returns-clause-lines : goal.returns-clause-lines
+returns-clause-lines c = All-closed_lines

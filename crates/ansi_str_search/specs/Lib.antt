@@ -1,0 +1,9 @@
+pub mod Parts
+pub mod PartsLeft
+pub mod Matches
+pub mod Searches
+pub mod Walking
+pub mod Splitting
+pub mod Rests
+pub mod Lines
+pub mod WorkedParts

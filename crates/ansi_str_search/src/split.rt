@@ -1,0 +1,67 @@
+//! The parts of a text that is split.
+ghost use Rattle.std.specs.Prelude.{◌≡◌, ◌+◌, ◌≤◌, ℕ, List, length};
+ghost use Rattle.ansi_scan.specs.Sequences.{Piece, ArePiecesOf};
+ghost use Rattle.ansi_str_text.specs.StyledText.{has_escape, strip};
+ghost use Rattle.ansi_str_search.specs.Matches.{AreMatches, split_bounds, styled_parts};
+
+use crate::rest::Rest;
+use std::alloc::{AllocError, Global};
+use std::borrow::CowStr;
+use std::marker::Model;
+
+/// The parts of a text that are still to come, made by `ansi_split`. After the last, and after a
+/// refusal for memory, it gives `None` for ever. In a contract it is the list of these parts, and
+/// whether they may take memory.
+#[derive(Debug, Drop)]
+pub struct AnsiSplit<'a> {
+    rest: Option<Rest<'a>>,
+}
+
+impl<'a> Model for AnsiSplit<'a> {
+    ghost use Rattle.ansi_str_search.specs.Splitting.{PartsLeft};
+    ghost use Rattle.ansi_str_search.specs.Rests.{what_is_left};
+
+    ghost Value = { PartsLeft };
+
+    ghost view = { λ split. what_is_left split.rest };
+}
+
+impl<'a> AnsiSplit<'a> {
+    /// The parts of the text between the matches of the pattern, as `ansi_split` gives them; they borrow
+    /// the text itself, and not a variable that holds it.
+    pub fn new(alloc: Global, text: &'a str, pattern: &'a str) -> AnsiSplit<'a>
+        ensures parts { (pieces : List Piece) (matches : List ℕ) → ArePiecesOf text.now pieces →
+            AreMatches pattern.now (strip pieces) matches →
+            result.parts ≡ styled_parts pieces (split_bounds pattern.now (strip pieces) matches) }
+        ensures may_refuse { result.may_refuse ≡ has_escape text.now }
+        ensures count { length result.parts ≤ length text.now + 2 }
+    {
+        AnsiSplit {
+            rest: Some(Rest::new(alloc, text, pattern)),
+        }
+    }
+}
+
+impl<'a> Iterator for AnsiSplit<'a> {
+    type Item = Result<CowStr<'a>, AllocError>;
+
+    ghost use Rattle.std.specs.Prelude.{length};
+    ghost use Rattle.std.specs.Iterator.{at_most};
+    ghost use Rattle.ansi_str_search.specs.Splitting.{GivesPart};
+
+    ghost next_gives = { GivesPart };
+
+    ghost remaining = { λ split. at_most (length split.parts) };
+
+    fn next(&mut self) -> Option<Result<CowStr<'a>, AllocError>> {
+        // a refusal leaves nothing
+        let rest = self.rest.take()?;
+        match rest.split_first() {
+            Ok((part, rest)) => {
+                self.rest = rest;
+                Some(Ok(part))
+            }
+            Err(fault) => Some(Err(fault)),
+        }
+    }
+}

@@ -1,0 +1,43 @@
+//! A text without its sequences.
+ghost use Rattle.std.specs.Prelude.{◌≡◌, List, IfOk, IsOk, IsTrue, false, string_bytes};
+ghost use Rattle.std.specs.Cow.{IsOwnedStr, cow_str_bytes};
+ghost use Rattle.ansi_scan.specs.Sequences.{Piece, ArePiecesOf};
+ghost use Rattle.ansi_str_text.specs.StyledText.{has_escape, strip};
+
+use crate::places::ESC;
+use ansi_scan::{Kind, scan};
+use std::alloc::{AllocError, Global};
+use std::borrow::CowStr;
+
+/// The text without its sequences: its items of text, joined. A text without ESC is answered by a
+/// borrow, without memory; else the only refusal is for memory.
+pub fn strip_text<'a>(alloc: Global, text: &'a str) -> Result<CowStr<'a>, AllocError>
+    ensures strips { IfOk result (λ out. (pieces : List Piece) → ArePiecesOf text.now pieces → cow_str_bytes out ≡ strip pieces) }
+    ensures answers { has_escape text.now ≡ false → IsOk result }
+    ensures borrows { IfOk result (λ out. IsOwnedStr out → IsTrue (has_escape text.now)) }
+{
+    if !has_escape(text) {
+        return Ok(CowStr::Borrowed(text));
+    }
+    Ok(CowStr::Owned(joined_texts(alloc, text)?))
+}
+
+// The text items, joined.
+fn joined_texts(alloc: Global, text: &str) -> Result<String, AllocError>
+    ensures { IfOk result (λ out. (pieces : List Piece) → ArePiecesOf text.now pieces → string_bytes out ≡ strip pieces) }
+{
+    let mut out = String::with_capacity(alloc, text.len())?;
+    for item in scan(text) {
+        if let Kind::Text = item.kind {
+            out.push_str(&text[item.start..item.end])?;
+        }
+    }
+    Ok(out)
+}
+
+/// Whether the text holds an ESC. Takes no memory.
+pub fn has_escape(text: &str) -> bool
+    ensures { result ≡ has_escape text.now }
+{
+    text.as_bytes().contains(&ESC)
+}
