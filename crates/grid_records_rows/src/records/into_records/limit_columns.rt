@@ -19,7 +19,8 @@ pub struct LimitColumns<I> {
 impl<I: IntoRecords> LimitColumns<I> {
     /// As many cells of each row of the source, or all where it has fewer. Takes no memory.
     pub fn new(records: I, limit: usize) -> LimitColumns<I>
-        ensures { ⟦<LimitColumns<I> as RecordTexts>⟧.rows result ≡ map (take limit) (I.RecordTexts.rows records) }
+        ensures rows { ⟦<LimitColumns<I> as RecordTexts>⟧.rows result ≡ map (take limit) (I.RecordTexts.rows records) }
+        ensures refuses { ⟦<LimitColumns<I> as RecordTexts>⟧.may_refuse result ≡ I.RecordTexts.may_refuse records }
     {
         LimitColumns { records, limit }
     }

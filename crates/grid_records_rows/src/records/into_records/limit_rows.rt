@@ -18,7 +18,8 @@ pub struct LimitRows<I> {
 impl<I: IntoRecords> LimitRows<I> {
     /// As many rows of the source, or all where it has fewer. Takes no memory.
     pub fn new(records: I, limit: usize) -> LimitRows<I>
-        ensures { ⟦<LimitRows<I> as RecordTexts>⟧.rows result ≡ take limit (I.RecordTexts.rows records) }
+        ensures rows { ⟦<LimitRows<I> as RecordTexts>⟧.rows result ≡ take limit (I.RecordTexts.rows records) }
+        ensures refuses { ⟦<LimitRows<I> as RecordTexts>⟧.may_refuse result ≡ I.RecordTexts.may_refuse records }
     {
         LimitRows { records, limit }
     }

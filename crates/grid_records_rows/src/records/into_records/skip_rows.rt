@@ -18,7 +18,8 @@ pub struct SkipRows<I> {
 impl<I: IntoRecords> SkipRows<I> {
     /// The rows behind so many, or none where it has no more. Takes no memory.
     pub fn new(records: I, count: usize) -> SkipRows<I>
-        ensures { ⟦<SkipRows<I> as RecordTexts>⟧.rows result ≡ drop count (I.RecordTexts.rows records) }
+        ensures rows { ⟦<SkipRows<I> as RecordTexts>⟧.rows result ≡ drop count (I.RecordTexts.rows records) }
+        ensures refuses { ⟦<SkipRows<I> as RecordTexts>⟧.may_refuse result ≡ I.RecordTexts.may_refuse records }
     {
         SkipRows { records, count }
     }
