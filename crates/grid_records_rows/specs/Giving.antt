@@ -1,10 +1,14 @@
 -- Iterators that give a list, and iterators that give rows of texts.
-use Rattle.std.specs.Prelude.{◌≡◌, ℕ, Bool, true, List, [], ◌∷◌, Option, None, Some, Result, MatchResult, drop}
+use Rattle.std.specs.Prelude.{◌≡◌, ℕ, Bool, true, List, [], ◌∷◌, Option, None, Some, Result, Ok, Err, drop}
 use Rattle.std.specs.Iterator.{Count, IsFinite}
+
+-- nothing comes any more
+abbrev pub HasEnded : {S A : Type 0} → (S → Option A → S → Type 0) → S → Type 0
+HasEnded {S} {A} steps s = (x : A) (t : S) → ¬ (steps s (Some x) t)
 
 -- every run of calls from s gives as many items as the list has, each tied to the element at its place, and then `None`
 abbrev pub GivesEach : {S A B : Type 0} → (S → Option A → S → Type 0) → (A → B → Type 0) → S → List B → Type 0
-GivesEach {S} {A} steps tie s [] = (x : A) (t : S) → ¬ (steps s (Some x) t)
+GivesEach steps tie s [] = HasEnded steps s
 GivesEach {S} {A} steps tie s (y ∷ ys) =
     ((t : S) → ¬ (steps s None t)) × ((x : A) (t : S) → steps s (Some x) t → tie x y × GivesEach steps tie t ys)
 
@@ -14,13 +18,20 @@ pub record Gives {S A B : Type 0} (can : S → Type 0) (left : S → Count) (ste
   pub ends : IsFinite (left s)
   pub each : GivesEach steps tie s ys
 
--- the answer is a cell with this text, or a refusal for memory where one may come
-abbrev pub IsAnswer : {C E : Type 0} → (C → List ℕ) → Bool → Result C E → List ℕ → Type 0
-IsAnswer text may_refuse answer wanted = MatchResult answer (λ cell. text cell ≡ wanted) (λ _. may_refuse ≡ true)
+-- every run of calls from s answers a cell with each of the texts in order, and then `None`; where one may come, a
+-- refusal for memory may stand in a cell's place, and it ends the row
+abbrev pub GivesCells : {S C E : Type 0} → (S → Option (Result C E) → S → Type 0) → (C → List ℕ) → Bool → S → List (List ℕ) → Type 0
+GivesCells steps text may_refuse s [] = HasEnded steps s
+GivesCells {S} {C} {E} steps text may_refuse s (wanted ∷ row) =
+    ((t : S) → ¬ (steps s None t))
+    × ((cell : C) (t : S) → steps s (Some (Ok cell)) t → (text cell ≡ wanted) × GivesCells steps text may_refuse t row)
+    × ((refusal : E) (t : S) → steps s (Some (Err refusal)) t → (may_refuse ≡ true) × HasEnded steps t)
 
--- the iterator gives the cells of a row
-abbrev pub GivesTexts : {S C E : Type 0} → (S → Type 0) → (S → Count) → (S → Option (Result C E) → S → Type 0) → (C → List ℕ) → Bool → S → List (List ℕ) → Type 0
-GivesTexts can left steps text may_refuse s row = Gives can left steps (IsAnswer text may_refuse) s row
+-- the iterator can be advanced, ends, and gives the cells of a row
+pub record GivesTexts {S C E : Type 0} (can : S → Type 0) (left : S → Count) (steps : S → Option (Result C E) → S → Type 0) (text : C → List ℕ) (may_refuse : Bool) (s : S) (row : List (List ℕ)) : Type 0 where
+  pub can_next : can s
+  pub ends : IsFinite (left s)
+  pub each : GivesCells steps text may_refuse s row
 
 -- the first iterator gives iterators that give the cells of the rows
 abbrev pub GivesRows : {R S C E : Type 0} → (R → Type 0) → (R → Count) → (R → Option S → R → Type 0) → (S → Type 0) → (S → Count) → (S → Option (Result C E) → S → Type 0) → (C → List ℕ) → Bool → R → List (List (List ℕ)) → Type 0
