@@ -41,14 +41,16 @@ IsTruncated text width given answer =
     (λ cell. MatchResult given (λ whole. text_of_truncated text cell ≡ truncated_text width (text whole)) (λ _. ⊥))
     (λ _. MatchResult given (λ whole. width < text_width (text whole)) (λ _. Unit {0}))
 
--- a call answers what is left of the next cell
-abbrev pub GivesTruncated : {S C E : Type 0} → (S → Option (Result C E) → S → Type 0) → (C → List ℕ) → (ℕ → ℕ) → ℕ → S → Option (Result (Truncated C) E) → S → ℕ → Type 0
-GivesTruncated {C = C} {E = E} steps text width column s found t column_then =
-    MatchOption found (steps s None t)
-    (λ answer. (column_then ≡ next_column column) × ((given : Result C E) × steps s (Some given) t × IsTruncated text (width column) given answer))
+-- a call answers what is left of the next cell, as long as the row has one; behind a refusal there is none
+abbrev pub GivesTruncated : {S C E : Type 0} → (S → Option (Result C E) → S → Type 0) → (C → List ℕ) → (ℕ → ℕ) → ℕ → Option S → Option (Result (Truncated C) E) → Option S → ℕ → Type 0
+GivesTruncated {S = S} {C = C} {E = E} steps text width column cells found cells_then column_then =
+    MatchOption found (MatchOption cells (Unit {0}) (λ s. (t : S) × steps s None t))
+    (λ answer.
+    (s : S) × (t : S) × (given : Result C E) × (cells ≡ Some s) × steps s (Some given) t × IsTruncated text (width column) given answer
+    × MatchResult answer (λ _. (cells_then ≡ Some t) × (column_then ≡ next_column column)) (λ _. cells_then ≡ None))
 
 -- a call gives the next row, from its first column on
-abbrev pub GivesTruncatedRow : {S Cells D Row : Type 0} → (S → Option Row → S → Type 0) → D → S → Option Cells → (Cells → Row) → (Cells → D) → (Cells → ℕ) → S → Type 0
-GivesTruncatedRow steps dimension s found cells_of dimension_of column_of t =
+abbrev pub GivesTruncatedRow : {S Cells D Row : Type 0} → (S → Option Row → S → Type 0) → D → S → Option Cells → (Cells → Option Row) → (Cells → D) → (Cells → ℕ) → S → Type 0
+GivesTruncatedRow {Row = Row} steps dimension s found cells_of dimension_of column_of t =
     MatchOption found (steps s None t)
-    (λ cells. steps s (Some (cells_of cells)) t × (dimension_of cells ≡ dimension) × (column_of cells ≡ 0))
+    (λ cells. (row : Row) × steps s (Some row) t × (cells_of cells ≡ Some row) × (dimension_of cells ≡ dimension) × (column_of cells ≡ 0))

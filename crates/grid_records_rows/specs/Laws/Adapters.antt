@@ -6,7 +6,7 @@ use Rattle.std.specs.Iterator.{Count, IsFinite, SkipsThenYields, Yields, at_most
 use Rattle.std.specs.Iterator.Adapters.{skip_count, skip_source, skip_steps, take_count, take_source, take_steps}
 use Rattle.std.specs.declared.iter.Skip.{Skip}
 use Rattle.std.specs.declared.iter.Take.{Take}
-use Rattle.grid_records_rows.specs.Giving.{Gives, GivesEach, GivesRows}
+use Rattle.grid_records_rows.specs.Giving.{Gives, GivesCells, GivesEach, GivesRows, GivesTexts}
 use Rattle.grid_records_rows.specs.Sources.{GivesTaken}
 
 each_taken : {S A B : Type 0} (steps : S → Option A → S → Type 0) (tie : A → B → Type 0) (n : ℕ) (s : Take S) (ys : List B) → take_count s ≡ n →
@@ -97,6 +97,23 @@ gives_skipped {can = can} {left = left} {steps = steps} {tie = tie} {ys = ys} s 
       each = each_skipped steps tie n s ys (drop n ys) count refl (subst (λ v. GivesEach steps tie v ys) (sym source) gives.each);
     }
 
+-- the first cells of a row
+cells_taken : {S C E : Type 0} (steps : S → Option (Result C E) → S → Type 0) (text : C → List ℕ) (may_refuse : Bool) (n : ℕ) (s : Take S) (row : List (List ℕ)) → take_count s ≡ n →
+    GivesCells steps text may_refuse (take_source s) row → GivesCells (take_steps steps) text may_refuse s (take n row)
+cells_taken steps text may_refuse zero s row count gives = λ x t step. absurd (omega (arith, step.1, count))
+cells_taken steps text may_refuse (suc n) s [] count gives = λ x t step. gives x (take_source t) step.0
+cells_taken steps text may_refuse (suc n) s (wanted ∷ row) count gives = (
+  λ t step. gives.0 (take_source t) (step (omega (arith, count))),
+  λ cell t step. let next = gives.1 cell (take_source t) step.0 in (next.0, cells_taken steps text may_refuse n t row (omega (arith, count, step.1)) next.1),
+  λ refusal t step. let last = gives.2 refusal (take_source t) step.0 in (last.0, λ x u later. last.1 x (take_source u) later.0),
+)
+
+texts_taken : {S C E : Type 0} {can : S → Type 0} {left : S → Count} {steps : S → Option (Result C E) → S → Type 0} {text : C → List ℕ} {may_refuse : Bool} {row : List (List ℕ)} (s : Take S) (n : ℕ) →
+    take_count s ≡ n → GivesTexts can left steps text may_refuse (take_source s) row →
+    GivesTexts (λ s. can (take_source s)) (λ s. count_min (at_most (take_count s)) (left (take_source s))) (take_steps steps) text may_refuse s (take n row)
+texts_taken {steps = steps} {text = text} {may_refuse = may_refuse} {row = row} s n count gives =
+    record { can_next = gives.can_next; ends = tt; each = cells_taken steps text may_refuse n s row count gives.each }
+
 -- rows of which the first cells are taken
 each_limited : {R S Cells B : Type 0} (steps : S → Option Cells → S → Type 0) (inside : R → S) (limit_of : R → ℕ) (tie : Cells → List B → Type 0) (wanted : Take Cells → List B → Type 0) (limit : ℕ) →
     ((cells : Take Cells) (texts : List B) → tie (take_source cells) texts → take_count cells ≡ limit → wanted cells (take limit texts)) →
@@ -120,5 +137,5 @@ limited_rows_give {rows = rows} row_steps steps text rows_of limit_of s gives =
     record {
       can_next = gives.can_next;
       ends = gives.ends;
-      each = each_limited row_steps rows_of limit_of _ _ (limit_of s) (λ cells texts given count. gives_taken cells (limit_of s) refl count given) s rows refl gives.each;
+      each = each_limited row_steps rows_of limit_of _ _ (limit_of s) (λ cells texts given count. texts_taken cells (limit_of s) count given) s rows refl gives.each;
     }

@@ -1,6 +1,6 @@
 -- Kept rows are given first, and then the rest of the source.
 use Rattle.std.proofs.Common.{◌≡◌, ◌∙◌, ℕ, Bool, Global, List, Vec, [], ◌∷◌, ◌++◌, T, ap, drop, refl, subst, sym, vec_items}
-use Rattle.std.specs.Prelude.{IfSome, MatchOption, None, Option, Result, Some, cond, false, true}
+use Rattle.std.specs.Prelude.{Err, IfSome, MatchOption, None, Ok, Option, Result, Some, cond, false, true}
 use Rattle.std.specs.Iterator.{Count, IsFinite, at_most, count_add}
 use Rattle.either.specs.Either.{MatchEither, either}
 use Rattle.either.specs.Iterator.{either_steps}
@@ -10,39 +10,53 @@ use Rattle.std.specs.Vec.Iter.{into_iter_len, into_iter_steps}
 use Rattle.std.specs.declared.alloc.AllocError.{AllocError}
 use Rattle.std.specs.declared.vec.IntoIter.{IntoIter}
 use Rattle.grid_records_rows.specs.Buffering.{GivesBuffered, of_rest}
-use Rattle.grid_records_rows.specs.Giving.{Gives, GivesEach, GivesRows, HasPassedOne, IsAnswer}
+use Rattle.grid_records_rows.specs.Giving.{Gives, GivesCells, GivesEach, GivesRows, GivesTexts, HasEnded, HasPassedOne}
 use Rattle.grid_records_rows.specs.Sources.{AnswersCell, GivesCellsOf, items_left, texts_of_rows}
 use Rattle.grid_records_rows.specs.Laws.Given.{vec_gives, vec_goes, vec_stays, vec_stops}
 
--- one of two iterators gives what it gives
-module _ {S T A B : Type 0} (lefts : S → Option A → S → Type 0) (rights : T → Option A → T → Type 0) (tie : A → B → Type 0) where
-  each_left : (s : S) (ys : List B) → GivesEach lefts tie s ys → GivesEach (either_steps lefts rights) tie (Left s) ys
-  each_left s [] gives = λ x t. elim t as (λ v. either_steps lefts rights (Left s) (Some x) v → ⊥) [ Left t ↦ λ step. gives x t step | Right _ ↦ λ never. never ]
-  each_left s (y ∷ ys) gives = (
+-- one of two iterators gives the cells that it gives
+module _ {S T C E : Type 0} (lefts : S → Option (Result C E) → S → Type 0) (rights : T → Option (Result C E) → T → Type 0) (text : C → List ℕ) (may_refuse : Bool) where
+  ended_left : (s : S) → HasEnded lefts s → HasEnded (either_steps lefts rights) (Left s)
+  ended_left s gives = λ x t. elim t as (λ v. either_steps lefts rights (Left s) (Some x) v → ⊥) [ Left t ↦ λ step. gives x t step | Right _ ↦ λ never. never ]
+
+  ended_right : (s : T) → HasEnded rights s → HasEnded (either_steps lefts rights) (Right s)
+  ended_right s gives = λ x t. elim t as (λ v. either_steps lefts rights (Right s) (Some x) v → ⊥) [ Right t ↦ λ step. gives x t step | Left _ ↦ λ never. never ]
+
+  cells_left : (s : S) (row : List (List ℕ)) → GivesCells lefts text may_refuse s row → GivesCells (either_steps lefts rights) text may_refuse (Left s) row
+  cells_left s [] gives = ended_left s gives
+  cells_left s (wanted ∷ row) gives = (
     λ t. elim t as (λ v. either_steps lefts rights (Left s) None v → ⊥) [ Left t ↦ λ step. gives.0 t step | Right _ ↦ λ never. never ],
-    λ x t. elim t as (λ v. either_steps lefts rights (Left s) (Some x) v → tie x y × GivesEach (either_steps lefts rights) tie v ys) [
-      | Left t ↦ λ step. let next = gives.1 x t step in (next.0, each_left t ys next.1)
+    λ cell t. elim t as (λ v. either_steps lefts rights (Left s) (Some (Ok cell)) v → (text cell ≡ wanted) × GivesCells (either_steps lefts rights) text may_refuse v row) [
+      | Left t ↦ λ step. let next = gives.1 cell t step in (next.0, cells_left t row next.1)
+      | Right _ ↦ λ never. absurd never
+    ],
+    λ refusal t. elim t as (λ v. either_steps lefts rights (Left s) (Some (Err refusal)) v → (may_refuse ≡ true) × HasEnded (either_steps lefts rights) v) [
+      | Left t ↦ λ step. let last = gives.2 refusal t step in (last.0, ended_left t last.1)
       | Right _ ↦ λ never. absurd never
     ],
   )
 
-  each_right : (s : T) (ys : List B) → GivesEach rights tie s ys → GivesEach (either_steps lefts rights) tie (Right s) ys
-  each_right s [] gives = λ x t. elim t as (λ v. either_steps lefts rights (Right s) (Some x) v → ⊥) [ Right t ↦ λ step. gives x t step | Left _ ↦ λ never. never ]
-  each_right s (y ∷ ys) gives = (
+  cells_right : (s : T) (row : List (List ℕ)) → GivesCells rights text may_refuse s row → GivesCells (either_steps lefts rights) text may_refuse (Right s) row
+  cells_right s [] gives = ended_right s gives
+  cells_right s (wanted ∷ row) gives = (
     λ t. elim t as (λ v. either_steps lefts rights (Right s) None v → ⊥) [ Right t ↦ λ step. gives.0 t step | Left _ ↦ λ never. never ],
-    λ x t. elim t as (λ v. either_steps lefts rights (Right s) (Some x) v → tie x y × GivesEach (either_steps lefts rights) tie v ys) [
-      | Right t ↦ λ step. let next = gives.1 x t step in (next.0, each_right t ys next.1)
+    λ cell t. elim t as (λ v. either_steps lefts rights (Right s) (Some (Ok cell)) v → (text cell ≡ wanted) × GivesCells (either_steps lefts rights) text may_refuse v row) [
+      | Right t ↦ λ step. let next = gives.1 cell t step in (next.0, cells_right t row next.1)
+      | Left _ ↦ λ never. absurd never
+    ],
+    λ refusal t. elim t as (λ v. either_steps lefts rights (Right s) (Some (Err refusal)) v → (may_refuse ≡ true) × HasEnded (either_steps lefts rights) v) [
+      | Right t ↦ λ step. let last = gives.2 refusal t step in (last.0, ended_right t last.1)
       | Left _ ↦ λ never. absurd never
     ],
   )
 
-  pub gives_left : {can : S → Type 0} {left : S → Count} {can_right : T → Type 0} {left_right : T → Count} (s : S) (ys : List B) → Gives can left lefts tie s ys →
-      Gives (λ s. MatchEither s can can_right) (either left left_right) (either_steps lefts rights) tie (Left s) ys
-  gives_left s ys gives = record { can_next = gives.can_next; ends = gives.ends; each = each_left s ys gives.each }
+  gives_left : {can : S → Type 0} {left : S → Count} {can_right : T → Type 0} {left_right : T → Count} (s : S) (row : List (List ℕ)) → GivesTexts can left lefts text may_refuse s row →
+      GivesTexts (λ s. MatchEither s can can_right) (either left left_right) (either_steps lefts rights) text may_refuse (Left s) row
+  gives_left s row gives = record { can_next = gives.can_next; ends = gives.ends; each = cells_left s row gives.each }
 
-  pub gives_right : {can : S → Type 0} {left : S → Count} {can_right : T → Type 0} {left_right : T → Count} (s : T) (ys : List B) → Gives can_right left_right rights tie s ys →
-      Gives (λ s. MatchEither s can can_right) (either left left_right) (either_steps lefts rights) tie (Right s) ys
-  gives_right s ys gives = record { can_next = gives.can_next; ends = gives.ends; each = each_right s ys gives.each }
+  gives_right : {can : S → Type 0} {left : S → Count} {can_right : T → Type 0} {left_right : T → Count} (s : T) (row : List (List ℕ)) → GivesTexts can_right left_right rights text may_refuse s row →
+      GivesTexts (λ s. MatchEither s can can_right) (either left left_right) (either_steps lefts rights) text may_refuse (Right s) row
+  gives_right s row gives = record { can_next = gives.can_next; ends = gives.ends; each = cells_right s row gives.each }
 
 -- kept rows come first
 module _ {K R Kept Rest B F : Type 0} (kept_steps : K → Option Kept → K → Type 0) (rest_steps : R → Option Rest → R → Type 0) (kept_of : F → K) (rest_of : F → Option R)
@@ -136,8 +150,8 @@ buffered_rows_give text {becomes = becomes} {rest_steps = rest_steps} {rest_cell
       can_next = rest_can zs (rest_of s) of_it;
       ends = rest_ends zs (rest_of s) of_it;
       each = each_buffered (λ s r t. GivesCellsOf into_iter_steps becomes (inside s) r cells_of (inside t)) rest_steps kept_of rest_of _ _ _
-          (λ row y given. gives_left _ rest_cells (IsAnswer text may_refuse) row y given)
-          (λ row y given. gives_right _ rest_cells (IsAnswer text may_refuse) row y given)
+          (λ row y given. gives_left _ rest_cells text may_refuse row y given)
+          (λ row y given. gives_right _ rest_cells text may_refuse row y given)
           (λ s t ended row u step. vec_stays (inside s) (inside t) ended step.0 (inside u) step.1) s (texts_of_rows text (items_left (inside (kept_of s)))) zs
           (vec_gives text (λ _. Unit {0}) (λ cells. at_most (into_iter_len (cells_of cells))) may_refuse (λ _. (tt, tt)) inside cells_of became (kept_of s))
           (λ it is. (of_it it is).each) (ap (of_rest rest_rows []));

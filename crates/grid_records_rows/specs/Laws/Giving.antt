@@ -2,7 +2,7 @@
 use Rattle.std.proofs.Common.{◌≡◌, ℕ, List, [], ◌∷◌, ap, arith, length, refl, subst, map, Bool}
 use Rattle.std.specs.Prelude.{MatchOption, None, Ok, Err, Option, Result, Some}
 use Rattle.std.specs.Iterator.{Count, IsFinite}
-use Rattle.grid_records_rows.specs.Giving.{Gives, GivesEach, GivesRows, GivesTexts, IsAnswer}
+use Rattle.grid_records_rows.specs.Giving.{Gives, GivesCells, GivesEach, GivesRows, GivesTexts}
 use Rattle.grid_records_rows.specs.Sources.{AnswersCell, GivesCellsOf}
 
 -- a call gave an item tied to the first that was left, and left the others, or none where none was left
@@ -35,15 +35,13 @@ each_tied steps tie other follows s (y ∷ ys) gives =
 -- cells that are given are answered
 pub each_answered : {S R C : Type 0} (E : Type 0) (steps : S → Option C → S → Type 0) (inside : R → S) (text : C → List ℕ) (may_refuse : Bool) (s : R) (row : List (List ℕ)) →
     GivesEach steps (λ cell wanted. text cell ≡ wanted) (inside s) row →
-    GivesEach {A = Result C E} (λ s r t. AnswersCell steps (inside s) r (inside t)) (IsAnswer text may_refuse) s row
+    GivesCells {E = E} (λ s r t. AnswersCell steps (inside s) r (inside t)) text may_refuse s row
 each_answered E steps inside text may_refuse s [] gives =
     λ answer t. elim answer as (λ v. AnswersCell steps (inside s) (Some v) (inside t) → ⊥) [ Ok cell ↦ λ step. gives cell (inside t) step | Err _ ↦ λ never. never ]
-each_answered {C = C} E steps inside text may_refuse s (wanted ∷ row) gives = (
+each_answered E steps inside text may_refuse s (wanted ∷ row) gives = (
   λ t step. gives.0 (inside t) step,
-  λ answer t. elim answer as (λ v. AnswersCell steps (inside s) (Some v) (inside t) → IsAnswer text may_refuse v wanted × GivesEach {A = Result C E} (λ s r t. AnswersCell steps (inside s) r (inside t)) (IsAnswer text may_refuse) t row) [
-    | Ok cell ↦ λ step. let next = gives.1 cell (inside t) step in (next.0, each_answered E steps inside text may_refuse t row next.1)
-    | Err _ ↦ λ never. absurd never
-  ],
+  λ cell t step. let next = gives.1 cell (inside t) step in (next.0, each_answered E steps inside text may_refuse t row next.1),
+  λ refusal t never. absurd never,
 )
 
 -- rows that are given, and what they become

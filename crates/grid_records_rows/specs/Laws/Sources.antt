@@ -1,13 +1,12 @@
 -- Iterators of the standard library give their lists.
 use Rattle.std.proofs.Common.{arith, ◌≡◌, ◌∙◌, ℕ, zero, suc, List, [], ◌∷◌, ap, length, map, replicate, Bool, Bor, Global, Iter, refl, subst, take}
 use Rattle.std.proofs.lemmas.List.{take_all}
-use Rattle.std.specs.Prelude.{Err, MatchResult, Ok, Result}
 use Rattle.std.specs.Array.Iter.{array_into_iter_items, array_steps}
 use Rattle.std.specs.Slice.Iter.{iter_rest, iter_steps}
 use Rattle.std.specs.Vec.Iter.{into_iter_items, into_iter_len, into_iter_steps}
 use Rattle.std.specs.declared.array.IntoIter.{IntoIter as ArrayIter}
 use Rattle.std.specs.declared.vec.IntoIter.{IntoIter}
-use Rattle.grid_records_rows.specs.Giving.{GivesEach, IsAnswer}
+use Rattle.grid_records_rows.specs.Giving.{GivesCells, GivesEach}
 use Rattle.grid_records_rows.specs.Sources.{GivesEmptyCells, GivesEmptyText, items_left}
 use Rattle.grid_records_rows.specs.Laws.Giving.{each_mapped, empty}
 
@@ -36,16 +35,12 @@ pub each_of_array : {A B : Type 0} {n : ℕ} (f : A → B) (it : ArrayIter A n) 
 each_of_array {A} {B} {n} f it ys is =
     each_mapped (array_steps {A = A} {n = n}) (λ x. x) array_into_iter_items f (λ s t step. empty (array_into_iter_items s) step.0) (λ s x t step. step) it ys is
 
-empty_answer : {E : Type 0} (may_refuse : Bool) (answer : Result (Bor (List ℕ)) E) → MatchResult answer (λ text. text.now ≡ []) (λ _. ⊥) → IsAnswer (λ text. text.now) may_refuse answer []
-empty_answer may_refuse (Ok text) is = is
-empty_answer may_refuse (Err _) never = absurd never
-
 -- so many empty texts
 pub each_empty_text : {S : Type 0} (E : Type 0) (left_of : S → ℕ) (may_refuse : Bool) (n : ℕ) (s : S) → left_of s ≡ n →
-    GivesEach {A = Result (Bor (List ℕ)) E} (λ s r t. GivesEmptyText (left_of s) r (left_of t)) (IsAnswer (λ text. text.now) may_refuse) s (replicate n [])
+    GivesCells {C = Bor (List ℕ)} {E = E} (λ s r t. GivesEmptyText (left_of s) r (left_of t)) (λ text. text.now) may_refuse s (replicate n [])
 each_empty_text E left_of may_refuse zero s is = λ answer t step. omega (arith, step.0, is)
 each_empty_text E left_of may_refuse (suc n) s is =
-    (λ t step. omega (arith, step, is), λ answer t step. (empty_answer may_refuse answer step.1, each_empty_text E left_of may_refuse n t (omega (arith, step.0, is))))
+    (λ t step. omega (arith, step, is), λ text t step. (step.1, each_empty_text E left_of may_refuse n t (omega (arith, step.0, is))), λ refusal t step. absurd step.1)
 
 -- so many rows
 pub each_empty_row : {S Cells : Type 0} (left_of columns_of : S → ℕ) (cells_of : Cells → ℕ) (wanted : Cells → List (List ℕ) → Type 0) (columns n : ℕ) →

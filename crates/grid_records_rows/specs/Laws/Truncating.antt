@@ -2,8 +2,9 @@
 use Rattle.std.proofs.Common.{◌≡◌, ◌≤◌, ◌<◌, ◌∙◌, ℕ, Bool, true, List, [], ◌∷◌, ap, arith, chars, false, nat_le, map, refl, subst, sym}
 use Rattle.std.proofs.lemmas.Bool.{le-leb, lt-leb}
 use Rattle.std.proofs.lemmas.List.{append_cancel_left}
-use Rattle.std.specs.Prelude.{◌++◌, Err, IfErr, IfOk, Ok, Option, Result, Some}
-use Rattle.std.specs.Iterator.{Count}
+use Rattle.std.specs.Prelude.{◌++◌, Err, IfErr, IfOk, IfSome, MatchOption, None, Ok, Option, Result, Some}
+use Rattle.std.specs.Iterator.{Count, IsFinite, at_most}
+use Rattle.grid_records_rows.specs.Buffering.{of_rest}
 use Rattle.ansi_scan.specs.Pieces.{pieces}
 use Rattle.ansi_scan.specs.Sequences.{ArePiecesOf, Piece}
 use Rattle.ansi_scan.proofs.Existence.{ArePiecesOf-pieces}
@@ -12,7 +13,7 @@ use Rattle.grid_records_measure.specs.Cutting.{IsCutAt, cut_bytes}
 use Rattle.grid_records_measure.specs.Filling.{behind_front, front}
 use Rattle.grid_records_measure.specs.TextLines.{text_width}
 use Rattle.grid_records_measure.proofs.FillingLemmas.{IsLongestFront-front, IsLongestFront-unique}
-use Rattle.grid_records_rows.specs.Giving.{Gives, GivesEach, GivesRows, IsAnswer}
+use Rattle.grid_records_rows.specs.Giving.{GivesCells, GivesEach, GivesRows, GivesTexts, HasEnded}
 use Rattle.grid_records_rows.specs.Truncating.{GivesTruncated, GivesTruncatedRow, IsTruncated, cut_text, next_column, text_of_truncated, truncated_row, truncated_rows, truncated_text}
 use Rattle.grid_records_rows.specs.declared.records.into_records.truncate_content.Truncated.{Truncated}
 
@@ -26,65 +27,80 @@ cut-unique width text bytes cut =
     (ap (λ v. v ++ cut.1) (sym kept) ∙ sym cut.2.parted ∙ longest.parted) in
     cut.3 ∙ ap (λ v. cut_bytes width (pieces text) v cut.1) kept ∙ ap (λ v. cut_bytes width (pieces text) (front width 0 characters) v) left
 
-tied : {C E : Type 0} (text : C → List ℕ) (may_refuse : Bool) (width : ℕ) (wanted : List ℕ) (given : Result C E) (answer : Result (Truncated C) E) →
-    IsTruncated text width given answer → IsAnswer text may_refuse given wanted → IsAnswer (text_of_truncated text) true answer (truncated_text width wanted)
-tied text may_refuse width wanted (Ok whole) (Ok cell) is same = is ∙ ap (truncated_text width) same
-tied text may_refuse width wanted (Err _) (Ok cell) never same = absurd never
-tied text may_refuse width wanted given (Err _) is same = refl
+module _ {S C E D F : Type 0} (steps : S → Option (Result C E) → S → Type 0) (text : C → List ℕ) (may_refuse : Bool) (width : D → ℕ → ℕ) (inside : F → Option S) (dimension_of : F → D) (column_of : F → ℕ) where
+  abbrev Steps : F → Option (Result (Truncated C) E) → F → Type 0
+  Steps s r t = (dimension_of t ≡ dimension_of s) × GivesTruncated steps text (width (dimension_of s)) (column_of s) (inside s) r (inside t) (column_of t)
 
-module _ {S C E D F : Type 0} (steps : S → Option (Result C E) → S → Type 0) (text : C → List ℕ) (may_refuse : Bool) (width : D → ℕ → ℕ) (inside : F → S) (dimension_of : F → D) (column_of : F → ℕ) where
-  each_truncated : (d : D) (column : ℕ) (row : List (List ℕ)) (s : F) → dimension_of s ≡ d → column_of s ≡ column → GivesEach steps (IsAnswer text may_refuse) (inside s) row →
-      GivesEach {A = Result (Truncated C) E} (λ s r t. (dimension_of t ≡ dimension_of s) × GivesTruncated steps text (width (dimension_of s)) (column_of s) (inside s) r (inside t) (column_of t))
-      (IsAnswer (text_of_truncated text) true) s (truncated_row (width d) column row)
-  each_truncated d column [] s same at gives = λ answer t step. gives step.1.1.0 (inside t) step.1.1.1
-  each_truncated d column (wanted ∷ row) s same at gives = (
-    λ t step. gives.0 (inside t) step.1,
-    λ answer t step.
-        let next = gives.1 step.1.1.0 (inside t) step.1.1.1 in
-        let wide : width (dimension_of s) (column_of s) ≡ width d column = ap (λ v. width v (column_of s)) same ∙ ap (width d) at in (
-          subst (λ v. IsAnswer (text_of_truncated text) true answer (truncated_text v wanted)) wide
-              (tied text may_refuse (width (dimension_of s) (column_of s)) wanted step.1.1.0 answer step.1.1.2 next.0),
-          each_truncated d (next_column column) row t (step.0 ∙ same) (step.1.0 ∙ ap next_column at) next.1,
+  -- the cell that came, of which this is left
+  came : (s t : S) (given : Result C E) (cell : Truncated C) (w : ℕ) → steps s (Some given) t → IsTruncated text w given (Ok cell) →
+      (whole : C) × steps s (Some (Ok whole)) t × (text_of_truncated text cell ≡ truncated_text w (text whole))
+  came s t (Ok whole) cell w step is = (whole, step, is)
+  came s t (Err _) cell w step never = absurd never
+
+  ended_truncated : (s : F) → inside s ≡ None → HasEnded Steps s
+  ended_truncated s none = λ answer t step. cc (none, step.1.3)
+
+  each_truncated : (d : D) (column : ℕ) (row : List (List ℕ)) (s : F) (it : S) → dimension_of s ≡ d → column_of s ≡ column → inside s ≡ Some it → GivesCells steps text may_refuse it row →
+      GivesCells Steps (text_of_truncated text) true s (truncated_row (width d) column row)
+  each_truncated d column [] s it same at is gives = λ answer t step.
+      let first : step.1.0 ≡ it = cc (is, step.1.3) in
+      gives step.1.2 step.1.1 (subst (λ v. steps v (Some step.1.2) step.1.1) first step.1.4)
+  each_truncated d column (wanted ∷ row) s it same at is gives = (
+    λ t step.
+        let last = subst (λ v. MatchOption v (Unit {0}) (λ s. (t : S) × steps s None t)) is step.1 in
+        gives.0 last.0 last.1,
+    λ cell t step.
+        let first : step.1.0 ≡ it = cc (is, step.1.3) in
+        let wide : width (dimension_of s) (column_of s) ≡ width d column = ap (λ v. width v (column_of s)) same ∙ ap (width d) at in
+        let found = came it step.1.1 step.1.2 cell (width (dimension_of s) (column_of s)) (subst (λ v. steps v (Some step.1.2) step.1.1) first step.1.4) step.1.5 in
+        let next = gives.1 found.0 step.1.1 found.1 in (
+          found.2 ∙ ap (λ v. truncated_text v (text found.0)) wide ∙ ap (truncated_text (width d column)) next.0,
+          each_truncated d (next_column column) row t step.1.1 (step.0 ∙ same) (step.1.6.1 ∙ ap next_column at) step.1.6.0 next.1,
         ),
+    λ refusal t step. (refl, ended_truncated t step.1.6),
   )
 
   -- the cells of a row, from its first column on
-  gives_truncated : {can : S → Type 0} {left : S → Count} (d : D) (row : List (List ℕ)) (s : F) → dimension_of s ≡ d → column_of s ≡ 0 → Gives can left steps (IsAnswer text may_refuse) (inside s) row →
-      Gives {A = Result (Truncated C) E} (λ s. can (inside s)) (λ s. left (inside s)) (λ s r t. (dimension_of t ≡ dimension_of s) × GivesTruncated steps text (width (dimension_of s)) (column_of s) (inside s) r (inside t) (column_of t))
-      (IsAnswer (text_of_truncated text) true) s (truncated_row (width d) 0 row)
-  gives_truncated d row s same at gives =
-      record { can_next = gives.can_next; ends = gives.ends; each = each_truncated d 0 row s same at gives.each }
+  gives_truncated : {can : S → Type 0} {left : S → Count} (d : D) (row : List (List ℕ)) (s : F) (it : S) → dimension_of s ≡ d → column_of s ≡ 0 → inside s ≡ Some it → GivesTexts can left steps text may_refuse it row →
+      GivesTexts (λ s. IfSome (inside s) can) (λ s. of_rest left (at_most 0) (inside s)) Steps (text_of_truncated text) true s (truncated_row (width d) 0 row)
+  gives_truncated {can} {left} d row s it same at is gives = record {
+    can_next = subst (λ v. IfSome v can) (sym is) gives.can_next;
+    ends = subst (λ v. IsFinite (of_rest left (at_most 0) v)) (sym is) gives.ends;
+    each = each_truncated d 0 row s it same at is gives.each;
+  }
 
 -- the rows
-each_truncated_row : {R S Row Cells D : Type 0} (steps : S → Option Row → S → Type 0) (inside : R → S) (dimension_in : R → D) (cells_of : Cells → Row) (dimension_of : Cells → D) (column_of : Cells → ℕ)
+each_truncated_row : {R S Row Cells D : Type 0} (steps : S → Option Row → S → Type 0) (inside : R → S) (dimension_in : R → D) (cells_of : Cells → Option Row) (dimension_of : Cells → D) (column_of : Cells → ℕ)
     (tie : Row → List (List ℕ) → Type 0) (wanted : Cells → List (List ℕ) → Type 0) (width : ℕ → ℕ) (d : D) →
-    ((cells : Cells) (texts : List (List ℕ)) → tie (cells_of cells) texts → dimension_of cells ≡ d → column_of cells ≡ 0 → wanted cells (truncated_row width 0 texts)) →
+    ((row : Row) (cells : Cells) (texts : List (List ℕ)) → tie row texts → dimension_of cells ≡ d → column_of cells ≡ 0 → cells_of cells ≡ Some row → wanted cells (truncated_row width 0 texts)) →
     (s : R) (rows : List (List (List ℕ))) → dimension_in s ≡ d → GivesEach steps tie (inside s) rows →
     GivesEach (λ s r t. (dimension_in t ≡ dimension_in s) × GivesTruncatedRow steps (dimension_in s) (inside s) r cells_of dimension_of column_of (inside t)) wanted s (map (truncated_row width 0) rows)
-each_truncated_row steps inside dimension_in cells_of dimension_of column_of tie wanted width d follows s [] same gives = λ cells t step. gives (cells_of cells) (inside t) step.1.0
+each_truncated_row steps inside dimension_in cells_of dimension_of column_of tie wanted width d follows s [] same gives = λ cells t step. gives step.1.0 (inside t) step.1.1
 each_truncated_row steps inside dimension_in cells_of dimension_of column_of tie wanted width d follows s (texts ∷ rows) same gives = (
   λ t step. gives.0 (inside t) step.1,
   λ cells t step.
-      let next = gives.1 (cells_of cells) (inside t) step.1.0 in
-      (follows cells texts next.0 (step.1.1 ∙ same) step.1.2, each_truncated_row steps inside dimension_in cells_of dimension_of column_of tie wanted width d follows t rows (step.0 ∙ same) next.1),
+      let next = gives.1 step.1.0 (inside t) step.1.1 in (
+        follows step.1.0 cells texts next.0 (step.1.3 ∙ same) step.1.4 step.1.2,
+        each_truncated_row steps inside dimension_in cells_of dimension_of column_of tie wanted width d follows t rows (step.0 ∙ same) next.1,
+      ),
 )
 
 -- all rows of a source, cut
 pub truncated_rows_give : {R S C E Cells D F : Type 0} {row_can : R → Type 0} {row_left : R → Count} {can : S → Type 0} {left : S → Count} {may_refuse : Bool} {rows : List (List (List ℕ))}
     (row_steps : R → Option S → R → Type 0) (steps : S → Option (Result C E) → S → Type 0) (text : C → List ℕ) (width : D → ℕ → ℕ)
-    (rows_of : F → R) (dimension_in : F → D) (cells_of : Cells → S) (dimension_of : Cells → D) (column_of : Cells → ℕ) (s : F) →
+    (rows_of : F → R) (dimension_in : F → D) (cells_of : Cells → Option S) (dimension_of : Cells → D) (column_of : Cells → ℕ) (s : F) →
     GivesRows row_can row_left row_steps can left steps text may_refuse (rows_of s) rows →
     GivesRows {E = E} (λ s. row_can (rows_of s)) (λ s. row_left (rows_of s))
     (λ s r t. (dimension_in t ≡ dimension_in s) × GivesTruncatedRow row_steps (dimension_in s) (rows_of s) r cells_of dimension_of column_of (rows_of t))
-    (λ cells. can (cells_of cells)) (λ cells. left (cells_of cells))
+    (λ cells. IfSome (cells_of cells) can) (λ cells. of_rest left (at_most 0) (cells_of cells))
     (λ s r t. (dimension_of t ≡ dimension_of s) × GivesTruncated steps text (width (dimension_of s)) (column_of s) (cells_of s) r (cells_of t) (column_of t))
     (text_of_truncated text) true s (truncated_rows (width (dimension_in s)) rows)
-truncated_rows_give {rows = rows} row_steps steps text width rows_of dimension_in cells_of dimension_of column_of s gives =
+truncated_rows_give {may_refuse = may_refuse} {rows = rows} row_steps steps text width rows_of dimension_in cells_of dimension_of column_of s gives =
     record {
       can_next = gives.can_next;
       ends = gives.ends;
       each = each_truncated_row row_steps rows_of dimension_in cells_of dimension_of column_of _ _ (width (dimension_in s)) (dimension_in s)
-          (λ cells texts given same at. gives_truncated steps text _ width cells_of dimension_of column_of (dimension_in s) texts cells same at given) s rows refl gives.each;
+          (λ row cells texts given same at is. gives_truncated steps text may_refuse width cells_of dimension_of column_of (dimension_in s) texts cells row same at is given) s rows refl gives.each;
     }
 
 -- a text that measures at most so many columns stays
@@ -101,22 +117,13 @@ cut_is_left width found text shown bytes out is lt same cut owned =
     let left = cut-unique width shown bytes (cut (pieces shown) (ArePiecesOf-pieces shown)) in
     rw no (owned ∙ left ∙ ap (cut_text width) same)
 
--- what is left of a cell that came
-pub truncated_next : {S C E : Type 0} (steps : S → Option (Result C E) → S → Type 0) (text : C → List ℕ) (width : ℕ → ℕ) (column found column_then : ℕ) (s t : S) (given : Result C E) (cell : C) (answer : Result (Truncated C) E) →
-    given ≡ Ok cell → steps s (Some given) t → column_then ≡ next_column column → found ≡ width column → IfOk answer (λ out. text_of_truncated text out ≡ truncated_text found (text cell)) →
-    IfErr answer (λ _. found < text_width (text cell)) → GivesTruncated steps text width column s (Some answer) t column_then
-truncated_next steps text width column found column_then s t given cell (Ok out) was step at wide is _ =
-    (at, (Ok cell, subst (λ v. steps s (Some v) t) was step, is ∙ ap (λ v. truncated_text v (text cell)) wide))
-truncated_next steps text width column found column_then s t given cell (Err _) was step at wide _ wider =
-    (at, (Ok cell, subst (λ v. steps s (Some v) t) was step, subst (λ v. v < text_width (text cell)) wide wider))
-
 -- a cut is asked for only of a wider text
 pub is_wider : {T E : Type 0} (result : Result T E) (width found : ℕ) (text : List ℕ) → found ≡ text_width text → width < found → IfErr result (λ _. width < text_width text)
 is_wider (Ok _) width found text is lt = tt
 is_wider (Err _) width found text is lt = omega (arith, is, lt)
 
--- a cell that came refused is refused
-pub refused_next : {S C E : Type 0} (steps : S → Option (Result C E) → S → Type 0) (text : C → List ℕ) (width : ℕ → ℕ) (column column_then : ℕ) (s t : S) (given : Result C E) (came refusal : E) →
-    given ≡ Err came → steps s (Some given) t → column_then ≡ next_column column → GivesTruncated steps text width column s (Some (Err refusal)) t column_then
-refused_next steps text width column column_then s t given came refusal was step at =
-    (at, (Err came, subst (λ v. steps s (Some v) t) was step, tt))
+-- what is left of a cell that came
+pub is_left : {C E : Type 0} (text : C → List ℕ) (width found : ℕ) (cell : C) (out : Result (Truncated C) E) → found ≡ width → IfOk out (λ kept. text_of_truncated text kept ≡ truncated_text found (text cell)) →
+    IfErr out (λ _. found < text_width (text cell)) → IsTruncated text width (Ok cell) out
+is_left text width found cell (Ok _) wide is _ = is ∙ ap (λ v. truncated_text v (text cell)) wide
+is_left text width found cell (Err _) wide _ wider = subst (λ v. v < text_width (text cell)) wide wider

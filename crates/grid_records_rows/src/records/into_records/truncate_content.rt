@@ -1,6 +1,8 @@
 //! The cells of a source, cut at the widths of their columns.
-ghost use Rattle.std.specs.Prelude.{◌≡◌, ◌<◌, IfErr, IfOk, refl, true};
+ghost use Rattle.std.specs.Prelude.{◌≡◌, ◌<◌, IfErr, IfOk, IfSome, refl, true};
+ghost use Rattle.std.specs.Iterator.{at_most};
 ghost use Rattle.grid_records_measure.specs.TextLines.{text_width};
+ghost use Rattle.grid_records_rows.specs.Buffering.{of_rest};
 ghost use Rattle.grid_records_rows.specs.Truncating.{GivesTruncated, GivesTruncatedRow, next_column, text_of_truncated, truncated_row, truncated_rows, truncated_text};
 ghost use Rattle.grid_records_rows.specs.Laws.Leaving.{passed_made};
 ghost use Rattle.grid_records_rows.specs.Laws.Truncating.{truncated_rows_give};
@@ -53,7 +55,7 @@ impl<I: IntoRecords, D: Dimension + Copy> IntoRecords for TruncateContent<I, D> 
 
     ghost gives = { λ s. truncated_rows_give I.IterRows.next_gives I.IterColumns.next_gives I.Cell.text D.width (λ s. s.rows) (λ s. s.dimension) (λ cells. cells.cells) (λ cells. cells.dimension) (λ cells. cells.column) s (I.gives s.rows) };
 
-    ghost passes = { λ s t cells step. (passed_made (λ d. truncated_row (D.width d) 0) _ _ _ _ step.0 (I.passes s.rows t.rows cells.cells step.1.0).0, refl) };
+    ghost passes = { λ s t cells step. (passed_made (λ d. truncated_row (D.width d) 0) _ _ _ _ step.0 (I.passes s.rows t.rows step.1.0 step.1.1).0, refl) };
 
     fn iter_rows(self) -> TruncatedRows<I::IterRows, D> {
         TruncatedRows {
@@ -120,18 +122,18 @@ where
         let cells = self.rows.next()?;
         Some(TruncatedCells {
             alloc: self.alloc,
-            cells,
+            cells: Some(cells),
             dimension: self.dimension,
             column: 0,
         })
     }
 }
 
-/// The cells of a row, cut.
+/// The cells of a row, cut; none behind a refusal.
 #[derive(Debug, Drop)]
 pub struct TruncatedCells<I, D> {
     alloc: Global,
-    cells: I,
+    cells: Option<I>,
     dimension: D,
     column: usize,
 }
@@ -140,19 +142,29 @@ impl<C: Cell, D: Dimension + Copy, I: Iterator<Item = Result<C, AllocError>>> It
     for TruncatedCells<I, D> {
     type Item = Result<Truncated<C>, AllocError>;
 
-    ghost can_next = { λ s. I.can_next s.cells };
+    ghost can_next = { λ s. IfSome s.cells I.can_next };
 
     ghost next_gives = { λ s r t. (t.dimension ≡ s.dimension) × GivesTruncated I.next_gives C.text (D.width s.dimension) s.column s.cells r t.cells t.column };
 
-    ghost remaining = { λ s. I.remaining s.cells };
+    ghost remaining = { λ s. of_rest I.remaining (at_most 0) s.cells };
 
     fn next(&mut self) -> Option<Result<Truncated<C>, AllocError>> {
-        let answer = self.cells.next()?;
-        let column = self.column;
-        self.column = next_column(column);
+        let Some(cells) = &mut self.cells else {
+            return None;
+        };
+        let answer = match cells.next()? {
+            Ok(cell) => truncate(self.alloc, cell, self.dimension.get_width(self.column)),
+            Err(refusal) => Err(refusal),
+        };
         match answer {
-            Ok(cell) => Some(truncate(self.alloc, cell, self.dimension.get_width(column))),
-            Err(refusal) => Some(Err(refusal)),
+            Ok(cell) => {
+                self.column = next_column(self.column);
+                Some(Ok(cell))
+            }
+            Err(refusal) => {
+                self.cells = None;
+                Some(Err(refusal))
+            }
         }
     }
 }

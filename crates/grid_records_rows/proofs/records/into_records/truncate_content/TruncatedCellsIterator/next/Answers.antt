@@ -1,17 +1,50 @@
-use Rattle.std.proofs.Common.{refl}
-use Rattle.grid_records_rows.specs.Laws.Truncating.{refused_next, truncated_next}
+use Rattle.std.proofs.Common.{rules, ℕ, refl, subst, sym}
+use Rattle.std.specs.Prelude.{Err, Result}
+use Rattle.grid_records_rows.specs.Laws.Truncating.{is_left}
+use Rattle.grid_records_rows.specs.Truncating.{IsTruncated}
 use Rattle.grid_records_rows.proofs.records.into_records.truncate_content.TruncatedCellsIterator.next.Goals as goal
+use Rattle.grid_records_rows.proofs.records.into_records.truncate_content.TruncatedCellsIterator.next.Goals.{in-Ok, in-Err}
 
-pub returns-in-Ok-clause-steps : goal.returns-in-Ok-clause-steps
-returns-in-Ok-clause-steps g c = (
-  refl,
-  truncated_next g.I.Iterator.next_gives g.C.Cell.text (g.D.Dimension.width c.args.self.now.dimension) c.args.self.now.column c.get_width.result c.next_column-self.result
-      c.args.self.now.cells c.next.new.self c.in_ok-answer.answer c.in-Ok.cell c.truncate.result c.in-Ok.is c.in_ok-answer.ensures.steps c.next_column-self.ensures c.get_width.ensures c.truncate.ensures.ok c.truncate.ensures.refused,
-)
+pub returns-in-Ok-answer-clause-steps : goal.returns-in-Ok-answer-clause-steps
+returns-in-Ok-answer-clause-steps g c =
+    let text = g.C.Cell.text in
+    let width : ℕ = g.D.Dimension.width c.args.self.now.dimension c.args.self.now.column in
+    let given = c.in_ok-cell.field-0 in
+    let left : IsTruncated text width given c.match-branch-2.answer = elim c.match-branch-2.branch [
+      | in-Ok w ↦
+          subst (λ v. IsTruncated text width given v) (sym w.answer-is)
+          (subst (λ v. IsTruncated text width v w.truncate-answer.result) (sym w.in-Ok.is)
+          (is_left text width w.get_width.result w.in-Ok.cell w.truncate-answer.result w.get_width.ensures w.truncate-answer.ensures.ok w.truncate-answer.ensures.refused))
+      | in-Err w ↦
+          subst (λ v. IsTruncated text width given v) (sym w.answer-is)
+          (subst (λ v. IsTruncated text width v (Err w.in-Err.refusal)) (sym w.in-Err.is) tt)
+    ] in (
+      refl,
+      (
+        c.in-Some.cells, c.next.new.self, given, c.in-Some.is, c.in_ok-cell.ensures.steps,
+        subst (λ v. IsTruncated text width given v) c.in-Ok-answer.is left,
+        (refl, c.next_column-self.ensures),
+      ),
+    )
 
-pub returns-in-Err-clause-steps : goal.returns-in-Err-clause-steps
-returns-in-Err-clause-steps g c = (
-  refl,
-  refused_next g.I.Iterator.next_gives g.C.Cell.text (g.D.Dimension.width c.args.self.now.dimension) c.args.self.now.column c.next_column-self.result
-      c.args.self.now.cells c.next.new.self c.in_ok-answer.answer c.in-Err.refusal c.in-Err.refusal c.in-Err.is c.in_ok-answer.ensures.steps c.next_column-self.ensures,
-)
+pub returns-in-Err-answer-clause-steps : goal.returns-in-Err-answer-clause-steps
+returns-in-Err-answer-clause-steps g c =
+    let text = g.C.Cell.text in
+    let width : ℕ = g.D.Dimension.width c.args.self.now.dimension c.args.self.now.column in
+    let given = c.in_ok-cell.field-0 in
+    let left : IsTruncated text width given c.match-branch-2.answer = elim c.match-branch-2.branch [
+      | in-Ok w ↦
+          subst (λ v. IsTruncated text width given v) (sym w.answer-is)
+          (subst (λ v. IsTruncated text width v w.truncate-answer.result) (sym w.in-Ok.is)
+          (is_left text width w.get_width.result w.in-Ok.cell w.truncate-answer.result w.get_width.ensures w.truncate-answer.ensures.ok w.truncate-answer.ensures.refused))
+      | in-Err w ↦
+          subst (λ v. IsTruncated text width given v) (sym w.answer-is)
+          (subst (λ v. IsTruncated text width v (Err w.in-Err.refusal)) (sym w.in-Err.is) tt)
+    ] in (
+      refl,
+      (
+        c.in-Some.cells, c.next.new.self, given, c.in-Some.is, c.in_ok-cell.ensures.steps,
+        subst (λ v. IsTruncated text width given v) c.in-Err-answer.is left,
+        refl,
+      ),
+    )
