@@ -3,8 +3,8 @@ use Rattle.std.proofs.Common.{◌≡◌, ◌∙◌, ◌-◌, ℕ, zero, suc, Boo
 use Rattle.std.specs.Prelude.{Err, IfSome, MatchOption, None, Ok, Option, Result, Some}
 use Rattle.std.specs.Iterator.{Count, at_most}
 use Rattle.grid_records_rows.specs.Cells.{text_or_empty}
-use Rattle.grid_records_rows.specs.Fitting.{AnswersNext, AnswersNone, FitsCell, GivesFitted}
-use Rattle.grid_records_rows.specs.Giving.{Gives, GivesEach, GivesRows, IsAnswer}
+use Rattle.grid_records_rows.specs.Fitting.{FitsCell, FitsOne, GivesFitted}
+use Rattle.grid_records_rows.specs.Giving.{GivesCells, GivesEach, GivesRows, GivesTexts, HasEnded}
 use Rattle.grid_records_rows.specs.Rows.{fitted, fitted_row}
 
 -- the same, text by text
@@ -26,87 +26,88 @@ fit-fitted_row (suc n) (text ∷ row) =
     rw same (ap (λ v. text ∷ v) (fit-fitted_row n row))
 
 module _ {S C E : Type 0} (steps : S → Option (Result C E) → S → Type 0) (text : C → List ℕ) (may_refuse : Bool) where
-  Steps : Option S → Result (Option C) E → Option S → Type 0
-  Steps before answer after = MatchOption after (AnswersNone steps before answer after) (λ t. (s : S) × (before ≡ Some s) × AnswersNext steps s answer t)
+  One : Option S → Option C → Option S → Type 0
+  One before answer after = FitsOne steps before answer after
 
-  blank : (before after : Option S) (answer : Result (Option C) E) → before ≡ None → Steps before answer after → (answer ≡ Ok None) × (after ≡ None)
-  unfolding Steps
-  blank before None answer is step = (step.0, step.1)
-  blank before (Some t) answer is step = absurd (cc (is, step.1))
+  blank : (before after : Option S) (answer : Option C) → before ≡ None → One before answer after → (answer ≡ None) × (after ≡ None)
+  unfolding One
+  blank before after None is step = (refl, step.0)
+  blank before after (Some cell) is step = absurd (cc (is, step.2))
 
-  ended : (before after : Option S) (answer : Result (Option C) E) (it : S) → before ≡ Some it → ((x : Result C E) (t : S) → steps it (Some x) t → ⊥) → Steps before answer after →
-      (answer ≡ Ok None) × (after ≡ None)
-  unfolding Steps
-  ended before None answer it is none step = (step.0, step.1)
-  ended before (Some t) (Ok None) it is none step = absurd step.2
-  ended before (Some t) (Ok (Some cell)) it is none step =
-      let same : step.0 ≡ it = cc (is, step.1) in
-      absurd (none (Ok cell) t (subst (λ v. steps v (Some (Ok cell)) t) same step.2))
-  ended before (Some t) (Err refusal) it is none step =
-      let same : step.0 ≡ it = cc (is, step.1) in
-      absurd (none (Err refusal) t (subst (λ v. steps v (Some (Err refusal)) t) same step.2))
+  ended : (before after : Option S) (answer : Option C) (it : S) → before ≡ Some it → HasEnded steps it → One before answer after → (answer ≡ None) × (after ≡ None)
+  unfolding One
+  ended before after None it is none step = (refl, step.0)
+  ended before after (Some cell) it is none step =
+      let same : step.0 ≡ it = cc (is, step.2) in
+      absurd (none (Ok cell) step.1 (subst (λ v. steps v (Some (Ok cell)) step.1) same step.4))
 
-  record Goes (answer : Result (Option C) E) (after : Option S) (wanted : List ℕ) (row : List (List ℕ)) : Type 0 where
+  record Goes (answer : Option C) (after : Option S) (wanted : List ℕ) (row : List (List ℕ)) : Type 0 where
     rest : S
     is : after ≡ Some rest
-    tied : IsAnswer (text_or_empty text) may_refuse answer wanted
-    gives : GivesEach steps (IsAnswer text may_refuse) rest row
+    same : text_or_empty text answer ≡ wanted
+    gives : GivesCells steps text may_refuse rest row
 
-  goes : (before after : Option S) (answer : Result (Option C) E) (it : S) (wanted : List ℕ) (row : List (List ℕ)) → before ≡ Some it →
-      GivesEach steps (IsAnswer text may_refuse) it (wanted ∷ row) → Steps before answer after → Goes answer after wanted row
-  unfolding Steps
-  goes before None answer it wanted row is gives step =
-      let last = subst (λ v. MatchOption v (Unit {0}) (λ s. (t : S) × steps s None t)) is step.2 in
+  goes : (before after : Option S) (answer : Option C) (it : S) (wanted : List ℕ) (row : List (List ℕ)) → before ≡ Some it →
+      GivesCells steps text may_refuse it (wanted ∷ row) → One before answer after → Goes answer after wanted row
+  unfolding One
+  goes before after None it wanted row is gives step =
+      let last = subst (λ v. MatchOption v (Unit {0}) (λ s. (t : S) × steps s None t)) is step.1 in
       absurd (gives.0 last.0 last.1)
-  goes before (Some t) (Ok None) it wanted row is gives step = absurd step.2
-  goes before (Some t) (Ok (Some cell)) it wanted row is gives step =
-      let same : step.0 ≡ it = cc (is, step.1) in
-      let next = gives.1 (Ok cell) t (subst (λ v. steps v (Some (Ok cell)) t) same step.2) in
-      record { rest = t; is = refl; tied = next.0; gives = next.1 }
-  goes before (Some t) (Err refusal) it wanted row is gives step =
-      let same : step.0 ≡ it = cc (is, step.1) in
-      let next = gives.1 (Err refusal) t (subst (λ v. steps v (Some (Err refusal)) t) same step.2) in
-      record { rest = t; is = refl; tied = next.0; gives = next.1 }
+  goes before after (Some cell) it wanted row is gives step =
+      let same : step.0 ≡ it = cc (is, step.2) in
+      let next = gives.1 cell step.1 (subst (λ v. steps v (Some (Ok cell)) step.1) same step.4) in
+      record { rest = step.1; is = step.3; same = next.0; gives = next.1 }
 
   module _ {F : Type 0} (cells_of : F → Option S) (left_of : F → ℕ) where
-    Fits : F → Option (Result (Option C) E) → F → Type 0
-    Fits s r t = FitsCell steps (cells_of s) (left_of s) r (cells_of t) (left_of t)
+    -- where no cell is wanted, none comes
+    over : (s : F) → left_of s ≡ 0 → HasEnded {A = Result (Option C) E} (λ s r t. FitsCell steps (cells_of s) (left_of s) r (cells_of t) (left_of t)) s
+    over s none (Ok cell) t step = omega (arith, step.0, none)
+    over s none (Err refusal) t step = omega (arith, step.0, none)
 
-    blanks : (n : ℕ) (s : F) → cells_of s ≡ None → left_of s ≡ n → GivesEach (λ s r t. FitsCell steps (cells_of s) (left_of s) r (cells_of t) (left_of t)) (IsAnswer (text_or_empty text) may_refuse) s (replicate n [])
-    unfolding Steps
-    blanks zero s none left = λ answer t step. omega (arith, step.0, left)
+    blanks : (n : ℕ) (s : F) → cells_of s ≡ None → left_of s ≡ n →
+        GivesCells (λ s r t. FitsCell steps (cells_of s) (left_of s) r (cells_of t) (left_of t)) (text_or_empty text) may_refuse s (replicate n [])
+    unfolding One
+    blanks zero s none left = over s left
     blanks (suc n) s none left = (
       λ t step. omega (arith, step, left),
-      λ answer t step.
-          let next = blank (cells_of s) (cells_of t) answer none step.1 in
-          (subst (λ v. IsAnswer (text_or_empty text) may_refuse v []) (sym next.0) refl, blanks n t next.1 (omega (arith, step.0, left))),
+      λ cell t step.
+          let next = blank (cells_of s) (cells_of t) cell none step.1 in
+          (ap (text_or_empty text) next.0, blanks n t next.1 (omega (arith, step.0, left))),
+      λ refusal t step. absurd (cc (none, step.4)),
     )
 
-    fits : (n : ℕ) (row : List (List ℕ)) (s : F) (it : S) → cells_of s ≡ Some it → left_of s ≡ n → GivesEach steps (IsAnswer text may_refuse) it row →
-        GivesEach (λ s r t. FitsCell steps (cells_of s) (left_of s) r (cells_of t) (left_of t)) (IsAnswer (text_or_empty text) may_refuse) s (fit n row)
-    unfolding Steps fit
-    fits zero row s it is left gives = λ answer t step. omega (arith, step.0, left)
+    fits : (n : ℕ) (row : List (List ℕ)) (s : F) (it : S) → cells_of s ≡ Some it → left_of s ≡ n → GivesCells steps text may_refuse it row →
+        GivesCells (λ s r t. FitsCell steps (cells_of s) (left_of s) r (cells_of t) (left_of t)) (text_or_empty text) may_refuse s (fit n row)
+    unfolding One fit
+    fits zero row s it is left gives = over s left
     fits (suc n) [] s it is left gives = (
       λ t step. omega (arith, step, left),
-      λ answer t step.
-          let next = ended (cells_of s) (cells_of t) answer it is gives step.1 in
-          (subst (λ v. IsAnswer (text_or_empty text) may_refuse v []) (sym next.0) refl, blanks n t next.1 (omega (arith, step.0, left))),
+      λ cell t step.
+          let next = ended (cells_of s) (cells_of t) cell it is gives step.1 in
+          (ap (text_or_empty text) next.0, blanks n t next.1 (omega (arith, step.0, left))),
+      λ refusal t step.
+          let same : step.2 ≡ it = cc (is, step.4) in
+          absurd (gives (Err refusal) step.3 (subst (λ v. steps v (Some (Err refusal)) step.3) same step.6)),
     )
     fits (suc n) (wanted ∷ row) s it is left gives = (
       λ t step. omega (arith, step, left),
-      λ answer t step.
-          let next = goes (cells_of s) (cells_of t) answer it wanted row is gives step.1 in
-          (next.tied, fits n row t next.rest next.is (omega (arith, step.0, left)) next.gives),
+      λ cell t step.
+          let next = goes (cells_of s) (cells_of t) cell it wanted row is gives step.1 in
+          (next.same, fits n row t next.rest next.is (omega (arith, step.0, left)) next.gives),
+      λ refusal t step.
+          let same : step.2 ≡ it = cc (is, step.4) in
+          let next = gives.2 refusal step.3 (subst (λ v. steps v (Some (Err refusal)) step.3) same step.6) in
+          (next.0, over t step.1),
     )
 
     -- a row of which so many cells are wanted
-    pub gives_fitted : {can : S → Type 0} {left : S → Count} (s : F) (it : S) (n : ℕ) (row : List (List ℕ)) → cells_of s ≡ Some it → left_of s ≡ n → Gives can left steps (IsAnswer text may_refuse) it row →
-        Gives (λ s. IfSome (cells_of s) can) (λ s. at_most (left_of s)) (λ s r t. FitsCell steps (cells_of s) (left_of s) r (cells_of t) (left_of t)) (IsAnswer (text_or_empty text) may_refuse) s (fitted_row n row)
+    pub gives_fitted : {can : S → Type 0} {left : S → Count} (s : F) (it : S) (n : ℕ) (row : List (List ℕ)) → cells_of s ≡ Some it → left_of s ≡ n → GivesTexts can left steps text may_refuse it row →
+        GivesTexts (λ s. IfSome (cells_of s) can) (λ s. at_most (left_of s)) (λ s r t. FitsCell steps (cells_of s) (left_of s) r (cells_of t) (left_of t)) (text_or_empty text) may_refuse s (fitted_row n row)
     gives_fitted {can} {left} s it n row is count gives =
         record {
           can_next = subst (λ v. IfSome v can) (sym is) gives.can_next;
           ends = tt;
-          each = subst (λ v. GivesEach (λ s r t. FitsCell steps (cells_of s) (left_of s) r (cells_of t) (left_of t)) (IsAnswer (text_or_empty text) may_refuse) s v) (fit-fitted_row n row) (fits n row s it is count gives.each);
+          each = subst (λ v. GivesCells (λ s r t. FitsCell steps (cells_of s) (left_of s) r (cells_of t) (left_of t)) (text_or_empty text) may_refuse s v) (fit-fitted_row n row) (fits n row s it is count gives.each);
         }
 
 -- the rows of which so many cells are wanted

@@ -86,7 +86,7 @@ where
     }
 }
 
-/// As many cells of a row, `None` for each that it lacks.
+/// As many cells of a row, `None` for each that it lacks. Behind a refusal no further one comes.
 #[derive(Debug, Drop)]
 pub struct FittedCells<I> {
     cells: Option<I>,
@@ -112,7 +112,10 @@ impl<C, I: Iterator<Item = Result<C, AllocError>>> Iterator for FittedCells<I> {
         };
         match cells.next() {
             Some(Ok(cell)) => Some(Ok(Some(cell))),
-            Some(Err(refusal)) => Some(Err(refusal)),
+            Some(Err(refusal)) => {
+                self.left = 0;
+                Some(Err(refusal))
+            }
             None => {
                 self.cells = None;
                 Some(Ok(None))
