@@ -1,6 +1,6 @@
 -- How an iterator is shown to give a list.
 use Rattle.std.proofs.Common.{◌≡◌, ℕ, List, [], ◌∷◌, ap, arith, length, refl, subst, map, Bool}
-use Rattle.std.specs.Prelude.{MatchOption, None, Ok, Err, Option, Result, Some}
+use Rattle.std.specs.Prelude.{MatchOption, MatchResult, None, Ok, Err, Option, Result, Some}
 use Rattle.std.specs.Iterator.{Count, IsFinite}
 use Rattle.grid_records_rows.specs.Giving.{Gives, GivesCells, GivesEach, GivesRows, GivesTexts}
 use Rattle.grid_records_rows.specs.Sources.{AnswersCell, GivesCellsOf}
@@ -42,6 +42,16 @@ each_answered E steps inside text may_refuse s (wanted ∷ row) gives = (
   λ t step. gives.0 (inside t) step,
   λ cell t step. let next = gives.1 cell (inside t) step in (next.0, each_answered E steps inside text may_refuse t row next.1),
   λ refusal t never. absurd never,
+)
+
+-- an iterator that refuses none gives the cells of a row where its answers are they
+pub each_cell_given : {S C E : Type 0} (steps : S → Option (Result C E) → S → Type 0) (text : C → List ℕ) (may_refuse : Bool) (s : S) (row : List (List ℕ)) →
+    GivesEach steps (λ answer wanted. MatchResult answer (λ cell. text cell ≡ wanted) (λ _. ⊥)) s row → GivesCells steps text may_refuse s row
+each_cell_given steps text may_refuse s [] gives = gives
+each_cell_given steps text may_refuse s (wanted ∷ row) gives = (
+  gives.0,
+  λ cell t step. let next = gives.1 (Ok cell) t step in (next.0, each_cell_given steps text may_refuse t row next.1),
+  λ refusal t step. absurd (gives.1 (Err refusal) t step).0,
 )
 
 -- rows that are given, and what they become

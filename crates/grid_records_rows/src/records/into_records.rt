@@ -23,7 +23,7 @@ use std::alloc::AllocError;
 pub use truncate_content::TruncateContent;
 
 /// A source of rows of cells. An iterator over its rows gives iterators over their cells, and each of
-/// these answers a cell or a refusal for memory.
+/// these answers a cell or a refusal for memory, behind which it gives `None`.
 pub trait IntoRecords: RecordTexts {
     type Cell: Cell;
 

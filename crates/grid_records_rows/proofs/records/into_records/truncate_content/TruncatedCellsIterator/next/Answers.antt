@@ -21,7 +21,11 @@ returns-in-Ok-answer-clause-steps g c =
     ] in (
       refl,
       (
-        c.in-Some.cells, c.next.new.self, given, c.in-Some.is, c.in_ok-cell.ensures.steps,
+        c.in-Some.cells,
+        c.next.new.self,
+        given,
+        c.in-Some.is,
+        c.in_ok-cell.ensures.steps,
         subst (λ v. IsTruncated text width given v) c.in-Ok-answer.is left,
         (refl, c.next_column-self.ensures),
       ),
@@ -43,7 +47,11 @@ returns-in-Err-answer-clause-steps g c =
     ] in (
       refl,
       (
-        c.in-Some.cells, c.next.new.self, given, c.in-Some.is, c.in_ok-cell.ensures.steps,
+        c.in-Some.cells,
+        c.next.new.self,
+        given,
+        c.in-Some.is,
+        c.in_ok-cell.ensures.steps,
         subst (λ v. IsTruncated text width given v) c.in-Err-answer.is left,
         refl,
       ),
