@@ -11,7 +11,7 @@ mod strip;
 mod stripped;
 
 pub use matches::run_len;
-pub use places::{ESC, Place, begins_with_escape, behind_item, front, split_item, text_len};
+pub use places::{Place, begins_with_escape, behind_item, front, split_item, text_len};
 pub use search::{behind_place, ends_with, find, find_end, is_char_boundary, starts_with};
 pub use split::AnsiSplit;
 pub use strip::{has_escape, strip_text};

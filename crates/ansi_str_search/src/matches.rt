@@ -69,7 +69,7 @@ pub(crate) fn find_byte(text: &str, byte: u8) -> Option<usize>
     None
 }
 
-/// How many bytes stand before the first ESC and the first such byte.
+/// How many bytes stand before the first ESC and the first such byte, or all where neither comes.
 pub fn run_len(text: &str, byte: u8) -> usize
     ensures value { result ≡ prefix_len (is_other byte) text.now }
 {

@@ -17,9 +17,10 @@ use std::alloc::{AllocError, Global};
 use std::borrow::CowStr;
 
 /// ESCAPE (ECMA-48, 8.3.48).
-pub const ESC: u8 = 0x1b;
+pub(crate) const ESC: u8 = 0x1b;
 
-/// A place in a text.
+/// A place in a text: what stands behind it, and the style known there. A walk from place to place
+/// takes no memory.
 #[derive(Debug, Drop)]
 pub struct Place<'a> {
     /// What stands behind it.
@@ -40,7 +41,8 @@ impl<'a> Place<'a> {
         }
     }
 
-    /// Behind so many bytes of stripped text and the sequences among and before them, or at the end.
+    /// Behind so many bytes of stripped text and the sequences among and before them, or at the end. No
+    /// character of the stripped text is parted there (`is_char_boundary`).
     pub fn after(&self, n: usize) -> Place<'a>
         requires { n < length (strip (pieces self.now.rest.now)) → IsCharBoundary (strip (pieces self.now.rest.now)) n }
         ensures rest { pieces result.rest.now ≡ from_place n (pieces self.now.rest.now) }
@@ -75,7 +77,8 @@ impl<'a> Place<'a> {
         place
     }
 
-    /// Behind so many bytes of stripped text and the sequences among, before and behind them.
+    /// Behind so many bytes of stripped text and the sequences among, before and behind them, or at the
+    /// end. No character of the stripped text is parted there (`is_char_boundary`).
     pub fn through(&self, n: usize) -> Place<'a>
         requires { n < length (strip (pieces self.now.rest.now)) → IsCharBoundary (strip (pieces self.now.rest.now)) n }
         ensures rest { pieces result.rest.now ≡ from_text (from_place n (pieces self.now.rest.now)) }
@@ -118,7 +121,8 @@ impl<'a> Place<'a> {
     }
 
     /// What stands from here to the end of a slice, between the start of the style known here and the
-    /// end of the style known there: a borrow where both styles are plain.
+    /// end of the style known there. The end is a place in the same text, not before this one. Where both
+    /// styles are plain it is a borrow, without memory; else the only refusal is for memory.
     pub fn part_to(&self, alloc: Global, end: &Place<'a>) -> Result<CowStr<'a>, AllocError>
         requires { (slice : List ℕ) × (self.now.rest.now ≡ slice ++ end.now.rest.now) }
         ensures part { IfOk result (λ part. cow_str_bytes part ≡ start_bytes self.now.style
@@ -163,7 +167,7 @@ impl<'a> Place<'a> {
     }
 }
 
-/// What stands in a text before the end of it.
+/// What stands in a text before these last bytes of it.
 pub fn front<'a>(text: &'a str, end: &str) -> &'a str
     requires { (front : List ℕ) × (text.now ≡ front ++ end.now) }
     ensures { result.now ≡ take (length text.now - length end.now) text.now }
@@ -171,7 +175,7 @@ pub fn front<'a>(text: &'a str, end: &str) -> &'a str
     &text[..text.len() - end.len()]
 }
 
-/// The first item of a text, as its kind and its bytes, and the text behind it.
+/// The first item of a text, as its kind and its bytes, and the text behind it; none of an empty text.
 pub fn split_item(text: &str) -> Option<(Kind, &str, &str)>
     ensures { MatchOption result (pieces text.now ≡ []) (λ found.
         pieces text.now ≡ record { kind = found.0; bytes = found.1.now } ∷ pieces found.2.now) }
@@ -188,7 +192,7 @@ pub(crate) fn behind_byte(text: &str) -> &str
     &text[1..]
 }
 
-/// The text behind the first item.
+/// The text behind the first item of a text that isn't empty.
 pub fn behind_item(text: &str) -> &str
     requires { 0 < length text.now }
     ensures parted { IsBehindFirst (pieces text.now) (pieces result.now) }
@@ -207,7 +211,7 @@ pub fn begins_with_escape(text: &str) -> bool
     matches!(text.as_bytes(), [ESC, ..])
 }
 
-/// How many of the first bytes stand before the first ESC among them.
+/// How many of the first bytes, `most` of them or all, stand before the first ESC among them.
 pub fn text_len(text: &str, most: usize) -> usize
     ensures value { result ≡ prefix_len is_plain (take most text.now) }
 {

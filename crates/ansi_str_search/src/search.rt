@@ -1,4 +1,4 @@
-//! Searches in what a text shows, which is not built for them.
+//! Searches in what a text shows, which is not built for them: none takes memory.
 ghost use Rattle.std.specs.Prelude.{◌≡◌, ◌≤◌, ◌+◌, ◌↔◌, List, IsTrue, MatchOption, drop, length};
 ghost use Rattle.std.specs.Str.{IsCharBoundary};
 ghost use Rattle.ansi_scan.specs.Pieces.{pieces as pieces_of};
@@ -54,7 +54,7 @@ pub fn ends_with(text: &str, pattern: &str) -> bool
     find_end(text, pattern).is_some()
 }
 
-/// How many bytes the text shows before the pattern, where it ends with it.
+/// How many bytes the text shows before the pattern, where it ends with it, and none where it doesn't.
 pub fn find_end(text: &str, pattern: &str) -> Option<usize>
     ensures { MatchOption result (¬ (EndsWith pattern.now (strip (pieces_of text.now)))) (λ n.
         EndsWith pattern.now (strip (pieces_of text.now)) × ((n + length pattern.now ≡ length (strip (pieces_of text.now))) × IsCharBoundary (strip (pieces_of text.now)) n)) }
@@ -74,7 +74,7 @@ pub fn find_end(text: &str, pattern: &str) -> Option<usize>
     }
 }
 
-/// The first byte of what the text shows at which the pattern stands.
+/// The first byte of what the text shows at which the pattern stands, and none where it stands nowhere.
 pub fn find(text: &str, pattern: &str) -> Option<usize>
     ensures { (pieces : List Piece) → ArePiecesOf text.now pieces → IsFound pattern.now (strip pieces) result }
 {

@@ -28,7 +28,8 @@ impl<'a> Model for AnsiSplit<'a> {
 
 impl<'a> AnsiSplit<'a> {
     /// The parts of the text between the matches of the pattern, as `ansi_split` gives them; they borrow
-    /// the text itself, and not a variable that holds it.
+    /// the text itself, and not a variable that holds it. Takes no memory itself: a part may, of a text
+    /// with an ESC.
     pub fn new(alloc: Global, text: &'a str, pattern: &'a str) -> AnsiSplit<'a>
         ensures parts { (pieces : List Piece) (matches : List ℕ) → ArePiecesOf text.now pieces →
             AreMatches pattern.now (strip pieces) matches →
