@@ -1,24 +1,7 @@
 //! Prints tab-separated text as a table with borders.
 #![tactic(auto)]
 
-mod counted;
-#[cfg(test)]
-mod fakes;
-mod fault;
-mod input;
-mod laws;
-mod layout;
-mod output;
-mod parts;
-mod print;
-mod records;
-mod rows;
-mod run;
-mod sizes;
-
-use counted::Counted;
-use fault::RunFault;
-use run::Options;
+use columns_run::{Counted, Options, RunFault, run};
 use std::io::Eprint;
 use std::process::ExitCode;
 
@@ -27,7 +10,7 @@ fn main(rt: HostRuntime) -> ExitCode {
     // Neither stream has a buffer of this program's, so there is nothing to flush at the end.
     let mut reader = Counted::new(rt.stdin());
     let mut writer = Counted::new(rt.stdout());
-    match run::run(rt.alloc(), &Options::new(), &mut reader, &mut writer) {
+    match run(rt.alloc(), &Options::new(), &mut reader, &mut writer) {
         Ok(()) => ExitCode::SUCCESS,
         Err(fault) => {
             report(&rt, fault);

@@ -1,5 +1,5 @@
 //! Colours that own their texts, made of colours that borrow them.
-ghost use Rattle.std.specs.Prelude.{◌≡◌, IfOk, IsOk, None};
+ghost use Rattle.std.specs.Prelude.{◌≡◌, IfOk, IsOk, None, OnOk};
 ghost use Rattle.std.specs.Option.{option_map};
 ghost use Rattle.grid_config_colors.specs.Colors.{color_of};
 ghost use Rattle.grid_config_values.specs.Glyphs.{no_borders};
@@ -45,35 +45,37 @@ pub(crate) fn owned_borders(
     ensures colors { IfOk result (λ owned. owned ≡ border_colors colors.now) }
     ensures none { border_colors colors.now ≡ no_borders → IsOk result }
 {
-    Ok(Borders {
-        top: owned_glyph(alloc, colors.top)?,
-        top_left: owned_glyph(alloc, colors.top_left)?,
-        top_right: owned_glyph(alloc, colors.top_right)?,
-        top_intersection: owned_glyph(alloc, colors.top_intersection)?,
-        bottom: owned_glyph(alloc, colors.bottom)?,
-        bottom_left: owned_glyph(alloc, colors.bottom_left)?,
-        bottom_right: owned_glyph(alloc, colors.bottom_right)?,
-        bottom_intersection: owned_glyph(alloc, colors.bottom_intersection)?,
-        horizontal: owned_glyph(alloc, colors.horizontal)?,
-        left_intersection: owned_glyph(alloc, colors.left_intersection)?,
-        right_intersection: owned_glyph(alloc, colors.right_intersection)?,
-        intersection: owned_glyph(alloc, colors.intersection)?,
-        vertical: owned_glyph(alloc, colors.vertical)?,
-        left: owned_glyph(alloc, colors.left)?,
-        right: owned_glyph(alloc, colors.right)?,
-    })
+    let mut owned = Borders::empty();
+    put_glyph(alloc, colors.top, &mut owned.top)?;
+    put_glyph(alloc, colors.top_left, &mut owned.top_left)?;
+    put_glyph(alloc, colors.top_right, &mut owned.top_right)?;
+    put_glyph(alloc, colors.top_intersection, &mut owned.top_intersection)?;
+    put_glyph(alloc, colors.bottom, &mut owned.bottom)?;
+    put_glyph(alloc, colors.bottom_left, &mut owned.bottom_left)?;
+    put_glyph(alloc, colors.bottom_right, &mut owned.bottom_right)?;
+    put_glyph(alloc, colors.bottom_intersection, &mut owned.bottom_intersection)?;
+    put_glyph(alloc, colors.horizontal, &mut owned.horizontal)?;
+    put_glyph(alloc, colors.left_intersection, &mut owned.left_intersection)?;
+    put_glyph(alloc, colors.right_intersection, &mut owned.right_intersection)?;
+    put_glyph(alloc, colors.intersection, &mut owned.intersection)?;
+    put_glyph(alloc, colors.vertical, &mut owned.vertical)?;
+    put_glyph(alloc, colors.left, &mut owned.left)?;
+    put_glyph(alloc, colors.right, &mut owned.right)?;
+    Ok(owned)
 }
 
-// The colour of a glyph, where there is one.
-fn owned_glyph(
+// Puts the colour of a glyph in its place, where there is one.
+fn put_glyph(
     alloc: Global,
     color: Option<ANSIStr<'static>>,
-) -> Result<Option<ANSIBuf>, AllocError>
-    ensures color { IfOk result (λ owned. owned ≡ option_map color_of color.entry) }
+    place: &mut Option<ANSIBuf>,
+) -> Result<(), AllocError>
+    ensures color { OnOk result (place.new ≡ option_map color_of color.entry) }
     ensures none { option_map color_of color.entry ≡ None → IsOk result }
 {
-    match color {
-        None => Ok(None),
-        Some(color) => Ok(Some(ANSIBuf::from_ansi_str(alloc, color)?)),
-    }
+    *place = match color {
+        None => None,
+        Some(color) => Some(ANSIBuf::from_ansi_str(alloc, color)?),
+    };
+    Ok(())
 }

@@ -16,7 +16,7 @@ use Rattle.ansi_scan_style.specs.declared.next.Next.TheVariants.{Code, Form, Ind
 use Rattle.ansi_scan.specs.Sequences.{Piece}
 use Rattle.ansi_scan.specs.Attributes.{Attributes, plain_attributes, after_code, is_font_code, is_foreground_code, is_background_code}
 use Rattle.ansi_scan.specs.Rendition.{number, with_color, next_after, after_parameter, reading_after, after_parameters, after_parameter_bytes, sgr_parameters, applied}
-use Rattle.ansi_str.specs.StyledText.{style_by, style_after, style_after_all}
+use Rattle.ansi_str_text.specs.StyledText.{style_by, style_after, style_after_all}
 use Rattle.grid_config_colors.specs.Clearing.{code_here, codes_from, codes_in, codes_by, codes_of, Attribute, all_attributes, is_clearing, ClearsEach}
 
 -- an attribute, after a change of the style in which these codes are read: what was set before decides only

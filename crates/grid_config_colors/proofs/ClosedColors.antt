@@ -5,7 +5,7 @@ use Rattle.ansi_scan.specs.Sequences.{Piece, ArePiecesOf}
 use Rattle.ansi_scan.specs.Pieces.{pieces}
 use Rattle.ansi_scan.proofs.Existence.{ArePiecesOf-pieces}
 use Rattle.ansi_scan.specs.Attributes.{Attributes, plain_attributes}
-use Rattle.ansi_str.specs.StyledText.{style_after_all}
+use Rattle.ansi_str_text.specs.StyledText.{style_after_all}
 use Rattle.grid_config_colors.specs.Closing.{AreSequences, Clears, Closes}
 
 pub Closes-decides : (prefix suffix : List ℕ) (style : Attributes) (clears prefix_form suffix_form : Bool)

@@ -11,8 +11,8 @@ use Rattle.ansi_scan.specs.declared.items.Kind.TheVariants.{Text, Sgr, Csi, Osc,
 use Rattle.ansi_scan.specs.Sequences.{Piece, ArePiecesOf, NoneBroken, IsWhole}
 use Rattle.ansi_scan.specs.Attributes.{Attributes}
 use Rattle.ansi_scan.proofs.Uniqueness.{ArePiecesOf-unique}
-use Rattle.ansi_str.specs.StyledText.{style_after}
-use Rattle.ansi_str.specs.Blocks.{Block, block_if, blocks_from}
+use Rattle.ansi_str_text.specs.StyledText.{style_after}
+use Rattle.ansi_str_text.specs.Blocks.{Block, block_if, blocks_from}
 
 abbrev NoText : List Piece → Type 0
 NoText pieces = AllByRecursion (λ piece. piece.kind ≢ Text) pieces

@@ -6,7 +6,7 @@ use Rattle.ansi_scan.specs.declared.items.Kind.{Kind}
 use Rattle.ansi_scan.specs.declared.items.Kind.TheVariants.{Text, Sgr, Csi, Osc, Esc, Str, Broken}
 use Rattle.ansi_scan.specs.Places.{piece_at}
 use Rattle.ansi_scan.specs.Attributes.{Attributes}
-use Rattle.ansi_str.specs.StyledText.{style_by, style_after}
+use Rattle.ansi_str_text.specs.StyledText.{style_by, style_after}
 
 -- the style behind these items
 abbrev pub style_behind : List ℕ → Attributes → List Item → Attributes

@@ -1,7 +1,7 @@
 -- The colour that a text begins with.
 use Rattle.std.specs.Prelude.{Option, None, Some, List, [], ◌∷◌}
 use Rattle.ansi_scan.specs.StartsAndEnds.{start_bytes, end_bytes}
-use Rattle.ansi_str.specs.Blocks.{Block}
+use Rattle.ansi_str_text.specs.Blocks.{Block}
 use Rattle.grid_config_colors.specs.Colors.{Color}
 
 -- the start and the end of the first block's style

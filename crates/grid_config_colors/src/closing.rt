@@ -1,11 +1,11 @@
 //! Whether a suffix clears what its prefix sets.
 ghost use Rattle.std.specs.Prelude.{◌≡◌, ◌↔◌, List, IsTrue};
 ghost use Rattle.ansi_scan.specs.Sequences.{Piece, ArePiecesOf};
-ghost use Rattle.ansi_str.specs.StyledText.{style_after_all};
+ghost use Rattle.ansi_str_text.specs.StyledText.{style_after_all};
 ghost use Rattle.grid_config_colors.specs.Closing.{AreSequences, Clears, Closes};
 
 use ansi_scan::{Kind, Style, is_whole, scan};
-use ansi_str::get_blocks;
+use ansi_str_text::get_blocks;
 
 /// Whether the prefix and the suffix are sequences, of which the second clears what the first leaves.
 pub(crate) fn closes(prefix: &str, suffix: &str) -> bool

@@ -4,7 +4,7 @@ ghost use Rattle.std.specs.Prelude.{◌≡◌, ◌↔◌, IsTrue, List};
 ghost use Rattle.std.specs.declared.cmp.Ordering.TheVariants.{Equal};
 ghost use Rattle.ansi_scan.specs.Sequences.{Piece};
 ghost use Rattle.ansi_scan.specs.Attributes.{Attributes, plain_attributes};
-ghost use Rattle.ansi_str.specs.StyledText.{style_after_all};
+ghost use Rattle.ansi_str_text.specs.StyledText.{style_after_all};
 ghost use Rattle.grid_config_colors.specs.declared.borrowed.ANSIStr.{ANSIStr as Borrowed};
 ghost use Rattle.grid_config_colors.specs.Closing.{Clears};
 ghost use Rattle.grid_config_colors.specs.Clearing.{ClearsEach, codes_of};

@@ -2,7 +2,7 @@
 use crate::borrowed::ANSIStr;
 use crate::closing::closes;
 use crate::fault::BufFault;
-use ansi_str::get_blocks;
+use ansi_str_text::get_blocks;
 use std::alloc::{AllocError, Global};
 use std::marker::Model;
 
@@ -26,7 +26,7 @@ impl ANSIBuf {
     ghost use Rattle.std.specs.Prelude.{◌≡◌, ◌↔◌, List, [], Err, Some, IfOk, IsTrue};
     ghost use Rattle.ansi_scan.specs.Sequences.{Piece, ArePiecesOf};
     ghost use Rattle.ansi_scan.specs.Attributes.{plain_attributes};
-    ghost use Rattle.ansi_str.specs.Blocks.{blocks_from};
+    ghost use Rattle.ansi_str_text.specs.Blocks.{blocks_from};
     ghost use Rattle.grid_config_colors.specs.Colors.{color_of, is_no_color, no_color};
     ghost use Rattle.grid_config_colors.specs.Closing.{Closes};
     ghost use Rattle.grid_config_colors.specs.FirstColor.{first_color};

@@ -1,9 +1,11 @@
 //! The glyphs of a table's boundaries, or what else belongs to each of them, as its colour.
-ghost use Rattle.std.specs.Prelude.{◌≡◌, ◌<◌, ◌||◌, Bool, if◌then◌else◌, is_some};
+ghost use Rattle.std.specs.Prelude.{◌≡◌, ◌<◌, ◌||◌, ⊤, Bool, if◌then◌else◌, is_some};
 ghost use Rattle.grid_config_values.specs.Glyphs.{Between, BoundaryKind, First, Last, boundary_count, boundary_kind, has_column_boundary, has_row_boundary, no_borders};
 
+use std::alloc::AllocError;
+
 /// What may stand round one cell.
-#[derive(Clone, Copy, Debug, PartialEq, Eq, PartialOrd, Ord, Hash, Drop)]
+#[derive(Copy, Debug, PartialEq, Eq, PartialOrd, Ord, Hash, Drop)]
 pub struct Border<T> {
     /// Above it.
     pub top: Option<T>,
@@ -23,9 +25,20 @@ pub struct Border<T> {
     pub right_bottom_corner: Option<T>,
 }
 
+/// A copy, without memory.
+impl<T: Copy> Clone for Border<T> {
+    ghost is_clone = { λ source copy. copy ≡ source };
+
+    ghost is_infallible = { λ _. ⊤ };
+
+    fn clone(&self) -> Result<Border<T>, AllocError> {
+        Ok(*self)
+    }
+}
+
 /// What may stand on the boundaries of a table: before its first row or column, between two of
 /// them, and behind its last.
-#[derive(Clone, Copy, Debug, PartialEq, Eq, PartialOrd, Ord, Hash, Drop)]
+#[derive(Copy, Debug, PartialEq, Eq, PartialOrd, Ord, Hash, Drop)]
 pub struct Borders<T> {
     /// Along the columns, above the first row.
     pub top: Option<T>,
@@ -61,6 +74,17 @@ pub struct Borders<T> {
     pub left: Option<T>,
     /// In a row, behind the last column.
     pub right: Option<T>,
+}
+
+/// A copy, without memory.
+impl<T: Copy> Clone for Borders<T> {
+    ghost is_clone = { λ source copy. copy ≡ source };
+
+    ghost is_infallible = { λ _. ⊤ };
+
+    fn clone(&self) -> Result<Borders<T>, AllocError> {
+        Ok(*self)
+    }
 }
 
 // Whether one of the two is set. `is_some` is no `const` function.

@@ -8,7 +8,7 @@ use Rattle.std.proofs.lemmas.Bool.Decides.{nat_tests}
 use Rattle.std.proofs.lemmas.List.{drop_at, length-take-le, take_at}
 use Rattle.std.proofs.lemmas.List.FromFn.{get_or-map-range_with_len, length-map-range_with_len}
 use Rattle.std.proofs.lemmas.List.Sums.{sum_by-cons}
-use Rattle.grid_records_rows.specs.Rows.{fitted}
+use Rattle.grid_records_traits.specs.Rows.{fitted}
 use Rattle.grid_records_estimate.specs.declared.need.Need.{Need}
 use Rattle.grid_records_estimate.specs.Estimates.{Axis, boundaries_within, greatest, least_size, length_at, meet, need_at, needs_at, needs_of_length, spanning_needs, track_sizes, with_shares}
 use Rattle.grid_records_estimate.specs.Room.{LeaveRoom, room}

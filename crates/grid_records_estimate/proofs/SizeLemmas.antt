@@ -10,7 +10,7 @@ use Rattle.grid_config_values.specs.declared.borders.Borders.{Borders}
 use Rattle.grid_config_values.specs.declared.sides.Indent.{Indent}
 use Rattle.grid_config_values.specs.declared.sides.Sides.{Sides}
 use Rattle.grid_config.specs.Glyphs.{Between, boundary_count, has_column_boundary, has_row_boundary}
-use Rattle.grid_records_rows.specs.Rows.{fitted, fitted_row, row_at}
+use Rattle.grid_records_traits.specs.Rows.{fitted, fitted_row, row_at}
 use Rattle.grid_records_estimate.specs.Collecting.{AreFirstBelow, Describes, PassesMax}
 use Rattle.grid_records_estimate.specs.Estimates.{Axis, least_size, spanning_needs, track_sizes}
 use Rattle.grid_records_estimate.specs.Reading.{IsReading}

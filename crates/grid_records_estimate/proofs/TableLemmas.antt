@@ -6,7 +6,7 @@ use Rattle.std.proofs.lemmas.Bool.Decides.{nat_tests}
 use Rattle.std.proofs.lemmas.List.Concat.{flat_map-append}
 use Rattle.std.proofs.lemmas.List.Sorted.{IsPermutation-append_comm, IsPermutation-append_left, IsPermutation-append_right, IsPermutation-refl, IsPermutation-trans}
 use Rattle.grid_config.specs.Glyphs.{Between, boundary_kind, has_column_boundary, has_row_boundary}
-use Rattle.grid_records_rows.specs.Rows.{row_at, text_at}
+use Rattle.grid_records_traits.specs.Rows.{row_at, text_at}
 use Rattle.grid_records_estimate.specs.declared.need.Need.{Need}
 use Rattle.grid_records_estimate.specs.Collecting.{AreFirstBelow, Collected, Describes, HasBetween, all_needs, is_plain}
 use Rattle.grid_records_estimate.specs.Reading.{HasRead, Placed, cell_heights, cell_widths, row_cells, table_cells}

@@ -3,7 +3,7 @@ use Rattle.std.specs.Prelude.{◌≡◌, ℕ, ◌+◌, List, [], ◌∷◌, ◌+
 use Rattle.std.specs.List.{flat_map}
 use Rattle.grid_config.specs.Spans.{extent_at}
 use Rattle.grid_config_values.specs.declared.position.Position.{Position}
-use Rattle.grid_records_rows.specs.Rows.{fitted}
+use Rattle.grid_records_traits.specs.Rows.{fitted}
 use Rattle.grid_records_estimate.specs.Collecting.{Collected, HasCollected}
 use Rattle.grid_records_estimate.specs.Sizing.{Sizing, height_need, is_visible, place, width_need}
 use Rattle.grid_records_estimate.specs.declared.need.Need.{Need}

@@ -3,7 +3,7 @@ use Rattle.std.specs.Prelude.{◌≡◌, ℕ, ◌⊎◌, List, length}
 use Rattle.grid_config_values.specs.declared.fault.Fault.{Fault}
 use Rattle.grid_config_values.specs.declared.fault.Fault.TheVariants.{Memory, Range}
 use Rattle.grid_config.specs.Glyphs.{boundary_count, has_column_boundary, has_row_boundary}
-use Rattle.grid_records_rows.specs.Rows.{fitted}
+use Rattle.grid_records_traits.specs.Rows.{fitted}
 use Rattle.grid_records_estimate.specs.Estimates.{track_sizes}
 use Rattle.grid_records_estimate.specs.Sizing.{Sizing, column_axis, row_axis}
 use Rattle.grid_records_estimate.specs.Totals.{total}

@@ -9,7 +9,7 @@ use crate::reading::{Reading, read};
 use crate::sizing::Sizing;
 use crate::totals::total;
 use grid_config::{CompactConfig, Fault, SpannedConfig};
-use grid_records_rows::{Dimension, Records};
+use grid_records_traits::{Dimension, Records};
 use std::alloc::Global;
 use std::marker::{Model, PhantomData};
 

@@ -2,7 +2,7 @@
 ghost use Rattle.std.specs.Prelude.{◌≡◌, ℕ, List, [], ◌∷◌, true, false};
 ghost use Rattle.grid_config.specs.Compact.{Compact as CompactSettings};
 ghost use Rattle.grid_config.specs.Settings.{Settings as TableSettings, StartsWith, compact_start};
-ghost use Rattle.grid_records_rows.specs.Rows.{fitted};
+ghost use Rattle.grid_records_traits.specs.Rows.{fitted};
 ghost use Rattle.grid_records_estimate.specs.Estimates.{Axis as TableAxis, track_sizes};
 ghost use Rattle.grid_records_estimate.specs.Room.{LeaveRoom};
 ghost use Rattle.grid_records_estimate.specs.Sizes.{height_total, table_heights, table_widths, width_total};

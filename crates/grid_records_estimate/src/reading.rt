@@ -1,15 +1,15 @@
 //! A table is read once, row by row, and what its visible cells need is collected.
 ghost use Rattle.std.specs.Prelude.{◌≡◌, ◌<◌, ℕ, ◌+◌, ◌++◌, [], ◌∷◌, Bool, IfOk, List, OnOk, length};
 ghost use Rattle.std.specs.Iterator.{IsFinite};
-ghost use Rattle.grid_records_rows.specs.Giving.{GivesTexts};
-ghost use Rattle.grid_records_rows.specs.Rows.{fitted};
+ghost use Rattle.grid_records_traits.specs.Giving.{GivesTexts};
+ghost use Rattle.grid_records_traits.specs.Rows.{fitted};
 ghost use Rattle.grid_records_estimate.specs.Reading.{HasRead, IsReading, Placed, row_cells, table_cells};
 
 use crate::collector::Collector;
 use crate::need::Need;
 use crate::sizing::Sizing;
 use grid_config::Position;
-use grid_records_rows::{Cell, Records};
+use grid_records_traits::{Cell, Records};
 use std::alloc::{AllocError, Global};
 
 /// A table that was read: how many columns and rows it has, and what its visible cells need of them.

@@ -4,7 +4,7 @@ use Rattle.std.proofs.lemmas.List.{append-nil, map-append, take_all}
 use Rattle.std.proofs.Math.Seq.{take-append_seam}
 use Rattle.std.specs.Prelude.{None, Option}
 use Rattle.std.specs.Iterator.{Count}
-use Rattle.grid_records_rows.specs.Giving.{Gives, GivesEach}
+use Rattle.grid_records_traits.specs.Giving.{Gives, GivesEach}
 
 -- one more is kept, the first of what was left
 pub kept_more : {A B : Type 0} (f : A → B) (before after : List A) (x : A) (rest left all : List B) → after ≡ before ++ x ∷ [] →

@@ -1,4 +1,2 @@
 pub mod Keeping
-pub mod LineAt
-pub mod Loops
 pub mod Tables

@@ -1,24 +1,13 @@
 -- Tables of rows that are equally long.
-use Rattle.std.proofs.Common.{arith, ◌≡◌, ◌-◌, ℕ, suc, List, [], ◌∷◌, All, ap, map, length, get_or, refl, sym, ◌∙◌, take, replicate, Vec, vec_items, slice_set}
-use Rattle.std.proofs.lemmas.List.{append-nil, get_or-map, get_or-replicate, length-map, length-replicate, map-set, take_all}
+use Rattle.std.proofs.Common.{arith, ◌≡◌, ℕ, List, [], ap, map, length, get_or, sym, ◌∙◌, replicate, Vec, vec_items, slice_set}
+use Rattle.std.proofs.lemmas.List.{get_or-map, get_or-replicate, length-map, length-replicate, map-set}
 use Rattle.std.proofs.lemmas.List.Elements.{All-map}
 use Rattle.std.specs.Vec.{with_item}
 use Rattle.grid_config_values.specs.declared.Position.{Position}
-use Rattle.grid_records_rows.specs.Rows.{IsInside, fitted, fitted_row, row_at, with_text}
-use Rattle.grid_records_rows.specs.Sources.{AreEquallyLong, columns_of, texts_of_rows}
-
--- a row of so many texts is fitted already
-fitted_row-same : (row : List (List ℕ)) (n : ℕ) → length row ≡ n → fitted_row n row ≡ row
-fitted_row-same row n long =
-    let all : take n row ≡ row = take_all n row (omega arith) in
-    let none : n - length row ≡ 0 = omega arith in
-    rw (all, none) (append-nil row)
-
--- rows of so many texts are fitted already
-pub fitted-same : (rows : List (List (List ℕ))) (n : ℕ) → All (λ row. length row ≡ n) rows → fitted n rows ≡ rows
-fitted-same [] n long = refl
-fitted-same (row ∷ rows) n long =
-    rw (fitted_row-same row n (long 0 row (omega arith))) (ap (λ v. row ∷ v) (fitted-same rows n (λ k d lt. long (suc k) d (omega arith))))
+use Rattle.grid_records_traits.proofs.FittedRows.{fitted-same}
+use Rattle.grid_records_traits.specs.Rows.{IsInside, fitted, row_at, with_text}
+use Rattle.grid_records_traits.specs.Sources.{texts_of_rows}
+use Rattle.grid_records_rows.specs.Sources.{AreEquallyLong, columns_of}
 
 -- equally long rows are fitted already
 pub fitted_table : {T Z : Type 0} (text : T → List ℕ) (rows : List (Vec T Z)) → AreEquallyLong rows → fitted (columns_of rows) (texts_of_rows text rows) ≡ texts_of_rows text rows

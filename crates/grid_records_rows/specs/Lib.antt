@@ -1,8 +1,8 @@
-pub mod Giving
+pub use Rattle.grid_records_traits.specs.Giving
 pub mod Buffering
 pub mod Sources
-pub mod Rows
+pub use Rattle.grid_records_traits.specs.Rows
 pub mod Fitting
 pub mod Truncating
-pub mod Cells
+pub use Rattle.grid_records_traits.specs.Cells
 pub mod Laws

@@ -1,28 +1,8 @@
 -- Rows that a value holds.
 use Rattle.std.specs.Iterator.Adapters.{take_count, take_source}
 use Rattle.std.specs.declared.iter.Take.{Take}
-use Rattle.std.specs.declared.vec.IntoIter.{IntoIter}
-use Rattle.std.specs.Vec.Iter.{into_iter_items, into_iter_len}
 use Rattle.std.specs.Borrow.{Bor}
-use Rattle.std.specs.Prelude.{◌≡◌, ◌+◌, All, List, MatchOption, MatchResult, None, Option, Result, Some, Vec, [], ◌∷◌, map, take, vec_items, vec_len, ℕ}
-
--- a call answers the next cell, and refuses none
-abbrev pub AnswersCell : {S C E : Type 0} → (S → Option C → S → Type 0) → S → Option (Result C E) → S → Type 0
-AnswersCell steps s found t =
-    MatchOption found (steps s None t) (λ answer. MatchResult answer (λ cell. steps s (Some cell) t) (λ _. ⊥))
-
--- a call gives what the next row becomes
-abbrev pub GivesCellsOf : {S Row Cells I : Type 0} → (S → Option Row → S → Type 0) → (Row → I → Type 0) → S → Option Cells → (Cells → I) → S → Type 0
-GivesCellsOf {Row = Row} steps becomes s found inside t =
-    MatchOption found (steps s None t) (λ cells. (row : Row) × steps s (Some row) t × becomes row (inside cells))
-
--- the texts of the cells, row by row
-abbrev pub texts_of_rows : {T Z : Type 0} → (T → List ℕ) → List (Vec T Z) → List (List (List ℕ))
-texts_of_rows text rows = map (λ row. map text (vec_items row)) rows
-
--- the items that an iterator over a vector has left
-abbrev pub items_left : {T Z : Type 0} → IntoIter T Z → List T
-items_left it = take (into_iter_len it) (into_iter_items it)
+use Rattle.std.specs.Prelude.{◌≡◌, ◌+◌, All, List, MatchOption, MatchResult, None, Option, Result, Some, Vec, [], ◌∷◌, vec_len, ℕ}
 
 -- the cells of the first row, 0 where there is none
 abbrev pub columns_of : {T Z : Type 0} → List (Vec T Z) → ℕ

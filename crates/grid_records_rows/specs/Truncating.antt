@@ -1,7 +1,7 @@
 -- Cells that are cut at the widths of their columns.
 use Rattle.std.specs.Prelude.{◌≡◌, ◌<◌, ◌+◌, ◌^◌, ◌-◌, ℕ, List, [], ◌∷◌, MatchOption, MatchResult, None, Option, Result, Some, chars, if◌then◌else◌, map, nat_le, nat_lt, string_bytes}
 use Rattle.ansi_scan.specs.Pieces.{pieces}
-use Rattle.ansi_str.specs.StyledText.{strip}
+use Rattle.ansi_str_text.specs.StyledText.{strip}
 use Rattle.grid_records_measure.specs.Cutting.{cut_bytes}
 use Rattle.grid_records_measure.specs.Filling.{behind_front, front}
 use Rattle.grid_records_measure.specs.TextLines.{text_width}

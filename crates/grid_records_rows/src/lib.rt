@@ -1,12 +1,10 @@
 //! Records of cells with a text: sources of rows, tables of rows, and what shortens them.
 #![tactic(auto)]
 
-pub mod dimension;
 pub mod laws;
-mod lines;
 pub mod records;
 
-pub use dimension::Dimension;
+pub use grid_records_traits::{Dimension, dimension};
 pub use records::into_records::{
     BufRecords, IntoRecords, KeptTexts, LimitColumns, LimitRows, SkipRows, TruncateContent,
 };

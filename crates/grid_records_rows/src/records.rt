@@ -1,55 +1,15 @@
 //! Rows of cells with a text.
-ghost use Rattle.std.specs.Prelude.{◌≡◌, ℕ, Bool, List, Option};
-ghost use Rattle.grid_records_rows.specs.Giving.{GivesRows};
-ghost use Rattle.grid_records_rows.specs.Rows.{fitted};
-
 pub mod empty;
-pub mod exact_records;
 pub mod into_records;
 pub mod iter_records;
-pub mod peekable_records;
 pub mod records_mut;
 pub mod vec_records;
 
 pub use empty::EmptyRecords;
-pub use exact_records::ExactRecords;
+pub use grid_records_traits::records::{
+    ExactRecords, PeekableRecords, RecordTexts, Records, exact_records, peekable_records,
+};
 pub use into_records::IntoRecords;
 pub use iter_records::IterRecords;
-pub use peekable_records::PeekableRecords;
 pub use records_mut::RecordsMut;
 pub use vec_records::{Cell, FromText, Text, VecRecords};
-
-/// What contracts see of a source of rows: the texts of its cells by rows, and whether a cell may be
-/// refused for memory.
-pub trait RecordTexts {
-    ghost rows: { Self → List (List (List ℕ)) };
-
-    ghost may_refuse: { Self → Bool };
-}
-
-impl<'a, R: RecordTexts> RecordTexts for &'a R {
-    ghost rows = { λ records. R.rows records.now };
-
-    ghost may_refuse = { λ records. R.may_refuse records.now };
-}
-
-/// Rows of cells with a column count.
-pub trait Records: RecordTexts {
-    type Iter: IntoRecords;
-
-    ghost columns: { Self → ℕ };
-
-    ghost hint: { Self → Option ℕ };
-
-    /// The rows, each of as many cells as there are columns. A cell that a row lacks has an empty text.
-    fn iter_rows(self) -> <Self::Iter as IntoRecords>::IterRows
-        ensures { GivesRows Self.Iter.IterRows.can_next Self.Iter.IterRows.remaining Self.Iter.IterRows.next_gives Self.Iter.IterColumns.can_next Self.Iter.IterColumns.remaining Self.Iter.IterColumns.next_gives Self.Iter.Cell.text (Self.RecordTexts.may_refuse self) result (fitted (columns self) (Self.RecordTexts.rows self)) };
-
-    /// How many columns there are.
-    fn count_columns(&self) -> usize
-        ensures { result ≡ columns self.now };
-
-    /// How many rows there may be. It is a hint, and promises nothing of the rows.
-    fn hint_count_rows(&self) -> Option<usize>
-        ensures { result ≡ hint self.now };
-}

@@ -6,7 +6,7 @@ use Rattle.std.specs.Iterator.{Count, IsFinite, SkipsThenYields, Yields, at_most
 use Rattle.std.specs.Iterator.Adapters.{skip_count, skip_source, skip_steps, take_count, take_source, take_steps}
 use Rattle.std.specs.declared.iter.Skip.{Skip}
 use Rattle.std.specs.declared.iter.Take.{Take}
-use Rattle.grid_records_rows.specs.Giving.{Gives, GivesCells, GivesEach, GivesRows, GivesTexts}
+use Rattle.grid_records_traits.specs.Giving.{Gives, GivesCells, GivesEach, GivesRows, GivesTexts}
 use Rattle.grid_records_rows.specs.Sources.{GivesTaken}
 
 each_taken : {S A B : Type 0} (steps : S → Option A → S → Type 0) (tie : A → B → Type 0) (n : ℕ) (s : Take S) (ys : List B) → take_count s ≡ n →

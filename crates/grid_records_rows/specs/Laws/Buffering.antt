@@ -10,9 +10,10 @@ use Rattle.std.specs.Vec.Iter.{into_iter_len, into_iter_steps}
 use Rattle.std.specs.declared.alloc.AllocError.{AllocError}
 use Rattle.std.specs.declared.vec.IntoIter.{IntoIter}
 use Rattle.grid_records_rows.specs.Buffering.{GivesBuffered, of_rest}
-use Rattle.grid_records_rows.specs.Giving.{Gives, GivesCells, GivesEach, GivesRows, GivesTexts, HasEnded, HasPassedOne}
-use Rattle.grid_records_rows.specs.Sources.{AnswersCell, GivesCellsOf, items_left, texts_of_rows}
-use Rattle.grid_records_rows.specs.Laws.Given.{vec_gives, vec_goes, vec_stays, vec_stops}
+use Rattle.grid_records_traits.specs.Giving.{GivesCells, GivesEach, GivesRows, GivesTexts, HasEnded, HasPassedOne}
+use Rattle.grid_records_traits.specs.Giving.{AnswersCell, GivesCellsOf}
+use Rattle.grid_records_traits.specs.Sources.{items_left, texts_of_rows}
+use Rattle.grid_records_traits.specs.Laws.Given.{vec_gives, vec_goes, vec_stays, vec_stops}
 
 -- one of two iterators gives the cells that it gives
 module _ {S T C E : Type 0} (lefts : S → Option (Result C E) → S → Type 0) (rights : T → Option (Result C E) → T → Type 0) (text : C → List ℕ) (may_refuse : Bool) where

@@ -2,10 +2,10 @@
 use Rattle.std.proofs.Common.{◌≡◌, ◌∙◌, ◌-◌, ℕ, zero, suc, Bool, List, [], ◌∷◌, ap, arith, length, map, refl, replicate, subst, sym}
 use Rattle.std.specs.Prelude.{Err, IfSome, MatchOption, None, Ok, Option, Result, Some}
 use Rattle.std.specs.Iterator.{Count, at_most}
-use Rattle.grid_records_rows.specs.Cells.{text_or_empty}
+use Rattle.grid_records_traits.specs.Cells.{text_or_empty}
 use Rattle.grid_records_rows.specs.Fitting.{FitsCell, FitsOne, GivesFitted}
-use Rattle.grid_records_rows.specs.Giving.{GivesCells, GivesEach, GivesRows, GivesTexts, HasEnded}
-use Rattle.grid_records_rows.specs.Rows.{fitted, fitted_row}
+use Rattle.grid_records_traits.specs.Giving.{GivesCells, GivesEach, GivesRows, GivesTexts, HasEnded}
+use Rattle.grid_records_traits.specs.Rows.{fitted, fitted_row}
 
 -- the same, text by text
 fit : ℕ → List (List ℕ) → List (List ℕ)

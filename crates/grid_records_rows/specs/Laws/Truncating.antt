@@ -8,12 +8,12 @@ use Rattle.grid_records_rows.specs.Buffering.{of_rest}
 use Rattle.ansi_scan.specs.Pieces.{pieces}
 use Rattle.ansi_scan.specs.Sequences.{ArePiecesOf, Piece}
 use Rattle.ansi_scan.proofs.Existence.{ArePiecesOf-pieces}
-use Rattle.ansi_str.specs.StyledText.{strip}
+use Rattle.ansi_str_text.specs.StyledText.{strip}
 use Rattle.grid_records_measure.specs.Cutting.{IsCutAt, cut_bytes}
 use Rattle.grid_records_measure.specs.Filling.{behind_front, front}
 use Rattle.grid_records_measure.specs.TextLines.{text_width}
 use Rattle.grid_records_measure.proofs.FillingLemmas.{IsLongestFront-front, IsLongestFront-unique}
-use Rattle.grid_records_rows.specs.Giving.{GivesCells, GivesEach, GivesRows, GivesTexts, HasEnded}
+use Rattle.grid_records_traits.specs.Giving.{GivesCells, GivesEach, GivesRows, GivesTexts, HasEnded}
 use Rattle.grid_records_rows.specs.Truncating.{GivesTruncated, GivesTruncatedRow, IsTruncated, cut_text, next_column, text_of_truncated, truncated_row, truncated_rows, truncated_text}
 use Rattle.grid_records_rows.specs.declared.records.into_records.truncate_content.Truncated.{Truncated}
 

@@ -3,8 +3,8 @@ ghost use Rattle.std.proofs.Common.{ap};
 ghost use Rattle.std.specs.Prelude.{◌≡◌, Some, [], false, refl, replicate};
 ghost use Rattle.std.specs.Iterator.{at_most};
 ghost use Rattle.grid_records_rows.specs.Sources.{GivesEmptyCells, GivesEmptyText};
-ghost use Rattle.grid_records_rows.specs.Laws.Leaving.{passed_same};
-ghost use Rattle.grid_records_rows.specs.Laws.Sources.{each_empty_row, each_empty_text};
+ghost use Rattle.grid_records_traits.specs.Laws.Leaving.{passed_same};
+ghost use Rattle.grid_records_rows.specs.Laws.Empty.{each_empty_row, each_empty_text};
 
 use crate::records::into_records::IntoRecords;
 use crate::records::{ExactRecords, RecordTexts, Records};

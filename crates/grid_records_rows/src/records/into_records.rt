@@ -1,50 +1,15 @@
 //! Sources of rows.
-ghost use Rattle.std.specs.Prelude.{◌≡◌, ℕ, Bool, List, Some};
-ghost use Rattle.grid_records_rows.specs.Giving.{GivesRows, HasPassedOne};
-
 pub mod buf_records;
 pub mod fitted;
-mod given;
 mod limit_columns;
 mod limit_rows;
 mod skip_rows;
-mod sources;
 pub mod truncate_content;
 
-use crate::records::RecordTexts;
-use crate::records::vec_records::Cell;
 pub use buf_records::{BufRecords, BufferedRows, KeptTexts};
 pub use fitted::{Fitted, FittedCells, FittedRows};
-pub use given::{GivenCells, GivenRows};
+pub use grid_records_traits::records::into_records::{GivenCells, GivenRows, IntoRecords, given};
 pub use limit_columns::{LimitColumns, LimitedRows};
 pub use limit_rows::LimitRows;
 pub use skip_rows::SkipRows;
-use std::alloc::AllocError;
 pub use truncate_content::TruncateContent;
-
-/// A source of rows of cells. An iterator over its rows gives iterators over their cells, and each of
-/// these answers a cell or a refusal for memory, behind which it gives `None`.
-pub trait IntoRecords: RecordTexts {
-    type Cell: Cell;
-
-    type IterColumns: Iterator<Item = Result<Self::Cell, AllocError>>;
-
-    type IterRows: Iterator<Item = Self::IterColumns>;
-
-    /// The texts of the rows that an iterator over rows has left.
-    ghost rows_left: { Self.IterRows → List (List (List ℕ)) };
-
-    /// Whether one of their cells may be refused for memory.
-    ghost may_refuse_left: { Self.IterRows → Bool };
-
-    /// The rows.
-    fn iter_rows(self) -> Self::IterRows
-        ensures rows { rows_left result ≡ Self.rows self }
-        ensures refuses { may_refuse_left result ≡ Self.may_refuse self };
-
-    /// At any time an iterator over rows gives those that it has left.
-    ghost gives: { (s : Self.IterRows) → GivesRows Self.IterRows.can_next Self.IterRows.remaining Self.IterRows.next_gives Self.IterColumns.can_next Self.IterColumns.remaining Self.IterColumns.next_gives Self.Cell.text (may_refuse_left s) s (rows_left s) };
-
-    /// The row that it gave is left no more, and all others are.
-    ghost passes: { (s t : Self.IterRows) (cells : Self.IterColumns) → Self.IterRows.next_gives s (Some cells) t → HasPassedOne (rows_left s) (may_refuse_left s) (rows_left t) (may_refuse_left t) };
-}

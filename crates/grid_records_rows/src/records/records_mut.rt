@@ -1,6 +1,6 @@
 //! Records whose texts can be set.
 ghost use Rattle.std.specs.Prelude.{◌≡◌};
-ghost use Rattle.grid_records_rows.specs.Rows.{IsInside, with_text};
+ghost use Rattle.grid_records_traits.specs.Rows.{IsInside, with_text};
 
 use crate::records::RecordTexts;
 use crate::records::vec_records::Text;

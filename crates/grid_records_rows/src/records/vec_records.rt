@@ -1,14 +1,15 @@
 //! Rows in vectors.
 ghost use Rattle.std.specs.Prelude.{◌≡◌, ◌↔◌, IsTrue, Some, false, vec_len};
-ghost use Rattle.grid_records_rows.specs.Sources.{AreEquallyLong, columns_of, texts_of_rows};
+ghost use Rattle.grid_records_traits.specs.Sources.{texts_of_rows};
+ghost use Rattle.grid_records_rows.specs.Sources.{AreEquallyLong, columns_of};
 
-pub mod cell;
 pub mod text;
 
 use crate::records::into_records::{GivenRows, IntoRecords};
 use crate::records::{ExactRecords, PeekableRecords, RecordTexts, Records, RecordsMut};
-pub use cell::Cell;
 use grid_config_values::Position;
+pub use grid_records_traits::records::cell;
+pub use grid_records_traits::Cell;
 use std::{slice, vec};
 pub use text::{FromText, Text};
 

@@ -1,7 +1,7 @@
 use Rattle.std.proofs.Common.{◌∙◌, ap, sym}
 use Rattle.std.proofs.lemmas.Bool.{false≢true}
 use Rattle.ansi_scan.specs.Attributes.{Attributes}
-use Rattle.ansi_str.specs.StyledText.{style_after_all}
+use Rattle.ansi_str_text.specs.StyledText.{style_after_all}
 use Rattle.grid_config_colors.proofs.ClosedColors.{Closes-decides}
 use Rattle.grid_config_colors.proofs.closing.closes.Goals.{then-are_sequences, else-are_sequences}
 use Rattle.grid_config_colors.proofs.closing.closes.Goals as goal

@@ -6,7 +6,7 @@ use Rattle.ansi_scan.specs.Scan.{items_left}
 use Rattle.ansi_scan.specs.Places.{placed}
 use Rattle.ansi_scan.proofs.Reading.{fold-placed}
 use Rattle.ansi_scan.proofs.Uniqueness.{ArePiecesOf-unique}
-use Rattle.ansi_str.specs.StyledText.{style_after, style_after_all}
+use Rattle.ansi_str_text.specs.StyledText.{style_after, style_after_all}
 use Rattle.grid_config_colors.proofs.Styles.{style_behind}
 use Rattle.grid_config_colors.proofs.closing.style_behind.Goals as goal
 

@@ -1,6 +1,6 @@
 use Rattle.std.proofs.Common.{ℕ, Bool, List, length, drop}
-use Rattle.grid_records_rows.proofs.Loops.{AreCells}
-use Rattle.grid_records_rows.specs.Giving.{GivesTexts}
+use Rattle.grid_records_traits.proofs.Loops.{AreCells}
+use Rattle.grid_records_traits.specs.Giving.{GivesTexts}
 use Rattle.grid_records_estimate.specs.Reading.{HasRead, Placed}
 use Rattle.grid_records_estimate.proofs.ReadLemmas.{RowRead}
 use Rattle.grid_records_estimate.proofs.reading.collect_row.Given as goal

@@ -1,7 +1,7 @@
 -- The front that has room is the longest one.
 use Rattle.std.proofs.Common.{chars, refl}
 use Rattle.ansi_scan.specs.Pieces.{pieces}
-use Rattle.ansi_str.specs.StyledText.{strip}
+use Rattle.ansi_str_text.specs.StyledText.{strip}
 use Rattle.grid_records_measure.specs.Filling.{behind_front, front}
 use Rattle.grid_records_measure.proofs.FillingLemmas.{IsLongestFront-front}
 use Rattle.grid_records_rows.specs.Laws.Truncating.{cut-unique}

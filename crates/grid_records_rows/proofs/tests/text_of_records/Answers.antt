@@ -1,4 +1,4 @@
-use Rattle.grid_records_rows.proofs.Loops.{next_given}
+use Rattle.grid_records_traits.proofs.Loops.{next_given}
 use Rattle.grid_records_rows.proofs.tests.text_of_records.Goals as goal
 
 pub push_cells-requires : goal.push_cells-requires

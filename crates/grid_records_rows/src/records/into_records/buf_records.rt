@@ -3,14 +3,14 @@ ghost use Rattle.std.proofs.Common.{◌∙◌};
 ghost use Rattle.std.specs.Iterator.{IsFinite, at_most, count_add};
 ghost use Rattle.std.specs.Prelude.{◌≡◌, ◌++◌, Bool, IfOk, IfSome, IsTrue, List, [], false, map, take, ℕ};
 ghost use Rattle.grid_records_rows.specs.Buffering.{GivesBuffered, of_rest};
-ghost use Rattle.grid_records_rows.specs.Sources.{items_left, texts_of_rows};
-ghost use Rattle.grid_records_rows.specs.Giving.{GivesTexts};
+ghost use Rattle.grid_records_traits.specs.Sources.{items_left, texts_of_rows};
+ghost use Rattle.grid_records_traits.specs.Giving.{GivesTexts};
 ghost use Rattle.grid_records_rows.specs.Laws.Buffering.{buffered_rows_give, passed_buffered};
-ghost use Rattle.grid_records_rows.specs.Laws.Sources.{all_items};
+ghost use Rattle.grid_records_traits.specs.Laws.Sources.{all_items};
 
 use crate::records::RecordTexts;
 use crate::records::into_records::IntoRecords;
-use crate::records::into_records::given::{GivenCells, GivenRows};
+use grid_records_traits::records::into_records::given::{GivenCells, GivenRows};
 use crate::records::vec_records::Cell;
 use either::{Either, Left, Right};
 use std::alloc::{AllocError, Global};

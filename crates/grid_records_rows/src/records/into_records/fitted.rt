@@ -2,9 +2,9 @@
 ghost use Rattle.std.specs.Prelude.{◌≡◌, IfSome, Some};
 ghost use Rattle.std.specs.Iterator.{at_most};
 ghost use Rattle.grid_records_rows.specs.Fitting.{GivesFitted, FitsCell};
-ghost use Rattle.grid_records_rows.specs.Rows.{fitted, fitted_row};
+ghost use Rattle.grid_records_traits.specs.Rows.{fitted, fitted_row};
 ghost use Rattle.grid_records_rows.specs.Laws.Fitting.{gives_fitted_rows};
-ghost use Rattle.grid_records_rows.specs.Laws.Leaving.{passed_made};
+ghost use Rattle.grid_records_traits.specs.Laws.Leaving.{passed_made};
 
 use crate::records::RecordTexts;
 use crate::records::into_records::IntoRecords;

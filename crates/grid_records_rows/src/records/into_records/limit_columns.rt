@@ -3,7 +3,7 @@ ghost use Rattle.std.specs.Iterator.Adapters.{take_source};
 ghost use Rattle.std.specs.Prelude.{◌≡◌, map, take};
 ghost use Rattle.grid_records_rows.specs.Sources.{GivesTaken};
 ghost use Rattle.grid_records_rows.specs.Laws.Adapters.{limited_rows_give};
-ghost use Rattle.grid_records_rows.specs.Laws.Leaving.{passed_made};
+ghost use Rattle.grid_records_traits.specs.Laws.Leaving.{passed_made};
 
 use crate::records::RecordTexts;
 use crate::records::into_records::IntoRecords;

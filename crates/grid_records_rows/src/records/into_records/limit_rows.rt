@@ -2,7 +2,7 @@
 ghost use Rattle.std.specs.Iterator.Adapters.{take_count, take_source};
 ghost use Rattle.std.specs.Prelude.{◌≡◌, refl, take};
 ghost use Rattle.grid_records_rows.specs.Laws.Adapters.{gives_taken};
-ghost use Rattle.grid_records_rows.specs.Laws.Leaving.{passed_taken};
+ghost use Rattle.grid_records_traits.specs.Laws.Leaving.{passed_taken};
 
 use crate::records::RecordTexts;
 use crate::records::into_records::IntoRecords;

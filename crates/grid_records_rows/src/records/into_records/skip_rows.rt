@@ -2,7 +2,7 @@
 ghost use Rattle.std.specs.Iterator.Adapters.{skip_count, skip_source};
 ghost use Rattle.std.specs.Prelude.{◌≡◌, drop, refl};
 ghost use Rattle.grid_records_rows.specs.Laws.Adapters.{gives_skipped};
-ghost use Rattle.grid_records_rows.specs.Laws.Leaving.{passed_skipped, refusing_skipped};
+ghost use Rattle.grid_records_traits.specs.Laws.Leaving.{passed_skipped, refusing_skipped};
 
 use crate::records::RecordTexts;
 use crate::records::into_records::IntoRecords;

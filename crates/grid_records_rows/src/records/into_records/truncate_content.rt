@@ -4,7 +4,7 @@ ghost use Rattle.std.specs.Iterator.{at_most};
 ghost use Rattle.grid_records_measure.specs.TextLines.{text_width};
 ghost use Rattle.grid_records_rows.specs.Buffering.{of_rest};
 ghost use Rattle.grid_records_rows.specs.Truncating.{GivesTruncated, GivesTruncatedRow, next_column, text_of_truncated, truncated_row, truncated_rows, truncated_text};
-ghost use Rattle.grid_records_rows.specs.Laws.Leaving.{passed_made};
+ghost use Rattle.grid_records_traits.specs.Laws.Leaving.{passed_made};
 ghost use Rattle.grid_records_rows.specs.Laws.Truncating.{truncated_rows_give};
 
 use crate::dimension::Dimension;

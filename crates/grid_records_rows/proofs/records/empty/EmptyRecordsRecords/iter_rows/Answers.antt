@@ -1,7 +1,7 @@
 use Rattle.std.proofs.Common.{rules, false, refl, sym}
 use Rattle.std.specs.declared.alloc.AllocError.{AllocError}
-use Rattle.grid_records_rows.specs.Laws.Giving.{gives_list}
-use Rattle.grid_records_rows.specs.Laws.Sources.{each_empty_row, each_empty_text}
+use Rattle.grid_records_traits.specs.Laws.Giving.{gives_list}
+use Rattle.grid_records_rows.specs.Laws.Empty.{each_empty_row, each_empty_text}
 use Rattle.grid_records_rows.proofs.Tables.{fitted_empty}
 use Rattle.grid_records_rows.proofs.records.empty.EmptyRecordsRecords.iter_rows.Goals as goal
 

@@ -1,5 +1,5 @@
 use Rattle.grid_records_rows.proofs.Keeping.{kept_all, kept_more}
-use Rattle.grid_records_rows.proofs.Loops.{cells_more, next_text, none_text}
+use Rattle.grid_records_traits.proofs.Loops.{cells_more, next_text, none_text}
 use Rattle.grid_records_rows.proofs.records.into_records.buf_records.read_row.Goals as goal
 
 pub loop-cell-preserved : goal.loop-cell-preserved

@@ -1,7 +1,7 @@
 -- Each answer was a cell; the texts of those that were read, and those that are left, are the row's.
 use Rattle.std.proofs.Common.{◌≡◌, ◌++◌, ℕ, Bool, List, drop, length, map}
-use Rattle.grid_records_rows.specs.Giving.{GivesTexts}
-use Rattle.grid_records_rows.proofs.Loops.{AreCells}
+use Rattle.grid_records_traits.specs.Giving.{GivesTexts}
+use Rattle.grid_records_traits.proofs.Loops.{AreCells}
 use Rattle.grid_records_rows.proofs.records.into_records.buf_records.read_row.Given as goal
 
 abbrev pub invariant-loop-cell : goal.invariant-loop-cell

@@ -1,6 +1,6 @@
 use Rattle.std.proofs.Common.{◌∙◌}
 use Rattle.grid_records_rows.specs.Laws.Fitting.{gives_fitted_rows}
-use Rattle.grid_records_rows.specs.Laws.Giving.{gives_rows}
+use Rattle.grid_records_traits.specs.Laws.Giving.{gives_rows}
 use Rattle.grid_records_rows.proofs.records.iter_records.IterRecordsRecords.iter_rows.Goals as goal
 
 pub returns : goal.returns

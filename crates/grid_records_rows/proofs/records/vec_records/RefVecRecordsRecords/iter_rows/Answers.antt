@@ -1,7 +1,7 @@
 use Rattle.std.proofs.Common.{ap, sym, ◌∙◌}
-use Rattle.grid_records_rows.specs.Sources.{texts_of_rows}
-use Rattle.grid_records_rows.specs.Laws.Given.{slice_gives}
-use Rattle.grid_records_rows.specs.Laws.Giving.{gives_list}
+use Rattle.grid_records_traits.specs.Sources.{texts_of_rows}
+use Rattle.grid_records_traits.specs.Laws.Given.{slice_gives}
+use Rattle.grid_records_traits.specs.Laws.Giving.{gives_list}
 use Rattle.grid_records_rows.proofs.Tables.{fitted_table}
 use Rattle.grid_records_rows.proofs.records.vec_records.RefVecRecordsRecords.iter_rows.Goals as goal
 

@@ -1,7 +1,7 @@
 use Rattle.std.proofs.Common.{sym, ◌∙◌}
-use Rattle.grid_records_rows.specs.Laws.Given.{vec_gives}
-use Rattle.grid_records_rows.specs.Laws.Giving.{gives_list}
-use Rattle.grid_records_rows.specs.Laws.Sources.{all_items}
+use Rattle.grid_records_traits.specs.Laws.Given.{vec_gives}
+use Rattle.grid_records_traits.specs.Laws.Giving.{gives_list}
+use Rattle.grid_records_traits.specs.Laws.Sources.{all_items}
 use Rattle.grid_records_rows.proofs.Tables.{fitted_table}
 use Rattle.grid_records_rows.proofs.records.vec_records.VecRecordsRecords.iter_rows.Goals as goal
 

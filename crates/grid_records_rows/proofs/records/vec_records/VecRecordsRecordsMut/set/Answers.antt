@@ -1,6 +1,6 @@
 use Rattle.std.proofs.Common.{ap, ◌∙◌}
-use Rattle.grid_records_rows.specs.Rows.{with_text}
-use Rattle.grid_records_rows.specs.Sources.{texts_of_rows}
+use Rattle.grid_records_traits.specs.Rows.{with_text}
+use Rattle.grid_records_traits.specs.Sources.{texts_of_rows}
 use Rattle.grid_records_rows.proofs.Tables.{set_text}
 use Rattle.grid_records_rows.proofs.records.vec_records.VecRecordsRecordsMut.set.Goals as goal
 

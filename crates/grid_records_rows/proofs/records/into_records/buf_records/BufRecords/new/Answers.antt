@@ -1,7 +1,7 @@
 -- Where the source ends early, all its rows are kept.
 use Rattle.std.proofs.Common.{◌∙◌, ◌++◌, ◌≤◌, ap, arith, length, map, sym, vec_items}
 use Rattle.std.proofs.lemmas.List.{length-map}
-use Rattle.grid_records_rows.specs.Sources.{texts_of_rows}
+use Rattle.grid_records_traits.specs.Sources.{texts_of_rows}
 use Rattle.grid_records_rows.proofs.Keeping.{kept_all, kept_fewer, none_left}
 use Rattle.grid_records_rows.proofs.records.into_records.buf_records.BufRecords.new.Goals as goal
 

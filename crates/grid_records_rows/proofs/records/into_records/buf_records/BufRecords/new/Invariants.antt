@@ -1,6 +1,6 @@
 -- The rows that are kept, and those that are left, are the source's.
 use Rattle.std.proofs.Common.{◌≡◌, ◌++◌, length}
-use Rattle.grid_records_rows.specs.Sources.{texts_of_rows}
+use Rattle.grid_records_traits.specs.Sources.{texts_of_rows}
 use Rattle.grid_records_rows.proofs.records.into_records.buf_records.BufRecords.new.Given as goal
 
 abbrev pub invariant-loop : goal.invariant-loop

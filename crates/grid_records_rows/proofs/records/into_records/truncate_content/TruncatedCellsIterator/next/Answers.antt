@@ -1,5 +1,5 @@
-use Rattle.std.proofs.Common.{rules, ℕ, refl, subst, sym}
-use Rattle.std.specs.Prelude.{Err, Result}
+use Rattle.std.proofs.Common.{ℕ, refl, subst, sym}
+use Rattle.std.specs.Prelude.{Err}
 use Rattle.grid_records_rows.specs.Laws.Truncating.{is_left}
 use Rattle.grid_records_rows.specs.Truncating.{IsTruncated}
 use Rattle.grid_records_rows.proofs.records.into_records.truncate_content.TruncatedCellsIterator.next.Goals as goal

@@ -1,5 +1,0 @@
-use Rattle.columns.proofs.PictureLemmas.{output-shows_table}
-use Rattle.columns.proofs.laws.table_shown.Goals as goal
-
-pub returns : goal.returns
-returns c = output-shows_table

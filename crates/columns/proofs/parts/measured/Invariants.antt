@@ -1,8 +1,0 @@
-use Rattle.std.proofs.Common.{◌≡◌, map, take}
-use Rattle.std.specs.Cow.{cow_str_bytes}
-use Rattle.columns.specs.Layout.{part_line}
-use Rattle.columns.specs.Printing.{shown}
-use Rattle.columns.proofs.parts.measured.Given as goal
-
-abbrev pub invariant-loop-part : goal.invariant-loop-part
-invariant-loop-part l = map shown l.cells.items ≡ map part_line (map cow_str_bytes (take l.part-index l.parts))

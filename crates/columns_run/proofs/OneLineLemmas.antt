@@ -1,0 +1,110 @@
+-- The cells of a text are one line each, of which the width is known.
+use Rattle.std.proofs.Common.{◌≡◌, ℕ, ◌<◌, ◌==◌, cond, max, All, List, [], ◌∷◌, map, length, sum, take, drop, refl, ap, sym, subst, ◌∙◌, arith, lit<, length-drop, vec_items}
+use Rattle.std.specs.List.{slice_split, onto_first, AllByRecursion}
+use Rattle.std.proofs.lemmas.List.{nil_from_length, take-append-drop}
+use Rattle.std.proofs.lemmas.List.Elements.{All-from_recursion}
+use Rattle.std.proofs.lemmas.List.Sums.{sum_by-cons}
+use Rattle.ansi_scan.specs.Sequences.{Piece, ArePiecesOf}
+use Rattle.ansi_scan.specs.Pieces.{pieces}
+use Rattle.ansi_scan.proofs.Existence.{ArePiecesOf-pieces}
+use Rattle.ansi_scan.proofs.Uniqueness.{pieces-ArePiecesOf}
+use Rattle.ansi_str.specs.StyledText.{strip}
+use Rattle.ansi_str_search.proofs.AllParts.{strip-styled_parts}
+use Rattle.ansi_str_search.proofs.StdSplits.{split_at_one_byte}
+use Rattle.grid_records_measure.specs.TextLines.{is_line_feed, line_feed, widest}
+use Rattle.grid_records_traits.specs.Cells.{HasLineCount, HasWidth}
+use Rattle.columns_run.specs.Estimates.{Line}
+use Rattle.columns_run.specs.Layout.{part_line}
+use Rattle.columns_run.specs.Printing.{shown, cut, line_rows, rows_shown}
+use Rattle.columns_run.specs.Records.{IsMeasured}
+use Rattle.columns_run.specs.Rows.{tab, stripped, places, parts_at, row_parts, cell_parts}
+use Rattle.columns_run.specs.declared.rows.Rows.{Rows}
+use Rattle.columns_run.proofs.ItemLemmas.{AllByRecursion-append, AllByRecursion-map_of}
+use Rattle.columns_run.proofs.PictureLemmas.{Fails, closed_rows, slice_split-fails, slice_split-keeps, without_bare_last-keeps}
+use Rattle.columns_run.proofs.PlaceLemmas.{AreMatches-places}
+use Rattle.columns_run.proofs.SplitLemmas.{IsWholeText, IsClosedPart, whole-closed}
+
+-- ---- what a text without line feed shows
+
+abbrev NoLineFeeds : List ℕ → Type 0
+NoLineFeeds bytes = AllByRecursion (Fails is_line_feed) bytes
+
+slice_split-none : (bytes : List ℕ) → NoLineFeeds bytes → slice_split is_line_feed bytes ≡ bytes ∷ []
+slice_split-none [] none = refl
+slice_split-none (b ∷ bs) none =
+    ap (λ test. cond test ([] ∷ slice_split is_line_feed bs) (onto_first b (slice_split is_line_feed bs))) none.0
+    ∙ ap (onto_first b) (slice_split-none bs none.1)
+
+abbrev IsOneLine : List ℕ → Type 0
+IsOneLine part = NoLineFeeds (stripped part)
+
+-- a line, and what it measures
+abbrev IsMeasuredLine : Line ℕ → Type 0
+IsMeasuredLine line = HasLineCount line.items 1 × HasWidth line.items line.measure
+
+part-measured : (part : List ℕ) → IsOneLine part → IsMeasuredLine (part_line part)
+part-measured part one =
+    let lines : (ps : List Piece) → ArePiecesOf part ps → stripped part ∷ [] ≡ slice_split is_line_feed (strip ps) =
+    λ ps of_text. sym (slice_split-none (stripped part) one) ∙ ap (λ found. slice_split is_line_feed (strip found)) (pieces-ArePiecesOf part ps of_text) in (
+      λ ps of_text. ap (λ found. length found) (lines ps of_text),
+      λ ps of_text. sym (max-none (part_line part).measure) ∙ ap widest (lines ps of_text),
+    )
+  where
+    max-none : (n : ℕ) → max n 0 ≡ n
+    max-none n = omega arith
+
+-- ---- the parts of a text
+
+stripped-parts_at : (c : ℕ) (text : List ℕ) → c < 128 → IsWholeText text → map stripped (parts_at c text) ≡ slice_split (λ b. b == c) (stripped text)
+stripped-parts_at c text ascii whole =
+    let matches = places c (stripped text) in
+    let are = AreMatches-places c (stripped text) ascii in
+    strip-styled_parts (c ∷ []) text (pieces text) matches (ArePiecesOf-pieces text) whole.none_broken are
+    ∙ split_at_one_byte c (stripped text) matches ascii are
+
+-- what holds of the images
+of_images : {A B : Type 0} (P : B → Type 0) (f : A → B) (xs : List A) → AllByRecursion P (map f xs) → AllByRecursion (λ x. P (f x)) xs
+of_images P f [] all = tt
+of_images P f (x ∷ xs) all = (all.0, of_images P f xs all.1)
+
+both : {A : Type 0} (P Q : A → Type 0) (xs : List A) → AllByRecursion P xs → AllByRecursion Q xs → AllByRecursion (λ x. P x × Q x) xs
+both P Q [] first second = tt
+both P Q (x ∷ xs) first second = ((first.0, second.0), both P Q xs first.1 second.1)
+
+lines-one : (text : List ℕ) → IsWholeText text → AllByRecursion IsOneLine (parts_at line_feed text)
+lines-one text whole =
+    of_images NoLineFeeds stripped (parts_at line_feed text)
+    (subst (AllByRecursion NoLineFeeds) (sym (stripped-parts_at line_feed text (lit< tt) whole)) (slice_split-fails is_line_feed (stripped text)))
+
+cells-one : (row : List ℕ) → IsWholeText row → IsOneLine row → AllByRecursion IsOneLine (parts_at tab row)
+cells-one row whole one =
+    of_images NoLineFeeds stripped (parts_at tab row)
+    (subst (AllByRecursion NoLineFeeds) (sym (stripped-parts_at tab row (lit< tt) whole)) (slice_split-keeps (Fails is_line_feed) (λ b. b == tab) (stripped row) one))
+
+rows-measured : (text : List ℕ) → IsWholeText text → AllByRecursion (AllByRecursion IsMeasuredLine) (line_rows text)
+rows-measured text whole =
+    let rows = row_parts text in
+    let one = without_bare_last-keeps IsOneLine (parts_at line_feed text) (lines-one text whole) in
+    AllByRecursion-map_of (AllByRecursion IsOneLine) (AllByRecursion IsMeasuredLine) (map part_line)
+    (λ cells each. AllByRecursion-map_of IsOneLine IsMeasuredLine part_line part-measured cells each)
+    (cell_parts text)
+    (AllByRecursion-map_of (λ row. IsClosedPart row × IsOneLine row) (AllByRecursion IsOneLine) (parts_at tab)
+    (λ row known. cells-one row (whole-closed row known.0) known.1) rows
+    (both IsClosedPart IsOneLine rows (closed_rows text whole) one))
+
+-- ---- the cells of the rows
+
+of_cut : {X : Type 0} (P : X → Type 0) (counts : List ℕ) (xs : List X) → sum counts ≡ length xs → AllByRecursion (AllByRecursion P) (cut counts xs) → AllByRecursion P xs
+of_cut P [] xs whole all = subst (AllByRecursion P) (sym (nil_from_length xs (sym whole))) tt
+of_cut P (n ∷ ns) xs whole all =
+    let total = sum_by-cons (λ k. k) n ns in
+    let left : sum ns ≡ length (drop n xs) = omega (arith, total, length-drop n xs) in
+    subst (AllByRecursion P) (take-append-drop n xs) (AllByRecursion-append P (take n xs) (drop n xs) all.0 (of_cut P ns (drop n xs) left all.1))
+
+pub cells-measured : (text : List ℕ) (rows : Rows) → IsWholeText text → sum (vec_items rows.counts) ≡ length (map shown (vec_items rows.cells)) → rows_shown rows ≡ line_rows text
+    → All IsMeasured (vec_items rows.cells)
+cells-measured text rows whole counted are =
+    All-from_recursion IsMeasured (vec_items rows.cells)
+    (of_images IsMeasuredLine shown (vec_items rows.cells)
+    (of_cut IsMeasuredLine (vec_items rows.counts) (map shown (vec_items rows.cells)) counted
+    (subst (AllByRecursion (AllByRecursion IsMeasuredLine)) (sym are) (rows-measured text whole))))

@@ -1,0 +1,171 @@
+-- Cutting the bytes of a text at ASCII characters is cutting its characters.
+use Rattle.std.proofs.Common.{◌≡◌, ℕ, suc, ◌<◌, ◌==◌, ◌&&◌, Bool, true, false, cond, List, [], ◌∷◌, ◌++◌, map, flat_map, length, get_or, refl, ap, sym, ◌∙◌, arith, append-nil, eqb-true, ne_eqb, eq-eqb, lit<}
+use Rattle.std.specs.Prelude.{encode_utf8, encode_utf8_all, chars, IsUtf8}
+use Rattle.std.specs.List.{slice_split, onto_first, AllByRecursion}
+use Rattle.std.proofs.Math.Utf8.{scalar, scalars}
+use Rattle.std.proofs.lemmas.Bool.{and_parts}
+use Rattle.std.proofs.lemmas.Str.{inside_one, encode_ascii, length-encode, len_utf8_bounds, chars-encodes, encodes-chars, scalars-chars}
+use Rattle.std.proofs.lemmas.List.Splits.{slice_split-cons_yes, slice_split-cons_no}
+use Rattle.std.proofs.lemmas.Simd.{map-map}
+use Rattle.columns_run.specs.Rows.{line_feed, tab, without_empty_last, row_texts, rows_of}
+use Rattle.grid_records_measure.specs.Measures.{measure}
+use Rattle.columns_run.specs.Estimates.{Line}
+use Rattle.columns_run.specs.Picture.{picture_items}
+use Rattle.columns_run.specs.Readings.{read_line, read_rows}
+use Rattle.columns_run.specs.Layout.{grid_of, character_line, character_rows, table_characters}
+use Rattle.columns_run.specs.Printing.{one_line, byte_line}
+use Rattle.columns_run.proofs.RowLemmas.{slice_split-parts}
+use Rattle.columns_run.proofs.ItemLemmas.{map-same}
+use Rattle.columns_run.proofs.ReadingLemmas.{read-table}
+
+-- the elements put before the first part
+abbrev onto_front : {X : Type 0} → List X → List (List X) → List (List X)
+onto_front xs [] = xs ∷ []
+onto_front xs (part ∷ parts) = (xs ++ part) ∷ parts
+
+split_past : (p : ℕ → Bool) (xs ys : List ℕ) → ((k : ℕ) → k < length xs → p (get_or xs k 0) ≡ false) → slice_split p (xs ++ ys) ≡ onto_front xs (slice_split p ys)
+split_past p [] ys none = let found = slice_split-parts p ys in found.2 ∙ ap (onto_front []) (sym found.2)
+split_past p (x ∷ xs) ys none =
+    let found = slice_split-parts p ys in
+    let first : 0 < length (x ∷ xs) = omega arith in
+    let others : (k : ℕ) → k < length xs → p (get_or xs k 0) ≡ false = λ k h. none (suc k) (omega arith) in
+    slice_split-cons_no p x (xs ++ ys) (none 0 first)
+    ∙ ap (onto_first x) (split_past p xs ys others)
+    ∙ ap (λ parts. onto_first x (onto_front xs parts)) found.2
+    ∙ ap (onto_front (x ∷ xs)) (sym found.2)
+
+-- a byte of another character is no ASCII character c
+other_bytes : (c x : ℕ) → c < 128 → (x == c) ≡ false → (k : ℕ) → k < length (encode_utf8 x) → (get_or (encode_utf8 x) k 0 == c) ≡ false
+other_bytes c x low other k h =
+    ne_eqb (get_or (encode_utf8 x) k 0) c (λ same.
+    let ascii : get_or (encode_utf8 x) k 0 < 128 = omega arith in
+    let whole : x ≡ get_or (encode_utf8 x) k 0 = inside_one x [] (encode_utf8 x) k (sym (append-nil (encode_utf8 x))) h ascii in
+    let equal : (x == c) ≡ true = eq-eqb x c (whole ∙ same) in
+    false_is_not_true (sym other ∙ equal))
+  where
+    false_is_not_true : false ≡ true → ⊥
+    false_is_not_true e = cc
+
+slice_split-encodes_step : (c x : ℕ) (cs : List ℕ) (b : Bool) → c < 128 → (x == c) ≡ b
+    → slice_split (λ y. y == c) (encode_utf8_all cs) ≡ map encode_utf8_all (slice_split (λ y. y == c) cs)
+    → slice_split (λ y. y == c) (encode_utf8_all (x ∷ cs)) ≡ map encode_utf8_all (slice_split (λ y. y == c) (x ∷ cs))
+slice_split-encodes_step c x cs true low same rest =
+    let is_c = λ (y : ℕ). y == c in
+    let equal : x ≡ c = eqb-true x c same in
+    let ascii : x < 128 = omega arith in
+    ap (λ bytes. slice_split is_c (bytes ++ encode_utf8_all cs)) (encode_ascii x ascii)
+    ∙ slice_split-cons_yes is_c x (encode_utf8_all cs) same
+    ∙ ap (λ parts. [] ∷ parts) rest
+    ∙ ap (map encode_utf8_all) (sym (slice_split-cons_yes is_c x cs same))
+slice_split-encodes_step c x cs false low other rest =
+    let is_c = λ (y : ℕ). y == c in
+    let found = slice_split-parts is_c cs in
+    split_past is_c (encode_utf8 x) (encode_utf8_all cs) (other_bytes c x low other)
+    ∙ ap (onto_front (encode_utf8 x)) (rest ∙ ap (map encode_utf8_all) found.2)
+    ∙ ap (λ parts. map encode_utf8_all (onto_first x parts)) (sym found.2)
+    ∙ ap (map encode_utf8_all) (sym (slice_split-cons_no is_c x cs other))
+
+slice_split-encodes : (c : ℕ) → c < 128 → (cs : List ℕ) → slice_split (λ y. y == c) (encode_utf8_all cs) ≡ map encode_utf8_all (slice_split (λ y. y == c) cs)
+slice_split-encodes c low [] = refl
+slice_split-encodes c low (x ∷ cs) = slice_split-encodes_step c x cs (x == c) low refl (slice_split-encodes c low cs)
+
+-- ---- rows
+
+encode-cons : (c : ℕ) (bytes : List ℕ) → 0 < length bytes → (b : ℕ) × (bs : List ℕ) × (bytes ≡ b ∷ bs)
+encode-cons c [] h = absurd (omega arith)
+encode-cons c (b ∷ bs) h = (b, bs, refl)
+
+without_empty_last-encodes : (xss : List (List ℕ)) → without_empty_last (map encode_utf8_all xss) ≡ map encode_utf8_all (without_empty_last xss)
+without_empty_last-encodes [] = refl
+without_empty_last-encodes ([] ∷ []) = refl
+without_empty_last-encodes ([] ∷ xs ∷ xss) = ap (λ rest. [] ∷ rest) (without_empty_last-encodes (xs ∷ xss))
+without_empty_last-encodes ((x ∷ xs) ∷ xss) =
+    let some : 0 < length (encode_utf8 x) = omega (arith, length-encode x, (len_utf8_bounds x).0) in
+    let first = encode-cons x (encode_utf8 x) some in
+    ap (λ bytes. without_empty_last ((bytes ++ encode_utf8_all xs) ∷ map encode_utf8_all xss)) first.2
+    ∙ ap (λ rest. (first.0 ∷ (first.1 ++ encode_utf8_all xs)) ∷ rest) (without_empty_last-encodes xss)
+    ∙ ap (λ bytes. (bytes ++ encode_utf8_all xs) ∷ map encode_utf8_all (without_empty_last xss)) (sym first.2)
+
+rows_of-encodes : (cs : List ℕ) → rows_of (λ b. b) (encode_utf8_all cs) ≡ map (map encode_utf8_all) (rows_of (λ c. c) cs)
+rows_of-encodes cs =
+    let cells = slice_split (λ (b : ℕ). b == tab) in
+    ap (λ rows. map cells (without_empty_last rows)) (slice_split-encodes line_feed (lit< tt) cs)
+    ∙ ap (map cells) (without_empty_last-encodes (slice_split (λ b. b == line_feed) cs))
+    ∙ map-map cells encode_utf8_all (row_texts (λ c. c) cs)
+    ∙ (λ n. map (λ row. slice_split-encodes tab (lit< tt) row n) (row_texts (λ c. c) cs))
+    ∙ sym (map-map (map encode_utf8_all) cells (row_texts (λ c. c) cs))
+
+-- ---- the characters of a cell
+
+abbrev AreScalars : List ℕ → Type 0
+AreScalars cs = scalars cs ≡ true
+
+AreScalars-cons : (c : ℕ) (cs : List ℕ) → scalar c ≡ true → AreScalars cs → AreScalars (c ∷ cs)
+AreScalars-cons c cs first rest = ap (λ b. b && scalars cs) first ∙ rest
+
+AreScalars-onto_first : (c : ℕ) (parts : List (List ℕ)) → scalar c ≡ true → AllByRecursion AreScalars parts → AllByRecursion AreScalars (onto_first c parts)
+AreScalars-onto_first c [] first all = (AreScalars-cons c [] first refl, tt)
+AreScalars-onto_first c (part ∷ parts) first all = (AreScalars-cons c part first all.0, all.1)
+
+AreScalars-slice_split : (p : ℕ → Bool) (cs : List ℕ) → AreScalars cs → AllByRecursion AreScalars (slice_split p cs)
+AreScalars-slice_split p [] all = (refl, tt)
+AreScalars-slice_split p (c ∷ cs) all =
+    let split = and_parts (scalar c) (scalars cs) all in
+    let rest = AreScalars-slice_split p cs split.1 in
+    elim (p c) as (λ b. AllByRecursion AreScalars (cond b ([] ∷ slice_split p cs) (onto_first c (slice_split p cs)))) [
+      | true ↦ (refl, rest)
+      | false ↦ AreScalars-onto_first c (slice_split p cs) split.0 rest
+    ]
+
+AreScalars-without_empty_last : (xss : List (List ℕ)) → AllByRecursion AreScalars xss → AllByRecursion AreScalars (without_empty_last xss)
+AreScalars-without_empty_last [] all = tt
+AreScalars-without_empty_last ([] ∷ []) all = tt
+AreScalars-without_empty_last ([] ∷ xs ∷ xss) all = (all.0, AreScalars-without_empty_last (xs ∷ xss) all.1)
+AreScalars-without_empty_last ((x ∷ xs) ∷ xss) all = (all.0, AreScalars-without_empty_last xss all.1)
+
+AreScalars-cells : (p : ℕ → Bool) (rows : List (List ℕ)) → AllByRecursion AreScalars rows → AllByRecursion (AllByRecursion AreScalars) (map (slice_split p) rows)
+AreScalars-cells p [] all = tt
+AreScalars-cells p (row ∷ rows) all = (AreScalars-slice_split p row all.0, AreScalars-cells p rows all.1)
+
+encodes-flat_map : (cs : List ℕ) → encode_utf8_all cs ≡ flat_map encode_utf8 cs
+encodes-flat_map [] = refl
+encodes-flat_map (c ∷ cs) = ap (λ bytes. encode_utf8 c ++ bytes) (encodes-flat_map cs)
+
+-- a cell of characters, read as bytes
+read-character_line : (cell : List ℕ) → AreScalars cell → read_line encode_utf8 (character_line cell) ≡ byte_line (encode_utf8_all cell)
+read-character_line cell all =
+    ap (λ (bytes : List ℕ). record { measure = measure cell; items = bytes }) (sym (encodes-flat_map cell))
+    ∙ ap (λ (characters : List ℕ). record { measure = measure characters; items = encode_utf8_all cell }) (sym (chars-encodes cell all))
+
+read-character_rows : (cs : List ℕ) → AreScalars cs → read_rows encode_utf8 (character_rows cs) ≡ map one_line (map (map byte_line) (rows_of (λ b. b) (encode_utf8_all cs)))
+read-character_rows cs all =
+    let rows = rows_of (λ (c : ℕ). c) cs in
+    let cells = AreScalars-cells (λ c. c == tab) (row_texts (λ c. c) cs) (AreScalars-without_empty_last (slice_split (λ c. c == line_feed) cs) (AreScalars-slice_split (λ c. c == line_feed) cs all)) in
+    let characters = λ (cell : List ℕ). character_line cell ∷ [] in
+    let bytes = λ (cell : List ℕ). byte_line (encode_utf8_all cell) ∷ [] in
+    map-map (map (map (read_line encode_utf8))) (map characters) rows
+    ∙ (λ n. map (λ row. map-map (map (read_line encode_utf8)) characters row n) rows)
+    ∙ map-same (AllByRecursion AreScalars) (map (λ cell. read_line encode_utf8 (character_line cell) ∷ [])) (map bytes)
+    (λ row in_row. map-same AreScalars (λ cell. read_line encode_utf8 (character_line cell) ∷ []) bytes (λ cell good. ap (λ line. line ∷ []) (read-character_line cell good)) row in_row) rows cells
+    ∙ (λ n. map (λ row. sym (map-map (λ (line : Line ℕ). line ∷ []) (λ cell. byte_line (encode_utf8_all cell)) row) n) rows)
+    ∙ (λ n. map (λ row. one_line (sym (map-map byte_line encode_utf8_all row) n)) rows)
+    ∙ sym (map-map one_line (λ row. map byte_line (map encode_utf8_all row)) rows)
+    ∙ ap (map one_line) (sym (map-map (map byte_line) (map encode_utf8_all) rows))
+    ∙ ap (λ found. map one_line (map (map byte_line) found)) (sym (rows_of-encodes cs))
+
+-- ---- the table of a text without sequences
+
+abbrev pub byte_rows : List ℕ → List (List (Line ℕ))
+byte_rows bytes = map (map byte_line) (rows_of (λ b. b) bytes)
+
+read-bytes : (bytes : List ℕ) → IsUtf8 bytes → read_rows encode_utf8 (character_rows (chars bytes)) ≡ map one_line (byte_rows bytes)
+read-bytes bytes utf8 = read-character_rows (chars bytes) (scalars-chars bytes utf8) ∙ ap (λ text. map one_line (byte_rows text)) (encodes-chars bytes utf8)
+
+-- the bytes of the table of its characters
+pub table-bytes : (bytes : List ℕ) → IsUtf8 bytes → encode_utf8_all (table_characters (chars bytes)) ≡ picture_items encode_utf8 (grid_of (map one_line (byte_rows bytes)))
+table-bytes bytes utf8 =
+    let rows = character_rows (chars bytes) in
+    encodes-flat_map (table_characters (chars bytes))
+    ∙ read-table encode_utf8 (λ c. c ∷ []) rows
+    ∙ (λ n. picture_items (λ c. append-nil (encode_utf8 c) n) (grid_of (read_rows encode_utf8 rows)))
+    ∙ ap (λ found. picture_items encode_utf8 (grid_of found)) (read-bytes bytes utf8)

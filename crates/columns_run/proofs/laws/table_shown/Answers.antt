@@ -1,0 +1,5 @@
+use Rattle.columns_run.proofs.PictureLemmas.{output-shows_table}
+use Rattle.columns_run.proofs.laws.table_shown.Goals as goal
+
+pub returns : goal.returns
+returns c = output-shows_table

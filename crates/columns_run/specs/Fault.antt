@@ -1,0 +1,51 @@
+-- What a fault is called, and when in a run it may come.
+use Rattle.std.specs.Prelude.{ℕ, List, ⊤, ◌++◌, codes, decimal}
+use Rattle.columns_run.specs.declared.fault.RunFault.{RunFault}
+use Rattle.columns_run.specs.declared.fault.RunFault.TheVariants.{Read, ReadTooLong, NotUtf8, Escape, Range, LineTooWide, Write, WriteZero, Memory}
+use Rattle.columns_run.specs.declared.layout.LayoutFault.{LayoutFault}
+use Rattle.columns_run.specs.declared.layout.LayoutFault.TheVariants.{Range as PassesMax, Memory as NoMemory}
+
+-- the bytes that a fault prints
+abbrev pub fault_text : RunFault → List ℕ
+fault_text Read = codes "read failed"
+fault_text ReadTooLong = codes "input too long"
+fault_text (NotUtf8 at) = codes "not UTF-8 at byte " ++ decimal at
+fault_text (Escape at) = codes "escape at byte " ++ decimal at
+fault_text Range = codes "size out of range"
+fault_text (LineTooWide row column) = codes "row " ++ (decimal row ++ (codes " column " ++ (decimal column ++ codes " too wide")))
+fault_text Write = codes "write failed"
+fault_text WriteZero = codes "writer took nothing"
+fault_text Memory = codes "out of memory"
+
+-- what a run calls it where a text has no table
+abbrev pub run_fault : LayoutFault → RunFault
+run_fault PassesMax = Range
+run_fault NoMemory = Memory
+
+-- a fault that reading may give
+abbrev pub IsOfReading : RunFault → Type 0
+IsOfReading Read = ⊤
+IsOfReading ReadTooLong = ⊤
+IsOfReading Memory = ⊤
+IsOfReading _ = ⊥
+
+-- a fault that making the table of an input may give
+abbrev pub IsOfInput : RunFault → Type 0
+IsOfInput (NotUtf8 at) = ⊤
+IsOfInput (Escape at) = ⊤
+IsOfInput Range = ⊤
+IsOfInput Memory = ⊤
+IsOfInput _ = ⊥
+
+-- a fault that writing may give
+abbrev pub IsOfWriting : RunFault → Type 0
+IsOfWriting Write = ⊤
+IsOfWriting WriteZero = ⊤
+IsOfWriting _ = ⊥
+
+-- a fault that may come after something was written
+abbrev pub MayFollowWrites : RunFault → Type 0
+MayFollowWrites Write = ⊤
+MayFollowWrites WriteZero = ⊤
+MayFollowWrites Memory = ⊤
+MayFollowWrites _ = ⊥

@@ -1,0 +1,59 @@
+-- What one run promises, of an input: which answer it calls for, and what is written.
+use Rattle.std.specs.Prelude.{◌≡◌, ℕ, ◌^◌, ◌≤◌, List, length, ⊤, Option, Result, Ok, Err, IsUtf8}
+use Rattle.std.specs.Str.Lossy.{utf8_valid_len}
+use Rattle.std.specs.Io.KnownBytes.{Appends, Keeps}
+use Rattle.columns_run.specs.declared.fault.RunFault.{RunFault}
+use Rattle.columns_run.specs.declared.fault.RunFault.TheVariants.{Read, ReadTooLong, NotUtf8, Escape, Range, LineTooWide, Write, WriteZero, Memory}
+use Rattle.ansi_scan.specs.Sequences.{IsWhole, IsFirstBroken}
+use Rattle.columns_run.specs.Layout.{output_of, TableFits}
+use Rattle.columns_run.specs.TableShown.{ShowsTableOf}
+use Rattle.columns_run.specs.Streams.{AppendsFront}
+
+-- how many reads without an end are too many
+abbrev pub read_limit : ℕ
+read_limit = 2 ^ 40
+
+-- the input has a table: it is text, each ESC of it begins a whole sequence, and width and height of the table are in range
+abbrev pub HasTable : List ℕ → Type 0
+HasTable input = IsUtf8 input × IsWhole input × TableFits input
+
+-- an input may be answered so. The cases exclude one another, but for the faults of reading, writing
+-- and memory, which the counts of the reader and the writer tell
+abbrev pub MayAnswer : {T : Type 0} → List ℕ → Result T RunFault → Type 0
+MayAnswer input (Ok _) = HasTable input
+MayAnswer input (Err Read) = ⊤
+MayAnswer input (Err ReadTooLong) = read_limit ≤ length input
+MayAnswer input (Err (NotUtf8 at)) = ¬ (IsUtf8 input) × (at ≡ utf8_valid_len input)
+MayAnswer input (Err (Escape at)) = IsUtf8 input × IsFirstBroken input at
+MayAnswer input (Err Range) = IsUtf8 input × IsWhole input × ¬ (TableFits input)
+MayAnswer input (Err (LineTooWide row column)) = ⊥
+MayAnswer input (Err Write) = HasTable input
+MayAnswer input (Err WriteZero) = HasTable input
+MayAnswer input (Err Memory) = ⊤
+
+-- what is written of the text with an answer: all of it, or a front of it where writing was cut
+-- short, or nothing
+abbrev pub Writes : {T : Type 0} → List ℕ → Result T RunFault → Option (List ℕ) → Option (List ℕ) → Type 0
+Writes text (Ok _) old new = Appends old new text
+Writes text (Err Write) old new = AppendsFront old new text
+Writes text (Err WriteZero) old new = AppendsFront old new text
+Writes text (Err Memory) old new = AppendsFront old new text
+Writes text (Err _) old new = Keeps old new
+
+-- an answer that comes only once the reader told its end
+abbrev pub HasReadAll : {T : Type 0} → Result T RunFault → Type 0
+HasReadAll (Err Read) = ⊥
+HasReadAll (Err ReadTooLong) = ⊥
+HasReadAll (Err Memory) = ⊥
+HasReadAll _ = ⊤
+
+-- the answer is one that the input calls for, of its table that much was written, and the table is its picture
+pub record Serves {T : Type 0} (input : List ℕ) (result : Result T RunFault) (old new : Option (List ℕ)) : Type 0 where
+  pub answers : MayAnswer input result
+  pub writes : Writes (output_of input) result old new
+  pub shows : HasTable input → ShowsTableOf input (output_of input)
+
+-- where the input has no table, and where its table is empty, the writer is not even touched
+pub record LeavesAlone {T : Type 0} (input : List ℕ) (old new : T) : Type 0 where
+  pub no_table : ¬ (HasTable input) → new ≡ old
+  pub empty : length (output_of input) ≡ 0 → new ≡ old

@@ -1,0 +1,81 @@
+//! Why a run gave up.
+use crate::layout::LayoutFault;
+use std::alloc::AllocError;
+use std::error::Error;
+use std::fmt;
+
+/// Why `run` gave up. Where several hold, the answer is the first in this order, except that
+/// `Memory` may come at any step.
+#[derive(Clone, Copy, Debug, PartialEq, Eq)]
+pub enum RunFault {
+    /// The reader failed in this call, by an error of any kind.
+    Read,
+    /// The greatest number of reads came without an end of the input.
+    ReadTooLong,
+    /// The input is not UTF-8: `at` bytes, and no more, are the longest text at its front.
+    NotUtf8 { at: usize },
+    /// An escape sequence of the input is broken: the first one begins at byte `at`.
+    Escape { at: usize },
+    /// A width, a height or a total of the table passes `usize::MAX`.
+    Range,
+    /// A line of a cell measures more columns than its column has. Rows and columns count from 0.
+    LineTooWide { row: usize, column: usize },
+    /// The writer failed in this call, by an error of any kind.
+    Write,
+    /// The writer took no byte of a piece that had some.
+    WriteZero,
+    /// A request for memory was refused.
+    Memory,
+}
+
+/// The reason in a few words, with no line feed.
+impl fmt::Display for RunFault {
+    ghost use Rattle.std.specs.Prelude.{Some};
+    ghost use Rattle.columns_run.specs.Fault.{fault_text};
+
+    ghost output = { λ fault. Some (fault_text fault) };
+
+    fn fmt<W: fmt::Write>(&self, f: &mut fmt::Formatter<W>) -> fmt::Result {
+        match *self {
+            RunFault::Read => write!(f, "read failed"),
+            RunFault::ReadTooLong => write!(f, "input too long"),
+            RunFault::NotUtf8 { at } => write!(f, "not UTF-8 at byte {at}"),
+            RunFault::Escape { at } => write!(f, "escape at byte {at}"),
+            RunFault::Range => write!(f, "size out of range"),
+            RunFault::LineTooWide { row, column } => {
+                write!(f, "row {row} column {column} too wide")
+            }
+            RunFault::Write => write!(f, "write failed"),
+            RunFault::WriteZero => write!(f, "writer took nothing"),
+            RunFault::Memory => write!(f, "out of memory"),
+        }
+    }
+}
+
+impl Error for RunFault {}
+
+impl From<AllocError> for RunFault {
+    ghost use Rattle.std.specs.Prelude.{◌≡◌};
+    ghost use Rattle.columns_run.specs.declared.fault.RunFault.TheVariants.{Memory};
+
+    ghost from_gives = { λ _ fault. fault ≡ Memory };
+
+    fn from(_error: AllocError) -> RunFault {
+        RunFault::Memory
+    }
+}
+
+/// Why the text has no table, by the same names.
+impl From<LayoutFault> for RunFault {
+    ghost use Rattle.std.specs.Prelude.{◌≡◌};
+    ghost use Rattle.columns_run.specs.Fault.{run_fault};
+
+    ghost from_gives = { λ given fault. fault ≡ run_fault given };
+
+    fn from(fault: LayoutFault) -> RunFault {
+        match fault {
+            LayoutFault::Range => RunFault::Range,
+            LayoutFault::Memory => RunFault::Memory,
+        }
+    }
+}

@@ -1,0 +1,62 @@
+//! From a reader to text.
+ghost use Rattle.std.specs.Prelude.{◌≡◌, ◌≤◌, ◌≢◌, ◌↔◌, length, IfOk, IfErr, OnOk, IsErrOf, IsUtf8, Err};
+ghost use Rattle.std.specs.Str.Lossy.{utf8_valid_len};
+ghost use Rattle.std.specs.Io.KnownBytes.{Consumes, IsAtEnd};
+ghost use Rattle.columns_run.specs.Counts.{inner_of, empty_writes_of, HasFailed, HasGivenPieces};
+ghost use Rattle.columns_run.specs.Fault.{IsOfReading};
+ghost use Rattle.columns_run.specs.Streams.{ConsumesSome};
+
+use crate::counted::Counted;
+use crate::fault::RunFault;
+use std::alloc::Global;
+use std::io::Read;
+use std::str;
+
+// How many bytes one read asks for.
+const CHUNK: usize = 65536;
+
+/// All bytes that the reader has left. It gives up with `Read` at the first error of any kind, with
+/// `ReadTooLong` where `limit` reads gave bytes and none came to the end, and with `Memory`.
+pub fn read_all<R: Read>(
+    alloc: Global,
+    reader: &mut Counted<R>,
+    limit: u64,
+) -> Result<Vec<u8>, RunFault>
+    ensures bytes { IfOk result (λ all. Consumes (R.remaining (inner_of reader.old))
+        (R.remaining (inner_of reader.new)) all.items) }
+    ensures end { OnOk result (IsAtEnd (R.remaining (inner_of reader.new))) }
+    ensures some_bytes { ConsumesSome (R.remaining (inner_of reader.old))
+        (R.remaining (inner_of reader.new))
+        (λ bytes. IsErrOf result RunFault.ReadTooLong → limit ≤ length bytes) }
+
+    ensures faults { IfErr result IsOfReading }
+    ensures read { IsErrOf result RunFault.Read ↔ HasFailed reader.old reader.new }
+    ensures too_long { result ≢ Err RunFault.Memory →
+        (IsErrOf result RunFault.ReadTooLong ↔ HasGivenPieces reader.old reader.new limit) }
+    ensures empty_writes { empty_writes_of reader.new ≡ empty_writes_of reader.old }
+{
+    let mut bytes = Vec::new(alloc);
+    let mut chunk = [0u8; CHUNK];
+    for _ in 0..limit {
+        let Ok(count) = reader.read(&mut chunk) else {
+            return Err(RunFault::Read);
+        };
+        if count == 0 {
+            return Ok(bytes);
+        }
+        bytes.extend_from_slice(&chunk[..count])?;
+    }
+    Err(RunFault::ReadTooLong)
+}
+
+/// The bytes as text. Where they are no UTF-8, `NotUtf8` has the length of the longest text at their
+/// front.
+pub fn text_of(bytes: &[u8]) -> Result<&str, RunFault>
+    ensures ok { IfOk result (λ text. (text.now ≡ bytes.now) × IsUtf8 bytes.now) }
+    ensures err { IfErr result (λ fault. ¬ (IsUtf8 bytes.now)
+        × (fault ≡ RunFault.NotUtf8 (utf8_valid_len bytes.now))) }
+{
+    str::from_utf8(bytes).map_err(|error| RunFault::NotUtf8 {
+        at: error.valid_up_to(),
+    })
+}

@@ -1,0 +1,90 @@
+//! From a reader to a writer: all bytes, the text, the table.
+ghost use Rattle.std.specs.Prelude.{◌≡◌, ◌≢◌, ◌↔◌, IfSome, IfOk, IfErr, IsErrOf, Err, string_bytes};
+ghost use Rattle.std.specs.Io.KnownBytes.{IsAtEnd};
+ghost use Rattle.columns_run.specs.Counts.{inner_of, HasFailed, HasTakenNothing, HasGivenPieces};
+ghost use Rattle.columns_run.specs.Fault.{IsOfInput, MayFollowWrites};
+ghost use Rattle.columns_run.specs.Layout.{output_of};
+ghost use Rattle.columns_run.specs.Streams.{ConsumesSome};
+ghost use Rattle.columns_run.specs.Run.{MayAnswer, Serves, LeavesAlone, HasReadAll, read_limit};
+
+use crate::counted::Counted;
+use crate::fault::RunFault;
+use crate::input::{read_all, text_of};
+use crate::layout::{plain_table, styled_table};
+use crate::output::write_all;
+use ansi_scan::first_broken;
+use ansi_str::AnsiStr;
+use std::alloc::Global;
+use std::io::{Read, Write};
+
+// How many reads without an end are too many.
+const READ_LIMIT: u64 = 1 << 40;
+
+/// What `run` is asked.
+#[derive(Debug, Drop)]
+pub struct Options {
+    _private: (),
+}
+
+impl Options {
+    /// The defaults: a table with ASCII borders.
+    pub fn new() -> Options {
+        Options { _private: () }
+    }
+}
+
+/// Reads all text, cells between tabs and rows between line feeds, and writes it as a table with
+/// borders. `RunFault` says when it gives up. Before a fault of the reader or the input nothing is
+/// written; before one of the writer, or `Memory`, a front of the table may be.
+pub fn run<R: Read, W: Write>(
+    alloc: Global,
+    options: &Options,
+    reader: &mut Counted<R>,
+    writer: &mut Counted<W>,
+) -> Result<(), RunFault>
+    // Where the reader's bytes are known, they decide the answer and what is written.
+    ensures known_input { IfSome (R.remaining (inner_of reader.old)) (λ input.
+        Serves input result (W.contents (inner_of writer.old)) (W.contents (inner_of writer.new))
+        × LeavesAlone input writer.old writer.new) }
+
+    // Where they are not, the same holds of some bytes that the reader gave.
+    ensures some_input { ConsumesSome (R.remaining (inner_of reader.old))
+        (R.remaining (inner_of reader.new)) (λ input.
+        Serves input result (W.contents (inner_of writer.old)) (W.contents (inner_of writer.new))
+        × LeavesAlone input writer.old writer.new) }
+    ensures at_end { HasReadAll result → IsAtEnd (R.remaining (inner_of reader.new)) }
+
+    // The counts say exactly when a fault of the reader or the writer comes.
+    ensures read { IsErrOf result RunFault.Read ↔ HasFailed reader.old reader.new }
+    ensures read_too_long { result ≢ Err RunFault.Memory →
+        (IsErrOf result RunFault.ReadTooLong ↔ HasGivenPieces reader.old reader.new read_limit) }
+    ensures write { IsErrOf result RunFault.Write ↔ HasFailed writer.old writer.new }
+    ensures write_zero { IsErrOf result RunFault.WriteZero
+        ↔ HasTakenNothing writer.old writer.new }
+
+    // A fault of the reader or the input comes before the writer is touched.
+    ensures untouched { IfErr result (λ fault.
+        ¬ (MayFollowWrites fault) → writer.new ≡ writer.old) }
+{
+    let bytes = read_all(alloc, reader, READ_LIMIT)?;
+    let table = table_of(alloc, options, &bytes)?;
+    write_all(writer, table.as_bytes())
+}
+
+// The table of an input, or why it has none.
+fn table_of(alloc: Global, _options: &Options, bytes: &[u8]) -> Result<String, RunFault>
+    ensures answers { MayAnswer bytes.now result }
+    ensures table { IfOk result (λ table. string_bytes table ≡ output_of bytes.now) }
+    ensures faults { IfErr result IsOfInput }
+{
+    let text = text_of(bytes)?;
+    let table = if text.ansi_has_any() {
+        if let Some(at) = first_broken(text) {
+            return Err(RunFault::Escape { at });
+        }
+        styled_table(alloc, text)
+    } else {
+        plain_table(alloc, text)
+    };
+    Ok(table?)
+}

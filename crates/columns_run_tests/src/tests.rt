@@ -1,0 +1,4 @@
+mod counted;
+mod fault;
+mod input;
+mod run;

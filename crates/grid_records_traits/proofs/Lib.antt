@@ -1,0 +1,3 @@
+pub mod FittedRows
+pub mod LineAt
+pub mod Loops

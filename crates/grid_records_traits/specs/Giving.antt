@@ -1,0 +1,53 @@
+-- Iterators that give a list, and iterators that give rows of texts.
+use Rattle.std.specs.Prelude.{◌≡◌, ℕ, Bool, true, List, [], ◌∷◌, MatchOption, MatchResult, Option, None, Some, Result, Ok, Err, drop}
+use Rattle.std.specs.Iterator.{Count, IsFinite}
+
+-- nothing comes any more
+abbrev pub HasEnded : {S A : Type 0} → (S → Option A → S → Type 0) → S → Type 0
+HasEnded {S} {A} steps s = (x : A) (t : S) → ¬ (steps s (Some x) t)
+
+-- every run of calls from s gives as many items as the list has, each tied to the element at its place, and then `None`
+abbrev pub GivesEach : {S A B : Type 0} → (S → Option A → S → Type 0) → (A → B → Type 0) → S → List B → Type 0
+GivesEach steps tie s [] = HasEnded steps s
+GivesEach {S} {A} steps tie s (y ∷ ys) =
+    ((t : S) → ¬ (steps s None t)) × ((x : A) (t : S) → steps s (Some x) t → tie x y × GivesEach steps tie t ys)
+
+-- the iterator can be advanced, ends, and gives the list
+pub record Gives {S A B : Type 0} (can : S → Type 0) (left : S → Count) (steps : S → Option A → S → Type 0) (tie : A → B → Type 0) (s : S) (ys : List B) : Type 0 where
+  pub can_next : can s
+  pub ends : IsFinite (left s)
+  pub each : GivesEach steps tie s ys
+
+-- every run of calls from s answers a cell with each of the texts in order, and then `None`; where one may come, a
+-- refusal for memory may stand in a cell's place, and it ends the row
+abbrev pub GivesCells : {S C E : Type 0} → (S → Option (Result C E) → S → Type 0) → (C → List ℕ) → Bool → S → List (List ℕ) → Type 0
+GivesCells steps text may_refuse s [] = HasEnded steps s
+GivesCells {S} {C} {E} steps text may_refuse s (wanted ∷ row) =
+    ((t : S) → ¬ (steps s None t))
+    × ((cell : C) (t : S) → steps s (Some (Ok cell)) t → (text cell ≡ wanted) × GivesCells steps text may_refuse t row)
+    × ((refusal : E) (t : S) → steps s (Some (Err refusal)) t → (may_refuse ≡ true) × HasEnded steps t)
+
+-- the iterator can be advanced, ends, and gives the cells of a row
+pub record GivesTexts {S C E : Type 0} (can : S → Type 0) (left : S → Count) (steps : S → Option (Result C E) → S → Type 0) (text : C → List ℕ) (may_refuse : Bool) (s : S) (row : List (List ℕ)) : Type 0 where
+  pub can_next : can s
+  pub ends : IsFinite (left s)
+  pub each : GivesCells steps text may_refuse s row
+
+-- the first iterator gives iterators that give the cells of the rows
+abbrev pub GivesRows : {R S C E : Type 0} → (R → Type 0) → (R → Count) → (R → Option S → R → Type 0) → (S → Type 0) → (S → Count) → (S → Option (Result C E) → S → Type 0) → (C → List ℕ) → Bool → R → List (List (List ℕ)) → Type 0
+GivesRows row_can row_left row_steps can left steps text may_refuse r rows =
+    Gives row_can row_left row_steps (GivesTexts can left steps text may_refuse) r rows
+
+-- of the rows that were left the first is gone, and whether a cell may be refused stays
+abbrev pub HasPassedOne : List (List (List ℕ)) → Bool → List (List (List ℕ)) → Bool → Type 0
+HasPassedOne before may_refuse after may_refuse_then = (after ≡ drop 1 before) × (may_refuse_then ≡ may_refuse)
+
+-- a call answers the next cell, and refuses none
+abbrev pub AnswersCell : {S C E : Type 0} → (S → Option C → S → Type 0) → S → Option (Result C E) → S → Type 0
+AnswersCell steps s found t =
+    MatchOption found (steps s None t) (λ answer. MatchResult answer (λ cell. steps s (Some cell) t) (λ _. ⊥))
+
+-- a call gives what the next row becomes
+abbrev pub GivesCellsOf : {S Row Cells I : Type 0} → (S → Option Row → S → Type 0) → (Row → I → Type 0) → S → Option Cells → (Cells → I) → S → Type 0
+GivesCellsOf {Row = Row} steps becomes s found inside t =
+    MatchOption found (steps s None t) (λ cells. (row : Row) × steps s (Some row) t × becomes row (inside cells))

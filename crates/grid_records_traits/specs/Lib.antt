@@ -1,0 +1,5 @@
+pub mod Giving
+pub mod Sources
+pub mod Rows
+pub mod Cells
+pub mod Laws

@@ -1,0 +1,12 @@
+//! What rows of cells have to answer: the traits of sources, of tables and of cells, and of the sizes of
+//! columns and rows.
+#![tactic(auto)]
+
+pub mod dimension;
+mod lines;
+pub mod records;
+
+pub use dimension::Dimension;
+pub use records::{
+    Cell, ExactRecords, IntoRecords, PeekableRecords, RecordTexts, Records,
+};

@@ -1,0 +1,94 @@
+//! A cell with a text.
+ghost use Rattle.std.specs.Prelude.{◌≡◌, ℕ, List, IfOk, IsOk, false, string_bytes};
+ghost use Rattle.std.specs.Cow.{IsOwnedStr, cow_str_bytes};
+ghost use Rattle.ansi_str_text.specs.StyledText.{has_escape};
+ghost use Rattle.grid_records_traits.specs.Cells.{HasLineCount, HasLineWidth, HasWidth, IsLineAt, text_or_empty};
+
+use crate::lines::{line_of, line_width_of};
+use grid_records_measure::{count_lines, get_text_dimension, get_text_width};
+use std::alloc::{AllocError, Global};
+use std::borrow::CowStr;
+
+/// A cell with a text. All that it answers is said of this text.
+pub trait Cell: Drop {
+    ghost text: { Self → List ℕ };
+
+    /// The text.
+    fn text(&self) -> &str
+        ensures { result.now ≡ text self.now };
+
+    /// The line with this number, with its styles opened and ended within, and behind the last the empty
+    /// text. Without ESC it is a borrow, without memory; else the only refusal is for memory.
+    fn line(&self, alloc: Global, index: usize) -> Result<CowStr<'_>, AllocError>
+        ensures line { IfOk result (λ out. IsLineAt (text self.now) index (cow_str_bytes out)) }
+        ensures answers { has_escape (text self.now) ≡ false → IsOk result }
+        ensures borrows { IfOk result (λ out. has_escape (text self.now) ≡ false → ¬ (IsOwnedStr out)) }
+    {
+        line_of(alloc, self.text(), index)
+    }
+
+    /// How many lines the text has. Takes no memory.
+    fn count_lines(&self) -> usize
+        ensures { HasLineCount (text self.now) result }
+    {
+        count_lines(self.text())
+    }
+
+    /// The columns of its widest line. Takes no memory.
+    fn width(&self) -> usize
+        ensures { HasWidth (text self.now) result }
+    {
+        get_text_width(self.text())
+    }
+
+    /// How many lines the text has, and the columns of the widest, of one reading. Takes no memory.
+    fn dimension(&self) -> (usize, usize)
+        ensures lines { HasLineCount (text self.now) result.0 }
+        ensures width { HasWidth (text self.now) result.1 }
+    {
+        get_text_dimension(self.text())
+    }
+
+    /// The columns of the line with this number, and behind the last 0. Takes no memory.
+    fn line_width(&self, index: usize) -> usize
+        ensures { HasLineWidth (text self.now) index result }
+    {
+        line_width_of(self.text(), index)
+    }
+}
+
+impl<'a> Cell for &'a str {
+    ghost text = { λ cell. cell.now };
+
+    fn text(&self) -> &str {
+        self
+    }
+}
+
+impl Cell for String {
+    ghost text = { string_bytes };
+
+    fn text(&self) -> &str {
+        self.as_str()
+    }
+}
+
+impl<'a, C: Cell> Cell for &'a C {
+    ghost text = { λ cell. C.text cell.now };
+
+    fn text(&self) -> &str {
+        C::text(self)
+    }
+}
+
+/// A cell that a row may lack: `None` has the empty text.
+impl<C: Cell> Cell for Option<C> {
+    ghost text = { λ cell. text_or_empty C.text cell };
+
+    fn text(&self) -> &str {
+        match self {
+            Some(cell) => cell.text(),
+            None => "",
+        }
+    }
+}

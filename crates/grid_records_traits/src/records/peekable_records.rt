@@ -1,0 +1,78 @@
+//! Records looked up by place.
+ghost use Rattle.std.specs.Prelude.{◌≡◌, IfOk, IsOk, false};
+ghost use Rattle.std.specs.Cow.{IsOwnedStr, cow_str_bytes};
+ghost use Rattle.ansi_str_text.specs.StyledText.{has_escape};
+ghost use Rattle.grid_records_traits.specs.Cells.{HasLineCount, HasLineWidth, HasWidth, IsLineAt};
+ghost use Rattle.grid_records_traits.specs.Rows.{text_at};
+
+use crate::lines::{line_of, line_width_of};
+use crate::records::RecordTexts;
+use grid_config_values::Position;
+use grid_records_measure::{count_lines, get_text_width};
+use std::alloc::{AllocError, Global};
+use std::borrow::CowStr;
+
+/// Records looked up by place. Where there is no cell they have an empty text.
+pub trait PeekableRecords: RecordTexts {
+    /// The text of the cell at this place, and outside the empty text.
+    fn get_text(&self, pos: Position) -> &str
+        ensures { result.now ≡ text_at (Self.rows self.now) pos };
+
+    /// The line with this number, with its styles opened and ended within, and behind the last the empty
+    /// text. Without ESC it is a borrow, without memory; else the only refusal is for memory.
+    fn get_line(&self, alloc: Global, pos: Position, line: usize) -> Result<CowStr<'_>, AllocError>
+        ensures line { IfOk result (λ out. IsLineAt (text_at (Self.rows self.now) pos) line (cow_str_bytes out)) }
+        ensures answers { has_escape (text_at (Self.rows self.now) pos) ≡ false → IsOk result }
+        ensures borrows { IfOk result (λ out. has_escape (text_at (Self.rows self.now) pos) ≡ false → ¬ (IsOwnedStr out)) }
+    {
+        line_of(alloc, self.get_text(pos), line)
+    }
+
+    /// How many lines this text has. Takes no memory.
+    fn count_lines(&self, pos: Position) -> usize
+        ensures { HasLineCount (text_at (Self.rows self.now) pos) result }
+    {
+        count_lines(self.get_text(pos))
+    }
+
+    /// The columns of its widest line. Takes no memory.
+    fn get_width(&self, pos: Position) -> usize
+        ensures { HasWidth (text_at (Self.rows self.now) pos) result }
+    {
+        get_text_width(self.get_text(pos))
+    }
+
+    /// The columns of the line with this number, and behind the last 0. Takes no memory.
+    fn get_line_width(&self, pos: Position, line: usize) -> usize
+        ensures { HasLineWidth (text_at (Self.rows self.now) pos) line result }
+    {
+        line_width_of(self.get_text(pos), line)
+    }
+}
+
+impl<'a, R: PeekableRecords> PeekableRecords for &'a R {
+    fn get_text(&self, pos: Position) -> &str {
+        R::get_text(self, pos)
+    }
+
+    fn get_line(
+        &self,
+        alloc: Global,
+        pos: Position,
+        line: usize,
+    ) -> Result<CowStr<'_>, AllocError> {
+        R::get_line(self, alloc, pos, line)
+    }
+
+    fn count_lines(&self, pos: Position) -> usize {
+        R::count_lines(self, pos)
+    }
+
+    fn get_width(&self, pos: Position) -> usize {
+        R::get_width(self, pos)
+    }
+
+    fn get_line_width(&self, pos: Position, line: usize) -> usize {
+        R::get_line_width(self, pos, line)
+    }
+}
