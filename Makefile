@@ -44,10 +44,9 @@ help:               ## this list
 	@sed -n 's/^\([a-z]*\):.*## /\1|/p' Makefile | while IFS='|' read -r name what; do \
 		printf '  make %-9s %s\n' "$$name" "$$what"; done
 
-# `rt run` proves, compiles and runs: on no input the program writes nothing, and what rt says goes
-# to standard error. It goes by contents, so a file that was only touched costs no proof.
+# It goes by contents, so a file that was only touched costs no proof, and writes to standard error alone.
 $(PROGRAM): $(SOURCES)
-	@cd crates/columns && rt run < /dev/null > /dev/null
+	@tools/build columns
 	@touch $@
 
 # `rt test` proves and builds the tests, and runs them.
