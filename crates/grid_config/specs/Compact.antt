@@ -1,5 +1,5 @@
 -- The settings of a compact table.
-use Rattle.std.specs.Prelude.{ℕ}
+use Rattle.std.specs.Prelude.{ℕ, Option}
 use Rattle.std.specs.Option.{option_map}
 use Rattle.grid_config_values.specs.declared.alignment.AlignmentHorizontal.{AlignmentHorizontal}
 use Rattle.grid_config_values.specs.declared.alignment.AlignmentHorizontal.TheVariants.{Left}
@@ -38,25 +38,29 @@ side_colors sides = record {
   bottom = color_of sides.bottom;
 }
 
+-- what becomes of each glyph, or of its colour
+abbrev pub map_borders : {A B : Type 0} → (Option A → Option B) → Borders A → Borders B
+map_borders f borders = record {
+  top = f borders.top;
+  top_left = f borders.top_left;
+  top_right = f borders.top_right;
+  top_intersection = f borders.top_intersection;
+  bottom = f borders.bottom;
+  bottom_left = f borders.bottom_left;
+  bottom_right = f borders.bottom_right;
+  bottom_intersection = f borders.bottom_intersection;
+  horizontal = f borders.horizontal;
+  left_intersection = f borders.left_intersection;
+  right_intersection = f borders.right_intersection;
+  intersection = f borders.intersection;
+  vertical = f borders.vertical;
+  left = f borders.left;
+  right = f borders.right;
+}
+
 -- the colours of the borders
 abbrev pub border_colors : Borders ANSIStr → Borders Color
-border_colors borders = record {
-  top = option_map color_of borders.top;
-  top_left = option_map color_of borders.top_left;
-  top_right = option_map color_of borders.top_right;
-  top_intersection = option_map color_of borders.top_intersection;
-  bottom = option_map color_of borders.bottom;
-  bottom_left = option_map color_of borders.bottom_left;
-  bottom_right = option_map color_of borders.bottom_right;
-  bottom_intersection = option_map color_of borders.bottom_intersection;
-  horizontal = option_map color_of borders.horizontal;
-  left_intersection = option_map color_of borders.left_intersection;
-  right_intersection = option_map color_of borders.right_intersection;
-  intersection = option_map color_of borders.intersection;
-  vertical = option_map color_of borders.vertical;
-  left = option_map color_of borders.left;
-  right = option_map color_of borders.right;
-}
+border_colors borders = map_borders (option_map color_of) borders
 
 -- what a `CompactConfig` says
 abbrev pub compact_of : CompactConfig → Compact

@@ -13,7 +13,7 @@ use Rattle.grid_config_values.specs.Glyphs.{no_borders}
 use Rattle.grid_config_values.specs.Settings.{value_at}
 use Rattle.grid_config_spans.specs.declared.extent.Extent.{Extent}
 use Rattle.grid_config_colors.specs.Colors.{Color, is_no_color}
-use Rattle.grid_config.specs.Compact.{Compact, each_side, no_indent}
+use Rattle.grid_config.specs.Compact.{Compact, each_side, map_borders, no_indent}
 
 -- the settings of the whole table, then those that each cell has, then the spans
 pub record Settings : Type 0 where
@@ -140,8 +140,13 @@ compact_start compact = record {
   alignment_horizontal = compact.alignment_horizontal;
 }
 
--- no colour is set: none is at a side of the margin or the padding, and none on a border
+-- a border's colour, none where both its texts are empty
+abbrev pub color_if_set : Option Color → Option Color
+color_if_set None = None
+color_if_set (Some color) = color_if color
+
+-- no colour is set: none that isn't empty is at a side of the margin or the padding, or on a border
 pub record IsUncolored (compact : Compact) : Type 0 where
   pub margin : side_colors_if compact.margin_color ≡ each_side None
   pub padding : side_colors_if compact.padding_color ≡ each_side None
-  pub borders : compact.borders_color ≡ no_borders
+  pub borders : map_borders color_if_set compact.borders_color ≡ no_borders

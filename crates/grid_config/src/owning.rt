@@ -3,8 +3,8 @@ ghost use Rattle.std.specs.Prelude.{◌≡◌, IfOk, IsOk, None, OnOk};
 ghost use Rattle.std.specs.Option.{option_map};
 ghost use Rattle.grid_config_colors.specs.Colors.{color_of};
 ghost use Rattle.grid_config_values.specs.Glyphs.{no_borders};
-ghost use Rattle.grid_config.specs.Compact.{border_colors, each_side, side_colors};
-ghost use Rattle.grid_config.specs.Settings.{color_if, side_colors_if};
+ghost use Rattle.grid_config.specs.Compact.{border_colors, each_side, map_borders, side_colors};
+ghost use Rattle.grid_config.specs.Settings.{color_if, color_if_set, side_colors_if};
 
 use grid_config_colors::{ANSIBuf, ANSIStr};
 use grid_config_values::{Borders, Sides};
@@ -43,7 +43,7 @@ pub(crate) fn owned_borders(
     colors: &Borders<ANSIStr<'static>>,
 ) -> Result<Borders<ANSIBuf>, AllocError>
     ensures colors { IfOk result (λ owned. owned ≡ border_colors colors.now) }
-    ensures none { border_colors colors.now ≡ no_borders → IsOk result }
+    ensures none { map_borders color_if_set (border_colors colors.now) ≡ no_borders → IsOk result }
 {
     let mut owned = Borders::empty();
     put_glyph(alloc, colors.top, &mut owned.top)?;
@@ -71,7 +71,7 @@ fn put_glyph(
     place: &mut Option<ANSIBuf>,
 ) -> Result<(), AllocError>
     ensures color { OnOk result (place.new ≡ option_map color_of color.entry) }
-    ensures none { option_map color_of color.entry ≡ None → IsOk result }
+    ensures none { color_if_set (option_map color_of color.entry) ≡ None → IsOk result }
 {
     *place = match color {
         None => None,

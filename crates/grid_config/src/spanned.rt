@@ -71,7 +71,8 @@ impl SpannedConfig {
     }
 
     /// The settings of a compact table, for the whole table, and else those of `new`. A colour whose
-    /// texts are empty is none, but on a border. Refused for memory alone, and without colours never.
+    /// texts are empty is none, but on a border. Refused for memory alone, and never where no colour is
+    /// set: none that has a text.
     pub fn from_compact_config(alloc: Global, c: CompactConfig) -> Result<SpannedConfig, AllocError>
         ensures settings { IfOk result (StartsWith (compact_start (compact_of c))) }
         ensures answers { IsUncolored (compact_of c) → IsOk result }

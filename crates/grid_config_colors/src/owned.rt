@@ -23,7 +23,7 @@ impl Model for ANSIBuf {
 }
 
 impl ANSIBuf {
-    ghost use Rattle.std.specs.Prelude.{◌≡◌, ◌↔◌, List, [], Err, Some, IfOk, IsTrue};
+    ghost use Rattle.std.specs.Prelude.{◌≡◌, ◌↔◌, List, [], Err, Some, IfOk, IsOk, IsTrue, true};
     ghost use Rattle.ansi_scan.specs.Sequences.{Piece, ArePiecesOf};
     ghost use Rattle.ansi_scan.specs.Attributes.{plain_attributes};
     ghost use Rattle.ansi_str_text.specs.Blocks.{blocks_from};
@@ -52,10 +52,14 @@ impl ANSIBuf {
         }
     }
 
-    /// The same colour with texts of its own. Refused for memory alone.
+    /// The same colour with texts of its own. Refused for memory alone, and never where both are empty.
     pub fn from_ansi_str(alloc: Global, color: ANSIStr<'_>) -> Result<ANSIBuf, AllocError>
-        ensures { IfOk result (λ owned. owned ≡ color_of color.entry) }
+        ensures color { IfOk result (λ owned. owned ≡ color_of color.entry) }
+        ensures none { is_no_color (color_of color.entry) ≡ true → IsOk result }
     {
+        if color.is_empty() {
+            return Ok(ANSIBuf::empty(alloc));
+        }
         ANSIBuf::new(alloc, color.get_prefix(), color.get_suffix())
     }
 
@@ -76,9 +80,10 @@ impl ANSIBuf {
         })
     }
 
-    /// The same colour again. Refused for memory alone.
+    /// The same colour again. Refused for memory alone, and never where both texts are empty.
     pub fn clone(&self, alloc: Global) -> Result<ANSIBuf, AllocError>
-        ensures { IfOk result (λ copy. copy ≡ self.now) }
+        ensures color { IfOk result (λ copy. copy ≡ self.now) }
+        ensures none { is_no_color self.now ≡ true → IsOk result }
     {
         ANSIBuf::from_ansi_str(alloc, self.as_ref())
     }
