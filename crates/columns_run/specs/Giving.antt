@@ -11,7 +11,7 @@ module _ {S C : Type 0} (E : Type 0) (text : C → List ℕ) (left_of : S → �
   CellSteps s r t = TakesOne (left_of s) r (left_of t) × GivesText text (texts_of s) r (texts_of t)
 
   next_cell : (s : S) (r : Option (Result C E)) (t : S) → CellSteps s r t → GivesNext (λ answer wanted. MatchResult answer (λ cell. text cell ≡ wanted) (λ _. ⊥)) (texts_of s) r (texts_of t)
-  next_cell s None t step = step.1
+  next_cell s None t step = step.1.0
   next_cell s (Some (Ok cell)) t step = (text cell, refl, step.1)
   next_cell s (Some (Err error)) t step = absurd step.1
 
@@ -24,7 +24,7 @@ module _ {S Row : Type 0} (columns_of count_of : S → ℕ) (texts_of : Row → 
   RowSteps s r t = (columns_of t ≡ columns_of s) × TakesOne (count_of s) r (count_of t) × GivesRow texts_of (rows_of s) r (rows_of t)
 
   next_row : (s : S) (r : Option Row) (t : S) → RowSteps s r t → GivesNext tie (rows_of s) r (rows_of t)
-  next_row s None t step = step.2
+  next_row s None t step = step.2.0
   next_row s (Some row) t step = (texts_of row, tied row, step.2)
 
   pub each_row : (s : S) → GivesEach RowSteps tie s (rows_of s)

@@ -20,12 +20,12 @@ table_texts columns counts cells = map (row_texts columns) (cut counts cells)
 -- a call gives the first of the texts that are left, as long as there is one, and refuses none
 abbrev pub GivesText : {C E : Type 0} → (C → List ℕ) → List (List ℕ) → Option (Result C E) → List (List ℕ) → Type 0
 GivesText text before found after =
-    MatchOption found (before ≡ []) (λ answer. MatchResult answer (λ cell. before ≡ text cell ∷ after) (λ _. ⊥))
+    MatchOption found ((before ≡ []) × (after ≡ before)) (λ answer. MatchResult answer (λ cell. before ≡ text cell ∷ after) (λ _. ⊥))
 
 -- a call takes one from the count of what is left, where it gives something
 abbrev pub TakesOne : {A : Type 0} → ℕ → Option A → ℕ → Type 0
-TakesOne before found after = MatchOption found (Unit {0}) (λ _. after + 1 ≡ before)
+TakesOne before found after = MatchOption found (after ≡ before) (λ _. after + 1 ≡ before)
 
 -- a call gives the first of the rows that are left
 abbrev pub GivesRow : {Row : Type 0} → (Row → List (List ℕ)) → List (List (List ℕ)) → Option Row → List (List (List ℕ)) → Type 0
-GivesRow texts before found after = MatchOption found (before ≡ []) (λ row. before ≡ texts row ∷ after)
+GivesRow texts before found after = MatchOption found ((before ≡ []) × (after ≡ before)) (λ row. before ≡ texts row ∷ after)

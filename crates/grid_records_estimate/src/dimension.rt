@@ -146,9 +146,9 @@ impl<C> Dimension for GridDimension<C> {
 }
 
 impl<R: Records, C: Sizing> Estimate<R, C> for GridDimension<C> {
-    ghost is_estimate = { λ records cfg sizes. sizes ≡ least_sizes (C.sizing cfg) (R.columns records) (R.rows records) };
+    ghost is_estimate = { λ records cfg _ sizes. sizes ≡ least_sizes (C.sizing cfg) (R.columns records) (R.rows records) };
 
-    ghost passes = { λ records cfg. PassesMax (table_widths (C.sizing cfg) (R.columns records) (R.rows records)) ⊎ PassesMax (table_heights (C.sizing cfg) (R.columns records) (R.rows records)) };
+    ghost passes = { λ records cfg _. PassesMax (table_widths (C.sizing cfg) (R.columns records) (R.rows records)) ⊎ PassesMax (table_heights (C.sizing cfg) (R.columns records) (R.rows records)) };
 
     fn estimate(&mut self, alloc: Global, records: R, cfg: &C) -> Result<(), Fault> {
         match GridDimension::<C>::dimension(alloc, records, cfg) {

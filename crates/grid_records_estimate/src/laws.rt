@@ -1,14 +1,21 @@
 //! Laws of the definitions that the other contracts cite.
-ghost use Rattle.std.specs.Prelude.{◌≡◌, ℕ, List, [], ◌∷◌, true, false};
+ghost use Rattle.std.specs.Prelude.{◌≡◌, ◌⊎◌, ℕ, List, [], ◌∷◌, true, false, slice_index};
 ghost use Rattle.grid_config.specs.Compact.{Compact as CompactSettings};
 ghost use Rattle.grid_config.specs.Settings.{Settings as TableSettings, StartsWith, compact_start};
 ghost use Rattle.grid_records_traits.specs.Rows.{fitted};
 ghost use Rattle.grid_records_estimate.specs.Estimates.{Axis as TableAxis, track_sizes};
+ghost use Rattle.grid_records_estimate.specs.Collecting.{PassesMax};
+ghost use Rattle.grid_records_estimate.specs.Kept.{Kept as KeptSizes, least_sizes};
 ghost use Rattle.grid_records_estimate.specs.Room.{LeaveRoom};
 ghost use Rattle.grid_records_estimate.specs.Sizes.{height_total, table_heights, table_widths, width_total};
 ghost use Rattle.grid_records_estimate.specs.Sizing.{Sizing as TableSizing, column_axis, compact_sizing, row_axis, sizing_of};
 ghost use Rattle.grid_records_estimate.specs.Totals.{total};
 ghost use Rattle.grid_records_estimate.specs.Worked.{table};
+
+use crate::dimension::GridDimension;
+use crate::estimate::Estimate;
+use crate::sizing::Sizing;
+use grid_records_traits::{Dimension, Records};
 
 /// Estimates that were worked out by hand: a span of two over two, with a boundary between them; a
 /// remainder; a span that reaches out of the table, and one of which a single column is left; two spans
@@ -39,6 +46,17 @@ pub fn sizes_leave_room()
         LeaveRoom (column_axis sizing columns (fitted columns rows)) (table_widths sizing columns rows) }
     ensures heights { (sizing : TableSizing) (columns : ℕ) (rows : List (List (List ℕ))) →
         LeaveRoom (row_axis sizing columns (fitted columns rows)) (table_heights sizing columns rows) }
+{}
+
+/// An estimate of a table keeps its least sizes, whatever was kept before; it is out of range where one of
+/// them passes the greatest `usize`. Kept sizes are read by their numbers.
+pub fn estimates_keep_the_least_sizes<R: Records, C: Sizing>()
+    ensures kept { (records : R) (cfg : C) (before after : KeptSizes) →
+        ⟦<GridDimension<C> as Estimate<R, C>>⟧.is_estimate records cfg before after → after ≡ least_sizes (C.sizing cfg) (R.columns records) (R.rows records) }
+    ensures range { (records : R) (cfg : C) (before : KeptSizes) → ⟦<GridDimension<C> as Estimate<R, C>>⟧.passes records cfg before →
+        PassesMax (table_widths (C.sizing cfg) (R.columns records) (R.rows records)) ⊎ PassesMax (table_heights (C.sizing cfg) (R.columns records) (R.rows records)) }
+    ensures width { (sizes : KeptSizes) (column : ℕ) → ⟦<GridDimension<C> as Dimension>⟧.width sizes column ≡ slice_index sizes.widths column }
+    ensures height { (sizes : KeptSizes) (row : ℕ) → ⟦<GridDimension<C> as Dimension>⟧.height sizes row ≡ slice_index sizes.heights row }
 {}
 
 /// A compact table has the sizes and the totals of a table whose settings begin as the compact ones,

@@ -12,7 +12,8 @@ of_rest f none (Some rest) = f rest
 abbrev pub GivesBuffered : {K R Kept Rest : Type 0} → (K → Option Kept → K → Type 0) → (R → Option Rest → R → Type 0) → K → Option R → Option (Either Kept Rest) → K → Option R → Type 0
 GivesBuffered {R = R} kept_steps rest_steps kept rest found kept_then rest_then =
     MatchOption found
-    (kept_steps kept None kept_then × MatchOption rest (Unit {0}) (λ it. (then : R) × rest_steps it None then))
+    (kept_steps kept None kept_then
+    × MatchOption rest (rest_then ≡ None) (λ it. (then : R) × rest_steps it None then × (rest_then ≡ Some then)))
     (λ cells.
     MatchEither cells
     (λ row. kept_steps kept (Some row) kept_then × (rest_then ≡ rest))

@@ -13,9 +13,9 @@ FitsOne {S} steps before answer after =
     (λ cell. (s : S) × (t : S) × (before ≡ Some s) × (after ≡ Some t) × steps s (Some (Ok cell)) t)
 
 -- a call gives the next cell of the row, or none where the row has ended, as long as one is wanted; where the row
--- refuses instead, so does the call, and no further cell is wanted
+-- refuses instead, so does the call, and no further cell is wanted. Where none is wanted it stays where it is
 abbrev pub FitsCell : {S C E : Type 0} → (S → Option (Result C E) → S → Type 0) → Option S → ℕ → Option (Result (Option C) E) → Option S → ℕ → Type 0
 FitsCell {S} steps before left found after rest =
-    MatchOption found (left ≡ 0)
+    MatchOption found ((left ≡ 0) × (rest ≡ left) × (after ≡ before))
     (λ answer. MatchResult answer (λ cell. (rest + 1 ≡ left) × FitsOne steps before cell after)
     (λ refusal. (0 < left) × (rest ≡ 0) × (s : S) × (t : S) × (before ≡ Some s) × (after ≡ Some t) × steps s (Some (Err refusal)) t))

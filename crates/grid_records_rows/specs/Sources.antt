@@ -18,12 +18,13 @@ abbrev pub GivesTaken : {S Cells : Type 0} → (S → Option Cells → S → Typ
 GivesTaken steps limit s found t =
     MatchOption found (steps s None t) (λ cells. steps s (Some (take_source cells)) t × (take_count cells ≡ limit))
 
--- a call gives an empty text as long as one is left
+-- a call gives an empty text as long as one is left, and then stays where it is
 abbrev pub GivesEmptyText : {E : Type 0} → ℕ → Option (Result (Bor (List ℕ)) E) → ℕ → Type 0
 GivesEmptyText left found rest =
-    MatchOption found (left ≡ 0) (λ answer. (rest + 1 ≡ left) × MatchResult answer (λ text. text.now ≡ []) (λ _. ⊥))
+    MatchOption found ((left ≡ 0) × (rest ≡ left)) (λ answer. (rest + 1 ≡ left) × MatchResult answer (λ text. text.now ≡ []) (λ _. ⊥))
 
--- a call gives a row of empty texts as long as one is left
+-- a call gives a row of empty texts as long as one is left, and then stays where it is
 abbrev pub GivesEmptyCells : {Cells : Type 0} → ℕ → ℕ → Option Cells → (Cells → ℕ) → ℕ → ℕ → Type 0
 GivesEmptyCells left columns found left_of rest columns_then =
-    MatchOption found (left ≡ 0) (λ cells. (rest + 1 ≡ left) × (columns_then ≡ columns) × (left_of cells ≡ columns))
+    MatchOption found ((left ≡ 0) × (rest ≡ left) × (columns_then ≡ columns))
+    (λ cells. (rest + 1 ≡ left) × (columns_then ≡ columns) × (left_of cells ≡ columns))

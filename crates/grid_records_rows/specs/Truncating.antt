@@ -44,7 +44,8 @@ IsTruncated text width given answer =
 -- a call answers what is left of the next cell, as long as the row has one; behind a refusal there is none
 abbrev pub GivesTruncated : {S C E : Type 0} → (S → Option (Result C E) → S → Type 0) → (C → List ℕ) → (ℕ → ℕ) → ℕ → Option S → Option (Result (Truncated C) E) → Option S → ℕ → Type 0
 GivesTruncated {S = S} {C = C} {E = E} steps text width column cells found cells_then column_then =
-    MatchOption found (MatchOption cells (Unit {0}) (λ s. (t : S) × steps s None t))
+    MatchOption found
+    ((column_then ≡ column) × MatchOption cells (cells_then ≡ None) (λ s. (t : S) × steps s None t × (cells_then ≡ Some t)))
     (λ answer.
     (s : S) × (t : S) × (given : Result C E) × (cells ≡ Some s) × steps s (Some given) t × IsTruncated text (width column) given answer
     × MatchResult answer (λ _. (cells_then ≡ Some t) × (column_then ≡ next_column column)) (λ _. cells_then ≡ None))

@@ -3,6 +3,7 @@
 #![tactic(auto)]
 
 pub mod dimension;
+pub mod laws;
 mod lines;
 pub mod records;
 

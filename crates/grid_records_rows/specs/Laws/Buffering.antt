@@ -81,7 +81,7 @@ module _ {K R Kept Rest B F : Type 0} (kept_steps : K → Option Kept → K → 
         rest row step.1.1 (subst (λ v. rest_steps v (Some row) step.1.1) same step.1.4)
   ]
   of_the_rest s it (z ∷ zs) gives is rest = (
-    λ t step. let last = subst (λ v. MatchOption v (Unit {0}) (λ it. (then : R) × rest_steps it None then)) is step.1 in rest.0 last.0 last.1,
+    λ t step. let last = subst (λ v. MatchOption v (rest_of t ≡ None) (λ it. (then : R) × rest_steps it None then × (rest_of t ≡ Some then))) is step.1 in rest.0 last.0 last.1,
     λ x t. elim x as (λ v. Steps s (Some v) t → tie v z × GivesEach Steps tie t zs) [
       | Left row ↦ λ step. absurd (gives row (kept_of t) step.0)
       | Right row ↦ λ step.

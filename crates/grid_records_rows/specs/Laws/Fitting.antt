@@ -69,7 +69,7 @@ module _ {S C E : Type 0} (steps : S → Option (Result C E) → S → Type 0) (
     unfolding One
     blanks zero s none left = over s left
     blanks (suc n) s none left = (
-      λ t step. omega (arith, step, left),
+      λ t step. omega (arith, step.0, left),
       λ cell t step.
           let next = blank (cells_of s) (cells_of t) cell none step.1 in
           (ap (text_or_empty text) next.0, blanks n t next.1 (omega (arith, step.0, left))),
@@ -81,7 +81,7 @@ module _ {S C E : Type 0} (steps : S → Option (Result C E) → S → Type 0) (
     unfolding One fit
     fits zero row s it is left gives = over s left
     fits (suc n) [] s it is left gives = (
-      λ t step. omega (arith, step, left),
+      λ t step. omega (arith, step.0, left),
       λ cell t step.
           let next = ended (cells_of s) (cells_of t) cell it is gives step.1 in
           (ap (text_or_empty text) next.0, blanks n t next.1 (omega (arith, step.0, left))),
@@ -90,7 +90,7 @@ module _ {S C E : Type 0} (steps : S → Option (Result C E) → S → Type 0) (
           absurd (gives (Err refusal) step.3 (subst (λ v. steps v (Some (Err refusal)) step.3) same step.6)),
     )
     fits (suc n) (wanted ∷ row) s it is left gives = (
-      λ t step. omega (arith, step, left),
+      λ t step. omega (arith, step.0, left),
       λ cell t step.
           let next = goes (cells_of s) (cells_of t) cell it wanted row is gives step.1 in
           (next.same, fits n row t next.rest next.is (omega (arith, step.0, left)) next.gives),

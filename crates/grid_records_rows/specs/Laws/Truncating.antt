@@ -47,7 +47,7 @@ module _ {S C E D F : Type 0} (steps : S → Option (Result C E) → S → Type 
       gives step.1.2 step.1.1 (subst (λ v. steps v (Some step.1.2) step.1.1) first step.1.4)
   each_truncated d column (wanted ∷ row) s it same at is gives = (
     λ t step.
-        let last = subst (λ v. MatchOption v (Unit {0}) (λ s. (t : S) × steps s None t)) is step.1 in
+        let last = subst (λ v. MatchOption v (inside t ≡ None) (λ s. (u : S) × steps s None u × (inside t ≡ Some u))) is step.1.1 in
         gives.0 last.0 last.1,
     λ cell t step.
         let first : step.1.0 ≡ it = cc (is, step.1.3) in
