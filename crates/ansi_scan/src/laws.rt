@@ -8,6 +8,12 @@ ghost use Rattle.ansi_scan.specs.Joining.{put_all_before};
 ghost use Rattle.ansi_scan_style.specs.Attributes.{Attributes};
 ghost use Rattle.ansi_scan_style.specs.Rendition.{applied, sgr_parameters};
 
+pub use ansi_scan_style::laws::{
+    bytes_are_few, bytes_are_sequences, end_clears_its_style, equal_styles_set_the_same,
+    no_color_is_purple, parameters_are_numbers, parameters_in_order, plain_writes_nothing,
+    reset_clears_all, sequence_form, sequences_give_renditions, start_reads_as_its_style,
+};
+
 /// Every list of bytes has one list of pieces, and a function gives it.
 pub fn one_list()
     ensures exists { (text : List ℕ) → (ps : List Piece) × ArePiecesOf text ps }

@@ -6,6 +6,12 @@ ghost use Rattle.grid_config.specs.declared.compact.CompactConfig.{CompactConfig
 ghost use Rattle.grid_config.specs.Compact.{compact_of};
 ghost use Rattle.grid_config.specs.Equality.{compared, equal};
 
+pub use grid_config_colors::laws::{equal_colors_have_the_same_texts, one_meaning};
+pub use grid_config_spans::laws::{good_spans_part_the_table, without_spans_all_is_visible};
+pub use grid_config_values::laws::{
+    boundaries_by_name, equal_values_are_the_same, positions_go_by_rows, the_last_call_decides,
+};
+
 /// `==` of the settings of compact tables is equality of all seven values, and `cmp` finds the same ones equal.
 pub fn equal_settings_are_the_same()
     ensures equality { (a b : CompactSettings) → IsTrue (equal a b) ↔ (compact_of a ≡ compact_of b) }

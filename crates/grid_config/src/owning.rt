@@ -53,10 +53,22 @@ pub(crate) fn owned_borders(
     put_glyph(alloc, colors.bottom, &mut owned.bottom)?;
     put_glyph(alloc, colors.bottom_left, &mut owned.bottom_left)?;
     put_glyph(alloc, colors.bottom_right, &mut owned.bottom_right)?;
-    put_glyph(alloc, colors.bottom_intersection, &mut owned.bottom_intersection)?;
+    put_glyph(
+        alloc,
+        colors.bottom_intersection,
+        &mut owned.bottom_intersection,
+    )?;
     put_glyph(alloc, colors.horizontal, &mut owned.horizontal)?;
-    put_glyph(alloc, colors.left_intersection, &mut owned.left_intersection)?;
-    put_glyph(alloc, colors.right_intersection, &mut owned.right_intersection)?;
+    put_glyph(
+        alloc,
+        colors.left_intersection,
+        &mut owned.left_intersection,
+    )?;
+    put_glyph(
+        alloc,
+        colors.right_intersection,
+        &mut owned.right_intersection,
+    )?;
     put_glyph(alloc, colors.intersection, &mut owned.intersection)?;
     put_glyph(alloc, colors.vertical, &mut owned.vertical)?;
     put_glyph(alloc, colors.left, &mut owned.left)?;

@@ -1,6 +1,8 @@
 //! Records of cells, what their texts measure, and the least sizes of a table of them.
 #![tactic(auto)]
 
+pub mod laws;
+
 pub use grid_records_estimate::{
     CompactGridDimension, Estimate, IterGridDimension, PeekableGridDimension,
 };
