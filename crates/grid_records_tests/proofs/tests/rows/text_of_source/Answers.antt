@@ -1,5 +1,5 @@
 use Rattle.grid_records_rows.proofs.Loops.{next_given}
-use Rattle.grid_records_rows.proofs.tests.text_of_source.Goals as goal
+use Rattle.grid_records_tests.proofs.tests.rows.text_of_source.Goals as goal
 
 pub push_cells-requires : goal.push_cells-requires
 push_cells-requires g c =
