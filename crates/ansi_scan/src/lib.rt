@@ -50,6 +50,3 @@ fn first_broken_start(mut items: Scan<'_>) -> Option<usize>
         .find(|item| item.kind == Kind::Broken)
         .map(|item| item.start)
 }
-
-#[cfg(test)]
-mod tests;

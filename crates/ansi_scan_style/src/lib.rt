@@ -16,6 +16,3 @@ pub const RESET_ALL: &str = "\x1b[0m";
 pub use color::{AnsiColor, Color};
 pub use sequences::{AnsiSequenceEnd, AnsiSequenceStart};
 pub use style::Style;
-
-#[cfg(test)]
-mod tests;

@@ -18,6 +18,3 @@ pub use editing::edit;
 pub use edits::Edit;
 pub use ranges::AnsiRange;
 pub use text::AnsiStr;
-
-#[cfg(test)]
-mod tests;

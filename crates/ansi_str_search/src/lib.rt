@@ -15,6 +15,3 @@ pub use places::{Place, begins_with_escape, behind_item, front, split_item, text
 pub use search::{behind_place, ends_with, find, find_end, is_char_boundary, starts_with};
 pub use split::AnsiSplit;
 pub use strip::{has_escape, strip_text};
-
-#[cfg(test)]
-mod tests;

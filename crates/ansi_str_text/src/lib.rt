@@ -32,6 +32,3 @@ pub fn stripped_chars(text: &str) -> StrippedChars<'_>
 {
     StrippedChars::new(text)
 }
-
-#[cfg(test)]
-mod tests;

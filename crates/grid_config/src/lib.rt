@@ -23,6 +23,3 @@ pub use spanned::SpannedConfig;
 pub mod ansi {
     pub use grid_config_colors::{ANSIBuf, ANSIStr};
 }
-
-#[cfg(test)]
-mod tests;

@@ -10,6 +10,3 @@ mod owned;
 pub use borrowed::ANSIStr;
 pub use fault::BufFault;
 pub use owned::ANSIBuf;
-
-#[cfg(test)]
-mod tests;

@@ -7,6 +7,3 @@ mod spans;
 
 pub use extent::Extent;
 pub use spans::Spans;
-
-#[cfg(test)]
-mod tests;

@@ -21,6 +21,3 @@ pub use fault::Fault;
 pub use formatting::Formatting;
 pub use position::Position;
 pub use sides::{Indent, Sides};
-
-#[cfg(test)]
-mod tests;

@@ -14,6 +14,3 @@ mod totals;
 pub use dimension::{CompactGridDimension, IterGridDimension, PeekableGridDimension};
 pub use estimate::Estimate;
 pub use totals::total;
-
-#[cfg(test)]
-mod tests;

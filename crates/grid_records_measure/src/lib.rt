@@ -16,6 +16,3 @@ pub use measure::{get_line_width, get_text_dimension, get_text_width};
 pub use raw_lines::split_line;
 pub use tabs::replace_tab;
 pub use text_lines::{Lines, count_lines, get_lines};
-
-#[cfg(test)]
-mod tests;

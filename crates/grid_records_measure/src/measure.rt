@@ -49,6 +49,3 @@ pub fn get_text_dimension(text: &str) -> (usize, usize)
     }
     (count, width)
 }
-
-#[cfg(test)]
-mod tests;

@@ -12,6 +12,3 @@ pub use records::vec_records::{Cell, FromText, Text, VecRecords, are_equally_lon
 pub use records::{
     EmptyRecords, ExactRecords, IterRecords, PeekableRecords, RecordTexts, Records, RecordsMut,
 };
-
-#[cfg(test)]
-mod tests;

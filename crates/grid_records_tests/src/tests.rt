@@ -1,0 +1,19 @@
+use std::process::Abort;
+
+mod estimate;
+mod measure;
+mod rows;
+
+// What was found, and of what.
+fn expect_text(rt: &impl Abort, found: &str, wanted: &str, what: &str) {
+    assert_eq!(rt; found, wanted, "of {what:?}");
+}
+
+fn expect_number(rt: &impl Abort, found: usize, wanted: usize, what: &str) {
+    assert_eq!(rt; found, wanted, "of {what:?}");
+}
+
+// What has to hold.
+fn expect(rt: &impl Abort, holds: bool, what: &str) {
+    assert!(rt; holds, "of {what:?}");
+}
