@@ -11,43 +11,57 @@ pub fn expect_counts<T>(rt: &impl Abort, counted: &Counted<T>, failures: u64, em
     );
 }
 
+// A call that takes so many bytes, or none where it fails, and the failures then.
+fn expect_read(
+    rt: &impl Abort,
+    reader: &mut Counted<ByteReader<'_>>,
+    taken: Option<usize>,
+    failures: u64,
+) {
+    let mut buf = [0u8; 4];
+    assert_eq!(rt; reader.read(&mut buf).ok(), taken);
+    expect_counts(rt, reader, failures, 0);
+}
+
+// A call that takes so many bytes, or none where it fails, and the counts then.
+fn expect_write(
+    rt: &impl Abort,
+    writer: &mut Counted<StepWriter>,
+    piece: &[u8],
+    taken: Option<usize>,
+    failures: u64,
+    empty_writes: u64,
+) {
+    assert_eq!(rt; writer.write(piece).ok(), taken, "{piece:?}");
+    expect_counts(rt, writer, failures, empty_writes);
+}
+
 #[test]
 fn counts_reads_that_fail(rt: HostRuntime) {
     let mut reader = Counted::new(ByteReader::failing(b"ab", 2, ErrorKind::Interrupted));
-    let mut buf = [0u8; 4];
-    let calls = [(Some(1), 0), (None, 1), (Some(1), 1), (Some(0), 1)];
-    for (taken, failures) in calls {
-        assert_eq!(rt; reader.read(&mut buf).ok(), taken, "{failures} failures");
-        expect_counts(&rt, &reader, failures, 0);
-    }
+    expect_read(&rt, &mut reader, Some(1), 0);
+    expect_read(&rt, &mut reader, None, 1);
+    expect_read(&rt, &mut reader, Some(1), 1);
+    expect_read(&rt, &mut reader, Some(0), 1);
 }
 
 #[test]
-fn counts_writes_that_fail(rt: HostRuntime) {
+fn counts_writes_that_fail_or_take_nothing(rt: HostRuntime) -> Result<(), Fail> {
     let inner = StepWriter::failing(rt.alloc(), 2, 2, ErrorKind::Other);
     let mut writer = Counted::new(inner);
-    let calls: [(&[u8], Option<usize>); 4] = [
-        (b"abc", Some(2)),
-        (b"abc", None),
-        (b"c", Some(1)),
-        (b"", Some(0)),
-    ];
-    for (piece, taken) in calls {
-        assert_eq!(rt; writer.write(piece).ok(), taken, "{piece:?}");
-    }
-    assert!(rt; writer.flush().is_ok());
+    expect_write(&rt, &mut writer, b"abc", Some(2), 0, 0);
+    expect_write(&rt, &mut writer, b"abc", None, 1, 0);
+    expect_write(&rt, &mut writer, b"c", Some(1), 1, 0);
+    expect_write(&rt, &mut writer, b"", Some(0), 1, 0);
+    writer.flush()?;
     expect_counts(&rt, &writer, 1, 0);
     assert_eq!(rt; writer.into_inner().taken.as_slice(), b"abc".as_slice());
-}
 
-#[test]
-fn counts_writes_that_take_nothing(rt: HostRuntime) {
     let mut writer = Counted::new(StepWriter::new(rt.alloc(), 0));
-    let calls: [(&[u8], u64); 3] = [(b"abc", 1), (b"", 1), (b"a", 2)];
-    for (piece, empty_writes) in calls {
-        assert_eq!(rt; writer.write(piece).ok(), Some(0), "{piece:?}");
-        expect_counts(&rt, &writer, 0, empty_writes);
-    }
+    expect_write(&rt, &mut writer, b"abc", Some(0), 0, 1);
+    expect_write(&rt, &mut writer, b"", Some(0), 0, 1);
+    expect_write(&rt, &mut writer, b"a", Some(0), 0, 2);
+    Ok(())
 }
 
 #[test]

@@ -6,7 +6,7 @@ use crate::fakes::{ByteReader, StepWriter};
 use columns_run::{Counted, Options, RunFault, run};
 use std::alloc::Global;
 use std::io::ErrorKind;
-use std::test::Fail;
+use std::process::Abort;
 
 const INPUT: &[u8] = b"a\tb\n1\t2\n";
 
@@ -27,66 +27,91 @@ fn table_bytes(alloc: Global, input: &[u8]) -> Result<Vec<u8>, RunFault>
     Ok(writer.into_inner())
 }
 
-#[test]
-fn writes_the_table(rt: HostRuntime) -> Result<(), Fail> {
-    for (input, table) in [(b"".as_slice(), b"".as_slice()), (INPUT, TABLE)] {
-        assert_eq!(rt; table_bytes(rt.alloc(), input)?.as_slice(), table);
-        for step in 1..7 {
-            let mut reader = Counted::new(ByteReader::new(input));
-            let mut writer = Counted::new(StepWriter::new(rt.alloc(), step));
-            run(rt.alloc(), &Options::new(), &mut reader, &mut writer)?;
-            assert_eq!(rt; writer.into_inner().taken.as_slice(), table, "by {step}");
-        }
+fn expect_table(
+    rt: &impl Abort,
+    alloc: Global,
+    input: &[u8],
+    table: &[u8],
+) -> Result<(), RunFault> {
+    assert_eq!(rt; table_bytes(alloc, input)?.as_slice(), table);
+    for step in 1..7 {
+        let mut reader = Counted::new(ByteReader::new(input));
+        let mut writer = Counted::new(StepWriter::new(alloc, step));
+        run(alloc, &Options::new(), &mut reader, &mut writer)?;
+        assert_eq!(rt; writer.into_inner().taken.as_slice(), table, "by {step}");
     }
     Ok(())
 }
 
 #[test]
+fn writes_the_table(rt: HostRuntime) -> Result<(), RunFault> {
+    expect_table(&rt, rt.alloc(), b"", b"")?;
+    expect_table(&rt, rt.alloc(), INPUT, TABLE)
+}
+
+fn expect_read_fault(rt: &impl Abort, alloc: Global, kind: ErrorKind) {
+    for bad_call in 1..4 {
+        let mut reader = Counted::new(ByteReader::failing(b"\x1b\xff", bad_call, kind));
+        let mut writer = Counted::new(StepWriter::new(alloc, 1));
+        let result = run(alloc, &Options::new(), &mut reader, &mut writer);
+        assert_eq!(rt; result, Err(RunFault::Read), "at call {bad_call}");
+        expect_counts(rt, &reader, 1, 0);
+        expect_counts(rt, &writer, 0, 0);
+        assert!(rt; writer.into_inner().taken.is_empty());
+    }
+}
+
+#[test]
 fn a_read_that_fails_comes_first(rt: HostRuntime) {
-    let input = b"\x1b\xff";
-    for kind in [ErrorKind::Other, ErrorKind::Interrupted] {
-        for bad_call in 1..4 {
-            let mut reader = Counted::new(ByteReader::failing(input, bad_call, kind));
-            let mut writer = Counted::new(StepWriter::new(rt.alloc(), 1));
-            let result = run(rt.alloc(), &Options::new(), &mut reader, &mut writer);
-            assert_eq!(rt; result, Err(RunFault::Read), "at call {bad_call}");
-            expect_counts(&rt, &reader, 1, 0);
-            expect_counts(&rt, &writer, 0, 0);
-            assert!(rt; writer.into_inner().taken.is_empty());
-        }
+    expect_read_fault(&rt, rt.alloc(), ErrorKind::Other);
+    expect_read_fault(&rt, rt.alloc(), ErrorKind::Interrupted);
+}
+
+// The writer takes so many bytes a call, and fails at this call.
+fn expect_write_fault(
+    rt: &impl Abort,
+    alloc: Global,
+    input: &[u8],
+    mut writer: Counted<StepWriter>,
+    answer: Result<(), RunFault>,
+    counts: (u64, u64),
+    taken: &[u8],
+) {
+    let mut reader = Counted::new(input);
+    let result = run(alloc, &Options::new(), &mut reader, &mut writer);
+    assert_eq!(rt; result, answer, "{taken:?}");
+    expect_counts(rt, &writer, counts.0, counts.1);
+    assert_eq!(rt; writer.into_inner().taken.as_slice(), taken);
+}
+
+fn expect_front(rt: &impl Abort, alloc: Global, kind: ErrorKind) {
+    for bad_call in 1..=TABLE.len() {
+        let writer = Counted::new(StepWriter::failing(alloc, 1, bad_call, kind));
+        let front = &TABLE[..bad_call - 1];
+        expect_write_fault(
+            rt,
+            alloc,
+            INPUT,
+            writer,
+            Err(RunFault::Write),
+            (1, 0),
+            front,
+        );
     }
 }
 
 #[test]
 fn a_write_that_fails_leaves_a_front(rt: HostRuntime) {
-    for kind in [ErrorKind::Other, ErrorKind::Interrupted] {
-        for bad_call in 1..=TABLE.len() {
-            let mut reader = Counted::new(INPUT);
-            let inner = StepWriter::failing(rt.alloc(), 1, bad_call, kind);
-            let mut writer = Counted::new(inner);
-            let result = run(rt.alloc(), &Options::new(), &mut reader, &mut writer);
-            assert_eq!(rt; result, Err(RunFault::Write), "at call {bad_call}");
-            expect_counts(&rt, &writer, 1, 0);
-            assert_eq!(rt;
-                writer.into_inner().taken.as_slice(),
-                &TABLE[..bad_call - 1]
-            );
-        }
-    }
+    expect_front(&rt, rt.alloc(), ErrorKind::Other);
+    expect_front(&rt, rt.alloc(), ErrorKind::Interrupted);
 }
 
 #[test]
 fn a_writer_that_takes_nothing_is_refused(rt: HostRuntime) {
-    let answers = [
-        (b"".as_slice(), Ok(()), 0),
-        (INPUT, Err(RunFault::WriteZero), 1),
-    ];
-    for (input, answer, empty_writes) in answers {
-        let mut reader = Counted::new(input);
-        let mut writer = Counted::new(StepWriter::new(rt.alloc(), 0));
-        let result = run(rt.alloc(), &Options::new(), &mut reader, &mut writer);
-        assert_eq!(rt; result, answer, "{input:?}");
-        expect_counts(&rt, &writer, 0, empty_writes);
-        assert!(rt; writer.into_inner().taken.is_empty());
-    }
+    let alloc = rt.alloc();
+    let writer = Counted::new(StepWriter::new(alloc, 0));
+    expect_write_fault(&rt, alloc, b"", writer, Ok(()), (0, 0), b"");
+    let writer = Counted::new(StepWriter::new(alloc, 0));
+    let fault = Err(RunFault::WriteZero);
+    expect_write_fault(&rt, alloc, INPUT, writer, fault, (0, 1), b"");
 }
