@@ -46,14 +46,12 @@ impl Peaker for PriorityNone {
     ghost answers_grow = { turns_grown };
 
     fn peak(&mut self, mins: &[usize], values: &[usize]) -> Option<usize> {
-        let start = if self.next < values.len() {
-            self.next
-        } else {
-            0
+        let count = values.len();
+        let start = if self.next < count { self.next } else { 0 };
+        let named = match first_within(mins, values, start, count) {
+            None => first_within(mins, values, 0, start),
+            found => found,
         };
-        let named = first_within(mins, values, start, values.len()).or(first_within(
-            mins, values, 0, start,
-        ));
         if let Some(column) = named {
             self.next = column + 1;
         }
