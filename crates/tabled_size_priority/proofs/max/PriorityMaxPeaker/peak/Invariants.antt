@@ -1,0 +1,7 @@
+use Rattle.std.proofs.Common.{length}
+use Rattle.tabled_size_priority.specs.Columns.{from_side}
+use Rattle.tabled_size_priority.specs.Peaking.{NamesAmong, Widest}
+use Rattle.tabled_size_priority.proofs.max.PriorityMaxPeaker.peak.Given as goal
+
+abbrev pub invariant-loop-column : goal.invariant-loop-column
+invariant-loop-column l = NamesAmong (Widest (from_side l.self-inside.right (length l.values)) l.values) l.mins l.values l.column l.best

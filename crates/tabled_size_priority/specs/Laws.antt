@@ -1,0 +1,13 @@
+-- Why the laws hold: of sums, of runs, and of each form of shrunk and grown lists.
+pub mod Lists
+pub mod Runs
+pub mod Growths
+pub mod Places
+pub mod Naming
+pub mod Forms
+pub mod Order
+pub mod Levels
+pub mod Raising
+pub mod Alone
+pub mod Turning
+pub mod Turns

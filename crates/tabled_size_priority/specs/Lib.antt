@@ -1,0 +1,10 @@
+pub mod Columns
+pub mod Peaking
+pub mod Peaks
+pub mod Running
+pub mod Shrinking
+pub mod Growing
+pub mod Turns
+pub mod Levels
+pub mod Choices
+pub mod Laws

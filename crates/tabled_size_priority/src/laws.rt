@@ -1,0 +1,85 @@
+//! Laws of the definitions that the other contracts cite.
+ghost use Rattle.std.specs.Prelude.{◌≡◌, ◌+◌, ◌^◌, ℕ, Bool, List, [], ◌∷◌, true, false, length};
+ghost use Rattle.tabled_size_priority.specs.Columns.{from_column, from_side};
+ghost use Rattle.tabled_size_priority.specs.Growing.{IsGrownByNarrowest, IsGrownByWidest, IsGrownFromSide, IsGrownInTurns, grown_to_level};
+ghost use Rattle.tabled_size_priority.specs.Levels.{AreAtLeast, AreAtMost, CouldBeGrown, CouldBeShrunk, IsGreatestLevel, IsLeastLevel};
+ghost use Rattle.tabled_size_priority.specs.Shrinking.{IsOfForm, IsShrunkByNarrowest, IsShrunkByWidest, IsShrunkFromSide, IsShrunkInTurns, shrunk_sum, shrunk_to_level};
+
+/// Shrunk lists that were worked out by hand: in turns, from a side, by the widest and the narrowest, with
+/// ties to both sides; one too large to be taken column by column; missing leasts; more asked than there
+/// is; a least above its width; no columns.
+pub fn worked_shrinks()
+    ensures turns { IsShrunkInTurns 0 (2 ∷ 2 ∷ 2 ∷ []) 8 (6 ∷ 7 ∷ 6 ∷ []) (3 ∷ 4 ∷ 4 ∷ []) }
+    ensures turns_from_the_last { IsShrunkInTurns 2 (0 ∷ 0 ∷ 0 ∷ []) 2 (1 ∷ 1 ∷ 1 ∷ []) (0 ∷ 1 ∷ 0 ∷ []) }
+    ensures left { IsShrunkFromSide false (2 ∷ 2 ∷ 2 ∷ []) 8 (6 ∷ 7 ∷ 6 ∷ []) (2 ∷ 3 ∷ 6 ∷ []) }
+    ensures right { IsShrunkFromSide true (2 ∷ 2 ∷ 2 ∷ []) 8 (6 ∷ 7 ∷ 6 ∷ []) (6 ∷ 3 ∷ 2 ∷ []) }
+    ensures widest { IsShrunkByWidest true (2 ∷ 2 ∷ 2 ∷ []) 8 (6 ∷ 7 ∷ 6 ∷ []) (4 ∷ 4 ∷ 3 ∷ []) }
+    ensures narrowest_left { IsShrunkByNarrowest false (0 ∷ 0 ∷ []) 1 (6 ∷ 6 ∷ []) (5 ∷ 6 ∷ []) }
+    ensures narrowest_right { IsShrunkByNarrowest true (0 ∷ 0 ∷ []) 1 (6 ∷ 6 ∷ []) (6 ∷ 5 ∷ []) }
+    ensures large { IsShrunkByWidest false (0 ∷ 5 ∷ []) (2 ^ 61) (2 ^ 62 ∷ 5 ∷ []) (2 ^ 61 ∷ 5 ∷ []) }
+    ensures missing { IsShrunkFromSide false [] 3 (2 ∷ 2 ∷ []) (0 ∷ 1 ∷ []) }
+    ensures too_much { IsShrunkByWidest false (1 ∷ 1 ∷ []) 9 (3 ∷ 1 ∷ []) (1 ∷ 1 ∷ []) }
+    ensures above { IsShrunkByNarrowest false (4 ∷ 0 ∷ []) 2 (3 ∷ 3 ∷ []) (3 ∷ 1 ∷ []) }
+    ensures none { IsShrunkInTurns 0 [] 3 [] [] }
+{}
+
+/// Grown lists that were worked out by hand: large ones, by the narrowest and in turns; the narrowest is 0;
+/// all are 0; no columns.
+pub fn worked_growths()
+    ensures narrowest { IsGrownByNarrowest false (2 ^ 40) (1 ∷ 3 ∷ []) ((2 ^ 39 + 2) ∷ (2 ^ 39 + 2) ∷ []) }
+    ensures narrowest_right { IsGrownByNarrowest true 2 (1 ∷ 1 ∷ 1 ∷ []) (1 ∷ 2 ∷ 2 ∷ []) }
+    ensures turns { IsGrownInTurns 0 (2 ^ 40 + 1) (1 ∷ 0 ∷ 1 ∷ []) ((2 ^ 39 + 2) ∷ 0 ∷ (2 ^ 39 + 1) ∷ []) }
+    ensures nothing { IsGrownByNarrowest false 4 (0 ∷ 3 ∷ []) (0 ∷ 3 ∷ []) }
+    ensures zeros { IsGrownInTurns 0 4 (0 ∷ 0 ∷ []) (0 ∷ 0 ∷ []) }
+    ensures none { IsGrownByNarrowest true 4 [] [] }
+{}
+
+/// There is one list that widths shrink to.
+pub fn one_shrunk_list()
+    ensures side { (right : Bool) (least : List ℕ) (by : ℕ) (widths xs ys : List ℕ) →
+        IsShrunkFromSide right least by widths xs → IsShrunkFromSide right least by widths ys → xs ≡ ys }
+    ensures narrowest { (right : Bool) (least : List ℕ) (by : ℕ) (widths xs ys : List ℕ) →
+        IsShrunkByNarrowest right least by widths xs → IsShrunkByNarrowest right least by widths ys → xs ≡ ys }
+    ensures widest { (right : Bool) (least : List ℕ) (by : ℕ) (widths xs ys : List ℕ) →
+        IsShrunkByWidest right least by widths xs → IsShrunkByWidest right least by widths ys → xs ≡ ys }
+    ensures turns { (start : ℕ) (least : List ℕ) (by : ℕ) (widths xs ys : List ℕ) →
+        IsShrunkInTurns start least by widths xs → IsShrunkInTurns start least by widths ys → xs ≡ ys }
+{}
+
+/// There is one list that widths grow to.
+pub fn one_grown_list()
+    ensures side { (right : Bool) (by : ℕ) (widths xs ys : List ℕ) →
+        IsGrownFromSide right by widths xs → IsGrownFromSide right by widths ys → xs ≡ ys }
+    ensures narrowest { (right : Bool) (by : ℕ) (widths xs ys : List ℕ) →
+        IsGrownByNarrowest right by widths xs → IsGrownByNarrowest right by widths ys → xs ≡ ys }
+    ensures widest { (right : Bool) (by : ℕ) (widths xs ys : List ℕ) →
+        IsGrownByWidest right by widths xs → IsGrownByWidest right by widths ys → xs ≡ ys }
+    ensures turns { (start by : ℕ) (widths xs ys : List ℕ) →
+        IsGrownInTurns start by widths xs → IsGrownInTurns start by widths ys → xs ≡ ys }
+{}
+
+/// The widest first cuts to the least level at which enough is left, and then takes one more from the
+/// first columns at that level; the narrowest first raises to the greatest level for which there is enough,
+/// and then gives one more to the first columns at that level.
+pub fn levels_are_named()
+    ensures least { (right : Bool) (least : List ℕ) (by : ℕ) (widths sizes : List ℕ) (level : ℕ) →
+        IsShrunkByWidest right least by widths sizes → IsLeastLevel least widths (shrunk_sum least widths by) level →
+        (c : ℕ) × (sizes ≡ shrunk_to_level (from_side right (length widths)) least widths level c) }
+    ensures greatest { (right : Bool) (widths : List ℕ) (total : ℕ) (sizes : List ℕ) (level : ℕ) →
+        IsOfForm (grown_to_level (from_side right (length widths)) widths) total sizes → IsGreatestLevel widths total level →
+        (c : ℕ) × (sizes ≡ grown_to_level (from_side right (length widths)) widths level c) }
+{}
+
+/// The widest first leaves the least greatest width: each bound of the widths of another list between the
+/// floors and the widths, with the same sum, bounds what is left.
+pub fn widest_first_is_best()
+    ensures { (right : Bool) (least : List ℕ) (by : ℕ) (widths sizes others : List ℕ) (most : ℕ) →
+        IsShrunkByWidest right least by widths sizes → CouldBeShrunk least widths sizes others → AreAtMost others most → AreAtMost sizes most }
+{}
+
+/// The narrowest first gives the greatest least width, where there are columns and none is 0: what each
+/// width of another list at or above the widths, with the same sum, reaches is reached by all.
+pub fn narrowest_first_is_best()
+    ensures { (right : Bool) (by : ℕ) (widths sizes others : List ℕ) (fewest : ℕ) →
+        AreAtLeast widths 1 → IsGrownByNarrowest right by widths sizes → CouldBeGrown widths sizes others → AreAtLeast others fewest → AreAtLeast sizes fewest }
+{}

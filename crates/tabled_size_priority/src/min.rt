@@ -1,0 +1,82 @@
+//! The narrowest first.
+ghost use Rattle.std.specs.Prelude.{◌≡◌, Bool, true, false};
+
+use crate::peaker::Peaker;
+use crate::search::least_at;
+use std::marker::Model;
+
+/// The narrowest column that can give or get; of equally narrow ones the leftmost, or the rightmost. It keeps
+/// no state but that side.
+#[derive(Clone, Copy, Debug, Default, PartialEq, Eq, PartialOrd, Ord, Hash)]
+pub struct PriorityMin {
+    right: bool,
+}
+
+impl Model for PriorityMin {
+    ghost Value = { Bool };
+
+    ghost view = { λ p. p.right };
+
+    ghost inverse = { λ right. record { right = right } };
+}
+
+impl PriorityMin {
+    /// The priority of the narrowest; of equally narrow columns the rightmost goes first where `right` holds,
+    /// else the leftmost.
+    pub const fn new(right: bool) -> PriorityMin
+        ensures { result ≡ right }
+    {
+        PriorityMin { right }
+    }
+
+    /// The priority of the narrowest, of equally narrow columns the leftmost.
+    pub const fn left() -> PriorityMin
+        ensures { result ≡ false }
+    {
+        PriorityMin::new(false)
+    }
+
+    /// The priority of the narrowest, of equally narrow columns the rightmost.
+    pub const fn right() -> PriorityMin
+        ensures { result ≡ true }
+    {
+        PriorityMin::new(true)
+    }
+}
+
+impl Peaker for PriorityMin {
+    ghost use Rattle.tabled_size_priority.specs.Growing.{IsGrownByNarrowest};
+    ghost use Rattle.tabled_size_priority.specs.Laws.Order.{narrowest_shrunk};
+    ghost use Rattle.tabled_size_priority.specs.Laws.Raising.{narrowest_grown};
+    ghost use Rattle.tabled_size_priority.specs.Peaks.{narrowest_peaks};
+    ghost use Rattle.tabled_size_priority.specs.Shrinking.{IsShrunkByNarrowest};
+
+    ghost peaks = { narrowest_peaks };
+
+    ghost shrinks = { λ right least by widths after sizes. IsShrunkByNarrowest right least by widths sizes × (after ≡ right) };
+
+    ghost grows = { λ right by widths after sizes. IsGrownByNarrowest right by widths sizes × (after ≡ right) };
+
+    ghost answers_shrink = { narrowest_shrunk };
+
+    ghost answers_grow = { narrowest_grown };
+
+    fn peak(&mut self, mins: &[usize], values: &[usize]) -> Option<usize> {
+        // without leasts the narrowest of all is asked for, and none where it is 0
+        if mins.is_empty() && values.contains(&0) {
+            return None;
+        }
+        let mut best: Option<usize> = None;
+        for column in 0..values.len() {
+            let goes_first = match best {
+                None => true,
+                Some(first) if self.right => values[column] <= values[first],
+                Some(first) => values[column] < values[first],
+            };
+            if goes_first && values[column] > least_at(mins, column) {
+                best = Some(column);
+            }
+        }
+        best
+    }
+}

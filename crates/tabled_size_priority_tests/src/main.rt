@@ -1,0 +1,19 @@
+//! Runs the priorities of `tabled_size_priority` on worked rows, on lists of up to three small widths, and on
+//! priorities of its own, and prints what they answer. What it must print is written by
+//! `tests/priorities/expected`, which computes the closed forms.
+#![tactic(auto)]
+
+mod foreign;
+mod rows;
+mod states;
+mod sums;
+mod sweep;
+
+use std::io;
+
+fn main(rt: HostRuntime) -> io::Result<()> {
+    rows::print_rows(&rt)?;
+    foreign::print_foreign(&rt)?;
+    states::print_states(&rt)?;
+    sweep::print_sweep(&rt)
+}
