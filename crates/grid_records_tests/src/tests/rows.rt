@@ -86,21 +86,26 @@ fn rows_of(alloc: Global, rows: &[&[&'static str]]) -> Result<Vec<Row>, AllocErr
 
 // ---- sources
 
-const PAIRS: [[&str; 2]; 3] = [["a", "b"], ["c", "d"], ["e", "f"]];
-
 fn expect_rows(rt: &impl Abort, alloc: Global) -> Result<(), AllocError> {
     let rows = rows_of(alloc, &[&["a", "b"], &["c"]])?;
     expect_source(rt, alloc, rows.as_slice(), "a|b|\nc|\n")?;
     expect_source(rt, alloc, rows, "a|b|\nc|\n")
 }
 
+const PAIRS: &str = "a|b|\nc|d|\ne|f|\n";
+
+fn expect_arrays(rt: &impl Abort, alloc: Global) -> Result<(), AllocError> {
+    expect_source(rt, alloc, [["a", "b"], ["c", "d"], ["e", "f"]], PAIRS)
+}
+
 fn expect_limited(rt: &impl Abort, alloc: Global) -> Result<(), AllocError> {
-    expect_source(rt, alloc, PAIRS, "a|b|\nc|d|\ne|f|\n")?;
-    expect_source(rt, alloc, LimitRows::new(PAIRS, 2), "a|b|\nc|d|\n")?;
-    expect_source(rt, alloc, LimitRows::new(PAIRS, 0), "")?;
-    expect_source(rt, alloc, LimitColumns::new(PAIRS, 1), "a|\nc|\ne|\n")?;
-    expect_source(rt, alloc, SkipRows::new(PAIRS, 1), "c|d|\ne|f|\n")?;
-    let limited = LimitColumns::new(PAIRS, 9);
+    let rows = rows_of(alloc, &[&["a", "b"], &["c", "d"], &["e", "f"]])?;
+    let rows = rows.as_slice();
+    expect_source(rt, alloc, LimitRows::new(rows, 2), "a|b|\nc|d|\n")?;
+    expect_source(rt, alloc, LimitRows::new(rows, 0), "")?;
+    expect_source(rt, alloc, LimitColumns::new(rows, 1), "a|\nc|\ne|\n")?;
+    expect_source(rt, alloc, SkipRows::new(rows, 1), "c|d|\ne|f|\n")?;
+    let limited = LimitColumns::new(rows, 9);
     expect_source(rt, alloc, SkipRows::new(limited, 3), "")
 }
 
@@ -136,6 +141,7 @@ fn expect_cut(rt: &impl Abort, alloc: Global) -> Result<(), AllocError> {
 #[test]
 fn gives_the_rows_of_sources(rt: HostRuntime) -> Result<(), Fail> {
     expect_rows(&rt, rt.alloc())?;
+    expect_arrays(&rt, rt.alloc())?;
     expect_limited(&rt, rt.alloc())?;
     expect_cut(&rt, rt.alloc())?;
     Ok(())
