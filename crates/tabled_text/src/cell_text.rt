@@ -1,7 +1,7 @@
 //! The text of a single value.
 ghost use Rattle.std.specs.Prelude.{◌≡◌, ℕ, Bool, true, false, List, IfOk, IfSome, IsOk, decimal, encode_utf8, string_bytes};
 ghost use Rattle.std.specs.Fmt.{signed_decimal};
-ghost use Rattle.std.specs.Cow.{IsOwnedStr, cow_str_bytes};
+ghost use Rattle.std.specs.Cow.{IsBorrowedStr, cow_str_bytes};
 ghost use Rattle.tabled_text.specs.Fields.{bool_text};
 
 use std::alloc::{AllocError, Global};
@@ -20,7 +20,7 @@ pub trait CellText {
     fn cell_text(&self, alloc: Global) -> Result<CowStr<'_>, AllocError>
         ensures text { IfOk result (λ out. cow_str_bytes out ≡ text self.now) }
         ensures answers { is_there ≡ true → IsOk result }
-        ensures borrows { IfOk result (λ out. is_there ≡ true → ¬ (IsOwnedStr out)) };
+        ensures borrows { IfOk result (λ out. is_there ≡ true → IsBorrowedStr out) };
 }
 
 /// What `Display` prints.

@@ -1,6 +1,7 @@
 //! Values of one field, which bears the name of their type.
-ghost use Rattle.std.specs.Prelude.{◌≡◌, [], ◌∷◌, IfOk, codes, decimal, encode_utf8, string_bytes, vec_len};
+ghost use Rattle.std.specs.Prelude.{All, true, ◌≡◌, [], ◌∷◌, IfOk, codes, decimal, encode_utf8, string_bytes, vec_len};
 ghost use Rattle.std.specs.Fmt.{signed_decimal};
+ghost use Rattle.std.specs.Cow.{IsBorrowedStr};
 ghost use Rattle.tabled_text.specs.Fields.{bool_text, texts_of};
 
 use crate::cell_text::CellText;
@@ -12,6 +13,7 @@ use std::borrow::CowStr;
 fn one_field<'a, T: CellText>(alloc: Global, value: &'a T) -> Result<Vec<CowStr<'a>>, AllocError>
     ensures texts { IfOk result (λ out. texts_of out.items ≡ T.text value.now ∷ []) }
     ensures count { IfOk result (λ out. vec_len out ≡ 1) }
+    ensures borrows { IfOk result (λ out. T.is_there ≡ true → All IsBorrowedStr out.items) }
 {
     one_text(alloc, value.cell_text(alloc)?)
 }
@@ -45,7 +47,12 @@ impl<'a> Tabled for &'a str {
         1
     }
 
-    fn fields(&self, alloc: Global) -> Result<Vec<CowStr<'_>>, AllocError> {
+    /// A borrow of the text.
+    fn fields(&self, alloc: Global) -> Result<Vec<CowStr<'_>>, AllocError>
+        ensures texts { IfOk result (λ out. texts_of out.items ≡ self.now.now ∷ []) }
+        ensures count { IfOk result (λ out. vec_len out ≡ 1) }
+        ensures borrows { IfOk result (λ out. All IsBorrowedStr out.items) }
+    {
         one_field(alloc, self)
     }
 
@@ -66,7 +73,12 @@ impl Tabled for String {
         1
     }
 
-    fn fields(&self, alloc: Global) -> Result<Vec<CowStr<'_>>, AllocError> {
+    /// A borrow of the text.
+    fn fields(&self, alloc: Global) -> Result<Vec<CowStr<'_>>, AllocError>
+        ensures texts { IfOk result (λ out. texts_of out.items ≡ string_bytes self.now ∷ []) }
+        ensures count { IfOk result (λ out. vec_len out ≡ 1) }
+        ensures borrows { IfOk result (λ out. All IsBorrowedStr out.items) }
+    {
         one_field(alloc, self)
     }
 
