@@ -1,0 +1,2 @@
+pub mod Longest
+pub mod Numbers
