@@ -8,6 +8,4 @@ mod lines;
 pub mod records;
 
 pub use dimension::Dimension;
-pub use records::{
-    Cell, ExactRecords, IntoRecords, PeekableRecords, RecordTexts, Records,
-};
+pub use records::{Cell, ExactRecords, IntoRecords, PeekableRecords, RecordTexts, Records};

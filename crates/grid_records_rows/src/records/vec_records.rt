@@ -8,8 +8,8 @@ pub mod text;
 use crate::records::into_records::{GivenRows, IntoRecords};
 use crate::records::{ExactRecords, PeekableRecords, RecordTexts, Records, RecordsMut};
 use grid_config_values::Position;
-pub use grid_records_traits::records::cell;
 pub use grid_records_traits::Cell;
+pub use grid_records_traits::records::cell;
 use std::{slice, vec};
 pub use text::{FromText, Text};
 

@@ -10,9 +10,9 @@ ghost use Rattle.grid_records_traits.specs.Laws.Sources.{all_items};
 
 use crate::records::RecordTexts;
 use crate::records::into_records::IntoRecords;
-use grid_records_traits::records::into_records::given::{GivenCells, GivenRows};
 use crate::records::vec_records::Cell;
 use either::{Either, Left, Right};
+use grid_records_traits::records::into_records::given::{GivenCells, GivenRows};
 use std::alloc::{AllocError, Global};
 use std::vec;
 

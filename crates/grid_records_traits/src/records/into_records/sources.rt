@@ -9,9 +9,9 @@ ghost use Rattle.grid_records_traits.specs.Laws.Leaving.{passed_item};
 ghost use Rattle.grid_records_traits.specs.Laws.Sources.{all_items};
 
 use crate::records::RecordTexts;
+use crate::records::cell::Cell;
 use crate::records::into_records::IntoRecords;
 use crate::records::into_records::given::{GivenCells, GivenRows};
-use crate::records::cell::Cell;
 use std::{array, slice, vec};
 
 impl<'a, T: Cell> RecordTexts for &'a [Vec<T>] {
