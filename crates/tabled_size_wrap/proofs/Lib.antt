@@ -1,0 +1,6 @@
+pub mod UnitLemmas
+pub mod RunLemmas
+pub mod LongestLemmas
+pub mod StandingLemmas
+pub mod WalkLemmas
+pub mod WrapLemmas
