@@ -14,7 +14,8 @@ use Rattle.tabled_size_wrap.specs.Units.{line_units}
 use Rattle.tabled_size_wrap.specs.Wrapping.{line_part, replacement_bytes, shown_lines, AreBrokenLines, IsWrapped}
 use Rattle.tabled_size_wrap.specs.Runs.{runs_of, broken_lines}
 use Rattle.tabled_size_wrap.proofs.RunLemmas.{some-runs, some-shown, join-cons}
-use Rattle.tabled_size_wrap.proofs.LongestLemmas.{runs-are}
+use Rattle.tabled_size_wrap.proofs.LongestLemmas.{runs-are, runs-one}
+use Rattle.grid_records_measure.proofs.LineLemmas.{lines-there, lines-unique}
 
 pub no-bytes : (bytes : List ℕ) → length bytes ≡ 0 → bytes ≡ []
 no-bytes [] none = refl
@@ -104,3 +105,36 @@ pub next-line : {E Z : Type 0} (old new : PartsLeft) (answer : Result (CowStr Z)
 next-line {E} {Z} old new answer part gives was =
     let step = subst (λ v. GivesPart {E = E} {Z = Z} old (Some v) new) was gives in
     step.1.0
+
+-- ---- there is one text
+
+pub wrapped-there : (width : ℕ) (keep_words : Bool) (ps : List Piece) → (bytes : List ℕ) × IsWrapped width keep_words ps bytes
+wrapped-there zero keep_words ps = ([], refl)
+wrapped-there (suc n) keep_words ps =
+    let found = lines-there ps in (
+      join_with_byte line_feed (flat_map (broken (suc n) keep_words) found.0),
+      is-wrapped (suc n) keep_words ps (join_with_byte line_feed (flat_map (broken (suc n) keep_words) found.0)) found.0 (omega arith) found.1 refl,
+    )
+
+broken-one : (width : ℕ) (keep_words : Bool) (line : List Piece) (lines others : List (List ℕ)) → AreBrokenLines width keep_words line lines → AreBrokenLines width keep_words line others → lines ≡ others
+broken-one width keep_words line lines others a b =
+    let same = runs-one width (line_units width keep_words (chars (strip line))) a.0 b.0 a.1 b.1 in
+    a.2 ∙ ap (shown_lines (line_part line) replacement_bytes width 0) same ∙ sym b.2
+
+all-one : (width : ℕ) (keep_words : Bool) (lines : List (List ℕ)) (xs ys : List (List (List ℕ))) → AllZip (λ line others. AreBrokenLines width keep_words (pieces line) others) lines xs
+    → AllZip (λ line others. AreBrokenLines width keep_words (pieces line) others) lines ys → xs ≡ ys
+all-one width keep_words [] [] [] a b = refl
+all-one width keep_words [] [] (y ∷ ys) a b = absurd b
+all-one width keep_words [] (x ∷ xs) ys a b = absurd a
+all-one width keep_words (line ∷ lines) [] ys a b = absurd a
+all-one width keep_words (line ∷ lines) (x ∷ xs) [] a b = absurd b
+all-one width keep_words (line ∷ lines) (x ∷ xs) (y ∷ ys) a b =
+    ap (λ (first : List (List ℕ)). first ∷ xs) (broken-one width keep_words (pieces line) x y a.0 b.0)
+    ∙ ap (λ (rest : List (List (List ℕ))). y ∷ rest) (all-one width keep_words lines xs ys a.1 b.1)
+
+pub wrapped-one : (width : ℕ) (keep_words : Bool) (ps : List Piece) (bytes others : List ℕ) → IsWrapped width keep_words ps bytes → IsWrapped width keep_words ps others → bytes ≡ others
+wrapped-one zero keep_words ps bytes others a b = a ∙ sym b
+wrapped-one (suc n) keep_words ps bytes others a b =
+    let lines = lines-unique ps a.0 b.0 a.2 b.2 in
+    let here = subst (λ ls. AllZip (λ line found. AreBrokenLines (suc n) keep_words (pieces line) found) ls a.1) lines a.3 in
+    a.4 ∙ ap (λ (found : List (List (List ℕ))). join_with_byte line_feed (flat_map (λ ls. ls) found)) (all-one (suc n) keep_words b.0 a.1 b.1 here b.3) ∙ sym b.4

@@ -3,6 +3,7 @@
 
 mod broken_lines;
 mod cut;
+pub mod laws;
 mod line_units;
 mod words;
 mod wrap;

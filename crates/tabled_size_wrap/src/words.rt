@@ -21,8 +21,9 @@ pub(crate) fn split_character(text: &str) -> Option<(char, &str)>
     ensures { MatchOption result ((text.now ≡ []) × (chars text.now ≡ [])) (λ found.
         (text.now ≡ encode_utf8 found.0 ++ found.1.now) × (chars text.now ≡ found.0 ∷ chars found.1.now)) }
 {
-    let c = text.chars().next()?;
-    Some((c, &text[c.len_utf8()..]))
+    let mut characters = text.chars();
+    let c = characters.next()?;
+    Some((c, characters.as_str()))
 }
 
 // How many bytes stand before the first space.
