@@ -1,0 +1,9 @@
+-- The lemmas of `FewestLemmas`.
+use Rattle.tabled_size_wrap.proofs.FewestLemmas.{fewest, is-breaking}
+use Rattle.tabled_size_wrap.proofs.laws.fewest_runs.Goals as goal
+
+pub returns-clause-joined : goal.returns-clause-joined
+returns-clause-joined c = λ width units runs some are. is-breaking width units runs are
+
+pub returns-clause-fewest : goal.returns-clause-fewest
+returns-clause-fewest c = fewest

@@ -1,0 +1,38 @@
+-- The runs as a function of the units, and the text that is wrapped: one that meets the relations of `Breaking` and `Wrapping`.
+use Rattle.std.specs.Prelude.{ℕ, zero, suc, ◌+◌, nat_le, nat_lt, Bool, List, [], ◌∷◌, flat_map, chars, if◌then◌else◌}
+use Rattle.std.specs.List.{join_with_byte, onto_first}
+use Rattle.ansi_scan.specs.Sequences.{Piece}
+use Rattle.ansi_scan.specs.Pieces.{pieces as pieces_of}
+use Rattle.ansi_str.specs.StyledText.{strip}
+use Rattle.grid_records_measure.specs.TextLines.{line_feed}
+use Rattle.tabled_size_wrap.specs.Units.{LineUnit, line_units}
+use Rattle.tabled_size_wrap.specs.Wrapping.{line_part, replacement_bytes, shown_lines}
+
+-- a run that has taken so many columns has room for the unit; for one that costs more than the width, where a column is left
+abbrev pub has_room : ℕ → ℕ → LineUnit → Bool
+has_room width used unit = if nat_le unit.cost width then nat_le (used + unit.cost) width else nat_lt used width
+
+-- the columns that are taken behind it; a unit that costs more than the width takes all that are left
+abbrev pub used_behind : ℕ → ℕ → LineUnit → ℕ
+used_behind width used unit = if nat_le unit.cost width then used + unit.cost else width
+
+-- the runs, of which the first has taken so many columns
+abbrev pub runs_from : ℕ → ℕ → List LineUnit → List (List LineUnit)
+runs_from width used [] = [] ∷ []
+runs_from width used (unit ∷ units) =
+    if has_room width used unit then onto_first unit (runs_from width (used_behind width used unit) units)
+    else [] ∷ onto_first unit (runs_from width (used_behind width 0 unit) units)
+
+abbrev pub runs_of : ℕ → List LineUnit → List (List LineUnit)
+runs_of width units = runs_from width 0 units
+
+-- the lines that a line is broken into
+abbrev pub broken_lines : ℕ → Bool → List Piece → List (List ℕ)
+broken_lines width keep_words pieces =
+    shown_lines (line_part pieces) replacement_bytes width 0 (runs_of width (line_units width keep_words (chars (strip pieces))))
+
+-- lines wrapped at a width
+abbrev pub wrapped : ℕ → Bool → List (List ℕ) → List ℕ
+wrapped zero keep_words lines = []
+wrapped (suc n) keep_words lines =
+    join_with_byte line_feed (flat_map (λ line. broken_lines (suc n) keep_words (pieces_of line)) lines)

@@ -1,0 +1,71 @@
+-- A text that is wrapped: the lines that its lines are broken into, with their styles.
+use Rattle.std.specs.Prelude.{◌≡◌, ℕ, zero, suc, ◌+◌, ◌-◌, ◌==◌, ◌&&◌, nat_le, nat_lt, Bool, List, [], ◌∷◌, ◌++◌, length, take, drop, flat_map, chars, encode_utf8_all, if◌then◌else◌}
+use Rattle.std.specs.List.{AllZip, join_with_byte, prefix_len, repeat, sum_by}
+use Rattle.ansi_scan.specs.Sequences.{Piece}
+use Rattle.ansi_scan.specs.Pieces.{pieces as pieces_of}
+use Rattle.ansi_str.specs.StyledText.{strip}
+use Rattle.ansi_str.specs.Cuts.{cut_part, later_part}
+use Rattle.grid_records_measure.specs.Cutting.{replacement}
+use Rattle.grid_records_measure.specs.TextLines.{AreLinesOf, line_feed}
+use Rattle.tabled_size_wrap.specs.Units.{LineUnit, line_units, unit_len}
+use Rattle.tabled_size_wrap.specs.Breaking.{AreRunsOf, run_cost}
+
+-- ---- what a run shows, where `part a b` is what the line shows from place a to place b, and `mark` stands in each column that a
+-- unit takes which costs more than the width
+
+abbrev pub run_len : List LineUnit → ℕ
+run_len run = sum_by unit_len run
+
+abbrev pub is_narrow : ℕ → LineUnit → Bool
+is_narrow width unit = nat_le unit.cost width
+
+-- the units before the first that costs more than the width, and those from it on
+abbrev pub narrow_front : ℕ → List LineUnit → List LineUnit
+narrow_front width run = take (prefix_len (is_narrow width) run) run
+
+abbrev pub from_wide : ℕ → List LineUnit → List LineUnit
+from_wide width run = drop (prefix_len (is_narrow width) run) run
+
+-- narrow units, and those from a wide one on, which begin here: the part of the first; the columns that they leave, marked in
+-- the place of the wide one; and the part of what stands behind it
+abbrev pub shown_run : {X : Type 0} → (ℕ → ℕ → List X) → List X → ℕ → ℕ → List LineUnit → List LineUnit → List X
+shown_run part mark width place front [] = part place (place + run_len front)
+shown_run part mark width place front (wide ∷ behind) =
+    let from = place + run_len front in
+    let to = from + unit_len wide in
+    part place from ++ (repeat (width - run_cost front) mark ++ part to (to + run_len behind))
+
+-- the lines of runs one behind another, of which the first begins here
+abbrev pub shown_lines : {X : Type 0} → (ℕ → ℕ → List X) → List X → ℕ → ℕ → List (List LineUnit) → List (List X)
+shown_lines part mark width place [] = []
+shown_lines part mark width place (run ∷ runs) =
+    shown_run part mark width place (narrow_front width run) (from_wide width run)
+    ∷ shown_lines part mark width (place + run_len run) runs
+
+-- ---- in bytes
+
+-- the part of a line from one place to another, of a split at places. Where the line has text no part is without: a place at
+-- its front or its end is none
+abbrev pub line_part : List Piece → ℕ → ℕ → List ℕ
+line_part pieces a b =
+    if a == b && nat_lt 0 (length (strip pieces)) then []
+    else if a == 0 then cut_part 0 b pieces
+    else later_part a b pieces
+
+-- U+FFFD REPLACEMENT CHARACTER, without style
+abbrev pub replacement_bytes : List ℕ
+replacement_bytes = encode_utf8_all (replacement ∷ [])
+
+-- the lines that a line is broken into at a width of at least 1
+abbrev pub AreBrokenLines : ℕ → Bool → List Piece → List (List ℕ) → Type 0
+AreBrokenLines width keep_words pieces lines =
+    (runs : List (List LineUnit)) × AreRunsOf width (line_units width keep_words (chars (strip pieces))) runs
+    × (lines ≡ shown_lines (line_part pieces) replacement_bytes width 0 runs)
+
+-- a text wrapped at a width: nothing at 0; else each of its lines is broken by itself
+abbrev pub IsWrapped : ℕ → Bool → List Piece → List ℕ → Type 0
+IsWrapped zero keep_words pieces bytes = bytes ≡ []
+IsWrapped (suc n) keep_words pieces bytes =
+    (lines : List (List ℕ)) × (broken : List (List (List ℕ))) × AreLinesOf pieces lines
+    × AllZip (λ line others. AreBrokenLines (suc n) keep_words (pieces_of line) others) lines broken
+    × (bytes ≡ join_with_byte line_feed (flat_map (λ others. others) broken))

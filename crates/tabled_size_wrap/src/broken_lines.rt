@@ -1,0 +1,148 @@
+//! A line that is broken, part by part.
+ghost use Rattle.std.specs.Prelude.{◌≡◌, ◌<◌, ◌≤◌, ◌+◌, ◌++◌, ℕ, List, [], OnOk, length, nat_le, nat_lt, if◌then◌else◌, string_bytes};
+ghost use Rattle.std.specs.List.{join_with_byte, repeat};
+ghost use Rattle.std.specs.Str.{IsCharBoundary};
+ghost use Rattle.ansi_scan.specs.Sequences.{Piece};
+ghost use Rattle.ansi_scan.specs.Pieces.{pieces};
+ghost use Rattle.ansi_str.specs.StyledText.{strip, style_after_all};
+ghost use Rattle.ansi_str.specs.Parts.{dressed, from_place, through_place};
+ghost use Rattle.ansi_str.specs.Walking.{from_text};
+ghost use Rattle.grid_records_measure.specs.TextLines.{line_feed};
+ghost use Rattle.tabled_size_wrap.specs.Wrapping.{line_part, replacement_bytes};
+ghost use Rattle.tabled_size_wrap.specs.Runs.{broken_lines};
+ghost use Rattle.tabled_size_wrap.specs.Standing.{StandsAt};
+
+use crate::line_units::LineUnits;
+use ansi_str::AnsiStr;
+use ansi_str_search::Place;
+use std::alloc::{AllocError, Global};
+
+/// Appends the lines that a line is broken into, with a line feed between each two.
+pub(crate) fn push_broken_lines(
+    alloc: Global,
+    out: &mut String,
+    line: &str,
+    width: usize,
+    keep_words: bool,
+) -> Result<(), AllocError>
+    requires { 0 < width }
+    ensures { OnOk result (string_bytes out.new ≡ string_bytes out.old ++ join_with_byte line_feed (broken_lines width keep_words (pieces line.now))) }
+{
+    let stripped = line.ansi_strip(alloc)?;
+    if stripped.is_empty() {
+        return push_nothing(alloc, out, line);
+    }
+    push_runs(alloc, out, line, &stripped, width, keep_words)
+}
+
+// The same of a line that shows some text, which this is.
+fn push_runs(
+    alloc: Global,
+    out: &mut String,
+    line: &str,
+    stripped: &str,
+    width: usize,
+    keep_words: bool,
+) -> Result<(), AllocError>
+    requires some_width { 0 < width }
+    requires shown { stripped.now ≡ strip (pieces line.now) }
+    requires some_text { 0 < length stripped.now }
+    ensures { OnOk result (string_bytes out.new ≡ string_bytes out.old ++ join_with_byte line_feed (broken_lines width keep_words (pieces line.now))) }
+{
+    let mut place = Place::start_of(line);
+    // the bytes behind the place that this line of the answer keeps, and the columns that it has taken
+    let mut kept = 0;
+    let mut used = 0;
+    for unit in LineUnits::new(stripped, width, keep_words) {
+        let len = unit.end - unit.start;
+        if !has_room(unit.cost, used, width) {
+            push_part(alloc, out, &mut place, kept)?;
+            out.push('\n')?;
+            kept = 0;
+            used = 0;
+        }
+        if unit.cost <= width {
+            kept += len;
+            used += unit.cost;
+        } else {
+            push_part(alloc, out, &mut place, kept)?;
+            place = place.through(len);
+            push_replacements(out, width - used)?;
+            kept = 0;
+            used = width;
+        }
+    }
+    push_part(alloc, out, &mut place, kept)
+}
+
+// Whether a line that has taken so many columns has room for a unit; for one that costs more than the
+// width, where a column is left.
+fn has_room(cost: usize, used: usize, width: usize) -> bool
+    requires { used ≤ width }
+    ensures { result ≡ if nat_le cost width then nat_le (used + cost) width else nat_lt used width }
+{
+    if cost <= width {
+        cost <= width - used
+    } else {
+        used < width
+    }
+}
+
+// Appends a line that shows no text.
+fn push_nothing(alloc: Global, out: &mut String, line: &str) -> Result<(), AllocError>
+    requires { strip (pieces line.now) ≡ [] }
+    ensures { OnOk result (string_bytes out.new ≡ string_bytes out.old ++ line_part (pieces line.now) 0 0) }
+{
+    let mut place = Place::start_of(line);
+    push_slice(alloc, out, &mut place, 0)
+}
+
+// Appends the part of a line from a place on, and goes to the place behind it. Of a line that shows some
+// text no bytes are no part.
+fn push_part<'a>(
+    alloc: Global,
+    out: &mut String,
+    place: &mut Place<'a>,
+    len: usize,
+) -> Result<(), AllocError>
+    requires { len < length (strip (pieces place.old.rest.now)) → IsCharBoundary (strip (pieces place.old.rest.now)) len }
+    ensures pushes { OnOk result ((line : List Piece) (at : ℕ) → StandsAt line at place.old.rest.now place.old.style →
+        0 < length (strip line) → string_bytes out.new ≡ string_bytes out.old ++ line_part line at (at + len)) }
+    ensures stands { OnOk result ((line : List Piece) (at : ℕ) → StandsAt line at place.old.rest.now place.old.style →
+        StandsAt line (at + len) place.new.rest.now place.new.style) }
+{
+    if len == 0 {
+        return Ok(());
+    }
+    push_slice(alloc, out, place, len)
+}
+
+// Appends so many bytes of a line from a place on, with the sequences among and behind them, and goes to
+// the place behind them.
+fn push_slice<'a>(
+    alloc: Global,
+    out: &mut String,
+    place: &mut Place<'a>,
+    len: usize,
+) -> Result<(), AllocError>
+    requires { len < length (strip (pieces place.old.rest.now)) → IsCharBoundary (strip (pieces place.old.rest.now)) len }
+    ensures pushes { OnOk result (string_bytes out.new ≡ string_bytes out.old
+        ++ dressed place.old.style (through_place len (pieces place.old.rest.now))) }
+    ensures rest { OnOk result (pieces place.new.rest.now ≡ from_text (from_place len (pieces place.old.rest.now))) }
+    ensures style { OnOk result (place.new.style ≡ style_after_all place.old.style (through_place len (pieces place.old.rest.now))) }
+{
+    let end = place.through(len);
+    out.push_str(&place.part_to(alloc, &end)?)?;
+    *place = end;
+    Ok(())
+}
+
+// Appends so many replacement characters.
+fn push_replacements(out: &mut String, n: usize) -> Result<(), AllocError>
+    ensures { OnOk result (string_bytes out.new ≡ string_bytes out.old ++ repeat n replacement_bytes) }
+{
+    for _ in 0..n {
+        out.push('\u{fffd}')?;
+    }
+    Ok(())
+}

@@ -1,0 +1,21 @@
+//! The cut of a text at a width.
+ghost use Rattle.std.specs.Prelude.{List, IfOk, IsOk};
+ghost use Rattle.std.specs.Cow.{IsOwnedStr, cow_str_bytes};
+ghost use Rattle.ansi_scan.specs.Sequences.{Piece, ArePiecesOf};
+ghost use Rattle.grid_records_measure.specs.Cutting.{IsCutAt, IsPlainCut};
+
+use grid_records_measure::cut_width;
+use std::alloc::{AllocError, Global};
+use std::borrow::CowStr;
+
+/// The longest front of a text whose lines but the last cost fewer columns than the width, and whose last
+/// costs at most so many; where text is left behind it, a U+FFFD without style for each column that its
+/// last line lacks: the cut of `cut_width`. A text without ESC whose cut lacks no column is answered by a
+/// borrow, without memory; else the only refusal is for memory.
+pub fn cut_styled<'a>(alloc: Global, text: &'a str, width: usize) -> Result<CowStr<'a>, AllocError>
+    ensures cut { IfOk result (λ out. (pieces : List Piece) → ArePiecesOf text.now pieces → IsCutAt width pieces (cow_str_bytes out)) }
+    ensures answers { IsPlainCut width text.now → IsOk result }
+    ensures borrows { IfOk result (λ out. IsPlainCut width text.now → ¬ (IsOwnedStr out)) }
+{
+    cut_width(alloc, text, width)
+}

@@ -1,0 +1,13 @@
+//! Lines of styled text broken and cut at a width (ECMA-48; Unicode Standard Annex 11).
+#![tactic(auto)]
+
+mod broken_lines;
+mod cut;
+pub mod laws;
+mod line_units;
+mod words;
+mod wrap;
+
+pub use cut::cut_styled;
+pub use line_units::{Unit, units};
+pub use wrap::wrap_styled;

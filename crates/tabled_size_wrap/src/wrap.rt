@@ -1,0 +1,38 @@
+//! A text that is wrapped at a width.
+ghost use Rattle.std.specs.Prelude.{List, IfOk, string_bytes};
+ghost use Rattle.ansi_scan.specs.Sequences.{Piece, ArePiecesOf};
+ghost use Rattle.tabled_size_wrap.specs.Wrapping.{IsWrapped};
+
+use crate::broken_lines::push_broken_lines;
+use grid_records_measure::get_lines;
+use std::alloc::{AllocError, Global};
+
+/// A text with its lines broken at a width, in columns. Each line of `get_lines` is broken by itself into runs of
+/// its units (`units`), each as long as it fits: its units sum to at most the width. A unit that costs
+/// more than the width takes the columns that its run has left, or those of a new run where none is left:
+/// in each stands a U+FFFD without style, and the part of the unit is left out with its sequences. The
+/// bytes of a run are the parts of `split_places` at its ends and around such a unit, and runs are joined
+/// by line feeds. At width 0 the answer is the empty text. The only refusal is for memory.
+pub fn wrap_styled(
+    alloc: Global,
+    text: &str,
+    width: usize,
+    keep_words: bool,
+) -> Result<String, AllocError>
+    ensures { IfOk result (λ out. (pieces : List Piece) → ArePiecesOf text.now pieces → IsWrapped width keep_words pieces (string_bytes out)) }
+{
+    let mut out = String::new(alloc);
+    if width == 0 {
+        return Ok(out);
+    }
+    let mut begun = false;
+    for line in get_lines(alloc, text) {
+        let line = line?;
+        if begun {
+            out.push('\n')?;
+        }
+        begun = true;
+        push_broken_lines(alloc, &mut out, &line, width, keep_words)?;
+    }
+    Ok(out)
+}
