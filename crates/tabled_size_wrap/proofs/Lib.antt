@@ -5,6 +5,7 @@ pub mod FewestLemmas
 pub mod StandingLemmas
 pub mod WalkLemmas
 pub mod WrapLemmas
+pub mod WorkedLemmas
 pub mod ShowLemmas
 pub mod PartLemmas
 pub mod AddedLemmas

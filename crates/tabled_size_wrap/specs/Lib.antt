@@ -5,3 +5,4 @@ pub mod Wrapping
 pub mod Runs
 pub mod Standing
 pub mod Showing
+pub mod Worked

@@ -1,6 +1,6 @@
 //! Laws of the definitions that the other contracts cite.
 
-ghost use Rattle.std.specs.Prelude.{All, ◌≡◌, ◌≤◌, ◌<◌, ◌||◌, ℕ, Bool, List, chars, flat_map, length, true};
+ghost use Rattle.std.specs.Prelude.{All, ◌≡◌, ◌≤◌, ◌<◌, ◌||◌, ℕ, Bool, List, [], chars, codes, encode_utf8_all, false, flat_map, length, true};
 ghost use Rattle.std.specs.List.{join_with_byte, list_all};
 ghost use Rattle.std.specs.Str.{IsUtf8};
 ghost use Rattle.ansi_scan.specs.Sequences.{Piece, ArePiecesOf, NoneBroken};
@@ -13,6 +13,7 @@ ghost use Rattle.tabled_size_wrap.specs.Breaking.{AreRunsOf, IsBreaking};
 ghost use Rattle.tabled_size_wrap.specs.Showing.{AddsBreaks, ShowsWrapped};
 ghost use Rattle.tabled_size_wrap.specs.Runs.{runs_of};
 ghost use Rattle.tabled_size_wrap.specs.Units.{LineUnit, line_units};
+ghost use Rattle.tabled_size_wrap.specs.Worked.{CutsTo, WrapsTo};
 ghost use Rattle.tabled_size_wrap.specs.Wrapping.{IsWrapped};
 
 /// The runs that units are broken into are one list, that of the function `runs_of`: there is such a list,
@@ -72,4 +73,29 @@ pub fn wrapped_lines_fit()
         ArePiecesOf text pieces → NoneBroken pieces → IsWrapped width keep_words pieces bytes → ArePiecesOf bytes of_wrapped →
         All (λ c. own_width c ≤ width) (chars (strip pieces)) →
         list_all (λ c. is_plain_character c || is_line_feed c) (chars (strip pieces)) ≡ true → widest (shown_lines of_wrapped) ≤ width }
+{}
+
+/// Wraps worked out by hand: words are kept; a character that costs more than the width takes the columns
+/// that are left, or those of a new line; each line opens and ends its own styles; at width 0 nothing is
+/// left.
+pub fn worked_wraps()
+    ensures words { WrapsTo 4 true (codes "111 234 1") (codes "111 \n234 \n1") }
+    ensures marks { WrapsTo 1 false (encode_utf8_all (codes "😳12😳3"))
+        (encode_utf8_all (codes "�\n1\n2\n�\n3")) }
+    ensures mark_between { WrapsTo 1 false (encode_utf8_all (codes "a😳b")) (encode_utf8_all (codes "a\n�\nb")) }
+    ensures styles { WrapsTo 7 true (codes "\u{1b}[37mHello World\u{1b}[0m")
+        (codes "\u{1b}[37mHello \u{1b}[39m\n\u{1b}[37mWorld\u{1b}[0m") }
+    ensures nothing { (keep_words : Bool) (text : List ℕ) → WrapsTo 0 keep_words text [] }
+{}
+
+/// Cuts worked out by hand: sequences stay, also those behind the cut that end the style; a line feed ends
+/// a line; a column that a wide character can't fill is marked.
+pub fn worked_cuts()
+    ensures all_sequences { CutsTo 0 (codes "\u{1b}[31;100m123456\u{1b}[39m\u{1b}[49m") (codes "\u{1b}[31;100m\u{1b}[39m\u{1b}[49m") }
+    ensures styles { CutsTo 3 (codes "\u{1b}[31;100m123456\u{1b}[39m\u{1b}[49m") (codes "\u{1b}[31;100m123\u{1b}[39m\u{1b}[49m") }
+    ensures whole { CutsTo 10 (codes "\u{1b}[31;100m123456\u{1b}[39m\u{1b}[49m") (codes "\u{1b}[31;100m123456\u{1b}[39m\u{1b}[49m") }
+    ensures mark { CutsTo 3 (encode_utf8_all (codes "😳😳😳😳😳"))
+        (encode_utf8_all (codes "😳�")) }
+    ensures first_line { CutsTo 3 (codes "123\n456789") (codes "123") }
+    ensures second_line { CutsTo 4 (codes "123\n456789") (codes "123\n4567") }
 {}
