@@ -4,6 +4,7 @@ pub mod LongestLemmas
 pub mod FewestLemmas
 pub mod StandingLemmas
 pub mod WalkLemmas
+pub mod AsciiLemmas
 pub mod WrapLemmas
 pub mod WorkedLemmas
 pub mod ShowLemmas
