@@ -106,7 +106,7 @@ EachUtf8-renditions [] all = tt
 EachUtf8-renditions (bytes ∷ others) all =
     (IsUtf8-IsSgr bytes (IsSgr-if_read bytes (All-head IsRead bytes others all)), EachUtf8-renditions others (All-tail IsRead bytes others all))
 
-IsUtf8-dressed : (style : Attributes) (slice : List Piece) → IsRendition style → EachUtf8 slice → IsUtf8 (dressed style slice)
+pub IsUtf8-dressed : (style : Attributes) (slice : List Piece) → IsRendition style → EachUtf8 slice → IsUtf8 (dressed style slice)
 IsUtf8-dressed style slice rendition each =
     let open_style = style_after_all style slice in
     let starts = renditions (start_sequences style) in

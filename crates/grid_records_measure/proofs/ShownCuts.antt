@@ -48,7 +48,7 @@ styled-put_before : (style : Attributes) (p : Piece) (qs : List Piece) → IsUtf
 styled-put_before style p [] utf8 = refl
 styled-put_before style p (q ∷ qs) utf8 = styled-both style p q qs (is_text_kind p.kind && is_text_kind q.kind) refl utf8
 
-styled-put_all_before : (style : Attributes) (ps qs : List Piece) → EachUtf8 ps → styled_from style (put_all_before ps qs) ≡ styled_from style ps ++ styled_from (style_after_all style ps) qs
+pub styled-put_all_before : (style : Attributes) (ps qs : List Piece) → EachUtf8 ps → styled_from style (put_all_before ps qs) ≡ styled_from style ps ++ styled_from (style_after_all style ps) qs
 styled-put_all_before style [] qs each = refl
 styled-put_all_before style (p ∷ ps) qs each =
     let here = map (λ c. (c, style)) (chars (text_of p)) in
@@ -69,13 +69,13 @@ style-put_before : (style : Attributes) (p : Piece) (qs : List Piece) → style_
 style-put_before style p [] = refl
 style-put_before style p (q ∷ qs) = style-both style p q qs (is_text_kind p.kind && is_text_kind q.kind) refl
 
-style-put_all_before : (style : Attributes) (ps qs : List Piece) → style_after_all style (put_all_before ps qs) ≡ style_after_all (style_after_all style ps) qs
+pub style-put_all_before : (style : Attributes) (ps qs : List Piece) → style_after_all style (put_all_before ps qs) ≡ style_after_all (style_after_all style ps) qs
 style-put_all_before style [] qs = refl
 style-put_all_before style (p ∷ ps) qs = style-put_before style p (put_all_before ps qs) ∙ style-put_all_before (style_after style p) ps qs
 
 -- ---- replacement characters
 
-fill_pieces : ℕ → List Piece
+unfoldable pub fill_pieces : ℕ → List Piece
 fill_pieces zero = []
 fill_pieces (suc n) = record { kind = Text; bytes = encode_utf8_all (replicate (suc n) replacement) } ∷ []
 
@@ -87,7 +87,7 @@ filled-plain (suc n) = filled-plain n
 some-fill : (n : ℕ) → 0 < length (encode_utf8_all (replicate (suc n) replacement))
 some-fill n = let few = length-le-encodes (replicate (suc n) replacement) in omega (arith, few)
 
-ArePiecesOf-fill : (n : ℕ) → ArePiecesOf (encode_utf8_all (replicate n replacement)) (fill_pieces n)
+pub ArePiecesOf-fill : (n : ℕ) → ArePiecesOf (encode_utf8_all (replicate n replacement)) (fill_pieces n)
 unfolding fill_pieces
 ArePiecesOf-fill zero = record { joins = refl; stand = tt }
 ArePiecesOf-fill (suc n) = record {
@@ -95,12 +95,12 @@ ArePiecesOf-fill (suc n) = record {
   stand = (record { some = some-fill n; plain = filled-plain (suc n); ends = tt }, tt);
 }
 
-NoneBroken-fill : (n : ℕ) → NoneBroken (fill_pieces n)
+pub NoneBroken-fill : (n : ℕ) → NoneBroken (fill_pieces n)
 unfolding fill_pieces
 NoneBroken-fill zero = tt
 NoneBroken-fill (suc n) = (λ same. cc same, tt)
 
-style-fill : (style : Attributes) (n : ℕ) → style_after_all style (fill_pieces n) ≡ style
+pub style-fill : (style : Attributes) (n : ℕ) → style_after_all style (fill_pieces n) ≡ style
 unfolding fill_pieces
 style-fill style zero = refl
 style-fill style (suc n) = refl
@@ -109,7 +109,7 @@ scalars-fill : (n : ℕ) → scalars (replicate n replacement) ≡ true
 scalars-fill zero = refl
 scalars-fill (suc n) = scalars-fill n
 
-styled-fill : (style : Attributes) (n : ℕ) → styled_from style (fill_pieces n) ≡ map (λ c. (c, style)) (replicate n replacement)
+pub styled-fill : (style : Attributes) (n : ℕ) → styled_from style (fill_pieces n) ≡ map (λ c. (c, style)) (replicate n replacement)
 unfolding fill_pieces
 styled-fill style zero = refl
 styled-fill style (suc n) =
@@ -118,7 +118,7 @@ styled-fill style (suc n) =
 
 -- ---- the cut
 
-scalars-before : (xs ys : List ℕ) → scalars (xs ++ ys) ≡ true → scalars xs ≡ true
+pub scalars-before : (xs ys : List ℕ) → scalars (xs ++ ys) ≡ true → scalars xs ≡ true
 scalars-before [] ys all = refl
 scalars-before (x ∷ xs) ys all =
     let parts = and_parts (scalar x) (scalars (xs ++ ys)) all in

@@ -4,4 +4,10 @@ pub mod LongestLemmas
 pub mod FewestLemmas
 pub mod StandingLemmas
 pub mod WalkLemmas
+pub mod AsciiLemmas
 pub mod WrapLemmas
+pub mod WorkedLemmas
+pub mod ShowLemmas
+pub mod PartLemmas
+pub mod AddedLemmas
+pub mod WrappedLemmas

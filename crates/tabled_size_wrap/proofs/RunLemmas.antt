@@ -61,7 +61,7 @@ module _ (part : ℕ → ℕ → List ℕ) (mark : List ℕ) (width : ℕ) where
   abbrev lines_behind : ℕ → ℕ → ℕ → List (List LineUnit) → List (List ℕ)
   lines_behind a b used [] = []
   lines_behind a b used (run ∷ runs) =
-      shown_behind a b used (narrow_front width run) (from_wide width run) ∷ shown_lines part mark width (b + run_len run) runs
+      shown_behind a b used (narrow_front width run) (from_wide width run) ∷ shown_lines unit_len part mark width (b + run_len run) runs
 
   -- a unit that has room: it is kept, or else marked
   abbrev pub put : (ℕ → ℕ → ℕ → List ℕ) → ℕ → ℕ → ℕ → LineUnit → List ℕ
@@ -78,17 +78,17 @@ module _ (part : ℕ → ℕ → List ℕ) (mark : List ℕ) (width : ℕ) where
 
   -- ---- at its begin
 
-  shown-start : (a : ℕ) (front behind : List LineUnit) → shown_run part mark width a front behind ≡ shown_behind a a 0 front behind
+  shown-start : (a : ℕ) (front behind : List LineUnit) → shown_run unit_len part mark width a front behind ≡ shown_behind a a 0 front behind
   shown-start a front [] = refl
   shown-start a front (w ∷ behind) =
       let from = a + run_len front in
       let same : run_cost front ≡ 0 + run_cost front = omega arith in
       ap (λ n. part a from ++ (repeat (width - n) mark ++ part (from + unit_len w) (from + unit_len w + run_len behind))) same
 
-  pub lines-start : (a : ℕ) (runs : List (List LineUnit)) → shown_lines part mark width a runs ≡ lines_behind a a 0 runs
+  pub lines-start : (a : ℕ) (runs : List (List LineUnit)) → shown_lines unit_len part mark width a runs ≡ lines_behind a a 0 runs
   lines-start a [] = refl
   lines-start a (run ∷ runs) =
-      ap (λ (line : List ℕ). line ∷ shown_lines part mark width (a + run_len run) runs) (shown-start a (narrow_front width run) (from_wide width run))
+      ap (λ (line : List ℕ). line ∷ shown_lines unit_len part mark width (a + run_len run) runs) (shown-start a (narrow_front width run) (from_wide width run))
 
   -- ---- a narrow unit more
 
@@ -107,10 +107,10 @@ module _ (part : ℕ → ℕ → List ℕ) (mark : List ℕ) (width : ℕ) where
   lines-narrow a b used u (run ∷ runs) some narrow =
       let fronts = front-cons width u run narrow in
       let place : b + run_len (u ∷ run) ≡ b + unit_len u + run_len run = omega (arith, sum_by-cons unit_len u run) in
-      ap (λ (front : List LineUnit). shown_behind a b used front (from_wide width (u ∷ run)) ∷ shown_lines part mark width (b + run_len (u ∷ run)) runs) fronts.0
-      ∙ ap (λ (behind : List LineUnit). shown_behind a b used (u ∷ narrow_front width run) behind ∷ shown_lines part mark width (b + run_len (u ∷ run)) runs) fronts.1
-      ∙ ap (λ (line : List ℕ). line ∷ shown_lines part mark width (b + run_len (u ∷ run)) runs) (shown-narrow a b used u (narrow_front width run) (from_wide width run))
-      ∙ ap (λ n. shown_behind a (b + unit_len u) (used + u.cost) (narrow_front width run) (from_wide width run) ∷ shown_lines part mark width n runs) place
+      ap (λ (front : List LineUnit). shown_behind a b used front (from_wide width (u ∷ run)) ∷ shown_lines unit_len part mark width (b + run_len (u ∷ run)) runs) fronts.0
+      ∙ ap (λ (behind : List LineUnit). shown_behind a b used (u ∷ narrow_front width run) behind ∷ shown_lines unit_len part mark width (b + run_len (u ∷ run)) runs) fronts.1
+      ∙ ap (λ (line : List ℕ). line ∷ shown_lines unit_len part mark width (b + run_len (u ∷ run)) runs) (shown-narrow a b used u (narrow_front width run) (from_wide width run))
+      ∙ ap (λ n. shown_behind a (b + unit_len u) (used + u.cost) (narrow_front width run) (from_wide width run) ∷ shown_lines unit_len part mark width n runs) place
 
   -- ---- behind a wide unit all units of the run are narrow
 
@@ -152,11 +152,11 @@ module _ (part : ℕ → ℕ → List ℕ) (mark : List ℕ) (width : ℕ) where
       let no_len : b + run_len [] ≡ b = omega arith in
       let no_cost : used + run_cost [] ≡ used = omega arith in
       let place : b + run_len (u ∷ run) ≡ next + run_len run = omega (arith, sum_by-cons unit_len u run) in
-      let others = shown_lines part mark width (next + run_len run) runs in
+      let others = shown_lines unit_len part mark width (next + run_len run) runs in
       let line = part next (next + run_len run) in
-      ap (λ (front : List LineUnit). join_with_byte line_feed (shown_behind a b used front (from_wide width (u ∷ run)) ∷ shown_lines part mark width (b + run_len (u ∷ run)) runs)) fronts.0
-      ∙ ap (λ (behind : List LineUnit). join_with_byte line_feed (shown_behind a b used [] behind ∷ shown_lines part mark width (b + run_len (u ∷ run)) runs)) fronts.1
-      ∙ ap (λ n. join_with_byte line_feed (shown_behind a b used [] (u ∷ run) ∷ shown_lines part mark width n runs)) place
+      ap (λ (front : List LineUnit). join_with_byte line_feed (shown_behind a b used front (from_wide width (u ∷ run)) ∷ shown_lines unit_len part mark width (b + run_len (u ∷ run)) runs)) fronts.0
+      ∙ ap (λ (behind : List LineUnit). join_with_byte line_feed (shown_behind a b used [] behind ∷ shown_lines unit_len part mark width (b + run_len (u ∷ run)) runs)) fronts.1
+      ∙ ap (λ n. join_with_byte line_feed (shown_behind a b used [] (u ∷ run) ∷ shown_lines unit_len part mark width n runs)) place
       ∙ ap (λ n. join_with_byte line_feed ((part a n ++ (repeat (width - (used + run_cost [])) mark ++ part (n + unit_len u) (n + unit_len u + run_len run))) ∷ others)) no_len
       ∙ ap (λ n. join_with_byte line_feed ((part a b ++ (repeat (width - n) mark ++ line)) ∷ others)) no_cost
       ∙ join-front line_feed (part a b) (repeat (width - used) mark ++ line) others
@@ -201,14 +201,14 @@ module _ (part : ℕ → ℕ → List ℕ) (mark : List ℕ) (width : ℕ) where
       by false same =
           let runs = onto_first u (runs_from width (used_behind width 0 u) us) in
           let no_len : b + run_len [] ≡ b = omega arith in
-          ap (λ n. join_with_byte line_feed (part a n ∷ shown_lines part mark width n runs)) no_len
+          ap (λ n. join_with_byte line_feed (part a n ∷ shown_lines unit_len part mark width n runs)) no_len
           ∙ ap (λ (lines : List (List ℕ)). join_with_byte line_feed (part a b ∷ lines)) (lines-start b runs)
           ∙ join-cons line_feed (part a b) (lines_behind b b 0 runs) (some-lines b b 0 runs (some-onto u (runs_from width (used_behind width 0 u) us)))
           ∙ ap (λ bytes. part a b ++ line_feed ∷ bytes) (put-lines b b 0 u us same)
 
-  pub lines-all : (us : List LineUnit) → join_with_byte line_feed (shown_lines part mark width 0 (runs_from width 0 us)) ≡ left_bytes 0 0 0 us
+  pub lines-all : (us : List LineUnit) → join_with_byte line_feed (shown_lines unit_len part mark width 0 (runs_from width 0 us)) ≡ left_bytes 0 0 0 us
   lines-all us = ap (join_with_byte line_feed) (lines-start 0 (runs_from width 0 us)) ∙ lines-left us 0 0 0
 
-pub some-shown : (part : ℕ → ℕ → List ℕ) (mark : List ℕ) (width place : ℕ) (runs : List (List LineUnit)) → 0 < length runs → 0 < length (shown_lines part mark width place runs)
+pub some-shown : (part : ℕ → ℕ → List ℕ) (mark : List ℕ) (width place : ℕ) (runs : List (List LineUnit)) → 0 < length runs → 0 < length (shown_lines unit_len part mark width place runs)
 some-shown part mark width place [] some = absurd (omega (arith, some))
 some-shown part mark width place (run ∷ runs) some = omega arith

@@ -32,7 +32,7 @@ strip-behind : (at : ℕ) (line : List Piece) → strip (behind_break at line) �
 strip-behind zero line = refl
 strip-behind (suc n) line = strip-from_text (from_place (suc n) line) ∙ strip-from (suc n) line
 
-by-part : (a b : ℕ) (ps : List Piece) (same first some : Bool) → (a == b) ≡ same → (a == 0) ≡ first
+pub by-part : (a b : ℕ) (ps : List Piece) (same first some : Bool) → (a == b) ≡ same → (a == 0) ≡ first
     → line_part ps a b ≡ cond (same && nat_lt 0 (length (strip ps))) [] (cond first (cut_part 0 b ps) (later_part a b ps))
 by-part a b ps same first some e f =
     ap (λ t. cond (t && nat_lt 0 (length (strip ps))) [] (cond (a == 0) (cut_part 0 b ps) (later_part a b ps))) e

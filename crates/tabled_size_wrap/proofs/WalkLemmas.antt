@@ -52,7 +52,7 @@ Walked-start line width keep_words shown out rest style stands same utf8 =
       fits = omega arith;
       goes_on =
           ap (λ bytes. out ++ bytes) (sym (lines-all (line_part line) replacement_bytes width left))
-          ∙ ap (λ bytes. out ++ join_with_byte line_feed (shown_lines (line_part line) replacement_bytes width 0 (runs_of width (line_units width keep_words (chars bytes))))) same;
+          ∙ ap (λ bytes. out ++ join_with_byte line_feed (shown_lines unit_len (line_part line) replacement_bytes width 0 (runs_of width (line_units width keep_words (chars bytes))))) same;
       parted = sym same ∙ sym (ap encode_utf8_all is ∙ encodes-chars shown utf8);
       passed = refl;
       good = ap scalars is ∙ scalars-chars shown utf8;

@@ -10,7 +10,7 @@ use Rattle.ansi_scan.specs.Sequences.{Piece}
 use Rattle.ansi_scan.specs.Pieces.{pieces}
 use Rattle.ansi_str.specs.StyledText.{strip}
 use Rattle.grid_records_measure.specs.TextLines.{AreLinesOf, line_feed}
-use Rattle.tabled_size_wrap.specs.Units.{line_units}
+use Rattle.tabled_size_wrap.specs.Units.{line_units, unit_len}
 use Rattle.tabled_size_wrap.specs.Wrapping.{line_part, replacement_bytes, shown_lines, AreBrokenLines, IsWrapped}
 use Rattle.tabled_size_wrap.specs.Runs.{runs_of, broken_lines}
 use Rattle.tabled_size_wrap.proofs.RunLemmas.{some-runs, some-shown, join-cons}
@@ -28,9 +28,9 @@ no-units width false = refl
 -- a line that shows no text is one part
 pub broken-nothing : (width : ℕ) (keep_words : Bool) (line : List Piece) → strip line ≡ [] → join_with_byte line_feed (broken_lines width keep_words line) ≡ line_part line 0 0
 broken-nothing width keep_words line none =
-    let lines : List ℕ → List ℕ = λ cs. join_with_byte line_feed (shown_lines (line_part line) replacement_bytes width 0 (runs_of width (line_units width keep_words cs))) in
+    let lines : List ℕ → List ℕ = λ cs. join_with_byte line_feed (shown_lines unit_len (line_part line) replacement_bytes width 0 (runs_of width (line_units width keep_words cs))) in
     ap lines (ap chars none ∙ chars-nil)
-    ∙ ap (λ us. join_with_byte line_feed (shown_lines (line_part line) replacement_bytes width 0 (runs_of width us))) (no-units width keep_words)
+    ∙ ap (λ us. join_with_byte line_feed (shown_lines unit_len (line_part line) replacement_bytes width 0 (runs_of width us))) (no-units width keep_words)
 
 -- ---- line by line
 
@@ -119,7 +119,7 @@ wrapped-there (suc n) keep_words ps =
 broken-one : (width : ℕ) (keep_words : Bool) (line : List Piece) (lines others : List (List ℕ)) → AreBrokenLines width keep_words line lines → AreBrokenLines width keep_words line others → lines ≡ others
 broken-one width keep_words line lines others a b =
     let same = runs-one width (line_units width keep_words (chars (strip line))) a.0 b.0 a.1 b.1 in
-    a.2 ∙ ap (shown_lines (line_part line) replacement_bytes width 0) same ∙ sym b.2
+    a.2 ∙ ap (shown_lines unit_len (line_part line) replacement_bytes width 0) same ∙ sym b.2
 
 all-one : (width : ℕ) (keep_words : Bool) (lines : List (List ℕ)) (xs ys : List (List (List ℕ))) → AllZip (λ line others. AreBrokenLines width keep_words (pieces line) others) lines xs
     → AllZip (λ line others. AreBrokenLines width keep_words (pieces line) others) lines ys → xs ≡ ys

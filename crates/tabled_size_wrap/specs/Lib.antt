@@ -4,3 +4,5 @@ pub mod Breaking
 pub mod Wrapping
 pub mod Runs
 pub mod Standing
+pub mod Showing
+pub mod Worked

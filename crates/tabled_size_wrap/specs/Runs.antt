@@ -5,7 +5,7 @@ use Rattle.ansi_scan.specs.Sequences.{Piece}
 use Rattle.ansi_scan.specs.Pieces.{pieces as pieces_of}
 use Rattle.ansi_str.specs.StyledText.{strip}
 use Rattle.grid_records_measure.specs.TextLines.{line_feed}
-use Rattle.tabled_size_wrap.specs.Units.{LineUnit, line_units}
+use Rattle.tabled_size_wrap.specs.Units.{LineUnit, line_units, unit_len}
 use Rattle.tabled_size_wrap.specs.Wrapping.{line_part, replacement_bytes, shown_lines}
 
 -- a run that has taken so many columns has room for the unit; for one that costs more than the width, where a column is left
@@ -29,7 +29,7 @@ runs_of width units = runs_from width 0 units
 -- the lines that a line is broken into
 abbrev pub broken_lines : ℕ → Bool → List Piece → List (List ℕ)
 broken_lines width keep_words pieces =
-    shown_lines (line_part pieces) replacement_bytes width 0 (runs_of width (line_units width keep_words (chars (strip pieces))))
+    shown_lines unit_len (line_part pieces) replacement_bytes width 0 (runs_of width (line_units width keep_words (chars (strip pieces))))
 
 -- lines wrapped at a width
 abbrev pub wrapped : ℕ → Bool → List (List ℕ) → List ℕ

@@ -10,11 +10,8 @@ use Rattle.grid_records_measure.specs.TextLines.{AreLinesOf, line_feed}
 use Rattle.tabled_size_wrap.specs.Units.{LineUnit, line_units, unit_len}
 use Rattle.tabled_size_wrap.specs.Breaking.{AreRunsOf, run_cost}
 
--- ---- what a run shows, where `part a b` is what the line shows from place a to place b, and `mark` stands in each column that a
--- unit takes which costs more than the width
-
-abbrev pub run_len : List LineUnit → ℕ
-run_len run = sum_by unit_len run
+-- ---- what a run shows, where a unit takes `len unit` places, `part a b` is what the line shows from place a to place b, and
+-- `mark` stands in each column that a unit takes which costs more than the width
 
 abbrev pub is_narrow : ℕ → LineUnit → Bool
 is_narrow width unit = nat_le unit.cost width
@@ -28,21 +25,24 @@ from_wide width run = drop (prefix_len (is_narrow width) run) run
 
 -- narrow units, and those from a wide one on, which begin here: the part of the first; the columns that they leave, marked in
 -- the place of the wide one; and the part of what stands behind it
-abbrev pub shown_run : {X : Type 0} → (ℕ → ℕ → List X) → List X → ℕ → ℕ → List LineUnit → List LineUnit → List X
-shown_run part mark width place front [] = part place (place + run_len front)
-shown_run part mark width place front (wide ∷ behind) =
-    let from = place + run_len front in
-    let to = from + unit_len wide in
-    part place from ++ (repeat (width - run_cost front) mark ++ part to (to + run_len behind))
+abbrev pub shown_run : {X : Type 0} → (LineUnit → ℕ) → (ℕ → ℕ → List X) → List X → ℕ → ℕ → List LineUnit → List LineUnit → List X
+shown_run len part mark width place front [] = part place (place + sum_by len front)
+shown_run len part mark width place front (wide ∷ behind) =
+    let from = place + sum_by len front in
+    let to = from + len wide in
+    part place from ++ (repeat (width - run_cost front) mark ++ part to (to + sum_by len behind))
 
 -- the lines of runs one behind another, of which the first begins here
-abbrev pub shown_lines : {X : Type 0} → (ℕ → ℕ → List X) → List X → ℕ → ℕ → List (List LineUnit) → List (List X)
-shown_lines part mark width place [] = []
-shown_lines part mark width place (run ∷ runs) =
-    shown_run part mark width place (narrow_front width run) (from_wide width run)
-    ∷ shown_lines part mark width (place + run_len run) runs
+abbrev pub shown_lines : {X : Type 0} → (LineUnit → ℕ) → (ℕ → ℕ → List X) → List X → ℕ → ℕ → List (List LineUnit) → List (List X)
+shown_lines len part mark width place [] = []
+shown_lines len part mark width place (run ∷ runs) =
+    shown_run len part mark width place (narrow_front width run) (from_wide width run)
+    ∷ shown_lines len part mark width (place + sum_by len run) runs
 
 -- ---- in bytes
+
+abbrev pub run_len : List LineUnit → ℕ
+run_len run = sum_by unit_len run
 
 -- the part of a line from one place to another, of a split at places. Where the line has text no part is without: a place at
 -- its front or its end is none
@@ -60,7 +60,7 @@ replacement_bytes = encode_utf8_all (replacement ∷ [])
 abbrev pub AreBrokenLines : ℕ → Bool → List Piece → List (List ℕ) → Type 0
 AreBrokenLines width keep_words pieces lines =
     (runs : List (List LineUnit)) × AreRunsOf width (line_units width keep_words (chars (strip pieces))) runs
-    × (lines ≡ shown_lines (line_part pieces) replacement_bytes width 0 runs)
+    × (lines ≡ shown_lines unit_len (line_part pieces) replacement_bytes width 0 runs)
 
 -- a text wrapped at a width: nothing at 0; else each of its lines is broken by itself
 abbrev pub IsWrapped : ℕ → Bool → List Piece → List ℕ → Type 0

@@ -1,7 +1,7 @@
 //! A line that is broken, part by part.
-ghost use Rattle.std.specs.Prelude.{◌≡◌, ◌<◌, ◌≤◌, ◌+◌, ◌++◌, ℕ, List, [], OnOk, length, nat_le, nat_lt, if◌then◌else◌, string_bytes};
+ghost use Rattle.std.specs.Prelude.{◌≡◌, ◌<◌, ◌≤◌, ◌+◌, ◌++◌, ℕ, List, [], OnOk, length, nat_le, nat_lt, false, if◌then◌else◌, string_bytes};
 ghost use Rattle.std.specs.List.{join_with_byte, repeat};
-ghost use Rattle.std.specs.Str.{IsCharBoundary};
+ghost use Rattle.std.specs.Str.{IsAscii, IsCharBoundary};
 ghost use Rattle.ansi_scan.specs.Sequences.{Piece};
 ghost use Rattle.ansi_scan.specs.Pieces.{pieces};
 ghost use Rattle.ansi_str.specs.StyledText.{strip, style_after_all};
@@ -31,6 +31,9 @@ pub(crate) fn push_broken_lines(
     let stripped = line.ansi_strip(alloc)?;
     if stripped.is_empty() {
         return push_nothing(alloc, out, line);
+    }
+    if !keep_words && stripped.is_ascii() {
+        return push_full_lines(alloc, out, line, stripped.len(), width);
     }
     push_runs(alloc, out, line, &stripped, width, keep_words)
 }
@@ -73,6 +76,31 @@ fn push_runs(
         }
     }
     push_part(alloc, out, &mut place, kept)
+}
+
+// The same of a line that shows some ASCII text, so many bytes, where words are not kept: each byte is a
+// unit that costs one column, so a line of the answer has as many as the width.
+fn push_full_lines(
+    alloc: Global,
+    out: &mut String,
+    line: &str,
+    len: usize,
+    width: usize,
+) -> Result<(), AllocError>
+    requires some_width { 0 < width }
+    requires shown { len ≡ length (strip (pieces line.now)) }
+    requires some_text { 0 < len }
+    requires ascii { IsAscii (strip (pieces line.now)) }
+    ensures { OnOk result (string_bytes out.new ≡ string_bytes out.old ++ join_with_byte line_feed (broken_lines width false (pieces line.now))) }
+{
+    let mut place = Place::start_of(line);
+    let mut left = len;
+    while left > width {
+        push_part(alloc, out, &mut place, width)?;
+        out.push('\n')?;
+        left -= width;
+    }
+    push_part(alloc, out, &mut place, left)
 }
 
 // Whether a line that has taken so many columns has room for a unit; for one that costs more than the

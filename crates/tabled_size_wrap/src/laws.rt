@@ -1,10 +1,19 @@
 //! Laws of the definitions that the other contracts cite.
 
-ghost use Rattle.std.specs.Prelude.{All, ◌≡◌, ◌≤◌, ◌<◌, ℕ, Bool, List, [], ◌∷◌, codes, flat_map, length};
-ghost use Rattle.ansi_scan.specs.Sequences.{Piece};
-ghost use Rattle.tabled_size_wrap.specs.Breaking.{AreRunsOf, FitsRun, IsBreaking};
+ghost use Rattle.std.specs.Prelude.{All, ◌≡◌, ◌≤◌, ◌<◌, ◌||◌, ℕ, Bool, List, [], chars, codes, encode_utf8_all, false, flat_map, length, true};
+ghost use Rattle.std.specs.List.{join_with_byte, list_all};
+ghost use Rattle.std.specs.Str.{IsUtf8};
+ghost use Rattle.ansi_scan.specs.Sequences.{Piece, ArePiecesOf, NoneBroken};
+ghost use Rattle.ansi_str.specs.StyledText.{strip, styled};
+ghost use Rattle.ansi_str.specs.Lines.{IsClosedLine};
+ghost use Rattle.grid_records_measure.specs.Measures.{own_width};
+ghost use Rattle.grid_records_measure.specs.PlainCharacters.{is_plain_character};
+ghost use Rattle.grid_records_measure.specs.TextLines.{AreLinesOf, is_line_feed, line_feed, shown_lines, widest};
+ghost use Rattle.tabled_size_wrap.specs.Breaking.{AreRunsOf, IsBreaking};
+ghost use Rattle.tabled_size_wrap.specs.Showing.{AddsBreaks, ShowsWrapped};
 ghost use Rattle.tabled_size_wrap.specs.Runs.{runs_of};
 ghost use Rattle.tabled_size_wrap.specs.Units.{LineUnit, line_units};
+ghost use Rattle.tabled_size_wrap.specs.Worked.{CutsTo, WrapsTo};
 ghost use Rattle.tabled_size_wrap.specs.Wrapping.{IsWrapped};
 
 /// The runs that units are broken into are one list, that of the function `runs_of`: there is such a list,
@@ -35,4 +44,58 @@ pub fn fewest_runs()
 pub fn units_make_up_the_line()
     ensures { (width : ℕ) (keep_words : Bool) (line : List ℕ) →
         flat_map (λ (unit : LineUnit). unit.text) (line_units width keep_words line) ≡ line }
+{}
+
+/// A whole text that is wrapped shows the lines of the text, each broken by itself: the characters of its
+/// runs in the styles that they have in the text, and U+FFFD in the plain style. Its lines are closed as
+/// they stand: no style is open at the end of one.
+pub fn wrapped_lines_show_their_runs()
+    ensures shown { (width : ℕ) (keep_words : Bool) (text bytes : List ℕ) (pieces of_wrapped : List Piece) → 0 < width → IsUtf8 text →
+        ArePiecesOf text pieces → NoneBroken pieces → IsWrapped width keep_words pieces bytes → ArePiecesOf bytes of_wrapped →
+        ShowsWrapped width keep_words (styled pieces) (styled of_wrapped) }
+    ensures closed { (width : ℕ) (keep_words : Bool) (text bytes : List ℕ) (pieces of_wrapped : List Piece) (lines : List (List ℕ)) → 0 < width → IsUtf8 text →
+        ArePiecesOf text pieces → NoneBroken pieces → IsWrapped width keep_words pieces bytes → ArePiecesOf bytes of_wrapped →
+        AreLinesOf of_wrapped lines → All IsClosedLine lines × (join_with_byte line_feed lines ≡ bytes) }
+{}
+
+/// A whole text that is wrapped at a width of which no character takes more is the text with breaks put
+/// into its lines: without them it shows the same characters, all but the line feeds in the same styles.
+pub fn wrapping_adds_breaks()
+    ensures { (width : ℕ) (keep_words : Bool) (text bytes : List ℕ) (pieces of_wrapped : List Piece) → 0 < width → IsUtf8 text →
+        ArePiecesOf text pieces → NoneBroken pieces → IsWrapped width keep_words pieces bytes → ArePiecesOf bytes of_wrapped →
+        All (λ c. own_width c ≤ width) (chars (strip pieces)) → AddsBreaks (styled pieces) (styled of_wrapped) }
+{}
+
+/// A whole text of plain characters and line feeds that is wrapped at a width of which no character takes
+/// more has no line that measures more.
+pub fn wrapped_lines_fit()
+    ensures { (width : ℕ) (keep_words : Bool) (text bytes : List ℕ) (pieces of_wrapped : List Piece) → 0 < width → IsUtf8 text →
+        ArePiecesOf text pieces → NoneBroken pieces → IsWrapped width keep_words pieces bytes → ArePiecesOf bytes of_wrapped →
+        All (λ c. own_width c ≤ width) (chars (strip pieces)) →
+        list_all (λ c. is_plain_character c || is_line_feed c) (chars (strip pieces)) ≡ true → widest (shown_lines of_wrapped) ≤ width }
+{}
+
+/// Wraps worked out by hand: words are kept; a character that costs more than the width takes the columns
+/// that are left, or those of a new line; each line opens and ends its own styles; at width 0 nothing is
+/// left.
+pub fn worked_wraps()
+    ensures words { WrapsTo 4 true (codes "111 234 1") (codes "111 \n234 \n1") }
+    ensures marks { WrapsTo 1 false (encode_utf8_all (codes "😳12😳3"))
+        (encode_utf8_all (codes "�\n1\n2\n�\n3")) }
+    ensures mark_between { WrapsTo 1 false (encode_utf8_all (codes "a😳b")) (encode_utf8_all (codes "a\n�\nb")) }
+    ensures styles { WrapsTo 7 true (codes "\u{1b}[37mHello World\u{1b}[0m")
+        (codes "\u{1b}[37mHello \u{1b}[39m\n\u{1b}[37mWorld\u{1b}[0m") }
+    ensures nothing { (keep_words : Bool) (text : List ℕ) → WrapsTo 0 keep_words text [] }
+{}
+
+/// Cuts worked out by hand: sequences stay, also those behind the cut that end the style; a line feed ends
+/// a line; a column that a wide character can't fill is marked.
+pub fn worked_cuts()
+    ensures all_sequences { CutsTo 0 (codes "\u{1b}[31;100m123456\u{1b}[39m\u{1b}[49m") (codes "\u{1b}[31;100m\u{1b}[39m\u{1b}[49m") }
+    ensures styles { CutsTo 3 (codes "\u{1b}[31;100m123456\u{1b}[39m\u{1b}[49m") (codes "\u{1b}[31;100m123\u{1b}[39m\u{1b}[49m") }
+    ensures whole { CutsTo 10 (codes "\u{1b}[31;100m123456\u{1b}[39m\u{1b}[49m") (codes "\u{1b}[31;100m123456\u{1b}[39m\u{1b}[49m") }
+    ensures mark { CutsTo 3 (encode_utf8_all (codes "😳😳😳😳😳"))
+        (encode_utf8_all (codes "😳�")) }
+    ensures first_line { CutsTo 3 (codes "123\n456789") (codes "123") }
+    ensures second_line { CutsTo 4 (codes "123\n456789") (codes "123\n4567") }
 {}

@@ -11,6 +11,15 @@ fn breaks_lines(rt: HostRuntime) -> Result<(), AllocError> {
         ("111 234 1", 4, "111 \n234 \n1", "111 \n234 \n1"),
         ("abcdefgh ij", 3, "abc\ndef\ngh \nij", "abc\ndef\ngh \nij"),
         ("ab cd\n\nef", 2, "ab\n c\nd\n\nef", "ab\n \ncd\n\nef"),
+        ("12345678", 3, "123\n456\n78", "123\n456\n78"),
+        ("abcdef", 3, "abc\ndef", "abc\ndef"),
+        (
+            "this is a long sentence",
+            7,
+            "this is\n a long\n senten\nce",
+            "this is\n a long\n senten\nce",
+        ),
+        ("a\tb\u{7f}", 2, "a\t\nb\u{7f}", "a\t\nb\u{7f}"),
         // a character that costs more than the width takes the columns that are left
         ("a😳b", 1, "a\n\u{fffd}\nb", "a\n\u{fffd}\nb"),
         (

@@ -1,6 +1,7 @@
 -- A line that shows no text is one part; any other is broken run by run.
-use Rattle.std.proofs.Common.{◌≡◌, ◌∙◌, ◌==◌, [], ◌++◌, List, ℕ, length, true, ap, sym, arith, string_bytes}
+use Rattle.std.proofs.Common.{◌≡◌, ◌∙◌, ◌==◌, [], ◌++◌, List, ℕ, length, true, ap, sym, subst, arith, string_bytes}
 use Rattle.std.specs.List.{join_with_byte}
+use Rattle.std.specs.Str.{IsAscii}
 use Rattle.std.proofs.lemmas.Bool.Decides.{nat_tests}
 use Rattle.std.proofs.lemmas.Result.{on_ok_weaker}
 use Rattle.ansi_scan.specs.Pieces.{pieces}
@@ -27,6 +28,14 @@ returns-then-is_empty c =
     let more : string_bytes c.push_nothing.new.out ≡ out ++ line_part (pieces c.args.line.now) 0 0 → string_bytes c.push_nothing.new.out ≡ out ++ join_with_byte line_feed (broken_lines c.args.width c.args.keep_words (pieces c.args.line.now)) =
     λ pushed. pushed ∙ ap (λ (bytes : List ℕ). out ++ bytes) (sym (broken-nothing c.args.width c.args.keep_words (pieces c.args.line.now) nothing)) in
     on_ok_weaker c.push_nothing.result more c.push_nothing.ensures
+
+pub push_full_lines-requires-clause-shown : goal.push_full_lines-requires-clause-shown
+push_full_lines-requires-clause-shown c =
+    c.len.ensures ∙ ap length (c.in_ok-stripped.ensures.strips (pieces c.args.line.now) (ArePiecesOf-pieces c.args.line.now))
+
+pub push_full_lines-requires-clause-ascii : goal.push_full_lines-requires-clause-ascii
+push_full_lines-requires-clause-ascii c =
+    subst IsAscii (c.deref-then-not-keep_words.ensures.value ∙ c.in_ok-stripped.ensures.strips (pieces c.args.line.now) (ArePiecesOf-pieces c.args.line.now)) c.if-is_ascii.ensures.cases
 
 pub push_runs-requires-clause-shown : goal.push_runs-requires-clause-shown
 push_runs-requires-clause-shown c = c.deref-2.ensures.value ∙ c.in_ok-stripped.ensures.strips (pieces c.args.line.now) (ArePiecesOf-pieces c.args.line.now)

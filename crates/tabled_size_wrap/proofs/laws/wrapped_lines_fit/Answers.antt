@@ -1,0 +1,7 @@
+-- A lemma of `WrappedLemmas`.
+use Rattle.tabled_size_wrap.proofs.WrappedLemmas.{wrapped-fits}
+use Rattle.tabled_size_wrap.proofs.laws.wrapped_lines_fit.Goals as goal
+
+pub returns : goal.returns
+returns c = λ width keep_words text bytes ps qs some utf8 of_text whole wrapped of_bytes narrow plain_all.
+    wrapped-fits keep_words text bytes ps utf8 of_text whole width some wrapped qs of_bytes narrow plain_all
