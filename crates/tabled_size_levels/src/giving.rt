@@ -1,0 +1,77 @@
+//! Giving to columns.
+ghost use Rattle.std.specs.Prelude.{◌≡◌, ◌≤◌, ◌<◌, ◌+◌, ◌-◌, ◌^◌, ℕ, [], length, sum, slice_index, EachIndex};
+ghost use Rattle.tabled_size_levels.specs.Moving.{BeginsWithin, Gives, IsGiven, IsMovedInOrder, moved, moved_sum, place_of};
+
+use crate::amounts::moved_in_all;
+use crate::order::Order;
+use crate::rule::Rule;
+use crate::search::{Moved, number_below};
+
+// Gives to each column what the rule moves at the number.
+fn give_each(rule: Rule, number: u128, widths: &mut [usize])
+    requires { sum widths.old + moved_sum rule number [] widths.old < 2 ^ 64 }
+    ensures { EachIndex widths.old (λ column. slice_index widths.new column ≡ slice_index widths.old column + moved rule number (slice_index widths.old column) 0) }
+{
+    for column in 0..widths.len() {
+        let amount = rule.moved(number, widths[column], 0);
+        widths[column] += amount as usize;
+    }
+}
+
+// Gives what the rule moves at the number to one column after the other, in the order, until so much is given, and
+// answers the last of them.
+fn give_in_order(
+    rule: Rule,
+    number: u128,
+    order: Order,
+    widths: &mut [usize],
+    amount: u128,
+) -> usize
+    requires begins { BeginsWithin order (length widths.old) }
+    requires some { 0 < amount }
+    requires fits { sum widths.old + amount < 2 ^ 64 }
+    requires enough { amount ≤ moved_sum rule number [] widths.old }
+    ensures moved { IsMovedInOrder (place_of order (length widths.old)) (λ column. 0) (λ column. moved rule number (slice_index widths.old column) 0) (λ column. slice_index widths.new column - slice_index widths.old column) (length widths.old) result }
+    ensures higher { EachIndex widths.old (λ column. slice_index widths.old column ≤ slice_index widths.new column) }
+    ensures sums { sum widths.new ≡ sum widths.old + amount }
+{
+    let mut left = amount;
+    for place in 0..widths.len() {
+        let column = order.column_at(widths.len(), place);
+        let most = rule.moved(number, widths[column], 0);
+        if left <= most {
+            widths[column] += left as usize;
+            return column;
+        }
+        widths[column] += most as usize;
+        left -= most;
+    }
+    unreachable!()
+}
+
+/// Gives `by` columns to the widths by the rule, or all that the rule can give: what it moves at the greatest number
+/// at which no more than that moves, and the rest in the order.
+pub fn give(rule: Rule, order: Order, widths: &mut [usize], by: usize) -> Moved
+    requires gives { Gives rule }
+    requires begins { BeginsWithin order (length widths.old) }
+    requires fits { sum widths.old + by < 2 ^ 64 }
+    ensures given { IsGiven rule (place_of order (length widths.old)) by widths.old widths.new result.last }
+    ensures walks { result.walks ≤ 68 }
+{
+    let room = moved_in_all(rule, 1 << 64, widths, &[]);
+    let amount = room.min(by as u128);
+    if amount == 0 {
+        return Moved {
+            walks: 1,
+            last: None,
+        };
+    }
+    let found = number_below(rule, widths, &[], amount);
+    give_each(rule, found.number, widths);
+    let rest = amount - found.moved;
+    let last = give_in_order(rule, rule.next(found.number), order, widths, rest);
+    Moved {
+        walks: found.walks + 3,
+        last: Some(last),
+    }
+}
