@@ -1,5 +1,5 @@
 //! One column after the other.
-ghost use Rattle.std.specs.Prelude.{◌≡◌, ◌≤◌, ◌<◌, ◌+◌, ◌^◌, ℕ, length, sum};
+ghost use Rattle.std.specs.Prelude.{◌≡◌, ◌≤◌, ◌<◌, ◌+◌, ◌^◌, ℕ, length, sum, IfSome, MatchOption};
 ghost use Rattle.tabled_size_priority.specs.Growing.{NeverFalls};
 ghost use Rattle.tabled_size_priority.specs.Shrinking.{StaysBetween};
 ghost use Rattle.tabled_size_priority.specs.Peaks.{start_of};
@@ -45,9 +45,7 @@ impl PriorityNone {
     {
         let order = Order::FromColumn(self.start(widths.len()));
         let moved = take(Rule::Turns, order, widths, least, by);
-        if let Some(column) = moved.last {
-            self.next = column + 1;
-        }
+        self.go_behind(moved.last);
         moved.walks
     }
 
@@ -61,9 +59,7 @@ impl PriorityNone {
     {
         let order = Order::FromColumn(self.start(widths.len()));
         let moved = give(Rule::Shared, order, widths, by);
-        if let Some(column) = moved.last {
-            self.next = column + 1;
-        }
+        self.go_behind(moved.last);
         moved.walks
     }
 
@@ -72,6 +68,16 @@ impl PriorityNone {
         ensures { result ≡ start_of self.now count }
     {
         if self.next < count { self.next } else { 0 }
+    }
+
+    // Goes on behind a column, or stays.
+    fn go_behind(&mut self, last: Option<usize>)
+        requires { IfSome last (λ column. column + 1 < 2 ^ 64) }
+        ensures { MatchOption last (self.new ≡ self.old) (λ column. self.new ≡ column + 1) }
+    {
+        if let Some(column) = last {
+            self.next = column + 1;
+        }
     }
 }
 
@@ -97,9 +103,7 @@ impl Peaker for PriorityNone {
             None => first_within(mins, values, 0, start),
             found => found,
         };
-        if let Some(column) = named {
-            self.next = column + 1;
-        }
+        self.go_behind(named);
         named
     }
 
