@@ -26,14 +26,14 @@ impl Rule {
     {
         let gap = width.saturating_sub(least) as u128;
         let width = width as u128;
+        let level = (usize::MAX as u128).saturating_sub(number);
         match self {
             Rule::Turns => gap.min(number),
-            Rule::Widest => gap.min(width.saturating_sub(
-                (usize::MAX as u128).saturating_sub(number),
-            )),
-            Rule::Narrowest => { if width < number { gap } else { 0 } }
+            Rule::Widest => gap.min(width.saturating_sub(level)),
+            Rule::Narrowest if width < number => gap,
             Rule::Raised => number.saturating_sub(width),
-            Rule::Shared => { if width == 0 { 0 } else { number } }
+            Rule::Shared if width > 0 => number,
+            Rule::Narrowest | Rule::Shared => 0,
         }
     }
 

@@ -55,14 +55,8 @@ impl PriorityMin {
         ensures at_most { sum widths.old ≤ sum widths.new + by }
         ensures walks { result ≤ 200 }
     {
-        take(
-            Rule::Narrowest,
-            Order::FromSide(self.right),
-            widths,
-            least,
-            by,
-        )
-        .walks
+        let order = Order::FromSide(self.right);
+        take(Rule::Narrowest, order, widths, least, by).walks
     }
 
     /// Grows as `Peaker::grow` does, and answers the walks over the columns that it took: at most 69.

@@ -28,12 +28,19 @@ fn print_shrunk(
     println!(rt; "{choice:?} shrinks {widths:?} by {by}, least {least:?}: {sizes:?}")
 }
 
-fn print_grown(rt: &impl Print, choice: Choice, widths: [usize; 3], by: usize) -> io::Result<()> {
-    let mut sizes = widths;
-    if fits(&sizes, by) {
-        choice.grow(&mut sizes, by);
+fn print_grown(rt: &impl Print, choice: Choice, widths: &[usize], by: usize) -> io::Result<()> {
+    let mut sizes = [0; 3];
+    let count = widths.len().min(3);
+    for column in 0..count {
+        sizes[column] = widths[column];
     }
-    println!(rt; "{choice:?} grows {widths:?} by {by}: {sizes:?}")
+    if fits(&sizes[..count], by) {
+        choice.grow(&mut sizes[..count], by);
+    }
+    println!(rt;
+        "{choice:?} grows {widths:?} by {by}: {:?}",
+        &sizes[..count]
+    )
 }
 
 fn print_large_rows(rt: &impl Print) -> io::Result<()> {
@@ -45,11 +52,11 @@ fn print_large_rows(rt: &impl Print) -> io::Result<()> {
     print_shrunk(rt, Choice::None, [usize::MAX, 0], [0, 0], usize::MAX)?;
     print_shrunk(rt, Choice::None, [HALF, QUARTER], [1, 1], HALF)?;
     print_shrunk(rt, Choice::Right, [HALF, QUARTER], [1, 1], HALF)?;
-    print_grown(rt, Choice::MinLeft, [1, 3, 2], 1 << 40)?;
-    print_grown(rt, Choice::MinRight, [1, HALF, 1], HALF - 3)?;
-    print_grown(rt, Choice::None, [1, 0, 1], (1 << 40) + 1)?;
-    print_grown(rt, Choice::None, [0, 1, 0], usize::MAX - 1)?;
-    print_grown(rt, Choice::MaxRight, [2, 1, 2], HALF)
+    print_grown(rt, Choice::MinLeft, &[1, 3], 1 << 40)?;
+    print_grown(rt, Choice::MinRight, &[1, HALF, 1], HALF - 3)?;
+    print_grown(rt, Choice::None, &[1, 0, 1], (1 << 40) + 1)?;
+    print_grown(rt, Choice::None, &[0, 1, 0], usize::MAX - 1)?;
+    print_grown(rt, Choice::MaxRight, &[2, 1, 2], HALF)
 }
 
 // What the counted calls leave, and whether they took some walks, but not too many.
