@@ -64,6 +64,30 @@ pub record IsMovedInOrder (place first second change : ℕ → ℕ) (count colum
   pub before : (other : ℕ) → other < count → place other < place column → change other ≡ second other
   pub behind : (other : ℕ) → other < count → place column < place other → change other ≡ first other
 
+-- each column has given, or got, what the rule moves at the number
+abbrev pub HasGivenEach : Rule → ℕ → List ℕ → List ℕ → List ℕ → Type 0
+HasGivenEach rule number least widths sizes =
+    EachIndex widths (λ column. slice_index sizes column ≡ slice_index widths column - moved rule number (slice_index widths column) (slice_index least column))
+
+abbrev pub HasGotEach : Rule → ℕ → List ℕ → List ℕ → Type 0
+HasGotEach rule number widths sizes = EachIndex widths (λ column. slice_index sizes column ≡ slice_index widths column + moved rule number (slice_index widths column) 0)
+
+-- what the rule moves at the number is taken from, or given to, the columns of an order, up to the last that changes
+abbrev pub IsTakenInOrder : Rule → ℕ → (ℕ → ℕ) → List ℕ → List ℕ → List ℕ → ℕ → Type 0
+IsTakenInOrder rule number place least widths sizes column =
+    IsMovedInOrder place (λ other. 0) (λ other. moved rule number (slice_index widths other) (slice_index least other)) (λ other. slice_index widths other - slice_index sizes other) (length widths) column
+
+abbrev pub IsGivenInOrder : Rule → ℕ → (ℕ → ℕ) → List ℕ → List ℕ → ℕ → Type 0
+IsGivenInOrder rule number place widths sizes column =
+    IsMovedInOrder place (λ other. 0) (λ other. moved rule number (slice_index widths other) 0) (λ other. slice_index sizes other - slice_index widths other) (length widths) column
+
+-- no width rises, or none falls
+abbrev pub NoneRises : List ℕ → List ℕ → Type 0
+NoneRises widths sizes = EachIndex widths (λ column. slice_index sizes column ≤ slice_index widths column)
+
+abbrev pub NoneFalls : List ℕ → List ℕ → Type 0
+NoneFalls widths sizes = EachIndex widths (λ column. slice_index widths column ≤ slice_index sizes column)
+
 -- nothing is moved, or so much as at some number, and up to the last column that changes as much as at the next
 abbrev pub IsMovedByRule : Rule → (ℕ → ℕ) → List ℕ → List ℕ → (ℕ → ℕ) → ℕ → Option ℕ → Type 0
 IsMovedByRule rule place least widths change amount last =
@@ -79,18 +103,18 @@ abbrev pub amount_of : Rule → List ℕ → ℕ → List ℕ → ℕ
 amount_of rule least by widths = min by (moved_sum rule (2 ^ 64) least widths)
 
 pub record IsTaken (rule : Rule) (place : ℕ → ℕ) (least : List ℕ) (by : ℕ) (widths sizes : List ℕ) (last : Option ℕ) : Type 0 where
-  pub lower : EachIndex widths (λ column. slice_index sizes column ≤ slice_index widths column)
+  pub lower : NoneRises widths sizes
   pub sums : sum sizes + amount_of rule least by widths ≡ sum widths
   pub taken : IsMovedByRule rule place least widths (λ column. slice_index widths column - slice_index sizes column) (amount_of rule least by widths) last
 
 pub record IsGiven (rule : Rule) (place : ℕ → ℕ) (by : ℕ) (widths sizes : List ℕ) (last : Option ℕ) : Type 0 where
-  pub higher : EachIndex widths (λ column. slice_index widths column ≤ slice_index sizes column)
+  pub higher : NoneFalls widths sizes
   pub sums : sum sizes ≡ sum widths + amount_of rule [] by widths
   pub given : IsMovedByRule rule place [] widths (λ column. slice_index sizes column - slice_index widths column) (amount_of rule [] by widths) last
 
 -- each column before one of them gives all that it has above its least, and none behind it gives any
 pub record IsTakenWhole (place : ℕ → ℕ) (least : List ℕ) (by : ℕ) (widths sizes : List ℕ) : Type 0 where
-  pub lower : EachIndex widths (λ column. slice_index sizes column ≤ slice_index widths column)
+  pub lower : NoneRises widths sizes
   pub sums : sum sizes + amount_of Narrowest least by widths ≡ sum widths
   pub taken : (EachIndex widths (λ column. slice_index sizes column ≡ slice_index widths column))
       ⊎ ((column : ℕ) × IsMovedInOrder place (λ other. 0) (λ other. slice_index widths other - slice_index least other)

@@ -1,6 +1,6 @@
 //! Giving to columns.
-ghost use Rattle.std.specs.Prelude.{◌≡◌, ◌≤◌, ◌<◌, ◌+◌, ◌-◌, ◌^◌, ℕ, [], length, sum, slice_index, EachIndex};
-ghost use Rattle.tabled_size_levels.specs.Moving.{BeginsWithin, Gives, IsGiven, IsMovedInOrder, moved, moved_sum, place_of};
+ghost use Rattle.std.specs.Prelude.{◌≡◌, ◌≤◌, ◌<◌, ◌+◌, ◌^◌, [], length, sum};
+ghost use Rattle.tabled_size_levels.specs.Moving.{BeginsWithin, Gives, HasGotEach, IsGiven, IsGivenInOrder, NoneFalls, moved_sum, place_of};
 
 use crate::amounts::moved_in_all;
 use crate::order::Order;
@@ -10,7 +10,7 @@ use crate::search::{Moved, number_below};
 // Gives to each column what the rule moves at the number.
 fn give_each(rule: Rule, number: u128, widths: &mut [usize])
     requires { sum widths.old + moved_sum rule number [] widths.old < 2 ^ 64 }
-    ensures { EachIndex widths.old (λ column. slice_index widths.new column ≡ slice_index widths.old column + moved rule number (slice_index widths.old column) 0) }
+    ensures { HasGotEach rule number widths.old widths.new }
 {
     for column in 0..widths.len() {
         let amount = rule.moved(number, widths[column], 0);
@@ -31,8 +31,8 @@ fn give_in_order(
     requires some { 0 < amount }
     requires fits { sum widths.old + amount < 2 ^ 64 }
     requires enough { amount ≤ moved_sum rule number [] widths.old }
-    ensures moved { IsMovedInOrder (place_of order (length widths.old)) (λ column. 0) (λ column. moved rule number (slice_index widths.old column) 0) (λ column. slice_index widths.new column - slice_index widths.old column) (length widths.old) result }
-    ensures higher { EachIndex widths.old (λ column. slice_index widths.old column ≤ slice_index widths.new column) }
+    ensures moved { IsGivenInOrder rule number (place_of order (length widths.old)) widths.old widths.new result }
+    ensures higher { NoneFalls widths.old widths.new }
     ensures sums { sum widths.new ≡ sum widths.old + amount }
 {
     let mut left = amount;
@@ -49,8 +49,9 @@ fn give_in_order(
     unreachable!()
 }
 
-/// Gives `by` columns to the widths by the rule, or all that the rule can give: what it moves at the greatest number
-/// at which no more than that moves, and the rest in the order.
+/// Gives `by` columns of width by a rule of columns that get, or all that it can give: to each column what the rule
+/// moves at the greatest number at which less than that moves, and the rest in the order, what one number further
+/// moves. The widths and `by` must sum to at most `usize::MAX`, and a round must begin no further than their end.
 pub fn give(rule: Rule, order: Order, widths: &mut [usize], by: usize) -> Moved
     requires gives { Gives rule }
     requires begins { BeginsWithin order (length widths.old) }

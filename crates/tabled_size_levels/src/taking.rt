@@ -1,6 +1,6 @@
 //! Taking from columns.
-ghost use Rattle.std.specs.Prelude.{◌≡◌, ◌≤◌, ◌<◌, ◌+◌, ◌-◌, ◌^◌, ℕ, length, sum, slice_index, EachIndex};
-ghost use Rattle.tabled_size_levels.specs.Moving.{BeginsWithin, IsMovedInOrder, IsTaken, IsTakenWhole, Takes, moved, moved_sum, place_of};
+ghost use Rattle.std.specs.Prelude.{◌≡◌, ◌≤◌, ◌<◌, ◌+◌, ◌^◌, length, sum};
+ghost use Rattle.tabled_size_levels.specs.Moving.{BeginsWithin, HasGivenEach, IsTaken, IsTakenInOrder, IsTakenWhole, NoneRises, Takes, moved_sum, place_of};
 
 use crate::amounts::{least_at, moved_in_all};
 use crate::order::Order;
@@ -10,7 +10,7 @@ use crate::search::{Moved, number_below};
 // Takes from each column what the rule moves at the number.
 fn take_each(rule: Rule, number: u128, widths: &mut [usize], least: &[usize])
     requires { Takes rule }
-    ensures { EachIndex widths.old (λ column. slice_index widths.new column ≡ slice_index widths.old column - moved rule number (slice_index widths.old column) (slice_index least.now column)) }
+    ensures { HasGivenEach rule number least.now widths.old widths.new }
 {
     for column in 0..widths.len() {
         let amount = rule.moved(number, widths[column], least_at(least, column));
@@ -32,8 +32,8 @@ fn take_in_order(
     requires begins { BeginsWithin order (length widths.old) }
     requires some { 0 < amount }
     requires enough { amount ≤ moved_sum rule number least.now widths.old }
-    ensures moved { IsMovedInOrder (place_of order (length widths.old)) (λ column. 0) (λ column. moved rule number (slice_index widths.old column) (slice_index least.now column)) (λ column. slice_index widths.old column - slice_index widths.new column) (length widths.old) result }
-    ensures lower { EachIndex widths.old (λ column. slice_index widths.new column ≤ slice_index widths.old column) }
+    ensures moved { IsTakenInOrder rule number (place_of order (length widths.old)) least.now widths.old widths.new result }
+    ensures lower { NoneRises widths.old widths.new }
     ensures sums { sum widths.new + amount ≡ sum widths.old }
 {
     let mut left = amount;
@@ -50,8 +50,10 @@ fn take_in_order(
     unreachable!()
 }
 
-/// Takes `by` columns from the widths by the rule, or all that the rule can take: what it moves at the greatest
-/// number at which no more than that moves, and the rest in the order.
+/// Takes `by` columns of width by a rule of columns that give, or all that it can take: from each column what the
+/// rule moves at the greatest number at which less than that moves, and the rest in the order, what one number
+/// further moves. A missing least is 0. The widths must sum to at most `usize::MAX`, and a round must begin no
+/// further than their end.
 pub fn take(rule: Rule, order: Order, widths: &mut [usize], least: &[usize], by: usize) -> Moved
     requires takes { Takes rule }
     requires begins { BeginsWithin order (length widths.old) }
@@ -77,8 +79,9 @@ pub fn take(rule: Rule, order: Order, widths: &mut [usize], least: &[usize], by:
     }
 }
 
-/// Takes `by` columns from the widths, or all that they have above their leasts: from one column after the other, in
-/// the order, all that it has above its least.
+/// Takes `by` columns of width, or all that the widths have above their leasts: from one column after the other, in
+/// the order, all that it has. A missing least is 0. The widths must sum to at most `usize::MAX`, and a round must
+/// begin no further than their end.
 pub fn take_whole(order: Order, widths: &mut [usize], least: &[usize], by: usize) -> Moved
     requires begins { BeginsWithin order (length widths.old) }
     requires fits { sum widths.old < 2 ^ 64 }
