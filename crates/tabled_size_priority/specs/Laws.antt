@@ -1,5 +1,5 @@
 -- Why the laws hold: of sums, of runs, and of each form of shrunk and grown lists.
-pub mod Lists
+pub use Rattle.tabled_size_levels.specs.Lists
 pub mod Runs
 pub mod Growths
 pub mod Places
@@ -11,3 +11,4 @@ pub mod Raising
 pub mod Alone
 pub mod Turning
 pub mod Turns
+pub mod Moves

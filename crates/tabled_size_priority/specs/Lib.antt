@@ -1,4 +1,4 @@
-pub mod Columns
+pub use Rattle.tabled_size_levels.specs.Columns
 pub mod Peaking
 pub mod Peaks
 pub mod Running

@@ -1,8 +1,11 @@
 //! From the left.
-ghost use Rattle.std.specs.Prelude.{false};
+ghost use Rattle.std.specs.Prelude.{◌≡◌, ◌≤◌, ◌<◌, ◌+◌, ◌^◌, false, length, sum};
+ghost use Rattle.tabled_size_priority.specs.Growing.{IsGrownFromSide, NeverFalls};
+ghost use Rattle.tabled_size_priority.specs.Shrinking.{IsShrunkFromSide, StaysBetween};
 
 use crate::peaker::Peaker;
 use crate::search::first_within;
+use tabled_size_levels::{Order, take_whole};
 
 /// The leftmost column that can give or get. It keeps no state.
 #[derive(Clone, Copy, Debug, Default, PartialEq, Eq, PartialOrd, Ord, Hash)]
@@ -12,6 +15,32 @@ impl PriorityLeft {
     /// The priority of the left.
     pub const fn new() -> PriorityLeft {
         PriorityLeft
+    }
+
+    /// Shrinks as `Peaker::shrink` does, and answers the walks over the columns that it took: at most 2.
+    pub fn shrink_counted(&mut self, widths: &mut [usize], least: &[usize], by: usize) -> u32
+        requires fits { sum widths.old < 2 ^ 64 }
+        requires leasts { length least.now ≡ length widths.old }
+        ensures shrunk { IsShrunkFromSide false least.now by widths.old widths.new }
+        ensures between { StaysBetween least.now widths.old widths.new }
+        ensures at_most { sum widths.old ≤ sum widths.new + by }
+        ensures walks { result ≤ 200 }
+    {
+        take_whole(Order::FromSide(false), widths, least, by).walks
+    }
+
+    /// Grows as `Peaker::grow` does, and answers the walks over the columns that it took: at most 1.
+    pub fn grow_counted(&mut self, widths: &mut [usize], by: usize) -> u32
+        requires { sum widths.old + by < 2 ^ 64 }
+        ensures grown { IsGrownFromSide false by widths.old widths.new }
+        ensures never_falls { NeverFalls widths.old widths.new }
+        ensures at_most { sum widths.new ≤ sum widths.old + by }
+        ensures walks { result ≤ 200 }
+    {
+        if let Some(column) = self.peak(&[], widths) {
+            widths[column] += by;
+        }
+        1
     }
 }
 
@@ -34,5 +63,13 @@ impl Peaker for PriorityLeft {
 
     fn peak(&mut self, mins: &[usize], values: &[usize]) -> Option<usize> {
         first_within(mins, values, 0, values.len())
+    }
+
+    fn shrink(&mut self, widths: &mut [usize], least: &[usize], by: usize) {
+        self.shrink_counted(widths, least, by);
+    }
+
+    fn grow(&mut self, widths: &mut [usize], by: usize) {
+        self.grow_counted(widths, by);
     }
 }

@@ -1,9 +1,12 @@
 //! The widest first.
-ghost use Rattle.std.specs.Prelude.{◌≡◌, Bool, true, false};
+ghost use Rattle.std.specs.Prelude.{◌≡◌, ◌≤◌, ◌<◌, ◌+◌, ◌^◌, Bool, true, false, length, sum};
+ghost use Rattle.tabled_size_priority.specs.Growing.{IsGrownByWidest, NeverFalls};
+ghost use Rattle.tabled_size_priority.specs.Shrinking.{IsShrunkByWidest, StaysBetween};
 
 use crate::peaker::Peaker;
 use crate::search::least_at;
 use std::marker::Model;
+use tabled_size_levels::{Order, Rule, take};
 
 /// The widest column that can give or get; of equally wide ones the leftmost, or the rightmost. It keeps
 /// no state but that side.
@@ -42,6 +45,32 @@ impl PriorityMax {
     {
         PriorityMax::new(true)
     }
+
+    /// Shrinks as `Peaker::shrink` does, and answers the walks over the columns that it took: at most 68.
+    pub fn shrink_counted(&mut self, widths: &mut [usize], least: &[usize], by: usize) -> u32
+        requires fits { sum widths.old < 2 ^ 64 }
+        requires leasts { length least.now ≡ length widths.old }
+        ensures shrunk { IsShrunkByWidest self.old least.now by widths.old widths.new × (self.new ≡ self.old) }
+        ensures between { StaysBetween least.now widths.old widths.new }
+        ensures at_most { sum widths.old ≤ sum widths.new + by }
+        ensures walks { result ≤ 200 }
+    {
+        take(Rule::Widest, Order::FromSide(self.right), widths, least, by).walks
+    }
+
+    /// Grows as `Peaker::grow` does, and answers the walks over the columns that it took: at most 1.
+    pub fn grow_counted(&mut self, widths: &mut [usize], by: usize) -> u32
+        requires { sum widths.old + by < 2 ^ 64 }
+        ensures grown { IsGrownByWidest self.old by widths.old widths.new × (self.new ≡ self.old) }
+        ensures never_falls { NeverFalls widths.old widths.new }
+        ensures at_most { sum widths.new ≤ sum widths.old + by }
+        ensures walks { result ≤ 200 }
+    {
+        if let Some(column) = self.peak(&[], widths) {
+            widths[column] += by;
+        }
+        1
+    }
 }
 
 impl Peaker for PriorityMax {
@@ -74,5 +103,13 @@ impl Peaker for PriorityMax {
             }
         }
         best
+    }
+
+    fn shrink(&mut self, widths: &mut [usize], least: &[usize], by: usize) {
+        self.shrink_counted(widths, least, by);
+    }
+
+    fn grow(&mut self, widths: &mut [usize], by: usize) {
+        self.grow_counted(widths, by);
     }
 }

@@ -1,9 +1,12 @@
 //! The narrowest first.
-ghost use Rattle.std.specs.Prelude.{◌≡◌, Bool, true, false};
+ghost use Rattle.std.specs.Prelude.{◌≡◌, ◌≤◌, ◌<◌, ◌+◌, ◌^◌, Bool, true, false, length, sum};
+ghost use Rattle.tabled_size_priority.specs.Growing.{IsGrownByNarrowest, NeverFalls};
+ghost use Rattle.tabled_size_priority.specs.Shrinking.{IsShrunkByNarrowest, StaysBetween};
 
 use crate::peaker::Peaker;
 use crate::search::least_at;
 use std::marker::Model;
+use tabled_size_levels::{Order, Rule, give, take};
 
 /// The narrowest column that can give or get; of equally narrow ones the leftmost, or the rightmost. It keeps
 /// no state but that side.
@@ -42,6 +45,34 @@ impl PriorityMin {
     {
         PriorityMin::new(true)
     }
+
+    /// Shrinks as `Peaker::shrink` does, and answers the walks over the columns that it took: at most 68.
+    pub fn shrink_counted(&mut self, widths: &mut [usize], least: &[usize], by: usize) -> u32
+        requires fits { sum widths.old < 2 ^ 64 }
+        requires leasts { length least.now ≡ length widths.old }
+        ensures shrunk { IsShrunkByNarrowest self.old least.now by widths.old widths.new × (self.new ≡ self.old) }
+        ensures between { StaysBetween least.now widths.old widths.new }
+        ensures at_most { sum widths.old ≤ sum widths.new + by }
+        ensures walks { result ≤ 200 }
+    {
+        let order = Order::FromSide(self.right);
+        take(Rule::Narrowest, order, widths, least, by).walks
+    }
+
+    /// Grows as `Peaker::grow` does, and answers the walks over the columns that it took: at most 69.
+    pub fn grow_counted(&mut self, widths: &mut [usize], by: usize) -> u32
+        requires { sum widths.old + by < 2 ^ 64 }
+        ensures grown { IsGrownByNarrowest self.old by widths.old widths.new × (self.new ≡ self.old) }
+        ensures never_falls { NeverFalls widths.old widths.new }
+        ensures at_most { sum widths.new ≤ sum widths.old + by }
+        ensures walks { result ≤ 200 }
+    {
+        // nothing grows where a width is 0
+        if widths.contains(&0) {
+            return 1;
+        }
+        1 + give(Rule::Raised, Order::FromSide(self.right), widths, by).walks
+    }
 }
 
 impl Peaker for PriorityMin {
@@ -78,5 +109,13 @@ impl Peaker for PriorityMin {
             }
         }
         best
+    }
+
+    fn shrink(&mut self, widths: &mut [usize], least: &[usize], by: usize) {
+        self.shrink_counted(widths, least, by);
+    }
+
+    fn grow(&mut self, widths: &mut [usize], by: usize) {
+        self.grow_counted(widths, by);
     }
 }

@@ -1,9 +1,14 @@
 //! One column after the other.
-ghost use Rattle.std.specs.Prelude.{◌≡◌, ℕ};
+ghost use Rattle.std.specs.Prelude.{◌≡◌, ◌≤◌, ◌<◌, ◌+◌, ◌^◌, ℕ, length, sum, IfSome, MatchOption};
+ghost use Rattle.tabled_size_priority.specs.Growing.{NeverFalls};
+ghost use Rattle.tabled_size_priority.specs.Shrinking.{StaysBetween};
+ghost use Rattle.tabled_size_priority.specs.Peaks.{start_of};
+ghost use Rattle.tabled_size_priority.specs.Turns.{grows_in_turns, shrinks_in_turns};
 
 use crate::peaker::Peaker;
 use crate::search::first_within;
 use std::marker::Model;
+use tabled_size_levels::{Order, Rule, give, take};
 
 /// One column after the other that can give or get, round and round from the first. It keeps the column
 /// at which it goes on: the one after the last that it named, or the first where a list has no such
@@ -28,6 +33,52 @@ impl PriorityNone {
     {
         PriorityNone { next: 0 }
     }
+
+    /// Shrinks as `Peaker::shrink` does, and answers the walks over the columns that it took: at most 68.
+    pub fn shrink_counted(&mut self, widths: &mut [usize], least: &[usize], by: usize) -> u32
+        requires fits { sum widths.old < 2 ^ 64 }
+        requires leasts { length least.now ≡ length widths.old }
+        ensures shrunk { shrinks_in_turns self.old least.now by widths.old self.new widths.new }
+        ensures between { StaysBetween least.now widths.old widths.new }
+        ensures at_most { sum widths.old ≤ sum widths.new + by }
+        ensures walks { result ≤ 200 }
+    {
+        let order = Order::FromColumn(self.start(widths.len()));
+        let moved = take(Rule::Turns, order, widths, least, by);
+        self.go_behind(moved.last);
+        moved.walks
+    }
+
+    /// Grows as `Peaker::grow` does, and answers the walks over the columns that it took: at most 68.
+    pub fn grow_counted(&mut self, widths: &mut [usize], by: usize) -> u32
+        requires { sum widths.old + by < 2 ^ 64 }
+        ensures grown { grows_in_turns self.old by widths.old self.new widths.new }
+        ensures never_falls { NeverFalls widths.old widths.new }
+        ensures at_most { sum widths.new ≤ sum widths.old + by }
+        ensures walks { result ≤ 200 }
+    {
+        let order = Order::FromColumn(self.start(widths.len()));
+        let moved = give(Rule::Shared, order, widths, by);
+        self.go_behind(moved.last);
+        moved.walks
+    }
+
+    // The column, of so many, at which a round begins.
+    fn start(&self, count: usize) -> usize
+        ensures { result ≡ start_of self.now count }
+    {
+        if self.next < count { self.next } else { 0 }
+    }
+
+    // Goes on behind a column, or stays.
+    fn go_behind(&mut self, last: Option<usize>)
+        requires { IfSome last (λ column. column + 1 < 2 ^ 64) }
+        ensures { MatchOption last (self.new ≡ self.old) (λ column. self.new ≡ column + 1) }
+    {
+        if let Some(column) = last {
+            self.next = column + 1;
+        }
+    }
 }
 
 impl Peaker for PriorityNone {
@@ -47,14 +98,20 @@ impl Peaker for PriorityNone {
 
     fn peak(&mut self, mins: &[usize], values: &[usize]) -> Option<usize> {
         let count = values.len();
-        let start = if self.next < count { self.next } else { 0 };
+        let start = self.start(count);
         let named = match first_within(mins, values, start, count) {
             None => first_within(mins, values, 0, start),
             found => found,
         };
-        if let Some(column) = named {
-            self.next = column + 1;
-        }
+        self.go_behind(named);
         named
+    }
+
+    fn shrink(&mut self, widths: &mut [usize], least: &[usize], by: usize) {
+        self.shrink_counted(widths, least, by);
+    }
+
+    fn grow(&mut self, widths: &mut [usize], by: usize) {
+        self.grow_counted(widths, by);
     }
 }

@@ -1,8 +1,11 @@
 //! From the right.
-ghost use Rattle.std.specs.Prelude.{true};
+ghost use Rattle.std.specs.Prelude.{◌≡◌, ◌≤◌, ◌<◌, ◌+◌, ◌^◌, true, length, sum};
+ghost use Rattle.tabled_size_priority.specs.Growing.{IsGrownFromSide, NeverFalls};
+ghost use Rattle.tabled_size_priority.specs.Shrinking.{IsShrunkFromSide, StaysBetween};
 
 use crate::peaker::Peaker;
 use crate::search::least_at;
+use tabled_size_levels::{Order, take_whole};
 
 /// The rightmost column that can give or get. It keeps no state.
 #[derive(Clone, Copy, Debug, Default, PartialEq, Eq, PartialOrd, Ord, Hash)]
@@ -12,6 +15,32 @@ impl PriorityRight {
     /// The priority of the right.
     pub const fn new() -> PriorityRight {
         PriorityRight
+    }
+
+    /// Shrinks as `Peaker::shrink` does, and answers the walks over the columns that it took: at most 2.
+    pub fn shrink_counted(&mut self, widths: &mut [usize], least: &[usize], by: usize) -> u32
+        requires fits { sum widths.old < 2 ^ 64 }
+        requires leasts { length least.now ≡ length widths.old }
+        ensures shrunk { IsShrunkFromSide true least.now by widths.old widths.new }
+        ensures between { StaysBetween least.now widths.old widths.new }
+        ensures at_most { sum widths.old ≤ sum widths.new + by }
+        ensures walks { result ≤ 200 }
+    {
+        take_whole(Order::FromSide(true), widths, least, by).walks
+    }
+
+    /// Grows as `Peaker::grow` does, and answers the walks over the columns that it took: at most 1.
+    pub fn grow_counted(&mut self, widths: &mut [usize], by: usize) -> u32
+        requires { sum widths.old + by < 2 ^ 64 }
+        ensures grown { IsGrownFromSide true by widths.old widths.new }
+        ensures never_falls { NeverFalls widths.old widths.new }
+        ensures at_most { sum widths.new ≤ sum widths.old + by }
+        ensures walks { result ≤ 200 }
+    {
+        if let Some(column) = self.peak(&[], widths) {
+            widths[column] += by;
+        }
+        1
     }
 }
 
@@ -39,5 +68,13 @@ impl Peaker for PriorityRight {
             }
         }
         None
+    }
+
+    fn shrink(&mut self, widths: &mut [usize], least: &[usize], by: usize) {
+        self.shrink_counted(widths, least, by);
+    }
+
+    fn grow(&mut self, widths: &mut [usize], by: usize) {
+        self.grow_counted(widths, by);
     }
 }

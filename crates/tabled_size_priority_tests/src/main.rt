@@ -1,9 +1,12 @@
-//! Runs the priorities of `tabled_size_priority` on worked rows, on lists of up to three small widths, and on
-//! priorities of its own, and prints what they answer. What it must print is written by
+//! Runs the priorities of `tabled_size_priority` on worked rows, on large widths and long lists, on lists of up to
+//! three small widths, there also beside the trait's own bodies, and on priorities of its own, and prints what they
+//! answer. What it must print is written by
 //! `tests/priorities/expected`, which computes the closed forms.
 #![tactic(auto)]
 
+mod alike;
 mod foreign;
+mod large;
 mod rows;
 mod states;
 mod sums;
@@ -15,5 +18,7 @@ fn main(rt: HostRuntime) -> io::Result<()> {
     rows::print_rows(&rt)?;
     foreign::print_foreign(&rt)?;
     states::print_states(&rt)?;
+    large::print_large(&rt, rt.alloc())?;
+    alike::print_all_alike(&rt)?;
     sweep::print_sweep(&rt)
 }

@@ -6,7 +6,7 @@ use std::io;
 use std::io::Print;
 use tabled_size_priority::Choice;
 
-const CHOICES: [Choice; 7] = [
+pub const CHOICES: [Choice; 7] = [
     Choice::None,
     Choice::Left,
     Choice::Right,
@@ -17,10 +17,10 @@ const CHOICES: [Choice; 7] = [
 ];
 
 // How many lists of so many numbers below 6 there are.
-const COUNTS: [usize; 4] = [1, 6, 36, 216];
+pub const COUNTS: [usize; 4] = [1, 6, 36, 216];
 
 // The numbers of a list by its number among them.
-fn numbers(index: usize) -> [usize; 3] {
+pub fn numbers(index: usize) -> [usize; 3] {
     [index % 6, index / 6 % 6, index / 36 % 6]
 }
 

@@ -1,43 +1,13 @@
 -- The places of columns: no two columns have one place, and of two columns the narrower one comes first in order of width.
-use Rattle.std.proofs.Common.{◌≡◌, ℕ, ◌+◌, ◌-◌, ◌<◌, ◌≤◌, List, length, map, get_or, sum, refl, sym, ◌∙◌, ap, arith, ◌≢◌, inl, inr, true, false, Bool, cond}
+use Rattle.std.proofs.Common.{◌≡◌, ℕ, ◌<◌, ◌≤◌, List, length, map, get_or, sum, refl, sym, ◌∙◌, ap, arith, ◌≢◌, inl, inr, true, false, Bool, cond}
 use Rattle.std.specs.Prelude.{◌⊎◌, nat_lt, ◌==◌, ◌&&◌, ◌||◌}
 use Rattle.std.specs.List.{range_with_len}
 use Rattle.std.proofs.lemmas.Bool.{cases_lt, cases_order}
 use Rattle.std.proofs.lemmas.Bool.Decides.{nat_tests}
 use Rattle.std.proofs.lemmas.List.Sums.{sum-map}
-use Rattle.tabled_size_priority.specs.Columns.{from_side, from_column, is_narrower, by_width}
+use Rattle.tabled_size_priority.specs.Columns.{from_side, is_narrower, by_width}
+pub use Rattle.tabled_size_levels.specs.Steps.{IsPlacing, column-placing, from_column-after, from_column-before, side-placing}
 use Rattle.tabled_size_priority.specs.Laws.Lists.{map-same, map-le, at_column}
-
--- no two columns have one place
-abbrev pub IsPlacing : (ℕ → ℕ) → ℕ → Type 0
-IsPlacing place count = (i j : ℕ) → i < count → j < count → place i ≡ place j → i ≡ j
-
-pub side-placing : (right : Bool) (count : ℕ) → IsPlacing (from_side right count) count
-side-placing true count = λ i j i_inside j_inside same. omega arith
-side-placing false count = λ i j i_inside j_inside same. same
-
-pub from_column-after : (start count column : ℕ) → start ≤ column → from_column start count column ≡ column - start
-from_column-after start count column h = grind (arith, nat_tests)
-
-pub from_column-before : (start count column : ℕ) → column < start → from_column start count column ≡ column + count - start
-from_column-before start count column h = grind (arith, nat_tests)
-
-pub column-placing : (start count : ℕ) → start ≤ count → IsPlacing (from_column start count) count
-column-placing start count start_inside i j i_inside j_inside same =
-    elim (cases_lt i start) [
-      | inl i_before ↦
-          let at_i : from_column start count i ≡ i + count - start = from_column-before start count i i_before in
-          elim (cases_lt j start) [
-            | inl j_before ↦ let at_j : from_column start count j ≡ j + count - start = from_column-before start count j j_before in omega arith
-            | inr j_after ↦ let at_j : from_column start count j ≡ j - start = from_column-after start count j j_after in omega arith
-          ]
-      | inr i_after ↦
-          let at_i : from_column start count i ≡ i - start = from_column-after start count i i_after in
-          elim (cases_lt j start) [
-            | inl j_before ↦ let at_j : from_column start count j ≡ j + count - start = from_column-before start count j j_before in omega arith
-            | inr j_after ↦ let at_j : from_column start count j ≡ j - start = from_column-after start count j j_after in omega arith
-          ]
-    ]
 
 -- ---- in order of width
 

@@ -176,7 +176,7 @@ narrowest_grown right by widths after sizes run = (
 chained : (w k a c b d x y : ℕ) → (a < b) ⊎ ((a ≡ b) × (c ≤ d)) → ((k < c) × (x ≡ max w (a + 1))) ⊎ ((c ≤ k) × (x ≡ max w a)) → ((k < d) × (y ≡ max w (b + 1))) ⊎ ((d ≤ k) × (y ≡ max w b)) → x ≤ y
 chained w k a c b d x y later a_cases b_cases = grind arith
 
-cases-of : (level c k w : ℕ) → ((k < c) × (raised_to_level level c k w ≡ max w (level + 1))) ⊎ ((c ≤ k) × (raised_to_level level c k w ≡ max w level))
+pub cases-of : (level c k w : ℕ) → ((k < c) × (raised_to_level level c k w ≡ max w (level + 1))) ⊎ ((c ≤ k) × (raised_to_level level c k w ≡ max w level))
 cases-of level c k w = elim (cases_lt k c) [ inl before ↦ inl (before, before-is level c k w before) | inr behind ↦ inr (behind, behind-is level c k w behind) ]
 
 raised-chain : (w k a c b d : ℕ) → (a < b) ⊎ ((a ≡ b) × (c ≤ d)) → raised_to_level a c k w ≤ raised_to_level b d k w

@@ -26,7 +26,7 @@ taking : (least widths : List ℕ) → IsTurning least widths (left_at least wid
 taking least widths = record { begins = λ i below. omega arith; rests = λ i t low. omega arith; gives = λ i t above. omega arith }
 
 -- numbers alone: w is a width, l its least, s its size, and k how often every column was asked
-given-cases : (k c place w l : ℕ) → ((place < c) × (given_in_turns k c place w l ≡ w - min (w - l) (k + 1))) ⊎ ((c ≤ place) × (given_in_turns k c place w l ≡ w - min (w - l) k))
+pub given-cases : (k c place w l : ℕ) → ((place < c) × (given_in_turns k c place w l ≡ w - min (w - l) (k + 1))) ⊎ ((c ≤ place) × (given_in_turns k c place w l ≡ w - min (w - l) k))
 given-cases k c place w l = elim (cases_lt place c) [ inl before ↦ inl (before, grind (arith, nat_tests)) | inr behind ↦ inr (behind, grind (arith, nat_tests)) ]
 
 keeps-shrinking : (least widths : List ℕ) (before : ℕ)
@@ -130,7 +130,7 @@ giving widths = record {
 }
 
 -- numbers alone
-got-cases : (k c place w : ℕ) → ((w ≡ 0) × (got_in_turns k c place w ≡ 0)) ⊎ ((0 < w) × (((place < c) × (got_in_turns k c place w ≡ w + (k + 1))) ⊎ ((c ≤ place) × (got_in_turns k c place w ≡ w + k))))
+pub got-cases : (k c place w : ℕ) → ((w ≡ 0) × (got_in_turns k c place w ≡ 0)) ⊎ ((0 < w) × (((place < c) × (got_in_turns k c place w ≡ w + (k + 1))) ⊎ ((c ≤ place) × (got_in_turns k c place w ≡ w + k))))
 got-cases k c place w = elim (cases_lt 0 w) [
   | inr none ↦ inl (omega arith, got-none w (if nat_lt place c then k + 1 else k) (omega arith))
   | inl some ↦ inr (
@@ -235,7 +235,7 @@ grown-after widths turn before after sizes (inr turned) =
     )
 
 -- a list has an element that is not 0, or none
-some_positive : (xs : List ℕ) → ((i : ℕ) × (i < length xs) × (0 < get_or xs i 0)) ⊎ ((i : ℕ) → i < length xs → get_or xs i 0 ≡ 0)
+pub some_positive : (xs : List ℕ) → ((i : ℕ) × (i < length xs) × (0 < get_or xs i 0)) ⊎ ((i : ℕ) → i < length xs → get_or xs i 0 ≡ 0)
 some_positive [] = inr (λ i below. absurd (omega arith))
 some_positive (suc x ∷ xs) = inl (0, omega arith, omega arith)
 some_positive (zero ∷ xs) = elim (some_positive xs) [

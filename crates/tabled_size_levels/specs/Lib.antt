@@ -1,0 +1,5 @@
+pub mod Columns
+pub mod Lists
+pub mod Moving
+pub mod Steps
+pub mod Passes
