@@ -4,8 +4,8 @@ ghost use Rattle.tabled_size_levels.specs.Moving.{moved_sum};
 
 use crate::rule::Rule;
 
-// The least of a column, 0 where it is missing.
-pub(crate) fn least_at(least: &[usize], column: usize) -> usize
+/// The least of a column, 0 where it is missing.
+pub fn least_at(least: &[usize], column: usize) -> usize
     ensures { result ≡ slice_index least.now column }
 {
     least.get(column).copied().unwrap_or(0)

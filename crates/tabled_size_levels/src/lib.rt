@@ -9,6 +9,7 @@ mod rule;
 mod search;
 mod taking;
 
+pub use amounts::least_at;
 pub use giving::give;
 pub use order::Order;
 pub use rule::Rule;

@@ -4,9 +4,8 @@ ghost use Rattle.tabled_size_priority.specs.Growing.{IsGrownByWidest, NeverFalls
 ghost use Rattle.tabled_size_priority.specs.Shrinking.{IsShrunkByWidest, StaysBetween};
 
 use crate::peaker::Peaker;
-use crate::search::least_at;
 use std::marker::Model;
-use tabled_size_levels::{Order, Rule, take};
+use tabled_size_levels::{Order, Rule, least_at, take};
 
 /// The widest column that can give or get; of equally wide ones the leftmost, or the rightmost. It keeps
 /// no state but that side.

@@ -4,9 +4,8 @@ ghost use Rattle.tabled_size_priority.specs.Growing.{IsGrownByNarrowest, NeverFa
 ghost use Rattle.tabled_size_priority.specs.Shrinking.{IsShrunkByNarrowest, StaysBetween};
 
 use crate::peaker::Peaker;
-use crate::search::least_at;
 use std::marker::Model;
-use tabled_size_levels::{Order, Rule, give, take};
+use tabled_size_levels::{Order, Rule, give, least_at, take};
 
 /// The narrowest column that can give or get; of equally narrow ones the leftmost, or the rightmost. It keeps
 /// no state but that side.

@@ -4,7 +4,7 @@ ghost use Rattle.tabled_size_priority.specs.Growing.{NeverFalls};
 ghost use Rattle.tabled_size_priority.specs.Running.{IsGrownBy, IsShrunkBy};
 ghost use Rattle.tabled_size_priority.specs.Shrinking.{StaysBetween, room_of};
 
-use crate::search::least_at;
+use tabled_size_levels::least_at;
 
 /// A priority of columns: it is asked for one column after another, from which a column of width is
 /// taken, or to which one is given. The five of this crate come to the same without being asked.

@@ -4,8 +4,7 @@ ghost use Rattle.tabled_size_priority.specs.Growing.{IsGrownFromSide, NeverFalls
 ghost use Rattle.tabled_size_priority.specs.Shrinking.{IsShrunkFromSide, StaysBetween};
 
 use crate::peaker::Peaker;
-use crate::search::least_at;
-use tabled_size_levels::{Order, take_whole};
+use tabled_size_levels::{Order, least_at, take_whole};
 
 /// The rightmost column that can give or get. It keeps no state.
 #[derive(Clone, Copy, Debug, Default, PartialEq, Eq, PartialOrd, Ord, Hash)]

@@ -1,13 +1,8 @@
 //! Searches for a column above its least.
-ghost use Rattle.std.specs.Prelude.{◌≡◌, ℕ, ◌+◌, ◌-◌, ◌<◌, ◌≤◌, length, slice_index};
+ghost use Rattle.std.specs.Prelude.{◌≤◌, length};
 ghost use Rattle.tabled_size_priority.specs.Peaking.{FirstWithin};
 
-// The least of a column, 0 where it is missing.
-pub(crate) fn least_at(least: &[usize], column: usize) -> usize
-    ensures { result ≡ slice_index least.now column }
-{
-    least.get(column).copied().unwrap_or(0)
-}
+use tabled_size_levels::least_at;
 
 // The first column from `start` to `end` that is above its least.
 pub(crate) fn first_within(
