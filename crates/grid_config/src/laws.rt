@@ -3,11 +3,16 @@
 ghost use Rattle.std.specs.Prelude.{◌≡◌, ◌↔◌, IsTrue};
 ghost use Rattle.std.specs.declared.cmp.Ordering.TheVariants.{Equal};
 ghost use Rattle.grid_config.specs.declared.compact.CompactConfig.{CompactConfig as CompactSettings};
-ghost use Rattle.grid_config.specs.Compact.{compact_of};
+ghost use Rattle.grid_config.specs.Compact.{Compact, compact_of};
 ghost use Rattle.grid_config.specs.Equality.{compared, equal};
+ghost use Rattle.grid_config.specs.Looks.{compact_look, look_of};
+ghost use Rattle.grid_config.specs.Settings.{Settings, StartsWith, compact_start};
 
 pub use grid_config_colors::laws::{equal_colors_have_the_same_texts, one_meaning};
-pub use grid_config_spans::laws::{good_spans_part_the_table, without_spans_all_is_visible};
+pub use grid_config_spans::laws::{
+    good_spans_part_the_table, owners_part_the_table, visible_cells_own_themselves,
+    without_spans_all_is_visible,
+};
 pub use grid_config_values::laws::{
     boundaries_by_name, equal_values_are_the_same, positions_go_by_rows, the_last_call_decides,
 };
@@ -16,4 +21,10 @@ pub use grid_config_values::laws::{
 pub fn equal_settings_are_the_same()
     ensures equality { (a b : CompactSettings) → IsTrue (equal a b) ↔ (compact_of a ≡ compact_of b) }
     ensures order { (a b : CompactSettings) → (compared a b ≡ Equal) ↔ (compact_of a ≡ compact_of b) }
+{}
+
+/// Settings that start as those of a compact table look as they do.
+pub fn compact_settings_look_the_same()
+    ensures { (compact : Compact) (settings : Settings) → StartsWith (compact_start compact) settings →
+        look_of settings ≡ compact_look compact }
 {}

@@ -3,7 +3,8 @@ ghost use Rattle.std.specs.Prelude.{◌≡◌, ◌≢◌, ◌<◌, ◌==◌, ◌
 ghost use Rattle.grid_config_values.specs.declared.entity.Entity.TheVariants.{Global as EveryCell};
 ghost use Rattle.grid_config_values.specs.declared.fault.Fault.TheVariants.{Memory, Spans as BadSpan};
 ghost use Rattle.grid_config_values.specs.Glyphs.{boundary_count, boundary_kind, has_column_boundary, has_row_boundary};
-ghost use Rattle.grid_config_spans.specs.Spans.{AreGood, IsVisible, SetsColumns, SetsRows, extent_at, single};
+ghost use Rattle.grid_config_spans.specs.Owners.{owner};
+ghost use Rattle.grid_config_spans.specs.Spans.{AreGood, ArePositive, IsVisible, SetsColumns, SetsRows, extent_at, single};
 ghost use Rattle.grid_config_values.specs.Settings.{IsUnchanged, SetsCovered, value_at};
 ghost use Rattle.grid_config.specs.Compact.{compact_of};
 ghost use Rattle.grid_config.specs.Settings.{IsUncolored, KeepsOthers, StartsWith, compact_start, new_start};
@@ -442,10 +443,22 @@ impl SpannedConfig {
         self.spans.is_cell_visible(pos)
     }
 
+    /// The cell that is seen at this place: the first by row, then by column, of the other cells whose
+    /// rectangles hold the place, and where there is none the cell of the place itself. Each cell takes at
+    /// least one row and one column. Looks at no span where there is none.
+    pub fn owner(&self, pos: Position) -> Position
+        ensures first { result ≡ owner (extent_at self.now.spans) pos }
+        ensures positive { ArePositive self.now.spans }
+    {
+        self.spans.owner(pos)
+    }
+
     /// Whether in a table of so many rows and columns the rectangle of each cell that spans several
     /// stays inside the table, and no two of them share a place. Cells outside the table don't count.
+    /// Each cell takes at least one row and one column.
     pub fn spans_are_good(&self, rows: usize, columns: usize) -> bool
-        ensures { IsTrue result ↔ AreGood self.now.spans rows columns }
+        ensures good { IsTrue result ↔ AreGood self.now.spans rows columns }
+        ensures positive { ArePositive self.now.spans }
     {
         self.spans.spans_are_good(rows, columns)
     }

@@ -1,3 +1,4 @@
 pub mod Rectangles
 pub mod Spans
 pub mod Search
+pub mod Owners

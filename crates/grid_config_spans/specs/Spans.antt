@@ -15,6 +15,10 @@ single = record { rows = 1; columns = 1 }
 unfoldable pub extent_at : List (Position × Extent) → Position → Extent
 extent_at spans place = unwrap_or (lookup (same_place place) spans) single
 
+-- each cell takes at least one row and one column
+abbrev pub ArePositive : List (Position × Extent) → Type 0
+ArePositive spans = (place : Position) → (0 < (extent_at spans place).rows) × (0 < (extent_at spans place).columns)
+
 -- the cell spans several rows or columns
 abbrev pub IsAnchor : List (Position × Extent) → Position → Type 0
 IsAnchor spans place = extent_at spans place ≢ single

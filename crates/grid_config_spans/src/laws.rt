@@ -1,9 +1,11 @@
 //! Laws of the definitions that the other contracts cite.
-ghost use Rattle.std.specs.Prelude.{◌≡◌, ◌≢◌, ℕ, List, []};
+ghost use Rattle.std.specs.Prelude.{◌≡◌, ◌≢◌, ◌↔◌, ℕ, IsTrue, List, []};
 ghost use Rattle.grid_config_values.specs.declared.position.Position.{Position as Place};
 ghost use Rattle.grid_config_spans.specs.declared.extent.Extent.{Extent as Size};
+ghost use Rattle.grid_config_values.specs.Order.{same_place};
+ghost use Rattle.grid_config_spans.specs.Owners.{owner};
 ghost use Rattle.grid_config_spans.specs.Rectangles.{Holds};
-ghost use Rattle.grid_config_spans.specs.Spans.{AreGood, IsInTable, IsVisible, extent_at};
+ghost use Rattle.grid_config_spans.specs.Spans.{AreGood, ArePositive, IsInTable, IsVisible, extent_at};
 
 /// Where the spans of a table are good, two visible cells share no place of it, and a cell whose
 /// rectangle holds another place of it is visible.
@@ -19,4 +21,28 @@ pub fn good_spans_part_the_table()
 pub fn without_spans_all_is_visible()
     ensures visible { (place : Place) → IsVisible [] place }
     ensures good { (rows columns : ℕ) → AreGood [] rows columns }
+{}
+
+/// Where the spans of a table are good and no cell is empty, each place of it has one owner, which holds
+/// it, is visible and in the table, and owns every place of the table that its rectangle holds.
+pub fn owners_part_the_table()
+    ensures holds { (spans : List (Place × Size)) (place : Place) → ArePositive spans →
+        Holds (owner (extent_at spans) place) (extent_at spans (owner (extent_at spans) place)) place }
+    ensures visible { (spans : List (Place × Size)) (rows columns : ℕ) (place : Place) → AreGood spans rows columns →
+        IsInTable rows columns place → IsVisible spans (owner (extent_at spans) place) }
+    ensures inside { (spans : List (Place × Size)) (rows columns : ℕ) (place : Place) → IsInTable rows columns place →
+        IsInTable rows columns (owner (extent_at spans) place) }
+    ensures only { (spans : List (Place × Size)) (rows columns : ℕ) (a place : Place) → ArePositive spans → AreGood spans rows columns →
+        IsInTable rows columns place → IsVisible spans a → Holds a (extent_at spans a) place → a ≡ owner (extent_at spans) place }
+    ensures owns { (spans : List (Place × Size)) (rows columns : ℕ) (place other : Place) → ArePositive spans → AreGood spans rows columns →
+        IsInTable rows columns place → IsInTable rows columns other →
+        Holds (owner (extent_at spans) place) (extent_at spans (owner (extent_at spans) place)) other →
+        owner (extent_at spans) other ≡ owner (extent_at spans) place }
+{}
+
+/// A place is its own owner exactly where it is visible; without spans each is.
+pub fn visible_cells_own_themselves()
+    ensures visible { (spans : List (Place × Size)) (place : Place) →
+        IsTrue (same_place (owner (extent_at spans) place) place) ↔ IsVisible spans place }
+    ensures without { (place : Place) → owner (extent_at []) place ≡ place }
 {}

@@ -1,15 +1,17 @@
 //! The cells that span several columns or rows.
 ghost use Rattle.std.specs.Prelude.{false, ◌≡◌, ◌≢◌, ◌+◌, ◌≤◌, ◌<◌, ◌↔◌, [], if◌then◌else◌, ◌==◌, IsOk, IsTrue, IfErr, IfSome, OnErr, OnOk, None, Some, Err, Ok};
 ghost use Rattle.grid_config_values.specs.declared.fault.Fault.TheVariants.{Memory, Spans as BadSpan};
-ghost use Rattle.std.specs.List.{All, list_all, list_any};
+ghost use Rattle.std.specs.List.{All, find, list_all, list_any};
 ghost use Rattle.std.specs.Map.{lookup};
+ghost use Rattle.std.specs.Option.{option_map};
 ghost use Rattle.std.specs.Ordering.{is_gt};
 ghost use Rattle.grid_config_values.specs.declared.position.Position.{Position as Place};
 ghost use Rattle.grid_config_values.specs.Order.{position_cmp, same_place};
 ghost use Rattle.grid_config_spans.specs.declared.extent.Extent.{Extent as Size};
+ghost use Rattle.grid_config_spans.specs.Owners.{owner};
 ghost use Rattle.grid_config_spans.specs.Rectangles.{Holds};
 ghost use Rattle.grid_config_spans.specs.Search.{begun_between, holds_in, is_good_span, is_met_by, is_other, search_end};
-ghost use Rattle.grid_config_spans.specs.Spans.{AreGood, IsVisible, SetsColumns, SetsExtent, SetsRows, extent_at, single};
+ghost use Rattle.grid_config_spans.specs.Spans.{AreGood, ArePositive, IsVisible, SetsColumns, SetsExtent, SetsRows, extent_at, single};
 
 use crate::extent::Extent;
 use grid_config_values::{Fault, Position};
@@ -129,13 +131,29 @@ impl Spans {
     pub fn is_cell_visible(&self, pos: Position) -> bool
         ensures { IsTrue result ↔ IsVisible self.now pos }
     {
-        !self.is_held_from(self.first_that_may_hold(pos), pos)
+        self.holder_from(self.first_that_may_hold(pos), pos).is_none()
+    }
+
+    /// The cell that is seen at this place: the first by row, then by column, of the other cells whose
+    /// rectangles hold the place, and where there is none the cell of the place itself. Each cell takes at
+    /// least one row and one column. Looks at no span where there is none, and else at those alone that
+    /// begin near enough.
+    pub fn owner(&self, pos: Position) -> Position
+        ensures first { result ≡ owner (extent_at self.now) pos }
+        ensures positive { ArePositive self.now }
+    {
+        match self.holder_from(self.first_that_may_hold(pos), pos) {
+            Some(anchor) => anchor,
+            None => pos,
+        }
     }
 
     /// Whether in a table of so many rows and columns the rectangle of each cell that spans several stays
-    /// inside the table, and no two of them share a place. Cells outside the table don't count.
+    /// inside the table, and no two of them share a place. Cells outside the table don't count. Each cell
+    /// takes at least one row and one column.
     pub fn spans_are_good(&self, rows: usize, columns: usize) -> bool
-        ensures { IsTrue result ↔ AreGood self.now rows columns }
+        ensures good { IsTrue result ↔ AreGood self.now rows columns }
+        ensures positive { ArePositive self.now }
     {
         self.all_are_good(rows, columns)
     }
@@ -176,15 +194,20 @@ impl Spans {
         ) && extent.meets(anchor, *other, *size))
     }
 
-    // Whether a rectangle holds this place that begins before it, and not before the first place.
-    fn is_held_from(&self, first: Position, pos: Position) -> bool
+    // Where the first rectangle begins that holds this place, of those that begin before it, and not
+    // before the first place.
+    fn holder_from(&self, first: Position, pos: Position) -> Option<Position>
         requires { is_gt (position_cmp first pos) ≡ false }
-        ensures any { result ≡ list_any (holds_in pos) (begun_between first pos self.now) }
+        ensures found { result ≡ option_map (λ span. span.0) (find (holds_in pos) (begun_between first pos self.now)) }
         ensures kept { All (λ span. lookup (same_place span.0) self.now ≡ Some span.1) (begun_between first pos self.now) }
     {
-        self.extents
+        let holder = self.extents
             .range(first..pos)
-            .any(|(anchor, extent)| extent.holds(*anchor, pos))
+            .find(|(anchor, extent)| extent.holds(**anchor, pos));
+        match holder {
+            Some((anchor, _)) => Some(*anchor),
+            None => None,
+        }
     }
 
     // No rectangle that begins before this place holds `pos`.

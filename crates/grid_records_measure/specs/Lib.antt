@@ -1,5 +1,6 @@
 pub mod Measures
 pub mod TextLines
+pub mod Trimming
 pub mod Tabs
 pub mod Cutting
 pub mod Filling

@@ -1,6 +1,6 @@
 -- The lines of a text, and what they measure.
-use Rattle.std.specs.Prelude.{◌≡◌, ◌==◌, ℕ, Bool, max, List, [], ◌∷◌, chars, length}
-use Rattle.std.specs.List.{slice_split}
+use Rattle.std.specs.Prelude.{◌≡◌, ◌==◌, ℕ, Bool, max, List, [], ◌∷◌, chars, length, slice_index_or}
+use Rattle.std.specs.List.{filter, range_with_len, slice_split}
 use Rattle.ansi_scan.specs.Pieces.{pieces}
 use Rattle.ansi_scan.specs.Sequences.{Piece}
 use Rattle.ansi_str.specs.StyledText.{strip}
@@ -20,6 +20,15 @@ abbrev pub AreLinesOf : List Piece → List (List ℕ) → Type 0
 AreLinesOf pieces lines =
     (matches : List ℕ) × AreMatches (line_feed ∷ []) (strip pieces) matches
     × (lines ≡ styled_parts pieces (split_bounds (line_feed ∷ []) (strip pieces) matches))
+
+-- where line feeds stand in a text without sequences
+abbrev pub line_feed_places : List ℕ → List ℕ
+line_feed_places text = filter (λ at. is_line_feed (slice_index_or text at 0)) (range_with_len 0 (length text))
+
+-- the lines of a text, as a function: its parts between the line feeds that it shows
+unfoldable pub text_lines : List ℕ → List (List ℕ)
+text_lines text =
+    let shown = strip (pieces text) in styled_parts (pieces text) (split_bounds (line_feed ∷ []) shown (line_feed_places shown))
 
 -- the lines that the text shows: the text without its sequences, parted at each line feed
 abbrev pub shown_lines : List Piece → List (List ℕ)

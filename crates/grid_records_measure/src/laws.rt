@@ -6,10 +6,12 @@ ghost use Rattle.std.specs.Str.{IsUtf8};
 ghost use Rattle.ansi_scan.specs.Pieces.{pieces as pieces_of};
 ghost use Rattle.ansi_scan.specs.Sequences.{Piece, ArePiecesOf, NoneBroken};
 ghost use Rattle.ansi_str.specs.StyledText.{strip};
+ghost use Rattle.ansi_str.specs.Keeping.{IsTrimmed};
 ghost use Rattle.ansi_str.specs.Lines.{IsClosedLine};
 ghost use Rattle.grid_records_measure.specs.Measures.{columns, measure, own_width};
 ghost use Rattle.grid_records_measure.specs.PlainCharacters.{is_one_column, is_plain_character, is_two_columns};
-ghost use Rattle.grid_records_measure.specs.TextLines.{AreLinesOf, line_feed, shown_lines};
+ghost use Rattle.grid_records_measure.specs.TextLines.{AreLinesOf, line_feed, shown_lines, text_height, text_lines};
+ghost use Rattle.grid_records_measure.specs.Trimming.{trimmed};
 ghost use Rattle.grid_records_measure.specs.Cutting.{IsCutAt, IsLongestFront, ShowsCut};
 
 /// The lines of a text are one list: there is such a list, and no other.
@@ -17,6 +19,25 @@ pub fn one_list_of_lines()
     ensures there { (pieces : List Piece) → (lines : List (List ℕ)) × AreLinesOf pieces lines }
     ensures one { (pieces : List Piece) (lines others : List (List ℕ)) →
         AreLinesOf pieces lines → AreLinesOf pieces others → lines ≡ others }
+{}
+
+/// `text_lines` of a text are its lines: they are those of its pieces, as many as its height says, and of a
+/// whole text they show what the text shows between its line feeds.
+pub fn lines_of_texts()
+    ensures lines { (text : List ℕ) → AreLinesOf (pieces_of text) (text_lines text) }
+    ensures one { (text : List ℕ) (pieces : List Piece) (lines : List (List ℕ)) →
+        ArePiecesOf text pieces → AreLinesOf pieces lines → lines ≡ text_lines text }
+    ensures count { (text : List ℕ) → length (text_lines text) ≡ text_height text }
+    ensures shown { (text : List ℕ) → NoneBroken (pieces_of text) →
+        map (λ line. strip (pieces_of line)) (text_lines text) ≡ shown_lines (pieces_of text) }
+{}
+
+/// `trimmed` of a text is the text without the white space at both ends of what it shows, and nothing else
+/// is.
+pub fn trimmed_texts()
+    ensures there { (text : List ℕ) → IsUtf8 text → IsTrimmed (pieces_of text) (trimmed text) }
+    ensures one { (text bytes : List ℕ) (pieces : List Piece) →
+        ArePiecesOf text pieces → IsTrimmed pieces bytes → bytes ≡ trimmed text }
 {}
 
 /// Each line of a whole text is closed: it holds no broken sequence and no line feed, and no style is open

@@ -1,6 +1,9 @@
 //! Laws of the definitions that the other contracts cite.
 ghost use Rattle.std.specs.Borrow.{Bor};
-ghost use Rattle.std.specs.Prelude.{◌≡◌, ℕ, List, None, Some, []};
+ghost use Rattle.std.specs.Prelude.{◌≡◌, ℕ, List, None, Some, [], length};
+ghost use Rattle.ansi_scan.specs.Pieces.{pieces as pieces_of};
+ghost use Rattle.grid_records_measure.specs.TextLines.{line_measure, shown_lines, text_lines, text_width};
+ghost use Rattle.grid_records_traits.specs.Cells.{HasLineCount, HasLineWidth, HasWidth, IsLineAt, line_at};
 
 use crate::dimension::Dimension;
 use crate::records::{Cell, RecordTexts};
@@ -24,4 +27,13 @@ pub fn cells_have_their_texts<'a, C: Cell + 'a>()
     ensures referred { (cell : Bor C) → ⟦<&'a C as Cell>⟧.text cell ≡ C.text cell.now }
     ensures some { (cell : C) → ⟦<Option<C> as Cell>⟧.text (Some cell) ≡ C.text cell }
     ensures none { ⟦<Option<C> as Cell>⟧.text None ≡ [] }
+{}
+
+/// What a cell answers of its lines, as functions of its text.
+pub fn cells_answer_by_their_texts()
+    ensures line { (text bytes : List ℕ) (index : ℕ) → IsLineAt text index bytes → bytes ≡ line_at (text_lines text) index }
+    ensures count { (text : List ℕ) (count : ℕ) → HasLineCount text count → count ≡ length (text_lines text) }
+    ensures width { (text : List ℕ) (width : ℕ) → HasWidth text width → width ≡ text_width text }
+    ensures line_width { (text : List ℕ) (index width : ℕ) → HasLineWidth text index width →
+        width ≡ line_measure (line_at (shown_lines (pieces_of text)) index) }
 {}

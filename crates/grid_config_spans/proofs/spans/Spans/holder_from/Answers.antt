@@ -5,7 +5,7 @@ use Rattle.grid_config_values.specs.declared.position.Position.{Position}
 use Rattle.grid_config_values.specs.Order.{same_place}
 use Rattle.grid_config_spans.specs.declared.extent.Extent.{Extent}
 use Rattle.grid_config_spans.proofs.Extents.{lookup_place}
-use Rattle.grid_config_spans.proofs.spans.Spans.is_held_from.Goals as goal
+use Rattle.grid_config_spans.proofs.spans.Spans.holder_from.Goals as goal
 
 pub returns-clause-kept : goal.returns-clause-kept
 returns-clause-kept c =
