@@ -1,0 +1,8 @@
+//! The printer of a table: it appends the lines of the picture to a text.
+#![tactic(auto)]
+
+mod cell_lines;
+pub mod colors;
+mod painting;
+
+pub use colors::{Colors, NoColors};
