@@ -1,0 +1,2 @@
+-- Why a table fits its sizes.
+pub mod Reach

@@ -1,0 +1,10 @@
+//! Whether a table fits its sizes.
+#![tactic(auto)]
+
+
+
+
+mod room;
+mod totals;
+
+
