@@ -1,2 +1,3 @@
 -- Why a table fits its sizes.
 pub mod Reach
+pub mod Widths

@@ -4,7 +4,10 @@
 
 
 
+mod fitting;
 mod room;
 mod totals;
+
+pub use fitting::fits;
 
 

@@ -3,7 +3,7 @@ ghost use Rattle.std.specs.Prelude.{◌≡◌, ◌+◌, ◌-◌, ◌<◌, ◌≤
 ghost use Rattle.grid_config_values.specs.Glyphs.{boundary_kind, has_column_boundary};
 ghost use Rattle.grid_config_spans.specs.Spans.{extent_at};
 ghost use Rattle.grid_config.specs.Looks.{look_of};
-ghost use Rattle.papergrid_picture.specs.Fitting.{is_too_wide, need};
+ghost use Rattle.papergrid_picture.specs.Fitting.{is_too_wide, need as needed};
 ghost use Rattle.papergrid_picture.specs.Frame.{stretch, thickness};
 ghost use Rattle.papergrid_fits.specs.Tables.{column_tracks, sized};
 
@@ -34,14 +34,25 @@ fn needs_more<R: PeekableRecords, D: Dimension>(
     pos: Position,
 ) -> bool
     requires { pos.col + (extent_at cfg.now.spans pos).columns ≤ columns }
-    ensures { result ≡ nat_lt (stretch (column_tracks cfg.now (D.width dims.now) columns) pos.col (extent_at cfg.now.spans pos).columns) (need (look_of cfg.now) (R.rows records.now) pos) }
+    ensures { result ≡ nat_lt (stretch (column_tracks cfg.now (D.width dims.now) columns) pos.col (extent_at cfg.now.spans pos).columns) (needed (look_of cfg.now) (R.rows records.now) pos) }
+{
+    let need = need(records, cfg, pos);
+    lacking(cfg, dims, columns, pos.col, column_span(cfg, pos), need) > 0
+}
+
+// How many columns the widest line of the cell takes with the paddings at its sides.
+fn need<R: PeekableRecords>(records: &R, cfg: &SpannedConfig, pos: Position) -> u128
+    ensures { result ≡ needed (look_of cfg.now) (R.rows records.now) pos }
 {
     let padding = cfg.get_padding(pos);
-    let need = records.get_width(pos) as u128
-        + padding.left.size as u128
-        + padding.right.size as u128;
-    let count = cfg.get_column_span(pos).unwrap_or(1);
-    lacking(cfg, dims, columns, pos.col, count, need) > 0
+    records.get_width(pos) as u128 + padding.left.size as u128 + padding.right.size as u128
+}
+
+// How many columns the cell takes.
+fn column_span(cfg: &SpannedConfig, pos: Position) -> usize
+    ensures { result ≡ (extent_at cfg.now.spans pos).columns }
+{
+    cfg.get_column_span(pos).unwrap_or(1)
 }
 
 // What so many columns from the first one on, and the boundaries between them, lack of what is needed.
