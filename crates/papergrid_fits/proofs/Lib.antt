@@ -1,3 +1,5 @@
 -- Why a table fits its sizes.
 pub mod Reach
 pub mod Widths
+pub mod First
+pub mod Ranges

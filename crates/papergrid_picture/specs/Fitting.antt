@@ -17,6 +17,15 @@ use Rattle.papergrid_picture.specs.Picture.{at}
 abbrev pub need : Look → List (List (List ℕ)) → Position → ℕ
 need look rows cell = let padding = look.padding cell in text_width (text_at rows cell) + padding.left.size + padding.right.size
 
+module _ (frame : Frame) where
+  -- how many columns the table takes: none without rows or columns
+  abbrev pub table_width : ℕ
+  table_width = if row_count frame == 0 || column_count frame == 0 then 0 else total_width frame
+
+  -- both totals are in the range of `usize`
+  abbrev pub InRange : Type 0
+  InRange = (table_width < 2 ^ 64) × (line_count frame < 2 ^ 64)
+
 module _ (frame : Frame) (rows : List (List (List ℕ))) where
   -- a visible cell needs more than the width of its rectangle
   abbrev pub is_too_wide : Position → Bool
@@ -26,18 +35,10 @@ module _ (frame : Frame) (rows : List (List (List ℕ))) where
   abbrev pub first_too_wide : Option Position
   first_too_wide = find is_too_wide (table_positions (row_count frame) (column_count frame))
 
-  -- how many columns the table takes: none without rows or columns
-  abbrev pub table_width : ℕ
-  table_width = if row_count frame == 0 || column_count frame == 0 then 0 else total_width frame
-
-  -- both totals are in the range of `usize`
-  abbrev pub InRange : Type 0
-  InRange = (table_width < 2 ^ 64) × (line_count frame < 2 ^ 64)
-
   -- spans, range and room, in this order; of cells without room the first by row, then column, is named
   abbrev pub FitsAnswer : Type 0 → Result (Unit {0}) Fault → Type 0
-  FitsAnswer GoodSpans (Ok _) = GoodSpans × InRange × (first_too_wide ≡ None)
+  FitsAnswer GoodSpans (Ok _) = GoodSpans × InRange frame × (first_too_wide ≡ None)
   FitsAnswer GoodSpans (Err Spans) = ¬ GoodSpans
-  FitsAnswer GoodSpans (Err Range) = GoodSpans × (¬ InRange)
-  FitsAnswer GoodSpans (Err (Room row column)) = GoodSpans × InRange × (first_too_wide ≡ Some (at row column))
+  FitsAnswer GoodSpans (Err Range) = GoodSpans × (¬ (InRange frame))
+  FitsAnswer GoodSpans (Err (Room row column)) = GoodSpans × InRange frame × (first_too_wide ≡ Some (at row column))
   FitsAnswer GoodSpans (Err Memory) = ⊥
