@@ -76,11 +76,3 @@ module _ (settings : Settings) (width height : ℕ → ℕ) (columns rows : ℕ)
   first-is texts =
       let test : Position → Bool = is_too_wide (sized settings width height columns rows) texts in
       ap (λ n. find test (table_positions n columns)) (sym rows-are) ∙ ap (λ n. find test (table_positions (row_count (sized settings width height columns rows)) n)) (sym columns-are)
-
--- what is told of a table by other names of its counts
-pub fits-told : (settings : Settings) (width height : ℕ → ℕ) (texts : List (List (List ℕ))) (n columns m rows : ℕ) (found : Option Position) → n ≡ columns → m ≡ rows
-    → AreGood settings.spans m n → InRange (sized settings width height n m) → found ≡ find (is_too_wide (sized settings width height n 0) texts) (table_positions m n)
-    → AreGood settings.spans rows columns × InRange (sized settings width height columns rows) × (first_too_wide (sized settings width height columns rows) texts ≡ found)
-fits-told settings width height texts n columns m rows found e f good range is =
-    let P : ℕ → ℕ → Type 0 = λ c r. AreGood settings.spans r c × InRange (sized settings width height c r) × (first_too_wide (sized settings width height c r) texts ≡ found) in
-    subst (λ r. P columns r) f (subst (λ c. P c m) e (good, range, sym (first-is settings width height n m texts) ∙ sym is))

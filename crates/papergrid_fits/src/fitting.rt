@@ -25,8 +25,26 @@ pub fn fits<R: Records + ExactRecords + PeekableRecords, D: Dimension>(
     ensures { let rows = R.rows records.now in
         FitsAnswer (sized cfg.now (D.width dims.now) (D.height dims.now) (R.columns records.now) (length rows)) rows (AreGood cfg.now.spans (length rows) (R.columns records.now)) result }
 {
-    let rows = records.count_rows();
-    let columns = records.count_columns();
+    fits_counted(
+        records,
+        cfg,
+        dims,
+        records.count_rows(),
+        records.count_columns(),
+    )
+}
+
+/// Whether the first rows and columns of records fit these sizes, as many of both as are given. The
+/// answers are those of `fits`. Takes no memory.
+pub fn fits_counted<R: PeekableRecords, D: Dimension>(
+    records: &R,
+    cfg: &SpannedConfig,
+    dims: &D,
+    rows: usize,
+    columns: usize,
+) -> Result<(), Fault>
+    ensures { FitsAnswer (sized cfg.now (D.width dims.now) (D.height dims.now) columns rows) (R.rows records.now) (AreGood cfg.now.spans rows columns) result }
+{
     if !cfg.spans_are_good(rows, columns) {
         return Err(Fault::Spans);
     }

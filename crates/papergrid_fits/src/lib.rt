@@ -8,6 +8,6 @@ mod fitting;
 mod room;
 mod totals;
 
-pub use fitting::fits;
+pub use fitting::{fits, fits_counted};
 
 

@@ -1,21 +1,13 @@
-use Rattle.std.proofs.Common.{◌≡◌, ◌∙◌, arith, IsTrue}
-use Rattle.papergrid_fits.proofs.Ranges.{fits-told}
+use Rattle.std.proofs.Common.{◌≡◌, ℕ, length, subst}
+use Rattle.grid_config_spans.specs.Spans.{AreGood}
+use Rattle.papergrid_picture.specs.Fitting.{FitsAnswer}
+use Rattle.papergrid_fits.specs.Tables.{sized}
 use Rattle.papergrid_fits.proofs.fitting.fits.Goals as goal
 
-pub returns-in-Some : goal.returns-in-Some
-returns-in-Some g c =
-    let good : IsTrue c.spans_are_good.result = grind (arith, c.if-not-spans_are_good.false) in
-    let range : IsTrue c.is_in_range.result = grind (arith, c.if-not-is_in_range.false) in
-    let told = fits-told c.args.cfg.now (g.D.Dimension.width c.args.dims.now) (g.D.Dimension.height c.args.dims.now) (g.R.RecordTexts.rows c.args.records.now)
-        c.count_columns-columns.result (g.R.Records.columns c.args.records.now) c.count_rows-rows.result _ c.first_too_wide.result c.count_columns-columns.ensures c.count_rows-rows.ensures
-        (c.spans_are_good.ensures.good.0 good) (c.is_in_range.ensures.0 range) c.first_too_wide.ensures in
-    (told.0, told.1, told.2 ∙ c.in-Some.is)
-
-pub returns-in-None : goal.returns-in-None
-returns-in-None g c =
-    let good : IsTrue c.spans_are_good.result = grind (arith, c.if-not-spans_are_good.false) in
-    let range : IsTrue c.is_in_range.result = grind (arith, c.if-not-is_in_range.false) in
-    let told = fits-told c.args.cfg.now (g.D.Dimension.width c.args.dims.now) (g.D.Dimension.height c.args.dims.now) (g.R.RecordTexts.rows c.args.records.now)
-        c.count_columns-columns.result (g.R.Records.columns c.args.records.now) c.count_rows-rows.result _ c.first_too_wide.result c.count_columns-columns.ensures c.count_rows-rows.ensures
-        (c.spans_are_good.ensures.good.0 good) (c.is_in_range.ensures.0 range) c.first_too_wide.ensures in
-    (told.0, told.1, told.2 ∙ c.in-None.is)
+pub returns : goal.returns
+returns g c =
+    let cfg = c.args.cfg.now in
+    let texts = g.R.RecordTexts.rows c.args.records.now in
+    let Answers : ℕ → ℕ → Type 0 = λ rows columns.
+        FitsAnswer (sized cfg (g.D.Dimension.width c.args.dims.now) (g.D.Dimension.height c.args.dims.now) columns rows) texts (AreGood cfg.spans rows columns) c.fits_counted.result in
+    subst (λ rows. Answers rows (g.R.Records.columns c.args.records.now)) c.count_rows.ensures (subst (λ columns. Answers c.count_rows.result columns) c.count_columns.ensures c.fits_counted.ensures)
