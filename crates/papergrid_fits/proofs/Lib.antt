@@ -3,3 +3,4 @@ pub mod Reach
 pub mod Widths
 pub mod First
 pub mod Ranges
+pub mod Estimated

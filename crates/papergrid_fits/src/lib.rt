@@ -5,6 +5,7 @@
 
 
 mod fitting;
+pub mod laws;
 mod room;
 mod totals;
 
