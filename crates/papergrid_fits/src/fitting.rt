@@ -6,7 +6,7 @@ ghost use Rattle.grid_config_values.specs.Entities.{table_positions};
 ghost use Rattle.grid_config_spans.specs.Spans.{AreGood};
 ghost use Rattle.papergrid_picture.specs.Fitting.{FitsAnswer, InRange, is_too_wide as is_too_wide_in};
 ghost use Rattle.papergrid_picture.specs.Picture.{at};
-ghost use Rattle.papergrid_fits.specs.Tables.{sized};
+ghost use Rattle.papergrid_fits.specs.Tables.{IsFitsAnswer, sized};
 
 use crate::room::is_too_wide;
 use crate::totals::{total_height, total_width};
@@ -22,8 +22,7 @@ pub fn fits<R: Records + ExactRecords + PeekableRecords, D: Dimension>(
     cfg: &SpannedConfig,
     dims: &D,
 ) -> Result<(), Fault>
-    ensures { let rows = R.rows records.now in
-        FitsAnswer (sized cfg.now (D.width dims.now) (D.height dims.now) (R.columns records.now) (length rows)) rows (AreGood cfg.now.spans (length rows) (R.columns records.now)) result }
+    ensures { IsFitsAnswer cfg.now (D.width dims.now) (D.height dims.now) (R.columns records.now) (R.rows records.now) result }
 {
     fits_counted(
         records,

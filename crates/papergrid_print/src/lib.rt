@@ -4,5 +4,7 @@
 mod cell_lines;
 pub mod colors;
 mod painting;
+mod print;
 
 pub use colors::{Colors, NoColors};
+pub use print::print_table;
