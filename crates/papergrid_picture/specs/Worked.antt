@@ -78,6 +78,10 @@ named rows columns =
 abbrev pub bracketed : Color
 bracketed = record { prefix = codes "["; suffix = codes "]" }
 
+-- another one, which begins alike
+abbrev pub half_bracketed : Color
+half_bracketed = record { prefix = codes "["; suffix = codes ")" }
+
 abbrev pub indent : ℕ → ℕ → Indent
 indent size character = record { size = size; fill = character }
 
@@ -88,9 +92,15 @@ framed = record { left = indent 1 0x3c; right = indent 1 0x3e; top = indent 1 0x
 abbrev pub padded : Look
 padded = record plain { padding = λ _. framed }
 
--- the same round the table, with two columns at the right
+-- the same round the table, with two columns at the right and two lines above
 abbrev pub with_margins : Look
-with_margins = record plain { margin = record framed { right = indent 2 0x3e } }
+with_margins = record plain { margin = record framed { right = indent 2 0x3e; top = indent 2 0x5e } }
+
+-- boundaries round the table alone
+abbrev pub outer : Look
+outer = record plain { borders = record no_borders {
+  top = Some 0x2d; top_left = Some 0x2b; top_right = Some 0x2b; bottom = Some 0x2d; bottom_left = Some 0x2b; bottom_right = Some 0x2b;
+  left = Some 0x7c; right = Some 0x7c } }
 
 -- glyphs at the left and right and along the bottom alone
 abbrev pub no_top : Look
