@@ -1,6 +1,6 @@
 -- The texts of a row, in so many columns, and an empty cell.
-use Rattle.std.proofs.Common.{◌≡◌, ℕ, zero, suc, ◌-◌, ◌<◌, List, [], ◌∷◌, ◌++◌, length, map, take, replicate, get_or, refl, ap, sym, ◌∙◌, arith, length-append}
-use Rattle.std.proofs.lemmas.List.{get_or-map, get_or-replicate, length-map, length-replicate, length-take}
+use Rattle.std.proofs.Common.{◌≡◌, ℕ, zero, suc, ◌-◌, ◌<◌, List, [], ◌∷◌, ◌++◌, length, map, take, replicate, get_or, refl, ap, sym, ◌∙◌, arith}
+use Rattle.std.proofs.lemmas.List.{get_or-map, get_or-replicate, length-map}
 use Rattle.std.specs.Str.{chars}
 use Rattle.unicode_width.specs.Width.{str_width}
 use Rattle.ansi_scan.specs.Sequences.{Piece, ArePiecesOf}
@@ -8,7 +8,7 @@ use Rattle.ansi_scan.proofs.Uniqueness.{pieces-ArePiecesOf}
 use Rattle.grid_records_measure.specs.TextLines.{shown_lines, widest}
 use Rattle.grid_records_traits.specs.Cells.{HasLineCount, HasWidth}
 use Rattle.grid_records_traits.specs.Rows.{fitted, fitted_row}
-use Rattle.grid_records_traits.proofs.FittedRows.{fitted-same}
+use Rattle.grid_records_traits.proofs.FittedRows.{fitted-same, length-fitted_row}
 use Rattle.columns_run.specs.Printing.{cut}
 use Rattle.columns_run.specs.Records.{row_texts, table_texts}
 use Rattle.columns_run.specs.declared.rows.Cell.{Cell}
@@ -32,11 +32,7 @@ empty_width = λ ps of_text. no_width ∙ ap (λ found. widest (shown_lines foun
 -- ---- rows of as many texts
 
 length-row_texts : (columns : ℕ) (row : List Cell) → length (row_texts columns row) ≡ columns
-length-row_texts columns row =
-    let texts = map (λ (cell : Cell). cell.text.now) row in
-    let front = length-take columns texts in
-    let behind = length-replicate (columns - length texts) (let none : List ℕ = [] in none) in
-    omega (arith, length-append (take columns texts) (replicate (columns - length texts) []), front, behind)
+length-row_texts columns row = length-fitted_row (map (λ (cell : Cell). cell.text.now) row) columns
 
 -- rows in so many columns have as many texts already
 pub fitted-table_texts : (columns : ℕ) (counts : List ℕ) (cells : List Cell) → fitted columns (table_texts columns counts cells) ≡ table_texts columns counts cells

@@ -2,7 +2,6 @@ pub mod Counts
 pub mod Estimates
 pub mod Fault
 pub mod Frame
-pub mod Giving
 pub mod Glyphs
 pub mod TableShown
 pub mod Layout

@@ -4,12 +4,13 @@ ghost use Rattle.std.specs.Prelude.{◌≡◌, All, Some, drop, false, length, r
 ghost use Rattle.std.specs.Iterator.{at_most};
 ghost use Rattle.grid_records_traits.specs.Cells.{HasLineCount, HasWidth};
 ghost use Rattle.columns_run.specs.Estimates.{greatest};
-ghost use Rattle.columns_run.specs.Giving.{each_cell, each_row};
-ghost use Rattle.columns_run.specs.Records.{GivesRow, GivesText, IsMeasured, TakesOne, row_texts, table_texts};
+ghost use Rattle.grid_records_traits.specs.Giving.{GivesRow, GivesText, TakesOne};
+ghost use Rattle.grid_records_traits.specs.Laws.Giving.{each_cell, each_row};
+ghost use Rattle.columns_run.specs.Records.{IsMeasured, row_texts, table_texts};
 
 use crate::rows::{Cell, Rows};
 use crate::sizes::greatest;
-use grid_records_traits::{Cell as Record, IntoRecords, RecordTexts, Records};
+use grid_records_traits::{Cell as Record, IntoRecords, RecordColumns, RecordTexts, Records};
 use std::alloc::AllocError;
 
 /// A cell of one line, which keeps what the line measures.
@@ -57,7 +58,7 @@ impl<'a> MeasuredRows<'a> {
     pub fn new(rows: &'a Rows<'a>) -> MeasuredRows<'a>
         requires whole { sum rows.now.counts.items ≡ vec_len rows.now.cells }
         requires measured { All IsMeasured rows.now.cells.items }
-        ensures columns { ⟦<MeasuredRows<'a> as Records>⟧.columns result ≡ greatest rows.now.counts.items }
+        ensures columns { ⟦<MeasuredRows<'a> as RecordColumns>⟧.columns result ≡ greatest rows.now.counts.items }
         ensures rows { ⟦<MeasuredRows<'a> as RecordTexts>⟧.rows result ≡ table_texts (greatest rows.now.counts.items) rows.now.counts.items rows.now.cells.items }
     {
         MeasuredRows {
@@ -94,19 +95,21 @@ impl<'a> IntoRecords for MeasuredRows<'a> {
     }
 }
 
+impl<'a> RecordColumns for MeasuredRows<'a> {
+    ghost columns = { λ rows. rows.columns };
+
+    fn count_columns(&self) -> usize {
+        self.columns
+    }
+}
+
 impl<'a> Records for MeasuredRows<'a> {
     type Iter = MeasuredRows<'a>;
-
-    ghost columns = { λ rows. rows.columns };
 
     ghost hint = { λ rows. Some (length rows.counts.now) };
 
     fn iter_rows(self) -> MeasuredRows<'a> {
         self
-    }
-
-    fn count_columns(&self) -> usize {
-        self.columns
     }
 
     fn hint_count_rows(&self) -> Option<usize> {

@@ -1,5 +1,6 @@
 pub use Rattle.grid_records_measure.specs.Measures
 pub use Rattle.grid_records_measure.specs.TextLines
+pub use Rattle.grid_records_measure.specs.Trimming
 pub use Rattle.grid_records_measure.specs.Tabs
 pub use Rattle.grid_records_measure.specs.Cutting
 pub use Rattle.grid_records_measure.specs.PlainCharacters

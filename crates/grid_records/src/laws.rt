@@ -5,9 +5,10 @@ pub use grid_records_estimate::laws::{
 };
 pub use grid_records_measure::laws::{
     closed_lines_join, cuts_show_their_fronts, lines_are_closed, lines_are_shown_lines,
-    one_list_of_lines, one_longest_front, plain_characters_add_up,
+    lines_of_texts, one_list_of_lines, one_longest_front, plain_characters_add_up, trimmed_texts,
 };
 pub use grid_records_rows::laws::{truncated_texts_are_cuts, vectors_count_what_they_hold};
 pub use grid_records_traits::laws::{
-    cells_have_their_texts, references_have_the_same_rows, references_have_the_same_sizes,
+    cells_answer_by_their_texts, cells_have_their_texts, references_have_the_same_rows,
+    references_have_the_same_sizes,
 };

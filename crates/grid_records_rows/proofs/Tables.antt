@@ -1,5 +1,5 @@
 -- Tables of rows that are equally long.
-use Rattle.std.proofs.Common.{arith, ◌≡◌, ℕ, List, [], ap, map, length, get_or, sym, ◌∙◌, replicate, Vec, vec_items, slice_set}
+use Rattle.std.proofs.Common.{arith, ◌≡◌, ℕ, zero, suc, List, [], ◌∷◌, ap, map, refl, vec_len, length, get_or, sym, ◌∙◌, replicate, Vec, vec_items, slice_set}
 use Rattle.std.proofs.lemmas.List.{get_or-map, get_or-replicate, length-map, length-replicate, map-set}
 use Rattle.std.proofs.lemmas.List.Elements.{All-map}
 use Rattle.std.specs.Vec.{with_item}
@@ -26,6 +26,12 @@ set_text {T} {Z} text rows pos row cell is inside =
     let at : row_at (texts_of_rows text rows) pos.row ≡ texts row = get_or-map texts rows pos.row row [] (omega (arith, inside.0, length-map rows texts)) ∙ ap texts (sym is) in
     map-set texts rows pos.row (with_item row pos.col cell)
     ∙ ap (λ v. slice_set (texts_of_rows text rows) pos.row v) (map-set text (vec_items row) pos.col cell ∙ ap (λ v. slice_set v pos.col (text cell)) (sym at))
+
+-- and as many columns
+pub set_columns : {T Z : Type 0} (rows : List (Vec T Z)) (i j : ℕ) (row : Vec T Z) (cell : T) → row ≡ get_or rows i row → columns_of (slice_set rows i (with_item row j cell)) ≡ columns_of rows
+set_columns [] i j row cell is = refl
+set_columns (first ∷ rows) zero j row cell is = ap vec_len is
+set_columns (first ∷ rows) (suc i) j row cell is = refl
 
 -- rows of so many empty texts are fitted already
 pub fitted_empty : (rows columns : ℕ) → fitted columns (replicate rows (replicate columns [])) ≡ replicate rows (replicate columns [])

@@ -7,7 +7,7 @@ ghost use Rattle.grid_records_rows.specs.Truncating.{cut_text};
 ghost use Rattle.grid_records_rows.specs.declared.records.vec_records.VecRecords.{VecRecords as Vectors};
 
 use crate::records::vec_records::{Cell, VecRecords};
-use crate::records::{RecordTexts, Records};
+use crate::records::{RecordColumns, RecordTexts, Records};
 
 /// What is left of a text that is wider than its column is its cut at the column's width, as `cut_width`
 /// gives it: it is one, and there is no other.
@@ -19,6 +19,6 @@ pub fn truncated_texts_are_cuts()
 /// Rows in vectors have as many columns as the first row has cells, and give their count as the hint;
 /// so that both follow from the texts, also after one was set.
 pub fn vectors_count_what_they_hold<T: Cell>()
-    ensures columns { (records : Vectors T) → ⟦<VecRecords<T> as Records>⟧.columns records ≡ length (row_at (⟦<VecRecords<T> as RecordTexts>⟧.rows records) 0) }
+    ensures columns { (records : Vectors T) → ⟦<VecRecords<T> as RecordColumns>⟧.columns records ≡ length (row_at (⟦<VecRecords<T> as RecordTexts>⟧.rows records) 0) }
     ensures hint { (records : Vectors T) → ⟦<VecRecords<T> as Records>⟧.hint records ≡ Some (length (⟦<VecRecords<T> as RecordTexts>⟧.rows records)) }
 {}

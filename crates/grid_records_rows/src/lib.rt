@@ -10,5 +10,6 @@ pub use records::into_records::{
 };
 pub use records::vec_records::{Cell, FromText, Text, VecRecords, are_equally_long};
 pub use records::{
-    EmptyRecords, ExactRecords, IterRecords, PeekableRecords, RecordTexts, Records, RecordsMut,
+    EmptyRecords, ExactRecords, IterRecords, PeekableRecords, PeekedRecords, RecordColumns,
+    RecordTexts, Records, RecordsMut,
 };

@@ -1,5 +1,5 @@
 -- Iterators that give a list, and iterators that give rows of texts.
-use Rattle.std.specs.Prelude.{◌≡◌, ℕ, Bool, true, List, [], ◌∷◌, MatchOption, MatchResult, Option, None, Some, Result, Ok, Err, drop}
+use Rattle.std.specs.Prelude.{◌≡◌, ◌+◌, ℕ, Bool, true, List, [], ◌∷◌, MatchOption, MatchResult, Option, None, Some, Result, Ok, Err, drop}
 use Rattle.std.specs.Iterator.{Count, IsFinite}
 
 -- nothing comes any more
@@ -51,3 +51,16 @@ AnswersCell steps s found t =
 abbrev pub GivesCellsOf : {S Row Cells I : Type 0} → (S → Option Row → S → Type 0) → (Row → I → Type 0) → S → Option Cells → (Cells → I) → S → Type 0
 GivesCellsOf {Row = Row} steps becomes s found inside t =
     MatchOption found (steps s None t) (λ cells. (row : Row) × steps s (Some row) t × becomes row (inside cells))
+
+-- a call takes one from the count of what is left, where it gives something
+abbrev pub TakesOne : {A : Type 0} → ℕ → Option A → ℕ → Type 0
+TakesOne before found after = MatchOption found (after ≡ before) (λ _. after + 1 ≡ before)
+
+-- a call gives the first of the texts that are left, as long as there is one, and refuses none
+abbrev pub GivesText : {C E : Type 0} → (C → List ℕ) → List (List ℕ) → Option (Result C E) → List (List ℕ) → Type 0
+GivesText text before found after =
+    MatchOption found ((before ≡ []) × (after ≡ before)) (λ answer. MatchResult answer (λ cell. before ≡ text cell ∷ after) (λ _. ⊥))
+
+-- a call gives the first of the rows that are left
+abbrev pub GivesRow : {Row : Type 0} → (Row → List (List ℕ)) → List (List (List ℕ)) → Option Row → List (List (List ℕ)) → Type 0
+GivesRow texts before found after = MatchOption found ((before ≡ []) × (after ≡ before)) (λ row. before ≡ texts row ∷ after)

@@ -8,4 +8,6 @@ mod lines;
 pub mod records;
 
 pub use dimension::Dimension;
-pub use records::{Cell, ExactRecords, IntoRecords, PeekableRecords, RecordTexts, Records};
+pub use records::{
+    Cell, ExactRecords, IntoRecords, PeekableRecords, RecordColumns, RecordTexts, Records,
+};

@@ -27,21 +27,32 @@ impl<'a, R: RecordTexts> RecordTexts for &'a R {
     ghost may_refuse = { λ records. R.may_refuse records.now };
 }
 
-/// Rows of cells with a column count.
-pub trait Records: RecordTexts {
-    type Iter: IntoRecords;
-
+/// Records with a column count.
+pub trait RecordColumns: RecordTexts {
     ghost columns: { Self → ℕ };
+
+    /// How many columns there are.
+    fn count_columns(&self) -> usize
+        ensures { result ≡ columns self.now };
+}
+
+impl<'a, R: RecordColumns> RecordColumns for &'a R {
+    ghost columns = { λ records. R.columns records.now };
+
+    fn count_columns(&self) -> usize {
+        R::count_columns(self)
+    }
+}
+
+/// Rows of cells to be read.
+pub trait Records: RecordColumns {
+    type Iter: IntoRecords;
 
     ghost hint: { Self → Option ℕ };
 
     /// The rows, each of as many cells as there are columns. A cell that a row lacks has an empty text.
     fn iter_rows(self) -> <Self::Iter as IntoRecords>::IterRows
-        ensures { GivesRows Self.Iter.IterRows.can_next Self.Iter.IterRows.remaining Self.Iter.IterRows.next_gives Self.Iter.IterColumns.can_next Self.Iter.IterColumns.remaining Self.Iter.IterColumns.next_gives Self.Iter.Cell.text (Self.RecordTexts.may_refuse self) result (fitted (columns self) (Self.RecordTexts.rows self)) };
-
-    /// How many columns there are.
-    fn count_columns(&self) -> usize
-        ensures { result ≡ columns self.now };
+        ensures { GivesRows Self.Iter.IterRows.can_next Self.Iter.IterRows.remaining Self.Iter.IterRows.next_gives Self.Iter.IterColumns.can_next Self.Iter.IterColumns.remaining Self.Iter.IterColumns.next_gives Self.Iter.Cell.text (Self.RecordTexts.may_refuse self) result (fitted (Self.columns self) (Self.RecordTexts.rows self)) };
 
     /// How many rows there may be. It is a hint, and promises nothing of the rows.
     fn hint_count_rows(&self) -> Option<usize>

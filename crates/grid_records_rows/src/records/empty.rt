@@ -7,7 +7,7 @@ ghost use Rattle.grid_records_traits.specs.Laws.Leaving.{passed_same};
 ghost use Rattle.grid_records_rows.specs.Laws.Empty.{each_empty_row, each_empty_text};
 
 use crate::records::into_records::IntoRecords;
-use crate::records::{ExactRecords, RecordTexts, Records};
+use crate::records::{ExactRecords, RecordColumns, RecordTexts, Records};
 use std::alloc::AllocError;
 
 /// Rows of empty texts.
@@ -21,7 +21,7 @@ impl EmptyRecords {
     /// So many rows of so many empty texts. Takes no memory.
     pub const fn new(rows: usize, columns: usize) -> EmptyRecords
         ensures rows { ⟦<EmptyRecords as RecordTexts>⟧.rows result ≡ replicate rows (replicate columns []) }
-        ensures columns { ⟦<EmptyRecords as Records>⟧.columns result ≡ columns }
+        ensures columns { ⟦<EmptyRecords as RecordColumns>⟧.columns result ≡ columns }
         ensures hint { ⟦<EmptyRecords as Records>⟧.hint result ≡ Some rows }
     {
         EmptyRecords { rows, columns }
@@ -57,10 +57,16 @@ impl IntoRecords for EmptyRecords {
     }
 }
 
+impl RecordColumns for EmptyRecords {
+    ghost columns = { λ s. s.columns };
+
+    fn count_columns(&self) -> usize {
+        self.columns
+    }
+}
+
 impl Records for EmptyRecords {
     type Iter = EmptyRecords;
-
-    ghost columns = { λ s. s.columns };
 
     ghost hint = { λ s. Some s.rows };
 
@@ -69,10 +75,6 @@ impl Records for EmptyRecords {
             left: self.rows,
             columns: self.columns,
         }
-    }
-
-    fn count_columns(&self) -> usize {
-        self.columns
     }
 
     fn hint_count_rows(&self) -> Option<usize> {

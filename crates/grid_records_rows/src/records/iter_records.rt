@@ -3,7 +3,7 @@ ghost use Rattle.std.specs.Prelude.{◌≡◌};
 
 use crate::records::into_records::IntoRecords;
 use crate::records::into_records::fitted::{Fitted, FittedRows};
-use crate::records::{RecordTexts, Records};
+use crate::records::{RecordColumns, RecordTexts, Records};
 
 /// A source of rows with a column count, and a hint how many rows it has.
 #[derive(Debug, Drop)]
@@ -17,7 +17,7 @@ impl<I: IntoRecords> IterRecords<I> {
     /// The rows of the source, so many columns, and the hint. Takes no memory.
     pub fn new(iter: I, count_columns: usize, count_rows: Option<usize>) -> IterRecords<I>
         ensures rows { ⟦<IterRecords<I> as RecordTexts>⟧.rows result ≡ I.RecordTexts.rows iter }
-        ensures columns { ⟦<IterRecords<I> as Records>⟧.columns result ≡ count_columns }
+        ensures columns { ⟦<IterRecords<I> as RecordColumns>⟧.columns result ≡ count_columns }
         ensures hint { ⟦<IterRecords<I> as Records>⟧.hint result ≡ count_rows }
         ensures refuses { ⟦<IterRecords<I> as RecordTexts>⟧.may_refuse result ≡ I.RecordTexts.may_refuse iter }
     {
@@ -55,19 +55,21 @@ impl<I: IntoRecords> IntoRecords for IterRecords<I> {
     }
 }
 
+impl<I: IntoRecords> RecordColumns for IterRecords<I> {
+    ghost columns = { λ s. s.count_columns };
+
+    fn count_columns(&self) -> usize {
+        self.count_columns
+    }
+}
+
 impl<I: IntoRecords> Records for IterRecords<I> {
     type Iter = Fitted<I>;
-
-    ghost columns = { λ s. s.count_columns };
 
     ghost hint = { λ s. s.count_rows };
 
     fn iter_rows(self) -> FittedRows<I::IterRows> {
         Fitted::new(self.iter, self.count_columns).iter_rows()
-    }
-
-    fn count_columns(&self) -> usize {
-        self.count_columns
     }
 
     fn hint_count_rows(&self) -> Option<usize> {
@@ -78,16 +80,10 @@ impl<I: IntoRecords> Records for IterRecords<I> {
 impl<'a, I: IntoRecords + Copy> Records for &'a IterRecords<I> {
     type Iter = Fitted<I>;
 
-    ghost columns = { λ s. ⟦<IterRecords<I> as Records>⟧.columns s.now };
-
     ghost hint = { λ s. ⟦<IterRecords<I> as Records>⟧.hint s.now };
 
     fn iter_rows(self) -> FittedRows<I::IterRows> {
         Fitted::new(self.iter, self.count_columns).iter_rows()
-    }
-
-    fn count_columns(&self) -> usize {
-        IterRecords::count_columns(self)
     }
 
     fn hint_count_rows(&self) -> Option<usize> {

@@ -2,14 +2,15 @@
 ghost use Rattle.std.specs.Prelude.{◌≡◌};
 ghost use Rattle.grid_records_traits.specs.Rows.{IsInside, with_text};
 
-use crate::records::RecordTexts;
+use crate::records::RecordColumns;
 use crate::records::vec_records::Text;
 use grid_config_values::Position;
 
 /// Records whose texts can be set.
-pub trait RecordsMut: RecordTexts {
-    /// Sets the text of the cell at this place, and no other. Takes no memory.
+pub trait RecordsMut: RecordColumns {
+    /// Sets the text of the cell at this place, and no other. The columns stay as many. Takes no memory.
     fn set(&mut self, pos: Position, text: Text)
         requires { IsInside (Self.rows self.old) pos }
-        ensures { Self.rows self.new ≡ with_text (Self.rows self.old) pos text };
+        ensures text { Self.rows self.new ≡ with_text (Self.rows self.old) pos text }
+        ensures columns { Self.columns self.new ≡ Self.columns self.old };
 }

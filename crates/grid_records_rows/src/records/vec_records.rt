@@ -6,7 +6,9 @@ ghost use Rattle.grid_records_rows.specs.Sources.{AreEquallyLong, columns_of};
 pub mod text;
 
 use crate::records::into_records::{GivenRows, IntoRecords};
-use crate::records::{ExactRecords, PeekableRecords, RecordTexts, Records, RecordsMut};
+use crate::records::{
+    ExactRecords, PeekableRecords, RecordColumns, RecordTexts, Records, RecordsMut,
+};
 use grid_config_values::Position;
 pub use grid_records_traits::Cell;
 pub use grid_records_traits::records::cell;
@@ -46,6 +48,14 @@ impl<T: Cell> RecordTexts for VecRecords<T> {
     ghost may_refuse = { λ _. false };
 }
 
+impl<T: Cell> RecordColumns for VecRecords<T> {
+    ghost columns = { λ records. columns_of records.rows.items };
+
+    fn count_columns(&self) -> usize {
+        self.rows.first().map_or(0, |row| row.len())
+    }
+}
+
 impl<T: Cell> ExactRecords for VecRecords<T> {
     fn count_rows(&self) -> usize {
         self.rows.len()
@@ -74,16 +84,10 @@ impl<T: FromText> RecordsMut for VecRecords<T> {
 impl<T: Cell> Records for VecRecords<T> {
     type Iter = Vec<Vec<T>>;
 
-    ghost columns = { λ records. columns_of records.rows.items };
-
     ghost hint = { λ records. Some (vec_len records.rows) };
 
     fn iter_rows(self) -> GivenRows<vec::IntoIter<Vec<T>>> {
         self.rows.iter_rows()
-    }
-
-    fn count_columns(&self) -> usize {
-        self.rows.first().map_or(0, |row| row.len())
     }
 
     fn hint_count_rows(&self) -> Option<usize> {
@@ -94,16 +98,10 @@ impl<T: Cell> Records for VecRecords<T> {
 impl<'a, T: Cell> Records for &'a VecRecords<T> {
     type Iter = &'a [Vec<T>];
 
-    ghost columns = { λ records. ⟦<VecRecords<T> as Records>⟧.columns records.now };
-
     ghost hint = { λ records. ⟦<VecRecords<T> as Records>⟧.hint records.now };
 
     fn iter_rows(self) -> GivenRows<slice::Iter<'a, Vec<T>>> {
         self.rows.as_slice().iter_rows()
-    }
-
-    fn count_columns(&self) -> usize {
-        VecRecords::count_columns(self)
     }
 
     fn hint_count_rows(&self) -> Option<usize> {

@@ -4,8 +4,8 @@ use super::{expect, expect_number, expect_text};
 use grid_config_values::Position;
 use grid_records_rows::{
     BufRecords, Cell, Dimension, EmptyRecords, ExactRecords, IntoRecords, IterRecords,
-    LimitColumns, LimitRows, PeekableRecords, Records, RecordsMut, SkipRows, Text, TruncateContent,
-    VecRecords, are_equally_long,
+    LimitColumns, LimitRows, PeekableRecords, PeekedRecords, RecordColumns, Records, RecordsMut,
+    SkipRows, Text, TruncateContent, VecRecords, are_equally_long,
 };
 use std::alloc::{AllocError, Global};
 use std::borrow::CowStr;
@@ -303,6 +303,7 @@ fn look_up(rt: &impl Abort, alloc: Global) -> Result<(), AllocError> {
     expect_at(rt, &records, 2, 0, "");
     expect_shape(rt, alloc, &records, 2)?;
     expect_records(rt, alloc, &records, "a\n漢b|b|\nc|d|\n")?;
+    expect_records(rt, alloc, PeekedRecords::new(&records), "a\n漢b|b|\nc|d|\n")?;
     expect_records(rt, alloc, records, "a\n漢b|b|\nc|d|\n")
 }
 

@@ -1,9 +1,9 @@
 -- How an iterator is shown to give a list.
-use Rattle.std.proofs.Common.{◌≡◌, ℕ, List, [], ◌∷◌, ap, arith, length, refl, subst, map, Bool}
+use Rattle.std.proofs.Common.{◌≡◌, ℕ, List, [], ◌∷◌, ap, arith, length, refl, subst, map, Bool, false}
 use Rattle.std.specs.Prelude.{MatchOption, MatchResult, None, Ok, Err, Option, Result, Some}
 use Rattle.std.specs.Iterator.{Count, IsFinite}
 use Rattle.grid_records_traits.specs.Giving.{Gives, GivesCells, GivesEach, GivesRows, GivesTexts}
-use Rattle.grid_records_traits.specs.Giving.{AnswersCell, GivesCellsOf}
+use Rattle.grid_records_traits.specs.Giving.{AnswersCell, GivesCellsOf, GivesRow, GivesText, TakesOne}
 
 -- a call gave an item tied to the first that was left, and left the others, or none where none was left
 abbrev pub GivesNext : {A B : Type 0} → (A → B → Type 0) → List B → Option A → List B → Type 0
@@ -109,3 +109,28 @@ pub gives_rows : {R S C E : Type 0} {row_can : R → Type 0} {row_left : R → C
     (before after : Bool) (ys zs : List (List (List ℕ))) → before ≡ after → ys ≡ zs → GivesRows row_can row_left row_steps can left steps text before r ys → GivesRows row_can row_left row_steps can left steps text after r zs
 gives_rows {row_can = row_can} {row_left = row_left} {row_steps = row_steps} {can = can} {left = left} {steps = steps} {text = text} {r = r} before after ys zs same is gives =
     subst (λ v. GivesRows row_can row_left row_steps can left steps text v r zs) same (subst (λ v. GivesRows row_can row_left row_steps can left steps text before r v) is gives)
+
+-- the cells of a row
+module _ {S C : Type 0} (E : Type 0) (text : C → List ℕ) (left_of : S → ℕ) (texts_of : S → List (List ℕ)) where
+  abbrev CellSteps : S → Option (Result C E) → S → Type 0
+  CellSteps s r t = TakesOne (left_of s) r (left_of t) × GivesText text (texts_of s) r (texts_of t)
+
+  next_cell : (s : S) (r : Option (Result C E)) (t : S) → CellSteps s r t → GivesNext (λ answer wanted. MatchResult answer (λ cell. text cell ≡ wanted) (λ _. ⊥)) (texts_of s) r (texts_of t)
+  next_cell s None t step = step.1.0
+  next_cell s (Some (Ok cell)) t step = (text cell, refl, step.1)
+  next_cell s (Some (Err error)) t step = absurd step.1
+
+  pub each_cell : (s : S) → GivesCells CellSteps text false s (texts_of s)
+  each_cell s = each_cell_given CellSteps text false s (texts_of s) (each_left CellSteps _ texts_of next_cell s (texts_of s) refl)
+
+-- the rows, of which each gives its texts
+module _ {S Row : Type 0} (columns_of count_of : S → ℕ) (texts_of : Row → List (List ℕ)) (rows_of : S → List (List (List ℕ))) (tie : Row → List (List ℕ) → Type 0) (tied : (row : Row) → tie row (texts_of row)) where
+  abbrev RowSteps : S → Option Row → S → Type 0
+  RowSteps s r t = (columns_of t ≡ columns_of s) × TakesOne (count_of s) r (count_of t) × GivesRow texts_of (rows_of s) r (rows_of t)
+
+  next_row : (s : S) (r : Option Row) (t : S) → RowSteps s r t → GivesNext tie (rows_of s) r (rows_of t)
+  next_row s None t step = step.2.0
+  next_row s (Some row) t step = (texts_of row, tied row, step.2)
+
+  pub each_row : (s : S) → GivesEach RowSteps tie s (rows_of s)
+  each_row s = each_left RowSteps tie rows_of next_row s (rows_of s) refl

@@ -1,10 +1,10 @@
-//! Records with a row count.
+//! Records with both counts.
 ghost use Rattle.std.specs.Prelude.{◌≡◌, length};
 
-use crate::records::RecordTexts;
+use crate::records::RecordColumns;
 
-/// Records with a row count.
-pub trait ExactRecords: RecordTexts {
+/// Records with a row count, beside that of columns.
+pub trait ExactRecords: RecordColumns {
     /// How many rows there are.
     fn count_rows(&self) -> usize
         ensures { result ≡ length (Self.rows self.now) };

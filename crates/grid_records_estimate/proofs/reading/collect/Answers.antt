@@ -24,7 +24,7 @@ pub loop-cells-preserved : goal.loop-cells-preserved
 loop-cells-preserved g c =
     let n = next_given c.loop-cells.yielded c.in-Some.cells _ c.loop-cells.cells-iterator c.next.new.self c.iter_rows-cells-items.ensures
     c.into_iter-cells-iterator.ensures.into_iter_gives c.loop-cells.yielded_by c.in-Some.ensures.steps in
-    let rows = fitted (g.R.Records.columns c.args.records) (g.R.RecordTexts.rows c.args.records) in
+    let rows = fitted (g.R.RecordColumns.columns c.args.records) (g.R.RecordTexts.rows c.args.records) in
     let sizing = g.S.Sizing.sizing c.args.cfg.now in
     let longer : length (c.loop-cells.yielded ++ c.in-Some.cells ∷ []) ≡ length c.loop-cells.yielded + 1 = length-append c.loop-cells.yielded (c.in-Some.cells ∷ []) in
     record {
@@ -41,13 +41,13 @@ pub returns-clause-rows : goal.returns-clause-rows
 returns-clause-rows g c =
     let none = none_given c.loop-cells.yielded _ c.loop-cells.cells-iterator c.next.new.self c.iter_rows-cells-items.ensures
     c.into_iter-cells-iterator.ensures.into_iter_gives c.loop-cells.yielded_by c.in-None.ensures.steps in
-    let rows = fitted (g.R.Records.columns c.args.records) (g.R.RecordTexts.rows c.args.records) in
+    let rows = fitted (g.R.RecordColumns.columns c.args.records) (g.R.RecordTexts.rows c.args.records) in
     c.loop-cells.invariant.row_is ∙ no_more_than rows (length c.loop-cells.yielded) c.loop-cells.invariant.inside none
-    ∙ length-map (g.R.RecordTexts.rows c.args.records) (fitted_row (g.R.Records.columns c.args.records))
+    ∙ length-map (g.R.RecordTexts.rows c.args.records) (fitted_row (g.R.RecordColumns.columns c.args.records))
 
 pub returns-clause-read : goal.returns-clause-read
 returns-clause-read g c = λ h.
     let none = none_given c.loop-cells.yielded _ c.loop-cells.cells-iterator c.next.new.self c.iter_rows-cells-items.ensures
     c.into_iter-cells-iterator.ensures.into_iter_gives c.loop-cells.yielded_by c.in-None.ensures.steps in
-    let rows = fitted (g.R.Records.columns c.args.records) (g.R.RecordTexts.rows c.args.records) in
+    let rows = fitted (g.R.RecordColumns.columns c.args.records) (g.R.RecordTexts.rows c.args.records) in
     TableRead-all (g.S.Sizing.sizing c.args.cfg.now) c.loop-cells.widths c.loop-cells.heights c.loop-cells.row (drop (length c.loop-cells.yielded) rows) rows (c.loop-cells.invariant.read h) none

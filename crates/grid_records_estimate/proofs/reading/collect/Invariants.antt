@@ -6,7 +6,7 @@ use Rattle.grid_records_estimate.proofs.reading.collect.Given as goal
 
 abbrev pub invariant-loop-cells : goal.invariant-loop-cells
 invariant-loop-cells g l =
-    let rows = fitted (g.R.Records.columns l.fn.records) (g.R.RecordTexts.rows l.fn.records) in
+    let rows = fitted (g.R.RecordColumns.columns l.fn.records) (g.R.RecordTexts.rows l.fn.records) in
     let sizing = g.S.Sizing.sizing l.cfg in
     record {
       row_is : l.row ≡ length l.yielded;

@@ -1,6 +1,6 @@
 use Rattle.std.proofs.Common.{length, sym}
 use Rattle.grid_records_traits.specs.Laws.Giving.{gives_list}
-use Rattle.columns_run.specs.Giving.{each_cell, each_row}
+use Rattle.grid_records_traits.specs.Laws.Giving.{each_cell, each_row}
 use Rattle.columns_run.specs.Records.{row_texts, table_texts}
 use Rattle.columns_run.proofs.RecordLemmas.{fitted-table_texts}
 use Rattle.columns_run.proofs.records.MeasuredRowsRecords.iter_rows.Goals as goal
