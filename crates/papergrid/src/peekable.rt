@@ -1,7 +1,7 @@
 //! A grid whose cells are looked up.
 use crate::sizes::{heights, widths};
 use grid_config::{Fault, SpannedConfig};
-use grid_records_traits::{Dimension, ExactRecords, PeekableRecords, Records};
+use grid_records_traits::{Dimension, ExactRecords, PeekableRecords};
 use papergrid_print::{Colors, print_table};
 use std::alloc::{AllocError, Global};
 use std::marker::Model;
@@ -44,7 +44,7 @@ impl<R, G, D, C> PeekableGrid<R, G, D, C> {
     }
 }
 
-impl<'a, R: Records + ExactRecords + PeekableRecords, D: Dimension, C: Colors> PeekableGrid<R, &'a SpannedConfig, D, C> {
+impl<'a, R: ExactRecords + PeekableRecords, D: Dimension, C: Colors> PeekableGrid<R, &'a SpannedConfig, D, C> {
     ghost use Rattle.std.specs.Prelude.{◌≡◌, ◌++◌, IfErr, IfOk, OnErr, OnOk, length, string_bytes};
     ghost use Rattle.grid_config_values.specs.declared.fault.Fault.TheVariants.{Memory};
     ghost use Rattle.grid_config.specs.Looks.{look_of};

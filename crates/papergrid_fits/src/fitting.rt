@@ -11,13 +11,13 @@ ghost use Rattle.papergrid_fits.specs.Tables.{IsFitsAnswer, sized};
 use crate::room::is_too_wide;
 use crate::totals::{total_height, total_width};
 use grid_config::{Fault, Position, SpannedConfig};
-use grid_records_traits::{Dimension, ExactRecords, PeekableRecords, Records};
+use grid_records_traits::{Dimension, ExactRecords, PeekableRecords};
 
 /// Whether a table fits these sizes. Refused as `Spans` where its spans are not good; else as `Range`
 /// where the columns of a line, or the lines, pass `usize::MAX`, margins too; else as `Room` of the first
 /// visible cell, by row, then by column, whose widest line with the paddings at its sides is wider than
 /// the columns that it takes and the boundaries between them. Takes no memory.
-pub fn fits<R: Records + ExactRecords + PeekableRecords, D: Dimension>(
+pub fn fits<R: ExactRecords + PeekableRecords, D: Dimension>(
     records: &R,
     cfg: &SpannedConfig,
     dims: &D,
