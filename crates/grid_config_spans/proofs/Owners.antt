@@ -15,7 +15,7 @@ use Rattle.grid_config_spans.specs.declared.extent.Extent.{Extent}
 use Rattle.grid_config_spans.specs.Owners.{hides, owner}
 use Rattle.grid_config_spans.specs.Rectangles.{Holds}
 use Rattle.grid_config_spans.specs.Search.{begun_between, holds, holds_in}
-use Rattle.grid_config_spans.specs.Spans.{AreGood, ArePositive, IsInTable, IsVisible, extent_at}
+use Rattle.grid_config_spans.specs.Spans.{AreGood, ArePositive, IsInTable, IsVisible, extent_at, single}
 use Rattle.grid_config_spans.proofs.Order.{is_le_cmp, same_position, same_itself}
 use Rattle.grid_config_spans.proofs.Visible.{Kept, NotKept, begins_between, extent_kept, found_in_search, holder_is_before, holds_shown, holds_tested, first_passes, kept_or_single, not_before_itself, single_holds}
 use Rattle.grid_config_spans.proofs.Good.{is_false}
@@ -213,6 +213,13 @@ own_decides spans place = (
 
 pub owner_without : (place : Position) → owner (extent_at []) place ≡ place
 owner_without place = own_if_visible [] place (visible_without place)
+
+-- single cells own themselves
+pub owner_single : (place : Position) → owner (λ _. single) place ≡ place
+owner_single place = elim (is_owned (λ _. single) place) [
+  | Itself same only ↦ same
+  | Held held other ↦ single_holds (owner (λ _. single) place) place held
+]
 
 -- ---- the search among the spans
 

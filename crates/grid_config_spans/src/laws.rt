@@ -5,7 +5,7 @@ ghost use Rattle.grid_config_spans.specs.declared.extent.Extent.{Extent as Size}
 ghost use Rattle.grid_config_values.specs.Order.{same_place};
 ghost use Rattle.grid_config_spans.specs.Owners.{owner};
 ghost use Rattle.grid_config_spans.specs.Rectangles.{Holds};
-ghost use Rattle.grid_config_spans.specs.Spans.{AreGood, ArePositive, IsInTable, IsVisible, extent_at};
+ghost use Rattle.grid_config_spans.specs.Spans.{AreGood, ArePositive, IsInTable, IsVisible, extent_at, single};
 
 /// Where the spans of a table are good, two visible cells share no place of it, and a cell whose
 /// rectangle holds another place of it is visible.
@@ -40,9 +40,11 @@ pub fn owners_part_the_table()
         owner (extent_at spans) other ≡ owner (extent_at spans) place }
 {}
 
-/// A place is its own owner exactly where it is visible; without spans each is.
+/// A place is its own owner exactly where it is visible; without spans, and where all cells are single,
+/// each is.
 pub fn visible_cells_own_themselves()
     ensures visible { (spans : List (Place × Size)) (place : Place) →
         IsTrue (same_place (owner (extent_at spans) place) place) ↔ IsVisible spans place }
     ensures without { (place : Place) → owner (extent_at []) place ≡ place }
+    ensures single { (place : Place) → owner (λ _. single) place ≡ place }
 {}

@@ -14,7 +14,7 @@ use Rattle.ansi_str.specs.StyledText.{strip}
 use Rattle.ansi_str.specs.Keeping.{IsTrimmed, IsTrimmedAt, kept}
 use Rattle.ansi_str_search.proofs.FindLemmas.{IsUtf8-shown}
 use Rattle.ansi_str_search.proofs.SearchLemmas.{of_pieces}
-use Rattle.grid_records_measure.specs.Trimming.{trim_begin, trim_end, trimmed}
+use Rattle.grid_records_measure.specs.Trimming.{trimmed_from, trimmed_to, trimmed}
 
 -- ---- white space at the ends of some characters
 
@@ -113,13 +113,13 @@ module _ (text : List ℕ) (utf8 : IsUtf8 text) where
       sym (encodes-chars text utf8) ∙ ap encode_utf8_all (front cs).1 ∙ encodes-append white rest
       ∙ ap (λ bytes. encode_utf8_all white ++ bytes) (sym start_is ∙ left_is)
 
-  begins_at : trim_begin text ≡ length (encode_utf8_all white)
+  begins_at : trimmed_from text ≡ length (encode_utf8_all white)
   begins_at =
       let whole = sizes text (encode_utf8_all white) (encode_utf8_all inner) (encode_utf8_all white_behind) parted in
       let left : length (trim_start text) ≡ length (encode_utf8_all inner) + length (encode_utf8_all white_behind) = ap length left_is ∙ length-append (encode_utf8_all inner) (encode_utf8_all white_behind) in
       omega (arith, whole, left)
 
-  ends_at : trim_end text ≡ length (encode_utf8_all white) + length (encode_utf8_all inner)
+  ends_at : trimmed_to text ≡ length (encode_utf8_all white) + length (encode_utf8_all inner)
   ends_at = ap (λ n. n + length (trim text)) begins_at ∙ ap (λ bytes. length (encode_utf8_all white) + length bytes) both_is
 
   trimmed_there : IsTrimmedAt text (length (encode_utf8_all white)) (length (encode_utf8_all white) + length (encode_utf8_all inner))
@@ -136,21 +136,21 @@ module _ (text : List ℕ) (utf8 : IsUtf8 text) where
         left = between text w m v parted ∙ sym both_is;
       }
 
-  pub trimmed_at : IsTrimmedAt text (trim_begin text) (trim_end text)
+  pub trimmed_at : IsTrimmedAt text (trimmed_from text) (trimmed_to text)
   trimmed_at = rw (ends_at, begins_at) trimmed_there
 
 pub trimmed-is : (text : List ℕ) → IsUtf8 text → IsTrimmed (pieces text) (trimmed text)
 unfolding trimmed
 trimmed-is text utf8 =
     let shown = strip (pieces text) in
-    (trim_begin shown, trim_end shown, trimmed_at shown (IsUtf8-shown text utf8), refl)
+    (trimmed_from shown, trimmed_to shown, trimmed_at shown (IsUtf8-shown text utf8), refl)
 
 -- ---- nothing else is
 
-one_place : (text : List ℕ) (a b : ℕ) → IsTrimmedAt text a b → (a ≡ trim_begin text) × (b ≡ trim_end text)
+one_place : (text : List ℕ) (a b : ℕ) → IsTrimmedAt text a b → (a ≡ trimmed_from text) × (b ≡ trimmed_to text)
 one_place text a b at =
     let left : length text - a ≡ length (trim_start text) = sym (length-drop a text) ∙ ap length at.begins in
-    let first : a ≡ trim_begin text = omega (arith, left, at.ordered, at.within) in
+    let first : a ≡ trimmed_from text = omega (arith, left, at.ordered, at.within) in
     let fits : b - a ≤ length (drop a text) = omega (arith, length-drop a text, at.ordered, at.within) in
     let size : b - a ≡ length (trim text) = sym (length-take-le (b - a) (drop a text) fits) ∙ ap length at.left in
     (first, omega (arith, first, size, at.ordered))
@@ -159,7 +159,7 @@ same_trimmed : (text bytes : List ℕ) → IsTrimmed (pieces text) bytes → byt
 unfolding trimmed
 same_trimmed text bytes found =
     let places = one_place (strip (pieces text)) found.0 found.1 found.2 in
-    found.3 ∙ ap (λ k. kept k found.1 (pieces text)) places.0 ∙ ap (λ k. kept (trim_begin (strip (pieces text))) k (pieces text)) places.1
+    found.3 ∙ ap (λ k. kept k found.1 (pieces text)) places.0 ∙ ap (λ k. kept (trimmed_from (strip (pieces text))) k (pieces text)) places.1
 
 pub trimmed-one : (text bytes : List ℕ) (ps : List Piece) → ArePiecesOf text ps → IsTrimmed ps bytes → bytes ≡ trimmed text
 trimmed-one text bytes ps of_text is = of_pieces (λ (qs : List Piece). IsTrimmed qs bytes → bytes ≡ trimmed text) text (same_trimmed text bytes) ps of_text is

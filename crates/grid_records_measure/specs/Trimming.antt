@@ -6,12 +6,12 @@ use Rattle.ansi_str.specs.StyledText.{strip}
 use Rattle.ansi_str.specs.Keeping.{kept}
 
 -- where that which Rust's `trim` leaves of a text without sequences begins, and where it ends
-abbrev pub trim_begin : List ℕ → ℕ
-trim_begin text = length text - length (trim_start text)
+abbrev pub trimmed_from : List ℕ → ℕ
+trimmed_from text = length text - length (trim_start text)
 
-abbrev pub trim_end : List ℕ → ℕ
-trim_end text = trim_begin text + length (trim text)
+abbrev pub trimmed_to : List ℕ → ℕ
+trimmed_to text = trimmed_from text + length (trim text)
 
 -- the text from there to there, with every sequence
 unfoldable pub trimmed : List ℕ → List ℕ
-trimmed text = let shown = strip (pieces text) in kept (trim_begin shown) (trim_end shown) (pieces text)
+trimmed text = let shown = strip (pieces text) in kept (trimmed_from shown) (trimmed_to shown) (pieces text)
