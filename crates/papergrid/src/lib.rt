@@ -2,6 +2,7 @@
 #![tactic(auto)]
 
 mod peekable;
+mod read;
 mod sizes;
 
 pub use papergrid_fits::fits;
