@@ -1,6 +1,6 @@
 -- What a cell shows in its rectangle: paddings, and between them the lines of its text. What a part shows is named and not
 -- copied, a fill or a line of a cell; so a block follows from settings and measures alone.
-use Rattle.std.specs.Prelude.{ℕ, ◌+◌, ◌-◌, ◌/◌, Bool, max, List, [], ◌∷◌, ◌++◌, Option, map, length, replicate, slice_index, if◌then◌else◌}
+use Rattle.std.specs.Prelude.{ℕ, ◌-◌, ◌/◌, max, List, [], ◌∷◌, ◌++◌, Option, map, length, replicate, slice_index, if◌then◌else◌}
 use Rattle.std.specs.List.{range_with_len}
 use Rattle.grid_config_values.specs.declared.alignment.AlignmentHorizontal.{AlignmentHorizontal}
 use Rattle.grid_config_values.specs.declared.alignment.AlignmentHorizontal.TheVariants.{Left, Center, Right}

@@ -1,5 +1,5 @@
 -- Pictures that can be worked out by hand: tables of plain texts.
-use Rattle.std.specs.Prelude.{ℕ, Bool, false, true, List, [], ◌∷◌, ◌++◌, Option, None, Some, ◌+◌, codes, map, length, slice_index_or, unwrap_or}
+use Rattle.std.specs.Prelude.{ℕ, false, List, [], ◌∷◌, ◌++◌, Option, None, Some, ◌+◌, codes, map, length, slice_index_or, unwrap_or}
 use Rattle.std.specs.List.{find, range_with_len}
 use Rattle.std.specs.Option.{option_map}
 use Rattle.grid_config_values.specs.declared.alignment.AlignmentHorizontal.TheVariants.{Left, Center}
@@ -17,16 +17,28 @@ use Rattle.grid_config.specs.Compact.{each_side, no_indent}
 use Rattle.grid_config.specs.Looks.{Look}
 use Rattle.papergrid_picture.specs.Frame.{frame_of}
 use Rattle.papergrid_picture.specs.Picture.{at}
-use Rattle.papergrid_picture.specs.Reading.{Reading, grid_items}
+use Rattle.papergrid_picture.specs.Reading.{grid_items}
 use Rattle.papergrid_picture.specs.Tables.{in_color}
 
 -- one glyph for each boundary of rows, one for each of columns, and one where they meet
 abbrev pub borders_of : ℕ → ℕ → ℕ → Borders ℕ
 borders_of h v x = record {
-  top = Some h; top_left = Some x; top_right = Some x; top_intersection = Some x;
-  bottom = Some h; bottom_left = Some x; bottom_right = Some x; bottom_intersection = Some x;
-  horizontal = Some h; left_intersection = Some x; right_intersection = Some x; intersection = Some x;
-  vertical = Some v; left = Some v; right = Some v }
+  top = Some h;
+  top_left = Some x;
+  top_right = Some x;
+  top_intersection = Some x;
+  bottom = Some h;
+  bottom_left = Some x;
+  bottom_right = Some x;
+  bottom_intersection = Some x;
+  horizontal = Some h;
+  left_intersection = Some x;
+  right_intersection = Some x;
+  intersection = Some x;
+  vertical = Some v;
+  left = Some v;
+  right = Some v;
+}
 
 abbrev pub ascii : Borders ℕ
 ascii = borders_of 0x2d 0x7c 0x2b
@@ -40,11 +52,21 @@ span row column rows columns = (at row column, record { rows = rows; columns = c
 
 abbrev pub plain : Look
 plain = record {
-  margin = each_side no_indent; margin_color = each_side None; borders = ascii; borders_color = no_borders;
-  padding = λ _. each_side no_indent; padding_color = λ _. each_side None;
-  alignment_horizontal = λ _. Left; alignment_vertical = λ _. Top; line_alignment = λ _. false;
-  trim_horizontal = λ _. false; trim_vertical = λ _. false; justification = λ _. 0x20; justification_color = λ _. None;
-  extent = λ _. single }
+  margin = each_side no_indent;
+  margin_color = each_side None;
+  borders = ascii;
+  borders_color = no_borders;
+  padding = λ _. each_side no_indent;
+  padding_color = λ _. each_side None;
+  alignment_horizontal = λ _. Left;
+  alignment_vertical = λ _. Top;
+  line_alignment = λ _. false;
+  trim_horizontal = λ _. false;
+  trim_vertical = λ _. false;
+  justification = λ _. 0x20;
+  justification_color = λ _. None;
+  extent = λ _. single;
+}
 
 -- the lines of the cell at a place
 abbrev pub lines_at : List (List (List (List ℕ))) → Position → List (List ℕ)
@@ -98,9 +120,18 @@ with_margins = record plain { margin = record framed { right = indent 2 0x3e; to
 
 -- boundaries round the table alone
 abbrev pub outer : Look
-outer = record plain { borders = record no_borders {
-  top = Some 0x2d; top_left = Some 0x2b; top_right = Some 0x2b; bottom = Some 0x2d; bottom_left = Some 0x2b; bottom_right = Some 0x2b;
-  left = Some 0x7c; right = Some 0x7c } }
+outer = record plain {
+  borders = record no_borders {
+    top = Some 0x2d;
+    top_left = Some 0x2b;
+    top_right = Some 0x2b;
+    bottom = Some 0x2d;
+    bottom_left = Some 0x2b;
+    bottom_right = Some 0x2b;
+    left = Some 0x7c;
+    right = Some 0x7c;
+  };
+}
 
 -- glyphs at the left and right and along the bottom alone
 abbrev pub no_top : Look

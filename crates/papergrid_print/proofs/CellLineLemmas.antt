@@ -11,7 +11,7 @@ use Rattle.ansi_str.specs.StyledText.{has_escape, strip}
 use Rattle.ansi_str.proofs.KeepLemmas.{kept-plain}
 use Rattle.ansi_str_text.proofs.Stripping.{strip-without_escape}
 use Rattle.grid_records_measure.specs.TextLines.{AreLinesOf, is_line_feed, line_measure, shown_lines, text_lines, widest}
-use Rattle.grid_records_measure.specs.Trimming.{trim_begin, trim_end, trimmed}
+use Rattle.grid_records_measure.specs.Trimming.{trimmed_from, trimmed_to, trimmed}
 use Rattle.grid_records_measure.proofs.TextLineLemmas.{text_lines-are, text_lines-one}
 use Rattle.grid_records_measure.proofs.LineLemmas.{length-lines}
 use Rattle.std.proofs.Math.Seq.{take-length}
@@ -29,8 +29,8 @@ pub trimmed-plain : (text : List ℕ) → IsUtf8 text → has_escape text ≡ fa
 unfolding trimmed
 trimmed-plain text utf8 plain =
     let itself : strip (pieces text) ≡ text = strip-without_escape text (pieces text) (ArePiecesOf-pieces text) plain in
-    sym (trimmed_at text utf8).left ∙ (kept-plain (trim_begin text) (trim_end text) text plain
-    ∙ ap (λ shown. kept (trim_begin shown) (trim_end shown) (pieces text)) (sym itself))
+    sym (trimmed_at text utf8).left ∙ (kept-plain (trimmed_from text) (trimmed_to text) text plain
+    ∙ ap (λ shown. kept (trimmed_from shown) (trimmed_to shown) (pieces text)) (sym itself))
 
 -- ---- which lines are kept
 
