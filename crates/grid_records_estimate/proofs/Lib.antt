@@ -1,3 +1,4 @@
+pub mod Lengths
 pub mod ShareLemmas
 pub mod Growing
 pub mod MeetLemmas

@@ -1,5 +1,5 @@
 //! Laws of the definitions that the other contracts cite.
-ghost use Rattle.std.specs.Prelude.{◌≡◌, ◌⊎◌, ℕ, List, [], ◌∷◌, true, false, slice_index};
+ghost use Rattle.std.specs.Prelude.{◌≡◌, ◌<◌, ◌⊎◌, ℕ, List, length, [], ◌∷◌, true, false, slice_index};
 ghost use Rattle.grid_config.specs.Compact.{Compact as CompactSettings};
 ghost use Rattle.grid_config.specs.Settings.{Settings as TableSettings, StartsWith, compact_start};
 ghost use Rattle.grid_records_traits.specs.Rows.{fitted};
@@ -36,6 +36,13 @@ pub fn worked_estimates()
 pub fn worked_totals()
     ensures with_margins { total (4 ∷ 3 ∷ []) 3 1 2 ≡ 13 }
     ensures empty { total [] 1 5 6 ≡ 0 }
+{}
+
+/// An estimate of a table with rows has a width for each column, and one of a table with columns a height
+/// for each row.
+pub fn estimates_have_a_size_for_each()
+    ensures widths { (sizing : TableSizing) (columns : ℕ) (rows : List (List (List ℕ))) → 0 < length rows → length (table_widths sizing columns rows) ≡ columns }
+    ensures heights { (sizing : TableSizing) (columns : ℕ) (rows : List (List (List ℕ))) → 0 < columns → length (table_heights sizing columns rows) ≡ length rows }
 {}
 
 /// The least sizes of a table leave each of its visible cells the room that it needs: the tracks that

@@ -1,0 +1,133 @@
+-- Estimated sizes leave room for each visible cell.
+use Rattle.std.proofs.Common.{◌≡◌, ◌&&◌, ℕ, zero, suc, ◌+◌, ◌-◌, ◌<◌, ◌≤◌, min, nat_lt, Bool, true, false, List, [], ◌∷◌, ◌++◌, Option, None, length, map, take, drop, replicate, slice_index, slice_index_or, refl, ap, sym, subst, ◌∙◌, arith, add-one}
+use Rattle.std.specs.List.{filter, find, range_with_len, sum}
+use Rattle.std.proofs.lemmas.Bool.Decides.{nat_tests}
+use Rattle.std.proofs.lemmas.List.{take_all, take_more}
+use Rattle.std.proofs.lemmas.List.FromFn.{length-map-range_with_len, map-range_with_len_more}
+use Rattle.grid_config_values.specs.Entities.{table_positions}
+use Rattle.grid_config_values.specs.Glyphs.{boundary_kind, has_column_boundary}
+use Rattle.grid_config_values.specs.Order.{same_place}
+use Rattle.grid_config_values.specs.declared.position.Position.{Position}
+use Rattle.grid_config_spans.specs.Spans.{AreGood, ArePositive, extent_at}
+use Rattle.grid_config_spans.specs.Owners.{owner}
+use Rattle.grid_config_spans.proofs.Owners.{own_decides}
+use Rattle.grid_config.specs.Looks.{look_of}
+use Rattle.grid_config.specs.Settings.{Settings}
+use Rattle.grid_records_traits.specs.Rows.{fitted, fitted_row, text_at}
+use Rattle.grid_records_measure.specs.TextLines.{text_width}
+use Rattle.grid_records_estimate.specs.Room.{room}
+use Rattle.grid_records_estimate.specs.Sizes.{table_widths}
+use Rattle.grid_records_estimate.specs.Sizing.{column_axis, is_visible, sizing_of, width_need}
+use Rattle.grid_records_estimate.proofs.Lengths.{length-table_widths, length-fitted}
+use Rattle.grid_records_estimate.proofs.RoomLemmas.{LeaveRoom-widths}
+use Rattle.grid_records_estimate.proofs.Visibility.{is_visible-decides}
+use Rattle.papergrid_picture.specs.Fitting.{first_too_wide, is_too_wide, need}
+use Rattle.papergrid_picture.specs.Frame.{block_width, stretch}
+use Rattle.papergrid_picture.specs.Picture.{at}
+use Rattle.papergrid_fits.specs.Tables.{sized}
+use Rattle.papergrid_fits.proofs.First.{columns-inside, none-in_row-more, none-more}
+use Rattle.papergrid_fits.proofs.Ranges.{first-is}
+
+-- ---- texts of fitted rows
+
+none_at : (k : ℕ) → slice_index_or {A = List ℕ} [] k [] ≡ []
+none_at zero = refl
+none_at (suc k) = refl
+
+empty_at : (m k : ℕ) → slice_index_or {A = List ℕ} (replicate m []) k [] ≡ []
+empty_at zero k = none_at k
+empty_at (suc m) zero = refl
+empty_at (suc m) (suc k) = empty_at m k
+
+text-in_row : (n : ℕ) (row : List (List ℕ)) (k : ℕ) → k < n → slice_index_or (fitted_row n row) k [] ≡ slice_index_or row k []
+text-in_row zero row k below = absurd (omega arith)
+text-in_row (suc n) [] k below = empty_at (suc n - 0) k ∙ sym (none_at k)
+text-in_row (suc n) (text ∷ row) zero below = refl
+text-in_row (suc n) (text ∷ row) (suc k) below =
+    let less : k < n = omega arith in
+    let same : suc n - suc (length row) ≡ n - length row = omega arith in
+    ap (λ m. slice_index_or (take n row ++ replicate m []) k []) same ∙ text-in_row n row k less
+
+text_at-fitted : (n : ℕ) (rows : List (List (List ℕ))) (i k : ℕ) → k < n → text_at (fitted n rows) (at i k) ≡ text_at rows (at i k)
+text_at-fitted n [] zero k below = refl
+text_at-fitted n [] (suc i) k below = refl
+text_at-fitted n (row ∷ rows) zero k below = text-in_row n row k below
+text_at-fitted n (row ∷ rows) (suc i) k below = text_at-fitted n rows i k below
+
+-- ---- sizes by number
+
+taken_by_number : (sizes : List ℕ) (n : ℕ) → n ≤ length sizes → map (slice_index sizes) (range_with_len 0 n) ≡ take n sizes
+taken_by_number sizes zero h = refl
+taken_by_number sizes (suc n) h =
+    let place : 0 + n ≡ n = omega arith in
+    let less : n ≤ length sizes = omega arith in
+    let below : n < length sizes = omega arith in
+    ap (λ m. map (slice_index sizes) (range_with_len 0 m)) (sym (add-one n)) ∙ map-range_with_len_more (slice_index sizes) 0 n n place
+    ∙ ap (λ xs. xs ++ slice_index sizes n ∷ []) (taken_by_number sizes n less) ∙ sym (take_more sizes n 0 below) ∙ ap (λ m. take m sizes) (add-one n)
+
+by_number : (sizes : List ℕ) (n : ℕ) → length sizes ≡ n → map (slice_index sizes) (range_with_len 0 n) ≡ sizes
+by_number sizes n long =
+    let within : n ≤ length sizes = omega arith in
+    let all : length sizes ≤ n = omega arith in
+    taken_by_number sizes n within ∙ take_all n sizes all
+
+-- ---- room
+
+module _ (settings : Settings) (columns : ℕ) (rows : List (List (List ℕ))) (height : ℕ → ℕ) (positive : ArePositive settings.spans) (good : AreGood settings.spans (length rows) columns) where
+  abbrev widths : List ℕ
+  widths = table_widths (sizing_of settings) columns rows
+
+  abbrev test : Position → Bool
+  test = is_too_wide (sized settings (slice_index widths) height columns (length rows)) rows
+
+  abbrev strip : List ℕ → (ℕ → Bool) → ℕ → ℕ → ℕ
+  strip sizes has first n = sum (take n (drop first sizes)) + length (filter has (range_with_len (first + 1) (n - 1)))
+
+  abbrev has : ℕ → ℕ → Bool
+  has n j = has_column_boundary settings.borders (boundary_kind j n)
+
+  -- the room of a cell is the width of its rectangle
+  rectangle : (i j : ℕ) → i < length rows → j < columns
+      → room (column_axis (sizing_of settings) columns (fitted columns rows)) widths j i ≡ block_width (sized settings (slice_index widths) height columns (length rows)) (at i j)
+  rectangle i j in_rows in_columns =
+      let span : ℕ = (extent_at settings.spans (at i j)).columns in
+      let inside : j + span ≤ columns = columns-inside settings.spans (length rows) columns (at i j) good in_rows in_columns in
+      let whole : min span (columns - j) ≡ span = omega (arith, inside) in
+      let some : 0 < length rows = omega (arith, in_rows) in
+      let listed : widths ≡ map (slice_index widths) (range_with_len 0 columns) = sym (by_number widths columns (length-table_widths (sizing_of settings) columns rows some)) in
+      ap (strip widths (has columns) j) whole ∙ ap (λ sizes. strip sizes (has columns) j span) listed
+      ∙ ap (λ n. strip (map (slice_index widths) (range_with_len 0 columns)) (has n) j span) (sym (length-map-range_with_len (slice_index widths) 0 columns))
+
+  asked : (i j : ℕ) → j < columns → width_need (sizing_of settings) (at i j) (text_at (fitted columns rows) (at i j)) ≡ need (look_of settings) rows (at i j)
+  asked i j below = ap (width_need (sizing_of settings) (at i j)) (text_at-fitted columns rows i j below)
+
+  fits : (i j : ℕ) → i < length rows → j < columns → (b : Bool) → same_place (owner (extent_at settings.spans) (at i j)) (at i j) ≡ b → test (at i j) ≡ false
+  fits i j in_rows in_columns false off = ap (λ b. b && nat_lt (block_width (sized settings (slice_index widths) height columns (length rows)) (at i j)) (need (look_of settings) rows (at i j))) off
+  fits i j in_rows in_columns true on =
+      let seen = (own_decides settings.spans (at i j)).0 on in
+      let shown : is_visible settings.spans (at i j) ≡ true = sym (is_visible-decides settings.spans (at i j) true ((λ _. seen), (λ _. refl))) in
+      let crossing : i < length (fitted columns rows) = omega (arith, in_rows, length-fitted columns rows) in
+      let left = LeaveRoom-widths (sizing_of settings) columns rows j i in_columns crossing shown (positive (at i j)).1 in
+      let enough : need (look_of settings) rows (at i j) ≤ block_width (sized settings (slice_index widths) height columns (length rows)) (at i j) = omega (arith, left, asked i j in_columns, rectangle i j in_rows in_columns) in
+      let within : nat_lt (block_width (sized settings (slice_index widths) height columns (length rows)) (at i j)) (need (look_of settings) rows (at i j)) ≡ false = grind (arith, nat_tests, enough) in
+      ap (λ b. b && nat_lt (block_width (sized settings (slice_index widths) height columns (length rows)) (at i j)) (need (look_of settings) rows (at i j))) on ∙ within
+
+  none-in_row : (i n : ℕ) → i < length rows → n ≤ columns → find test (map (at i) (range_with_len 0 n)) ≡ None
+  none-in_row i zero in_rows h = refl
+  none-in_row i (suc n) in_rows h =
+      let less : n ≤ columns = omega arith in
+      let below : n < columns = omega arith in
+      ap (λ m. find test (map (at i) (range_with_len 0 m))) (sym (add-one n)) ∙ none-in_row-more test i n (none-in_row i n in_rows less) (fits i n in_rows below (same_place (owner (extent_at settings.spans) (at i n)) (at i n)) refl)
+
+  none-in_rows : (n : ℕ) → n ≤ length rows → find test (table_positions n columns) ≡ None
+  none-in_rows zero h = refl
+  none-in_rows (suc n) h =
+      let less : n ≤ length rows = omega arith in
+      let below : n < length rows = omega arith in
+      let all : columns ≤ columns = omega arith in
+      ap (λ m. find test (table_positions m columns)) (sym (add-one n)) ∙ none-more test columns n (none-in_rows n less) (none-in_row n columns below all)
+
+  pub none-too_wide : first_too_wide (sized settings (slice_index (table_widths (sizing_of settings) columns rows)) height columns (length rows)) rows ≡ None
+  none-too_wide =
+      let all : length rows ≤ length rows = omega arith in
+      sym (first-is settings (slice_index widths) height columns (length rows) rows) ∙ none-in_rows (length rows) all

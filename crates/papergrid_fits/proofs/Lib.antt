@@ -1,0 +1,6 @@
+-- Why a table fits its sizes.
+pub mod Reach
+pub mod Widths
+pub mod First
+pub mod Ranges
+pub mod Estimated

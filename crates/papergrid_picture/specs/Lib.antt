@@ -1,0 +1,9 @@
+pub mod Frame
+pub mod Blocks
+pub mod Picture
+pub mod Reading
+pub mod CellLines
+pub mod Tables
+pub mod Tiling
+pub mod Fitting
+pub mod Worked

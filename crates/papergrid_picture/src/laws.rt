@@ -1,0 +1,98 @@
+//! Laws of the definitions that the contracts of the grids cite.
+ghost use Rattle.std.specs.Prelude.{◌≡◌, List, [], ◌∷◌, None, Some, codes, true};
+ghost use Rattle.grid_config_values.specs.declared.alignment.AlignmentHorizontal.TheVariants.{Right};
+ghost use Rattle.grid_config_values.specs.declared.alignment.AlignmentVertical.TheVariants.{Bottom, Center as Middle};
+ghost use Rattle.grid_config_values.specs.Glyphs.{no_borders};
+ghost use Rattle.grid_config.specs.Compact.{each_side};
+ghost use Rattle.papergrid_picture.specs.Worked.{ascii, bracketed, cells, crossed, drawn, drawn_in, extents, half_bracketed, joined, named, no_top, outer, padded, plain, span, spaced, with_margins};
+
+/// Pictures that were worked out by hand: two by two cells; cells of two lines to the right, with one
+/// indent and line by line; a cell of three lines in a row of two; a line in the middle of four, where
+/// the larger part of what is free stands below, and one at the bottom; no rows and no columns.
+pub fn worked_tables()
+    ensures two_by_two { drawn plain (1 ∷ 1 ∷ []) (1 ∷ 1 ∷ []) (cells (codes "a" ∷ codes "b" ∷ []) ∷ cells (codes "1" ∷ codes "2" ∷ []) ∷ [])
+        ≡ joined (codes "+-+-+" ∷ codes "|a|b|" ∷ codes "+-+-+" ∷ codes "|1|2|" ∷ codes "+-+-+" ∷ []) }
+    ensures to_the_right { drawn (record plain { alignment_horizontal = λ _. Right }) (4 ∷ []) (2 ∷ 1 ∷ [])
+        (((codes "ab" ∷ codes "c" ∷ []) ∷ []) ∷ ((codes "abcd" ∷ []) ∷ []) ∷ [])
+        ≡ joined (codes "+----+" ∷ codes "|  ab|" ∷ codes "|  c |" ∷ codes "+----+" ∷ codes "|abcd|" ∷ codes "+----+" ∷ []) }
+    ensures line_by_line { drawn (record plain { alignment_horizontal = λ _. Right; line_alignment = λ _. true }) (4 ∷ []) (2 ∷ 1 ∷ [])
+        (((codes "ab" ∷ codes "c" ∷ []) ∷ []) ∷ ((codes "abcd" ∷ []) ∷ []) ∷ [])
+        ≡ joined (codes "+----+" ∷ codes "|  ab|" ∷ codes "|   c|" ∷ codes "+----+" ∷ codes "|abcd|" ∷ codes "+----+" ∷ []) }
+    ensures too_high { drawn plain (1 ∷ []) (2 ∷ []) (((codes "a" ∷ codes "b" ∷ codes "c" ∷ []) ∷ []) ∷ [])
+        ≡ joined (codes "+-+" ∷ codes "|a|" ∷ codes "|b|" ∷ codes "+-+" ∷ []) }
+    ensures no_height { drawn plain (1 ∷ []) (0 ∷ 1 ∷ []) (cells (codes "a" ∷ []) ∷ cells (codes "b" ∷ []) ∷ [])
+        ≡ joined (codes "+-+" ∷ codes "+-+" ∷ codes "|b|" ∷ codes "+-+" ∷ []) }
+    ensures in_the_middle { drawn (record plain { alignment_vertical = λ _. Middle }) (1 ∷ []) (4 ∷ []) (cells (codes "a" ∷ []) ∷ [])
+        ≡ joined (codes "+-+" ∷ codes "| |" ∷ codes "|a|" ∷ codes "| |" ∷ codes "| |" ∷ codes "+-+" ∷ []) }
+    ensures at_the_bottom { drawn (record plain { alignment_vertical = λ _. Bottom }) (1 ∷ []) (3 ∷ []) (cells (codes "a" ∷ []) ∷ [])
+        ≡ joined (codes "+-+" ∷ codes "| |" ∷ codes "| |" ∷ codes "|a|" ∷ codes "+-+" ∷ []) }
+    ensures no_rows { drawn plain (1 ∷ []) [] [] ≡ [] }
+    ensures no_columns { drawn plain [] (1 ∷ []) ([] ∷ []) ≡ [] }
+{}
+
+/// Cells that span rows and columns, worked out by hand: a row span of two in the middle of its height; row
+/// spans of three, two and two, whose texts stand on boundary lines; two by two cells, with the crossing
+/// in their middle hidden, at the first place and at the last; a span over a boundary that is absent; a
+/// row of columns, of which one has the width 0.
+pub fn worked_spans()
+    ensures two_rows { drawn (record plain { extent = extents (span 0 0 2 1 ∷ []); alignment_vertical = λ _. Middle }) (3 ∷ 3 ∷ []) (1 ∷ 1 ∷ []) (named 2 2)
+        ≡ joined (codes "+---+---+" ∷ codes "|   |0-1|" ∷ codes "+0-0+---+" ∷ codes "|   |1-1|" ∷ codes "+---+---+" ∷ []) }
+    ensures three_rows { drawn (record plain { extent = extents (span 0 0 3 1 ∷ span 0 1 2 1 ∷ span 0 2 2 1 ∷ []) }) (3 ∷ 3 ∷ 3 ∷ []) (0 ∷ 0 ∷ 1 ∷ []) (named 3 3)
+        ≡ joined (codes "+---+---+---+" ∷ codes "+0-0+0-1+0-2+" ∷ codes "+   +---+---+" ∷ codes "|   |2-1|2-2|" ∷ codes "+---+---+---+" ∷ []) }
+    ensures two_by_two { drawn (record plain { extent = extents (span 0 0 2 2 ∷ []) }) (3 ∷ 3 ∷ 3 ∷ []) (1 ∷ 1 ∷ 1 ∷ []) (named 3 3)
+        ≡ joined (codes "+---+---+---+" ∷ codes "|0-0    |0-2|" ∷ codes "+       +---+" ∷ codes "|       |1-2|" ∷ codes "+---+---+---+" ∷ codes "|2-0|2-1|2-2|" ∷ codes "+---+---+---+" ∷ []) }
+    ensures last { drawn (record plain { extent = extents (span 1 1 2 2 ∷ []) }) (3 ∷ 3 ∷ 3 ∷ []) (1 ∷ 1 ∷ 1 ∷ []) (named 3 3)
+        ≡ joined (codes "+---+---+---+" ∷ codes "|0-0|0-1|0-2|" ∷ codes "+---+---+---+" ∷ codes "|1-0|1-1    |" ∷ codes "+---+       +" ∷ codes "|2-0|       |" ∷ codes "+---+---+---+" ∷ []) }
+    ensures without_inner { drawn (record outer { extent = extents (span 0 0 1 2 ∷ []) }) (1 ∷ 2 ∷ []) (1 ∷ 1 ∷ []) (cells (codes "abc" ∷ codes "" ∷ []) ∷ cells (codes "d" ∷ codes "e" ∷ []) ∷ [])
+        ≡ joined (codes "+---+" ∷ codes "|abc|" ∷ codes "|de |" ∷ codes "+---+" ∷ []) }
+    ensures no_width { drawn plain (1 ∷ 0 ∷ []) (1 ∷ []) (cells (codes "a" ∷ [] ∷ []) ∷ [])
+        ≡ joined (codes "+-++" ∷ codes "|a||" ∷ codes "+-++" ∷ []) }
+{}
+
+/// Paddings, margins and boundaries, worked out by hand: fills of each side, where the bottom padding is
+/// not seen in a row that is too low for it; margins, whose lines at the top and bottom are as wide as all
+/// others; boundaries of which one is absent, and a present one without a glyph at some of its places.
+pub fn worked_edges()
+    ensures paddings { drawn padded (4 ∷ []) (3 ∷ []) (cells (codes "ab" ∷ []) ∷ [])
+        ≡ joined (codes "+----+" ∷ codes "|^^^^|" ∷ codes "|<ab>|" ∷ codes "|____|" ∷ codes "+----+" ∷ []) }
+    ensures low { drawn padded (4 ∷ []) (2 ∷ []) (cells (codes "ab" ∷ []) ∷ [])
+        ≡ joined (codes "+----+" ∷ codes "|^^^^|" ∷ codes "|<ab>|" ∷ codes "+----+" ∷ []) }
+    ensures margins { drawn with_margins (1 ∷ []) (1 ∷ []) (cells (codes "a" ∷ []) ∷ [])
+        ≡ joined (codes "^^^^^^" ∷ codes "^^^^^^" ∷ codes "<+-+>>" ∷ codes "<|a|>>" ∷ codes "<+-+>>" ∷ codes "______" ∷ []) }
+    ensures no_top { drawn no_top (1 ∷ []) (1 ∷ []) (cells (codes "a" ∷ []) ∷ [])
+        ≡ joined (codes "|a|" ∷ codes " - " ∷ []) }
+    ensures no_vertical { drawn (record plain { borders = record ascii { vertical = None } }) (1 ∷ 1 ∷ []) (1 ∷ []) (cells (codes "a" ∷ codes "b" ∷ []) ∷ [])
+        ≡ joined (codes "+-+-+" ∷ codes "|a b|" ∷ codes "+-+-+" ∷ []) }
+{}
+
+/// Colours, worked out by hand: a cell's text; a boundary line, of which neighbours in one colour are
+/// coloured together, past a column of width 0 and past a boundary that is absent, but not past a cell
+/// that goes on there; two colours that end in different ways; a text of no bytes, which has no colour;
+/// paddings and margins; the justification, in two parts, of a blank line too.
+pub fn worked_colors()
+    ensures text { drawn_in (λ _. Some bracketed) plain (1 ∷ []) (1 ∷ []) (cells (codes "a" ∷ []) ∷ [])
+        ≡ joined (codes "+-+" ∷ codes "|[a]|" ∷ codes "+-+" ∷ []) }
+    ensures empty { drawn_in (λ _. Some bracketed) plain (1 ∷ []) (1 ∷ []) (cells ([] ∷ []) ∷ [])
+        ≡ joined (codes "+-+" ∷ codes "| |" ∷ codes "+-+" ∷ []) }
+    ensures runs { drawn crossed (1 ∷ 1 ∷ []) (1 ∷ []) (cells (codes "a" ∷ codes "b" ∷ []) ∷ [])
+        ≡ joined (codes "+[-+-]+" ∷ codes "|a[|]b|" ∷ codes "+-+-+" ∷ []) }
+    ensures past_nothing { drawn crossed (1 ∷ 0 ∷ 1 ∷ []) (1 ∷ []) (cells (codes "a" ∷ codes "" ∷ codes "b" ∷ []) ∷ [])
+        ≡ joined (codes "+[-++-]+" ∷ codes "|a[|][|]b|" ∷ codes "+-++-+" ∷ []) }
+    ensures past_absent { drawn (record outer { borders_color = record no_borders { top = Some bracketed } }) (1 ∷ 1 ∷ []) (1 ∷ []) (cells (codes "a" ∷ codes "b" ∷ []) ∷ [])
+        ≡ joined (codes "+[--]+" ∷ codes "|ab|" ∷ codes "+--+" ∷ []) }
+    ensures two_colors { drawn (record plain { borders_color = record no_borders { top = Some bracketed; top_intersection = Some half_bracketed } }) (1 ∷ 1 ∷ []) (1 ∷ []) (cells (codes "a" ∷ codes "b" ∷ []) ∷ [])
+        ≡ joined (codes "+[-][+)[-]+" ∷ codes "|a|b|" ∷ codes "+-+-+" ∷ []) }
+    ensures past_a_cell { drawn (record plain { extent = extents (span 0 1 2 1 ∷ []); borders_color = record no_borders { horizontal = Some bracketed; intersection = Some bracketed } })
+        (1 ∷ 1 ∷ 1 ∷ []) (0 ∷ 1 ∷ []) (cells (codes "a" ∷ codes "b" ∷ codes "c" ∷ []) ∷ cells (codes "d" ∷ codes "e" ∷ codes "f" ∷ []) ∷ [])
+        ≡ joined (codes "+-+-+-+" ∷ codes "+[-+]b[+-]+" ∷ codes "|d| |f|" ∷ codes "+-+-+-+" ∷ []) }
+    ensures paddings { drawn (record padded { padding_color = λ _. each_side (Some bracketed) }) (3 ∷ []) (3 ∷ []) (cells (codes "a" ∷ []) ∷ [])
+        ≡ joined (codes "+---+" ∷ codes "|[^^^]|" ∷ codes "|[<]a[>]|" ∷ codes "|[___]|" ∷ codes "+---+" ∷ []) }
+    ensures margins { drawn (record with_margins { margin_color = each_side (Some bracketed) }) (1 ∷ []) (1 ∷ []) (cells (codes "a" ∷ []) ∷ [])
+        ≡ joined (codes "[^^^^^^]" ∷ codes "[^^^^^^]" ∷ codes "[<]+-+[>>]" ∷ codes "[<]|a|[>>]" ∷ codes "[<]+-+[>>]" ∷ codes "[______]" ∷ []) }
+    ensures blank { drawn (record spaced { alignment_horizontal = λ _. Right }) (4 ∷ []) (2 ∷ []) (cells (codes "a" ∷ []) ∷ [])
+        ≡ joined (codes "+----+" ∷ codes "|[...]a|" ∷ codes "|[...][.]|" ∷ codes "+----+" ∷ []) }
+    ensures blank_line { drawn (record spaced { alignment_horizontal = λ _. Right; line_alignment = λ _. true }) (4 ∷ []) (2 ∷ []) (cells (codes "a" ∷ []) ∷ [])
+        ≡ joined (codes "+----+" ∷ codes "|[...]a|" ∷ codes "|[....]|" ∷ codes "+----+" ∷ []) }
+    ensures justification { drawn spaced (4 ∷ []) (1 ∷ []) (cells (codes "a" ∷ []) ∷ [])
+        ≡ joined (codes "+----+" ∷ codes "|[.]a[..]|" ∷ codes "+----+" ∷ []) }
+{}

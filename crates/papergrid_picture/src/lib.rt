@@ -1,0 +1,4 @@
+//! The picture of a table: what each of its lines shows, by pieces at coordinates.
+#![tactic(auto)]
+
+pub mod laws;
