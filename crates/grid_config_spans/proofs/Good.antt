@@ -80,7 +80,7 @@ not_itself a b same other =
     let itself : same_place b a ≡ true = rw same (same_itself b) in
     grind (arith, itself, other)
 
-is_false : (b : Bool) → (b ≡ true → ⊥) → b ≡ false
+pub is_false : (b : Bool) → (b ≡ true → ⊥) → b ≡ false
 is_false true never = absurd (never refl)
 is_false false never = refl
 

@@ -3,3 +3,4 @@ pub mod Extents
 pub mod Visible
 pub mod Good
 pub mod Parting
+pub mod Owners

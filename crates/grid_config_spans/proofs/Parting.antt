@@ -25,7 +25,7 @@ single_or_anchor spans place = decided (extent_at spans place) refl
           grind (arith, nat_tests, differs, rows, columns))
     ] refl
 
-in_table_before : (rows columns : ℕ) (a place : Position) (extent : Extent) → IsInTable rows columns place → Holds a extent place → IsInTable rows columns a
+pub in_table_before : (rows columns : ℕ) (a place : Position) (extent : Extent) → IsInTable rows columns place → Holds a extent place → IsInTable rows columns a
 in_table_before rows columns a place extent in_table held = (omega (arith, in_table.0, held.below), omega (arith, in_table.1, held.right))
 
 pub visible_apart : (spans : List (Position × Extent)) (rows columns : ℕ) (a b place : Position) → AreGood spans rows columns →

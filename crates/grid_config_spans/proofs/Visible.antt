@@ -1,6 +1,5 @@
 -- A search among the spans finds what holds a place.
-use Rattle.std.proofs.Common.{◌≡◌, suc, Bool, true, false, not, ◌&&◌, List, [], ◌∷◌, Option, None, Some, IsTrue, ◌↔◌, refl, sym, ap, subst, ◌∙◌, unwrap_or, arith}
-use Rattle.std.proofs.lemmas.Bool.{and_parts}
+use Rattle.std.proofs.Common.{◌≡◌, suc, Bool, true, false, ◌&&◌, List, [], ◌∷◌, Option, None, Some, refl, sym, ap, subst, ◌∙◌, unwrap_or, arith}
 use Rattle.std.proofs.lemmas.Bool.Decides.{nat_tests}
 use Rattle.std.specs.List.{All, filter, list_any}
 use Rattle.std.specs.Map.{lookup}
@@ -14,7 +13,7 @@ use Rattle.grid_config_values.specs.Order.{position_cmp, same_place}
 use Rattle.grid_config_spans.specs.declared.extent.Extent.{Extent}
 use Rattle.grid_config_spans.specs.Rectangles.{Holds}
 use Rattle.grid_config_spans.specs.Search.{begun_between, holds, holds_in}
-use Rattle.grid_config_spans.specs.Spans.{IsVisible, extent_at, single}
+use Rattle.grid_config_spans.specs.Spans.{extent_at, single}
 use Rattle.grid_config_spans.proofs.Order.{is_le_cmp, same_position}
 
 pub holds_shown : (anchor : Position) (extent : Extent) (place : Position) → holds anchor extent place ≡ true → Holds anchor extent place
@@ -40,7 +39,7 @@ single_holds anchor place h =
     let cols : anchor.col ≡ place.col = omega (arith, h.right, h.left) in
     λ i. record { row = rows i; col = cols i }
 
-first_passes : (test : Position × Extent → Bool) (span : Position × Extent) (place : Position) (extent : Extent) → same_place place span.0 ≡ true →
+pub first_passes : (test : Position × Extent → Bool) (span : Position × Extent) (place : Position) (extent : Extent) → same_place place span.0 ≡ true →
     Some span.1 ≡ Some extent → test (place, extent) ≡ true → test span ≡ true
 first_passes test span place extent same found passes =
     let place_is = same_position place span.0 same in
@@ -76,28 +75,24 @@ pub any_of_filter : {X : Type 0} (picks test : X → Bool) (xs : List X) → lis
 any_of_filter picks test [] = refl
 any_of_filter picks test (x ∷ xs) = grind (arith, any_of_filter picks test xs)
 
-any_of_filter_picked : {X : Type 0} (picks test : X → Bool) (xs : List X) → list_any test (filter picks xs) ≡ list_any (λ x. picks x && test x) (filter picks xs)
-any_of_filter_picked picks test [] = refl
-any_of_filter_picked picks test (x ∷ xs) = grind (arith, any_of_filter_picked picks test xs)
-
 le_from_not_gt : (o : Ordering) → is_gt o ≡ false → is_le o ≡ true
 le_from_not_gt Less e = refl
 le_from_not_gt Equal e = refl
 le_from_not_gt Greater e = cc
 
 -- whether a span begins at the first place or behind it, and before the end
-abbrev begins_between : Position → Position → Position × Extent → Bool
+abbrev pub begins_between : Position → Position → Position × Extent → Bool
 begins_between first end span = range_contains position_cmp (Included first) (Excluded end) span.0
 
 -- what holds another place begins before it
-holder_is_before : (first place anchor : Position) (extent : Extent) → is_gt (position_cmp first anchor) ≡ false → Holds anchor extent place → same_place anchor place ≡ false →
+pub holder_is_before : (first place anchor : Position) (extent : Extent) → is_gt (position_cmp first anchor) ≡ false → Holds anchor extent place → same_place anchor place ≡ false →
     begins_between first place (anchor, extent) ≡ true
 holder_is_before first place anchor extent from h other =
     let below : is_le (position_cmp place anchor) ≡ false = is_le_cmp place anchor ∙ grind (arith, nat_tests, h.below, h.right) in
     grind (arith, le_from_not_gt (position_cmp first anchor) from, below)
 
 -- a place doesn't begin before itself
-not_before_itself : (first place : Position) (span : Position × Extent) → span.0 ≡ place → begins_between first place span ≡ true → ⊥
+pub not_before_itself : (first place : Position) (span : Position × Extent) → span.0 ≡ place → begins_between first place span ≡ true → ⊥
 not_before_itself first place span same between =
     let here : is_le (position_cmp place span.0) ≡ true = rw same (is_le_cmp place place ∙ grind (arith, nat_tests)) in
     let there : is_le (position_cmp place span.0) ≡ false = grind (arith, between) in
@@ -119,35 +114,9 @@ kept_or_single spans place = elim (lookup (same_place place) spans) as (λ found
 ] refl
 
 module _ (spans : List (Position × Extent)) (first place : Position) where
-  found_in_search : (anchor : Position) (extent : Extent) → lookup (same_place anchor) spans ≡ Some extent → is_gt (position_cmp first anchor) ≡ false → Holds anchor extent place →
+  pub found_in_search : (anchor : Position) (extent : Extent) → lookup (same_place anchor) spans ≡ Some extent → is_gt (position_cmp first anchor) ≡ false → Holds anchor extent place →
       same_place anchor place ≡ false → list_any (holds_in place) (begun_between first place spans) ≡ true
   found_in_search anchor extent found from held other =
       let both : begins_between first place (anchor, extent) && holds_in place (anchor, extent) ≡ true =
       grind (arith, holder_is_before first place anchor extent from held other, holds_tested anchor extent place held) in
       any_of_filter (begins_between first place) (holds_in place) spans ∙ any_from_lookup (λ span. begins_between first place span && holds_in place span) spans anchor extent found both
-
-  pub visible_from_none : ((anchor : Position) → Holds anchor (extent_at spans anchor) place → is_gt (position_cmp first anchor) ≡ false) →
-      list_any (holds_in place) (begun_between first place spans) ≡ false → IsVisible spans place
-  visible_from_none before none anchor held = elim (same_place anchor place) as (λ b. same_place anchor place ≡ b → anchor ≡ place) [
-    | true ↦ λ same. same_position anchor place same
-    | false ↦ λ other. elim (kept_or_single spans anchor) [
-      | Kept extent found is ↦
-          let some = found_in_search anchor extent found (before anchor held) (subst (λ (e : Extent). Holds anchor e place) is held) other in
-          absurd (grind (arith, none, some))
-      | NotKept is ↦ single_holds anchor place (subst (λ (e : Extent). Holds anchor e place) is held)
-    ]
-  ] refl
-
-  pub none_from_visible : All (λ span. lookup (same_place span.0) spans ≡ Some span.1) (begun_between first place spans) → IsVisible spans place →
-      list_any (holds_in place) (begun_between first place spans) ≡ true → ⊥
-  none_from_visible kept visible some =
-      let found = lookup_from_any (λ span. begins_between first place span && holds_in place span) spans (begun_between first place spans) kept (sym (any_of_filter_picked (begins_between first place) (holds_in place) spans) ∙ some) in
-      let both = and_parts (begins_between first place found.0) (holds_in place found.0) found.2 in
-      let held = subst (λ (e : Extent). Holds found.0.0 e place) (sym (extent_kept spans found.0.0 found.0.1 found.1)) (holds_shown found.0.0 found.0.1 place both.1) in
-      not_before_itself first place found.0 (visible found.0.0 held) both.0
-
-  pub search_decides : ((anchor : Position) → Holds anchor (extent_at spans anchor) place → is_gt (position_cmp first anchor) ≡ false) →
-      All (λ span. lookup (same_place span.0) spans ≡ Some span.1) (begun_between first place spans) →
-      (held : Bool) → held ≡ list_any (holds_in place) (begun_between first place spans) → IsTrue (not held) ↔ IsVisible spans place
-  search_decides before kept true e = (λ h. cc, λ visible. absurd (none_from_visible kept visible (sym e)))
-  search_decides before kept false e = (λ h. visible_from_none before (sym e), λ visible. refl)

@@ -1,7 +1,8 @@
 //! The cells that span several columns or rows.
-ghost use Rattle.std.specs.Prelude.{false, ◌≡◌, ◌≢◌, ◌+◌, ◌≤◌, ◌<◌, ◌↔◌, [], if◌then◌else◌, ◌==◌, IsOk, IsTrue, IfErr, IfSome, OnErr, OnOk, None, Some, Err, Ok};
+ghost use Rattle.std.specs.Prelude.{false, ◌≡◌, ◌≢◌, ◌+◌, ◌≤◌, ◌<◌, ◌↔◌, [], if◌then◌else◌, ◌==◌, IsOk, IsTrue, IfErr, IfSome, OnErr, OnOk, map, None, Some, Err, Ok};
 ghost use Rattle.grid_config_values.specs.declared.fault.Fault.TheVariants.{Memory, Spans as BadSpan};
 ghost use Rattle.std.specs.List.{All, find, list_all, list_any};
+ghost use Rattle.std.specs.List.Sorted.{IsStrictlySortedBy};
 ghost use Rattle.std.specs.Map.{lookup};
 ghost use Rattle.std.specs.Option.{option_map};
 ghost use Rattle.std.specs.Ordering.{is_gt};
@@ -131,7 +132,8 @@ impl Spans {
     pub fn is_cell_visible(&self, pos: Position) -> bool
         ensures { IsTrue result ↔ IsVisible self.now pos }
     {
-        self.holder_from(self.first_that_may_hold(pos), pos).is_none()
+        self.holder_from(self.first_that_may_hold(pos), pos)
+            .is_none()
     }
 
     /// The cell that is seen at this place: the first by row, then by column, of the other cells whose
@@ -142,10 +144,8 @@ impl Spans {
         ensures first { result ≡ owner (extent_at self.now) pos }
         ensures positive { ArePositive self.now }
     {
-        match self.holder_from(self.first_that_may_hold(pos), pos) {
-            Some(anchor) => anchor,
-            None => pos,
-        }
+        self.holder_from(self.first_that_may_hold(pos), pos)
+            .unwrap_or(pos)
     }
 
     /// Whether in a table of so many rows and columns the rectangle of each cell that spans several stays
@@ -163,6 +163,7 @@ impl Spans {
         ensures all { result ≡ list_all (is_good_span self.now rows columns) self.now }
         ensures kept { All (λ span. lookup (same_place span.0) self.now ≡ Some span.1) self.now }
         ensures spans { (p : Place) (e : Size) → lookup (same_place p) self.now ≡ Some e → e ≢ single }
+        ensures positive { ArePositive self.now }
     {
         self.extents.iter().all(|(anchor, extent)| self.is_good_span(
             *anchor, *extent, rows, columns,
@@ -200,14 +201,13 @@ impl Spans {
         requires { is_gt (position_cmp first pos) ≡ false }
         ensures found { result ≡ option_map (λ span. span.0) (find (holds_in pos) (begun_between first pos self.now)) }
         ensures kept { All (λ span. lookup (same_place span.0) self.now ≡ Some span.1) (begun_between first pos self.now) }
+        ensures ordered { IsStrictlySortedBy position_cmp (map (λ span. span.0) self.now) }
+        ensures positive { ArePositive self.now }
     {
-        let holder = self.extents
+        self.extents
             .range(first..pos)
-            .find(|(anchor, extent)| extent.holds(**anchor, pos));
-        match holder {
-            Some((anchor, _)) => Some(*anchor),
-            None => None,
-        }
+            .find(|(anchor, extent)| extent.holds(**anchor, pos))
+            .map(|(anchor, _)| *anchor)
     }
 
     // No rectangle that begins before this place holds `pos`.

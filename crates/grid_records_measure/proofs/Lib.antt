@@ -7,3 +7,5 @@ pub mod Drained
 pub mod PlainLemmas
 pub mod PrintableLemmas
 pub mod ShownCuts
+pub mod TextLineLemmas
+pub mod TrimmedLemmas

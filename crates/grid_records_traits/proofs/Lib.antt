@@ -1,3 +1,4 @@
 pub mod FittedRows
 pub mod LineAt
 pub mod Loops
+pub mod TextAnswers

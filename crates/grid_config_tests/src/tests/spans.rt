@@ -178,6 +178,52 @@ fn what_a_rectangle_holds_is_not_visible(rt: HostRuntime) -> Result<(), Fail> {
     Ok(())
 }
 
+// A place, and the place of the cell that is seen there.
+type Owned = (usize, usize, usize, usize);
+
+// A case, the spans that are set, and which cell is seen where.
+const OWNED: &[(&str, &[Set], &[Owned])] = &[
+    ("no span", &[], &[(0, 0, 0, 0), (2, 3, 2, 3)]),
+    (
+        "a rectangle",
+        &[Columns(1, 1, 2), Rows(1, 1, 2)],
+        &[
+            (1, 1, 1, 1),
+            (1, 2, 1, 1),
+            (2, 1, 1, 1),
+            (2, 2, 1, 1),
+            (0, 1, 0, 1),
+            (1, 3, 1, 3),
+            (3, 1, 3, 1),
+        ],
+    ),
+    (
+        "the first row of those that hold the place, then the first column",
+        &[Columns(1, 0, 4), Columns(1, 1, 3), Rows(0, 2, 3)],
+        &[(1, 2, 0, 2), (1, 3, 1, 0), (1, 1, 1, 0), (2, 2, 0, 2)],
+    ),
+    (
+        "past the greatest place",
+        &[Columns(1, 1, MOST), Rows(1, 1, MOST)],
+        &[(MOST, MOST, 1, 1), (0, MOST, 0, MOST)],
+    ),
+];
+
+#[test]
+fn a_place_shows_the_first_cell_that_holds_it(rt: HostRuntime) -> Result<(), Fail> {
+    for (name, sets, owned) in OWNED {
+        let spans = spans_of(&rt, rt.alloc(), sets, name)?;
+        for (row, col, owner_row, owner_col) in *owned {
+            expect(
+                &rt,
+                spans.owner(at(*row, *col)) == at(*owner_row, *owner_col),
+                name,
+            );
+        }
+    }
+    Ok(())
+}
+
 // A case, the spans that are set, the rows and columns of tables in which they are good, and of others.
 const GOOD: &[(&str, &[Set], &[(usize, usize)], &[(usize, usize)])] = &[
     ("no span", &[], &[(0, 0), (2, 2)], &[]),

@@ -313,6 +313,7 @@ fn set_span(rt: &impl Abort, config: &mut SpannedConfig) -> Result<(), Fault> {
     config.set_column_span(at(0, 0), 2)?;
     expect_span(rt, config, at(0, 0), Some(2), None);
     expect_visible(rt, config, [true, false, true, true]);
+    expect(rt, config.owner(at(0, 1)) == at(0, 0), "an owner");
     expect_good(rt, config, 1, 1, false);
     expect_good(rt, config, 1, 2, true);
     Ok(())
