@@ -5,9 +5,9 @@ ghost use Rattle.grid_config_colors.specs.Colors.{Color, color_of};
 ghost use Rattle.grid_config_values.specs.declared.position.Position.{Position as Place};
 ghost use Rattle.grid_config_values.specs.Settings.{value_at};
 
-use grid_config_colors::ANSIStr;
-use grid_config_values::Position;
 use grid_config::ColorMap;
+use grid_config_colors::{ANSIBuf, ANSIStr};
+use grid_config_values::Position;
 
 /// Colours of the texts of a table's cells.
 pub trait Colors {
@@ -31,10 +31,25 @@ impl Colors for NoColors {
     }
 }
 
+impl Colors for ColorMap {
+    ghost color = { λ map. value_at map };
+
+    fn get_color(&self, pos: Position) -> Option<ANSIStr<'_>> {
+        ColorMap::get_color(self, pos).map(borrowed)
+    }
+}
+
 impl<'a, C: Colors> Colors for &'a C {
     ghost color = { λ colors. C.color colors.now };
 
     fn get_color(&self, pos: Position) -> Option<ANSIStr<'_>> {
         C::get_color(self, pos)
     }
+}
+
+/// The colour with the texts of this one.
+pub(crate) fn borrowed(color: &ANSIBuf) -> ANSIStr<'_>
+    ensures { color_of result ≡ color.now }
+{
+    ANSIStr::new(color.get_prefix(), color.get_suffix())
 }

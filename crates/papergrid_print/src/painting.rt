@@ -2,8 +2,8 @@
 ghost use Rattle.std.specs.Prelude.{◌≡◌, ◌++◌, OnOk, map, string_bytes};
 ghost use Rattle.std.specs.Option.{option_map};
 ghost use Rattle.grid_config_colors.specs.Colors.{color_of};
-ghost use Rattle.papergrid_picture.specs.Reading.{line_items};
-ghost use Rattle.papergrid_print.specs.Painting.{bare, colored, fill_bytes, glyph_part};
+ghost use Rattle.papergrid_picture.specs.Reading.{line_items, same_color};
+ghost use Rattle.papergrid_print.specs.Painting.{bare, color_change, colored, fill_bytes, glyph_part, prefix_of, suffix_of};
 
 use grid_config_colors::ANSIStr;
 use std::alloc::AllocError;
@@ -23,9 +23,14 @@ pub(crate) fn push_fill(
     width: usize,
     color: Option<ANSIStr<'_>>,
 ) -> Result<(), AllocError>
-    ensures { OnOk result (string_bytes out.new ≡ string_bytes out.old ++ colored (option_map color_of color) (fill_bytes character width)) }
+    ensures { OnOk result (string_bytes out.new ≡ string_bytes out.old ++ colored (option_map color_of color.entry) (fill_bytes character width)) }
 {
-    Err(AllocError)
+    if width == 0 {
+        return Ok(());
+    }
+    change_color(out, None, color)?;
+    push_repeated(out, character, width)?;
+    change_color(out, color, None)
 }
 
 /// Appends a text in a colour. Refused for memory alone.
@@ -34,9 +39,14 @@ pub(crate) fn push_text(
     text: &str,
     color: Option<ANSIStr<'_>>,
 ) -> Result<(), AllocError>
-    ensures { OnOk result (string_bytes out.new ≡ string_bytes out.old ++ colored (option_map color_of color) text.now) }
+    ensures { OnOk result (string_bytes out.new ≡ string_bytes out.old ++ colored (option_map color_of color.entry) text.now) }
 {
-    Err(AllocError)
+    if text.is_empty() {
+        return Ok(());
+    }
+    change_color(out, None, color)?;
+    out.push_str(text)?;
+    change_color(out, color, None)
 }
 
 /// Appends glyphs of a boundary line, of which neighbours in one colour are coloured together. Refused
@@ -44,5 +54,75 @@ pub(crate) fn push_text(
 pub(crate) fn push_glyphs(out: &mut String, glyphs: &[GlyphRun<'_>]) -> Result<(), AllocError>
     ensures { OnOk result (string_bytes out.new ≡ string_bytes out.old ++ line_items bare (map glyph_part glyphs.now)) }
 {
-    Err(AllocError)
+    let mut color = None;
+    for glyph in glyphs {
+        if glyph.width > 0 {
+            change_color(out, color, glyph.color)?;
+            push_repeated(out, glyph.character, glyph.width)?;
+            color = glyph.color;
+        }
+    }
+    change_color(out, color, None)
+}
+
+// Ends a colour and begins the next one; between equal colours nothing is written.
+fn change_color(
+    out: &mut String,
+    before: Option<ANSIStr<'_>>,
+    next: Option<ANSIStr<'_>>,
+) -> Result<(), AllocError>
+    ensures { OnOk result (string_bytes out.new ≡ string_bytes out.old ++ color_change (option_map color_of before.entry) (option_map color_of next.entry)) }
+{
+    if is_same_color(before, next) {
+        return Ok(());
+    }
+    out.push_str(suffix_of(before))?;
+    out.push_str(prefix_of(next))
+}
+
+// Whether both are no colour, or colours of the same texts.
+fn is_same_color(a: Option<ANSIStr<'_>>, b: Option<ANSIStr<'_>>) -> bool
+    ensures { result ≡ same_color (option_map color_of a.entry) (option_map color_of b.entry) }
+{
+    match (a, b) {
+        (Some(a), Some(b)) => {
+            a.get_prefix() == b.get_prefix() && a.get_suffix() == b.get_suffix()
+        }
+        (None, None) => true,
+        _ => false,
+    }
+}
+
+// What a colour writes before what it colours.
+fn prefix_of<'a>(color: Option<ANSIStr<'a>>) -> &'a str
+    ensures { result.now ≡ prefix_of (option_map color_of color.entry) }
+{
+    match color {
+        Some(color) => color.get_prefix(),
+        None => "",
+    }
+}
+
+// What a colour writes behind what it colours.
+fn suffix_of<'a>(color: Option<ANSIStr<'a>>) -> &'a str
+    ensures { result.now ≡ suffix_of (option_map color_of color.entry) }
+{
+    match color {
+        Some(color) => color.get_suffix(),
+        None => "",
+    }
+}
+
+// Appends a character so many times, with one growth.
+fn push_repeated(out: &mut String, character: char, width: usize) -> Result<(), AllocError>
+    ensures { OnOk result (string_bytes out.new ≡ string_bytes out.old ++ fill_bytes character width) }
+{
+    let Some(size) = width.checked_mul(character.len_utf8()) else {
+        return Err(AllocError);
+    };
+    out.reserve(size)?;
+    for _ in 0..width {
+        out.push(character)?;
+    }
+    Ok(())
 }
