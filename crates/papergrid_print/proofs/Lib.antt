@@ -1,1 +1,2 @@
 pub mod PaintingLemmas
+pub mod CellLineLemmas

@@ -1,13 +1,11 @@
 //! The lines of a cell that are shown.
-ghost use Rattle.std.specs.Prelude.{◌≡◌, IfOk, length, slice_index, slice_index_or, []};
-ghost use Rattle.grid_records_traits.specs.Rows.{text_at};
-ghost use Rattle.papergrid_picture.specs.Blocks.{greatest};
-ghost use Rattle.papergrid_picture.specs.CellLines.{cell_lines, cell_measures};
-ghost use Rattle.papergrid_print.specs.Shown.{measures_of, texts_of};
+mod reading;
 
-use grid_config_values::Position;
-use grid_records_traits::PeekableRecords;
-use std::alloc::{AllocError, Global};
+ghost use Rattle.std.specs.Prelude.{◌≡◌};
+ghost use Rattle.papergrid_picture.specs.Blocks.{greatest};
+ghost use Rattle.papergrid_print.specs.Lines.{line_measures};
+
+pub(crate) use reading::read_cell;
 use std::borrow::CowStr;
 
 /// A line, and how many columns it takes.
@@ -22,24 +20,23 @@ pub(crate) struct CellLine<'a> {
 pub(crate) struct CellLines<'a> {
     lines: Vec<CellLine<'a>>,
     widest: usize,
-}
-
-/// Reads the lines of the cell at this place: with a vertical trim no blank lines at both ends, and with
-/// a horizontal trim no white space at both ends of each. Refused for memory alone.
-pub(crate) fn read_cell<'a, R: PeekableRecords>(
-    alloc: Global,
-    records: &'a R,
-    pos: Position,
-    trim_horizontal: bool,
-    trim_vertical: bool,
-) -> Result<CellLines<'a>, AllocError>
-    ensures lines { IfOk result (λ cell. texts_of cell ≡ cell_lines trim_horizontal trim_vertical (text_at (R.rows records.now) pos)) }
-    ensures measures { IfOk result (λ cell. measures_of cell ≡ cell_measures trim_horizontal trim_vertical (text_at (R.rows records.now) pos)) }
-{
-    Err(AllocError)
+    ghost widest_is: { widest ≡ greatest (line_measures lines.items) },
 }
 
 impl<'a> CellLines<'a> {
+    ghost use Rattle.std.specs.Prelude.{length, slice_index, slice_index_or, []};
+    ghost use Rattle.papergrid_print.specs.Lines.{line_texts};
+    ghost use Rattle.papergrid_print.specs.Shown.{measures_of, texts_of};
+
+    // These lines.
+    fn new(lines: Vec<CellLine<'a>>) -> CellLines<'a>
+        ensures texts { texts_of result ≡ line_texts lines.entry.items }
+        ensures measures { measures_of result ≡ line_measures lines.entry.items }
+    {
+        let widest = greatest_width(&lines);
+        CellLines { lines, widest }
+    }
+
     /// How many lines there are.
     pub(crate) fn count(&self) -> usize
         ensures { result ≡ length (measures_of self.now) }
@@ -49,13 +46,39 @@ impl<'a> CellLines<'a> {
 
     /// How many columns the widest line takes, 0 where there is none.
     pub(crate) fn widest(&self) -> usize
-        ensures { result ≡ greatest (measures_of self.now) };
+        ensures { result ≡ greatest (measures_of self.now) }
+    {
+        self.widest
+    }
 
     /// How many columns the line with this number takes, and behind the last 0.
     pub(crate) fn width(&self, line: usize) -> usize
-        ensures { result ≡ slice_index (measures_of self.now) line };
+        ensures { result ≡ slice_index (measures_of self.now) line }
+    {
+        match self.lines.get(line) {
+            Some(line) => line.width,
+            None => 0,
+        }
+    }
 
     /// The line with this number, and behind the last the empty text.
     pub(crate) fn text(&self, line: usize) -> &str
-        ensures { result.now ≡ slice_index_or (texts_of self.now) line [] };
+        ensures { result.now ≡ slice_index_or (texts_of self.now) line [] }
+    {
+        match self.lines.get(line) {
+            Some(line) => &line.text,
+            None => "",
+        }
+    }
+}
+
+// How many columns the widest of the lines takes, 0 where there is none.
+fn greatest_width(lines: &[CellLine<'_>]) -> usize
+    ensures { result ≡ greatest (line_measures lines.now) }
+{
+    let mut widest = 0;
+    for line in lines {
+        widest = widest.max(line.width);
+    }
+    widest
 }
