@@ -1,3 +1,5 @@
 pub mod Lines
 pub mod Shown
 pub mod Painting
+pub mod BlockLines
+pub mod Boundaries

@@ -1,8 +1,10 @@
 //! The printer of a table: it appends the lines of the picture to a text.
 #![tactic(auto)]
 
+mod block;
 mod cell_lines;
 pub mod colors;
+mod glyphs;
 mod painting;
 
 pub use colors::{Colors, NoColors};
