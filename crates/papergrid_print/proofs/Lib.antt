@@ -1,2 +1,5 @@
 pub mod PaintingLemmas
 pub mod CellLineLemmas
+mod LineLemmas
+mod BoundaryLemmas
+pub mod OwnerLemmas

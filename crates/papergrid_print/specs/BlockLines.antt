@@ -1,5 +1,5 @@
 -- The lines of a cell's rectangle, by the cell alone.
-use Rattle.std.specs.Prelude.{ℕ, ◌-◌, nat_lt, List, [], ◌∷◌, ◌++◌, Option, flat_map, length, slice_index, slice_index_or, if◌then◌else◌}
+use Rattle.std.specs.Prelude.{ℕ, ◌-◌, nat_lt, Bool, false, true, List, [], ◌∷◌, ◌++◌, Option, flat_map, length, slice_index, slice_index_or, if◌then◌else◌}
 use Rattle.std.specs.Option.{option_map}
 use Rattle.grid_config_values.specs.declared.position.Position.{Position}
 use Rattle.grid_config_colors.specs.Colors.{color_of}
@@ -37,6 +37,13 @@ line_parts grid cell width Above = fill width (grid.frame.look.padding cell).top
 line_parts grid cell width (Text k) = text_line grid cell width k
 line_parts grid cell width Below = fill width (grid.frame.look.padding cell).bottom.fill (grid.frame.look.padding_color cell).bottom ∷ []
 line_parts grid cell width Outside = []
+
+-- nothing is shown
+abbrev pub is_outside : BlockLine → Bool
+is_outside Above = false
+is_outside (Text k) = false
+is_outside Below = false
+is_outside Outside = true
 
 -- a cell in a table of its own
 abbrev pub alone : Look → OpenCell → Grid

@@ -3,3 +3,4 @@ pub mod Shown
 pub mod Painting
 pub mod BlockLines
 pub mod Boundaries
+pub mod Sheets

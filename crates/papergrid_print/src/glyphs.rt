@@ -1,12 +1,14 @@
 //! The glyphs on the boundaries of a table.
-ghost use Rattle.std.specs.Prelude.{◌≡◌, ◌++◌, ◌==◌, OnOk, if◌then◌else◌, map, string_bytes, vec_items};
+ghost use Rattle.std.specs.Prelude.{◌≡◌, ◌++◌, ◌==◌, OnOk, if◌then◌else◌, [], map, string_bytes};
 ghost use Rattle.grid_config.specs.Looks.{look_of};
 ghost use Rattle.grid_config_values.specs.Glyphs.{along_column, boundary_kind, crossing, in_row};
 ghost use Rattle.papergrid_print.specs.Boundaries.{along_parts, corner_parts, upright_bytes};
-ghost use Rattle.papergrid_print.specs.Painting.{glyph_part};
+ghost use Rattle.papergrid_picture.specs.Reading.{line_items};
+ghost use Rattle.papergrid_print.specs.BlockLines.{alone_bytes, is_outside};
+ghost use Rattle.papergrid_print.specs.Painting.{bare, glyph_part};
 
-use crate::block::{borrowed, push_blank};
-use crate::painting::GlyphRun;
+use crate::block::{BlockLine, OpenCell, borrowed, push_blank, push_block_line};
+use crate::painting::{GlyphRun, push_glyphs};
 use grid_config::SpannedConfig;
 use grid_config_values::Borders;
 use std::alloc::AllocError;
@@ -127,4 +129,24 @@ pub(crate) fn push_along<'a>(
         color: borrowed(color),
     })?;
     Ok(())
+}
+
+/// Appends a line of a cell's rectangle behind the glyphs that were collected, which it takes out; where
+/// it shows nothing they stay. Refused for memory alone.
+pub(crate) fn push_behind(
+    out: &mut String,
+    runs: &mut Vec<GlyphRun<'_>>,
+    cfg: &SpannedConfig,
+    cell: &OpenCell<'_>,
+    line: BlockLine,
+) -> Result<(), AllocError>
+    ensures runs { OnOk result (runs.new.items ≡ (if is_outside line then runs.old.items else [])) }
+    ensures out { OnOk result (string_bytes out.new ≡ string_bytes out.old ++ (if is_outside line then [] else line_items bare (map glyph_part runs.old.items) ++ alone_bytes (look_of cfg.now) cell.now line)) }
+{
+    if let BlockLine::Outside = line {
+        return Ok(());
+    }
+    push_glyphs(out, runs)?;
+    runs.clear();
+    push_block_line(out, cfg, cell, line)
 }

@@ -6,5 +6,6 @@ mod cell_lines;
 pub mod colors;
 mod glyphs;
 mod painting;
+mod table;
 
 pub use colors::{Colors, NoColors};

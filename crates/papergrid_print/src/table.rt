@@ -1,0 +1,141 @@
+//! The lines of a table.
+ghost use Rattle.std.specs.Prelude.{◌≡◌, ◌++◌, ◌<◌, List, OnOk, map, length, string_bytes};
+ghost use Rattle.papergrid_picture.specs.Frame.{Boundary, Row};
+ghost use Rattle.papergrid_picture.specs.Picture.{boundary_part, parts_of, row_part};
+ghost use Rattle.papergrid_picture.specs.Blocks.{Part};
+ghost use Rattle.papergrid_picture.specs.Reading.{line_items};
+ghost use Rattle.papergrid_print.specs.Painting.{glyph_part};
+ghost use Rattle.papergrid_print.specs.Sheets.{GoesOn, IsOpen, bytes_of, grid_of, line_at, plain_bytes, sheet_of};
+
+use crate::block::{OpenCell, block_line, push_block_line, push_indent};
+use crate::colors::Colors;
+use crate::glyphs::{push_along, push_behind, push_corner, push_upright};
+use crate::painting::{GlyphRun, push_glyphs};
+use grid_config::SpannedConfig;
+use grid_config_values::Position;
+use grid_records_traits::PeekableRecords;
+use std::alloc::AllocError;
+
+/// A table to be printed: its records, its settings, the colours of its cells, and its sizes.
+pub(crate) struct Table<'a, R: PeekableRecords, C: Colors> {
+    pub(crate) records: &'a R,
+    pub(crate) cfg: &'a SpannedConfig,
+    pub(crate) colors: &'a C,
+    pub(crate) widths: &'a [usize],
+    pub(crate) heights: &'a [usize],
+}
+
+impl<'a, R: PeekableRecords, C: Colors> Table<'a, R, C> {
+    // Appends boundary `j` and column `j` of line `y`, which shows row `i`.
+    fn push_row_part(
+        &self,
+        out: &mut String,
+        cells: &[Option<OpenCell<'a>>],
+        i: usize,
+        j: usize,
+        y: usize,
+    ) -> Result<(), AllocError>
+        requires is_open { IsOpen (sheet_of self.now.cfg.now (R.rows self.now.records.now) (C.color self.now.colors.now) self.now.widths.now self.now.heights.now) i cells.now }
+        requires wide { length cells.now ≡ length self.now.widths.now }
+        requires column { j < length self.now.widths.now }
+        ensures { OnOk result (string_bytes out.new ≡ string_bytes out.old ++ (let sheet = sheet_of self.now.cfg.now (R.rows self.now.records.now) (C.color self.now.colors.now) self.now.widths.now self.now.heights.now in plain_bytes sheet (parts_of (row_part (grid_of sheet) i y j)))) }
+    {
+        if self.cfg.owner(Position::new(i, j)).col != j {
+            return Ok(());
+        }
+        push_upright(out, self.cfg, j, self.widths.len())?;
+        match &cells[j] {
+            Some(cell) => {
+                let line = block_line(self.cfg, cell, y.saturating_sub(cell.top));
+                push_block_line(out, self.cfg, cell, line)
+            }
+            None => Ok(()),
+        }
+    }
+
+    // Appends line `y`, which shows row `i`.
+    fn push_row_line(
+        &self,
+        out: &mut String,
+        cells: &[Option<OpenCell<'a>>],
+        i: usize,
+        y: usize,
+    ) -> Result<(), AllocError>
+        requires is_open { IsOpen (sheet_of self.now.cfg.now (R.rows self.now.records.now) (C.color self.now.colors.now) self.now.widths.now self.now.heights.now) i cells.now }
+        requires wide { length cells.now ≡ length self.now.widths.now }
+        ensures { OnOk result (string_bytes out.new ≡ string_bytes out.old ++ line_at (sheet_of self.now.cfg.now (R.rows self.now.records.now) (C.color self.now.colors.now) self.now.widths.now self.now.heights.now) (Row i) y) }
+    {
+        let columns = self.widths.len();
+        let margin = self.cfg.get_margin();
+        let colors = self.cfg.get_margin_color();
+        push_indent(out, &margin.left, &colors.left)?;
+        for j in 0..columns {
+            self.push_row_part(out, cells, i, j, y)?;
+        }
+        push_upright(out, self.cfg, columns, columns)?;
+        push_indent(out, &margin.right, &colors.right)
+    }
+
+    // Appends boundary `j` and column `j` of line `y`, which shows row boundary `i`; the last glyphs of it
+    // stay in `runs`, where those before them were.
+    fn push_boundary_part(
+        &self,
+        out: &mut String,
+        runs: &mut Vec<GlyphRun<'a>>,
+        cells: &[Option<OpenCell<'a>>],
+        i: usize,
+        j: usize,
+        y: usize,
+    ) -> Result<(), AllocError>
+        requires goes_on { GoesOn (sheet_of self.now.cfg.now (R.rows self.now.records.now) (C.color self.now.colors.now) self.now.widths.now self.now.heights.now) i cells.now }
+        requires wide { length cells.now ≡ length self.now.widths.now }
+        requires column { j < length self.now.widths.now }
+        ensures { OnOk result (let sheet = sheet_of self.now.cfg.now (R.rows self.now.records.now) (C.color self.now.colors.now) self.now.widths.now self.now.heights.now in (rest : List Part) →
+            string_bytes out.new ++ line_items (bytes_of sheet) (map glyph_part runs.new.items ++ rest)
+            ≡ string_bytes out.old ++ line_items (bytes_of sheet) (map glyph_part runs.old.items ++ (parts_of (boundary_part (grid_of sheet) i y j) ++ rest))) }
+    {
+        let rows = self.heights.len();
+        let owner = self.cfg.owner(Position::new(i, j));
+        if owner.row >= i {
+            push_corner(runs, self.cfg, i, rows, j, self.widths.len())?;
+            return push_along(runs, self.cfg, i, rows, self.widths[j]);
+        }
+        if owner.col != j {
+            return Ok(());
+        }
+        push_corner(runs, self.cfg, i, rows, j, self.widths.len())?;
+        match &cells[j] {
+            Some(cell) => {
+                let line = block_line(self.cfg, cell, y.saturating_sub(cell.top));
+                push_behind(out, runs, self.cfg, cell, line)
+            }
+            None => Ok(()),
+        }
+    }
+
+    // Appends line `y`, which shows row boundary `i`.
+    fn push_boundary_line(
+        &self,
+        out: &mut String,
+        runs: &mut Vec<GlyphRun<'a>>,
+        cells: &[Option<OpenCell<'a>>],
+        i: usize,
+        y: usize,
+    ) -> Result<(), AllocError>
+        requires goes_on { GoesOn (sheet_of self.now.cfg.now (R.rows self.now.records.now) (C.color self.now.colors.now) self.now.widths.now self.now.heights.now) i cells.now }
+        requires wide { length cells.now ≡ length self.now.widths.now }
+        ensures { OnOk result (string_bytes out.new ≡ string_bytes out.old ++ line_at (sheet_of self.now.cfg.now (R.rows self.now.records.now) (C.color self.now.colors.now) self.now.widths.now self.now.heights.now) (Boundary i) y) }
+    {
+        let columns = self.widths.len();
+        let margin = self.cfg.get_margin();
+        let colors = self.cfg.get_margin_color();
+        push_indent(out, &margin.left, &colors.left)?;
+        runs.clear();
+        for j in 0..columns {
+            self.push_boundary_part(out, runs, cells, i, j, y)?;
+        }
+        push_corner(runs, self.cfg, i, self.heights.len(), columns, columns)?;
+        push_glyphs(out, runs)?;
+        push_indent(out, &margin.right, &colors.right)
+    }
+}
