@@ -3,3 +3,4 @@ pub mod CellLineLemmas
 mod LineLemmas
 mod BoundaryLemmas
 pub mod OwnerLemmas
+mod PlaceLemmas

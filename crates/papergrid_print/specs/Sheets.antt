@@ -1,5 +1,5 @@
 -- A table that is printed, and the cells that are seen in the row at hand.
-use Rattle.std.specs.Prelude.{◌≡◌, ◌<◌, ◌^◌, ◌++◌, ℕ, List, [], Option, None, MatchOption, flat_map, length, slice_index_or, encode_utf8}
+use Rattle.std.specs.Prelude.{◌≡◌, ◌==◌, if◌then◌else◌, ◌<◌, ◌^◌, ◌++◌, ℕ, List, [], Option, None, MatchOption, flat_map, length, slice_index_or, encode_utf8}
 use Rattle.std.specs.Option.{option_map}
 use Rattle.grid_config_values.specs.declared.position.Position.{Position}
 use Rattle.grid_config_colors.specs.Colors.{Color, color_of}
@@ -16,6 +16,10 @@ use Rattle.papergrid_picture.specs.Reading.{Reading, grid_lines, line_items, pai
 use Rattle.papergrid_picture.specs.Tables.{in_bytes, table_grid}
 use Rattle.papergrid_print.specs.Shown.{measures_of, texts_of}
 use Rattle.papergrid_print.specs.declared.block.OpenCell.{OpenCell}
+
+-- a line feed stands before each line but the first
+abbrev pub feed_before : ℕ → List ℕ
+feed_before y = if y == 0 then [] else encode_utf8 0x0a
 
 -- the settings, the texts, the colours and the sizes of a table
 pub record Sheet : Type 0 where

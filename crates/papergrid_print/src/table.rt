@@ -1,11 +1,11 @@
 //! The lines of a table.
-ghost use Rattle.std.specs.Prelude.{◌≡◌, ◌++◌, ◌<◌, List, OnOk, map, length, string_bytes};
-ghost use Rattle.papergrid_picture.specs.Frame.{Boundary, Row};
+ghost use Rattle.std.specs.Prelude.{◌≡◌, ◌++◌, ◌<◌, ◌≤◌, ◌+◌, ◌^◌, IfOk, List, OnOk, map, length, string_bytes};
+ghost use Rattle.papergrid_picture.specs.Frame.{Boundary, Row, boundary_at, track_at};
 ghost use Rattle.papergrid_picture.specs.Picture.{boundary_part, parts_of, row_part};
 ghost use Rattle.papergrid_picture.specs.Blocks.{Part};
 ghost use Rattle.papergrid_picture.specs.Reading.{line_items};
 ghost use Rattle.papergrid_print.specs.Painting.{glyph_part};
-ghost use Rattle.papergrid_print.specs.Sheets.{GoesOn, IsOpen, bytes_of, grid_of, line_at, plain_bytes, sheet_of};
+ghost use Rattle.papergrid_print.specs.Sheets.{GoesOn, IsOpen, bytes_of, grid_of, feed_before, line_at, lines_of, plain_bytes, row_tracks, sheet_of};
 
 use crate::block::{OpenCell, block_line, push_block_line, push_indent};
 use crate::colors::Colors;
@@ -138,4 +138,67 @@ impl<'a, R: PeekableRecords, C: Colors> Table<'a, R, C> {
         push_glyphs(out, runs)?;
         push_indent(out, &margin.right, &colors.right)
     }
+
+    // Appends the lines of row `i`, of which the first is line `y` of the table. The answer is the line
+    // behind them.
+    fn push_row(
+        &self,
+        out: &mut String,
+        cells: &[Option<OpenCell<'a>>],
+        i: usize,
+        y: usize,
+    ) -> Result<usize, AllocError>
+        requires is_open { IsOpen (sheet_of self.now.cfg.now (R.rows self.now.records.now) (C.color self.now.colors.now) self.now.widths.now self.now.heights.now) i cells.now }
+        requires wide { length cells.now ≡ length self.now.widths.now }
+        requires row { i < length self.now.heights.now }
+        requires top { y ≡ track_at (row_tracks (sheet_of self.now.cfg.now (R.rows self.now.records.now) (C.color self.now.colors.now) self.now.widths.now self.now.heights.now)) i }
+        requires range { boundary_at (row_tracks (sheet_of self.now.cfg.now (R.rows self.now.records.now) (C.color self.now.colors.now) self.now.widths.now self.now.heights.now)) (length self.now.heights.now) < 2 ^ 64 }
+        requires lines { string_bytes out.old ≡ lines_of (sheet_of self.now.cfg.now (R.rows self.now.records.now) (C.color self.now.colors.now) self.now.widths.now self.now.heights.now) y }
+        ensures lines { OnOk result (string_bytes out.new ≡ lines_of (sheet_of self.now.cfg.now (R.rows self.now.records.now) (C.color self.now.colors.now) self.now.widths.now self.now.heights.now) (boundary_at (row_tracks (sheet_of self.now.cfg.now (R.rows self.now.records.now) (C.color self.now.colors.now) self.now.widths.now self.now.heights.now)) (i + 1))) }
+        ensures end { IfOk result (λ end. end ≡ boundary_at (row_tracks (sheet_of self.now.cfg.now (R.rows self.now.records.now) (C.color self.now.colors.now) self.now.widths.now self.now.heights.now)) (i + 1)) }
+    {
+        let end = y + self.heights[i];
+        for line in y..end {
+            push_feed(out, line)?;
+            self.push_row_line(out, cells, i, line)?;
+        }
+        Ok(end)
+    }
+
+    // Appends the line of row boundary `i`, line `y` of the table, where that boundary is there. The answer
+    // is the line behind it.
+    fn push_boundary(
+        &self,
+        out: &mut String,
+        runs: &mut Vec<GlyphRun<'a>>,
+        cells: &[Option<OpenCell<'a>>],
+        i: usize,
+        y: usize,
+    ) -> Result<usize, AllocError>
+        requires goes_on { GoesOn (sheet_of self.now.cfg.now (R.rows self.now.records.now) (C.color self.now.colors.now) self.now.widths.now self.now.heights.now) i cells.now }
+        requires wide { length cells.now ≡ length self.now.widths.now }
+        requires boundary { i ≤ length self.now.heights.now }
+        requires top { y ≡ boundary_at (row_tracks (sheet_of self.now.cfg.now (R.rows self.now.records.now) (C.color self.now.colors.now) self.now.widths.now self.now.heights.now)) i }
+        requires range { track_at (row_tracks (sheet_of self.now.cfg.now (R.rows self.now.records.now) (C.color self.now.colors.now) self.now.widths.now self.now.heights.now)) i < 2 ^ 64 }
+        requires lines { string_bytes out.old ≡ lines_of (sheet_of self.now.cfg.now (R.rows self.now.records.now) (C.color self.now.colors.now) self.now.widths.now self.now.heights.now) y }
+        ensures lines { OnOk result (string_bytes out.new ≡ lines_of (sheet_of self.now.cfg.now (R.rows self.now.records.now) (C.color self.now.colors.now) self.now.widths.now self.now.heights.now) (track_at (row_tracks (sheet_of self.now.cfg.now (R.rows self.now.records.now) (C.color self.now.colors.now) self.now.widths.now self.now.heights.now)) i)) }
+        ensures end { IfOk result (λ end. end ≡ track_at (row_tracks (sheet_of self.now.cfg.now (R.rows self.now.records.now) (C.color self.now.colors.now) self.now.widths.now self.now.heights.now)) i) }
+    {
+        if !self.cfg.has_horizontal(i, self.heights.len()) {
+            return Ok(y);
+        }
+        push_feed(out, y)?;
+        self.push_boundary_line(out, runs, cells, i, y)?;
+        Ok(y + 1)
+    }
+}
+
+// Appends a line feed, but not before the first line.
+fn push_feed(out: &mut String, y: usize) -> Result<(), AllocError>
+    ensures { OnOk result (string_bytes out.new ≡ string_bytes out.old ++ feed_before y) }
+{
+    if y == 0 {
+        return Ok(());
+    }
+    out.push('\n')
 }
