@@ -1,6 +1,7 @@
 -- The cells that go on from row to row.
-use Rattle.std.proofs.Common.{◌≡◌, ◌≢◌, ℕ, ◌+◌, ◌<◌, ◌≤◌, List, [], Option, None, inl, inr, length, get_or, refl, ap, sym, subst, ◌∙◌, arith}
+use Rattle.std.proofs.Common.{◌≡◌, ◌==◌, true, false, ◌≢◌, ℕ, ◌+◌, ◌<◌, ◌≤◌, List, [], Option, None, inl, inr, length, get_or, refl, ap, sym, subst, ◌∙◌, arith}
 use Rattle.std.proofs.lemmas.Bool.{cases_lt}
+use Rattle.std.proofs.lemmas.Bool.Decides.{nat_tests}
 use Rattle.grid_config_values.specs.declared.position.Position.{Position}
 use Rattle.grid_config_spans.specs.declared.extent.Extent.{Extent}
 use Rattle.grid_config_spans.specs.Owners.{owner}
@@ -36,3 +37,13 @@ module _ (spans : List (Position × Extent)) (rows columns : ℕ) (positive : Ar
       ]) in
       owner_goes_on spans rows columns (at (i + 1) j) (at i j) positive good (inside, column) (row, column)
       (record { below = omega (arith, above); above = omega (arith, held.above); right = held.right; left = held.left })
+
+-- the rectangle of a cell of the table is in the table
+pub inside-table : (spans : List (Position × Extent)) (rows columns : ℕ) (pos : Position) → AreGood spans rows columns → pos.row < rows → pos.col < columns → IsInside pos (extent_at spans pos) rows columns
+inside-table spans rows columns pos good row column = elim ((extent_at spans pos).rows == 1) as (λ b. ((extent_at spans pos).rows == 1) ≡ b → IsInside pos (extent_at spans pos) rows columns) [
+  | true ↦ λ one_row. elim ((extent_at spans pos).columns == 1) as (λ b. ((extent_at spans pos).columns == 1) ≡ b → IsInside pos (extent_at spans pos) rows columns) [
+    | true ↦ λ one_column. record { rows_fit = grind (arith, nat_tests, one_row, row); columns_fit = grind (arith, nat_tests, one_column, column) }
+    | false ↦ λ several. good.inside pos (λ alone. absurd (grind (arith, nat_tests, several, ap (λ (e : Extent). e.columns) alone))) (row, column)
+  ] refl
+  | false ↦ λ several. good.inside pos (λ alone. absurd (grind (arith, nat_tests, several, ap (λ (e : Extent). e.rows) alone))) (row, column)
+] refl

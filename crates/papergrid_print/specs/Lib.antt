@@ -4,3 +4,4 @@ pub mod Painting
 pub mod BlockLines
 pub mod Boundaries
 pub mod Sheets
+pub mod Axes

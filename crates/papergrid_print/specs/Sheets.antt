@@ -10,7 +10,7 @@ use Rattle.grid_records_traits.specs.Rows.{text_at}
 use Rattle.papergrid_picture.specs.Blocks.{Grid, Part}
 use Rattle.papergrid_picture.specs.CellLines.{cell_lines}
 use Rattle.papergrid_picture.specs.Fitting.{InRange}
-use Rattle.papergrid_picture.specs.Frame.{Place, Tracks, block_height, block_width, boundary_at, track_at}
+use Rattle.papergrid_picture.specs.Frame.{Place, place, Tracks, block_height, block_width, boundary_at, track_at}
 use Rattle.papergrid_picture.specs.Picture.{Piece, parts_of, pieces_at, seen}
 use Rattle.papergrid_picture.specs.Reading.{Reading, grid_lines, line_items, painted, part_items}
 use Rattle.papergrid_picture.specs.Tables.{in_bytes, table_grid}
@@ -49,6 +49,10 @@ module _ (sheet : Sheet) where
   -- what a line shows at a place
   abbrev pub line_at : Place → ℕ → List ℕ
   line_at place y = line_items bytes_of (parts_of (pieces_at grid_of place y))
+
+  -- what line y shows
+  abbrev pub place_line : ℕ → List ℕ
+  place_line y = line_at (place row_tracks y) y
 
   -- what parts show of which none is a glyph
   abbrev pub plain_bytes : List Part → List ℕ

@@ -4,6 +4,7 @@
 mod block;
 mod cell_lines;
 pub mod colors;
+mod extents;
 mod glyphs;
 mod painting;
 mod table;

@@ -1,18 +1,19 @@
 //! The lines of a table.
-ghost use Rattle.std.specs.Prelude.{◌≡◌, ◌++◌, ◌<◌, ◌≤◌, ◌+◌, ◌^◌, IfOk, List, OnOk, map, length, string_bytes};
+ghost use Rattle.std.specs.Prelude.{◌≡◌, ◌++◌, ◌<◌, ◌≤◌, ◌+◌, ◌^◌, IfOk, List, OnOk, ℕ, map, length, string_bytes};
 ghost use Rattle.papergrid_picture.specs.Frame.{Boundary, Row, boundary_at, track_at};
 ghost use Rattle.papergrid_picture.specs.Picture.{boundary_part, parts_of, row_part};
 ghost use Rattle.papergrid_picture.specs.Blocks.{Part};
 ghost use Rattle.papergrid_picture.specs.Reading.{line_items};
-ghost use Rattle.papergrid_print.specs.Painting.{glyph_part};
-ghost use Rattle.papergrid_print.specs.Sheets.{GoesOn, IsOpen, bytes_of, grid_of, feed_before, line_at, lines_of, plain_bytes, row_tracks, sheet_of};
+ghost use Rattle.papergrid_print.specs.Painting.{colored, fill_bytes, glyph_part};
+ghost use Rattle.papergrid_print.specs.Sheets.{GoesOn, IsOpen, bytes_of, grid_of, feed_before, line_at, lines_of, place_line, plain_bytes, row_tracks, sheet_of};
 
-use crate::block::{OpenCell, block_line, push_block_line, push_indent};
+use crate::block::{OpenCell, block_line, push_blank, push_block_line, push_indent};
 use crate::colors::Colors;
 use crate::glyphs::{push_along, push_behind, push_corner, push_upright};
 use crate::painting::{GlyphRun, push_glyphs};
 use grid_config::SpannedConfig;
-use grid_config_values::Position;
+use grid_config_colors::ANSIBuf;
+use grid_config_values::{Indent, Position};
 use grid_records_traits::PeekableRecords;
 use std::alloc::AllocError;
 
@@ -190,6 +191,27 @@ impl<'a, R: PeekableRecords, C: Colors> Table<'a, R, C> {
         push_feed(out, y)?;
         self.push_boundary_line(out, runs, cells, i, y)?;
         Ok(y + 1)
+    }
+
+    // Appends the lines of a margin, from line `y` of the table on, of which each takes `width` columns.
+    fn push_margin(
+        &self,
+        out: &mut String,
+        y: usize,
+        margin: Indent,
+        color: &Option<ANSIBuf>,
+        width: usize,
+    ) -> Result<(), AllocError>
+        requires range { y + margin.size < 2 ^ 64 }
+        requires shown { (k : ℕ) → y ≤ k → k < y + margin.size → place_line (sheet_of self.now.cfg.now (R.rows self.now.records.now) (C.color self.now.colors.now) self.now.widths.now self.now.heights.now) k ≡ colored color.now (fill_bytes margin.fill width) }
+        requires lines { string_bytes out.old ≡ lines_of (sheet_of self.now.cfg.now (R.rows self.now.records.now) (C.color self.now.colors.now) self.now.widths.now self.now.heights.now) y }
+        ensures { OnOk result (string_bytes out.new ≡ lines_of (sheet_of self.now.cfg.now (R.rows self.now.records.now) (C.color self.now.colors.now) self.now.widths.now self.now.heights.now) (y + margin.size)) }
+    {
+        for line in y..y + margin.size {
+            push_feed(out, line)?;
+            push_blank(out, margin.fill, width, color)?;
+        }
+        Ok(())
     }
 }
 
