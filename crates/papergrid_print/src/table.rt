@@ -1,21 +1,24 @@
 //! The lines of a table.
 ghost use Rattle.std.specs.Prelude.{◌≡◌, ◌++◌, ◌<◌, ◌≤◌, ◌+◌, ◌^◌, IfOk, List, OnOk, ℕ, map, length, string_bytes};
+ghost use Rattle.grid_config_spans.specs.Spans.{AreGood, extent_at};
 ghost use Rattle.papergrid_picture.specs.Frame.{Boundary, Row, boundary_at, track_at};
 ghost use Rattle.papergrid_picture.specs.Picture.{boundary_part, parts_of, row_part};
 ghost use Rattle.papergrid_picture.specs.Blocks.{Part};
 ghost use Rattle.papergrid_picture.specs.Reading.{line_items};
 ghost use Rattle.papergrid_print.specs.Painting.{colored, fill_bytes, glyph_part};
-ghost use Rattle.papergrid_print.specs.Sheets.{GoesOn, IsOpen, bytes_of, grid_of, feed_before, line_at, lines_of, place_line, plain_bytes, row_tracks, sheet_of};
+ghost use Rattle.papergrid_print.specs.Sheets.{GoesOn, IsOpen, ShowsCell, bytes_of, grid_of, feed_before, line_at, lines_of, place_line, plain_bytes, row_tracks, sheet_of};
 
 use crate::block::{OpenCell, block_line, push_blank, push_block_line, push_indent};
+use crate::cell_lines::read_cell;
 use crate::colors::Colors;
+use crate::extents::{Axis, stretch};
 use crate::glyphs::{push_along, push_behind, push_corner, push_upright};
 use crate::painting::{GlyphRun, push_glyphs};
 use grid_config::SpannedConfig;
 use grid_config_colors::ANSIBuf;
 use grid_config_values::{Indent, Position};
 use grid_records_traits::PeekableRecords;
-use std::alloc::AllocError;
+use std::alloc::{AllocError, Global};
 
 /// A table to be printed: its records, its settings, the colours of its cells, and its sizes.
 pub(crate) struct Table<'a, R: PeekableRecords, C: Colors> {
@@ -193,6 +196,32 @@ impl<'a, R: PeekableRecords, C: Colors> Table<'a, R, C> {
         Ok(y + 1)
     }
 
+    // Reads the cell at this place, whose row begins in line `y` of the table.
+    fn open_cell(&self, alloc: Global, pos: Position, y: usize) -> Result<OpenCell<'a>, AllocError>
+        requires row { pos.row < length self.now.heights.now }
+        requires column { pos.col < length self.now.widths.now }
+        requires good { AreGood self.now.cfg.now.spans (length self.now.heights.now) (length self.now.widths.now) }
+        requires lines { boundary_at (row_tracks (sheet_of self.now.cfg.now (R.rows self.now.records.now) (C.color self.now.colors.now) self.now.widths.now self.now.heights.now)) (length self.now.heights.now) < 2 ^ 64 }
+        requires columns { boundary_at (grid_of (sheet_of self.now.cfg.now (R.rows self.now.records.now) (C.color self.now.colors.now) self.now.widths.now self.now.heights.now)).frame.columns (length self.now.widths.now) < 2 ^ 64 }
+        requires top { y ≡ track_at (row_tracks (sheet_of self.now.cfg.now (R.rows self.now.records.now) (C.color self.now.colors.now) self.now.widths.now self.now.heights.now)) pos.row }
+        ensures { IfOk result (λ cell. ShowsCell (sheet_of self.now.cfg.now (R.rows self.now.records.now) (C.color self.now.colors.now) self.now.widths.now self.now.heights.now) pos cell) }
+    {
+        let cfg = self.cfg;
+        let trim_horizontal = cfg.get_trim_horizontal(pos);
+        let trim_vertical = cfg.get_trim_vertical(pos);
+        let lines = read_cell(alloc, self.records, pos, trim_horizontal, trim_vertical)?;
+        let columns = column_extent(cfg, pos);
+        let rows = row_extent(cfg, pos);
+        Ok(OpenCell {
+            pos,
+            lines,
+            color: self.colors.get_color(pos),
+            width: stretch(cfg, Axis::Columns, self.widths, pos.col, columns),
+            height: stretch(cfg, Axis::Rows, self.heights, pos.row, rows),
+            top: y,
+        })
+    }
+
     // Appends the lines of a margin, from line `y` of the table on, of which each takes `width` columns.
     fn push_margin(
         &self,
@@ -223,4 +252,20 @@ fn push_feed(out: &mut String, y: usize) -> Result<(), AllocError>
         return Ok(());
     }
     out.push('\n')
+}
+
+// How many columns the cell at this place takes.
+fn column_extent(cfg: &SpannedConfig, pos: Position) -> usize
+    ensures value { result ≡ (extent_at cfg.now.spans pos).columns }
+    ensures some { 0 < result }
+{
+    cfg.get_column_span(pos).unwrap_or(1)
+}
+
+// How many rows the cell at this place takes.
+fn row_extent(cfg: &SpannedConfig, pos: Position) -> usize
+    ensures value { result ≡ (extent_at cfg.now.spans pos).rows }
+    ensures some { 0 < result }
+{
+    cfg.get_row_span(pos).unwrap_or(1)
 }
