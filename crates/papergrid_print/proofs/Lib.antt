@@ -1,2 +1,6 @@
 pub mod PaintingLemmas
 pub mod CellLineLemmas
+mod LineLemmas
+mod BoundaryLemmas
+pub mod OwnerLemmas
+mod PlaceLemmas

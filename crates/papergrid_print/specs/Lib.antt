@@ -1,3 +1,7 @@
 pub mod Lines
 pub mod Shown
 pub mod Painting
+pub mod BlockLines
+pub mod Boundaries
+pub mod Sheets
+pub mod Axes

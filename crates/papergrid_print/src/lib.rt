@@ -1,10 +1,12 @@
 //! The printer of a table: it appends the lines of the picture to a text.
 #![tactic(auto)]
 
+mod block;
 mod cell_lines;
 pub mod colors;
+mod extents;
+mod glyphs;
 mod painting;
-mod print;
+mod table;
 
 pub use colors::{Colors, NoColors};
-pub use print::print_table;

@@ -1,1 +1,0 @@
--- Why grids print their text.

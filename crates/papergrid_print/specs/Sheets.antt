@@ -1,0 +1,85 @@
+-- A table that is printed, and the cells that are seen in the row at hand.
+use Rattle.std.specs.Prelude.{◌≡◌, ◌==◌, if◌then◌else◌, ◌<◌, ◌^◌, ◌++◌, ℕ, List, [], Option, None, MatchOption, flat_map, length, slice_index_or, encode_utf8}
+use Rattle.std.specs.Option.{option_map}
+use Rattle.grid_config_values.specs.declared.position.Position.{Position}
+use Rattle.grid_config_colors.specs.Colors.{Color, color_of}
+use Rattle.grid_config.specs.Looks.{look_of}
+use Rattle.grid_config.specs.Settings.{Settings}
+use Rattle.grid_config_spans.specs.Spans.{AreGood}
+use Rattle.grid_records_traits.specs.Rows.{text_at}
+use Rattle.papergrid_picture.specs.Blocks.{Grid, Part}
+use Rattle.papergrid_picture.specs.CellLines.{cell_lines}
+use Rattle.papergrid_picture.specs.Fitting.{InRange}
+use Rattle.papergrid_picture.specs.Frame.{Place, place, Tracks, block_height, block_width, boundary_at, track_at}
+use Rattle.papergrid_picture.specs.Picture.{Piece, parts_of, pieces_at, seen}
+use Rattle.papergrid_picture.specs.Reading.{Reading, grid_lines, line_items, painted, part_items}
+use Rattle.papergrid_picture.specs.Tables.{in_bytes, table_grid}
+use Rattle.papergrid_print.specs.Shown.{measures_of, texts_of}
+use Rattle.papergrid_print.specs.declared.block.OpenCell.{OpenCell}
+
+-- a line feed stands before each line but the first
+abbrev pub feed_before : ℕ → List ℕ
+feed_before y = if y == 0 then [] else encode_utf8 0x0a
+
+-- the settings, the texts, the colours and the sizes of a table
+pub record Sheet : Type 0 where
+  pub settings : Settings
+  pub rows : List (List (List ℕ))
+  pub colors : Position → Option Color
+  pub widths : List ℕ
+  pub heights : List ℕ
+
+abbrev pub sheet_of : Settings → List (List (List ℕ)) → (Position → Option Color) → List ℕ → List ℕ → Sheet
+sheet_of settings rows colors widths heights = record { settings = settings; rows = rows; colors = colors; widths = widths; heights = heights }
+
+module _ (sheet : Sheet) where
+  abbrev pub grid_of : Grid
+  grid_of = table_grid (look_of sheet.settings) sheet.rows sheet.colors sheet.widths sheet.heights
+
+  abbrev pub bytes_of : Reading ℕ
+  bytes_of = in_bytes (look_of sheet.settings) sheet.rows
+
+  abbrev pub row_tracks : Tracks
+  row_tracks = grid_of.frame.rows
+
+  -- the first n lines of the picture
+  abbrev pub lines_of : ℕ → List ℕ
+  lines_of n = grid_lines bytes_of grid_of n
+
+  -- what a line shows at a place
+  abbrev pub line_at : Place → ℕ → List ℕ
+  line_at place y = line_items bytes_of (parts_of (pieces_at grid_of place y))
+
+  -- what line y shows
+  abbrev pub place_line : ℕ → List ℕ
+  place_line y = line_at (place row_tracks y) y
+
+  -- what parts show of which none is a glyph
+  abbrev pub plain_bytes : List Part → List ℕ
+  plain_bytes parts = flat_map (λ part. painted bytes_of part.color (part_items bytes_of part)) parts
+
+  -- what is kept of a cell: its lines, the colour of its text and its rectangle
+  pub record ShowsCell (pos : Position) (cell : OpenCell) : Type 0 where
+    pub place : cell.pos ≡ pos
+    pub measures : measures_of cell.lines ≡ grid_of.measures pos
+    pub texts : texts_of cell.lines ≡ cell_lines (grid_of.frame.look.trim_horizontal pos) (grid_of.frame.look.trim_vertical pos) (text_at sheet.rows pos)
+    pub color : option_map color_of cell.color ≡ sheet.colors pos
+    pub width : cell.width ≡ block_width grid_of.frame pos
+    pub height : cell.height ≡ block_height grid_of.frame pos
+    pub top : cell.top ≡ track_at row_tracks pos.row
+
+  abbrev pub ShowsAt : Position → Option OpenCell → Type 0
+  ShowsAt pos kept = MatchOption kept ⊥ (ShowsCell pos)
+
+  -- each cell that is seen in row i and begins in column j is kept there
+  abbrev pub IsOpen : ℕ → List (Option OpenCell) → Type 0
+  IsOpen i open_cells = (j : ℕ) → j < length sheet.widths → (seen grid_of i j).col ≡ j → ShowsAt (seen grid_of i j) (slice_index_or open_cells j None)
+
+  -- the same of those that go on from the rows above
+  abbrev pub GoesOn : ℕ → List (Option OpenCell) → Type 0
+  GoesOn i open_cells = (j : ℕ) → j < length sheet.widths → (seen grid_of i j).row < i → (seen grid_of i j).col ≡ j → ShowsAt (seen grid_of i j) (slice_index_or open_cells j None)
+
+  -- good spans, and totals in the range of `usize`
+  pub record IsPrintable : Type 0 where
+    pub good : AreGood sheet.settings.spans (length sheet.heights) (length sheet.widths)
+    pub range : InRange grid_of.frame sheet.rows

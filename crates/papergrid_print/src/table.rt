@@ -1,0 +1,271 @@
+//! The lines of a table.
+ghost use Rattle.std.specs.Prelude.{◌≡◌, ◌++◌, ◌<◌, ◌≤◌, ◌+◌, ◌^◌, IfOk, List, OnOk, ℕ, map, length, string_bytes};
+ghost use Rattle.grid_config_spans.specs.Spans.{AreGood, extent_at};
+ghost use Rattle.papergrid_picture.specs.Frame.{Boundary, Row, boundary_at, track_at};
+ghost use Rattle.papergrid_picture.specs.Picture.{boundary_part, parts_of, row_part};
+ghost use Rattle.papergrid_picture.specs.Blocks.{Part};
+ghost use Rattle.papergrid_picture.specs.Reading.{line_items};
+ghost use Rattle.papergrid_print.specs.Painting.{colored, fill_bytes, glyph_part};
+ghost use Rattle.papergrid_print.specs.Sheets.{GoesOn, IsOpen, ShowsCell, bytes_of, grid_of, feed_before, line_at, lines_of, place_line, plain_bytes, row_tracks, sheet_of};
+
+use crate::block::{OpenCell, block_line, push_blank, push_block_line, push_indent};
+use crate::cell_lines::read_cell;
+use crate::colors::Colors;
+use crate::extents::{Axis, stretch};
+use crate::glyphs::{push_along, push_behind, push_corner, push_upright};
+use crate::painting::{GlyphRun, push_glyphs};
+use grid_config::SpannedConfig;
+use grid_config_colors::ANSIBuf;
+use grid_config_values::{Indent, Position};
+use grid_records_traits::PeekableRecords;
+use std::alloc::{AllocError, Global};
+
+/// A table to be printed: its records, its settings, the colours of its cells, and its sizes.
+pub(crate) struct Table<'a, R: PeekableRecords, C: Colors> {
+    pub(crate) records: &'a R,
+    pub(crate) cfg: &'a SpannedConfig,
+    pub(crate) colors: &'a C,
+    pub(crate) widths: &'a [usize],
+    pub(crate) heights: &'a [usize],
+}
+
+impl<'a, R: PeekableRecords, C: Colors> Table<'a, R, C> {
+    // Appends boundary `j` and column `j` of line `y`, which shows row `i`.
+    fn push_row_part(
+        &self,
+        out: &mut String,
+        cells: &[Option<OpenCell<'a>>],
+        i: usize,
+        j: usize,
+        y: usize,
+    ) -> Result<(), AllocError>
+        requires is_open { IsOpen (sheet_of self.now.cfg.now (R.rows self.now.records.now) (C.color self.now.colors.now) self.now.widths.now self.now.heights.now) i cells.now }
+        requires wide { length cells.now ≡ length self.now.widths.now }
+        requires column { j < length self.now.widths.now }
+        ensures { OnOk result (string_bytes out.new ≡ string_bytes out.old ++ (let sheet = sheet_of self.now.cfg.now (R.rows self.now.records.now) (C.color self.now.colors.now) self.now.widths.now self.now.heights.now in plain_bytes sheet (parts_of (row_part (grid_of sheet) i y j)))) }
+    {
+        if self.cfg.owner(Position::new(i, j)).col != j {
+            return Ok(());
+        }
+        push_upright(out, self.cfg, j, self.widths.len())?;
+        match &cells[j] {
+            Some(cell) => {
+                let line = block_line(self.cfg, cell, y.saturating_sub(cell.top));
+                push_block_line(out, self.cfg, cell, line)
+            }
+            None => Ok(()),
+        }
+    }
+
+    // Appends line `y`, which shows row `i`.
+    fn push_row_line(
+        &self,
+        out: &mut String,
+        cells: &[Option<OpenCell<'a>>],
+        i: usize,
+        y: usize,
+    ) -> Result<(), AllocError>
+        requires is_open { IsOpen (sheet_of self.now.cfg.now (R.rows self.now.records.now) (C.color self.now.colors.now) self.now.widths.now self.now.heights.now) i cells.now }
+        requires wide { length cells.now ≡ length self.now.widths.now }
+        ensures { OnOk result (string_bytes out.new ≡ string_bytes out.old ++ line_at (sheet_of self.now.cfg.now (R.rows self.now.records.now) (C.color self.now.colors.now) self.now.widths.now self.now.heights.now) (Row i) y) }
+    {
+        let columns = self.widths.len();
+        let margin = self.cfg.get_margin();
+        let colors = self.cfg.get_margin_color();
+        push_indent(out, &margin.left, &colors.left)?;
+        for j in 0..columns {
+            self.push_row_part(out, cells, i, j, y)?;
+        }
+        push_upright(out, self.cfg, columns, columns)?;
+        push_indent(out, &margin.right, &colors.right)
+    }
+
+    // Appends boundary `j` and column `j` of line `y`, which shows row boundary `i`; the last glyphs of it
+    // stay in `runs`, where those before them were.
+    fn push_boundary_part(
+        &self,
+        out: &mut String,
+        runs: &mut Vec<GlyphRun<'a>>,
+        cells: &[Option<OpenCell<'a>>],
+        i: usize,
+        j: usize,
+        y: usize,
+    ) -> Result<(), AllocError>
+        requires goes_on { GoesOn (sheet_of self.now.cfg.now (R.rows self.now.records.now) (C.color self.now.colors.now) self.now.widths.now self.now.heights.now) i cells.now }
+        requires wide { length cells.now ≡ length self.now.widths.now }
+        requires column { j < length self.now.widths.now }
+        ensures { OnOk result (let sheet = sheet_of self.now.cfg.now (R.rows self.now.records.now) (C.color self.now.colors.now) self.now.widths.now self.now.heights.now in (rest : List Part) →
+            string_bytes out.new ++ line_items (bytes_of sheet) (map glyph_part runs.new.items ++ rest)
+            ≡ string_bytes out.old ++ line_items (bytes_of sheet) (map glyph_part runs.old.items ++ (parts_of (boundary_part (grid_of sheet) i y j) ++ rest))) }
+    {
+        let rows = self.heights.len();
+        let owner = self.cfg.owner(Position::new(i, j));
+        if owner.row >= i {
+            push_corner(runs, self.cfg, i, rows, j, self.widths.len())?;
+            return push_along(runs, self.cfg, i, rows, self.widths[j]);
+        }
+        if owner.col != j {
+            return Ok(());
+        }
+        push_corner(runs, self.cfg, i, rows, j, self.widths.len())?;
+        match &cells[j] {
+            Some(cell) => {
+                let line = block_line(self.cfg, cell, y.saturating_sub(cell.top));
+                push_behind(out, runs, self.cfg, cell, line)
+            }
+            None => Ok(()),
+        }
+    }
+
+    // Appends line `y`, which shows row boundary `i`.
+    fn push_boundary_line(
+        &self,
+        out: &mut String,
+        runs: &mut Vec<GlyphRun<'a>>,
+        cells: &[Option<OpenCell<'a>>],
+        i: usize,
+        y: usize,
+    ) -> Result<(), AllocError>
+        requires goes_on { GoesOn (sheet_of self.now.cfg.now (R.rows self.now.records.now) (C.color self.now.colors.now) self.now.widths.now self.now.heights.now) i cells.now }
+        requires wide { length cells.now ≡ length self.now.widths.now }
+        ensures { OnOk result (string_bytes out.new ≡ string_bytes out.old ++ line_at (sheet_of self.now.cfg.now (R.rows self.now.records.now) (C.color self.now.colors.now) self.now.widths.now self.now.heights.now) (Boundary i) y) }
+    {
+        let columns = self.widths.len();
+        let margin = self.cfg.get_margin();
+        let colors = self.cfg.get_margin_color();
+        push_indent(out, &margin.left, &colors.left)?;
+        runs.clear();
+        for j in 0..columns {
+            self.push_boundary_part(out, runs, cells, i, j, y)?;
+        }
+        push_corner(runs, self.cfg, i, self.heights.len(), columns, columns)?;
+        push_glyphs(out, runs)?;
+        push_indent(out, &margin.right, &colors.right)
+    }
+
+    // Appends the lines of row `i`, of which the first is line `y` of the table. The answer is the line
+    // behind them.
+    fn push_row(
+        &self,
+        out: &mut String,
+        cells: &[Option<OpenCell<'a>>],
+        i: usize,
+        y: usize,
+    ) -> Result<usize, AllocError>
+        requires is_open { IsOpen (sheet_of self.now.cfg.now (R.rows self.now.records.now) (C.color self.now.colors.now) self.now.widths.now self.now.heights.now) i cells.now }
+        requires wide { length cells.now ≡ length self.now.widths.now }
+        requires row { i < length self.now.heights.now }
+        requires top { y ≡ track_at (row_tracks (sheet_of self.now.cfg.now (R.rows self.now.records.now) (C.color self.now.colors.now) self.now.widths.now self.now.heights.now)) i }
+        requires range { boundary_at (row_tracks (sheet_of self.now.cfg.now (R.rows self.now.records.now) (C.color self.now.colors.now) self.now.widths.now self.now.heights.now)) (length self.now.heights.now) < 2 ^ 64 }
+        requires lines { string_bytes out.old ≡ lines_of (sheet_of self.now.cfg.now (R.rows self.now.records.now) (C.color self.now.colors.now) self.now.widths.now self.now.heights.now) y }
+        ensures lines { OnOk result (string_bytes out.new ≡ lines_of (sheet_of self.now.cfg.now (R.rows self.now.records.now) (C.color self.now.colors.now) self.now.widths.now self.now.heights.now) (boundary_at (row_tracks (sheet_of self.now.cfg.now (R.rows self.now.records.now) (C.color self.now.colors.now) self.now.widths.now self.now.heights.now)) (i + 1))) }
+        ensures end { IfOk result (λ end. end ≡ boundary_at (row_tracks (sheet_of self.now.cfg.now (R.rows self.now.records.now) (C.color self.now.colors.now) self.now.widths.now self.now.heights.now)) (i + 1)) }
+    {
+        let end = y + self.heights[i];
+        for line in y..end {
+            push_feed(out, line)?;
+            self.push_row_line(out, cells, i, line)?;
+        }
+        Ok(end)
+    }
+
+    // Appends the line of row boundary `i`, line `y` of the table, where that boundary is there. The answer
+    // is the line behind it.
+    fn push_boundary(
+        &self,
+        out: &mut String,
+        runs: &mut Vec<GlyphRun<'a>>,
+        cells: &[Option<OpenCell<'a>>],
+        i: usize,
+        y: usize,
+    ) -> Result<usize, AllocError>
+        requires goes_on { GoesOn (sheet_of self.now.cfg.now (R.rows self.now.records.now) (C.color self.now.colors.now) self.now.widths.now self.now.heights.now) i cells.now }
+        requires wide { length cells.now ≡ length self.now.widths.now }
+        requires boundary { i ≤ length self.now.heights.now }
+        requires top { y ≡ boundary_at (row_tracks (sheet_of self.now.cfg.now (R.rows self.now.records.now) (C.color self.now.colors.now) self.now.widths.now self.now.heights.now)) i }
+        requires range { track_at (row_tracks (sheet_of self.now.cfg.now (R.rows self.now.records.now) (C.color self.now.colors.now) self.now.widths.now self.now.heights.now)) i < 2 ^ 64 }
+        requires lines { string_bytes out.old ≡ lines_of (sheet_of self.now.cfg.now (R.rows self.now.records.now) (C.color self.now.colors.now) self.now.widths.now self.now.heights.now) y }
+        ensures lines { OnOk result (string_bytes out.new ≡ lines_of (sheet_of self.now.cfg.now (R.rows self.now.records.now) (C.color self.now.colors.now) self.now.widths.now self.now.heights.now) (track_at (row_tracks (sheet_of self.now.cfg.now (R.rows self.now.records.now) (C.color self.now.colors.now) self.now.widths.now self.now.heights.now)) i)) }
+        ensures end { IfOk result (λ end. end ≡ track_at (row_tracks (sheet_of self.now.cfg.now (R.rows self.now.records.now) (C.color self.now.colors.now) self.now.widths.now self.now.heights.now)) i) }
+    {
+        if !self.cfg.has_horizontal(i, self.heights.len()) {
+            return Ok(y);
+        }
+        push_feed(out, y)?;
+        self.push_boundary_line(out, runs, cells, i, y)?;
+        Ok(y + 1)
+    }
+
+    // Reads the cell at this place, whose row begins in line `y` of the table.
+    fn open_cell(&self, alloc: Global, pos: Position, y: usize) -> Result<OpenCell<'a>, AllocError>
+        requires row { pos.row < length self.now.heights.now }
+        requires column { pos.col < length self.now.widths.now }
+        requires good { AreGood self.now.cfg.now.spans (length self.now.heights.now) (length self.now.widths.now) }
+        requires lines { boundary_at (row_tracks (sheet_of self.now.cfg.now (R.rows self.now.records.now) (C.color self.now.colors.now) self.now.widths.now self.now.heights.now)) (length self.now.heights.now) < 2 ^ 64 }
+        requires columns { boundary_at (grid_of (sheet_of self.now.cfg.now (R.rows self.now.records.now) (C.color self.now.colors.now) self.now.widths.now self.now.heights.now)).frame.columns (length self.now.widths.now) < 2 ^ 64 }
+        requires top { y ≡ track_at (row_tracks (sheet_of self.now.cfg.now (R.rows self.now.records.now) (C.color self.now.colors.now) self.now.widths.now self.now.heights.now)) pos.row }
+        ensures { IfOk result (λ cell. ShowsCell (sheet_of self.now.cfg.now (R.rows self.now.records.now) (C.color self.now.colors.now) self.now.widths.now self.now.heights.now) pos cell) }
+    {
+        let cfg = self.cfg;
+        let trim_horizontal = cfg.get_trim_horizontal(pos);
+        let trim_vertical = cfg.get_trim_vertical(pos);
+        let lines = read_cell(alloc, self.records, pos, trim_horizontal, trim_vertical)?;
+        let columns = column_extent(cfg, pos);
+        let rows = row_extent(cfg, pos);
+        Ok(OpenCell {
+            pos,
+            lines,
+            color: self.colors.get_color(pos),
+            width: stretch(cfg, Axis::Columns, self.widths, pos.col, columns),
+            height: stretch(cfg, Axis::Rows, self.heights, pos.row, rows),
+            top: y,
+        })
+    }
+
+    // Appends the lines of a margin, from line `y` of the table on, of which each takes `width` columns.
+    fn push_margin(
+        &self,
+        out: &mut String,
+        y: usize,
+        margin: Indent,
+        color: &Option<ANSIBuf>,
+        width: usize,
+    ) -> Result<(), AllocError>
+        requires range { y + margin.size < 2 ^ 64 }
+        requires shown { (k : ℕ) → y ≤ k → k < y + margin.size → place_line (sheet_of self.now.cfg.now (R.rows self.now.records.now) (C.color self.now.colors.now) self.now.widths.now self.now.heights.now) k ≡ colored color.now (fill_bytes margin.fill width) }
+        requires lines { string_bytes out.old ≡ lines_of (sheet_of self.now.cfg.now (R.rows self.now.records.now) (C.color self.now.colors.now) self.now.widths.now self.now.heights.now) y }
+        ensures { OnOk result (string_bytes out.new ≡ lines_of (sheet_of self.now.cfg.now (R.rows self.now.records.now) (C.color self.now.colors.now) self.now.widths.now self.now.heights.now) (y + margin.size)) }
+    {
+        for line in y..y + margin.size {
+            push_feed(out, line)?;
+            push_blank(out, margin.fill, width, color)?;
+        }
+        Ok(())
+    }
+}
+
+// Appends a line feed, but not before the first line.
+fn push_feed(out: &mut String, y: usize) -> Result<(), AllocError>
+    ensures { OnOk result (string_bytes out.new ≡ string_bytes out.old ++ feed_before y) }
+{
+    if y == 0 {
+        return Ok(());
+    }
+    out.push('\n')
+}
+
+// How many columns the cell at this place takes.
+fn column_extent(cfg: &SpannedConfig, pos: Position) -> usize
+    ensures value { result ≡ (extent_at cfg.now.spans pos).columns }
+    ensures some { 0 < result }
+{
+    cfg.get_column_span(pos).unwrap_or(1)
+}
+
+// How many rows the cell at this place takes.
+fn row_extent(cfg: &SpannedConfig, pos: Position) -> usize
+    ensures value { result ≡ (extent_at cfg.now.spans pos).rows }
+    ensures some { 0 < result }
+{
+    cfg.get_row_span(pos).unwrap_or(1)
+}
