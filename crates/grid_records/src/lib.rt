@@ -12,6 +12,6 @@ pub use grid_records_measure::{
 };
 pub use grid_records_rows::{
     BufRecords, Cell, Dimension, EmptyRecords, ExactRecords, FromText, IntoRecords, IterRecords,
-    KeptTexts, LimitColumns, LimitRows, PeekableRecords, PeekedRecords, RecordColumns, RecordTexts, Records, RecordsMut,
-    SkipRows, Text, TruncateContent, VecRecords, are_equally_long, records,
+    KeptTexts, LimitColumns, LimitRows, PeekableRecords, PeekedRecords, RecordColumns, RecordTexts,
+    Records, RecordsMut, SkipRows, Text, TruncateContent, VecRecords, are_equally_long, records,
 };

@@ -55,8 +55,8 @@ module _ (settings : Settings) (width height : ℕ → ℕ) (columns rows : ℕ)
   all_lines = track_at (row_tracks settings height rows) rows + settings.margin.bottom.size
 
   module _ (w h : Option ℕ) (some_rows : 0 < rows) (some_columns : 0 < columns)
-    (w_told : let total = track_at (column_tracks settings width columns) columns + settings.margin.right.size in SomeIff w (total < 2 ^ 64) total)
-    (h_told : let total = track_at (row_tracks settings height rows) rows + settings.margin.bottom.size in SomeIff h (total < 2 ^ 64) total) where
+      (w_told : let total = track_at (column_tracks settings width columns) columns + settings.margin.right.size in SomeIff w (total < 2 ^ 64) total)
+      (h_told : let total = track_at (row_tracks settings height rows) rows + settings.margin.bottom.size in SomeIff h (total < 2 ^ 64) total) where
     in_range : is_some w ≡ true → is_some h ≡ true → InRange (sized settings width height columns rows)
     in_range w_is h_is =
         (subst (λ n. n < 2 ^ 64) (sym (table_width-is some_rows some_columns)) (some-told (all_columns < 2 ^ 64) all_columns w w_told w_is), subst (λ n. n < 2 ^ 64) (sym (line_count-is some_rows some_columns)) (some-told (all_lines < 2 ^ 64) all_lines h h_told h_is))
@@ -67,9 +67,10 @@ module _ (settings : Settings) (width height : ℕ → ℕ) (columns rows : ℕ)
 
   pub in_range-not : (w : Option ℕ) (answer : Bool) → 0 < rows → 0 < columns → SomeIff w (all_columns < 2 ^ 64) all_columns → is_some w ≡ false → answer ≡ is_some w
       → (answer ≡ true) ↔ InRange (sized settings width height columns rows)
-  in_range-not w answer some_rows some_columns told w_is e =
-      ((λ on. not_both (is_some w) (sym e ∙ on) w_is),
-        (λ fits. e ∙ told-some (all_columns < 2 ^ 64) all_columns w told (subst (λ n. n < 2 ^ 64) (table_width-is some_rows some_columns) fits.0)))
+  in_range-not w answer some_rows some_columns told w_is e = (
+    (λ on. not_both (is_some w) (sym e ∙ on) w_is),
+    (λ fits. e ∙ told-some (all_columns < 2 ^ 64) all_columns w told (subst (λ n. n < 2 ^ 64) (table_width-is some_rows some_columns) fits.0)),
+  )
 
   -- the cells of the table, in the frame's own words
   pub first-is : (texts : List (List (List ℕ))) → find (is_too_wide (sized settings width height columns 0) texts) (table_positions rows columns) ≡ first_too_wide (sized settings width height columns rows) texts

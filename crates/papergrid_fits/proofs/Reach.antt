@@ -31,9 +31,9 @@ module _ (margin : ℕ) (size : ℕ → ℕ) (has : ℕ → Bool) where
   reach-next k =
       let same : 0 + k ≡ k = omega arith in
       let more : sum (map size (range_with_len 0 (suc k))) ≡ sum (map size (range_with_len 0 k)) + size k =
-          ap (λ m. sum (map size (range_with_len 0 m))) (sym (add-one k)) ∙ sum_by-map-range_with_len_more (λ n. n) size 0 k k same in
+      ap (λ m. sum (map size (range_with_len 0 m))) (sym (add-one k)) ∙ sum_by-map-range_with_len_more (λ n. n) size 0 k k same in
       let there : length (filter has (range_with_len 0 (suc k))) ≡ length (filter has (range_with_len 0 k)) + thickness (has k) =
-          filtered-more has 0 k ∙ ap (λ m. length (filter has (range_with_len 0 k)) + thickness (has m)) same in
+      filtered-more has 0 k ∙ ap (λ m. length (filter has (range_with_len 0 k)) + thickness (has m)) same in
       omega (arith, more, there)
 
   pub reach-grows : (k n : ℕ) → reach k ≤ reach (k + n)
@@ -68,7 +68,7 @@ module _ (margin : ℕ) (size : ℕ → ℕ) (has : ℕ → Bool) where
       let grown : reach (suc k) ≤ reach n = omega (arith, reach-grows (suc k) (n - suc k), ap reach rest) in
       let same : thickness there ≡ thickness (has k) = ap thickness is in
       let refuted : track_at (tracks n) n + behind < 2 ^ 64 → ⊥ = λ fits.
-          (let small : total + thickness there + more < 2 ^ 64 = omega (arith, fits, grown, track_at-reach n, reach-next k, e, same, w) in past small) in
+      (let small : total + thickness there + more < 2 ^ 64 = omega (arith, fits, grown, track_at-reach n, reach-next k, e, same, w) in past small) in
       subst P (sym none) refuted
 
   pub total-ends : (n k behind last total : ℕ) (there : Bool) (result : Option ℕ) → k ≡ n → total ≡ reach k → there ≡ has n → last ≡ behind
@@ -129,5 +129,5 @@ module _ (margin : ℕ) (size : ℕ → ℕ) (has : ℕ → Bool) where
       let behind : first + (column - first) ≡ column = omega arith in
       let one : column + 1 - first ≡ suc (column - first) = omega arith in
       let step : strip_length first (column + 1 - first) ≡ strip_length first (column - first) + (thickness (nat_lt first column && has column) + size column) =
-          ap (strip_length first) one ∙ strip-more first (column - first) ∙ ap (λ c. strip_length first (column - first) + (thickness (nat_lt first c && has c) + size c)) behind in
+      ap (strip_length first) one ∙ strip-more first (column - first) ∙ ap (λ c. strip_length first (column - first) + (thickness (nat_lt first c && has c) + size c)) behind in
       omega (arith, is, e, step)

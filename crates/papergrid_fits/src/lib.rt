@@ -1,14 +1,9 @@
 //! Whether a table fits its sizes.
 #![tactic(auto)]
 
-
-
-
 mod fitting;
 pub mod laws;
 mod room;
 mod totals;
 
 pub use fitting::{fits, fits_counted};
-
-

@@ -75,9 +75,20 @@ module _ (tracks : Tracks) where
       let off : suc n + 1 - 1 ≡ n + 1 = omega arith in
       let off2 : n + 1 - 1 ≡ n = omega arith in
       let before : boundary_at tracks (first + (n + 1)) ≡ track_at tracks first + stretch tracks first (n + 1) = boundary-behind first n (omega arith) in
-      omega (arith, sizes, counts, before, boundary-next (first + (n + 1)) (omega arith), get_or-drop first tracks.sizes (suc n) 0,
-      ap (λ k. get_or tracks.sizes k 0) there, ap (λ k. thickness (tracks.has_boundary k)) here, ap (boundary_at tracks) e,
-      ap (λ k. sum (take k (drop first tracks.sizes))) len, ap (count tracks.has_boundary (first + 1)) off, ap (count tracks.has_boundary (first + 1)) off2)
+      omega (
+        arith,
+        sizes,
+        counts,
+        before,
+        boundary-next (first + (n + 1)) (omega arith),
+        get_or-drop first tracks.sizes (suc n) 0,
+        ap (λ k. get_or tracks.sizes k 0) there,
+        ap (λ k. thickness (tracks.has_boundary k)) here,
+        ap (boundary_at tracks) e,
+        ap (λ k. sum (take k (drop first tracks.sizes))) len,
+        ap (count tracks.has_boundary (first + 1)) off,
+        ap (count tracks.has_boundary (first + 1)) off2,
+      )
 
 -- ---- what lines show
 

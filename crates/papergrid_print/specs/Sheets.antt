@@ -82,4 +82,4 @@ module _ (sheet : Sheet) where
   -- good spans, and totals in the range of `usize`
   pub record IsPrintable : Type 0 where
     pub good : AreGood sheet.settings.spans (length sheet.heights) (length sheet.widths)
-    pub range : InRange grid_of.frame sheet.rows
+    pub range : InRange grid_of.frame

@@ -5,15 +5,19 @@ use Rattle.papergrid_fits.proofs.fitting.fits_counted.Goals as goal
 pub returns-in-Some : goal.returns-in-Some
 returns-in-Some g c =
     let good : IsTrue c.spans_are_good.result = grind (arith, c.if-not-spans_are_good.false) in
-    let range : IsTrue c.is_in_range.result = grind (arith, c.if-not-is_in_range.false) in
-    (c.spans_are_good.ensures.good.0 good, c.is_in_range.ensures.0 range,
+    let range : IsTrue c.is_in_range.result = grind (arith, c.if-not-is_in_range.false) in (
+      c.spans_are_good.ensures.good.0 good,
+      c.is_in_range.ensures.0 range,
       sym (first-is c.args.cfg.now (g.D.Dimension.width c.args.dims.now) (g.D.Dimension.height c.args.dims.now) c.args.columns c.args.rows (g.R.RecordTexts.rows c.args.records.now))
-      ∙ sym c.first_too_wide.ensures ∙ c.in-Some.is)
+          ∙ sym c.first_too_wide.ensures ∙ c.in-Some.is,
+    )
 
 pub returns-in-None : goal.returns-in-None
 returns-in-None g c =
     let good : IsTrue c.spans_are_good.result = grind (arith, c.if-not-spans_are_good.false) in
-    let range : IsTrue c.is_in_range.result = grind (arith, c.if-not-is_in_range.false) in
-    (c.spans_are_good.ensures.good.0 good, c.is_in_range.ensures.0 range,
+    let range : IsTrue c.is_in_range.result = grind (arith, c.if-not-is_in_range.false) in (
+      c.spans_are_good.ensures.good.0 good,
+      c.is_in_range.ensures.0 range,
       sym (first-is c.args.cfg.now (g.D.Dimension.width c.args.dims.now) (g.D.Dimension.height c.args.dims.now) c.args.columns c.args.rows (g.R.RecordTexts.rows c.args.records.now))
-      ∙ sym c.first_too_wide.ensures ∙ c.in-None.is)
+          ∙ sym c.first_too_wide.ensures ∙ c.in-None.is,
+    )

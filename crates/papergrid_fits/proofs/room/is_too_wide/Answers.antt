@@ -17,8 +17,8 @@ returns-then-eq g c =
     let size : ℕ → ℕ = g.D.Dimension.width c.args.dims.now in
     let asked : ℕ = needed (look_of cfg) (g.R.RecordTexts.rows c.args.records.now) pos in
     let fits_in : ℕ → Bool = λ n.
-        nat_lt (stretch (record { margin = cfg.margin.left.size; sizes = map size (range_with_len 0 c.args.columns); has_boundary = λ j. has_column_boundary cfg.borders (boundary_kind j n) })
-          pos.col (extent_at cfg.spans pos).columns) asked in
+    nat_lt (stretch (record { margin = cfg.margin.left.size; sizes = map size (range_with_len 0 c.args.columns); has_boundary = λ j. has_column_boundary cfg.borders (boundary_kind j n) })
+    pos.col (extent_at cfg.spans pos).columns) asked in
     let itself : same_place (owner (extent_at cfg.spans) pos) pos ≡ true = ap (λ p. same_place p pos) (sym c.owner.ensures.first) ∙ sym c.if-eq.ensures in
     let count = length-map-range_with_len size 0 c.args.columns in
     c.needs_more.ensures ∙ ap fits_in (sym count) ∙ ap (λ b. b && fits_in (Rattle.std.proofs.Common.length (map size (range_with_len 0 c.args.columns)))) (sym itself)

@@ -12,8 +12,8 @@ loop-column-preserved g c =
     let column = c.loop-column.column in
     let ahead : c.args.first ≤ column = c.loop-column.invariant.0 in
     let next : c.without-left.result ≡ c.loop-column.left - (thickness (nat_lt c.args.first column && has column) + size column) =
-        c.without-left.ensures ∙ ap (λ b. c.loop-column.left - (thickness b + c.get_width.result)) c.is_behind_boundary-has_boundary.ensures
-        ∙ ap (λ n. c.loop-column.left - (thickness (nat_lt c.args.first column && has column) + n)) c.get_width.ensures in
+    c.without-left.ensures ∙ ap (λ b. c.loop-column.left - (thickness b + c.get_width.result)) c.is_behind_boundary-has_boundary.ensures
+    ∙ ap (λ n. c.loop-column.left - (thickness (nat_lt c.args.first column && has column) + n)) c.get_width.ensures in
     let more : c.args.first ≤ column + 1 = omega (arith, ahead) in
     (more, left-more margin size has c.args.need c.args.first column c.loop-column.left c.without-left.result ahead c.loop-column.invariant.1 next)
 
