@@ -1,0 +1,5 @@
+//! Tests of grids by their public calls.
+#![tactic(auto)]
+
+#[cfg(test)]
+mod tests;
