@@ -4,3 +4,4 @@ mod LineLemmas
 mod BoundaryLemmas
 pub mod OwnerLemmas
 mod PlaceLemmas
+mod OpenLemmas

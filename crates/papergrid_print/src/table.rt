@@ -222,6 +222,34 @@ impl<'a, R: PeekableRecords, C: Colors> Table<'a, R, C> {
         })
     }
 
+    // Reads the cells that are seen first in row `i`, which begins in line `y` of the table. Those that go
+    // on from the rows above stay as they are.
+    fn open_row(
+        &self,
+        alloc: Global,
+        cells: &mut [Option<OpenCell<'a>>],
+        i: usize,
+        y: usize,
+    ) -> Result<(), AllocError>
+        requires goes_on { GoesOn (sheet_of self.now.cfg.now (R.rows self.now.records.now) (C.color self.now.colors.now) self.now.widths.now self.now.heights.now) i cells.old }
+        requires wide { length cells.old ≡ length self.now.widths.now }
+        requires row { i < length self.now.heights.now }
+        requires good { AreGood self.now.cfg.now.spans (length self.now.heights.now) (length self.now.widths.now) }
+        requires lines { boundary_at (row_tracks (sheet_of self.now.cfg.now (R.rows self.now.records.now) (C.color self.now.colors.now) self.now.widths.now self.now.heights.now)) (length self.now.heights.now) < 2 ^ 64 }
+        requires columns { boundary_at (grid_of (sheet_of self.now.cfg.now (R.rows self.now.records.now) (C.color self.now.colors.now) self.now.widths.now self.now.heights.now)).frame.columns (length self.now.widths.now) < 2 ^ 64 }
+        requires top { y ≡ track_at (row_tracks (sheet_of self.now.cfg.now (R.rows self.now.records.now) (C.color self.now.colors.now) self.now.widths.now self.now.heights.now)) i }
+        ensures is_open { OnOk result (IsOpen (sheet_of self.now.cfg.now (R.rows self.now.records.now) (C.color self.now.colors.now) self.now.widths.now self.now.heights.now) i cells.new) }
+        ensures wide { length cells.new ≡ length cells.old }
+    {
+        for j in 0..self.widths.len() {
+            let pos = Position::new(i, j);
+            if self.cfg.owner(pos) == pos {
+                cells[j] = Some(self.open_cell(alloc, pos, y)?);
+            }
+        }
+        Ok(())
+    }
+
     // Appends the lines of a margin, from line `y` of the table on, of which each takes `width` columns.
     fn push_margin(
         &self,
