@@ -5,3 +5,4 @@ mod BoundaryLemmas
 pub mod OwnerLemmas
 mod PlaceLemmas
 mod OpenLemmas
+mod TableLemmas

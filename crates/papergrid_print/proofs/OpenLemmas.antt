@@ -51,10 +51,11 @@ module _ (sheet : Sheet) where
     pub wide : length cells ≡ length initial
     pub before : OpenBefore j i cells
     pub behind : (k : ℕ) → j ≤ k → get_or cells k None ≡ get_or initial k None
+    pub positive : 0 < j → ArePositive sheet.settings.spans
 
-  pub opens : (i j : ℕ) (initial cells after : List (Option OpenCell)) (cell : OpenCell) (p q : Position) → IsOpening i j initial cells → j < length cells
+  pub opens : (i j : ℕ) (initial cells after : List (Option OpenCell)) (cell : OpenCell) (p q : Position) → IsOpening i j initial cells → ArePositive sheet.settings.spans → j < length cells
       → p ≡ at i j → q ≡ owner (extent_at sheet.settings.spans) p → same_place q p ≡ true → ShowsCell sheet p cell → after ≡ set cells j (Some cell) → IsOpening i (j + 1) initial after
-  opens i j initial cells after cell p q old below place owns own shows is =
+  opens i j initial cells after cell p q old positive below place owns own shows is =
       let seen_here : seen (grid_of sheet) i j ≡ at i j = ap (owner (extent_at sheet.settings.spans)) (sym place) ∙ (sym owns ∙ (same_position q p own ∙ place)) in
       let step : IsOpening i (j + 1) initial (set cells j (Some cell)) = record {
           wide = length-set cells j (Some cell) ∙ old.wide;
@@ -63,6 +64,7 @@ module _ (sheet : Sheet) where
               let other : k ≡ j → ⊥ = λ same. absurd (omega (arith, past, same)) in
               let later : j ≤ k = omega (arith, past) in
               get_or-set_other cells j k (Some cell) None other ∙ old.behind k later;
+          positive = λ _. positive;
         } in
       subst (IsOpening i (j + 1) initial) (sym is) step
 
@@ -76,6 +78,7 @@ module _ (sheet : Sheet) where
           before = unopened i j cells initial positive old.before (old.behind j all) goes_on
               (λ row col. absurd (true≢false (sym (same_parts q (ap (λ (s : Position). s.row) (sym seen_here) ∙ row) (ap (λ (s : Position). s.col) (sym seen_here) ∙ col)) ∙ (ap (same_place q) (sym place) ∙ off))));
           behind = λ k past. let later : j ≤ k = omega (arith, past) in old.behind k later;
+          positive = λ _. positive;
         } in
       subst (IsOpening i (j + 1) initial) (sym is) step
     where

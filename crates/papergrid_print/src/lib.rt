@@ -7,6 +7,8 @@ pub mod colors;
 mod extents;
 mod glyphs;
 mod painting;
+mod print;
 mod table;
 
 pub use colors::{Colors, NoColors};
+pub use print::print_table;

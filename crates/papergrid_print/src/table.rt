@@ -1,17 +1,17 @@
 //! The lines of a table.
-ghost use Rattle.std.specs.Prelude.{◌≡◌, ◌++◌, ◌<◌, ◌≤◌, ◌+◌, ◌^◌, IfOk, List, OnOk, ℕ, map, length, string_bytes};
+ghost use Rattle.std.specs.Prelude.{◌≡◌, ◌++◌, ◌<◌, ◌≤◌, ◌+◌, ◌^◌, IfOk, List, OnOk, ℕ, [], map, length, string_bytes};
 ghost use Rattle.grid_config_spans.specs.Spans.{AreGood, extent_at};
-ghost use Rattle.papergrid_picture.specs.Frame.{Boundary, Row, boundary_at, track_at};
+ghost use Rattle.papergrid_picture.specs.Frame.{Boundary, Row, boundary_at, line_count, total_width, track_at};
 ghost use Rattle.papergrid_picture.specs.Picture.{boundary_part, parts_of, row_part};
 ghost use Rattle.papergrid_picture.specs.Blocks.{Part};
 ghost use Rattle.papergrid_picture.specs.Reading.{line_items};
 ghost use Rattle.papergrid_print.specs.Painting.{colored, fill_bytes, glyph_part};
-ghost use Rattle.papergrid_print.specs.Sheets.{GoesOn, IsOpen, ShowsCell, bytes_of, grid_of, feed_before, line_at, lines_of, place_line, plain_bytes, row_tracks, sheet_of};
+ghost use Rattle.papergrid_print.specs.Sheets.{GoesOn, IsOpen, IsPrintable, ShowsCell, bytes_of, grid_of, feed_before, line_at, lines_of, place_line, plain_bytes, row_tracks, sheet_of};
 
 use crate::block::{OpenCell, block_line, push_blank, push_block_line, push_indent};
 use crate::cell_lines::read_cell;
 use crate::colors::Colors;
-use crate::extents::{Axis, stretch};
+use crate::extents::{Axis, stretch, thickness};
 use crate::glyphs::{push_along, push_behind, push_corner, push_upright};
 use crate::painting::{GlyphRun, push_glyphs};
 use grid_config::SpannedConfig;
@@ -21,6 +21,7 @@ use grid_records_traits::PeekableRecords;
 use std::alloc::{AllocError, Global};
 
 /// A table to be printed: its records, its settings, the colours of its cells, and its sizes.
+#[derive(Drop)]
 pub(crate) struct Table<'a, R: PeekableRecords, C: Colors> {
     pub(crate) records: &'a R,
     pub(crate) cfg: &'a SpannedConfig,
@@ -239,6 +240,7 @@ impl<'a, R: PeekableRecords, C: Colors> Table<'a, R, C> {
         requires columns { boundary_at (grid_of (sheet_of self.now.cfg.now (R.rows self.now.records.now) (C.color self.now.colors.now) self.now.widths.now self.now.heights.now)).frame.columns (length self.now.widths.now) < 2 ^ 64 }
         requires top { y ≡ track_at (row_tracks (sheet_of self.now.cfg.now (R.rows self.now.records.now) (C.color self.now.colors.now) self.now.widths.now self.now.heights.now)) i }
         ensures is_open { OnOk result (IsOpen (sheet_of self.now.cfg.now (R.rows self.now.records.now) (C.color self.now.colors.now) self.now.widths.now self.now.heights.now) i cells.new) }
+        ensures goes_on { OnOk result (GoesOn (sheet_of self.now.cfg.now (R.rows self.now.records.now) (C.color self.now.colors.now) self.now.widths.now self.now.heights.now) (i + 1) cells.new) }
         ensures wide { length cells.new ≡ length cells.old }
     {
         for j in 0..self.widths.len() {
@@ -270,6 +272,68 @@ impl<'a, R: PeekableRecords, C: Colors> Table<'a, R, C> {
         }
         Ok(())
     }
+
+    // How many columns each line takes, margins too.
+    fn total_width(&self) -> usize
+        requires some { 0 < length self.now.widths.now }
+        requires range { total_width (grid_of (sheet_of self.now.cfg.now (R.rows self.now.records.now) (C.color self.now.colors.now) self.now.widths.now self.now.heights.now)).frame < 2 ^ 64 }
+        ensures { result ≡ total_width (grid_of (sheet_of self.now.cfg.now (R.rows self.now.records.now) (C.color self.now.colors.now) self.now.widths.now self.now.heights.now)).frame }
+    {
+        let margin = self.cfg.get_margin();
+        let columns = self.widths.len();
+        margin.left.size
+            + thickness(self.cfg, Axis::Columns, self.widths, 0)
+            + stretch(self.cfg, Axis::Columns, self.widths, 0, columns)
+            + thickness(self.cfg, Axis::Columns, self.widths, columns)
+            + margin.right.size
+    }
+
+    // Appends all lines between the margins. The answer is the line behind them.
+    fn push_rows(&self, alloc: Global, out: &mut String) -> Result<usize, AllocError>
+        requires good { AreGood self.now.cfg.now.spans (length self.now.heights.now) (length self.now.widths.now) }
+        requires lines { track_at (row_tracks (sheet_of self.now.cfg.now (R.rows self.now.records.now) (C.color self.now.colors.now) self.now.widths.now self.now.heights.now)) (length self.now.heights.now) < 2 ^ 64 }
+        requires columns { boundary_at (grid_of (sheet_of self.now.cfg.now (R.rows self.now.records.now) (C.color self.now.colors.now) self.now.widths.now self.now.heights.now)).frame.columns (length self.now.widths.now) < 2 ^ 64 }
+        requires above { string_bytes out.old ≡ lines_of (sheet_of self.now.cfg.now (R.rows self.now.records.now) (C.color self.now.colors.now) self.now.widths.now self.now.heights.now) (boundary_at (row_tracks (sheet_of self.now.cfg.now (R.rows self.now.records.now) (C.color self.now.colors.now) self.now.widths.now self.now.heights.now)) 0) }
+        ensures lines { OnOk result (string_bytes out.new ≡ lines_of (sheet_of self.now.cfg.now (R.rows self.now.records.now) (C.color self.now.colors.now) self.now.widths.now self.now.heights.now) (track_at (row_tracks (sheet_of self.now.cfg.now (R.rows self.now.records.now) (C.color self.now.colors.now) self.now.widths.now self.now.heights.now)) (length self.now.heights.now))) }
+        ensures end { IfOk result (λ end. end ≡ track_at (row_tracks (sheet_of self.now.cfg.now (R.rows self.now.records.now) (C.color self.now.colors.now) self.now.widths.now self.now.heights.now)) (length self.now.heights.now)) }
+    {
+        let mut runs = Vec::new(alloc);
+        let mut cells = closed_cells(alloc, self.widths.len())?;
+        let mut y = self.cfg.get_margin().top.size;
+        for i in 0..self.heights.len() {
+            y = self.push_boundary(out, &mut runs, &cells, i, y)?;
+            self.open_row(alloc, &mut cells, i, y)?;
+            y = self.push_row(out, &cells, i, y)?;
+        }
+        self.push_boundary(out, &mut runs, &cells, self.heights.len(), y)
+    }
+
+    // Appends all lines of a table with rows and columns to an empty text.
+    pub(crate) fn push_lines(&self, alloc: Global, out: &mut String) -> Result<(), AllocError>
+        requires printable { IsPrintable (sheet_of self.now.cfg.now (R.rows self.now.records.now) (C.color self.now.colors.now) self.now.widths.now self.now.heights.now) }
+        requires rows { 0 < length self.now.heights.now }
+        requires columns { 0 < length self.now.widths.now }
+        requires empty { string_bytes out.old ≡ [] }
+        ensures { OnOk result (string_bytes out.new ≡ lines_of (sheet_of self.now.cfg.now (R.rows self.now.records.now) (C.color self.now.colors.now) self.now.widths.now self.now.heights.now) (line_count (grid_of (sheet_of self.now.cfg.now (R.rows self.now.records.now) (C.color self.now.colors.now) self.now.widths.now self.now.heights.now)).frame)) }
+    {
+        let margin = self.cfg.get_margin();
+        let colors = self.cfg.get_margin_color();
+        let width = self.total_width();
+        self.push_margin(out, 0, margin.top, &colors.top, width)?;
+        let y = self.push_rows(alloc, out)?;
+        self.push_margin(out, y, margin.bottom, &colors.bottom, width)
+    }
+}
+
+// So many places, at which no cell is open.
+fn closed_cells<'a>(alloc: Global, count: usize) -> Result<Vec<Option<OpenCell<'a>>>, AllocError>
+    ensures { IfOk result (λ cells. length cells.items ≡ count) }
+{
+    let mut cells = Vec::new(alloc);
+    for _ in 0..count {
+        cells.push(None)?;
+    }
+    Ok(cells)
 }
 
 // Appends a line feed, but not before the first line.

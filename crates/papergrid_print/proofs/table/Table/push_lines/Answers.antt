@@ -1,0 +1,16 @@
+use Rattle.std.proofs.Common.{◌≡◌, ◌≤◌, length, ap, sym, ◌∙◌, arith}
+use Rattle.papergrid_picture.specs.Frame.{track_at}
+use Rattle.papergrid_print.specs.Painting.{colored, fill_bytes}
+use Rattle.papergrid_print.specs.Sheets.{row_tracks, sheet_of}
+use Rattle.papergrid_print.proofs.TableLemmas.{below-shows, top-within}
+use Rattle.papergrid_print.proofs.table.Table.push_lines.Goals as goal
+
+pub push_margin-requires-2-clause-shown : goal.push_margin-requires-2-clause-shown
+push_margin-requires-2-clause-shown g c = λ k from below.
+    let sheet = (sheet_of c.args.self.now.cfg.now (g.R.RecordTexts.rows c.args.self.now.records.now) (g.C.Colors.color c.args.self.now.colors.now) c.args.self.now.widths.now c.args.self.now.heights.now) in
+    let cfg = c.args.self.now.cfg.now in
+    let past : track_at (row_tracks sheet) (length c.args.self.now.heights.now) ≤ k = omega (arith, from, c.in_ok-y.ensures.end) in
+    below-shows sheet k (top-within sheet) past
+    ∙ ap (λ w. colored cfg.margin_color.bottom (fill_bytes cfg.margin.bottom.fill w)) (sym c.total_width-width.ensures)
+    ∙ ap (λ m. colored cfg.margin_color.bottom (fill_bytes m.bottom.fill c.total_width-width.result)) (sym c.get_margin-margin.ensures)
+    ∙ ap (λ colors. colored colors.bottom (fill_bytes c.get_margin-margin.result.now.bottom.fill c.total_width-width.result)) (sym c.get_margin_color-colors.ensures)

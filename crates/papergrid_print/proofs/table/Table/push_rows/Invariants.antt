@@ -1,0 +1,14 @@
+use Rattle.std.proofs.Common.{◌≡◌, length, string_bytes}
+use Rattle.papergrid_picture.specs.Frame.{boundary_at}
+use Rattle.papergrid_print.specs.Sheets.{GoesOn, lines_of, row_tracks, sheet_of}
+use Rattle.papergrid_print.proofs.table.Table.push_rows.Given as goal
+
+abbrev pub invariant-loop-i : goal.invariant-loop-i
+invariant-loop-i g l =
+    let sheet = sheet_of l.self.cfg.now (g.R.RecordTexts.rows l.self.records.now) (g.C.Colors.color l.self.colors.now) l.self.widths.now l.self.heights.now in
+    record {
+      line : l.y ≡ boundary_at (row_tracks sheet) l.i;
+      lines : string_bytes l.out ≡ lines_of sheet (boundary_at (row_tracks sheet) l.i);
+      wide : length l.cells.items ≡ length l.self.widths.now;
+      goes_on : GoesOn sheet l.i l.cells.items;
+    }
