@@ -1,0 +1,1 @@
+-- Why grids print their text.

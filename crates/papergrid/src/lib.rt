@@ -1,0 +1,13 @@
+//! Grids: records of texts printed under their settings, sizes and colours.
+#![tactic(auto)]
+
+mod iter;
+mod peekable;
+mod printing;
+mod read;
+mod sizes;
+
+pub use iter::IterGrid;
+pub use papergrid_fits::fits;
+pub use papergrid_print::{Colors, NoColors};
+pub use peekable::PeekableGrid;

@@ -1,0 +1,88 @@
+//! A grid whose cells are looked up.
+use crate::sizes::{heights, widths};
+use grid_config::{Fault, SpannedConfig};
+use grid_records_traits::{Dimension, ExactRecords, PeekableRecords};
+use papergrid_print::{Colors, print_table};
+use std::alloc::{AllocError, Global};
+use std::marker::Model;
+
+/// A grid whose cells are looked up: records, settings, sizes and the colours of cells' texts.
+#[derive(Debug, Drop)]
+pub struct PeekableGrid<R, G, D, C> {
+    records: R,
+    config: G,
+    dimension: D,
+    colors: C,
+}
+
+impl<R, G, D, C> Model for PeekableGrid<R, G, D, C> {
+    ghost use Rattle.papergrid.specs.Grids.{Parts};
+
+    ghost Value = { Parts R G D C };
+
+    ghost view = { λ grid. record {
+      records = grid.records;
+      settings = grid.config;
+      sizes = grid.dimension;
+      colors = grid.colors;
+    } };
+}
+
+impl<R, G, D, C> PeekableGrid<R, G, D, C> {
+    ghost use Rattle.std.specs.Prelude.{◌≡◌};
+
+    /// The grid of these four. Takes no memory.
+    pub fn new(records: R, cfg: G, dims: D, colors: C) -> PeekableGrid<R, G, D, C>
+        ensures { result ≡ record { records = records; settings = cfg; sizes = dims; colors = colors } }
+    {
+        PeekableGrid {
+            records,
+            config: cfg,
+            dimension: dims,
+            colors,
+        }
+    }
+}
+
+impl<'a, R: ExactRecords + PeekableRecords, D: Dimension, C: Colors> PeekableGrid<R, &'a SpannedConfig, D, C> {
+    ghost use Rattle.std.specs.Prelude.{◌≡◌, ◌++◌, IfErr, IfOk, OnErr, OnOk, length, string_bytes};
+    ghost use Rattle.grid_config_values.specs.declared.fault.Fault.TheVariants.{Memory};
+    ghost use Rattle.grid_config.specs.Looks.{look_of};
+    ghost use Rattle.papergrid_fits.specs.Tables.{Fits};
+    ghost use Rattle.papergrid.specs.Grids.{grid_text};
+
+    /// Appends the text of the grid, on condition that `fits` answers that the table fits its sizes: its
+    /// lines, a line feed between each two. Refused for memory alone, and then the text is as it was.
+    pub fn build(&self, alloc: Global, out: &mut String) -> Result<(), Fault>
+        requires { Fits self.now.settings.now (D.width self.now.sizes) (D.height self.now.sizes) (R.columns self.now.records) (R.rows self.now.records) }
+        ensures text { OnOk result (string_bytes out.new ≡ string_bytes out.old
+            ++ grid_text (look_of self.now.settings.now) (D.width self.now.sizes) (D.height self.now.sizes) (C.color self.now.colors) (R.columns self.now.records) (R.rows self.now.records)) }
+        ensures refused { OnErr result (string_bytes out.new ≡ string_bytes out.old) }
+        ensures fault { IfErr result (λ fault. fault ≡ Memory) }
+    {
+        let widths = widths(alloc, &self.dimension, self.records.count_columns())?;
+        let heights = heights(alloc, &self.dimension, self.records.count_rows())?;
+        print_table(
+            alloc,
+            &self.records,
+            self.config,
+            &self.colors,
+            &widths,
+            &heights,
+            out,
+        )?;
+        Ok(())
+    }
+
+    /// The text that `build` appends to an empty one, on its condition. Refused for memory alone.
+    pub fn to_string(&self, alloc: Global) -> Result<String, Fault>
+        requires { Fits self.now.settings.now (D.width self.now.sizes) (D.height self.now.sizes) (R.columns self.now.records) (R.rows self.now.records) }
+        ensures text { IfOk result (λ text. string_bytes text
+            ≡ grid_text (look_of self.now.settings.now) (D.width self.now.sizes) (D.height self.now.sizes) (C.color self.now.colors) (R.columns self.now.records) (R.rows self.now.records)) }
+        ensures fault { IfErr result (λ fault. fault ≡ Memory) }
+    {
+        let mut text = String::new(alloc);
+        self.build(alloc, &mut text)?;
+        Ok(text)
+    }
+}

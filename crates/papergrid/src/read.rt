@@ -1,0 +1,64 @@
+//! The rows of records that are read once, kept to be looked up.
+ghost use Rattle.std.specs.Prelude.{◌≡◌, Bool, IfOk, List, ℕ, false, map};
+ghost use Rattle.std.specs.Iterator.{IsFinite};
+ghost use Rattle.grid_records_traits.specs.Giving.{GivesTexts};
+ghost use Rattle.grid_records_traits.specs.Rows.{fitted};
+ghost use Rattle.grid_records_traits.specs.Sources.{texts_of_rows};
+
+use grid_config::Position;
+use grid_records_traits::{Cell, IntoRecords, PeekableRecords, RecordTexts, Records};
+use std::alloc::{AllocError, Global};
+
+/// Rows of cells that were read.
+#[derive(Drop)]
+pub(crate) struct ReadRows<T> {
+    pub(crate) rows: Vec<Vec<T>>,
+}
+
+/// Reads all rows, each of as many cells as there are columns. Refused for memory alone.
+pub(crate) fn read<R: Records>(
+    alloc: Global,
+    records: R,
+) -> Result<ReadRows<<R::Iter as IntoRecords>::Cell>, AllocError>
+    ensures { IfOk result (λ table. texts_of_rows R.Iter.Cell.text table.rows.items ≡ fitted (R.columns records) (R.rows records)) }
+{
+    let mut rows = Vec::new(alloc);
+    for cells in records.iter_rows() {
+        rows.push(read_row(alloc, cells)?)?;
+    }
+    Ok(ReadRows { rows })
+}
+
+// The cells of a row, one by one.
+fn read_row<C: Cell, I: Iterator<Item = Result<C, AllocError>>>(
+    alloc: Global,
+    cells: I,
+) -> Result<Vec<C>, AllocError>
+    requires can { I.can_next cells }
+    requires ends { IsFinite (I.remaining cells) }
+    ensures { IfOk result (λ row. (texts : List (List ℕ)) (may_refuse : Bool) → GivesTexts I.can_next I.remaining I.next_gives C.text may_refuse cells texts → map C.text row.items ≡ texts) }
+{
+    let mut row = Vec::new(alloc);
+    for cell in cells {
+        row.push(cell?)?;
+    }
+    Ok(row)
+}
+
+impl<T: Cell> RecordTexts for ReadRows<T> {
+    ghost rows = { λ table. texts_of_rows T.text table.rows.items };
+
+    ghost may_refuse = { λ _. false };
+}
+
+impl<T: Cell> PeekableRecords for ReadRows<T> {
+    fn get_text(&self, pos: Position) -> &str {
+        let Some(row) = self.rows.get(pos.row) else {
+            return "";
+        };
+        match row.get(pos.col) {
+            Some(cell) => cell.text(),
+            None => "",
+        }
+    }
+}
