@@ -44,7 +44,12 @@ impl<R, G, D, C> PeekableGrid<R, G, D, C> {
     }
 }
 
-impl<'a, R: ExactRecords + PeekableRecords, D: Dimension, C: Colors> PeekableGrid<R, &'a SpannedConfig, D, C> {
+impl<'a, R: ExactRecords + PeekableRecords, D: Dimension, C: Colors> PeekableGrid<
+    R,
+    &'a SpannedConfig,
+    D,
+    C,
+> {
     ghost use Rattle.std.specs.Prelude.{◌≡◌, ◌++◌, IfErr, IfOk, OnErr, OnOk, length, string_bytes};
     ghost use Rattle.grid_config_values.specs.declared.fault.Fault.TheVariants.{Memory};
     ghost use Rattle.grid_config.specs.Looks.{look_of};

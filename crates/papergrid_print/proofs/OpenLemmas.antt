@@ -58,14 +58,14 @@ module _ (sheet : Sheet) where
   opens i j initial cells after cell p q old positive below place owns own shows is =
       let seen_here : seen (grid_of sheet) i j ≡ at i j = ap (owner (extent_at sheet.settings.spans)) (sym place) ∙ (sym owns ∙ (same_position q p own ∙ place)) in
       let step : IsOpening i (j + 1) initial (set cells j (Some cell)) = record {
-          wide = length-set cells j (Some cell) ∙ old.wide;
-          before = opened i j cells cell below old.before seen_here (subst (λ (at_place : Position). ShowsCell sheet at_place cell) place shows);
-          behind = λ k past.
-              let other : k ≡ j → ⊥ = λ same. absurd (omega (arith, past, same)) in
-              let later : j ≤ k = omega (arith, past) in
-              get_or-set_other cells j k (Some cell) None other ∙ old.behind k later;
-          positive = λ _. positive;
-        } in
+        wide = length-set cells j (Some cell) ∙ old.wide;
+        before = opened i j cells cell below old.before seen_here (subst (λ (at_place : Position). ShowsCell sheet at_place cell) place shows);
+        behind = λ k past.
+            let other : k ≡ j → ⊥ = λ same. absurd (omega (arith, past, same)) in
+            let later : j ≤ k = omega (arith, past) in
+            get_or-set_other cells j k (Some cell) None other ∙ old.behind k later;
+        positive = λ _. positive;
+      } in
       subst (IsOpening i (j + 1) initial) (sym is) step
 
   pub stays : (i j : ℕ) (initial cells after : List (Option OpenCell)) (p q : Position) → IsOpening i j initial cells → ArePositive sheet.settings.spans → GoesOn sheet i initial
@@ -74,12 +74,12 @@ module _ (sheet : Sheet) where
       let all : j ≤ j = omega arith in
       let seen_here : seen (grid_of sheet) i j ≡ q = ap (owner (extent_at sheet.settings.spans)) (sym place) ∙ sym owns in
       let step : IsOpening i (j + 1) initial cells = record {
-          wide = old.wide;
-          before = unopened i j cells initial positive old.before (old.behind j all) goes_on
-              (λ row col. absurd (true≢false (sym (same_parts q (ap (λ (s : Position). s.row) (sym seen_here) ∙ row) (ap (λ (s : Position). s.col) (sym seen_here) ∙ col)) ∙ (ap (same_place q) (sym place) ∙ off))));
-          behind = λ k past. let later : j ≤ k = omega (arith, past) in old.behind k later;
-          positive = λ _. positive;
-        } in
+        wide = old.wide;
+        before = unopened i j cells initial positive old.before (old.behind j all) goes_on
+            (λ row col. absurd (true≢false (sym (same_parts q (ap (λ (s : Position). s.row) (sym seen_here) ∙ row) (ap (λ (s : Position). s.col) (sym seen_here) ∙ col)) ∙ (ap (same_place q) (sym place) ∙ off))));
+        behind = λ k past. let later : j ≤ k = omega (arith, past) in old.behind k later;
+        positive = λ _. positive;
+      } in
       subst (IsOpening i (j + 1) initial) (sym is) step
     where
       same_parts : (a : Position) → a.row ≡ i → a.col ≡ j → same_place a (at i j) ≡ true

@@ -3,9 +3,11 @@ ghost use Rattle.std.specs.Prelude.{slice_index};
 
 use grid_config::{Borders, Entity, Fault, Indent, Position, Sides, SpannedConfig};
 use grid_records_rows::{Dimension, VecRecords, are_equally_long};
-use papergrid_fits::fits;
+use papergrid::fits;
 use std::alloc::{AllocError, Global};
 use std::process::Abort;
+
+mod grids;
 
 // Sizes by their numbers.
 #[derive(Drop)]

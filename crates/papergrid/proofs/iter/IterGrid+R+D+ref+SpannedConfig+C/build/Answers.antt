@@ -16,12 +16,12 @@ returns-clause-fault g c =
     let height : ℕ → ℕ = g.D.Dimension.height c.self.inside.dimension in
     let all = fitted (g.R.RecordColumns.columns c.self.inside.records) (g.R.RecordTexts.rows c.self.inside.records) in
     let Told : ℕ → ℕ → List (List (List ℕ)) → Type 0 = λ columns n rows.
-        IfErr c.print_fitting.result (λ fault. (fault ≡ Memory) ⊎ FitsAnswer (sized cfg width height columns n) rows (AreGood cfg.spans n columns) (Err fault)) in
+    IfErr c.print_fitting.result (λ fault. (fault ≡ Memory) ⊎ FitsAnswer (sized cfg width height columns n) rows (AreGood cfg.spans n columns) (Err fault)) in
     let read : texts_of_rows g.R.Iter.Cell.Cell.text c.in_ok-table.table.rows.items ≡ all = c.in_ok-table.ensures in
     let count : c.len.result ≡ length all = c.len.ensures ∙ c.in_ok-table.table.rows.ok.0 ∙ sym (length-map c.in_ok-table.table.rows.items (λ row. map g.R.Iter.Cell.Cell.text (vec_items row))) ∙ ap length read in
     let of_rows : Told c.count_columns-columns.result c.len.result all = subst (Told c.count_columns-columns.result c.len.result) read c.print_fitting.ensures.fault in
     let of_count : Told c.count_columns-columns.result (length all) all = subst (λ n. Told c.count_columns-columns.result n all) count of_rows in
     let of_columns : Told (g.R.RecordColumns.columns c.self.inside.records) (length all) all = subst (λ n. Told n (length all) all) c.count_columns-columns.ensures of_count in
     subst (λ grid. IfErr c.print_fitting.result (λ fault. (fault ≡ Memory)
-        ⊎ IsFitsAnswer grid.settings.now (g.D.Dimension.width grid.sizes) (g.D.Dimension.height grid.sizes) (g.R.RecordColumns.columns grid.records) (fitted (g.R.RecordColumns.columns grid.records) (g.R.RecordTexts.rows grid.records)) (Err fault)))
+    ⊎ IsFitsAnswer grid.settings.now (g.D.Dimension.width grid.sizes) (g.D.Dimension.height grid.sizes) (g.R.RecordColumns.columns grid.records) (fitted (g.R.RecordColumns.columns grid.records) (g.R.RecordTexts.rows grid.records)) (Err fault)))
     c.self.view_is of_columns
