@@ -28,7 +28,7 @@ pub enum Kind {
 
 /// One item of a text: what it is, and the bytes of the text at which it begins (included) and
 /// ends (excluded).
-#[derive(Debug, Clone, Copy, PartialEq, Eq)]
+#[derive(Clone, Copy, Debug, PartialEq, Eq)]
 pub struct Item {
     /// What the item is.
     pub kind: Kind,

@@ -1,6 +1,8 @@
 //! Laws of the definitions that the other contracts cite.
 
-ghost use Rattle.std.specs.Prelude.{◌≡◌, ◌↔◌, ℕ, List, map, ◌++◌, IsSome};
+ghost use Rattle.std.specs.Prelude.{◌≡◌, ◌↔◌, ℕ, List, map, ◌++◌, IsSome, true};
+ghost use Rattle.ansi_scan.specs.declared.items.Item.{Item as OneItem};
+ghost use Rattle.ansi_scan.specs.declared.items.Kind.{Kind as OneKind};
 ghost use Rattle.ansi_scan.specs.Sequences.{Piece, ArePiecesOf, IsWhole, IsFirstBroken, IsSgr, NoneBroken};
 ghost use Rattle.ansi_scan.specs.Pieces.{pieces};
 ghost use Rattle.ansi_scan.specs.Places.{placed, piece_at};
@@ -8,10 +10,12 @@ ghost use Rattle.ansi_scan.specs.Joining.{put_all_before};
 ghost use Rattle.ansi_scan_style.specs.Attributes.{Attributes};
 ghost use Rattle.ansi_scan_style.specs.Rendition.{applied, sgr_parameters};
 
+use crate::items::{Item, Kind};
 pub use ansi_scan_style::laws::{
-    bytes_are_few, bytes_are_sequences, end_clears_its_style, equal_styles_set_the_same,
-    no_color_is_purple, parameters_are_numbers, parameters_in_order, plain_writes_nothing,
-    reset_clears_all, sequence_form, sequences_give_renditions, start_reads_as_its_style,
+    bytes_are_few, bytes_are_sequences, clones_set_the_same, end_clears_its_style,
+    equal_colors_are_the_same, equal_styles_set_the_same, no_color_is_purple,
+    parameters_are_numbers, parameters_in_order, plain_writes_nothing, reset_clears_all,
+    sequence_form, sequences_give_renditions, start_reads_as_its_style,
 };
 
 /// Every list of bytes has one list of pieces, and a function gives it.
@@ -48,4 +52,16 @@ pub fn whole_texts_join()
 pub fn renditions_apply()
     ensures same { (bytes : List ℕ) → IsSgr bytes ↔ IsSome (sgr_parameters bytes) }
     ensures other { (a : Attributes) (bytes : List ℕ) → ¬ IsSgr bytes → applied a bytes ≡ a }
+{}
+
+/// `==` of kinds and of items is equality, all of their parts compared.
+pub fn equal_items_are_the_same()
+    ensures kinds { (a b : OneKind) → (⟦<Kind as PartialEq>⟧.eq a b ≡ true) ↔ (a ≡ b) }
+    ensures items { (a b : OneItem) → (⟦<Item as PartialEq>⟧.eq a b ≡ true) ↔ (a ≡ b) }
+{}
+
+/// A clone of a kind or of an item is the same.
+pub fn clones_of_items_are_the_same()
+    ensures kinds { (source clone : OneKind) → ⟦<Kind as Clone>⟧.is_clone source clone → clone ≡ source }
+    ensures items { (source clone : OneItem) → ⟦<Item as Clone>⟧.is_clone source clone → clone ≡ source }
 {}

@@ -1,10 +1,11 @@
 //! Laws of the definitions that the other contracts cite.
 
-ghost use Rattle.std.specs.Prelude.{◌≡◌, ◌≢◌, ◌<◌, ◌≤◌, ◌↔◌, ℕ, All, IsSome, IsTrue, codes, false, List, Option, None, Some, [], ◌∷◌, ◌++◌, fold, length};
+ghost use Rattle.std.specs.Prelude.{◌≡◌, ◌≢◌, ◌<◌, ◌≤◌, ◌↔◌, ℕ, All, IsSome, IsTrue, codes, false, true, List, Option, None, Some, [], ◌∷◌, ◌++◌, fold, length};
 ghost use Rattle.std.specs.Fmt.{decimal};
 ghost use Rattle.std.specs.List.{concat, list_all};
 ghost use Rattle.std.specs.declared.cmp.Ordering.TheVariants.{Equal};
-ghost use Rattle.ansi_scan_style.specs.declared.color.AnsiColor.{AnsiColor};
+ghost use Rattle.ansi_scan_style.specs.declared.color.AnsiColor.{AnsiColor as OneAnsiColor};
+ghost use Rattle.ansi_scan_style.specs.declared.color.Color.{Color as OneColor};
 ghost use Rattle.ansi_scan_style.specs.declared.color.Color.TheVariants.{BrightPurple, Purple};
 ghost use Rattle.ansi_scan_style.specs.declared.next.Layer.{Layer};
 ghost use Rattle.ansi_scan_style.specs.Attributes.{Attributes, IsRendition, after_code, plain_attributes};
@@ -15,6 +16,8 @@ ghost use Rattle.ansi_scan_style.specs.Equality.{compared, equal};
 ghost use Rattle.ansi_scan_style.specs.Sequences.{layer_code, start_sequences, start_bytes, end_sequences, end_bytes};
 
 use crate::RESET_ALL;
+use crate::color::{AnsiColor, Color};
+use crate::style::Style;
 
 /// A start reads as its style: from plain it gives it, and from the style itself it leaves it.
 pub fn start_reads_as_its_style()
@@ -91,6 +94,19 @@ pub fn equal_styles_set_the_same()
 
 /// No colour is read as purple.
 pub fn no_color_is_purple()
-    ensures dark { (color : AnsiColor) → color_of color ≢ Purple }
-    ensures bright { (color : AnsiColor) → color_of color ≢ BrightPurple }
+    ensures dark { (color : OneAnsiColor) → color_of color ≢ Purple }
+    ensures bright { (color : OneAnsiColor) → color_of color ≢ BrightPurple }
+{}
+
+/// `==` of colours is equality, all of their parts compared.
+pub fn equal_colors_are_the_same()
+    ensures colors { (a b : OneColor) → (⟦<Color as PartialEq>⟧.eq a b ≡ true) ↔ (a ≡ b) }
+    ensures ansi_colors { (a b : OneAnsiColor) → (⟦<AnsiColor as PartialEq>⟧.eq a b ≡ true) ↔ (a ≡ b) }
+{}
+
+/// A clone of a colour is that colour, and one of a style sets the same.
+pub fn clones_set_the_same()
+    ensures colors { (source clone : OneColor) → ⟦<Color as Clone>⟧.is_clone source clone → clone ≡ source }
+    ensures ansi_colors { (source clone : OneAnsiColor) → ⟦<AnsiColor as Clone>⟧.is_clone source clone → clone ≡ source }
+    ensures styles { (source clone : Attributes) → ⟦<Style as Clone>⟧.is_clone source clone → clone ≡ source }
 {}

@@ -13,4 +13,5 @@ pub mod Cuts
 pub mod Ranges
 pub mod Keeping
 pub mod Edits
+pub mod Equality
 pub mod WorkedCuts

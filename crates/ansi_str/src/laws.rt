@@ -1,6 +1,6 @@
 //! Laws of the definitions that the other contracts cite.
 
-ghost use Rattle.std.specs.Prelude.{◌≡◌, ◌≤◌, ◌-◌, ℕ, List, [], ◌∷◌, ◌++◌, chars, codes, length, slice_range, take, ◌↔◌, Bool, IsTrue, MatchOption, Option, is_some, None, Some, ◌⊎◌};
+ghost use Rattle.std.specs.Prelude.{◌≡◌, ◌≤◌, ◌-◌, ℕ, List, [], ◌∷◌, ◌++◌, chars, codes, length, slice_range, take, ◌↔◌, Bool, IsTrue, MatchOption, Option, is_some, None, Some, ◌⊎◌, true};
 ghost use Rattle.std.specs.Str.{IsCharBoundary, IsUtf8, trim};
 ghost use Rattle.ansi_scan.specs.Sequences.{Piece, ArePiecesOf, IsWhole, NoneBroken, joined};
 ghost use Rattle.ansi_scan.specs.Attributes.{plain_attributes};
@@ -12,16 +12,18 @@ ghost use Rattle.ansi_str.specs.Parts.{before_place, dressed, from_place, throug
 ghost use Rattle.ansi_str.specs.WorkedCuts.{black_word, half_red_text, red_text, red_word, spaced_text};
 ghost use Rattle.ansi_str.specs.Searches.{BeginsWith, EndsWith};
 ghost use Rattle.ansi_str.specs.Keeping.{IsTrimmed, kept, sequences_among, without_end, without_front};
-ghost use Rattle.ansi_str.specs.declared.edits.Edit.{Edit};
+ghost use Rattle.ansi_str.specs.declared.edits.Edit.{Edit as OneEdit};
 ghost use Rattle.ansi_str.specs.Edits.{OneFails, TakeInTurn};
+ghost use Rattle.ansi_str.specs.Equality.{AreSame};
 
+use crate::edits::Edit;
 pub use ansi_str_search::laws::{
     closed_lines_join, cut_at_places, nothing_to_strip, one_list_of_matches,
     parts_are_closed_texts, parts_are_slices, parts_are_stripped_slices, parts_in_order,
     parts_show_their_slices, split_as_std, split_at_one_byte, split_shows_its_slices,
     starts_and_ends_as_texts, stripped_once, worked_parts, worked_splits,
 };
-pub use ansi_str_text::laws::blocks_in_order;
+pub use ansi_str_text::laws::{blocks_in_order, clones_of_blocks_are_the_same};
 
 /// A prefix is taken away exactly where the text begins with it, and a suffix where it ends with it.
 pub fn taken_where_they_are()
@@ -147,13 +149,23 @@ pub fn cuts_show_their_slices()
 /// The edits of a list that stands behind another are done behind them; what edits leave of a text is one
 /// text, and where they leave one none of them fails. Of a whole text they leave a whole text.
 pub fn edits_in_turn()
-    ensures leave { (first second : List Edit) (text left : List ℕ) →
+    ensures leave { (first second : List OneEdit) (text left : List ℕ) →
         (TakeInTurn (first ++ second) text left ↔ ((next : List ℕ) × TakeInTurn first text next × TakeInTurn second next left)) }
-    ensures fail { (first second : List Edit) (text : List ℕ) →
+    ensures fail { (first second : List OneEdit) (text : List ℕ) →
         (OneFails (first ++ second) text ↔ (OneFails first text ⊎ ((next : List ℕ) × TakeInTurn first text next × OneFails second next))) }
-    ensures one { (edits : List Edit) (text left other : List ℕ) →
+    ensures one { (edits : List OneEdit) (text left other : List ℕ) →
         TakeInTurn edits text left → TakeInTurn edits text other → left ≡ other }
-    ensures not_both { (edits : List Edit) (text left : List ℕ) →
+    ensures not_both { (edits : List OneEdit) (text left : List ℕ) →
         TakeInTurn edits text left → ¬ (OneFails edits text) }
-    ensures whole { (edits : List Edit) (text left : List ℕ) → IsWhole text → TakeInTurn edits text left → IsWhole left }
+    ensures whole { (edits : List OneEdit) (text left : List ℕ) → IsWhole text → TakeInTurn edits text left → IsWhole left }
+{}
+
+/// `==` of edits is equality, all of their parts compared, texts by their bytes.
+pub fn equal_edits_are_the_same()
+    ensures { (a b : OneEdit) → (⟦<Edit<'static> as PartialEq>⟧.eq a b ≡ true) ↔ AreSame a b }
+{}
+
+/// A clone of an edit has the same parts.
+pub fn clones_of_edits_are_the_same()
+    ensures { (source clone : OneEdit) → ⟦<Edit<'static> as Clone>⟧.is_clone source clone → AreSame clone source }
 {}

@@ -1,5 +1,5 @@
 //! Text taken away at both ends of what a text shows. Every sequence is kept, and none is added.
-ghost use Rattle.std.specs.Prelude.{◌≡◌, ◌<◌, List, IfErr, IfOk, IfSome, IsOk, IsTrue, MatchOption, false, length, slice_range, string_bytes};
+ghost use Rattle.std.specs.Prelude.{◌≡◌, ◌<◌, ◌≤◌, List, IfErr, IfOk, IfSome, IsOk, IsTrue, MatchOption, false, length, slice_range, string_bytes};
 ghost use Rattle.std.specs.Cow.{IsOwnedStr, cow_str_bytes};
 ghost use Rattle.std.specs.Str.{IsCharBoundary};
 ghost use Rattle.ansi_scan.specs.Pieces.{pieces as pieces_of};
@@ -88,6 +88,7 @@ fn keep<'a>(
 ) -> Result<CowStr<'a>, AllocError>
     requires from { from < length (strip (pieces_of text.now)) → IsCharBoundary (strip (pieces_of text.now)) from }
     requires to { to < length (strip (pieces_of text.now)) → IsCharBoundary (strip (pieces_of text.now)) to }
+    requires size { size ≤ length text.now }
     ensures kept { IfOk result (λ left. cow_str_bytes left ≡ kept from to (pieces_of text.now)) }
     ensures answers { has_escape text.now ≡ false → IsOk result }
     ensures borrows { IfOk result (λ left. IsOwnedStr left → IsTrue (has_escape text.now)) }
@@ -108,6 +109,7 @@ fn kept_text(
 ) -> Result<String, AllocError>
     requires from { from < length (strip (pieces_of text.now)) → IsCharBoundary (strip (pieces_of text.now)) from }
     requires to { to < length (strip (pieces_of text.now)) → IsCharBoundary (strip (pieces_of text.now)) to }
+    requires size { size ≤ length text.now }
     ensures { IfOk result (λ out. string_bytes out ≡ kept from to (pieces_of text.now)) }
 {
     let mut out = String::with_capacity(alloc, size)?;

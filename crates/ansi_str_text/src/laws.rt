@@ -5,7 +5,9 @@ ghost use Rattle.ansi_scan.specs.Sequences.{Piece, ArePiecesOf, escape, string_t
 ghost use Rattle.ansi_scan.specs.Attributes.{plain_attributes};
 ghost use Rattle.ansi_str_text.specs.StyledText.{strip, styled};
 ghost use Rattle.ansi_str_text.specs.Cutting.{IsOpenString, EndsNoString, string_kind};
-ghost use Rattle.ansi_str_text.specs.Blocks.{blocks_from, text_of_block, styled_of_block};
+ghost use Rattle.ansi_str_text.specs.Blocks.{Block, blocks_from, text_of_block, styled_of_block};
+
+use crate::blocks::AnsiBlock;
 
 /// The blocks of a text, one behind the other, are the text without its sequences, and their
 /// characters are those that the text shows, in the same styles.
@@ -27,4 +29,9 @@ pub fn parted_at_an_escape()
         IsOpenString opener string → ArePiecesOf before ps → ArePiecesOf behind qs →
         ArePiecesOf (before ++ ((escape ∷ opener ∷ (string ++ string_terminator)) ++ behind))
         (ps ++ record { kind = string_kind opener; bytes = escape ∷ opener ∷ (string ++ string_terminator) } ∷ qs) }
+{}
+
+/// A clone of a block has its text and its style.
+pub fn clones_of_blocks_are_the_same()
+    ensures { (source clone : Block) → ⟦<AnsiBlock<'static> as Clone>⟧.is_clone source clone → clone ≡ source }
 {}

@@ -8,13 +8,18 @@ ghost use Rattle.grid_config.specs.Equality.{compared, equal};
 ghost use Rattle.grid_config.specs.Looks.{compact_look, look_of};
 ghost use Rattle.grid_config.specs.Settings.{Settings, StartsWith, compact_start};
 
-pub use grid_config_colors::laws::{equal_colors_have_the_same_texts, one_meaning};
+use crate::compact::CompactConfig;
+pub use grid_config_colors::laws::{
+    clones_of_colors_have_the_same_texts, equal_colors_have_the_same_texts, one_meaning,
+};
 pub use grid_config_spans::laws::{
-    good_spans_part_the_table, owners_part_the_table, visible_cells_own_themselves,
-    without_spans_all_is_visible,
+    equal_extents_are_the_same, good_spans_part_the_table, owners_part_the_table,
+    visible_cells_own_themselves, without_spans_all_is_visible,
 };
 pub use grid_config_values::laws::{
-    boundaries_by_name, equal_values_are_the_same, positions_go_by_rows, the_last_call_decides,
+    boundaries_by_name, clones_are_the_same, clones_of_parts_are_the_same,
+    equal_values_are_the_same, equality_compares_all_parts, positions_go_by_rows,
+    the_last_call_decides,
 };
 
 /// `==` of the settings of compact tables is equality of all seven values, and `cmp` finds the same ones equal.
@@ -27,4 +32,9 @@ pub fn equal_settings_are_the_same()
 pub fn compact_settings_look_the_same()
     ensures { (compact : Compact) (settings : Settings) → StartsWith (compact_start compact) settings →
         look_of settings ≡ compact_look compact }
+{}
+
+/// A clone of the settings of a compact table has all seven values.
+pub fn clones_of_settings_are_the_same()
+    ensures { (source clone : CompactSettings) → ⟦<CompactConfig as Clone>⟧.is_clone source clone → compact_of clone ≡ compact_of source }
 {}

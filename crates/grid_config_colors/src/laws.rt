@@ -11,6 +11,8 @@ ghost use Rattle.grid_config_colors.specs.Clearing.{ClearsEach, codes_of};
 ghost use Rattle.grid_config_colors.specs.Colors.{color_of};
 ghost use Rattle.grid_config_colors.specs.Equality.{compared, equal};
 
+use crate::borrowed::ANSIStr;
+
 /// The two wordings of a suffix that clears a style are one: read from plain and from the style it ends
 /// plain, or read from plain it ends plain and one of its codes clears each attribute that is set.
 pub fn one_meaning()
@@ -22,4 +24,9 @@ pub fn one_meaning()
 pub fn equal_colors_have_the_same_texts()
     ensures equality { (a b : Borrowed) → IsTrue (equal a b) ↔ (color_of a ≡ color_of b) }
     ensures order { (a b : Borrowed) → (compared a b ≡ Equal) ↔ (color_of a ≡ color_of b) }
+{}
+
+/// A clone of a borrowed colour has the same texts.
+pub fn clones_of_colors_have_the_same_texts()
+    ensures { (source clone : Borrowed) → ⟦<ANSIStr<'static> as Clone>⟧.is_clone source clone → color_of clone ≡ color_of source }
 {}

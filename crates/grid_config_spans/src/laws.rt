@@ -1,11 +1,13 @@
 //! Laws of the definitions that the other contracts cite.
-ghost use Rattle.std.specs.Prelude.{◌≡◌, ◌≢◌, ◌↔◌, ℕ, IsTrue, List, []};
+ghost use Rattle.std.specs.Prelude.{◌≡◌, ◌≢◌, ◌↔◌, ℕ, IsTrue, List, [], true};
 ghost use Rattle.grid_config_values.specs.declared.position.Position.{Position as Place};
 ghost use Rattle.grid_config_spans.specs.declared.extent.Extent.{Extent as Size};
 ghost use Rattle.grid_config_values.specs.Order.{same_place};
 ghost use Rattle.grid_config_spans.specs.Owners.{owner};
 ghost use Rattle.grid_config_spans.specs.Rectangles.{Holds};
 ghost use Rattle.grid_config_spans.specs.Spans.{AreGood, ArePositive, IsInTable, IsVisible, extent_at, single};
+
+use crate::extent::Extent;
 
 /// Where the spans of a table are good, two visible cells share no place of it, and a cell whose
 /// rectangle holds another place of it is visible.
@@ -47,4 +49,10 @@ pub fn visible_cells_own_themselves()
         IsTrue (same_place (owner (extent_at spans) place) place) ↔ IsVisible spans place }
     ensures without { (place : Place) → owner (extent_at []) place ≡ place }
     ensures single { (place : Place) → owner (λ _. single) place ≡ place }
+{}
+
+/// `==` of extents is equality of both counts, and a clone is the same extent.
+pub fn equal_extents_are_the_same()
+    ensures equality { (a b : Size) → (⟦<Extent as PartialEq>⟧.eq a b ≡ true) ↔ (a ≡ b) }
+    ensures clone { (source clone : Size) → ⟦<Extent as Clone>⟧.is_clone source clone → clone ≡ source }
 {}

@@ -2,6 +2,7 @@
 use Rattle.std.proofs.Common.{◌≡◌, Bool, true, ◌&&◌, ◌==◌, Option, None, Some, List, [], ◌∷◌, refl, ap, ◌∙◌}
 use Rattle.std.specs.Option.{option_eq, option_map}
 use Rattle.std.proofs.lemmas.Bool.{and_parts, eqb-true}
+use Rattle.grid_config_values.specs.declared.borders.Border.{Border}
 use Rattle.grid_config_values.specs.declared.borders.Borders.{Borders}
 use Rattle.grid_config_values.specs.declared.sides.Indent.{Indent}
 use Rattle.grid_config_values.specs.declared.sides.Sides.{Sides}
@@ -128,3 +129,24 @@ pub borders_passes : {T U : Type 0} (E : T → T → Bool) (show : Option T → 
 borders_passes {U = U} E show passes a b e =
     passes_all (option_eq E a.top b.top) (other_tests E a b)
     (passes a.top b.top (ap (λ (s : Borders U). s.top) e), (passes a.top_left b.top_left (ap (λ (s : Borders U). s.top_left) e), (passes a.top_right b.top_right (ap (λ (s : Borders U). s.top_right) e), (passes a.top_intersection b.top_intersection (ap (λ (s : Borders U). s.top_intersection) e), (passes a.bottom b.bottom (ap (λ (s : Borders U). s.bottom) e), (passes a.bottom_left b.bottom_left (ap (λ (s : Borders U). s.bottom_left) e), (passes a.bottom_right b.bottom_right (ap (λ (s : Borders U). s.bottom_right) e), (passes a.bottom_intersection b.bottom_intersection (ap (λ (s : Borders U). s.bottom_intersection) e), (passes a.horizontal b.horizontal (ap (λ (s : Borders U). s.horizontal) e), (passes a.left_intersection b.left_intersection (ap (λ (s : Borders U). s.left_intersection) e), (passes a.right_intersection b.right_intersection (ap (λ (s : Borders U). s.right_intersection) e), (passes a.intersection b.intersection (ap (λ (s : Borders U). s.intersection) e), (passes a.vertical b.vertical (ap (λ (s : Borders U). s.vertical) e), (passes a.left b.left (ap (λ (s : Borders U). s.left) e), passes a.right b.right (ap (λ (s : Borders U). s.right) e)))))))))))))))
+
+-- `==` of a border by that of its glyphs
+abbrev corner_tests : {T : Type 0} → (T → T → Bool) → Border T → Border T → List Bool
+corner_tests E a b = option_eq E a.bottom b.bottom ∷ option_eq E a.left b.left ∷ option_eq E a.right b.right ∷ option_eq E a.left_top_corner b.left_top_corner ∷ option_eq E a.left_bottom_corner b.left_bottom_corner ∷ option_eq E a.right_top_corner b.right_top_corner ∷ option_eq E a.right_bottom_corner b.right_bottom_corner ∷ []
+
+abbrev pub border_eq : {T : Type 0} → (T → T → Bool) → Border T → Border T → Bool
+border_eq E a b = all_pass (option_eq E a.top b.top) (corner_tests E a b)
+
+pub border_same : {T : Type 0} (E : T → T → Bool) → ((x y : Option T) → option_eq E x y ≡ true → x ≡ y) → (a b : Border T) → border_eq E a b ≡ true → a ≡ b
+border_same E same a b e =
+    let each = each_passes (option_eq E a.top b.top) (corner_tests E a b) e in
+    λ i. record {
+      top = same a.top b.top each.0 i;
+      bottom = same a.bottom b.bottom each.1.0 i;
+      left = same a.left b.left each.1.1.0 i;
+      right = same a.right b.right each.1.1.1.0 i;
+      left_top_corner = same a.left_top_corner b.left_top_corner each.1.1.1.1.0 i;
+      left_bottom_corner = same a.left_bottom_corner b.left_bottom_corner each.1.1.1.1.1.0 i;
+      right_top_corner = same a.right_top_corner b.right_top_corner each.1.1.1.1.1.1.0 i;
+      right_bottom_corner = same a.right_bottom_corner b.right_bottom_corner each.1.1.1.1.1.1.1 i;
+    }

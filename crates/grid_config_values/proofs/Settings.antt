@@ -4,7 +4,8 @@ use Rattle.std.specs.List.{All}
 use Rattle.grid_config_values.specs.declared.entity.Entity.{Entity}
 use Rattle.grid_config_values.specs.declared.position.Position.{Position}
 use Rattle.grid_config_values.specs.Entities.{covers}
-use Rattle.grid_config_values.specs.Settings.{value_after}
+use Rattle.grid_config_values.specs.declared.entity_map.EntityMap.{EntityMap}
+use Rattle.grid_config_values.specs.Settings.{AreSet, value_after, value_at}
 
 -- the last call decides where it covers the position
 pub value_after_append : {T : Type 0} (value : T) (calls : List (Entity × T)) (call : Entity × T) (p : Position) →
@@ -24,3 +25,9 @@ pub covered_last : {T : Type 0} (value : T) (earlier later : List (Entity × T))
     All (λ other. covers other.0 p ≡ false) later → value_after value (earlier ++ call ∷ later) p ≡ call.1
 covered_last value [] later call p here none = ap (λ b. value_after (if b then call.1 else value) later p) here ∙ covered_by_none call.1 later p none
 covered_last value (first ∷ earlier) later call p here none = covered_last (if covers first.0 p then first.1 else value) earlier later call p here none
+
+-- settings one after the other give the values that they leave
+pub are_set : {T : Type 0} (calls : List (Entity × T)) (old new : EntityMap T) (p : Position) → AreSet calls old new → value_at new p ≡ value_after (value_at old p) calls p
+are_set [] old new p set = set p
+are_set (call ∷ calls) old new p (next, sets, others) =
+    are_set calls next new p others ∙ ap (λ value. value_after value calls p) (sets p)

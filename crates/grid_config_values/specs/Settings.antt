@@ -21,3 +21,8 @@ SetsCovered old new entity value = (p : Position) → value_at new p ≡ (if cov
 -- new has at every position what old has
 abbrev pub IsUnchanged : {T : Type 0} → EntityMap T → EntityMap T → Type 0
 IsUnchanged old new = (p : Position) → value_at new p ≡ value_at old p
+
+-- new is what these settings of sets of cells make of old, one after the other
+abbrev pub AreSet : {T : Type 0} → List (Entity × T) → EntityMap T → EntityMap T → Type 0
+AreSet [] old new = IsUnchanged old new
+AreSet {T} (setting ∷ later) old new = (next : EntityMap T) × SetsCovered old next setting.0 setting.1 × AreSet later next new

@@ -1,27 +1,38 @@
 //! Laws of the definitions that the other contracts cite.
 ghost use Rattle.std.specs.Prelude.{◌≡◌, ◌<◌, ◌||◌, ◌⊎◌, ◌↔◌, All, IsTrue, List, ◌∷◌, ◌++◌, false, is_some, true};
 ghost use Rattle.std.specs.declared.cmp.Ordering.TheVariants.{Equal, Less};
+ghost use Rattle.grid_config_values.specs.declared.alignment.AlignmentHorizontal.{AlignmentHorizontal as Horizontal};
+ghost use Rattle.grid_config_values.specs.declared.alignment.AlignmentVertical.{AlignmentVertical as Vertical};
+ghost use Rattle.grid_config_values.specs.declared.borders.Border.{Border as OneBorder};
 ghost use Rattle.grid_config_values.specs.declared.borders.Borders.{Borders as BorderSet};
 ghost use Rattle.grid_config_values.specs.declared.entity.Entity.{Entity as CellSet};
+ghost use Rattle.grid_config_values.specs.declared.entity_map.EntityMap.{EntityMap as CellMap};
+ghost use Rattle.grid_config_values.specs.declared.fault.Fault.{Fault as OneFault};
+ghost use Rattle.grid_config_values.specs.declared.formatting.Formatting.{Formatting as TextFormatting};
 ghost use Rattle.grid_config_values.specs.declared.position.Position.{Position as Place};
 ghost use Rattle.grid_config_values.specs.declared.sides.Indent.{Indent as OneIndent};
 ghost use Rattle.grid_config_values.specs.declared.sides.Sides.{Sides as FourSides};
 ghost use Rattle.grid_config_values.specs.Entities.{covers};
 ghost use Rattle.grid_config_values.specs.Glyphs.{Between, First, Last, has_column_boundary, has_row_boundary};
 ghost use Rattle.grid_config_values.specs.Order.{position_cmp};
-ghost use Rattle.grid_config_values.specs.Settings.{value_after};
+ghost use Rattle.grid_config_values.specs.Settings.{AreSet, value_at};
 
-use crate::borders::Borders;
+use crate::alignment::{AlignmentHorizontal, AlignmentVertical};
+use crate::borders::{Border, Borders};
+use crate::entity::Entity;
+use crate::fault::Fault;
+use crate::formatting::Formatting;
+use crate::position::Position;
 use crate::sides::{Indent, Sides};
 
-/// The last call that covers a position decides, whatever stands before it; where none covers it the
-/// value is the one from the start.
+/// Of settings made one after the other, the last one that covers a position decides, whatever stands
+/// before it; where none covers it the value is the one from the start.
 pub fn the_last_call_decides<T>()
-    ensures last { (value : T) (earlier later : List (CellSet × T)) (call : CellSet × T) (p : Place) →
-        IsTrue (covers call.0 p) → All (λ other. covers other.0 p ≡ false) later →
-        value_after value (earlier ++ call ∷ later) p ≡ call.1 }
-    ensures none { (value : T) (calls : List (CellSet × T)) (p : Place) →
-        All (λ call. covers call.0 p ≡ false) calls → value_after value calls p ≡ value }
+    ensures last { (old new : CellMap T) (earlier later : List (CellSet × T)) (call : CellSet × T) (p : Place) →
+        AreSet (earlier ++ call ∷ later) old new → IsTrue (covers call.0 p) → All (λ other. covers other.0 p ≡ false) later →
+        value_at new p ≡ call.1 }
+    ensures none { (old new : CellMap T) (calls : List (CellSet × T)) (p : Place) →
+        AreSet calls old new → All (λ call. covers call.0 p ≡ false) calls → value_at new p ≡ value_at old p }
 {}
 
 /// Positions are compared by rows, and in a row by columns; those that compare equal are the same.
@@ -40,9 +51,38 @@ pub fn boundaries_by_name<T>()
     ensures bottom { (b : BorderSet T) → has_row_boundary b Last ≡ (is_some b.bottom || is_some b.bottom_left || is_some b.bottom_intersection || is_some b.bottom_right) }
 {}
 
+/// `==` of these values is equality, all of their parts compared.
+pub fn equality_compares_all_parts()
+    ensures positions { (a b : Place) → (⟦<Position as PartialEq>⟧.eq a b ≡ true) ↔ (a ≡ b) }
+    ensures entities { (a b : CellSet) → (⟦<Entity as PartialEq>⟧.eq a b ≡ true) ↔ (a ≡ b) }
+    ensures faults { (a b : OneFault) → (⟦<Fault as PartialEq>⟧.eq a b ≡ true) ↔ (a ≡ b) }
+    ensures horizontal { (a b : Horizontal) → (⟦<AlignmentHorizontal as PartialEq>⟧.eq a b ≡ true) ↔ (a ≡ b) }
+    ensures vertical { (a b : Vertical) → (⟦<AlignmentVertical as PartialEq>⟧.eq a b ≡ true) ↔ (a ≡ b) }
+    ensures formatting { (a b : TextFormatting) → (⟦<Formatting as PartialEq>⟧.eq a b ≡ true) ↔ (a ≡ b) }
+{}
+
 /// `==` of sides and borders is equality of all their parts, where it is that of the parts.
 pub fn equal_values_are_the_same<T: PartialEq>()
     ensures indents { (a b : OneIndent) → ⟦<Indent as PartialEq>⟧.eq a b ≡ true → a ≡ b }
     ensures sides { ((x y : T) → T.eq x y ≡ true → x ≡ y) → (a b : FourSides T) → ⟦<Sides<T> as PartialEq>⟧.eq a b ≡ true → a ≡ b }
+    ensures border { ((x y : T) → T.eq x y ≡ true → x ≡ y) → (a b : OneBorder T) → ⟦<Border<T> as PartialEq>⟧.eq a b ≡ true → a ≡ b }
     ensures borders { ((x y : T) → T.eq x y ≡ true → x ≡ y) → (a b : BorderSet T) → ⟦<Borders<T> as PartialEq>⟧.eq a b ≡ true → a ≡ b }
+{}
+
+/// A clone of one of these values is the value.
+pub fn clones_are_the_same()
+    ensures positions { (source clone : Place) → ⟦<Position as Clone>⟧.is_clone source clone → clone ≡ source }
+    ensures entities { (source clone : CellSet) → ⟦<Entity as Clone>⟧.is_clone source clone → clone ≡ source }
+    ensures faults { (source clone : OneFault) → ⟦<Fault as Clone>⟧.is_clone source clone → clone ≡ source }
+    ensures horizontal { (source clone : Horizontal) → ⟦<AlignmentHorizontal as Clone>⟧.is_clone source clone → clone ≡ source }
+    ensures vertical { (source clone : Vertical) → ⟦<AlignmentVertical as Clone>⟧.is_clone source clone → clone ≡ source }
+    ensures formatting { (source clone : TextFormatting) → ⟦<Formatting as Clone>⟧.is_clone source clone → clone ≡ source }
+    ensures indents { (source clone : OneIndent) → ⟦<Indent as Clone>⟧.is_clone source clone → clone ≡ source }
+{}
+
+/// A clone of sides or of borders is the value, where one of a part is the part.
+pub fn clones_of_parts_are_the_same<T: Copy>()
+    ensures sides { ((x y : T) → T.Clone.is_clone x y → y ≡ x) → (source clone : FourSides T) → ⟦<Sides<T> as Clone>⟧.is_clone source clone → clone ≡ source }
+    ensures border { (source clone : OneBorder T) → ⟦<Border<T> as Clone>⟧.is_clone source clone → clone ≡ source }
+    ensures borders { (source clone : BorderSet T) → ⟦<Borders<T> as Clone>⟧.is_clone source clone → clone ≡ source }
 {}

@@ -353,3 +353,58 @@ fn a_refused_estimate_keeps_the_sizes(rt: HostRuntime) -> Result<(), Fault> {
     end(cfg);
     outcome
 }
+
+// As many lines above as there can be.
+const TALL: Sides<Indent> = Sides {
+    left: Indent { size: 0, fill: ' ' },
+    right: Indent { size: 0, fill: ' ' },
+    top: Indent {
+        size: usize::MAX,
+        fill: ' ',
+    },
+    bottom: Indent { size: 0, fill: ' ' },
+};
+
+// Half of all columns at the left, so that one column fits and two do not.
+const HALF: Sides<Indent> = Sides {
+    left: Indent {
+        size: usize::MAX / 2 + 1,
+        fill: ' ',
+    },
+    right: Indent { size: 0, fill: ' ' },
+    top: Indent { size: 0, fill: ' ' },
+    bottom: Indent { size: 0, fill: ' ' },
+};
+
+// Two columns that fit apart, and pass `usize::MAX` together.
+fn refuse_sum(rt: &impl Abort, alloc: Global) -> Result<(), Fault> {
+    let records = table(rt, alloc, 2, &["a", "b"])?;
+    let half = CompactConfig::new().set_padding(HALF);
+    let each = usize::MAX / 2 + 2;
+    let widths = CompactGridDimension::width(alloc, &records, &half);
+    expect_sizes(rt, widths, &[each, each], "widths");
+    let total = CompactGridDimension::width_total(alloc, &records, &half);
+    expect_total(rt, total, Err(Fault::Range));
+    Ok(())
+}
+
+fn refuse_heights(rt: &impl Abort, alloc: Global, cfg: &mut SpannedConfig) -> Result<(), Fault> {
+    let records = table(rt, alloc, 1, &["a"])?;
+    cfg.set_padding(Entity::Global, TALL)?;
+    let heights = IterGridDimension::height(alloc, &records, cfg);
+    assert!(rt; matches!(heights, Err(Fault::Range)));
+    let total = IterGridDimension::height_total(alloc, &records, cfg);
+    expect_total(rt, total, Err(Fault::Range));
+    let both = IterGridDimension::dimension(alloc, &records, cfg);
+    assert!(rt; matches!(both, Err(Fault::Range)));
+    Ok(())
+}
+
+#[test]
+fn a_size_past_the_range_is_no_want_of_memory(rt: HostRuntime) -> Result<(), Fault> {
+    refuse_sum(&rt, rt.alloc())?;
+    let mut cfg = SpannedConfig::new(rt.alloc());
+    let outcome = refuse_heights(&rt, rt.alloc(), &mut cfg);
+    end(cfg);
+    outcome
+}
