@@ -237,6 +237,19 @@ fn everything_in_ascending_order(rt: HostRuntime) -> Result<(), Fail> {
     Ok(())
 }
 
+// No clause of std says what a hole with options writes that is not a number or a text.
+#[test]
+fn options_of_a_hole_change_nothing(rt: HostRuntime) -> Result<(), Fail> {
+    let alloc = rt.alloc();
+    let style = style_after(&["\x1b[1;31m"]);
+    let (start, end) = (style.start(), style.end());
+    let wide = format!(in alloc; "{start:20}{end:>30}")?;
+    expect_text(&rt, wide.as_str(), "\x1b[1m\x1b[31m\x1b[22m\x1b[39m", "wide");
+    let other = format!(in alloc; "{start:#}{end:#}")?;
+    expect_text(&rt, other.as_str(), "\x1b[1m\x1b[31m\x1b[22m\x1b[39m", "other");
+    Ok(())
+}
+
 // ---- colours
 
 fn expect_color(rt: &impl Abort, code: AnsiColor, wanted: Color) {
