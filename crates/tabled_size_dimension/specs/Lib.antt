@@ -1,0 +1,4 @@
+pub mod Sizes
+pub mod Stored
+pub mod Values
+pub mod Takers
