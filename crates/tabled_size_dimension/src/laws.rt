@@ -9,6 +9,7 @@ ghost use Rattle.tabled_size_dimension.specs.declared.priority.DimensionPriority
 ghost use Rattle.tabled_size_dimension.specs.declared.suffix.SuffixLimit.{SuffixLimit as Limit};
 ghost use Rattle.tabled_size_dimension.specs.declared.zero.ZeroDimension.{ZeroDimension as Zero};
 
+use crate::complete::CompleteDimension;
 use crate::pool::PoolTableDimension;
 use crate::priority::DimensionPriority;
 use crate::suffix::SuffixLimit;
@@ -45,4 +46,11 @@ pub fn equal_values_are_the_same()
     ensures pools_order { (a b : Both) → (⟦<PoolTableDimension as Ord>⟧.cmp a b ≡ Equal) ↔ (a ≡ b) }
     ensures zeros { (a b : Zero) → ⟦<ZeroDimension as PartialEq>⟧.eq a b ≡ true }
     ensures one_zero { (a b : Zero) → a ≡ b }
+{}
+
+/// `==` of sizes that a table keeps is equality of the widths and of the heights, and `cmp` finds the same
+/// ones equal.
+pub fn equal_sizes_are_the_same()
+    ensures equality { (a b : StoredSizes) → (⟦<CompleteDimension as PartialEq>⟧.eq a b ≡ true) ↔ (a ≡ b) }
+    ensures order { (a b : StoredSizes) → (⟦<CompleteDimension as Ord>⟧.cmp a b ≡ Equal) ↔ (a ≡ b) }
 {}

@@ -6,6 +6,7 @@ mod const_dimension;
 mod const_size;
 pub mod laws;
 mod lists;
+mod order;
 mod pool;
 mod priority;
 mod static_dimension;
