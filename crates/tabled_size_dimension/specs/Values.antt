@@ -13,3 +13,10 @@ value_sizes (Partial sizes size) = ListedBefore sizes.items size
 abbrev pub const_sizes : {N : _} → ConstSize N → Sizes
 const_sizes (ConstList sizes) = Listed sizes
 const_sizes (Value size) = Alike size
+
+-- of the widths and of the heights
+abbrev pub BothSizes : Type 0
+BothSizes = Sizes × Sizes
+
+abbrev pub ValuePair : Type 0
+ValuePair = DimensionValue × DimensionValue
