@@ -119,3 +119,18 @@ pub fn equal_sizes_are_the_same()
     ensures equality { (a b : StoredSizes) → (⟦<CompleteDimension as PartialEq>⟧.eq a b ≡ true) ↔ (a ≡ b) }
     ensures order { (a b : StoredSizes) → (⟦<CompleteDimension as Ord>⟧.cmp a b ≡ Equal) ↔ (a ≡ b) }
 {}
+
+/// A copy is the same value, and is never refused.
+pub fn copies_are_the_same<const COLUMNS: usize, const ROWS: usize>()
+    ensures limits { (a b : Limit) → ⟦<SuffixLimit as Clone>⟧.is_clone a b → b ≡ a }
+    ensures takers { (a b : Taker) → ⟦<DimensionPriority as Clone>⟧.is_clone a b → b ≡ a }
+    ensures pools { (a b : Both) → ⟦<PoolTableDimension as Clone>⟧.is_clone a b → b ≡ a }
+    ensures constant { (a b : ConstWidth COLUMNS) → ⟦<ConstSize<COLUMNS> as Clone>⟧.is_clone a b → b ≡ a }
+    ensures constants { (a b : ConstWidth COLUMNS × ConstWidth ROWS) → ⟦<ConstDimension<COLUMNS, ROWS> as Clone>⟧.is_clone a b → b ≡ a }
+    ensures limits_come { (a : Limit) → ⟦<SuffixLimit as Clone>⟧.is_infallible a }
+    ensures takers_come { (a : Taker) → ⟦<DimensionPriority as Clone>⟧.is_infallible a }
+    ensures pools_come { (a : Both) → ⟦<PoolTableDimension as Clone>⟧.is_infallible a }
+    ensures constant_comes { (a : ConstWidth COLUMNS) → ⟦<ConstSize<COLUMNS> as Clone>⟧.is_infallible a }
+    ensures constants_come { (a : ConstWidth COLUMNS × ConstWidth ROWS) → ⟦<ConstDimension<COLUMNS, ROWS> as Clone>⟧.is_infallible a }
+    ensures zeros_come { (a : Zero) → ⟦<ZeroDimension as Clone>⟧.is_infallible a }
+{}
