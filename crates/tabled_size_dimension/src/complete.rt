@@ -29,7 +29,7 @@ impl Model for CompleteDimension {
 }
 
 impl CompleteDimension {
-    ghost use Rattle.std.specs.Prelude.{◌≡◌, ◌↔◌, ◌&&◌, ◌==◌, None, Some, IfErr, IfOk, IsOk, OnErr, OnOk, IsTrue, is_some, is_none};
+    ghost use Rattle.std.specs.Prelude.{◌≡◌, ◌↔◌, ◌&&◌, None, Some, IfErr, IfOk, IsOk, IsSome, OnErr, OnOk, IsTrue, is_some, is_none};
     ghost use Rattle.std.specs.Option.{option_copied};
     ghost use Rattle.grid_records_estimate.specs.Kept.{least_sizes};
     ghost use Rattle.grid_records_estimate.specs.Sizes.{IsRefusal};
@@ -143,6 +143,7 @@ impl CompleteDimension {
         ensures ok { OnOk result (self.new ≡ filled (least_sizes (sizing_of cfg.now) (R.columns records) (R.rows records)) self.old) }
         ensures refused { IfErr result (λ fault. IsRefusal fault (FilledPass (least_sizes (sizing_of cfg.now) (R.columns records) (R.rows records)) self.old)) }
         ensures err { OnErr result (self.new ≡ self.old) }
+        ensures complete { IsSome self.old.widths → IsSome self.old.heights → IsOk result }
     {
         match (self.widths.is_some(), self.heights.is_some()) {
             (true, true) => {
@@ -240,10 +241,11 @@ impl Dimension for CompleteDimension {
     }
 }
 
-/// It fills what is not set; what is set stays.
+/// It fills what is not set; what is set stays, and where all is set it is not refused.
 impl<R: Records> Estimate<R, SpannedConfig> for CompleteDimension {
-    ghost use Rattle.std.specs.Prelude.{◌≡◌};
+    ghost use Rattle.std.specs.Prelude.{◌≡◌, IfErr, IsOk, IsSome, OnErr, OnOk};
     ghost use Rattle.grid_records_estimate.specs.Kept.{least_sizes};
+    ghost use Rattle.grid_records_estimate.specs.Sizes.{IsRefusal};
     ghost use Rattle.grid_records_estimate.specs.Sizing.{sizing_of};
     ghost use Rattle.tabled_size_dimension.specs.Stored.{FilledPass, filled};
 
@@ -251,15 +253,22 @@ impl<R: Records> Estimate<R, SpannedConfig> for CompleteDimension {
 
     ghost passes = { λ records cfg before. FilledPass (least_sizes (sizing_of cfg) (R.columns records) (R.rows records)) before };
 
-    fn estimate(&mut self, alloc: Global, records: R, cfg: &SpannedConfig) -> Result<(), Fault> {
+    fn estimate(&mut self, alloc: Global, records: R, cfg: &SpannedConfig) -> Result<(), Fault>
+        ensures ok { OnOk result (self.new ≡ filled (least_sizes (sizing_of cfg.now) (R.columns records) (R.rows records)) self.old) }
+        ensures refused { IfErr result (λ fault. IsRefusal fault (FilledPass (least_sizes (sizing_of cfg.now) (R.columns records) (R.rows records)) self.old)) }
+        ensures err { OnErr result (self.new ≡ self.old) }
+        ensures complete { IsSome self.old.widths → IsSome self.old.heights → IsOk result }
+    {
         self.fill(alloc, records, cfg)
     }
 }
 
-/// It fills what is not set; what is set stays. Colours take no room.
+/// It fills what is not set; what is set stays, and where all is set it is not refused. Colours take no
+/// room.
 impl<R: Records> Estimate<R, ColoredConfig> for CompleteDimension {
-    ghost use Rattle.std.specs.Prelude.{◌≡◌};
+    ghost use Rattle.std.specs.Prelude.{◌≡◌, IfErr, IsOk, IsSome, OnErr, OnOk};
     ghost use Rattle.grid_records_estimate.specs.Kept.{least_sizes};
+    ghost use Rattle.grid_records_estimate.specs.Sizes.{IsRefusal};
     ghost use Rattle.grid_records_estimate.specs.Sizing.{sizing_of};
     ghost use Rattle.tabled_size_dimension.specs.Stored.{FilledPass, filled};
 
@@ -267,7 +276,12 @@ impl<R: Records> Estimate<R, ColoredConfig> for CompleteDimension {
 
     ghost passes = { λ records cfg before. FilledPass (least_sizes (sizing_of cfg.settings) (R.columns records) (R.rows records)) before };
 
-    fn estimate(&mut self, alloc: Global, records: R, cfg: &ColoredConfig) -> Result<(), Fault> {
+    fn estimate(&mut self, alloc: Global, records: R, cfg: &ColoredConfig) -> Result<(), Fault>
+        ensures ok { OnOk result (self.new ≡ filled (least_sizes (sizing_of cfg.now.settings) (R.columns records) (R.rows records)) self.old) }
+        ensures refused { IfErr result (λ fault. IsRefusal fault (FilledPass (least_sizes (sizing_of cfg.now.settings) (R.columns records) (R.rows records)) self.old)) }
+        ensures err { OnErr result (self.new ≡ self.old) }
+        ensures complete { IsSome self.old.widths → IsSome self.old.heights → IsOk result }
+    {
         self.fill(alloc, records, cfg.spanned())
     }
 }

@@ -5,7 +5,11 @@ use std::alloc::{AllocError, Global};
 use std::process::Abort;
 use tabled_size::CompleteDimension;
 
-const SIZES: Lists = (Some(&[4, 3]), Some(&[1, 2, 5]));
+const WIDTHS: Option<&[usize]> = Some(&[4, 3]);
+
+const HEIGHTS: Option<&[usize]> = Some(&[1, 2, 5]);
+
+const SIZES: Lists = (WIDTHS, HEIGHTS);
 
 pub(super) fn kept(alloc: Global, lists: Lists) -> Result<CompleteDimension, AllocError> {
     let mut sizes = CompleteDimension::default();
@@ -47,10 +51,10 @@ fn keeps_what_is_set(rt: HostRuntime) -> Result<(), AllocError> {
 const HINTS: &[(Option<Entity>, Lists)] = &[
     (None, SIZES),
     (Some(Entity::Global), (None, None)),
-    (Some(Entity::Column(0)), (None, SIZES.1)),
-    (Some(Entity::Column(9)), (None, SIZES.1)),
-    (Some(Entity::Row(0)), (SIZES.0, None)),
-    (Some(Entity::Row(9)), (SIZES.0, None)),
+    (Some(Entity::Column(0)), (None, HEIGHTS)),
+    (Some(Entity::Column(9)), (None, HEIGHTS)),
+    (Some(Entity::Row(0)), (WIDTHS, None)),
+    (Some(Entity::Row(9)), (WIDTHS, None)),
     (Some(Entity::Cell(0, 0)), (None, None)),
     (Some(Entity::Cell(9, 9)), (None, None)),
 ];
@@ -71,10 +75,10 @@ const COVERS: &[(Lists, usize, usize, bool)] = &[
     (SIZES, 0, 0, true),
     (SIZES, 3, 3, false),
     (SIZES, 2, 4, false),
-    ((None, SIZES.1), 0, 3, true),
-    ((None, SIZES.1), 1, 3, false),
-    ((SIZES.0, None), 2, 0, true),
-    ((SIZES.0, None), 2, 1, false),
+    ((None, HEIGHTS), 0, 3, true),
+    ((None, HEIGHTS), 1, 3, false),
+    ((WIDTHS, None), 2, 0, true),
+    ((WIDTHS, None), 2, 1, false),
     ((None, None), 0, 0, true),
 ];
 
@@ -106,7 +110,7 @@ fn sizes_past_a_list_are_zero(rt: HostRuntime) -> Result<(), AllocError> {
 
 #[test]
 fn clones_are_the_same(rt: HostRuntime) -> Result<(), AllocError> {
-    for lists in [SIZES, (SIZES.0, None), (None, SIZES.1), (None, None)] {
+    for lists in [SIZES, (WIDTHS, None), (None, HEIGHTS), (None, None)] {
         let sizes = kept(rt.alloc(), lists)?;
         let mut copy = sizes.clone(rt.alloc())?;
         expect_kept(&rt, &copy, lists, "of a clone");
