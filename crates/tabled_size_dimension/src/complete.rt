@@ -83,8 +83,8 @@ impl CompleteDimension {
     pub fn clear(&mut self)
         ensures { self.new ≡ none_stored }
     {
-        self.widths = None;
-        self.heights = None;
+        self.clear_width();
+        self.clear_height();
     }
 
     /// Forgets what a change of these cells may make wrong: after one of a column the widths, after one
@@ -152,16 +152,16 @@ impl CompleteDimension {
             }
             (true, false) => {
                 let heights = IterGridDimension::height(alloc, records, cfg)?;
-                self.heights = Some(heights);
+                self.set_heights(heights);
             }
             (false, true) => {
                 let widths = IterGridDimension::width(alloc, records, cfg)?;
-                self.widths = Some(widths);
+                self.set_widths(widths);
             }
             (false, false) => {
                 let (widths, heights) = IterGridDimension::dimension(alloc, records, cfg)?;
-                self.widths = Some(widths);
-                self.heights = Some(heights);
+                self.set_widths(widths);
+                self.set_heights(heights);
             }
         }
         Ok(())

@@ -103,8 +103,8 @@ fn constant_sizes_stay(rt: HostRuntime) -> Result<(), Fault> {
     expect(&rt, !sizes.covers(3, 1), "one of three");
     let copy = sizes;
     let (width, height) = <(ConstSize<2>, ConstSize<0>)>::from(copy);
-    expect(&rt, matches!(width, ConstSize::List([4, 5])), "the widths");
-    expect(&rt, matches!(height, ConstSize::Value(6)), "the height");
+    let again = ConstDimension::new(width, height);
+    expect_sizes(&rt, &again, [4, 5, 0], [6, 6, 6]);
     let other = ConstDimension::<3, 1>::new(ConstSize::Value(2), ConstSize::List([1]));
     expect_sizes(&rt, &other, [2, 2, 2], [1, 0, 0]);
     expect(&rt, other.covers(9, 1) && !other.covers(9, 2), "its rows");
