@@ -1,5 +1,5 @@
 use super::{Lists, expect, expect_kept};
-use grid_config::Entity;
+use grid_config::{Entity, Fault};
 use grid_records_rows::Dimension;
 use std::alloc::{AllocError, Global};
 use std::process::Abort;
@@ -109,7 +109,7 @@ fn sizes_past_a_list_are_zero(rt: HostRuntime) -> Result<(), AllocError> {
 }
 
 #[test]
-fn clones_are_the_same(rt: HostRuntime) -> Result<(), AllocError> {
+fn clones_are_the_same(rt: HostRuntime) -> Result<(), Fault> {
     for lists in [SIZES, (WIDTHS, None), (None, HEIGHTS), (None, None)] {
         let sizes = kept(rt.alloc(), lists)?;
         let mut copy = sizes.clone(rt.alloc())?;
