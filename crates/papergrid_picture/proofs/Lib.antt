@@ -3,4 +3,8 @@ pub mod RelatedLemmas
 pub mod ShownLemmas
 pub mod StrippedLemmas
 pub mod ItemLemmas
+pub mod JoinLemmas
+pub mod PlaceLemmas
+pub mod SeenLemmas
+pub mod TilingLemmas
 pub mod FrameLemmas

@@ -22,7 +22,7 @@ All-flat_map : {A B : Type 0} (P : B → Type 0) (f : A → List B) → ((x : A)
 All-flat_map P f each [] = tt
 All-flat_map P f each (x ∷ xs) = All-append P (f x) (flat_map f xs) (each x) (All-flat_map P f each xs)
 
-All-map : {A B : Type 0} (P : B → Type 0) (f : A → B) → ((x : A) → P (f x)) → (xs : List A) → AllByRecursion P (map f xs)
+pub All-map : {A B : Type 0} (P : B → Type 0) (f : A → B) → ((x : A) → P (f x)) → (xs : List A) → AllByRecursion P (map f xs)
 All-map P f each [] = tt
 All-map P f each (x ∷ xs) = (each x, All-map P f each xs)
 
@@ -30,7 +30,7 @@ pub All-map_of : {A B : Type 0} (Q : A → Type 0) (P : B → Type 0) (f : A →
 All-map_of Q P f each [] all = tt
 All-map_of Q P f each (x ∷ xs) all = (each x all.0, All-map_of Q P f each xs all.1)
 
-All-replicate : {A : Type 0} (P : A → Type 0) (n : ℕ) (x : A) → P x → AllByRecursion P (replicate n x)
+pub All-replicate : {A : Type 0} (P : A → Type 0) (n : ℕ) (x : A) → P x → AllByRecursion P (replicate n x)
 All-replicate P zero x here = tt
 All-replicate P (suc n) x here = (here, All-replicate P n x here)
 

@@ -1,18 +1,25 @@
 //! Laws of the definitions that the contracts of the grids cite.
-ghost use Rattle.std.specs.Prelude.{◌≡◌, ℕ, All, List, [], ◌∷◌, None, Some, chars, codes, encode_utf8_all, flat_map, map, true};
+ghost use Rattle.std.specs.Prelude.{◌≡◌, ◌↔◌, ◌<◌, ◌≤◌, ◌+◌, ℕ, All, List, [], ◌∷◌, None, Option, Some, chars, codes, encode_utf8_all, flat_map, length, map, slice_index, true};
+ghost use Rattle.std.specs.List.{join_with_byte, range_with_len};
 ghost use Rattle.ansi_scan.specs.Attributes.{plain_attributes};
 ghost use Rattle.ansi_scan.specs.Sequences.{Piece, ArePiecesOf, NoneBroken};
 ghost use Rattle.ansi_str.specs.StyledText.{strip};
 ghost use Rattle.grid_config_values.specs.declared.alignment.AlignmentHorizontal.TheVariants.{Right};
 ghost use Rattle.grid_config_values.specs.declared.alignment.AlignmentVertical.TheVariants.{Bottom, Center as Middle};
+ghost use Rattle.grid_config_values.specs.declared.position.Position.{Position as Cell};
 ghost use Rattle.grid_config_values.specs.Glyphs.{no_borders};
+ghost use Rattle.grid_config_spans.specs.declared.extent.Extent.{Extent};
+ghost use Rattle.grid_config_colors.specs.Colors.{Color};
 ghost use Rattle.grid_config.specs.Compact.{each_side};
 ghost use Rattle.grid_config.specs.Looks.{Look};
 ghost use Rattle.grid_records_measure.specs.TextLines.{line_feed};
-ghost use Rattle.papergrid_picture.specs.Blocks.{Grid};
+ghost use Rattle.papergrid_picture.specs.Blocks.{Grid, text_line};
+ghost use Rattle.papergrid_picture.specs.Frame.{Boundary, Outside, Row, Tracks, boundary_at, frame_of, line_count, place, total_width, track_at};
+ghost use Rattle.papergrid_picture.specs.Picture.{laid, picture_line};
 ghost use Rattle.papergrid_picture.specs.Reading.{Reading, grid_items};
 ghost use Rattle.papergrid_picture.specs.Shown.{ArePlainTexts, AreWholeTexts, IsBare, IsReadBy, KeepsLineEnds, Shows, Styled, character_of, character_picture, characters_of, stripped_texts, styled_picture, styled_texts};
-ghost use Rattle.papergrid_picture.specs.Tables.{table_text};
+ghost use Rattle.papergrid_picture.specs.Tables.{table_line, table_lines, table_text};
+ghost use Rattle.papergrid_picture.specs.Tiling.{BeginsBehindMargin, HasGoodSpans, HasRoom, ShowsPlace, Tiles};
 ghost use Rattle.papergrid_picture.specs.Worked.{ascii, bracketed, cells, crossed, drawn, drawn_in, extents, half_bracketed, joined, named, no_top, outer, padded, plain, span, spaced, with_margins};
 
 /// Pictures that were worked out by hand: two by two cells; cells of two lines to the right, with one
@@ -144,4 +151,40 @@ pub fn character_reading()
     ensures plain { (look : Look) (rows : List (List (List ℕ))) (widths heights : List ℕ) →
         IsBare look → ArePlainTexts rows → KeepsLineEnds look →
         table_text look rows (λ _. None) widths heights ≡ encode_utf8_all (character_picture look (map (map chars) rows) widths heights) }
+{}
+
+/// Each line of a picture shows what the sizes put there: boundary i, where it is there, its one line behind
+/// the sizes and boundaries before it; row i the lines behind that; a margin the others.
+pub fn lines_in_order()
+    ensures each { (rows : Tracks) (y : ℕ) → ShowsPlace rows y (place rows y) }
+    ensures boundaries { (rows : Tracks) (i : ℕ) → i ≤ length rows.sizes → rows.has_boundary i ≡ true →
+        place rows (boundary_at rows i) ≡ Boundary i }
+    ensures rows { (rows : Tracks) (i y : ℕ) → i < length rows.sizes → track_at rows i ≤ y →
+        y < track_at rows i + slice_index rows.sizes i → place rows y ≡ Row i }
+    ensures above { (rows : Tracks) (y : ℕ) → y < rows.margin → place rows y ≡ Outside }
+    ensures below { (rows : Tracks) (y : ℕ) → track_at rows (length rows.sizes) ≤ y → place rows y ≡ Outside }
+{}
+
+/// The text of a table is its lines, as many as its sizes say, with a line feed between each two; and so are
+/// the first lines of it.
+pub fn lines_are_joined()
+    ensures all { (look : Look) (rows : List (List (List ℕ))) (colors : Cell → Option Color) (widths heights : List ℕ) →
+        table_text look rows colors widths heights
+        ≡ join_with_byte line_feed (map (table_line look rows colors widths heights) (range_with_len 0 (line_count (frame_of look widths heights)))) }
+    ensures first { (look : Look) (rows : List (List (List ℕ))) (colors : Cell → Option Color) (widths heights : List ℕ) (n : ℕ) →
+        table_lines look rows colors widths heights n
+        ≡ join_with_byte line_feed (map (table_line look rows colors widths heights) (range_with_len 0 n)) }
+{}
+
+/// Where the spans are good and each cell that is seen has room, the pieces of each line stand side by side
+/// from column 0 to the table's width, with no gap and no overlap. A line of a cell fills the width of its
+/// rectangle exactly where it and the paddings at its sides take no more.
+pub fn tiling()
+    ensures lines { (grid : Grid) (spans : List (Cell × Extent)) (y : ℕ) →
+        HasGoodSpans grid spans → HasRoom grid → BeginsBehindMargin grid.frame →
+        Tiles 0 (picture_line grid y) (total_width grid.frame) }
+    ensures texts { (grid : Grid) (cell : Cell) (width k left : ℕ) →
+        (Tiles left (laid left (text_line grid cell width k)) (left + width)
+        ↔ ((grid.frame.look.padding cell).left.size + slice_index (grid.measures cell) k + (grid.frame.look.padding cell).right.size ≤ width)) }
+    ensures begins { (look : Look) (widths heights : List ℕ) → BeginsBehindMargin (frame_of look widths heights) }
 {}
