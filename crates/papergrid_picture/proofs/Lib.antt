@@ -1,2 +1,10 @@
 pub mod ReadingLemmas
+pub mod RelatedLemmas
+pub mod ShownLemmas
+pub mod StrippedLemmas
+pub mod ItemLemmas
+pub mod JoinLemmas
+pub mod PlaceLemmas
+pub mod SeenLemmas
+pub mod TilingLemmas
 pub mod FrameLemmas

@@ -8,7 +8,7 @@ use Rattle.grid_records_traits.specs.Rows.{text_at}
 use Rattle.papergrid_picture.specs.Frame.{frame_of}
 use Rattle.papergrid_picture.specs.Blocks.{Grid}
 use Rattle.papergrid_picture.specs.CellLines.{cell_lines, cell_measures}
-use Rattle.papergrid_picture.specs.Reading.{Reading, grid_items, grid_lines}
+use Rattle.papergrid_picture.specs.Reading.{Reading, grid_items, grid_line, grid_lines}
 
 -- the first n sizes, by number
 abbrev pub sizes_of : (ℕ → ℕ) → ℕ → List ℕ
@@ -41,3 +41,7 @@ module _ (look : Look) (rows : List (List (List ℕ))) where
   -- its first n lines
   abbrev pub table_lines : (Position → Option Color) → List ℕ → List ℕ → ℕ → List ℕ
   table_lines colors widths heights n = grid_lines in_bytes (table_grid colors widths heights) n
+
+  -- its line y
+  abbrev pub table_line : (Position → Option Color) → List ℕ → List ℕ → ℕ → List ℕ
+  table_line colors widths heights y = grid_line in_bytes (table_grid colors widths heights) y

@@ -1,9 +1,9 @@
 -- The pieces of a line side by side.
-use Rattle.std.specs.Prelude.{◌≡◌, ℕ, ◌+◌, ◌<◌, ◌≤◌, List, [], ◌∷◌}
+use Rattle.std.specs.Prelude.{◌≡◌, ◌⊎◌, ℕ, ◌+◌, ◌<◌, ◌≤◌, true, List, [], ◌∷◌, length, slice_index}
 use Rattle.grid_config_values.specs.declared.position.Position.{Position}
 use Rattle.grid_config_spans.specs.declared.extent.Extent.{Extent}
 use Rattle.grid_config_spans.specs.Spans.{AreGood, ArePositive, extent_at}
-use Rattle.papergrid_picture.specs.Frame.{block_width, column_count, row_count}
+use Rattle.papergrid_picture.specs.Frame.{Boundary, Frame, Outside, Place, Row, Tracks, block_width, boundary_at, column_count, row_count, track_at}
 use Rattle.papergrid_picture.specs.Blocks.{Grid, greatest}
 use Rattle.papergrid_picture.specs.Picture.{Piece, seen}
 
@@ -24,3 +24,14 @@ pub record HasGoodSpans (grid : Grid) (spans : List (Position × Extent)) : Type
   pub extents : grid.frame.look.extent ≡ extent_at spans
   pub positive : ArePositive spans
   pub good : AreGood spans (row_count grid.frame) (column_count grid.frame)
+
+-- line y is one of those where the sizes put this: the one line of a boundary that is there, a line of a row, or else a line of
+-- a margin, above the first boundary or below the last
+abbrev pub ShowsPlace : Tracks → ℕ → Place → Type 0
+ShowsPlace rows y (Boundary i) = (i ≤ length rows.sizes) × (rows.has_boundary i ≡ true) × (y ≡ boundary_at rows i)
+ShowsPlace rows y (Row i) = (i < length rows.sizes) × (track_at rows i ≤ y) × (y < track_at rows i + slice_index rows.sizes i)
+ShowsPlace rows y Outside = (y < rows.margin) ⊎ (track_at rows (length rows.sizes) ≤ y)
+
+-- the columns of a table begin behind its left margin, as they do in every table of sizes
+abbrev pub BeginsBehindMargin : Frame → Type 0
+BeginsBehindMargin frame = frame.columns.margin ≡ frame.look.margin.left.size

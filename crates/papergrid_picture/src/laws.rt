@@ -1,9 +1,25 @@
 //! Laws of the definitions that the contracts of the grids cite.
-ghost use Rattle.std.specs.Prelude.{◌≡◌, List, [], ◌∷◌, None, Some, codes, true};
+ghost use Rattle.std.specs.Prelude.{◌≡◌, ◌↔◌, ◌<◌, ◌≤◌, ◌+◌, ℕ, All, List, [], ◌∷◌, None, Option, Some, chars, codes, encode_utf8_all, flat_map, length, map, slice_index, true};
+ghost use Rattle.std.specs.List.{join_with_byte, range_with_len};
+ghost use Rattle.ansi_scan.specs.Attributes.{plain_attributes};
+ghost use Rattle.ansi_scan.specs.Sequences.{Piece, ArePiecesOf, NoneBroken};
+ghost use Rattle.ansi_str.specs.StyledText.{strip};
 ghost use Rattle.grid_config_values.specs.declared.alignment.AlignmentHorizontal.TheVariants.{Right};
 ghost use Rattle.grid_config_values.specs.declared.alignment.AlignmentVertical.TheVariants.{Bottom, Center as Middle};
+ghost use Rattle.grid_config_values.specs.declared.position.Position.{Position as Cell};
 ghost use Rattle.grid_config_values.specs.Glyphs.{no_borders};
+ghost use Rattle.grid_config_spans.specs.declared.extent.Extent.{Extent};
+ghost use Rattle.grid_config_colors.specs.Colors.{Color};
 ghost use Rattle.grid_config.specs.Compact.{each_side};
+ghost use Rattle.grid_config.specs.Looks.{Look};
+ghost use Rattle.grid_records_measure.specs.TextLines.{line_feed};
+ghost use Rattle.papergrid_picture.specs.Blocks.{Grid, text_line};
+ghost use Rattle.papergrid_picture.specs.Frame.{Boundary, Outside, Row, Tracks, boundary_at, frame_of, line_count, place, total_width, track_at};
+ghost use Rattle.papergrid_picture.specs.Picture.{laid, picture_line};
+ghost use Rattle.papergrid_picture.specs.Reading.{Reading, grid_items};
+ghost use Rattle.papergrid_picture.specs.Shown.{ArePlainTexts, AreWholeTexts, IsBare, IsReadBy, KeepsLineEnds, Shows, Styled, character_of, character_picture, characters_of, stripped_texts, styled_picture, styled_texts};
+ghost use Rattle.papergrid_picture.specs.Tables.{table_line, table_lines, table_text};
+ghost use Rattle.papergrid_picture.specs.Tiling.{BeginsBehindMargin, HasGoodSpans, HasRoom, ShowsPlace, Tiles};
 ghost use Rattle.papergrid_picture.specs.Worked.{ascii, bracketed, cells, crossed, drawn, drawn_in, extents, half_bracketed, joined, named, no_top, outer, padded, plain, span, spaced, with_margins};
 
 /// Pictures that were worked out by hand: two by two cells; cells of two lines to the right, with one
@@ -95,4 +111,80 @@ pub fn worked_colors()
         ≡ joined (codes "+----+" ∷ codes "|[...]a|" ∷ codes "|[....]|" ∷ codes "+----+" ∷ []) }
     ensures justification { drawn spaced (4 ∷ []) (1 ∷ []) (cells (codes "a" ∷ []) ∷ [])
         ≡ joined (codes "+----+" ∷ codes "|[.]a[..]|" ∷ codes "+----+" ∷ []) }
+{}
+
+/// A function that takes what one reading shows of each character, of each line of a cell and of each colour
+/// to what another reading shows of it takes the whole picture in the one to the picture in the other.
+pub fn readings<X, Y>()
+    ensures { (f : X → List Y) (first : Reading X) (second : Reading Y) (grid : Grid) →
+        IsReadBy f first second → flat_map f (grid_items first grid) ≡ grid_items second grid }
+{}
+
+/// The text of a table without colours shows the picture of what its cells show: characters in their
+/// styles, with glyphs, fills and line feeds in the plain style; and no style is open at its end. The cells
+/// are whole texts, of which no line is trimmed at its ends.
+pub fn styled_reading()
+    ensures { (look : Look) (rows : List (List (List ℕ))) (widths heights : List ℕ) →
+        IsBare look → AreWholeTexts rows → KeepsLineEnds look →
+        Shows (table_text look rows (λ _. None) widths heights) (styled_picture look (styled_texts rows) widths heights) }
+{}
+
+/// Without its sequences the text of a table without colours is the text of the table of the stripped cells,
+/// with these sizes, trimmed or not; and no sequence of it is broken. The cells are whole texts.
+pub fn stripped_reading()
+    ensures text { (look : Look) (rows : List (List (List ℕ))) (widths heights : List ℕ) (ps : List Piece) →
+        IsBare look → AreWholeTexts rows → ArePiecesOf (table_text look rows (λ _. None) widths heights) ps →
+        strip ps ≡ table_text look (stripped_texts rows) (λ _. None) widths heights }
+    ensures whole { (look : Look) (rows : List (List (List ℕ))) (widths heights : List ℕ) (ps : List Piece) →
+        IsBare look → AreWholeTexts rows → ArePiecesOf (table_text look rows (λ _. None) widths heights) ps →
+        NoneBroken ps }
+{}
+
+/// Styles change no character of a picture, which is that of the characters alone; each line feed in it has
+/// the plain style, so that no style is open where a line ends. The text of a table of texts without
+/// sequences is the picture of their characters.
+pub fn character_reading()
+    ensures characters { (look : Look) (rows : List (List (List Styled))) (widths heights : List ℕ) →
+        map character_of (styled_picture look rows widths heights) ≡ character_picture look (characters_of rows) widths heights }
+    ensures line_feeds { (look : Look) (rows : List (List (List Styled))) (widths heights : List ℕ) →
+        All (λ x. x.0 ≡ line_feed → x.1 ≡ plain_attributes) (styled_picture look rows widths heights) }
+    ensures plain { (look : Look) (rows : List (List (List ℕ))) (widths heights : List ℕ) →
+        IsBare look → ArePlainTexts rows → KeepsLineEnds look →
+        table_text look rows (λ _. None) widths heights ≡ encode_utf8_all (character_picture look (map (map chars) rows) widths heights) }
+{}
+
+/// Each line of a picture shows what the sizes put there: boundary i, where it is there, its one line behind
+/// the sizes and boundaries before it; row i the lines behind that; a margin the others.
+pub fn lines_in_order()
+    ensures each { (rows : Tracks) (y : ℕ) → ShowsPlace rows y (place rows y) }
+    ensures boundaries { (rows : Tracks) (i : ℕ) → i ≤ length rows.sizes → rows.has_boundary i ≡ true →
+        place rows (boundary_at rows i) ≡ Boundary i }
+    ensures rows { (rows : Tracks) (i y : ℕ) → i < length rows.sizes → track_at rows i ≤ y →
+        y < track_at rows i + slice_index rows.sizes i → place rows y ≡ Row i }
+    ensures above { (rows : Tracks) (y : ℕ) → y < rows.margin → place rows y ≡ Outside }
+    ensures below { (rows : Tracks) (y : ℕ) → track_at rows (length rows.sizes) ≤ y → place rows y ≡ Outside }
+{}
+
+/// The text of a table is its lines, as many as its sizes say, with a line feed between each two; and so are
+/// the first lines of it.
+pub fn lines_are_joined()
+    ensures all { (look : Look) (rows : List (List (List ℕ))) (colors : Cell → Option Color) (widths heights : List ℕ) →
+        table_text look rows colors widths heights
+        ≡ join_with_byte line_feed (map (table_line look rows colors widths heights) (range_with_len 0 (line_count (frame_of look widths heights)))) }
+    ensures first { (look : Look) (rows : List (List (List ℕ))) (colors : Cell → Option Color) (widths heights : List ℕ) (n : ℕ) →
+        table_lines look rows colors widths heights n
+        ≡ join_with_byte line_feed (map (table_line look rows colors widths heights) (range_with_len 0 n)) }
+{}
+
+/// Where the spans are good and each cell that is seen has room, the pieces of each line stand side by side
+/// from column 0 to the table's width, with no gap and no overlap. A line of a cell fills the width of its
+/// rectangle exactly where it and the paddings at its sides take no more.
+pub fn tiling()
+    ensures lines { (grid : Grid) (spans : List (Cell × Extent)) (y : ℕ) →
+        HasGoodSpans grid spans → HasRoom grid → BeginsBehindMargin grid.frame →
+        Tiles 0 (picture_line grid y) (total_width grid.frame) }
+    ensures texts { (grid : Grid) (cell : Cell) (width k left : ℕ) →
+        (Tiles left (laid left (text_line grid cell width k)) (left + width)
+        ↔ ((grid.frame.look.padding cell).left.size + slice_index (grid.measures cell) k + (grid.frame.look.padding cell).right.size ≤ width)) }
+    ensures begins { (look : Look) (widths heights : List ℕ) → BeginsBehindMargin (frame_of look widths heights) }
 {}
