@@ -1,1 +1,2 @@
 -- Why grids print their text.
+mod Flat

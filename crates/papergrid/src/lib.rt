@@ -1,12 +1,14 @@
 //! Grids: records of texts printed under their settings, sizes and colours.
 #![tactic(auto)]
 
+mod compact;
 mod iter;
 mod peekable;
 mod printing;
 mod read;
 mod sizes;
 
+pub use compact::CompactGrid;
 pub use iter::IterGrid;
 pub use papergrid_fits::fits;
 pub use papergrid_print::{Colors, NoColors};
