@@ -1,5 +1,5 @@
 -- Settings without spans.
-use Rattle.std.proofs.Common.{◌≡◌, ℕ, List, [], Ok, Err, Result, refl}
+use Rattle.std.proofs.Common.{ℕ, List, [], Ok, Err, Result, refl}
 use Rattle.grid_config_values.specs.declared.fault.Fault.{Fault}
 use Rattle.grid_config_values.specs.declared.fault.Fault.TheVariants.{Memory, Range, Room, Spans}
 use Rattle.grid_config_values.specs.declared.position.Position.{Position}

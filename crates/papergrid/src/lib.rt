@@ -3,6 +3,7 @@
 
 mod compact;
 mod iter;
+pub mod laws;
 mod peekable;
 mod printing;
 mod read;
