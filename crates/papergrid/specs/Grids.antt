@@ -1,8 +1,12 @@
 -- A grid by what it is made of, and what it prints.
-use Rattle.std.specs.Prelude.{ℕ, List, Option, length}
+use Rattle.std.specs.Prelude.{◌≡◌, ℕ, List, Option, None, Result, length}
+use Rattle.grid_config_values.specs.declared.fault.Fault.{Fault}
 use Rattle.grid_config_values.specs.declared.position.Position.{Position}
 use Rattle.grid_config_colors.specs.Colors.{Color}
-use Rattle.grid_config.specs.Looks.{Look}
+use Rattle.grid_config.specs.Compact.{Compact}
+use Rattle.grid_config.specs.Looks.{Look, compact_look}
+use Rattle.papergrid_picture.specs.Fitting.{FitsAnswer, InRange, first_too_wide}
+use Rattle.papergrid_picture.specs.Frame.{Frame, frame_of}
 use Rattle.papergrid_picture.specs.Tables.{sizes_of, table_text}
 
 -- records, settings, sizes and colours
@@ -15,3 +19,39 @@ pub record Parts (R G D C : Type 0) : Type 0 where
 -- the text of rows of texts in so many columns: their picture in bytes
 abbrev pub grid_text : Look → (ℕ → ℕ) → (ℕ → ℕ) → (Position → Option Color) → ℕ → List (List (List ℕ)) → List ℕ
 grid_text look width height colors columns rows = table_text look rows colors (sizes_of width columns) (sizes_of height (length rows))
+
+-- ---- rows of one line each
+
+-- compact settings without padding above and below texts
+abbrev pub flat : Compact → Compact
+flat compact = record compact {
+  padding = record compact.padding {
+    top = record compact.padding.top { size = 0 };
+    bottom = record compact.padding.bottom { size = 0 };
+  };
+}
+
+-- every row takes one line
+abbrev pub one_line : ℕ → ℕ
+one_line row = 1
+
+-- a table of so many such columns and rows: of a cell of several lines the first is seen
+abbrev pub lined : Compact → (ℕ → ℕ) → ℕ → ℕ → Frame
+lined compact width columns rows = frame_of (compact_look (flat compact)) (sizes_of width columns) (sizes_of one_line rows)
+
+module _ (compact : Compact) (width : ℕ → ℕ) (columns : ℕ) (rows : List (List (List ℕ))) where
+  abbrev pub compact_frame : Frame
+  compact_frame = lined compact width columns (length rows)
+
+  -- its text
+  abbrev pub compact_text : (Position → Option Color) → List ℕ
+  compact_text colors = grid_text (compact_look (flat compact)) width one_line colors columns rows
+
+  -- whether it fits: range and room, in this order. It has no spans, which are good, so `Spans` is no answer
+  abbrev pub IsCompactAnswer : Result (Unit {0}) Fault → Type 0
+  IsCompactAnswer answer = FitsAnswer compact_frame rows (Unit {0}) answer
+
+  -- it fits: both totals are in range, and no cell needs more columns than it has
+  pub record FitsCompact : Type 0 where
+    pub range : InRange compact_frame
+    pub room : first_too_wide compact_frame rows ≡ None

@@ -1,12 +1,15 @@
 //! Grids: records of texts printed under their settings, sizes and colours.
 #![tactic(auto)]
 
+mod compact;
 mod iter;
+pub mod laws;
 mod peekable;
 mod printing;
 mod read;
 mod sizes;
 
+pub use compact::CompactGrid;
 pub use iter::IterGrid;
 pub use papergrid_fits::fits;
 pub use papergrid_print::{Colors, NoColors};

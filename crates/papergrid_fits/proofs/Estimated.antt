@@ -48,7 +48,7 @@ text-in_row (suc n) (text ∷ row) (suc k) below =
     let same : suc n - suc (length row) ≡ n - length row = omega arith in
     ap (λ m. slice_index_or (take n row ++ replicate m []) k []) same ∙ text-in_row n row k less
 
-text_at-fitted : (n : ℕ) (rows : List (List (List ℕ))) (i k : ℕ) → k < n → text_at (fitted n rows) (at i k) ≡ text_at rows (at i k)
+pub text_at-fitted : (n : ℕ) (rows : List (List (List ℕ))) (i k : ℕ) → k < n → text_at (fitted n rows) (at i k) ≡ text_at rows (at i k)
 text_at-fitted n [] zero k below = refl
 text_at-fitted n [] (suc i) k below = refl
 text_at-fitted n (row ∷ rows) zero k below = text-in_row n row k below

@@ -7,6 +7,7 @@ use papergrid::fits;
 use std::alloc::{AllocError, Global};
 use std::process::Abort;
 
+mod compact;
 mod grids;
 
 // Sizes by their numbers.

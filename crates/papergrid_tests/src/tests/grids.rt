@@ -10,14 +10,14 @@ use std::alloc::Global;
 use std::process::Abort;
 
 // A table: its rows, all of as many cells, its widths, its heights and its lines.
-struct Case {
-    cells: &'static [&'static [&'static str]],
-    widths: &'static [usize],
-    heights: &'static [usize],
-    lines: &'static str,
+pub(super) struct Case {
+    pub(super) cells: &'static [&'static [&'static str]],
+    pub(super) widths: &'static [usize],
+    pub(super) heights: &'static [usize],
+    pub(super) lines: &'static str,
 }
 
-fn ascii() -> Borders<char> {
+pub(super) fn ascii() -> Borders<char> {
     let mut borders = Borders::empty();
     borders.top = Some('-');
     borders.bottom = Some('-');
@@ -73,7 +73,7 @@ fn read_once<C: Colors>(
     IterGrid::new(VecRecords::new(rows), cfg, sizes, colors).to_string(alloc)
 }
 
-fn expect_lines<C: Colors>(
+pub(super) fn expect_lines<C: Colors>(
     rt: &impl Abort,
     alloc: Global,
     case: &Case,

@@ -1,6 +1,5 @@
-use Rattle.std.proofs.Common.{◌≡◌, [], ◌∷◌, ◌++◌, List, ℕ, Vec, drop, length, map, vec_items, refl, ap, sym, ◌∙◌}
+use Rattle.std.proofs.Common.{[], ◌∷◌, ◌++◌, drop, length, map, vec_items, ap, sym, ◌∙◌}
 use Rattle.grid_records_traits.specs.Rows.{fitted}
-use Rattle.grid_records_traits.specs.Sources.{texts_of_rows}
 use Rattle.grid_records_traits.proofs.Loops.{next_given, none_given}
 use Rattle.grid_records_rows.proofs.Keeping.{kept_all, kept_more}
 use Rattle.papergrid.proofs.read.read.Goals as goal

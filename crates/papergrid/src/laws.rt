@@ -1,0 +1,30 @@
+//! Laws of the definitions that the contracts cite.
+ghost use Rattle.std.specs.Prelude.{◌≡◌, ◌↔◌, ℕ, List, Option, Result};
+ghost use Rattle.grid_config_values.specs.declared.fault.Fault.{Fault as Refusal};
+ghost use Rattle.grid_config_values.specs.declared.position.Position.{Position as Place};
+ghost use Rattle.grid_config_colors.specs.Colors.{Color};
+ghost use Rattle.grid_config.specs.Compact.{Compact};
+ghost use Rattle.grid_config.specs.Looks.{look_of};
+ghost use Rattle.grid_config.specs.Settings.{Settings, StartsWith, compact_start};
+ghost use Rattle.grid_records_traits.specs.Rows.{fitted};
+ghost use Rattle.papergrid_fits.specs.Tables.{IsFitsAnswer};
+ghost use Rattle.papergrid.specs.Grids.{compact_text, grid_text, one_line};
+
+/// A grid that reads its records once and one that looks up its cells append the same text of the same
+/// records, settings, sizes and colours, and fit them or refuse them alike: the first sees as many cells
+/// in each row as there are columns, the second the rows as they are.
+pub fn both_grids_append_the_same()
+    ensures text { (settings : Settings) (width height : ℕ → ℕ) (colors : Place → Option Color) (columns : ℕ) (rows : List (List (List ℕ))) →
+        grid_text (look_of settings) width height colors columns (fitted columns rows) ≡ grid_text (look_of settings) width height colors columns rows }
+    ensures answer { (settings : Settings) (width height : ℕ → ℕ) (columns : ℕ) (rows : List (List (List ℕ))) (answer : Result (Unit {0}) Refusal) →
+        IsFitsAnswer settings width height columns (fitted columns rows) answer ↔ IsFitsAnswer settings width height columns rows answer }
+{}
+
+/// A compact grid appends what a grid with one line for each row appends, where the settings begin as the
+/// compact ones, as those that `SpannedConfig::from_compact_config` makes of them, and there is no padding
+/// above or below texts.
+pub fn compact_grids_append_rows_of_one_line()
+    ensures { (compact : Compact) (settings : Settings) (width : ℕ → ℕ) (colors : Place → Option Color) (columns : ℕ) (rows : List (List (List ℕ))) →
+        compact.padding.top.size ≡ 0 → compact.padding.bottom.size ≡ 0 → StartsWith (compact_start compact) settings →
+        compact_text compact width columns rows colors ≡ grid_text (look_of settings) width one_line colors columns rows }
+{}
