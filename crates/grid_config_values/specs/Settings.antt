@@ -21,3 +21,7 @@ SetsCovered old new entity value = (p : Position) → value_at new p ≡ (if cov
 -- new has at every position what old has
 abbrev pub IsUnchanged : {T : Type 0} → EntityMap T → EntityMap T → Type 0
 IsUnchanged old new = (p : Position) → value_at new p ≡ value_at old p
+
+-- every position has the same value
+abbrev pub IsUniform : {T : Type 0} → EntityMap T → Type 0
+IsUniform map = (p q : Position) → value_at map p ≡ value_at map q
