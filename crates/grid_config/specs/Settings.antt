@@ -10,7 +10,7 @@ use Rattle.grid_config_values.specs.declared.position.Position.{Position}
 use Rattle.grid_config_values.specs.declared.sides.Indent.{Indent}
 use Rattle.grid_config_values.specs.declared.sides.Sides.{Sides}
 use Rattle.grid_config_values.specs.Glyphs.{no_borders}
-use Rattle.grid_config_values.specs.Settings.{value_at}
+use Rattle.grid_config_values.specs.Settings.{IsUniform, value_at}
 use Rattle.grid_config_spans.specs.declared.extent.Extent.{Extent}
 use Rattle.grid_config_colors.specs.Colors.{Color, is_no_color}
 use Rattle.grid_config.specs.Compact.{Compact, each_side, map_borders, no_indent}
@@ -75,6 +75,18 @@ KeepsOthers setting old new = new ≡ with_one setting old new
 -- every cell has this value
 abbrev pub IsEverywhere : {T : Type 0} → EntityMap T → T → Type 0
 IsEverywhere map value = (p : Position) → value_at map p ≡ value
+
+-- all cells have the same settings, but for what they span
+pub record AreUniform (settings : Settings) : Type 0 where
+  pub padding : IsUniform settings.padding
+  pub padding_color : IsUniform settings.padding_color
+  pub alignment_horizontal : IsUniform settings.alignment_horizontal
+  pub alignment_vertical : IsUniform settings.alignment_vertical
+  pub line_alignment : IsUniform settings.line_alignment
+  pub trim_horizontal : IsUniform settings.trim_horizontal
+  pub trim_vertical : IsUniform settings.trim_vertical
+  pub justification : IsUniform settings.justification
+  pub justification_color : IsUniform settings.justification_color
 
 -- what a table may start with
 pub record Start : Type 0 where

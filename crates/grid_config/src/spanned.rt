@@ -1,5 +1,5 @@
 //! All settings of a table.
-ghost use Rattle.std.specs.Prelude.{◌≡◌, ◌≢◌, ◌<◌, ◌==◌, ◌↔◌, if◌then◌else◌, None, Some, Err, IfErr, IfSome, OnErr, OnOk, IfOk, IsOk, IsTrue};
+ghost use Rattle.std.specs.Prelude.{◌≡◌, ◌≢◌, ◌<◌, ◌==◌, ◌↔◌, if◌then◌else◌, [], None, Some, Err, IfErr, IfSome, OnErr, OnOk, IfOk, IsOk, IsTrue};
 ghost use Rattle.grid_config_values.specs.declared.entity.Entity.TheVariants.{Global as EveryCell};
 ghost use Rattle.grid_config_values.specs.declared.fault.Fault.TheVariants.{Memory, Spans as BadSpan};
 ghost use Rattle.grid_config_values.specs.Glyphs.{boundary_count, boundary_kind, has_column_boundary, has_row_boundary};
@@ -7,7 +7,7 @@ ghost use Rattle.grid_config_spans.specs.Owners.{owner};
 ghost use Rattle.grid_config_spans.specs.Spans.{AreGood, ArePositive, IsVisible, SetsColumns, SetsRows, extent_at, single};
 ghost use Rattle.grid_config_values.specs.Settings.{IsUnchanged, SetsCovered, value_at};
 ghost use Rattle.grid_config.specs.Compact.{compact_of};
-ghost use Rattle.grid_config.specs.Settings.{IsUncolored, KeepsOthers, StartsWith, compact_start, new_start};
+ghost use Rattle.grid_config.specs.Settings.{AreUniform, IsUncolored, KeepsOthers, StartsWith, compact_start, new_start};
 ghost use Rattle.grid_config.specs.Settings.{Margin, MarginColor, BorderGlyphs, BorderColors, Padding, PaddingColor, HorizontalAlignment, VerticalAlignment, LineAlignment, TrimHorizontal, TrimVertical, Justification, JustificationColor, CellSpans};
 
 use crate::cells::CellSettings;
@@ -388,6 +388,30 @@ impl SpannedConfig {
         ensures { result ≡ boundary_count (has_row_boundary self.now.borders) rows }
     {
         self.whole.borders.count_horizontal(rows)
+    }
+
+    /// Whether all cells are known to have the same settings, but for what they span: no call named fewer
+    /// since the last that named all.
+    pub fn is_uniform(&self) -> bool
+        ensures { IsTrue result → AreUniform self.now }
+    {
+        let cells = &self.cells;
+        cells.padding.is_uniform()
+            && cells.padding_color.is_uniform()
+            && cells.alignment_horizontal.is_uniform()
+            && cells.alignment_vertical.is_uniform()
+            && cells.line_alignment.is_uniform()
+            && cells.trim_horizontal.is_uniform()
+            && cells.trim_vertical.is_uniform()
+            && cells.justification.is_uniform()
+            && cells.justification_color.is_uniform()
+    }
+
+    /// Whether no cell spans several columns or rows.
+    pub fn has_no_spans(&self) -> bool
+        ensures { IsTrue result ↔ (self.now.spans ≡ []) }
+    {
+        self.spans.is_empty()
     }
 
     /// Sets how many columns the cell at this place takes; 1 takes its span away, and is never refused, nor

@@ -56,6 +56,13 @@ impl Spans {
         }
     }
 
+    /// Whether no cell spans several columns or rows.
+    pub fn is_empty(&self) -> bool
+        ensures { IsTrue result ↔ (self.now ≡ []) }
+    {
+        self.extents.len() == 0
+    }
+
     /// How many columns the cell at this place takes: `None` for one.
     pub fn get_column_span(&self, pos: Position) -> Option<usize>
         ensures value { let n = (extent_at self.now pos).columns in result ≡ (if n == 1 then None else Some n) }

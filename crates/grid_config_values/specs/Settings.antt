@@ -26,3 +26,7 @@ IsUnchanged old new = (p : Position) → value_at new p ≡ value_at old p
 abbrev pub AreSet : {T : Type 0} → List (Entity × T) → EntityMap T → EntityMap T → Type 0
 AreSet [] old new = IsUnchanged old new
 AreSet {T} (setting ∷ later) old new = (next : EntityMap T) × SetsCovered old next setting.0 setting.1 × AreSet later next new
+
+-- every position has the same value
+abbrev pub IsUniform : {T : Type 0} → EntityMap T → Type 0
+IsUniform map = (p q : Position) → value_at map p ≡ value_at map q

@@ -1,8 +1,8 @@
 //! The values that were set for sets of cells.
-ghost use Rattle.std.specs.Prelude.{◌≡◌, IsOk, OnOk, OnErr};
+ghost use Rattle.std.specs.Prelude.{◌≡◌, IsOk, IsTrue, OnOk, OnErr};
 ghost use Rattle.grid_config_values.specs.declared.entity.Entity.TheVariants.{Global as EveryCell};
 ghost use Rattle.grid_config_values.specs.declared.position.Position.{Position as Place};
-ghost use Rattle.grid_config_values.specs.Settings.{IsUnchanged, SetsCovered, value_at};
+ghost use Rattle.grid_config_values.specs.Settings.{IsUniform, IsUnchanged, SetsCovered, value_at};
 
 use crate::entity::Entity;
 use crate::position::Position;
@@ -42,6 +42,15 @@ impl<T: Drop> EntityMap<T> {
             calls = earlier;
         }
         &self.global
+    }
+
+    /// Whether the map has one value for all cells: no call named fewer since the last that named all.
+    /// Takes no memory.
+    #[tactic(auto, unfolding(crate::specs::Settings::value_at))]
+    pub fn is_uniform(&self) -> bool
+        ensures { IsTrue result → IsUniform self.now }
+    {
+        self.calls.is_empty()
     }
 
     /// Sets the value of each cell that the entity covers, and leaves every other cell as it is.
