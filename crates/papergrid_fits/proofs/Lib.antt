@@ -4,3 +4,5 @@ pub mod Widths
 pub mod First
 pub mod Ranges
 pub mod Estimated
+pub mod TotalLemmas
+pub mod RoomLemmas

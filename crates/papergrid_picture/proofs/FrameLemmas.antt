@@ -17,6 +17,23 @@ range_with_len-more a n = ap (range_with_len a) (add-one n) ∙ by a n
     by a zero = let same : a ≡ a + 0 = omega arith in ap (λ b. b ∷ []) same
     by a (suc n) = let same : (a + 1) + n ≡ a + suc n = omega arith in ap (λ bs. a ∷ bs) (by (a + 1) n) ∙ ap (λ b. a ∷ (range_with_len (a + 1) n ++ b ∷ [])) same
 
+range_with_len-parted : (a k m : ℕ) → range_with_len a (k + suc m) ≡ range_with_len a k ++ (a + k) ∷ range_with_len (a + k + 1) m
+range_with_len-parted a zero m =
+    let same : a ≡ a + 0 = omega arith in
+    let all : 0 + suc m ≡ suc m = omega arith in
+    ap (range_with_len a) all ∙ ap (λ b. b ∷ range_with_len (b + 1) m) same
+range_with_len-parted a (suc k) m =
+    let same : a + 1 + k ≡ a + suc k = omega arith in
+    let all : suc k + suc m ≡ suc (k + suc m) = omega arith in
+    ap (range_with_len a) all ∙ ap (λ xs. a ∷ xs) (range_with_len-parted (a + 1) k m) ∙ ap (λ b. a ∷ (range_with_len (a + 1) k ++ b ∷ range_with_len (b + 1) m)) same
+
+-- the first n numbers are those below k, k, and those behind it
+pub range-at : (k n : ℕ) → k < n → range_with_len 0 n ≡ range_with_len 0 k ++ k ∷ range_with_len (k + 1) (n - (k + 1))
+range-at k n h =
+    let all : n ≡ k + suc (n - (k + 1)) = omega arith in
+    let place : 0 + k ≡ k = omega arith in
+    ap (range_with_len 0) all ∙ range_with_len-parted 0 k (n - (k + 1)) ∙ ap (λ b. range_with_len 0 k ++ b ∷ range_with_len (b + 1) (n - (k + 1))) place
+
 -- how many of n boundaries from one on are there
 abbrev count : (ℕ → Bool) → ℕ → ℕ → ℕ
 count has first n = length (filter has (range_with_len first n))

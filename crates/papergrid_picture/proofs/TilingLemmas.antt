@@ -1,5 +1,5 @@
 -- The pieces of each line stand side by side.
-use Rattle.std.proofs.Common.{◌≡◌, ◌↔◌, ℕ, zero, suc, ◌+◌, ◌-◌, ◌<◌, ◌≤◌, ◌==◌, Bool, true, false, cond, inl, inr, List, Option, [], ◌∷◌, ◌++◌, map, length, replicate, get_or, refl, ap, sym, subst, ◌∙◌, arith, add-one, append-nil, length-append}
+use Rattle.std.proofs.Common.{◌≡◌, ◌↔◌, ℕ, zero, suc, ◌+◌, ◌-◌, ◌<◌, ◌≤◌, ◌==◌, Bool, true, false, cond, inl, inr, List, Option, [], ◌∷◌, ◌++◌, map, length, replicate, get_or, refl, ap, sym, subst, ◌∙◌, arith, add-one, append-nil, append_assoc, eq-eqb, length-append}
 use Rattle.std.specs.Prelude.{flat_map, nat_lt, slice_index, unwrap_or}
 use Rattle.std.specs.List.{AllByRecursion, range_with_len}
 use Rattle.std.proofs.lemmas.Bool.{cases_lt}
@@ -14,14 +14,16 @@ use Rattle.grid_config_values.specs.declared.alignment.AlignmentVertical.TheVari
 use Rattle.grid_config_values.specs.declared.position.Position.{Position}
 use Rattle.grid_config_values.specs.Glyphs.{boundary_kind, crossing, in_row}
 use Rattle.grid_config_spans.specs.declared.extent.Extent.{Extent}
+use Rattle.grid_config_spans.specs.Rectangles.{Holds, IsInside}
+use Rattle.grid_config_spans.specs.Spans.{IsInTable}
 use Rattle.grid_config_colors.specs.Colors.{Color}
 use Rattle.papergrid_picture.specs.Frame.{Tracks, thickness, boundary_at, track_at, stretch, Place, Boundary, Row, Outside, block_height, block_width, column_count, place, row_count, total_width}
 use Rattle.papergrid_picture.specs.Blocks.{Content, Fill, Glyph, Part, Grid, block, fill, free_above, free_left, greatest, text_line}
-use Rattle.papergrid_picture.specs.Picture.{Piece, across, along, blank, block_pieces, boundary_part, corner, edge, laid, margin_line, picture_line, pieces_at, row_part, seen, upright}
-use Rattle.papergrid_picture.specs.Tiling.{BeginsBehindMargin, HasGoodSpans, HasRoom, ShowsPlace, Tiles}
-use Rattle.papergrid_picture.proofs.FrameLemmas.{boundary-behind, boundary-first, boundary-next, boundary-order, range_with_len-more}
+use Rattle.papergrid_picture.specs.Picture.{Piece, across, along, at, blank, block_pieces, boundary_part, corner, edge, laid, margin_line, picture_line, pieces_at, row_part, seen, upright}
+use Rattle.papergrid_picture.specs.Tiling.{BeginsBehindMargin, HasGoodSpans, HasRoom, IsLineOf, ShowsBlock, ShowsPlace, Tiles}
+use Rattle.papergrid_picture.proofs.FrameLemmas.{boundary-behind, boundary-first, boundary-next, boundary-order, range-at, range_with_len-more}
 use Rattle.papergrid_picture.proofs.PlaceLemmas.{place-shown}
-use Rattle.papergrid_picture.proofs.SeenLemmas.{seen-above, seen-goes_on, seen-holds, seen-inside}
+use Rattle.papergrid_picture.proofs.SeenLemmas.{seen-above, seen-goes_on, seen-holds, seen-in_table, seen-inside}
 use Rattle.papergrid_picture.proofs.RelatedLemmas.{All-append, All-map, All-replicate}
 
 -- ---- parts side by side
@@ -265,6 +267,28 @@ module _ (columns : Tracks) (cell : ℕ → Position) (span : Position → ℕ) 
         subst (λ n. Tiles (boundary_at columns 0) (flat_map part (range_with_len 0 count)) (boundary_at columns n)) (end-all count refl)
         (Tiles-parts count (omega arith))
 
+    -- the pieces before the block of a cell end where it begins
+    pub Tiles-before : (n : ℕ) → n < count → ((cell n).col ≡ n) → Tiles (boundary_at columns 0) (flat_map part (range_with_len 0 n) ++ edge n) (track_at columns n)
+    Tiles-before n inside first =
+        Tiles-append (boundary_at columns 0) (boundary_at columns n) (track_at columns n) (flat_map part (range_with_len 0 n)) (edge n)
+        (subst (λ m. Tiles (boundary_at columns 0) (flat_map part (range_with_len 0 n)) (boundary_at columns m)) (end-here n inside (λ _. first)) (Tiles-parts n (omega (arith, inside))))
+        (line.edges n)
+
+    -- the columns are those pieces, the block, and others
+    pub columns-parted : (n : ℕ) → n < count → is_shown (cell n) ≡ true → (cell n).col ≡ n
+        → flat_map part (range_with_len 0 count) ≡ (flat_map part (range_with_len 0 n) ++ edge n) ++ (block (cell n) ++ flat_map part (range_with_len (n + 1) (count - (n + 1))))
+    columns-parted n inside shown first =
+        let before = flat_map part (range_with_len 0 n) in
+        let behind = flat_map part (range_with_len (n + 1) (count - (n + 1))) in
+        let own : ((cell n).col == n) ≡ true = eq-eqb (cell n).col n first in
+        let here : part n ≡ edge n ++ block (cell n) =
+        ap (λ b. cond b (cond ((cell n).col == n) (edge n ++ block (cell n)) []) (edge n ++ along n)) shown ∙ ap (λ b. cond b (edge n ++ block (cell n)) []) own in
+        ap (flat_map part) (range-at n count inside)
+        ∙ flat_map-append part (range_with_len 0 n) (n ∷ range_with_len (n + 1) (count - (n + 1)))
+        ∙ ap (λ pieces. before ++ (pieces ++ behind)) here
+        ∙ ap (λ pieces. before ++ pieces) (append_assoc (edge n) (block (cell n)) behind)
+        ∙ sym (append_assoc before (edge n) (block (cell n) ++ behind))
+
 -- ---- the lines of a picture
 
 module _ (grid : Grid) (spans : List (Position × Extent)) (good : HasGoodSpans grid spans) (room : HasRoom grid) where
@@ -439,6 +463,140 @@ module _ (grid : Grid) (spans : List (Position × Extent)) (good : HasGoodSpans 
 
     pub Tiles-picture : (y : ℕ) → Tiles 0 (picture_line grid y) (total_width grid.frame)
     Tiles-picture y = Tiles-place y (place rows y) (place-shown rows y)
+
+    -- ---- rectangles
+
+    Tiles-behind : (a b c : ℕ) (xs ys : List Piece) → Tiles a xs b → Tiles a (xs ++ ys) c → Tiles b ys c
+    Tiles-behind a b c [] ys first both = subst (λ n. Tiles n ys c) first both
+    Tiles-behind a b c (x ∷ xs) ys first both = Tiles-behind (a + x.part.width) b c xs ys first.1 both.1
+
+    -- a line whose columns are such pieces shows the block
+    shows-block : (cell : Position) (y : ℕ) (part : ℕ → List Piece) (last before behind : List Piece) → picture_line grid y ≡ across grid part last
+        → flat_map part (range_with_len 0 (column_count grid.frame)) ≡ before ++ (block_pieces grid cell y ++ behind)
+        → Tiles (boundary_at columns 0) before (track_at columns cell.col)
+        → Tiles (track_at columns cell.col) (block_pieces grid cell y) (track_at columns cell.col + block_width grid.frame cell)
+        → ShowsBlock grid cell y
+    shows-block cell y part last before behind is inner left inside =
+        let look = grid.frame.look in
+        let margin : Piece = record { left = 0; part = fill look.margin.left.size look.margin.left.fill look.margin_color.left } in
+        let right = laid (track_at columns (column_count grid.frame)) (fill look.margin.right.size look.margin.right.fill look.margin_color.right ∷ []) in
+        let start : boundary_at columns 0 ≡ 0 + look.margin.left.size = omega (arith, boundary-first columns, margins) in
+        let block = block_pieces grid cell y in
+        let parted : picture_line grid y ≡ (margin ∷ before) ++ (block ++ (behind ++ (last ++ right))) =
+        is ∙ ap (λ pieces. margin ∷ (pieces ++ (last ++ right))) inner
+        ∙ ap (λ pieces. margin ∷ pieces) (append_assoc before (block ++ behind) (last ++ right) ∙ ap (λ pieces. before ++ pieces) (append_assoc block behind (last ++ right))) in
+        let up_to : Tiles 0 (margin ∷ before) (track_at columns cell.col) = (refl, subst (λ a. Tiles a before (track_at columns cell.col)) start left) in
+        let whole : Tiles 0 ((margin ∷ before) ++ (block ++ (behind ++ (last ++ right)))) (total_width grid.frame) = subst (λ (pieces : List Piece). Tiles 0 pieces (total_width grid.frame)) parted (Tiles-picture y) in
+        record {
+          before = margin ∷ before;
+          behind = behind ++ (last ++ right);
+          parted = parted;
+          left = up_to;
+          inside = inside;
+          right = Tiles-behind (track_at columns cell.col) (track_at columns cell.col + block_width grid.frame cell) (total_width grid.frame) block (behind ++ (last ++ right)) inside
+              (Tiles-behind 0 (track_at columns cell.col) (total_width grid.frame) (margin ∷ before) (block ++ (behind ++ (last ++ right))) up_to whole);
+        }
+
+    module _ (i j y : ℕ) (row : i < row_count grid.frame) (column : j < column_count grid.frame) (in_line : IsLineOf grid (seen grid i j) y) where
+      abbrev shown_cell : Position
+      shown_cell = seen grid i j
+
+      abbrev height_of : ℕ
+      height_of = (grid.frame.look.extent shown_cell).rows
+
+      held : Holds shown_cell (grid.frame.look.extent shown_cell) (at i j)
+      held = seen-holds grid spans good i j
+
+      in_table : IsInTable (row_count grid.frame) (column_count grid.frame) shown_cell
+      in_table = seen-in_table grid spans good i j row column
+
+      fits : IsInside shown_cell (grid.frame.look.extent shown_cell) (row_count grid.frame) (column_count grid.frame)
+      fits = seen-inside grid spans good i j row column
+
+      -- it is seen in each of its rows, from its first column on
+      seen-there : (r : ℕ) → shown_cell.row ≤ r → r < shown_cell.row + height_of → seen grid r shown_cell.col ≡ shown_cell
+      seen-there r from before =
+          seen-goes_on grid spans good i j r shown_cell.col row column (omega (arith, before, fits.rows_fit)) in_table.1
+          (record { below = from; above = before; right = omega arith; left = omega (arith, held.right, held.left) })
+
+      ends-below : track_at rows shown_cell.row + block_height grid.frame shown_cell ≡ boundary_at rows (shown_cell.row + height_of)
+      ends-below = block-ends_below shown_cell (omega (arith, held.below, held.above)) fits.rows_fit
+
+      block-there : (r : ℕ) → seen grid r shown_cell.col ≡ shown_cell → r < row_count grid.frame
+          → Tiles (track_at columns shown_cell.col) (block_pieces grid shown_cell y) (track_at columns shown_cell.col + block_width grid.frame shown_cell)
+      block-there r same inside = Tiles-block grid shown_cell y (room.room i j row column) (omega (arith, in_line.0, in_line.1))
+
+      -- boundaries stand in their order
+      order : (r s : ℕ) → r ≤ s → s ≤ row_count grid.frame → boundary_at rows r ≤ boundary_at rows s
+      order r s before last = let same : r + (s - r) ≡ s = omega (arith, before) in omega (arith, boundary-order rows r (s - r) (omega (arith, same, last)), ap (boundary_at rows) same)
+
+      shown-at : (p : Place) → place rows y ≡ p → ShowsPlace rows y p → ShowsBlock grid shown_cell y
+      shown-at (Row r) is at_row =
+          let from : shown_cell.row ≤ r = (elim (cases_lt r shown_cell.row) [
+            | inl lt ↦ absurd (omega (arith, order (r + 1) shown_cell.row (omega (arith, lt)) (omega (arith, in_table.0)), boundary-next rows r at_row.0, at_row.2, in_line.0))
+            | inr ge ↦ ge
+          ]) in
+          let before : r < shown_cell.row + height_of = (elim (cases_lt r (shown_cell.row + height_of)) [
+            | inl lt ↦ lt
+            | inr ge ↦ absurd (omega (arith, order (shown_cell.row + height_of) r ge (omega (arith, at_row.0)), at_row.1, in_line.1, ends-below))
+          ]) in
+          let same = seen-there r from before in
+          let n = shown_cell.col in
+          let count = column_count grid.frame in
+          let own : (seen grid r n).col ≡ n = ap (λ (p : Position). p.col) same in
+          let line = row-line r y at_row.0 at_row.1 at_row.2 in
+          let behind = flat_map (row_part grid r y) (range_with_len (n + 1) (count - (n + 1))) in
+          shows-block shown_cell y (row_part grid r y) (upright grid count) (flat_map (row_part grid r y) (range_with_len 0 n) ++ upright grid n) behind
+          (ap (λ p. pieces_at grid p y) is)
+          (columns-parted columns (seen grid r) span_of (λ _. true) (upright grid) (along grid r) (λ cell. block_pieces grid cell y) line n in_table.1 refl own
+          ∙ ap (λ (cell : Position). (flat_map (row_part grid r y) (range_with_len 0 n) ++ upright grid n) ++ (block_pieces grid cell y ++ behind)) same)
+          (Tiles-before columns (seen grid r) span_of (λ _. true) (upright grid) (along grid r) (λ cell. block_pieces grid cell y) line n in_table.1 own)
+          (block-there r same at_row.0)
+      shown-at (Boundary r) is at_boundary =
+          let one : track_at rows r ≡ boundary_at rows r + 1 = ap (λ b. boundary_at rows r + thickness b) at_boundary.1 in
+          let before : r < shown_cell.row + height_of = (elim (cases_lt r (shown_cell.row + height_of)) [
+            | inl lt ↦ lt
+            | inr ge ↦ absurd (omega (arith, order (shown_cell.row + height_of) r ge at_boundary.0, at_boundary.2, in_line.1, ends-below))
+          ]) in
+          let inside : r < row_count grid.frame = omega (arith, before, fits.rows_fit) in
+          let from : shown_cell.row < r = (elim (cases_lt shown_cell.row r) [
+            | inl lt ↦ lt
+            | inr ge ↦ absurd (first-rows r one inside ge at_boundary.2)
+          ]) in
+          let same = seen-there r (omega (arith, from)) before in
+          let n = shown_cell.col in
+          let count = column_count grid.frame in
+          let own : (seen grid r n).col ≡ n = ap (λ (p : Position). p.col) same in
+          let shown : nat_lt (seen grid r n).row r ≡ true = ap (λ (p : Position). nat_lt p.row r) same ∙ is_less shown_cell.row r from in
+          let line = boundary-line r at_boundary.0 at_boundary.1 in
+          let part = boundary_part grid r (boundary_at rows r) in
+          let behind = flat_map part (range_with_len (n + 1) (count - (n + 1))) in
+          shows-block shown_cell y part (corner grid r count) (flat_map part (range_with_len 0 n) ++ corner grid r n) behind
+          (ap (λ p. pieces_at grid p y) is ∙ ap (λ z. across grid (boundary_part grid r z) (corner grid r count)) at_boundary.2)
+          (columns-parted columns (seen grid r) span_of (is_above r) (corner grid r) (along grid r) (λ cell. block_pieces grid cell (boundary_at rows r)) line n in_table.1 shown own
+          ∙ ap (λ (cell : Position). (flat_map part (range_with_len 0 n) ++ corner grid r n) ++ (block_pieces grid cell (boundary_at rows r) ++ behind)) same
+          ∙ ap (λ z. (flat_map part (range_with_len 0 n) ++ corner grid r n) ++ (block_pieces grid shown_cell z ++ behind)) (sym at_boundary.2))
+          (Tiles-before columns (seen grid r) span_of (is_above r) (corner grid r) (along grid r) (λ cell. block_pieces grid cell (boundary_at rows r)) line n in_table.1 own)
+          (block-there r same inside)
+        where
+          is_less : (a b : ℕ) → a < b → nat_lt a b ≡ true
+          is_less a b less = grind (arith, nat_tests, less)
+
+          -- no line of the rectangle is that of the boundary above it, or of one before
+          first-rows : (r : ℕ) → track_at rows r ≡ boundary_at rows r + 1 → r < row_count grid.frame → r ≤ shown_cell.row → y ≡ boundary_at rows r → ⊥
+          first-rows r one inside before here = elim (cases_lt r shown_cell.row) [
+            | inl lt ↦ absurd (omega (arith, order (r + 1) shown_cell.row (omega (arith, lt)) (omega (arith, in_table.0)), boundary-next rows r inside, one, here, in_line.0))
+            | inr ge ↦
+                let same : r ≡ shown_cell.row = omega (arith, ge, before) in
+                omega (arith, ap (track_at rows) same, one, here, in_line.0)
+          ]
+      shown-at Outside is outside = absurd (elim outside [
+        | inl above ↦ omega (arith, above, in_line.0, order 0 shown_cell.row (omega arith) (omega (arith, in_table.0)), boundary-first rows)
+        | inr below ↦ omega (arith, below, in_line.1, ends-below, order (shown_cell.row + height_of) (row_count grid.frame) fits.rows_fit (omega arith))
+      ])
+
+      pub rectangle-shown : ShowsBlock grid shown_cell y
+      rectangle-shown = shown-at (place rows y) refl (place-shown rows y)
 
 -- ---- one line of a text
 

@@ -1,11 +1,11 @@
 -- The pieces of a line side by side.
-use Rattle.std.specs.Prelude.{◌≡◌, ◌⊎◌, ℕ, ◌+◌, ◌<◌, ◌≤◌, true, List, [], ◌∷◌, length, slice_index}
+use Rattle.std.specs.Prelude.{◌≡◌, ◌⊎◌, ℕ, ◌+◌, ◌<◌, ◌≤◌, true, List, [], ◌∷◌, ◌++◌, length, slice_index}
 use Rattle.grid_config_values.specs.declared.position.Position.{Position}
 use Rattle.grid_config_spans.specs.declared.extent.Extent.{Extent}
 use Rattle.grid_config_spans.specs.Spans.{AreGood, ArePositive, extent_at}
-use Rattle.papergrid_picture.specs.Frame.{Boundary, Frame, Outside, Place, Row, Tracks, block_width, boundary_at, column_count, row_count, track_at}
+use Rattle.papergrid_picture.specs.Frame.{Boundary, Frame, Outside, Place, Row, Tracks, block_height, block_width, boundary_at, column_count, row_count, total_width, track_at}
 use Rattle.papergrid_picture.specs.Blocks.{Grid, greatest}
-use Rattle.papergrid_picture.specs.Picture.{Piece, seen}
+use Rattle.papergrid_picture.specs.Picture.{Piece, block_pieces, picture_line, seen}
 
 -- from column a to column b, with no gap and no overlap
 abbrev pub Tiles : ℕ → List Piece → ℕ → Type 0
@@ -35,3 +35,17 @@ ShowsPlace rows y Outside = (y < rows.margin) ⊎ (track_at rows (length rows.si
 -- the columns of a table begin behind its left margin, as they do in every table of sizes
 abbrev pub BeginsBehindMargin : Frame → Type 0
 BeginsBehindMargin frame = frame.columns.margin ≡ frame.look.margin.left.size
+
+-- line y shows a line of the cell's block between the columns of its rectangle, and other pieces tile what is left of it and
+-- what is right of it
+pub record ShowsBlock (grid : Grid) (cell : Position) (y : ℕ) : Type 0 where
+  pub before : List Piece
+  pub behind : List Piece
+  pub parted : picture_line grid y ≡ before ++ (block_pieces grid cell y ++ behind)
+  pub left : Tiles 0 before (track_at grid.frame.columns cell.col)
+  pub inside : Tiles (track_at grid.frame.columns cell.col) (block_pieces grid cell y) (track_at grid.frame.columns cell.col + block_width grid.frame cell)
+  pub right : Tiles (track_at grid.frame.columns cell.col + block_width grid.frame cell) behind (total_width grid.frame)
+
+-- line y is one of those of the rectangle of a cell
+abbrev pub IsLineOf : Grid → Position → ℕ → Type 0
+IsLineOf grid cell y = (track_at grid.frame.rows cell.row ≤ y) × (y < track_at grid.frame.rows cell.row + block_height grid.frame cell)

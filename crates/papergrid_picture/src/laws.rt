@@ -14,12 +14,12 @@ ghost use Rattle.grid_config.specs.Compact.{each_side};
 ghost use Rattle.grid_config.specs.Looks.{Look};
 ghost use Rattle.grid_records_measure.specs.TextLines.{line_feed};
 ghost use Rattle.papergrid_picture.specs.Blocks.{Grid, text_line};
-ghost use Rattle.papergrid_picture.specs.Frame.{Boundary, Outside, Row, Tracks, boundary_at, frame_of, line_count, place, total_width, track_at};
-ghost use Rattle.papergrid_picture.specs.Picture.{laid, picture_line};
+ghost use Rattle.papergrid_picture.specs.Frame.{Boundary, Outside, Row, Tracks, boundary_at, column_count, frame_of, line_count, place, row_count, total_width, track_at};
+ghost use Rattle.papergrid_picture.specs.Picture.{laid, picture_line, seen};
 ghost use Rattle.papergrid_picture.specs.Reading.{Reading, grid_items};
 ghost use Rattle.papergrid_picture.specs.Shown.{ArePlainTexts, AreWholeTexts, IsBare, IsReadBy, KeepsLineEnds, Shows, Styled, character_of, character_picture, characters_of, stripped_texts, styled_picture, styled_texts};
 ghost use Rattle.papergrid_picture.specs.Tables.{table_line, table_lines, table_text};
-ghost use Rattle.papergrid_picture.specs.Tiling.{BeginsBehindMargin, HasGoodSpans, HasRoom, ShowsPlace, Tiles};
+ghost use Rattle.papergrid_picture.specs.Tiling.{BeginsBehindMargin, HasGoodSpans, HasRoom, IsLineOf, ShowsBlock, ShowsPlace, Tiles};
 ghost use Rattle.papergrid_picture.specs.Worked.{ascii, bracketed, cells, crossed, drawn, drawn_in, extents, half_bracketed, joined, named, no_top, outer, padded, plain, span, spaced, with_margins};
 
 /// Pictures that were worked out by hand: two by two cells; cells of two lines to the right, with one
@@ -187,4 +187,14 @@ pub fn tiling()
         (Tiles left (laid left (text_line grid cell width k)) (left + width)
         ↔ ((grid.frame.look.padding cell).left.size + slice_index (grid.measures cell) k + (grid.frame.look.padding cell).right.size ≤ width)) }
     ensures begins { (look : Look) (widths heights : List ℕ) → BeginsBehindMargin (frame_of look widths heights) }
+{}
+
+/// Where the spans are good and each cell that is seen has room, each line of the rectangle of such a cell
+/// shows the line of its block that stands there, from the first to the last of its columns, and nothing
+/// else: the other pieces of the line tile what is left and right of it.
+pub fn rectangles_show_blocks()
+    ensures { (grid : Grid) (spans : List (Cell × Extent)) (i j y : ℕ) →
+        HasGoodSpans grid spans → HasRoom grid → BeginsBehindMargin grid.frame →
+        i < row_count grid.frame → j < column_count grid.frame → IsLineOf grid (seen grid i j) y →
+        ShowsBlock grid (seen grid i j) y }
 {}

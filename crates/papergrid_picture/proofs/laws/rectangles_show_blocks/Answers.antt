@@ -1,0 +1,5 @@
+use Rattle.papergrid_picture.proofs.TilingLemmas.{rectangle-shown}
+use Rattle.papergrid_picture.proofs.laws.rectangles_show_blocks.Goals as goal
+
+pub returns : goal.returns
+returns c = λ grid spans i j y good room margins row column in_line. rectangle-shown grid spans good room margins i j y row column in_line
