@@ -122,7 +122,7 @@ module _ (trim_horizontal trim_vertical : Bool) (text : List ℕ) (items : List 
 
 -- ---- a cell of one line
 
-map-same : {X : Type 0} (xs : List X) → map (λ x. x) xs ≡ xs
+pub map-same : {X : Type 0} (xs : List X) → map (λ x. x) xs ≡ xs
 map-same [] = refl
 map-same (x ∷ xs) = ap (λ ys. x ∷ ys) (map-same xs)
 

@@ -6,3 +6,4 @@ pub mod OwnerLemmas
 mod PlaceLemmas
 mod OpenLemmas
 mod TableLemmas
+pub mod FlatLemmas

@@ -5,3 +5,4 @@ pub mod BlockLines
 pub mod Boundaries
 pub mod Sheets
 pub mod Axes
+pub mod Flat

@@ -104,8 +104,8 @@ fn free_above(alignment: AlignmentVertical, free: usize) -> usize
     }
 }
 
-// How many of the free columns stand before a text.
-fn free_left(alignment: AlignmentHorizontal, free: usize) -> usize
+/// How many of the free columns stand before a text.
+pub(crate) fn free_left(alignment: AlignmentHorizontal, free: usize) -> usize
     ensures { result ≡ free_left alignment free }
 {
     match alignment {

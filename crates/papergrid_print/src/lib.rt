@@ -5,6 +5,7 @@ mod block;
 mod cell_lines;
 pub mod colors;
 mod extents;
+mod flat;
 mod glyphs;
 mod painting;
 mod print;

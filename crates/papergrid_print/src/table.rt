@@ -1,10 +1,14 @@
 //! The lines of a table.
-ghost use Rattle.std.specs.Prelude.{◌≡◌, ◌++◌, ◌<◌, ◌≤◌, ◌+◌, ◌^◌, IfOk, List, OnOk, ℕ, [], map, length, string_bytes};
+ghost use Rattle.std.specs.Prelude.{◌≡◌, ◌++◌, ◌<◌, ◌≤◌, ◌+◌, ◌^◌, ⊤, IfOk, List, MatchOption, OnOk, ℕ, [], map, length, slice_index, string_bytes};
 ghost use Rattle.grid_config_spans.specs.Spans.{AreGood, extent_at};
 ghost use Rattle.papergrid_picture.specs.Frame.{Boundary, Row, boundary_at, line_count, total_width, track_at};
 ghost use Rattle.papergrid_picture.specs.Picture.{boundary_part, parts_of, row_part};
 ghost use Rattle.papergrid_picture.specs.Blocks.{Part};
 ghost use Rattle.papergrid_picture.specs.Reading.{line_items};
+ghost use Rattle.grid_config.specs.Looks.{look_of};
+ghost use Rattle.grid_records_traits.specs.Cells.{HasLineWidth, HasWidth};
+ghost use Rattle.grid_records_traits.specs.Rows.{text_at};
+ghost use Rattle.papergrid_print.specs.Flat.{AreFlat, AreFlatRows, AreMadeFor, IsBetween, first_placed, standing_of};
 ghost use Rattle.papergrid_print.specs.Painting.{colored, fill_bytes, glyph_part};
 ghost use Rattle.papergrid_print.specs.Sheets.{GoesOn, IsOpen, IsPrintable, ShowsCell, bytes_of, grid_of, feed_before, line_at, lines_of, place_line, plain_bytes, row_tracks, sheet_of};
 
@@ -12,6 +16,7 @@ use crate::block::{OpenCell, block_line, push_blank, push_block_line, push_inden
 use crate::cell_lines::read_cell;
 use crate::colors::Colors;
 use crate::extents::{Axis, stretch, thickness};
+use crate::flat::{FlatRows, are_flat};
 use crate::glyphs::{push_along, push_behind, push_corner, push_upright};
 use crate::painting::{GlyphRun, push_glyphs};
 use grid_config::SpannedConfig;
@@ -144,6 +149,29 @@ impl<'a, R: PeekableRecords, C: Colors> Table<'a, R, C> {
         push_indent(out, &margin.right, &colors.right)
     }
 
+    // Appends line `y`, which shows row boundary `i`: between two rows the line that was made, where one was.
+    fn push_boundary_again(
+        &self,
+        out: &mut String,
+        runs: &mut Vec<GlyphRun<'a>>,
+        between: &Option<String>,
+        cells: &[Option<OpenCell<'a>>],
+        i: usize,
+        y: usize,
+    ) -> Result<(), AllocError>
+        requires between { MatchOption between.now ⊤ (λ text. IsBetween (sheet_of self.now.cfg.now (R.rows self.now.records.now) (C.color self.now.colors.now) self.now.widths.now self.now.heights.now) (string_bytes text)) }
+        requires goes_on { GoesOn (sheet_of self.now.cfg.now (R.rows self.now.records.now) (C.color self.now.colors.now) self.now.widths.now self.now.heights.now) i cells.now }
+        requires wide { length cells.now ≡ length self.now.widths.now }
+        ensures { OnOk result (string_bytes out.new ≡ string_bytes out.old ++ line_at (sheet_of self.now.cfg.now (R.rows self.now.records.now) (C.color self.now.colors.now) self.now.widths.now self.now.heights.now) (Boundary i) y) }
+    {
+        if i > 0 && i < self.heights.len() {
+            if let Some(text) = between {
+                return out.push_str(text);
+            }
+        }
+        self.push_boundary_line(out, runs, cells, i, y)
+    }
+
     // Appends the lines of row `i`, of which the first is line `y` of the table. The answer is the line
     // behind them.
     fn push_row(
@@ -176,10 +204,12 @@ impl<'a, R: PeekableRecords, C: Colors> Table<'a, R, C> {
         &self,
         out: &mut String,
         runs: &mut Vec<GlyphRun<'a>>,
+        between: &Option<String>,
         cells: &[Option<OpenCell<'a>>],
         i: usize,
         y: usize,
     ) -> Result<usize, AllocError>
+        requires between { MatchOption between.now ⊤ (λ text. IsBetween (sheet_of self.now.cfg.now (R.rows self.now.records.now) (C.color self.now.colors.now) self.now.widths.now self.now.heights.now) (string_bytes text)) }
         requires goes_on { GoesOn (sheet_of self.now.cfg.now (R.rows self.now.records.now) (C.color self.now.colors.now) self.now.widths.now self.now.heights.now) i cells.now }
         requires wide { length cells.now ≡ length self.now.widths.now }
         requires boundary { i ≤ length self.now.heights.now }
@@ -193,7 +223,7 @@ impl<'a, R: PeekableRecords, C: Colors> Table<'a, R, C> {
             return Ok(y);
         }
         push_feed(out, y)?;
-        self.push_boundary_line(out, runs, cells, i, y)?;
+        self.push_boundary_again(out, runs, between, cells, i, y)?;
         Ok(y + 1)
     }
 
@@ -252,6 +282,113 @@ impl<'a, R: PeekableRecords, C: Colors> Table<'a, R, C> {
         Ok(())
     }
 
+    // What rows of one line have in common, where all cells have the same settings.
+    fn flat_rows(&self, alloc: Global) -> Result<Option<FlatRows<'a>>, AllocError>
+        ensures { IfOk result (λ made. AreMadeFor self.now.cfg.now (length self.now.widths.now) made) }
+    {
+        if !are_flat(self.cfg) {
+            return Ok(None);
+        }
+        Ok(Some(FlatRows::new(alloc, self.cfg, self.widths.len())?))
+    }
+
+    // Appends the first line of the cell at this place, between its paddings.
+    fn push_first_line(
+        &self,
+        alloc: Global,
+        out: &mut String,
+        flat: &FlatRows<'a>,
+        pos: Position,
+    ) -> Result<(), AllocError>
+        requires flat { AreFlat self.now.cfg.now }
+        requires column { pos.col < length self.now.widths.now }
+        ensures { OnOk result (string_bytes out.new ≡ string_bytes out.old ++ first_placed (sheet_of self.now.cfg.now (R.rows self.now.records.now) (C.color self.now.colors.now) self.now.widths.now self.now.heights.now) (standing_of flat.now) pos) }
+    {
+        let widest = self.records.get_width(pos);
+        let measure = first_width(self.records, pos, widest);
+        let line = self.records.get_line(alloc, pos, 0)?;
+        let color = self.colors.get_color(pos);
+        flat.push_line(out, self.widths[pos.col], measure, widest, color, &line)
+    }
+
+    // Appends the line of row `i`, which has but one.
+    fn push_flat_line(
+        &self,
+        alloc: Global,
+        out: &mut String,
+        flat: &FlatRows<'a>,
+        i: usize,
+    ) -> Result<(), AllocError>
+        requires flat { AreFlat self.now.cfg.now }
+        requires made { AreFlatRows (look_of self.now.cfg.now) (length self.now.widths.now) flat.now }
+        requires row { i < length self.now.heights.now }
+        requires high { slice_index self.now.heights.now i ≡ 1 }
+        requires columns { 0 < length self.now.widths.now }
+        ensures { OnOk result (string_bytes out.new ≡ string_bytes out.old ++ line_at (sheet_of self.now.cfg.now (R.rows self.now.records.now) (C.color self.now.colors.now) self.now.widths.now self.now.heights.now) (Row i) (track_at (row_tracks (sheet_of self.now.cfg.now (R.rows self.now.records.now) (C.color self.now.colors.now) self.now.widths.now self.now.heights.now)) i)) }
+    {
+        let columns = self.widths.len();
+        out.push_str(flat.front())?;
+        for j in 0..columns {
+            self.push_first_line(alloc, out, flat, Position::new(i, j))?;
+            out.push_str(flat.behind(j, columns))?;
+        }
+        Ok(())
+    }
+
+    // The line of each row boundary between two rows, where no cell spans several rows or columns.
+    fn between_line(
+        &self,
+        alloc: Global,
+        runs: &mut Vec<GlyphRun<'a>>,
+        cells: &[Option<OpenCell<'a>>],
+    ) -> Result<Option<String>, AllocError>
+        requires wide { length cells.now ≡ length self.now.widths.now }
+        ensures { IfOk result (λ line. MatchOption line ⊤ (λ text. IsBetween (sheet_of self.now.cfg.now (R.rows self.now.records.now) (C.color self.now.colors.now) self.now.widths.now self.now.heights.now) (string_bytes text))) }
+    {
+        if self.heights.len() < 2 || !self.cfg.has_no_spans() {
+            return Ok(None);
+        }
+        let mut text = String::new(alloc);
+        self.push_boundary_line(&mut text, runs, cells, 1, 0)?;
+        Ok(Some(text))
+    }
+
+    // Appends the lines of row `i`, as `push_row` does, and reads its cells before.
+    fn push_next_row(
+        &self,
+        alloc: Global,
+        out: &mut String,
+        flat: &Option<FlatRows<'a>>,
+        cells: &mut [Option<OpenCell<'a>>],
+        i: usize,
+        y: usize,
+    ) -> Result<usize, AllocError>
+        requires made { AreMadeFor self.now.cfg.now (length self.now.widths.now) flat.now }
+        requires goes_on { GoesOn (sheet_of self.now.cfg.now (R.rows self.now.records.now) (C.color self.now.colors.now) self.now.widths.now self.now.heights.now) i cells.old }
+        requires wide { length cells.old ≡ length self.now.widths.now }
+        requires row { i < length self.now.heights.now }
+        requires some { 0 < length self.now.widths.now }
+        requires good { AreGood self.now.cfg.now.spans (length self.now.heights.now) (length self.now.widths.now) }
+        requires range { boundary_at (row_tracks (sheet_of self.now.cfg.now (R.rows self.now.records.now) (C.color self.now.colors.now) self.now.widths.now self.now.heights.now)) (length self.now.heights.now) < 2 ^ 64 }
+        requires columns { boundary_at (grid_of (sheet_of self.now.cfg.now (R.rows self.now.records.now) (C.color self.now.colors.now) self.now.widths.now self.now.heights.now)).frame.columns (length self.now.widths.now) < 2 ^ 64 }
+        requires top { y ≡ track_at (row_tracks (sheet_of self.now.cfg.now (R.rows self.now.records.now) (C.color self.now.colors.now) self.now.widths.now self.now.heights.now)) i }
+        requires lines { string_bytes out.old ≡ lines_of (sheet_of self.now.cfg.now (R.rows self.now.records.now) (C.color self.now.colors.now) self.now.widths.now self.now.heights.now) y }
+        ensures lines { OnOk result (string_bytes out.new ≡ lines_of (sheet_of self.now.cfg.now (R.rows self.now.records.now) (C.color self.now.colors.now) self.now.widths.now self.now.heights.now) (boundary_at (row_tracks (sheet_of self.now.cfg.now (R.rows self.now.records.now) (C.color self.now.colors.now) self.now.widths.now self.now.heights.now)) (i + 1))) }
+        ensures end { IfOk result (λ end. end ≡ boundary_at (row_tracks (sheet_of self.now.cfg.now (R.rows self.now.records.now) (C.color self.now.colors.now) self.now.widths.now self.now.heights.now)) (i + 1)) }
+        ensures goes_on { OnOk result (GoesOn (sheet_of self.now.cfg.now (R.rows self.now.records.now) (C.color self.now.colors.now) self.now.widths.now self.now.heights.now) (i + 1) cells.new) }
+        ensures wide { length cells.new ≡ length cells.old }
+    {
+        if self.heights[i] == 1 {
+            if let Some(flat) = flat {
+                push_feed(out, y)?;
+                self.push_flat_line(alloc, out, flat, i)?;
+                return Ok(y + 1);
+            }
+        }
+        self.open_row(alloc, cells, i, y)?;
+        self.push_row(out, cells, i, y)
+    }
+
     // Appends the lines of a margin, from line `y` of the table on, of which each takes `width` columns.
     fn push_margin(
         &self,
@@ -288,8 +425,39 @@ impl<'a, R: PeekableRecords, C: Colors> Table<'a, R, C> {
             + margin.right.size
     }
 
-    // Appends all lines between the margins. The answer is the line behind them.
+    // Appends all lines between the margins, by what was made once for all of them. The answer is the line
+    // behind them.
+    fn push_all_rows(
+        &self,
+        alloc: Global,
+        out: &mut String,
+        flat: &Option<FlatRows<'a>>,
+        between: &Option<String>,
+        runs: &mut Vec<GlyphRun<'a>>,
+        cells: &mut [Option<OpenCell<'a>>],
+    ) -> Result<usize, AllocError>
+        requires some { 0 < length self.now.widths.now }
+        requires good { AreGood self.now.cfg.now.spans (length self.now.heights.now) (length self.now.widths.now) }
+        requires lines { track_at (row_tracks (sheet_of self.now.cfg.now (R.rows self.now.records.now) (C.color self.now.colors.now) self.now.widths.now self.now.heights.now)) (length self.now.heights.now) < 2 ^ 64 }
+        requires columns { boundary_at (grid_of (sheet_of self.now.cfg.now (R.rows self.now.records.now) (C.color self.now.colors.now) self.now.widths.now self.now.heights.now)).frame.columns (length self.now.widths.now) < 2 ^ 64 }
+        requires made { AreMadeFor self.now.cfg.now (length self.now.widths.now) flat.now }
+        requires between { MatchOption between.now ⊤ (λ text. IsBetween (sheet_of self.now.cfg.now (R.rows self.now.records.now) (C.color self.now.colors.now) self.now.widths.now self.now.heights.now) (string_bytes text)) }
+        requires wide { length cells.old ≡ length self.now.widths.now }
+        requires above { string_bytes out.old ≡ lines_of (sheet_of self.now.cfg.now (R.rows self.now.records.now) (C.color self.now.colors.now) self.now.widths.now self.now.heights.now) (boundary_at (row_tracks (sheet_of self.now.cfg.now (R.rows self.now.records.now) (C.color self.now.colors.now) self.now.widths.now self.now.heights.now)) 0) }
+        ensures lines { OnOk result (string_bytes out.new ≡ lines_of (sheet_of self.now.cfg.now (R.rows self.now.records.now) (C.color self.now.colors.now) self.now.widths.now self.now.heights.now) (track_at (row_tracks (sheet_of self.now.cfg.now (R.rows self.now.records.now) (C.color self.now.colors.now) self.now.widths.now self.now.heights.now)) (length self.now.heights.now))) }
+        ensures end { IfOk result (λ end. end ≡ track_at (row_tracks (sheet_of self.now.cfg.now (R.rows self.now.records.now) (C.color self.now.colors.now) self.now.widths.now self.now.heights.now)) (length self.now.heights.now)) }
+    {
+        let mut y = self.cfg.get_margin().top.size;
+        for i in 0..self.heights.len() {
+            y = self.push_boundary(out, runs, between, cells, i, y)?;
+            y = self.push_next_row(alloc, out, flat, cells, i, y)?;
+        }
+        self.push_boundary(out, runs, between, cells, self.heights.len(), y)
+    }
+
+    // The same, with what is made once.
     fn push_rows(&self, alloc: Global, out: &mut String) -> Result<usize, AllocError>
+        requires some { 0 < length self.now.widths.now }
         requires good { AreGood self.now.cfg.now.spans (length self.now.heights.now) (length self.now.widths.now) }
         requires lines { track_at (row_tracks (sheet_of self.now.cfg.now (R.rows self.now.records.now) (C.color self.now.colors.now) self.now.widths.now self.now.heights.now)) (length self.now.heights.now) < 2 ^ 64 }
         requires columns { boundary_at (grid_of (sheet_of self.now.cfg.now (R.rows self.now.records.now) (C.color self.now.colors.now) self.now.widths.now self.now.heights.now)).frame.columns (length self.now.widths.now) < 2 ^ 64 }
@@ -297,15 +465,11 @@ impl<'a, R: PeekableRecords, C: Colors> Table<'a, R, C> {
         ensures lines { OnOk result (string_bytes out.new ≡ lines_of (sheet_of self.now.cfg.now (R.rows self.now.records.now) (C.color self.now.colors.now) self.now.widths.now self.now.heights.now) (track_at (row_tracks (sheet_of self.now.cfg.now (R.rows self.now.records.now) (C.color self.now.colors.now) self.now.widths.now self.now.heights.now)) (length self.now.heights.now))) }
         ensures end { IfOk result (λ end. end ≡ track_at (row_tracks (sheet_of self.now.cfg.now (R.rows self.now.records.now) (C.color self.now.colors.now) self.now.widths.now self.now.heights.now)) (length self.now.heights.now)) }
     {
+        let flat = self.flat_rows(alloc)?;
         let mut runs = Vec::new(alloc);
         let mut cells = closed_cells(alloc, self.widths.len())?;
-        let mut y = self.cfg.get_margin().top.size;
-        for i in 0..self.heights.len() {
-            y = self.push_boundary(out, &mut runs, &cells, i, y)?;
-            self.open_row(alloc, &mut cells, i, y)?;
-            y = self.push_row(out, &cells, i, y)?;
-        }
-        self.push_boundary(out, &mut runs, &cells, self.heights.len(), y)
+        let between = self.between_line(alloc, &mut runs, &cells)?;
+        self.push_all_rows(alloc, out, &flat, &between, &mut runs, &mut cells)
     }
 
     // Appends all lines of a table with rows and columns to an empty text.
@@ -360,4 +524,16 @@ fn row_extent(cfg: &SpannedConfig, pos: Position) -> usize
     ensures some { 0 < result }
 {
     cfg.get_row_span(pos).unwrap_or(1)
+}
+
+// How many columns the first line of the cell at this place takes, whose widest takes so many.
+fn first_width<R: PeekableRecords>(records: &R, pos: Position, widest: usize) -> usize
+    requires { HasWidth (text_at (R.rows records.now) pos) widest }
+    ensures { HasLineWidth (text_at (R.rows records.now) pos) 0 result }
+{
+    if records.count_lines(pos) == 1 {
+        widest
+    } else {
+        records.get_line_width(pos, 0)
+    }
 }

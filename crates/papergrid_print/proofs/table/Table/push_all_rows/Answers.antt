@@ -3,7 +3,7 @@ use Rattle.std.proofs.lemmas.List.{with_items_is}
 use Rattle.papergrid_print.specs.Sheets.{GoesOn, sheet_of}
 use Rattle.papergrid_print.specs.declared.block.OpenCell.{OpenCell}
 use Rattle.papergrid_print.proofs.TableLemmas.{row-within}
-use Rattle.papergrid_print.proofs.table.Table.push_rows.Goals as goal
+use Rattle.papergrid_print.proofs.table.Table.push_all_rows.Goals as goal
 
 pub push_boundary-requires-clause-range : goal.push_boundary-requires-clause-range
 push_boundary-requires-clause-range g c =
@@ -12,12 +12,9 @@ push_boundary-requires-clause-range g c =
 
 pub loop-i-preserved : goal.loop-i-preserved
 loop-i-preserved g c =
-    let sheet = (sheet_of c.args.self.now.cfg.now (g.R.RecordTexts.rows c.args.self.now.records.now) (g.C.Colors.color c.args.self.now.colors.now) c.args.self.now.widths.now c.args.self.now.heights.now) in
-    let long : length c.open_row.new.cells ≡ c.loop-i.cells.len = c.in_ok-open_row.ensures.wide ∙ c.deref_mut.ensures.len in
-    let items = with_items_is c.loop-i.cells c.open_row.new.cells long in
     record {
       line = c.in_ok-y-2.ensures.end;
       lines = c.in_ok-y-2.ensures.lines;
-      wide = ap length items ∙ c.in_ok-open_row.ensures.wide ∙ ap length c.deref_mut.ensures.value ∙ c.loop-i.invariant.wide;
-      goes_on = subst (λ (kept : List (Option OpenCell)). GoesOn sheet (c.loop-i.i + 1) kept) (sym items) c.in_ok-open_row.ensures.goes_on;
+      wide = c.in_ok-y-2.ensures.wide ∙ c.loop-i.invariant.wide;
+      goes_on = c.in_ok-y-2.ensures.goes_on;
     }

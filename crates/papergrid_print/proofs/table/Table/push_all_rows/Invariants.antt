@@ -1,7 +1,7 @@
 use Rattle.std.proofs.Common.{◌≡◌, length, string_bytes}
 use Rattle.papergrid_picture.specs.Frame.{boundary_at}
 use Rattle.papergrid_print.specs.Sheets.{GoesOn, lines_of, row_tracks, sheet_of}
-use Rattle.papergrid_print.proofs.table.Table.push_rows.Given as goal
+use Rattle.papergrid_print.proofs.table.Table.push_all_rows.Given as goal
 
 abbrev pub invariant-loop-i : goal.invariant-loop-i
 invariant-loop-i g l =
@@ -9,6 +9,6 @@ invariant-loop-i g l =
     record {
       line : l.y ≡ boundary_at (row_tracks sheet) l.i;
       lines : string_bytes l.out ≡ lines_of sheet (boundary_at (row_tracks sheet) l.i);
-      wide : length l.cells.items ≡ length l.self.widths.now;
-      goes_on : GoesOn sheet l.i l.cells.items;
+      wide : length l.cells ≡ length l.self.widths.now;
+      goes_on : GoesOn sheet l.i l.cells;
     }

@@ -1,0 +1,106 @@
+-- Rows of one line, where the cells of a table have the same settings: what stands between their texts is the same in each.
+use Rattle.std.specs.Prelude.{◌≡◌, ⊤, ◌<◌, ℕ, ◌-◌, ◌==◌, Bool, false, List, [], ◌++◌, Option, MatchOption, length, slice_index, string_bytes, if◌then◌else◌}
+use Rattle.std.specs.Option.{option_map}
+use Rattle.grid_config_values.specs.declared.alignment.AlignmentHorizontal.{AlignmentHorizontal}
+use Rattle.grid_config_values.specs.declared.position.Position.{Position}
+use Rattle.grid_config_values.specs.Settings.{value_at}
+use Rattle.grid_config_colors.specs.Colors.{Color, color_of}
+use Rattle.grid_config.specs.Looks.{Look, look_of}
+use Rattle.grid_config.specs.Settings.{AreUniform, Settings}
+use Rattle.papergrid_picture.specs.Blocks.{free_left, greatest}
+use Rattle.papergrid_picture.specs.Frame.{Boundary}
+use Rattle.papergrid_picture.specs.Picture.{at}
+use Rattle.papergrid_print.specs.Boundaries.{upright_bytes}
+use Rattle.papergrid_print.specs.Painting.{colored, fill_bytes}
+use Rattle.papergrid_print.specs.Sheets.{Sheet, bytes_of, grid_of, line_at}
+use Rattle.papergrid_print.specs.declared.flat.FlatRows.{FlatRows}
+
+-- the cell whose settings stand for those of all cells
+abbrev pub first_cell : Position
+first_cell = at 0 0
+
+-- all cells have the same settings, none spans several rows or columns, is padded above or below, or is trimmed
+pub record AreFlat (settings : Settings) : Type 0 where
+  pub uniform : AreUniform settings
+  pub single : settings.spans ≡ []
+  pub above : (value_at settings.padding first_cell).top.size ≡ 0
+  pub below : (value_at settings.padding first_cell).bottom.size ≡ 0
+  pub trim_horizontal : value_at settings.trim_horizontal first_cell ≡ false
+  pub trim_vertical : value_at settings.trim_vertical first_cell ≡ false
+
+-- how texts stand in their columns: between which paddings, and what fills what they leave free
+pub record Standing : Type 0 where
+  pub left : ℕ
+  pub right : ℕ
+  pub fill : ℕ
+  pub fill_color : Option Color
+  pub alignment : AlignmentHorizontal
+  pub line_alignment : Bool
+
+abbrev pub standing : Look → Position → Standing
+standing look cell = record {
+  left = (look.padding cell).left.size;
+  right = (look.padding cell).right.size;
+  fill = look.justification cell;
+  fill_color = look.justification_color cell;
+  alignment = look.alignment_horizontal cell;
+  line_alignment = look.line_alignment cell;
+}
+
+-- a line of this measure in a column of this width, between the paddings, where the widest line of the cell measures so much: what
+-- is free before it, the line in its colour, and what is free behind it
+abbrev pub placed : Standing → ℕ → ℕ → ℕ → Option Color → List ℕ → List ℕ
+placed stands width measure widest color line =
+    let room = width - stands.left - stands.right in
+    let indent = free_left stands.alignment (room - (if stands.line_alignment then measure else widest)) in
+    let free : ℕ → List ℕ = λ n. colored stands.fill_color (fill_bytes stands.fill n) in
+    free indent ++ (colored color line ++ free (room - indent - measure))
+
+abbrev pub standing_of : FlatRows → Standing
+standing_of rows = record {
+  left = rows.left;
+  right = rows.right;
+  fill = rows.fill;
+  fill_color = option_map color_of rows.fill_color;
+  alignment = rows.alignment;
+  line_alignment = rows.line_alignment;
+}
+
+module _ (look : Look) where
+  abbrev pub left_margin : List ℕ
+  left_margin = colored look.margin_color.left (fill_bytes look.margin.left.fill look.margin.left.size)
+
+  abbrev pub right_margin : List ℕ
+  right_margin = colored look.margin_color.right (fill_bytes look.margin.right.fill look.margin.right.size)
+
+  -- the paddings of a cell
+  abbrev pub left_padding : Position → List ℕ
+  left_padding cell = colored (look.padding_color cell).left (fill_bytes (look.padding cell).left.fill (look.padding cell).left.size)
+
+  abbrev pub right_padding : Position → List ℕ
+  right_padding cell = colored (look.padding_color cell).right (fill_bytes (look.padding cell).right.fill (look.padding cell).right.size)
+
+  -- what stands before the first line, between two, and behind the last, and how lines stand in their columns
+  pub record AreFlatRows (columns : ℕ) (rows : FlatRows) : Type 0 where
+    pub front : string_bytes rows.front ≡ left_margin ++ (upright_bytes look 0 columns ++ left_padding first_cell)
+    pub between : string_bytes rows.between ≡ right_padding first_cell ++ (upright_bytes look 1 columns ++ left_padding first_cell)
+    pub back : string_bytes rows.back ≡ right_padding first_cell ++ (upright_bytes look columns columns ++ right_margin)
+    pub standing : standing_of rows ≡ standing look first_cell
+
+  -- what stands behind column boundary j of so many: the padding of the next cell, and behind the last one the margin
+  abbrev pub behind_boundary : ℕ → ℕ → List ℕ
+  behind_boundary j columns = if j == columns then right_margin else left_padding first_cell
+
+-- the first line of a cell in its column, as the picture measures it
+abbrev pub first_placed : Sheet → Standing → Position → List ℕ
+first_placed sheet stands cell =
+    let measures = (grid_of sheet).measures cell in
+    placed stands (slice_index sheet.widths cell.col) (slice_index measures 0) (greatest measures) (sheet.colors cell) ((bytes_of sheet).line cell 0)
+
+-- rows of one line that were made for a table with these settings and so many columns, where its settings allow it
+abbrev pub AreMadeFor : Settings → ℕ → Option FlatRows → Type 0
+AreMadeFor settings columns made = MatchOption made ⊤ (λ rows. AreFlat settings × AreFlatRows (look_of settings) columns rows)
+
+-- the bytes are the line of each row boundary between two rows
+abbrev pub IsBetween : Sheet → List ℕ → Type 0
+IsBetween sheet bytes = (i y : ℕ) → 0 < i → i < length sheet.heights → bytes ≡ line_at sheet (Boundary i) y
