@@ -1,5 +1,6 @@
 //! Rows in vectors.
-ghost use Rattle.std.specs.Prelude.{◌≡◌, ◌↔◌, IsTrue, Some, false, vec_len};
+ghost use Rattle.std.specs.Prelude.{◌≡◌, ◌↔◌, [], IsTrue, MatchOption, Some, false, vec_len};
+ghost use Rattle.grid_records_traits.specs.Rows.{text_at};
 ghost use Rattle.grid_records_traits.specs.Sources.{texts_of_rows};
 ghost use Rattle.grid_records_rows.specs.Sources.{AreEquallyLong, columns_of};
 
@@ -10,8 +11,11 @@ use crate::records::{
     ExactRecords, PeekableRecords, RecordColumns, RecordTexts, Records, RecordsMut,
 };
 use grid_config_values::Position;
+use grid_records_measure::{count_lines, get_text_width};
 pub use grid_records_traits::Cell;
 pub use grid_records_traits::records::cell;
+use std::alloc::{AllocError, Global};
+use std::borrow::CowStr;
 use std::{slice, vec};
 pub use text::{FromText, Text};
 
@@ -40,6 +44,13 @@ impl<T: Cell> VecRecords<T> {
     {
         VecRecords { rows }
     }
+
+    // The cell at this place, where there is one.
+    fn cell(&self, pos: Position) -> Option<&T>
+        ensures { MatchOption result (text_at (⟦<VecRecords<T> as RecordTexts>⟧.rows self.now) pos ≡ []) (λ cell. text_at (⟦<VecRecords<T> as RecordTexts>⟧.rows self.now) pos ≡ T.text cell.now) }
+    {
+        self.rows.get(pos.row)?.get(pos.col)
+    }
 }
 
 impl<T: Cell> RecordTexts for VecRecords<T> {
@@ -62,14 +73,45 @@ impl<T: Cell> ExactRecords for VecRecords<T> {
     }
 }
 
+/// What a cell keeps of its text is not found again.
 impl<T: Cell> PeekableRecords for VecRecords<T> {
     fn get_text(&self, pos: Position) -> &str {
-        let Some(row) = self.rows.get(pos.row) else {
-            return "";
-        };
-        match row.get(pos.col) {
+        match self.cell(pos) {
             Some(cell) => cell.text(),
             None => "",
+        }
+    }
+
+    fn get_line(
+        &self,
+        alloc: Global,
+        pos: Position,
+        line: usize,
+    ) -> Result<CowStr<'_>, AllocError> {
+        match self.cell(pos) {
+            Some(cell) => cell.line(alloc, line),
+            None => "".line(alloc, line),
+        }
+    }
+
+    fn count_lines(&self, pos: Position) -> usize {
+        match self.cell(pos) {
+            Some(cell) => cell.count_lines(),
+            None => count_lines(""),
+        }
+    }
+
+    fn get_width(&self, pos: Position) -> usize {
+        match self.cell(pos) {
+            Some(cell) => cell.width(),
+            None => get_text_width(""),
+        }
+    }
+
+    fn get_line_width(&self, pos: Position, line: usize) -> usize {
+        match self.cell(pos) {
+            Some(cell) => cell.line_width(line),
+            None => "".line_width(line),
         }
     }
 }
