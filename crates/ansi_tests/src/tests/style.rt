@@ -244,9 +244,19 @@ fn options_of_a_hole_change_nothing(rt: HostRuntime) -> Result<(), Fail> {
     let style = style_after(&["\x1b[1;31m"]);
     let (start, end) = (style.start(), style.end());
     let wide = format!(in alloc; "{start:20}{end:>30}")?;
-    expect_text(&rt, wide.as_str(), "\x1b[1m\x1b[31m\x1b[22m\x1b[39m", "wide");
+    expect_text(
+        &rt,
+        wide.as_str(),
+        "\x1b[1m\x1b[31m\x1b[22m\x1b[39m",
+        "wide",
+    );
     let other = format!(in alloc; "{start:#}{end:#}")?;
-    expect_text(&rt, other.as_str(), "\x1b[1m\x1b[31m\x1b[22m\x1b[39m", "other");
+    expect_text(
+        &rt,
+        other.as_str(),
+        "\x1b[1m\x1b[31m\x1b[22m\x1b[39m",
+        "other",
+    );
     Ok(())
 }
 
