@@ -1,2 +1,3 @@
 pub mod Equality
 pub mod Looks
+mod Copies

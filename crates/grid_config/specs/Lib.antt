@@ -12,3 +12,4 @@ pub use Rattle.grid_config_spans.specs.Spans
 pub use Rattle.grid_config_spans.specs.Owners
 pub use Rattle.grid_config_colors.specs.Colors
 pub use Rattle.grid_config_colors.specs.Closing
+pub mod Copies

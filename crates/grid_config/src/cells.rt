@@ -1,11 +1,11 @@
 //! The settings that each cell of a table has.
-ghost use Rattle.std.specs.Prelude.{None, false};
+ghost use Rattle.std.specs.Prelude.{None, false, IfOk, OnOk};
 ghost use Rattle.grid_config_values.specs.declared.alignment.AlignmentVertical.TheVariants.{Top};
 ghost use Rattle.grid_config.specs.Settings.{IsEverywhere};
 
 use grid_config_colors::ANSIBuf;
 use grid_config_values::{AlignmentHorizontal, AlignmentVertical, EntityMap, Indent, Sides};
-use std::alloc::Global;
+use std::alloc::{AllocError, Global};
 
 /// The settings that each cell of a table has, by the cells that each call named.
 #[derive(Debug, Drop)]
@@ -22,6 +22,8 @@ pub(crate) struct CellSettings {
 }
 
 impl CellSettings {
+    ghost use Rattle.grid_config.specs.Copies.{HasSameCells};
+
     /// These settings for every cell; texts at the top, each as a block and untrimmed, spaces for
     /// justification. Takes no memory.
     pub(crate) fn new(
@@ -51,5 +53,32 @@ impl CellSettings {
             justification: EntityMap::new(alloc, ' '),
             justification_color: EntityMap::new(alloc, None),
         }
+    }
+
+    /// The same settings again. Refused for memory alone.
+    pub(crate) fn clone(&self, alloc: Global) -> Result<CellSettings, AllocError>
+        ensures { IfOk result (HasSameCells self.now) }
+    {
+        let none = Sides::new(None, None, None, None);
+        let padding = Sides::filled(Indent::zero());
+        let mut copy = CellSettings::new(alloc, padding, none, AlignmentHorizontal::Left);
+        self.fill(alloc, &mut copy)?;
+        Ok(copy)
+    }
+
+    // Fills a copy. It is lent, so that a refusal has nothing to drop.
+    fn fill(&self, alloc: Global, copy: &mut CellSettings) -> Result<(), AllocError>
+        ensures { OnOk result (HasSameCells self.now copy.new) }
+    {
+        copy.padding = self.padding.clone(alloc)?;
+        copy.padding_color = self.padding_color.clone(alloc)?;
+        copy.alignment_horizontal = self.alignment_horizontal.clone(alloc)?;
+        copy.alignment_vertical = self.alignment_vertical.clone(alloc)?;
+        copy.line_alignment = self.line_alignment.clone(alloc)?;
+        copy.trim_horizontal = self.trim_horizontal.clone(alloc)?;
+        copy.trim_vertical = self.trim_vertical.clone(alloc)?;
+        copy.justification = self.justification.clone(alloc)?;
+        copy.justification_color = self.justification_color.clone(alloc)?;
+        Ok(())
     }
 }

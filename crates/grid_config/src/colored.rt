@@ -2,7 +2,7 @@
 use crate::spanned::SpannedConfig;
 use grid_config_colors::ANSIBuf;
 use grid_config_values::{Entity, EntityMap, Fault, Position};
-use std::alloc::Global;
+use std::alloc::{AllocError, Global};
 use std::marker::Model;
 
 /// The colours of a table's cells. A cell has the colour of the last accepted call whose entity covers
@@ -23,8 +23,8 @@ impl Model for ColorMap {
 }
 
 impl ColorMap {
-    ghost use Rattle.std.specs.Prelude.{◌≡◌, None, MatchOption};
-    ghost use Rattle.grid_config_values.specs.Settings.{value_at};
+    ghost use Rattle.std.specs.Prelude.{◌≡◌, None, IfOk, MatchOption};
+    ghost use Rattle.grid_config_values.specs.Settings.{IsUnchanged, value_at};
     ghost use Rattle.grid_config.specs.Settings.{IsEverywhere};
 
     // No cell has a colour. Takes no memory.
@@ -34,6 +34,15 @@ impl ColorMap {
         ColorMap {
             colors: EntityMap::new(alloc, None),
         }
+    }
+
+    // The same colours again. Refused for memory alone.
+    pub(crate) fn clone(&self, alloc: Global) -> Result<ColorMap, AllocError>
+        ensures { IfOk result (IsUnchanged self.now) }
+    {
+        Ok(ColorMap {
+            colors: self.colors.clone(alloc)?,
+        })
     }
 
     /// The colour of the cell at this place, where it has one. Takes no memory.
@@ -60,13 +69,14 @@ impl Model for ColoredConfig {
 }
 
 impl ColoredConfig {
-    ghost use Rattle.std.specs.Prelude.{◌≡◌, None, Some, IfErr, IsOk, OnErr, OnOk};
+    ghost use Rattle.std.specs.Prelude.{◌≡◌, None, Some, IfErr, IfOk, IsOk, OnErr, OnOk};
     ghost use Rattle.grid_config_values.specs.declared.entity.Entity.TheVariants.{Global as EveryCell};
     ghost use Rattle.std.specs.Borrow.{sem};
     ghost use Rattle.grid_config_values.specs.declared.fault.Fault.TheVariants.{Memory};
     ghost use Rattle.grid_config_values.specs.Settings.{IsUnchanged, SetsCovered};
     ghost use Rattle.grid_config.specs.Settings.{IsEverywhere};
     ghost use Rattle.grid_config.specs.Lending.{LendsSettings};
+    ghost use Rattle.grid_config.specs.Looks.{look_of};
 
     /// These settings, and no cell has a colour. Takes no memory.
     pub fn new(config: SpannedConfig) -> ColoredConfig
@@ -75,6 +85,18 @@ impl ColoredConfig {
     {
         let colors = ColorMap::new(config.allocator());
         ColoredConfig { config, colors }
+    }
+
+    /// The same settings and colours again, in memory of their own. Refused for memory alone.
+    pub fn clone(&self, alloc: Global) -> Result<ColoredConfig, AllocError>
+        ensures look { IfOk result (λ copy. look_of copy.settings ≡ look_of self.now.settings) }
+        ensures spans { IfOk result (λ copy. copy.settings.spans ≡ self.now.settings.spans) }
+        ensures colors { IfOk result (λ copy. IsUnchanged self.now.colors copy.colors) }
+    {
+        Ok(ColoredConfig {
+            config: self.config.clone(alloc)?,
+            colors: self.get_colors().clone(alloc)?,
+        })
     }
 
     /// The settings.

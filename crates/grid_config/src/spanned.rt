@@ -7,6 +7,7 @@ ghost use Rattle.grid_config_spans.specs.Owners.{owner};
 ghost use Rattle.grid_config_spans.specs.Spans.{AreGood, ArePositive, IsVisible, SetsColumns, SetsRows, extent_at, single};
 ghost use Rattle.grid_config_values.specs.Settings.{IsUnchanged, SetsCovered, value_at};
 ghost use Rattle.grid_config.specs.Compact.{compact_of};
+ghost use Rattle.grid_config.specs.Looks.{look_of};
 ghost use Rattle.grid_config.specs.Settings.{AreUniform, IsUncolored, KeepsOthers, StartsWith, compact_start, new_start};
 ghost use Rattle.grid_config.specs.Settings.{Margin, MarginColor, BorderGlyphs, BorderColors, Padding, PaddingColor, HorizontalAlignment, VerticalAlignment, LineAlignment, TrimHorizontal, TrimVertical, Justification, JustificationColor, CellSpans};
 
@@ -93,6 +94,22 @@ impl SpannedConfig {
                 c.get_alignment_horizontal(),
             ),
             spans: Spans::new(alloc),
+            alloc,
+        })
+    }
+
+    /// The same settings again, in memory of their own. Refused for memory alone.
+    pub fn clone(&self, alloc: Global) -> Result<SpannedConfig, AllocError>
+        ensures look { IfOk result (λ copy. look_of copy ≡ look_of self.now) }
+        ensures spans { IfOk result (λ copy. copy.spans ≡ self.now.spans) }
+    {
+        let whole = self.whole.clone(alloc)?;
+        let cells = self.cells.clone(alloc)?;
+        let spans = self.spans.clone(alloc)?;
+        Ok(SpannedConfig {
+            whole,
+            cells,
+            spans,
             alloc,
         })
     }

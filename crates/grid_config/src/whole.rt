@@ -1,10 +1,11 @@
 //! The settings that a table has as a whole.
-ghost use Rattle.std.specs.Prelude.{◌≡◌, None};
+ghost use Rattle.std.specs.Prelude.{◌≡◌, None, IfOk};
 ghost use Rattle.grid_config_values.specs.Glyphs.{no_borders};
 ghost use Rattle.grid_config.specs.Compact.{each_side, no_indent};
 
 use grid_config_colors::ANSIBuf;
-use grid_config_values::{Borders, Indent, Sides};
+use grid_config_values::{Borders, CloneIn, Indent, Sides};
+use std::alloc::{AllocError, Global};
 
 /// The settings that a table has as a whole.
 #[derive(Debug, Drop)]
@@ -29,5 +30,17 @@ impl WholeSettings {
             borders: Borders::empty(),
             borders_color: Borders::empty(),
         }
+    }
+
+    /// The same settings again. Refused for memory alone.
+    pub(crate) fn clone(&self, alloc: Global) -> Result<WholeSettings, AllocError>
+        ensures { IfOk result (λ copy. copy ≡ self.now) }
+    {
+        Ok(WholeSettings {
+            margin: self.margin,
+            margin_color: self.margin_color.clone_in(alloc)?,
+            borders: self.borders,
+            borders_color: self.borders_color.clone_in(alloc)?,
+        })
     }
 }

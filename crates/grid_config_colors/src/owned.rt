@@ -3,6 +3,7 @@ use crate::borrowed::ANSIStr;
 use crate::closing::closes;
 use crate::fault::BufFault;
 use ansi_str_text::get_blocks;
+use grid_config_values::CloneIn;
 use std::alloc::{AllocError, Global};
 use std::marker::Model;
 
@@ -121,5 +122,11 @@ impl ANSIBuf {
         ensures { IsTrue result ↔ Closes self.now }
     {
         closes(self.get_prefix(), self.get_suffix())
+    }
+}
+
+impl CloneIn for ANSIBuf {
+    fn clone_in(&self, alloc: Global) -> Result<ANSIBuf, AllocError> {
+        self.clone(alloc)
     }
 }

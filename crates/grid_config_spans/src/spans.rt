@@ -1,5 +1,5 @@
 //! The cells that span several columns or rows.
-ghost use Rattle.std.specs.Prelude.{false, ◌≡◌, ◌≢◌, ◌+◌, ◌≤◌, ◌<◌, ◌↔◌, [], if◌then◌else◌, ◌==◌, IsOk, IsTrue, IfErr, IfSome, OnErr, OnOk, map, None, Some, Err, Ok};
+ghost use Rattle.std.specs.Prelude.{false, ◌≡◌, ◌≢◌, ◌+◌, ◌≤◌, ◌<◌, ◌↔◌, [], if◌then◌else◌, ◌==◌, IsOk, IsTrue, IfErr, IfOk, IfSome, OnErr, OnOk, map, None, Some, Err, Ok};
 ghost use Rattle.grid_config_values.specs.declared.fault.Fault.TheVariants.{Memory, Spans as BadSpan};
 ghost use Rattle.std.specs.List.{All, find, list_all, list_any};
 ghost use Rattle.std.specs.List.Sorted.{IsStrictlySortedBy};
@@ -16,7 +16,7 @@ ghost use Rattle.grid_config_spans.specs.Spans.{AreGood, ArePositive, IsVisible,
 
 use crate::extent::Extent;
 use grid_config_values::{Fault, Position};
-use std::alloc::Global;
+use std::alloc::{AllocError, Global};
 use std::collections::BTreeMap;
 use std::marker::Model;
 
@@ -61,6 +61,21 @@ impl Spans {
         ensures { IsTrue result ↔ (self.now ≡ []) }
     {
         self.extents.len() == 0
+    }
+
+    /// The same spans again. Refused for memory alone, and never where no cell spans several.
+    pub fn clone(&self, alloc: Global) -> Result<Spans, AllocError>
+        ensures spans { IfOk result (λ copy. copy ≡ self.now) }
+        ensures none { self.now ≡ [] → IsOk result }
+    {
+        if self.extents.is_empty() {
+            return Ok(Spans::new(alloc));
+        }
+        Ok(Spans {
+            extents: self.extents.clone()?,
+            most_rows: self.most_rows,
+            most_columns: self.most_columns,
+        })
     }
 
     /// How many columns the cell at this place takes: `None` for one.

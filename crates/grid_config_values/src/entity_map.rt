@@ -1,9 +1,10 @@
 //! The values that were set for sets of cells.
-ghost use Rattle.std.specs.Prelude.{◌≡◌, IsOk, IsTrue, OnOk, OnErr};
+ghost use Rattle.std.specs.Prelude.{◌≡◌, IfOk, IsOk, IsTrue, OnOk, OnErr};
 ghost use Rattle.grid_config_values.specs.declared.entity.Entity.TheVariants.{Global as EveryCell};
 ghost use Rattle.grid_config_values.specs.declared.position.Position.{Position as Place};
 ghost use Rattle.grid_config_values.specs.Settings.{IsUniform, IsUnchanged, SetsCovered, value_at};
 
+use crate::clone_in::CloneIn;
 use crate::entity::Entity;
 use crate::position::Position;
 use std::alloc::{AllocError, Global};
@@ -71,4 +72,27 @@ impl<T: Drop> EntityMap<T> {
         }
         Ok(())
     }
+}
+
+impl<T: CloneIn> EntityMap<T> {
+    /// The same value at every cell again. Refused for memory alone.
+    #[tactic(auto, unfolding(crate::specs::Settings::value_at))]
+    pub fn clone(&self, alloc: Global) -> Result<EntityMap<T>, AllocError>
+        ensures { IfOk result (IsUnchanged self.now) }
+    {
+        let global = self.global.clone_in(alloc)?;
+        let calls = copied(&self.calls, alloc)?;
+        Ok(EntityMap { global, calls })
+    }
+}
+
+// The calls again.
+fn copied<T: CloneIn>(calls: &[(Entity, T)], alloc: Global) -> Result<Vec<(Entity, T)>, AllocError>
+    ensures { IfOk result (λ copy. copy.items ≡ calls.now) }
+{
+    let mut copy = Vec::new(alloc);
+    for (entity, value) in calls {
+        copy.push((*entity, value.clone_in(alloc)?))?;
+    }
+    Ok(copy)
 }

@@ -3,6 +3,7 @@
 
 mod alignment;
 mod borders;
+mod clone_in;
 mod entity;
 mod entity_iterator;
 mod entity_map;
@@ -14,6 +15,7 @@ mod sides;
 
 pub use alignment::{AlignmentHorizontal, AlignmentVertical};
 pub use borders::{Border, Borders};
+pub use clone_in::CloneIn;
 pub use entity::Entity;
 pub use entity_iterator::EntityIterator;
 pub use entity_map::EntityMap;

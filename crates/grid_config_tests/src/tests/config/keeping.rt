@@ -90,7 +90,23 @@ fn set_all(rt: &impl Abort, config: &mut ColoredConfig, alloc: Global) -> Result
     fill_map(rt, &mut EntityMap::new(alloc, 'a'))?;
     set_paddings(rt, config.spanned_mut())?;
     set_spans(rt, config.spanned_mut())?;
-    set_colors(rt, config, alloc)
+    set_colors(rt, config, alloc)?;
+    clone_all(rt, config, alloc)
+}
+
+// A clone has all that was set, and what was cloned has it still.
+fn expect_all(rt: &impl Abort, config: &ColoredConfig) {
+    expect_paddings(rt, config.spanned(), 9);
+    expect_spans(rt, config.spanned(), 40);
+    expect_colors(rt, config, 9);
+}
+
+fn clone_all(rt: &impl Abort, config: &ColoredConfig, alloc: Global) -> Result<(), Fault> {
+    let copy = config.clone(alloc)?;
+    expect_all(rt, &copy);
+    end_colored(copy);
+    expect_all(rt, config);
+    Ok(())
 }
 
 #[test]
