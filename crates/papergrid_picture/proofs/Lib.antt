@@ -7,4 +7,5 @@ pub mod JoinLemmas
 pub mod PlaceLemmas
 pub mod SeenLemmas
 pub mod TilingLemmas
+pub mod WidthLemmas
 pub mod FrameLemmas

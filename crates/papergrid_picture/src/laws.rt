@@ -12,13 +12,15 @@ ghost use Rattle.grid_config_spans.specs.declared.extent.Extent.{Extent};
 ghost use Rattle.grid_config_colors.specs.Colors.{Color};
 ghost use Rattle.grid_config.specs.Compact.{each_side};
 ghost use Rattle.grid_config.specs.Looks.{Look};
+ghost use Rattle.ansi_str.specs.Characters.{shown_chars};
+ghost use Rattle.grid_records_measure.specs.Measures.{columns};
 ghost use Rattle.grid_records_measure.specs.TextLines.{line_feed};
 ghost use Rattle.papergrid_picture.specs.Blocks.{Grid, text_line};
 ghost use Rattle.papergrid_picture.specs.Frame.{Boundary, Outside, Row, Tracks, boundary_at, column_count, frame_of, line_count, place, row_count, total_width, track_at};
 ghost use Rattle.papergrid_picture.specs.Picture.{laid, picture_line, seen};
 ghost use Rattle.papergrid_picture.specs.Reading.{Reading, grid_items};
-ghost use Rattle.papergrid_picture.specs.Shown.{ArePlainTexts, AreWholeTexts, IsBare, IsReadBy, KeepsLineEnds, Shows, Styled, character_of, character_picture, characters_of, stripped_texts, styled_picture, styled_texts};
-ghost use Rattle.papergrid_picture.specs.Tables.{table_line, table_lines, table_text};
+ghost use Rattle.papergrid_picture.specs.Shown.{ArePlainTexts, ArePlainlyShown, AreWholeTexts, CostsOne, IsBare, IsReadBy, KeepsLineEnds, Shows, ShowsOnly, Styled, character_of, character_picture, characters_of, stripped_texts, styled_picture, styled_texts};
+ghost use Rattle.papergrid_picture.specs.Tables.{table_grid, table_line, table_lines, table_text};
 ghost use Rattle.papergrid_picture.specs.Tiling.{BeginsBehindMargin, HasGoodSpans, HasRoom, IsLineOf, ShowsBlock, ShowsPlace, Tiles};
 ghost use Rattle.papergrid_picture.specs.Worked.{ascii, bracketed, cells, crossed, drawn, drawn_in, extents, half_bracketed, joined, named, no_top, outer, padded, plain, span, spaced, with_margins};
 
@@ -197,4 +199,14 @@ pub fn rectangles_show_blocks()
         HasGoodSpans grid spans → HasRoom grid → BeginsBehindMargin grid.frame →
         i < row_count grid.frame → j < column_count grid.frame → IsLineOf grid (seen grid i j) y →
         ShowsBlock grid (seen grid i j) y }
+{}
+
+/// Where the cells show plain characters and line feeds, and each glyph, fill and character for justification
+/// costs one column, each line of the text of a table without colours takes the columns of the table's
+/// width, trimmed or not: so its edges are straight. The spans are good, and each cell that is seen has room.
+pub fn lines_are_equally_wide()
+    ensures { (look : Look) (rows : List (List (List ℕ))) (widths heights : List ℕ) (spans : List (Cell × Extent)) (y : ℕ) →
+        IsBare look → ShowsOnly CostsOne look → ArePlainlyShown rows →
+        HasGoodSpans (table_grid look rows (λ _. None) widths heights) spans → HasRoom (table_grid look rows (λ _. None) widths heights) →
+        columns (shown_chars (table_line look rows (λ _. None) widths heights y)) ≡ total_width (frame_of look widths heights) }
 {}
