@@ -162,10 +162,10 @@ flat_map-more part n =
 
 -- columns by the cells that are seen in them: a cell that is shown goes from its first column on to its last, and where none is
 -- shown the boundary is
-module _ (columns : Tracks) (cell : ℕ → Position) (span : Position → ℕ) (is_shown : Position → Bool) (edge along : ℕ → List Piece) (block : Position → List Piece) where
-  abbrev pub count : ℕ
-  count = length columns.sizes
-
+-- `Goes a pieces b` says how pieces go from a to b
+module _ (Goes : ℕ → List Piece → ℕ → Type 0) (nowhere : (a b : ℕ) → a ≡ b → Goes a [] b)
+    (both : (a b c : ℕ) (xs ys : List Piece) → Goes a xs b → Goes b ys c → Goes a (xs ++ ys) c) (count : ℕ) (boundary track : ℕ → ℕ)
+    (cell : ℕ → Position) (span : Position → ℕ) (is_shown : Position → Bool) (edge along : ℕ → List Piece) (block : Position → List Piece) where
   abbrev pub part : ℕ → List Piece
   part j = cond (is_shown (cell j)) (cond ((cell j).col == j) (edge j ++ block (cell j)) []) (edge j ++ along j)
 
@@ -174,10 +174,10 @@ module _ (columns : Tracks) (cell : ℕ → Position) (span : Position → ℕ) 
     pub ends : (j : ℕ) → j < count → j < (cell j).col + span (cell j)
     pub inside : (j : ℕ) → j < count → is_shown (cell j) ≡ true → (cell j).col + span (cell j) ≤ count
     pub goes_on : (j k : ℕ) → j < count → k < count → is_shown (cell j) ≡ true → (cell j).col ≤ k → k < (cell j).col + span (cell j) → cell k ≡ cell j
-    pub edges : (j : ℕ) → Tiles (boundary_at columns j) (edge j) (track_at columns j)
-    pub alongs : (j : ℕ) → j < count → Tiles (track_at columns j) (along j) (boundary_at columns (j + 1))
+    pub edges : (j : ℕ) → Goes (boundary j) (edge j) (track j)
+    pub alongs : (j : ℕ) → j < count → is_shown (cell j) ≡ false → Goes (track j) (along j) (boundary (j + 1))
     pub blocks : (j : ℕ) → j < count → is_shown (cell j) ≡ true → (cell j).col ≡ j
-        → Tiles (track_at columns j) (block (cell j)) (boundary_at columns ((cell j).col + span (cell j)))
+        → Goes (track j) (block (cell j)) (boundary ((cell j).col + span (cell j)))
 
   -- before which boundary the pieces of the first columns end
   abbrev end_of : ℕ → ℕ
@@ -223,34 +223,34 @@ module _ (columns : Tracks) (cell : ℕ → Position) (span : Position → ℕ) 
         ]
 
     -- the part of a column goes on from where those before it end
-    Tiles-part : (n : ℕ) → n < count → Tiles (boundary_at columns (end n)) (part n) (boundary_at columns (end_of n))
-    Tiles-part n inside =
+    Goes-part : (n : ℕ) → n < count → Goes (boundary (end n)) (part n) (boundary (end_of n))
+    Goes-part n inside =
         elim (is_shown (cell n)) as (λ b. is_shown (cell n) ≡ b →
-        Tiles (boundary_at columns (end n)) (cond b (cond ((cell n).col == n) (edge n ++ block (cell n)) []) (edge n ++ along n)) (boundary_at columns (cond b ((cell n).col + span (cell n)) (n + 1)))) [
+        Goes (boundary (end n)) (cond b (cond ((cell n).col == n) (edge n ++ block (cell n)) []) (edge n ++ along n)) (boundary (cond b ((cell n).col + span (cell n)) (n + 1)))) [
           | true ↦ λ shown. elim ((cell n).col == n) as (λ own. ((cell n).col == n) ≡ own →
-              Tiles (boundary_at columns (end n)) (cond own (edge n ++ block (cell n)) []) (boundary_at columns ((cell n).col + span (cell n)))) [
+              Goes (boundary (end n)) (cond own (edge n ++ block (cell n)) []) (boundary ((cell n).col + span (cell n)))) [
                 | true ↦ λ own.
                     let first : (cell n).col ≡ n = grind (arith, nat_tests, own) in
-                    let here : boundary_at columns n ≡ boundary_at columns (end n) = ap (boundary_at columns) (sym (end-here n inside (λ _. first))) in
-                    subst (λ a. Tiles a (edge n ++ block (cell n)) (boundary_at columns ((cell n).col + span (cell n)))) here
-                    (Tiles-append (boundary_at columns n) (track_at columns n) (boundary_at columns ((cell n).col + span (cell n))) (edge n) (block (cell n)) (line.edges n) (line.blocks n inside shown first))
+                    let here : boundary n ≡ boundary (end n) = ap (boundary) (sym (end-here n inside (λ _. first))) in
+                    subst (λ a. Goes a (edge n ++ block (cell n)) (boundary ((cell n).col + span (cell n)))) here
+                    (both (boundary n) (track n) (boundary ((cell n).col + span (cell n))) (edge n) (block (cell n)) (line.edges n) (line.blocks n inside shown first))
                 | false ↦ λ own.
                     let other : (cell n).col ≡ n → ⊥ = λ same. absurd (grind (arith, nat_tests, own, same)) in
-                    ap (boundary_at columns) (end-open n inside shown other ∙ ap (λ b. cond b ((cell n).col + span (cell n)) (n + 1)) shown)
+                    nowhere (boundary (end n)) (boundary ((cell n).col + span (cell n))) (ap boundary (end-open n inside shown other ∙ ap (λ b. cond b ((cell n).col + span (cell n)) (n + 1)) shown))
               ] refl
           | false ↦ λ hidden.
               let clash : is_shown (cell n) ≡ true → (cell n).col ≡ n = λ shown. let no : true ≡ false = sym shown ∙ hidden in absurd (cc no) in
-              let here : boundary_at columns n ≡ boundary_at columns (end n) = ap (boundary_at columns) (sym (end-here n inside clash)) in
-              subst (λ a. Tiles a (edge n ++ along n) (boundary_at columns (n + 1))) here
-              (Tiles-append (boundary_at columns n) (track_at columns n) (boundary_at columns (n + 1)) (edge n) (along n) (line.edges n) (line.alongs n inside))
+              let here : boundary n ≡ boundary (end n) = ap (boundary) (sym (end-here n inside clash)) in
+              subst (λ a. Goes a (edge n ++ along n) (boundary (n + 1))) here
+              (both (boundary n) (track n) (boundary (n + 1)) (edge n) (along n) (line.edges n) (line.alongs n inside hidden))
         ] refl
 
-    Tiles-parts : (n : ℕ) → n ≤ count → Tiles (boundary_at columns 0) (flat_map part (range_with_len 0 n)) (boundary_at columns (end n))
-    Tiles-parts zero within = refl
-    Tiles-parts (suc n) within =
+    Goes-parts : (n : ℕ) → n ≤ count → Goes (boundary 0) (flat_map part (range_with_len 0 n)) (boundary (end n))
+    Goes-parts zero within = nowhere (boundary 0) (boundary 0) refl
+    Goes-parts (suc n) within =
         let inside : n < count = omega (arith, within) in
-        subst (λ (pieces : List Piece). Tiles (boundary_at columns 0) pieces (boundary_at columns (end_of n))) (sym (flat_map-more part n))
-        (Tiles-append (boundary_at columns 0) (boundary_at columns (end n)) (boundary_at columns (end_of n)) (flat_map part (range_with_len 0 n)) (part n) (Tiles-parts n (omega (arith, within))) (Tiles-part n inside))
+        subst (λ (pieces : List Piece). Goes (boundary 0) pieces (boundary (end_of n))) (sym (flat_map-more part n))
+        (both (boundary 0) (boundary (end n)) (boundary (end_of n)) (flat_map part (range_with_len 0 n)) (part n) (Goes-parts n (omega (arith, within))) (Goes-part n inside))
 
     -- all columns end at the last boundary
     end-all : (n : ℕ) → n ≡ count → end n ≡ count
@@ -262,16 +262,16 @@ module _ (columns : Tracks) (cell : ℕ → Position) (span : Position → ℕ) 
           | false ↦ λ hidden. omega (arith, all)
         ] refl
 
-    pub Tiles-columns : Tiles (boundary_at columns 0) (flat_map part (range_with_len 0 count)) (boundary_at columns count)
-    Tiles-columns =
-        subst (λ n. Tiles (boundary_at columns 0) (flat_map part (range_with_len 0 count)) (boundary_at columns n)) (end-all count refl)
-        (Tiles-parts count (omega arith))
+    pub Goes-columns : Goes (boundary 0) (flat_map part (range_with_len 0 count)) (boundary count)
+    Goes-columns =
+        subst (λ n. Goes (boundary 0) (flat_map part (range_with_len 0 count)) (boundary n)) (end-all count refl)
+        (Goes-parts count (omega arith))
 
     -- the pieces before the block of a cell end where it begins
-    pub Tiles-before : (n : ℕ) → n < count → ((cell n).col ≡ n) → Tiles (boundary_at columns 0) (flat_map part (range_with_len 0 n) ++ edge n) (track_at columns n)
-    Tiles-before n inside first =
-        Tiles-append (boundary_at columns 0) (boundary_at columns n) (track_at columns n) (flat_map part (range_with_len 0 n)) (edge n)
-        (subst (λ m. Tiles (boundary_at columns 0) (flat_map part (range_with_len 0 n)) (boundary_at columns m)) (end-here n inside (λ _. first)) (Tiles-parts n (omega (arith, inside))))
+    pub Goes-before : (n : ℕ) → n < count → ((cell n).col ≡ n) → Goes (boundary 0) (flat_map part (range_with_len 0 n) ++ edge n) (track n)
+    Goes-before n inside first =
+        both (boundary 0) (boundary n) (track n) (flat_map part (range_with_len 0 n)) (edge n)
+        (subst (λ m. Goes (boundary 0) (flat_map part (range_with_len 0 n)) (boundary m)) (end-here n inside (λ _. first)) (Goes-parts n (omega (arith, inside))))
         (line.edges n)
 
     -- the columns are those pieces, the block, and others
@@ -376,7 +376,7 @@ module _ (grid : Grid) (spans : List (Position × Extent)) (good : HasGoodSpans 
   -- ---- rows
 
   row-line : (i y : ℕ) → i < row_count grid.frame → track_at rows i ≤ y → y < track_at rows i + slice_index rows.sizes i
-      → IsLine columns (seen grid i) span_of (λ _. true) (upright grid) (along grid i) (λ cell. block_pieces grid cell y)
+      → IsLine Tiles (λ a b same. same) Tiles-append (column_count grid.frame) (boundary_at columns) (track_at columns) (seen grid i) span_of (λ _. true) (upright grid) (along grid i) (λ cell. block_pieces grid cell y)
   row-line i y row from before = record {
     begins = λ j column. (seen-holds grid spans good i j).right;
     ends = λ j column. (seen-holds grid spans good i j).left;
@@ -385,7 +385,7 @@ module _ (grid : Grid) (spans : List (Position × Extent)) (good : HasGoodSpans 
         let held = seen-holds grid spans good i j in
         seen-goes_on grid spans good i j i k row column row other (record { below = held.below; above = held.above; right = from; left = below });
     edges = λ j. edge-tiles Fill (in_row grid.frame.look.borders (boundary_kind j (column_count grid.frame))) (in_row grid.frame.look.borders_color (boundary_kind j (column_count grid.frame))) j;
-    alongs = λ j column. along-tiles i j column;
+    alongs = λ j column hidden. along-tiles i j column;
     blocks = λ j column shown first.
         let held = seen-holds grid spans good i j in
         cell-tiles i j y row column first
@@ -399,7 +399,7 @@ module _ (grid : Grid) (spans : List (Position × Extent)) (good : HasGoodSpans 
   is_above i cell = nat_lt cell.row i
 
   boundary-line : (i : ℕ) → i ≤ row_count grid.frame → rows.has_boundary i ≡ true
-      → IsLine columns (seen grid i) span_of (is_above i) (corner grid i) (along grid i) (λ cell. block_pieces grid cell (boundary_at rows i))
+      → IsLine Tiles (λ a b same. same) Tiles-append (column_count grid.frame) (boundary_at columns) (track_at columns) (seen grid i) span_of (is_above i) (corner grid i) (along grid i) (λ cell. block_pieces grid cell (boundary_at rows i))
   boundary-line i last is_there = record {
     begins = λ j column. (seen-holds grid spans good i j).right;
     ends = λ j column. (seen-holds grid spans good i j).left;
@@ -413,7 +413,7 @@ module _ (grid : Grid) (spans : List (Position × Extent)) (good : HasGoodSpans 
         seen-goes_on grid spans good i j i k row column row other (record { below = held.below; above = held.above; right = from; left = below });
     edges = λ j. edge-tiles Glyph (crossing grid.frame.look.borders (boundary_kind i (row_count grid.frame)) (boundary_kind j (column_count grid.frame)))
         (crossing grid.frame.look.borders_color (boundary_kind i (row_count grid.frame)) (boundary_kind j (column_count grid.frame))) j;
-    alongs = λ j column. along-tiles i j column;
+    alongs = λ j column hidden. along-tiles i j column;
     blocks = λ j column shown first.
         let above : (seen grid i j).row < i = grind (arith, nat_tests, shown) in
         let row = seen-above grid spans good i j last column above in
@@ -445,7 +445,7 @@ module _ (grid : Grid) (spans : List (Position × Extent)) (good : HasGoodSpans 
         let count = column_count grid.frame in
         let kind = boundary_kind count count in
         Tiles-across (row_part grid i y) (upright grid count)
-        (Tiles-columns columns (seen grid i) span_of (λ _. true) (upright grid) (along grid i) (λ cell. block_pieces grid cell y) (row-line i y is.0 is.1 is.2))
+        (Goes-columns Tiles (λ a b same. same) Tiles-append (column_count grid.frame) (boundary_at columns) (track_at columns) (seen grid i) span_of (λ _. true) (upright grid) (along grid i) (λ cell. block_pieces grid cell y) (row-line i y is.0 is.1 is.2))
         (edge-tiles Fill (in_row grid.frame.look.borders kind) (in_row grid.frame.look.borders_color kind) count)
     Tiles-place y (Boundary i) is =
         let count = column_count grid.frame in
@@ -453,7 +453,7 @@ module _ (grid : Grid) (spans : List (Position × Extent)) (good : HasGoodSpans 
         let kind = boundary_kind count count in
         subst (λ z. Tiles 0 (across grid (boundary_part grid i z) (corner grid i count)) (total_width grid.frame)) (sym is.2)
         (Tiles-across (boundary_part grid i (boundary_at rows i)) (corner grid i count)
-        (Tiles-columns columns (seen grid i) span_of (is_above i) (corner grid i) (along grid i) (λ cell. block_pieces grid cell (boundary_at rows i)) (boundary-line i is.0 is.1))
+        (Goes-columns Tiles (λ a b same. same) Tiles-append (column_count grid.frame) (boundary_at columns) (track_at columns) (seen grid i) span_of (is_above i) (corner grid i) (along grid i) (λ cell. block_pieces grid cell (boundary_at rows i)) (boundary-line i is.0 is.1))
         (edge-tiles Glyph (crossing grid.frame.look.borders row kind) (crossing grid.frame.look.borders_color row kind) count))
     Tiles-place y Outside is =
         elim (nat_lt y rows.margin) as (λ b. Tiles 0 (cond b (margin_line grid grid.frame.look.margin.top grid.frame.look.margin_color.top) (margin_line grid grid.frame.look.margin.bottom grid.frame.look.margin_color.bottom)) (total_width grid.frame)) [
@@ -548,9 +548,9 @@ module _ (grid : Grid) (spans : List (Position × Extent)) (good : HasGoodSpans 
           let behind = flat_map (row_part grid r y) (range_with_len (n + 1) (count - (n + 1))) in
           shows-block shown_cell y (row_part grid r y) (upright grid count) (flat_map (row_part grid r y) (range_with_len 0 n) ++ upright grid n) behind
           (ap (λ p. pieces_at grid p y) is)
-          (columns-parted columns (seen grid r) span_of (λ _. true) (upright grid) (along grid r) (λ cell. block_pieces grid cell y) line n in_table.1 refl own
+          (columns-parted Tiles (λ a b same. same) Tiles-append (column_count grid.frame) (boundary_at columns) (track_at columns) (seen grid r) span_of (λ _. true) (upright grid) (along grid r) (λ cell. block_pieces grid cell y) line n in_table.1 refl own
           ∙ ap (λ (cell : Position). (flat_map (row_part grid r y) (range_with_len 0 n) ++ upright grid n) ++ (block_pieces grid cell y ++ behind)) same)
-          (Tiles-before columns (seen grid r) span_of (λ _. true) (upright grid) (along grid r) (λ cell. block_pieces grid cell y) line n in_table.1 own)
+          (Goes-before Tiles (λ a b same. same) Tiles-append (column_count grid.frame) (boundary_at columns) (track_at columns) (seen grid r) span_of (λ _. true) (upright grid) (along grid r) (λ cell. block_pieces grid cell y) line n in_table.1 own)
           (block-there r same at_row.0)
       shown-at (Boundary r) is at_boundary =
           let one : track_at rows r ≡ boundary_at rows r + 1 = ap (λ b. boundary_at rows r + thickness b) at_boundary.1 in
@@ -573,10 +573,10 @@ module _ (grid : Grid) (spans : List (Position × Extent)) (good : HasGoodSpans 
           let behind = flat_map part (range_with_len (n + 1) (count - (n + 1))) in
           shows-block shown_cell y part (corner grid r count) (flat_map part (range_with_len 0 n) ++ corner grid r n) behind
           (ap (λ p. pieces_at grid p y) is ∙ ap (λ z. across grid (boundary_part grid r z) (corner grid r count)) at_boundary.2)
-          (columns-parted columns (seen grid r) span_of (is_above r) (corner grid r) (along grid r) (λ cell. block_pieces grid cell (boundary_at rows r)) line n in_table.1 shown own
+          (columns-parted Tiles (λ a b same. same) Tiles-append (column_count grid.frame) (boundary_at columns) (track_at columns) (seen grid r) span_of (is_above r) (corner grid r) (along grid r) (λ cell. block_pieces grid cell (boundary_at rows r)) line n in_table.1 shown own
           ∙ ap (λ (cell : Position). (flat_map part (range_with_len 0 n) ++ corner grid r n) ++ (block_pieces grid cell (boundary_at rows r) ++ behind)) same
           ∙ ap (λ z. (flat_map part (range_with_len 0 n) ++ corner grid r n) ++ (block_pieces grid shown_cell z ++ behind)) (sym at_boundary.2))
-          (Tiles-before columns (seen grid r) span_of (is_above r) (corner grid r) (along grid r) (λ cell. block_pieces grid cell (boundary_at rows r)) line n in_table.1 own)
+          (Goes-before Tiles (λ a b same. same) Tiles-append (column_count grid.frame) (boundary_at columns) (track_at columns) (seen grid r) span_of (is_above r) (corner grid r) (along grid r) (λ cell. block_pieces grid cell (boundary_at rows r)) line n in_table.1 own)
           (block-there r same inside)
         where
           is_less : (a b : ℕ) → a < b → nat_lt a b ≡ true
