@@ -47,7 +47,7 @@ free_left-within Left free = omega arith
 free_left-within Center free = omega arith
 free_left-within Right free = omega arith
 
-free_above-within : (alignment : AlignmentVertical) (free : ℕ) → free_above alignment free ≤ free
+pub free_above-within : (alignment : AlignmentVertical) (free : ℕ) → free_above alignment free ≤ free
 free_above-within Top free = omega arith
 free_above-within Middle free = omega arith
 free_above-within Bottom free = omega arith
@@ -83,8 +83,10 @@ module _ (grid : Grid) (cell : Position) (width : ℕ) where
       let lined : padding.left.size + (indent + (measure + ((room - indent - measure) + (padding.right.size + 0)))) ≡ width = omega (arith, both, fits) in
       lined
 
-  block-wide : HasRoomFor → (height : ℕ) → AllByRecursion IsWide (block grid cell width height)
-  block-wide fits height =
+  -- what holds of the lines of padding and of the lines of text holds of all lines
+  pub block-all : (P : List Part → Type 0) → ((c : ℕ) (color : Option Color) → P (fill width c color ∷ [])) → ((k : ℕ) → P (text_line grid cell width k))
+      → (height : ℕ) → AllByRecursion P (block grid cell width height)
+  block-all P pads texts height =
       let look = grid.frame.look in
       let padding = look.padding cell in
       let color = look.padding_color cell in
@@ -92,20 +94,22 @@ module _ (grid : Grid) (cell : Position) (width : ℕ) where
       let free = height - padding.top.size - count - padding.bottom.size in
       let above = free_above (look.alignment_vertical cell) free in
       let line = text_line grid cell width in
-      let wide : (c : ℕ) → width + 0 ≡ width = λ c. omega arith in
       let top = replicate padding.top.size (fill width padding.top.fill color.top ∷ []) in
       let blanks = replicate above (line count) in
       let lines = map line (range_with_len 0 count) in
       let behind = replicate (free - above) (line count) in
       let bottom = replicate padding.bottom.size (fill width padding.bottom.fill color.bottom ∷ []) in
-      All-append IsWide top (blanks ++ (lines ++ (behind ++ bottom))) (All-replicate IsWide padding.top.size (fill width padding.top.fill color.top ∷ []) (wide 0))
-      (All-append IsWide blanks (lines ++ (behind ++ bottom)) (All-replicate IsWide above (line count) (text_line-wide fits count))
-      (All-append IsWide lines (behind ++ bottom) (All-map IsWide line (λ k. text_line-wide fits k) (range_with_len 0 count))
-      (All-append IsWide behind bottom (All-replicate IsWide (free - above) (line count) (text_line-wide fits count))
-      (All-replicate IsWide padding.bottom.size (fill width padding.bottom.fill color.bottom ∷ []) (wide 0)))))
+      All-append P top (blanks ++ (lines ++ (behind ++ bottom))) (All-replicate P padding.top.size (fill width padding.top.fill color.top ∷ []) (pads padding.top.fill color.top))
+      (All-append P blanks (lines ++ (behind ++ bottom)) (All-replicate P above (line count) (texts count))
+      (All-append P lines (behind ++ bottom) (All-map P line texts (range_with_len 0 count))
+      (All-append P behind bottom (All-replicate P (free - above) (line count) (texts count))
+      (All-replicate P padding.bottom.size (fill width padding.bottom.fill color.bottom ∷ []) (pads padding.bottom.fill color.bottom)))))
+
+  block-wide : HasRoomFor → (height : ℕ) → AllByRecursion IsWide (block grid cell width height)
+  block-wide fits height = block-all IsWide (λ c color. omega arith) (text_line-wide fits) height
 
   -- there are lines for the whole height
-  block-high : (height : ℕ) → height ≤ length (block grid cell width height)
+  pub block-high : (height : ℕ) → height ≤ length (block grid cell width height)
   block-high height =
       let look = grid.frame.look in
       let padding = look.padding cell in
