@@ -107,3 +107,143 @@ widest-line (n ∷ m ∷ ms) some =
       | inl less ↦ (suc rest.0, omega (arith, rest.1), omega (arith, rest.2, less))
       | inr more ↦ (0, omega arith, omega (arith, more))
     ]
+
+-- ---- a line that shows a cell
+
+module _ (grid : Grid) (spans : List (Position × Extent)) (good : HasGoodSpans grid spans) (margins : BeginsBehindMargin grid.frame) where
+  abbrev columns : Tracks
+  columns = grid.frame.columns
+
+  abbrev rows : Tracks
+  rows = grid.frame.rows
+
+  abbrev columns_in : ℕ
+  columns_in = column_count grid.frame
+
+  abbrev span_of : Position → ℕ
+  span_of cell = (grid.frame.look.extent cell).columns
+
+  -- row r in line y, or the boundary before it: the cells that show there
+  module _ (r y : ℕ) (is_there : Position → Bool) (edge : ℕ → List Piece)
+      (in_row : (j : ℕ) → j < columns_in → is_there (seen grid r j) ≡ true → r < row_count grid.frame)
+      (edges : (j : ℕ) → Tiles (boundary_at columns j) (edge j) (track_at columns j))
+      (in_line : (j : ℕ) → j < columns_in → is_there (seen grid r j) ≡ true → y - track_at rows (seen grid r j).row < block_height grid.frame (seen grid r j))
+      (n : ℕ) (inside : n < columns_in) (shown : is_there (seen grid r n) ≡ true) (own : (seen grid r n).col ≡ n)
+      (wide : block_width grid.frame (seen grid r n) + 1 ≤ widths_of (parts_of (block_pieces grid (seen grid r n) y))) where
+    -- behind the block of the cell in column n the pieces reach one column further
+    abbrev more : ℕ → ℕ
+    more j = cond (nat_lt n j) 1 0
+
+    more-past : (j : ℕ) → n < j → more j ≡ 1
+    more-past j past = let test : nat_lt n j ≡ true = grind (arith, nat_tests, past) in ap (λ b. cond b 1 0) test
+
+    more-not_past : (j : ℕ) → j ≤ n → more j ≡ 0
+    more-not_past j before = let test : nat_lt n j ≡ false = grind (arith, nat_tests, before) in ap (λ b. cond b 1 0) test
+
+    more-one : (j : ℕ) → more j ≤ 1
+    more-one j = elim (nat_lt n j) as (λ b. cond b 1 0 ≤ 1) [ true ↦ omega arith | false ↦ omega arith ]
+
+    abbrev boundary : ℕ → ℕ
+    boundary j = boundary_at columns j + more j
+
+    abbrev track : ℕ → ℕ
+    track j = track_at columns j + more j
+
+    abbrev pieces_of : Position → List Piece
+    pieces_of cell = block_pieces grid cell y
+
+    block-reaches : (j : ℕ) → j < columns_in → is_there (seen grid r j) ≡ true → block_width grid.frame (seen grid r j) ≤ widths_of (parts_of (pieces_of (seen grid r j)))
+    block-reaches j column here =
+        let cell = seen grid r j in
+        let width = block_width grid.frame cell in
+        let height = block_height grid.frame cell in
+        let k = y - track_at rows cell.row in
+        let lines = block grid cell width height in
+        let line_there : k < length lines = omega (arith, in_line j column here, block-high grid cell width height) in
+        let least : width ≤ widths_of (get_or lines k []) = All-inside (λ parts. width ≤ widths_of parts) lines k [] line_there (block-least grid cell width height) in
+        omega (arith, least, Tiles-widths (track_at columns cell.col) (track_at columns cell.col + widths_of (get_or lines k [])) (pieces_of cell) (Tiles-laid (track_at columns cell.col) (get_or lines k []) (track_at columns cell.col + widths_of (get_or lines k [])) refl))
+
+    goes-on : (j k : ℕ) → j < columns_in → k < columns_in → is_there (seen grid r j) ≡ true → (seen grid r j).col ≤ k → k < (seen grid r j).col + span_of (seen grid r j) → seen grid r k ≡ seen grid r j
+    goes-on j k column other here from below =
+        let row = in_row j column here in
+        let held = seen-holds grid spans good r j in
+        seen-goes_on grid spans good r j r k row column row other (record { below = held.below; above = held.above; right = from; left = below })
+
+    block-part : (j : ℕ) → j < columns_in → is_there (seen grid r j) ≡ true → (seen grid r j).col ≡ j → Reaches (track j) (pieces_of (seen grid r j)) (boundary ((seen grid r j).col + span_of (seen grid r j)))
+    block-part j column here first =
+        let cell = seen grid r j in
+        let held = seen-holds grid spans good r j in
+        let fits = seen-inside grid spans good r j (in_row j column here) column in
+        let end = cell.col + span_of cell in
+        let ends : track_at columns cell.col + block_width grid.frame cell ≡ boundary_at columns end = block-ends grid spans good cell (omega (arith, held.right, held.left)) fits.columns_fit in
+        let start : track_at columns cell.col ≡ track_at columns j = ap (track_at columns) first in
+        let least = block-reaches j column here in
+        elim (cases_lt n j) [
+          | inl past ↦ omega (arith, more-past j past, more-one end, ends, start, least)
+          | inr before ↦ elim (j == n) as (λ b. (j == n) ≡ b → Reaches (track j) (pieces_of cell) (boundary end)) [
+            | true ↦ λ e.
+                let same : n ≡ j = grind (arith, nat_tests, e) in
+                let strict : block_width grid.frame cell + 1 ≤ widths_of (parts_of (pieces_of cell)) = subst (λ k. block_width grid.frame (seen grid r k) + 1 ≤ widths_of (parts_of (pieces_of (seen grid r k)))) same wide in
+                omega (arith, more-one end, ends, start, strict)
+            | false ↦ λ e.
+                let earlier : j < n = grind (arith, nat_tests, e, before) in
+                elim (cases_lt n end) [
+                  | inl open_there ↦
+                      let there : seen grid r n ≡ cell = goes-on j n column inside here (omega (arith, first, earlier)) open_there in
+                      absurd (omega (arith, ap (λ (p : Position). p.col) there, own, first, earlier))
+                  | inr done ↦ omega (arith, more-not_past end done, ends, start, least)
+                ]
+          ] refl
+        ]
+
+    wide-line : IsLine Reaches Reaches-nowhere Reaches-both columns_in boundary track (seen grid r) span_of is_there edge (along grid r) pieces_of
+    wide-line = record {
+      begins = λ j column. (seen-holds grid spans good r j).right;
+      ends = λ j column. (seen-holds grid spans good r j).left;
+      inside = λ j column here. (seen-inside grid spans good r j (in_row j column here) column).columns_fit;
+      goes_on = goes-on;
+      edges = λ j. reach-of (boundary_at columns j) (track_at columns j) (more j) (edge j) (edges j);
+      alongs = λ j column hidden. along-part j column hidden;
+      blocks = block-part;
+    }
+      where
+        along-part : (j : ℕ) → j < columns_in → is_there (seen grid r j) ≡ false → Reaches (track j) (along grid r j) (boundary (j + 1))
+        along-part j column hidden =
+            let reached = Tiles-widths (track_at columns j) (boundary_at columns (j + 1)) (along grid r j) (along-tiles grid spans good r j column) in
+            elim (cases_lt n j) [
+              | inl past ↦ omega (arith, reached, more-past j past, more-one (j + 1))
+              | inr before ↦ elim (j == n) as (λ b. (j == n) ≡ b → Reaches (track j) (along grid r j) (boundary (j + 1))) [
+                | true ↦ λ e.
+                    let same : j ≡ n = grind (arith, nat_tests, e) in
+                    let no : true ≡ false = sym shown ∙ ap (λ k. is_there (seen grid r k)) (sym same) ∙ hidden in
+                    absurd (cc no)
+                | false ↦ λ e.
+                    let earlier : j < n = grind (arith, nat_tests, e, before) in
+                    omega (arith, reached, more-not_past (j + 1) (omega (arith, earlier)))
+              ] refl
+            ]
+
+    -- the whole line is wider than the table
+    pub too-wide : (part : ℕ → List Piece) → part ≡ (λ j. cond (is_there (seen grid r j)) (cond ((seen grid r j).col == j) (edge j ++ pieces_of (seen grid r j)) []) (edge j ++ along grid r j))
+        → Tiles 0 (across grid part (edge columns_in)) (total_width grid.frame) → ⊥
+    too-wide part is tiles =
+        let look = grid.frame.look in
+        let inner = flat_map part (range_with_len 0 columns_in) in
+        let right = laid (track_at columns columns_in) (fill look.margin.right.size look.margin.right.fill look.margin_color.right ∷ []) in
+        let reached : Reaches (boundary 0) inner (boundary columns_in) =
+        subst (λ (p : ℕ → List Piece). Reaches (boundary 0) (flat_map p (range_with_len 0 columns_in)) (boundary columns_in)) (sym is)
+        (Goes-columns Reaches Reaches-nowhere Reaches-both columns_in boundary track (seen grid r) span_of is_there edge (along grid r) pieces_of wide-line) in
+        let all = Tiles-widths 0 (total_width grid.frame) (across grid part (edge columns_in)) tiles in
+        let last = Tiles-widths (boundary_at columns columns_in) (track_at columns columns_in) (edge columns_in) (edges columns_in) in
+        omega (
+          arith,
+          all,
+          reached,
+          last,
+          widths-append inner (edge columns_in ++ right),
+          widths-append (edge columns_in) right,
+          more-past columns_in inside,
+          more-not_past 0 (omega arith),
+          boundary-first columns,
+          margins,
+        )
