@@ -365,7 +365,7 @@ module _ (grid : Grid) (spans : List (Position × Extent)) (good : HasGoodSpans 
   ]
 
   -- boundaries stand in their order
-  order : (r s : ℕ) → r ≤ s → s ≤ row_count grid.frame → boundary_at rows r ≤ boundary_at rows s
+  pub order : (r s : ℕ) → r ≤ s → s ≤ row_count grid.frame → boundary_at rows r ≤ boundary_at rows s
   order r s before last = let same : r + (s - r) ≡ s = omega (arith, before) in omega (arith, boundary-order rows r (s - r) (omega (arith, same, last)), ap (boundary_at rows) same)
 
   -- what the lines of a rectangle show: its rows, and the boundaries between them
@@ -400,8 +400,7 @@ module _ (grid : Grid) (spans : List (Position × Extent)) (good : HasGoodSpans 
       let before : r < cell.row + (grid.frame.look.extent cell).rows = (elim (cases_lt r (cell.row + (grid.frame.look.extent cell).rows)) [
         | inl lt ↦ lt
         | inr ge ↦ absurd (omega (arith, order (cell.row + (grid.frame.look.extent cell).rows) r ge at_boundary.0, at_boundary.2, in_line.1, ends_below))
-      ]) in
-      (
+      ]) in (
         (elim (cases_lt cell.row r) [
           | inl lt ↦ lt
           | inr ge ↦ absurd (first-rows cell in_table.0 in_line.0 r one (omega (arith, before, fits.rows_fit)) ge at_boundary.2)

@@ -1,5 +1,5 @@
 -- A line that shows a text without room is wider than the table.
-use Rattle.std.proofs.Common.{◌≡◌, ◌==◌, ℕ, zero, suc, ◌+◌, ◌-◌, ◌<◌, ◌≤◌, max, Bool, true, false, cond, inl, inr, List, [], ◌∷◌, ◌++◌, Option, map, length, replicate, get_or, refl, ap, sym, subst, ◌∙◌, arith, length-append}
+use Rattle.std.proofs.Common.{◌≡◌, ◌==◌, ℕ, zero, suc, ◌+◌, ◌-◌, ◌<◌, ◌≤◌, Bool, true, false, cond, inl, inr, List, [], ◌∷◌, ◌++◌, map, length, replicate, get_or, refl, ap, sym, subst, ◌∙◌, arith}
 use Rattle.std.specs.Prelude.{flat_map, nat_lt, slice_index}
 use Rattle.std.specs.List.{AllByRecursion, range_with_len}
 use Rattle.std.proofs.lemmas.Bool.{cases_lt}
@@ -9,15 +9,16 @@ use Rattle.std.proofs.lemmas.List.FromFn.{get_or-map-range_with_len, length-map-
 use Rattle.grid_config_values.specs.declared.position.Position.{Position}
 use Rattle.grid_config_values.specs.Glyphs.{boundary_kind, crossing, in_row}
 use Rattle.grid_config_spans.specs.declared.extent.Extent.{Extent}
-use Rattle.grid_config_colors.specs.Colors.{Color}
+use Rattle.grid_config_spans.specs.Rectangles.{IsInside}
+use Rattle.grid_config_spans.specs.Spans.{IsInTable}
 use Rattle.papergrid_picture.specs.Frame.{Boundary, Outside, Place, Row, Tracks, block_height, block_width, boundary_at, column_count, line_count, place, row_count, thickness, total_width, track_at}
-use Rattle.papergrid_picture.specs.Blocks.{Content, Fill, Glyph, Grid, Part, block, fill, free_above, free_left, greatest, text_line}
-use Rattle.papergrid_picture.specs.Picture.{Piece, across, along, at, block_pieces, boundary_part, corner, laid, parts_of, picture_line, pieces_at, row_part, seen, upright}
+use Rattle.papergrid_picture.specs.Blocks.{Fill, Glyph, Grid, block, fill, free_above, greatest, text_line}
+use Rattle.papergrid_picture.specs.Picture.{Piece, across, along, block_pieces, boundary_part, corner, laid, parts_of, picture_line, pieces_at, row_part, seen, upright}
 use Rattle.papergrid_picture.specs.Tiling.{BeginsBehindMargin, HasGoodSpans, HasRoom, IsLineOf, ShowsAllLines, ShowsPlace, Tiles}
 use Rattle.papergrid_picture.proofs.FrameLemmas.{boundary-first, boundary-next}
 use Rattle.papergrid_picture.proofs.PlaceLemmas.{place-shown}
 use Rattle.papergrid_picture.proofs.SeenLemmas.{seen-above, seen-goes_on, seen-holds, seen-in_table, seen-inside}
-use Rattle.papergrid_picture.proofs.TilingLemmas.{All-inside, Goes-columns, IsLine, Tiles-laid, along-tiles, block-all, block-ends, block-high, edge-tiles, free_above-within, located, track-before, track-before_line, widths_of, within}
+use Rattle.papergrid_picture.proofs.TilingLemmas.{All-inside, Goes-columns, IsLine, Tiles-laid, along-tiles, block-all, block-ends, block-ends_below, block-high, edge-tiles, free_above-within, located, order, track-before, track-before_line, widths_of, within}
 
 -- the pieces reach at least from a to b, side by side
 abbrev pub Reaches : ℕ → List Piece → ℕ → Type 0
@@ -247,3 +248,103 @@ module _ (grid : Grid) (spans : List (Position × Extent)) (good : HasGoodSpans 
           boundary-first columns,
           margins,
         )
+
+  -- ---- from lines to cells
+
+  some-lines : (y : ℕ) → y < track_at rows (row_count grid.frame) → 0 < row_count grid.frame → 0 < columns_in → y < line_count grid.frame
+  some-lines y before some_rows some_columns =
+      let no_rows : (row_count grid.frame == 0) ≡ false = grind (arith, nat_tests, some_rows) in
+      let no_columns : (columns_in == 0) ≡ false = grind (arith, nat_tests, some_columns) in
+      let counted : line_count grid.frame ≡ track_at rows (row_count grid.frame) + grid.frame.look.margin.bottom.size =
+      ap (λ b. cond b 0 (cond (columns_in == 0) 0 (track_at rows (row_count grid.frame) + grid.frame.look.margin.bottom.size))) no_rows
+      ∙ ap (λ b. cond b 0 (track_at rows (row_count grid.frame) + grid.frame.look.margin.bottom.size)) no_columns in
+      omega (arith, counted, before)
+
+  module _ (tiled : (y : ℕ) → y < line_count grid.frame → Tiles 0 (picture_line grid y) (total_width grid.frame)) (i j : ℕ) (row : i < row_count grid.frame) (column : j < columns_in) where
+    abbrev cell : Position
+    cell = seen grid i j
+
+    abbrev is_wide : ℕ → Type 0
+    is_wide y = block_width grid.frame cell + 1 ≤ widths_of (parts_of (block_pieces grid cell y))
+
+    in_table : IsInTable (row_count grid.frame) columns_in cell
+    in_table = seen-in_table grid spans good i j row column
+
+    fits : IsInside cell (grid.frame.look.extent cell) (row_count grid.frame) columns_in
+    fits = seen-inside grid spans good i j row column
+
+    seen-there : (r : ℕ) → cell.row ≤ r → r < cell.row + (grid.frame.look.extent cell).rows → seen grid r cell.col ≡ cell
+    seen-there r from before =
+        let held = seen-holds grid spans good i j in
+        seen-goes_on grid spans good i j r cell.col row column (omega (arith, before, fits.rows_fit)) in_table.1
+        (record { below = from; above = before; right = omega arith; left = omega (arith, held.right, held.left) })
+
+    not-wide_at : (y : ℕ) (p : Place) → place rows y ≡ p → ShowsPlace rows y p → IsLineOf grid cell y → y < line_count grid.frame → is_wide y → ⊥
+    not-wide_at y (Row r) is at_row in_line counted wide =
+        let found = located grid spans good i j y row column in_line (Row r) at_row in
+        let same = seen-there r found.0 found.1 in
+        let tiles : Tiles 0 (across grid (row_part grid r y) (upright grid columns_in)) (total_width grid.frame) = subst (λ (p : Place). Tiles 0 (pieces_at grid p y) (total_width grid.frame)) is (tiled y counted) in
+        too-wide r y (λ _. true) (upright grid)
+        (λ l inside here. at_row.0)
+        (λ l. edge-tiles grid spans good Fill (in_row grid.frame.look.borders (boundary_kind l columns_in)) (in_row grid.frame.look.borders_color (boundary_kind l columns_in)) l)
+        (λ l inside here.
+        let held = seen-holds grid spans good r l in
+        within grid spans good r l y at_row.0 inside (omega (arith, at_row.2, boundary-next rows r at_row.0)) (omega (arith, at_row.1))
+        (track-before_line grid spans good r y (seen grid r l).row held.below at_row.0 at_row.1))
+        cell.col in_table.1 refl (ap (λ (p : Position). p.col) same)
+        (subst (λ (c : Position). block_width grid.frame c + 1 ≤ widths_of (parts_of (block_pieces grid c y))) (sym same) wide)
+        (row_part grid r y) refl tiles
+    not-wide_at y (Boundary r) is at_boundary in_line counted wide =
+        let found = located grid spans good i j y row column in_line (Boundary r) at_boundary in
+        let same = seen-there r (omega (arith, found.0)) found.1 in
+        let one : track_at rows r ≡ boundary_at rows r + 1 = ap (λ b. boundary_at rows r + thickness b) at_boundary.1 in
+        let kind = boundary_kind r (row_count grid.frame) in
+        let tiles : Tiles 0 (across grid (boundary_part grid r y) (corner grid r columns_in)) (total_width grid.frame) = subst (λ (p : Place). Tiles 0 (pieces_at grid p y) (total_width grid.frame)) is (tiled y counted) in
+        too-wide r y (λ c. nat_lt c.row r) (corner grid r)
+        (λ l inside here. let above : (seen grid r l).row < r = grind (arith, nat_tests, here) in seen-above grid spans good r l at_boundary.0 inside above)
+        (λ l. edge-tiles grid spans good Glyph (crossing grid.frame.look.borders kind (boundary_kind l columns_in)) (crossing grid.frame.look.borders_color kind (boundary_kind l columns_in)) l)
+        (λ l inside here.
+        let above : (seen grid r l).row < r = grind (arith, nat_tests, here) in
+        let in_rows = seen-above grid spans good r l at_boundary.0 inside above in
+        within grid spans good r l y in_rows inside (omega (arith, boundary-next rows r in_rows, one, at_boundary.2)) (omega (arith, at_boundary.2))
+        (omega (arith, track-before grid spans good (seen grid r l).row r above at_boundary.0, at_boundary.2)))
+        cell.col in_table.1 (ap (λ (p : Position). nat_lt p.row r) same ∙ is_less cell.row r found.0) (ap (λ (p : Position). p.col) same)
+        (subst (λ (c : Position). block_width grid.frame c + 1 ≤ widths_of (parts_of (block_pieces grid c y))) (sym same) wide)
+        (boundary_part grid r y) refl tiles
+      where
+        is_less : (a b : ℕ) → a < b → nat_lt a b ≡ true
+        is_less a b less = grind (arith, nat_tests, less)
+    not-wide_at y Outside is outside in_line counted wide = absurd (located grid spans good i j y row column in_line Outside outside)
+
+    module _ (high : (0 < length (grid.measures cell)) × ((grid.frame.look.padding cell).top.size + length (grid.measures cell) ≤ block_height grid.frame cell)) where
+      room-for : let padding = grid.frame.look.padding cell in greatest (grid.measures cell) + padding.left.size + padding.right.size ≤ block_width grid.frame cell
+      room-for =
+          let padding = grid.frame.look.padding cell in
+          let width = block_width grid.frame cell in
+          let height = block_height grid.frame cell in
+          let best = widest-line (grid.measures cell) high.0 in
+          let k = best.0 in
+          let n = above grid cell width height in
+          let y = track_at rows cell.row + (padding.top.size + (n + k)) in
+          let bound = free_above-within (grid.frame.look.alignment_vertical cell) (free grid cell width height) in
+          let below : padding.top.size + (n + k) < height = omega (arith, bound, high.1, best.1) in
+          let held = seen-holds grid spans good i j in
+          let ends = block-ends_below grid spans good cell (omega (arith, held.below, held.above)) fits.rows_fit in
+          let last = order grid spans good (cell.row + (grid.frame.look.extent cell).rows) (row_count grid.frame) fits.rows_fit (omega arith) in
+          let counted : y < line_count grid.frame = some-lines y (omega (arith, below, ends, last)) (omega (arith, row)) (omega (arith, column)) in
+          let in_line : IsLineOf grid cell y = (omega arith, omega (arith, below)) in
+          elim (cases_lt width (greatest (grid.measures cell) + padding.left.size + padding.right.size)) [
+            | inl narrow ↦
+                let index : y - track_at rows cell.row ≡ padding.top.size + (n + k) = omega arith in
+                let line : get_or (block grid cell width height) (y - track_at rows cell.row) [] ≡ text_line grid cell width k = ap (λ m. get_or (block grid cell width height) m []) index ∙ block-line grid cell width height k best.1 in
+                let strict : width + 1 ≤ widths_of (text_line grid cell width k) = text_line-more grid cell width k (omega (arith, narrow, best.2)) in
+                let parts = get_or (block grid cell width height) (y - track_at rows cell.row) [] in
+                let laid_out = Tiles-widths (track_at columns cell.col) (track_at columns cell.col + widths_of parts) (block_pieces grid cell y) (Tiles-laid (track_at columns cell.col) parts (track_at columns cell.col + widths_of parts) refl) in
+                let wide : is_wide y = omega (arith, strict, ap widths_of line, laid_out) in
+                absurd (not-wide_at y (place rows y) refl (place-shown rows y) in_line counted wide)
+            | inr enough ↦ enough
+          ]
+
+  -- lines that are tiled leave room for each cell of which all lines are shown
+  pub room-where_tiled : ShowsAllLines grid → ((y : ℕ) → y < line_count grid.frame → Tiles 0 (picture_line grid y) (total_width grid.frame)) → HasRoom grid
+  room-where_tiled shows tiled = record { room = λ i j row column. room-for tiled i j row column (shows.lines i j row column) }

@@ -32,15 +32,16 @@ use Rattle.papergrid_picture.specs.CellLines.{cell_lines, cell_measures, kept_li
 use Rattle.papergrid_picture.specs.Tables.{in_bytes, table_grid, table_line}
 use Rattle.papergrid_picture.specs.Frame.{frame_of, total_width}
 use Rattle.papergrid_picture.specs.Blocks.{Content, Fill, Glyph, TextLine, Grid, Part}
-use Rattle.papergrid_picture.specs.Picture.{Piece, parts_of, picture_line}
+use Rattle.papergrid_picture.specs.Picture.{parts_of, picture_line}
 use Rattle.papergrid_picture.specs.Reading.{Reading, continues, is_shown, line_items, onto_runs, painted, part_items, run_items, runs_of}
 use Rattle.papergrid_picture.specs.Shown.{ArePlainlyShown, CostsOne, IsBare, IsPlainlyShown, IsShown, ShowsOnly, WritesNothing, character_of}
-use Rattle.papergrid_picture.specs.Tiling.{HasGoodSpans, HasRoom, Tiles}
+use Rattle.papergrid_picture.specs.Tiling.{HasGoodSpans, HasRoom}
 use Rattle.papergrid_picture.proofs.ItemLemmas.{Anything, colored-anyhow, shows-anything, slice_split-map}
 use Rattle.papergrid_picture.proofs.RelatedLemmas.{All-get_or, parts-hold, related-picture_line}
 use Rattle.papergrid_picture.proofs.ShownLemmas.{All-drop, All-take, IsClosedPart, IsShown-space, characters-styled, chars-one, lines-closed_parts, lines-styled, map-same, painted-nothing, pieces-nothing, styled_of, those-map}
 use Rattle.papergrid_picture.proofs.StrippedLemmas.{Leaves-append, Leaves-character, Leaves-trimmed, stripped, stripped-plain, trimmed-plain}
 use Rattle.papergrid_picture.proofs.TilingLemmas.{Tiles-picture, widths_of}
+use Rattle.papergrid_picture.proofs.WideLemmas.{Tiles-widths}
 
 -- ---- where nothing is painted, runs don't matter
 
@@ -303,11 +304,6 @@ module _ (text : List ℕ) (is : IsPlainlyShown text) (trim_horizontal trim_vert
       (Takes-parts (those kept (text_lines text)) good-parts k)
 
 -- ---- a line of a table
-
--- the widths of parts side by side
-Tiles-widths : (a b : ℕ) (pieces : List Piece) → Tiles a pieces b → a + widths_of (parts_of pieces) ≡ b
-Tiles-widths a b [] tiles = omega (arith, tiles)
-Tiles-widths a b (piece ∷ pieces) tiles = omega (arith, Tiles-widths (a + piece.part.width) b pieces tiles.1)
 
 widths-counted : (grid : Grid) (parts : List Part) → AllByRecursion (λ part. length (part_items (in_columns grid) part) ≡ part.width) parts
     → length (flat_map (part_items (in_columns grid)) parts) ≡ widths_of parts

@@ -21,7 +21,7 @@ ghost use Rattle.papergrid_picture.specs.Picture.{laid, picture_line, seen};
 ghost use Rattle.papergrid_picture.specs.Reading.{Reading, grid_items};
 ghost use Rattle.papergrid_picture.specs.Shown.{ArePlainTexts, ArePlainlyShown, AreWholeTexts, CostsOne, IsBare, IsReadBy, KeepsLineEnds, Shows, ShowsOnly, Styled, character_of, character_picture, characters_of, stripped_texts, styled_picture, styled_texts};
 ghost use Rattle.papergrid_picture.specs.Tables.{table_grid, table_line, table_lines, table_text};
-ghost use Rattle.papergrid_picture.specs.Tiling.{BeginsBehindMargin, HasGoodSpans, HasRoom, IsLineOf, ShowsBlock, ShowsPlace, Tiles};
+ghost use Rattle.papergrid_picture.specs.Tiling.{BeginsBehindMargin, HasGoodSpans, HasRoom, IsLineOf, ShowsAllLines, ShowsBlock, ShowsPlace, Tiles};
 ghost use Rattle.papergrid_picture.specs.Worked.{ascii, bracketed, cells, crossed, drawn, drawn_in, extents, half_bracketed, hidden_cell, joined, lettered, named, no_top, outer, padded, plain, red_rows, span, spaced, with_margins};
 
 /// Pictures that were worked out by hand: two by two cells; cells of two lines to the right, with one
@@ -186,12 +186,16 @@ pub fn lines_are_joined()
 {}
 
 /// Where the spans are good and each cell that is seen has room, the pieces of each line stand side by side
-/// from column 0 to the table's width, with no gap and no overlap. A line of a cell fills the width of its
-/// rectangle exactly where it and the paddings at its sides take no more.
+/// from column 0 to the table's width, with no gap and no overlap; and where they do so, each cell that is
+/// seen has room, if all its lines are shown. A line of a cell fills the width of its rectangle exactly where
+/// it and the paddings at its sides take no more.
 pub fn tiling()
     ensures lines { (grid : Grid) (spans : List (Cell × Extent)) (y : ℕ) →
         HasGoodSpans grid spans → HasRoom grid → BeginsBehindMargin grid.frame →
         Tiles 0 (picture_line grid y) (total_width grid.frame) }
+    ensures room { (grid : Grid) (spans : List (Cell × Extent)) →
+        HasGoodSpans grid spans → BeginsBehindMargin grid.frame → ShowsAllLines grid →
+        ((y : ℕ) → y < line_count grid.frame → Tiles 0 (picture_line grid y) (total_width grid.frame)) → HasRoom grid }
     ensures texts { (grid : Grid) (cell : Cell) (width k left : ℕ) →
         (Tiles left (laid left (text_line grid cell width k)) (left + width)
         ↔ ((grid.frame.look.padding cell).left.size + slice_index (grid.measures cell) k + (grid.frame.look.padding cell).right.size ≤ width)) }
@@ -218,8 +222,8 @@ pub fn lines_are_equally_wide()
         columns (shown_chars (table_line look rows (λ _. None) widths heights y)) ≡ total_width (frame_of look widths heights) }
 {}
 
-/// That all lines are tiled doesn't say that each cell has room: the smallest table of which a cell has none,
-/// one row of height 0 and one column of width 0 without boundaries, has no lines.
+/// That all lines are tiled doesn't say by itself that each cell has room: the smallest table of which a cell
+/// has none, one row of height 0 and one column of width 0 without boundaries, has no lines.
 pub fn hidden_cells_need_no_room()
     ensures no_lines { line_count hidden_cell.frame ≡ 0 }
     ensures no_room { ¬ (HasRoom hidden_cell) }
