@@ -31,10 +31,10 @@ use Rattle.papergrid_picture.proofs.StrippedLemmas.{none-broken, stripped, table
 
 -- ---- all looks show something
 
-abbrev Anything : {A : Type 0} → A → Type 0
+abbrev pub Anything : {A : Type 0} → A → Type 0
 Anything x = Unit {0}
 
-shows-anything : (look : Look) → ShowsOnly Anything look
+pub shows-anything : (look : Look) → ShowsOnly Anything look
 shows-anything look = record {
   crossings = λ row column. some (crossing look.borders row column);
   along_columns = λ kind. some (along_column look.borders kind);
@@ -48,7 +48,7 @@ shows-anything look = record {
     some None = tt
     some (Some c) = tt
 
-colored-anyhow : (look : Look) → IsColoredBy Anything look
+pub colored-anyhow : (look : Look) → IsColoredBy Anything look
 colored-anyhow look = record {
   crossings = λ row column. tt;
   along_columns = λ kind. tt;
@@ -67,8 +67,8 @@ module _ {X Y : Type 0} (f : X → List Y) (first : Reading X) (second : Reading
       (λ a c b d is others. flat_map-append f a c ∙ ap (λ items. items ++ flat_map f c) is ∙ ap (λ items. b ++ items) others)
       first second Anything
       (λ color a b any is. read.colors color a ∙ ap (painted second color) is)
-      Anything (λ c any. read.items c) tt tt grid read.lines (λ cell. tt)
-      (shows-anything grid.frame.look) (colored-anyhow grid.frame.look)
+      Anything (λ c any. read.items c) tt grid read.lines (λ cell. tt)
+      (shows-anything grid.frame.look) (colored-anyhow grid.frame.look) tt
 
 -- ---- characters without their styles
 
@@ -76,7 +76,7 @@ onto_first-map : {X Y : Type 0} (f : X → Y) (x : X) (parts : List (List X)) �
 onto_first-map f x [] = refl
 onto_first-map f x (part ∷ parts) = refl
 
-slice_split-map : {X Y : Type 0} (f : X → Y) (p : Y → Bool) (xs : List X) → slice_split p (map f xs) ≡ map (map f) (slice_split (λ x. p (f x)) xs)
+pub slice_split-map : {X Y : Type 0} (f : X → Y) (p : Y → Bool) (xs : List X) → slice_split p (map f xs) ≡ map (map f) (slice_split (λ x. p (f x)) xs)
 slice_split-map f p [] = refl
 slice_split-map {X} {Y} f p (x ∷ xs) =
     let rest = slice_split-map f p xs in
@@ -145,8 +145,8 @@ module _ (look : Look) (rows : List (List (List Styled))) (widths heights : List
       (λ a c b d is others. map-append character_of a c ∙ ap (λ items. items ++ map character_of c) is ∙ ap (λ items. b ++ items) others)
       (in_items character_of in_plain look rows) (in_items same same look plain_rows) Anything
       (λ color a b any is. ap (map character_of) (paint-none character_of in_plain rows color a) ∙ is ∙ sym (paint-none same same plain_rows color b))
-      Anything (λ c any. refl) tt tt (item_grid character_of in_plain look rows widths heights) line-characters (λ cell. tt)
-      (shows-anything look) (colored-anyhow look))
+      Anything (λ c any. refl) tt (item_grid character_of in_plain look rows widths heights) line-characters (λ cell. tt)
+      (shows-anything look) (colored-anyhow look) tt)
 
   -- ---- line feeds
 
@@ -188,8 +188,8 @@ module _ (look : Look) (rows : List (List (List Styled))) (widths heights : List
       (λ a c b d first others. All-append FeedIsPlain a c first others)
       reading reading Anything
       (λ color a b any all. subst (AllByRecursion FeedIsPlain) (sym (paint-none character_of in_plain rows color a)) all)
-      Anything (λ c any. ((λ is. refl), tt)) tt tt (item_grid character_of in_plain look rows widths heights) line-plain (λ cell. tt)
-      (shows-anything look) (colored-anyhow look))
+      Anything (λ c any. ((λ is. refl), tt)) tt (item_grid character_of in_plain look rows widths heights) line-plain (λ cell. tt)
+      (shows-anything look) (colored-anyhow look) tt)
 
 -- ---- texts without sequences
 
@@ -201,7 +201,7 @@ plain-whole text plain =
 stripped-same : (text : List ℕ) → IsPlainText text → stripped text ≡ text
 stripped-same text plain = strip-without_escape text (pieces text) (ArePiecesOf-pieces text) plain.no_escape
 
-All-keeps : {A : Type 0} (P Q : A → Type 0) → ((x : A) → P x → Q x) → (xs : List A) → AllByRecursion P xs → AllByRecursion Q xs
+pub All-keeps : {A : Type 0} (P Q : A → Type 0) → ((x : A) → P x → Q x) → (xs : List A) → AllByRecursion P xs → AllByRecursion Q xs
 All-keeps P Q each [] all = tt
 All-keeps P Q each (x ∷ xs) all = (each x all.0, All-keeps P Q each xs all.1)
 

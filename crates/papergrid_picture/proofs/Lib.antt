@@ -7,4 +7,6 @@ pub mod JoinLemmas
 pub mod PlaceLemmas
 pub mod SeenLemmas
 pub mod TilingLemmas
+pub mod WideLemmas
+pub mod WidthLemmas
 pub mod FrameLemmas

@@ -48,7 +48,7 @@ either P false x y first second = second
 module _ (P : Part → Type 0) (C : ℕ → Type 0) (Q : Option Color → Type 0) (grid : Grid) (space : C blank)
     (fills : (width c : ℕ) (color : Option Color) → C c → Q color → P (fill width c color))
     (glyphs : (width c : ℕ) (color : Option Color) → C c → Q color → P (record { width = width; content = Glyph c; color = color }))
-    (texts : (width : ℕ) (cell : Position) (k : ℕ) → P (record { width = width; content = TextLine cell k; color = grid.text_color cell }))
+    (texts : (cell : Position) (k : ℕ) → P (record { width = slice_index (grid.measures cell) k; content = TextLine cell k; color = grid.text_color cell }))
     (shown : ShowsOnly C grid.frame.look) (colored : IsColoredBy Q grid.frame.look) where
   abbrev Holds : List Part → Type 0
   Holds parts = AllByRecursion P parts
@@ -74,7 +74,7 @@ module _ (P : Part → Type 0) (C : ℕ → Type 0) (Q : Option Color → Type 0
         (
           fills indent (look.justification cell) (look.justification_color cell) (shown.justification cell) (colored.justification cell),
           (
-            texts measure cell k,
+            texts cell k,
             (
               fills (room - indent - measure) (look.justification cell) (look.justification_color cell) (shown.justification cell) (colored.justification cell),
               (fills padding.right.size padding.right.fill color.right fill_shown.1 fill_colored.1, tt),
@@ -234,7 +234,7 @@ module _ {X Y : Type 0} (R : List X → List Y → Type 0) (nothing : R [] [])
         related-flat_map (AllByRecursion IsRelated) (run_items first) (run_items second) related-run (runs_of (filter is_shown parts))
         (runs-keep IsRelated (filter is_shown parts) (shown-keep IsRelated parts all))
 
-    module _ (C : ℕ → Type 0) (item : (c : ℕ) → C c → R (first.item c) (second.item c)) (space : C blank) (feed : C 0x0a) (grid : Grid)
+    module _ (C : ℕ → Type 0) (item : (c : ℕ) → C c → R (first.item c) (second.item c)) (space : C blank) (grid : Grid)
         (line : (cell : Position) (k : ℕ) → R (first.line cell k) (second.line cell k)) (texts_colored : (cell : Position) → Q (grid.text_color cell))
         (shown : ShowsOnly C grid.frame.look) (colored : IsColoredBy Q grid.frame.look) where
       related-fill : (width c : ℕ) → C c → R (flat_map first.item (replicate width c)) (flat_map second.item (replicate width c))
@@ -245,26 +245,30 @@ module _ {X Y : Type 0} (R : List X → List Y → Type 0) (nothing : R [] [])
           parts-hold IsRelated C Q grid space
           (λ width c color of_c of_color. (of_color, related-fill width c of_c))
           (λ width c color of_c of_color. (of_color, related-fill width c of_c))
-          (λ width cell k. (texts_colored cell, line cell k)) shown colored y
+          (λ cell k. (texts_colored cell, line cell k)) shown colored y
 
-      related-lines : (n from : ℕ) → R
-          (flat_map (λ y. (cond (y == 0) [] (first.item 0x0a)) ++ line_items first (parts_of (picture_line grid y))) (range_with_len from n))
-          (flat_map (λ y. (cond (y == 0) [] (second.item 0x0a)) ++ line_items second (parts_of (picture_line grid y))) (range_with_len from n))
-      related-lines n from =
-          related-flat_map (λ _. Unit {0})
-          (λ y. (cond (y == 0) [] (first.item 0x0a)) ++ line_items first (parts_of (picture_line grid y)))
-          (λ y. (cond (y == 0) [] (second.item 0x0a)) ++ line_items second (parts_of (picture_line grid y)))
-          (λ y _. behind (cond (y == 0) [] (first.item 0x0a)) (line_items first (parts_of (picture_line grid y))) (cond (y == 0) [] (second.item 0x0a)) (line_items second (parts_of (picture_line grid y)))
-          (feed_before (y == 0)) (related-line (parts_of (picture_line grid y)) (related-parts y)))
-          (range_with_len from n) (each (range_with_len from n))
-        where
-          feed_before : (b : Bool) → R (cond b [] (first.item 0x0a)) (cond b [] (second.item 0x0a))
-          feed_before true = nothing
-          feed_before false = item 0x0a feed
+      pub related-picture_line : (y : ℕ) → R (line_items first (parts_of (picture_line grid y))) (line_items second (parts_of (picture_line grid y)))
+      related-picture_line y = related-line (parts_of (picture_line grid y)) (related-parts y)
 
-          each : (ys : List ℕ) → AllByRecursion (λ _. Unit {0}) ys
-          each [] = tt
-          each (y ∷ ys) = (tt, each ys)
+      module _ (feed : C 0x0a) where
+        related-lines : (n from : ℕ) → R
+            (flat_map (λ y. (cond (y == 0) [] (first.item 0x0a)) ++ line_items first (parts_of (picture_line grid y))) (range_with_len from n))
+            (flat_map (λ y. (cond (y == 0) [] (second.item 0x0a)) ++ line_items second (parts_of (picture_line grid y))) (range_with_len from n))
+        related-lines n from =
+            related-flat_map (λ _. Unit {0})
+            (λ y. (cond (y == 0) [] (first.item 0x0a)) ++ line_items first (parts_of (picture_line grid y)))
+            (λ y. (cond (y == 0) [] (second.item 0x0a)) ++ line_items second (parts_of (picture_line grid y)))
+            (λ y _. behind (cond (y == 0) [] (first.item 0x0a)) (line_items first (parts_of (picture_line grid y))) (cond (y == 0) [] (second.item 0x0a)) (line_items second (parts_of (picture_line grid y)))
+            (feed_before (y == 0)) (related-line (parts_of (picture_line grid y)) (related-parts y)))
+            (range_with_len from n) (each (range_with_len from n))
+          where
+            feed_before : (b : Bool) → R (cond b [] (first.item 0x0a)) (cond b [] (second.item 0x0a))
+            feed_before true = nothing
+            feed_before false = item 0x0a feed
 
-      pub related-items : R (grid_items first grid) (grid_items second grid)
-      related-items = related-lines (line_count grid.frame) 0
+            each : (ys : List ℕ) → AllByRecursion (λ _. Unit {0}) ys
+            each [] = tt
+            each (y ∷ ys) = (tt, each ys)
+
+        pub related-items : R (grid_items first grid) (grid_items second grid)
+        related-items = related-lines (line_count grid.frame) 0

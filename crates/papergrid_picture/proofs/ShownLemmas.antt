@@ -138,7 +138,7 @@ some-encode c scalar = some (encode_utf8 c) refl
         absurd (cc (none))
     some (b ∷ bs) e = omega (arith, ap length e)
 
-chars-one : (c : ℕ) → IsScalar c → chars (encode_utf8 c) ≡ c ∷ []
+pub chars-one : (c : ℕ) → IsScalar c → chars (encode_utf8 c) ≡ c ∷ []
 chars-one c scalar = ap chars (sym (append-nil (encode_utf8 c))) ∙ chars-encodes (c ∷ []) (ap (λ b. b && true) scalar)
 
 pub pieces-character : (c : ℕ) → IsShown c → pieces (encode_utf8 c) ≡ record { kind = Text; bytes = encode_utf8 c } ∷ []
@@ -205,7 +205,7 @@ module _ (text : List ℕ) (whole : IsWholeText text) where
       (All-utf8 (line_feed ∷ []) text (pieces text) (line_feed_places shown) (ArePiecesOf-pieces text) are whole.utf8 (IsUtf8-byte line_feed (lit< tt)))
       (All-closed (line_feed ∷ []) text (pieces text) (line_feed_places shown) (ArePiecesOf-pieces text) are whole.whole)
 
-  lines-styled : map styled_of (text_lines text) ≡ slice_split (λ x. x.0 == line_feed) (styled_of text)
+  pub lines-styled : map styled_of (text_lines text) ≡ slice_split (λ x. x.0 == line_feed) (styled_of text)
   unfolding text_lines
   lines-styled =
       let shown = strip (pieces text) in
@@ -321,8 +321,8 @@ module _ (look : Look) (rows : List (List (List ℕ))) (widths heights : List �
       subst (λ (measures : Position → List ℕ). ShowsHere (table_text look rows (λ _. None) widths heights) (grid_items (in_items character_of in_plain look shown_rows) (with_measures measures)))
       (λ n cell. measures-are cell n)
       (related-items ShowsHere ShowsHere-nothing ShowsHere-append (in_bytes look rows) (in_items character_of in_plain look shown_rows) WritesNothing paint-shown
-      IsShown ShowsHere-character IsShown-space IsShown-feed (table_grid look rows (λ _. None) widths heights)
-      line-shown (λ _. tt) bare.shown bare.no_colors)
+      IsShown ShowsHere-character IsShown-space (table_grid look rows (λ _. None) widths heights)
+      line-shown (λ _. tt) bare.shown bare.no_colors IsShown-feed)
 
   pub table-shows : Shows (table_text look rows (λ _. None) widths heights) (styled_picture look (styled_texts rows) widths heights)
   table-shows =

@@ -51,7 +51,7 @@ pub record Leaves (bytes text : List ℕ) : Type 0 where
 Leaves-nothing : Leaves [] []
 Leaves-nothing = record { whole = subst NoneBroken (sym pieces-nothing) tt; left = ap strip pieces-nothing }
 
-Leaves-append : (a c b d : List ℕ) → Leaves a b → Leaves c d → Leaves (a ++ c) (b ++ d)
+pub Leaves-append : (a c b d : List ℕ) → Leaves a b → Leaves c d → Leaves (a ++ c) (b ++ d)
 Leaves-append a c b d first second =
     let ps = pieces a in
     let qs = pieces c in
@@ -64,14 +64,14 @@ Leaves-append a c b d first second =
           ∙ ap (λ bytes. bytes ++ strip qs) first.left ∙ ap (λ bytes. b ++ bytes) second.left;
     }
 
-Leaves-character : (c : ℕ) → IsShown c → Leaves (encode_utf8 c) (encode_utf8 c)
+pub Leaves-character : (c : ℕ) → IsShown c → Leaves (encode_utf8 c) (encode_utf8 c)
 Leaves-character c is =
     let one = pieces-character c is in
     record { whole = subst NoneBroken (sym one) ((λ same. cc same), tt); left = ap strip one ∙ append-nil (encode_utf8 c) }
 
 -- ---- a trimmed line
 
-trimmed-plain : (text : List ℕ) → IsUtf8 text → has_escape text ≡ false → trimmed text ≡ trim text
+pub trimmed-plain : (text : List ℕ) → IsUtf8 text → has_escape text ≡ false → trimmed text ≡ trim text
 unfolding trimmed
 trimmed-plain text utf8 gone =
     let same : stripped text ≡ text = strip-without_escape text (pieces text) (ArePiecesOf-pieces text) gone in
@@ -79,10 +79,10 @@ trimmed-plain text utf8 gone =
     ∙ sym (kept-plain (trimmed_from text) (trimmed_to text) text gone)
     ∙ (trimmed_at text utf8).left
 
-stripped-plain : (text : List ℕ) → has_escape (stripped text) ≡ false
+pub stripped-plain : (text : List ℕ) → has_escape (stripped text) ≡ false
 stripped-plain text = has_escape-strip text (pieces text) (ArePiecesOf-pieces text)
 
-Leaves-trimmed : (part : List ℕ) → IsClosedPart part → Leaves (trimmed part) (trimmed (stripped part))
+pub Leaves-trimmed : (part : List ℕ) → IsClosedPart part → Leaves (trimmed part) (trimmed (stripped part))
 Leaves-trimmed part closed =
     let is = trimmed-is part closed.utf8 in
     let of_left = subst (λ bytes. ArePiecesOf bytes (pieces (trimmed part))) is.3 (ArePiecesOf-pieces (trimmed part)) in
@@ -201,8 +201,8 @@ module _ (look : Look) (rows : List (List (List ℕ))) (widths heights : List �
       subst (λ (measures : Position → List ℕ). Leaves (table_text look rows (λ _. None) widths heights) (grid_items (in_bytes look stripped_rows) (with_measures measures)))
       (λ n cell. measures-stripped cell n)
       (related-items Leaves Leaves-nothing Leaves-append (in_bytes look rows) (in_bytes look stripped_rows) WritesNothing paint-stripped
-      IsShown Leaves-character IsShown-space IsShown-feed (table_grid look rows (λ _. None) widths heights)
-      line-stripped (λ _. tt) bare.shown bare.no_colors)
+      IsShown Leaves-character IsShown-space (table_grid look rows (λ _. None) widths heights)
+      line-stripped (λ _. tt) bare.shown bare.no_colors IsShown-feed)
 
 -- ---- in the words of laws
 

@@ -24,6 +24,7 @@ pub record Part : Type 0 where
   pub content : Content
   pub color : Option Color
 
+-- a character in each of so many columns
 abbrev pub fill : ℕ → ℕ → Option Color → Part
 fill width character color = record { width = width; content = Fill character; color = color }
 
@@ -44,6 +45,7 @@ free_left Left free = 0
 free_left Center free = free / 2
 free_left Right free = free
 
+-- how much of what is free stands above it, likewise
 abbrev pub free_above : AlignmentVertical → ℕ → ℕ
 free_above Top free = 0
 free_above Middle free = free / 2

@@ -10,20 +10,31 @@ use Rattle.grid_records_measure.specs.Trimming.{trimmed}
 abbrev pub is_blank : List ℕ → Bool
 is_blank line = length (trim line) == 0
 
--- which lines are kept, by the number of the first and by their count: with a vertical trim those from the first line to the last
--- that isn't blank, and else all
-abbrev pub kept_lines : Bool → List (List ℕ) → ℕ × ℕ
+-- which lines of a text are kept: the number of the first, and their count
+abbrev pub Kept : Type 0
+Kept = ℕ × ℕ
+
+abbrev pub first_kept : Kept → ℕ
+first_kept kept = kept.0
+
+abbrev pub count_kept : Kept → ℕ
+count_kept kept = kept.1
+
+-- with a vertical trim those from the first line to the last that isn't blank, and else all
+abbrev pub kept_lines : Bool → List (List ℕ) → Kept
 kept_lines false lines = (0, length lines)
 kept_lines true lines =
-    let first = prefix_len is_blank lines in
-    let rest = drop first lines in
-    (first, length rest - suffix_len is_blank rest)
+    let blank_above = prefix_len is_blank lines in
+    let from_first = drop blank_above lines in
+    (blank_above, length from_first - suffix_len is_blank from_first)
 
-abbrev pub those : {X : Type 0} → ℕ × ℕ → List X → List X
-those kept lines = take kept.1 (drop kept.0 lines)
+-- the lines that are kept
+abbrev pub those : {X : Type 0} → Kept → List X → List X
+those kept lines = take (count_kept kept) (drop (first_kept kept) lines)
 
 module _ (trim_horizontal trim_vertical : Bool) (text : List ℕ) where
-  abbrev pub kept : ℕ × ℕ
+  -- which of its lines the cell keeps
+  abbrev pub kept : Kept
   kept = kept_lines trim_vertical (shown_lines (pieces text))
 
   -- the lines that the cell shows: each opens and ends its own styles, and with a horizontal trim has no white space at its ends

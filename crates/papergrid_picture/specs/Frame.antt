@@ -34,15 +34,17 @@ pub data Place : Type 0 where
   Row : ℕ → Place
   Outside : Place
 
--- what line y shows of the rows from i on: boundary i, then row i, then what follows
+-- what line y shows of the rows from i on, of which these are the heights: boundary i, then row i, then what follows; behind the
+-- last boundary there is nothing more
 abbrev pub place_from : (ℕ → Bool) → ℕ → List ℕ → ℕ → Place
 place_from has_boundary i [] y = if nat_lt y (thickness (has_boundary i)) then Boundary i else Outside
 place_from has_boundary i (height ∷ heights) y =
-    let k = y - thickness (has_boundary i) in
+    let behind_boundary = y - thickness (has_boundary i) in
     if nat_lt y (thickness (has_boundary i)) then Boundary i
-    else if nat_lt k height then Row i
-    else place_from has_boundary (i + 1) heights (k - height)
+    else if nat_lt behind_boundary height then Row i
+    else place_from has_boundary (i + 1) heights (behind_boundary - height)
 
+-- what line y shows, the lines of the margin above first
 abbrev pub place : Tracks → ℕ → Place
 place rows y = if nat_lt y rows.margin then Outside else place_from rows.has_boundary 0 rows.sizes (y - rows.margin)
 
@@ -63,6 +65,7 @@ frame_of look widths heights = record {
 }
 
 module _ (frame : Frame) where
+  -- how many rows and columns there are
   abbrev pub row_count : ℕ
   row_count = length frame.rows.sizes
 

@@ -19,9 +19,11 @@ abbrev pub laid : ℕ → List Part → List Piece
 laid left [] = []
 laid left (part ∷ parts) = record { left = left; part = part } ∷ laid (left + part.width) parts
 
+-- the parts, without where they stand
 abbrev pub parts_of : List Piece → List Part
 parts_of pieces = map (λ piece. piece.part) pieces
 
+-- a place by its row and column
 abbrev pub at : ℕ → ℕ → Position
 at row column = record { row = row; col = column }
 
@@ -98,6 +100,7 @@ module _ (grid : Grid) where
   abbrev pub margin_line : Indent → Option Color → List Piece
   margin_line margin color = laid 0 (fill (total_width grid.frame) margin.fill color ∷ [])
 
+  -- line y, which shows this
   abbrev pub pieces_at : Place → ℕ → List Piece
   pieces_at (Boundary i) y = across (boundary_part i y) (corner i (column_count grid.frame))
   pieces_at (Row i) y = across (row_part i y) (upright (column_count grid.frame))

@@ -15,11 +15,13 @@ pub record Reading (X : Type 0) : Type 0 where
 
 -- ---- runs of one colour
 
+-- a glyph of a boundary line
 abbrev pub is_glyph : Content → Bool
 is_glyph (Fill c) = false
 is_glyph (Glyph c) = true
 is_glyph (TextLine cell k) = false
 
+-- both are set to the same, or neither is set
 abbrev pub same_color : Option Color → Option Color → Bool
 same_color None None = true
 same_color None (Some b) = false
@@ -30,6 +32,7 @@ same_color (Some a) (Some b) = bytes_eq a.prefix b.prefix && bytes_eq a.suffix b
 abbrev pub is_shown : Part → Bool
 is_shown part = not (is_glyph part.content && part.width == 0)
 
+-- two glyphs in one colour
 abbrev pub continues : Part → Part → Bool
 continues a b = is_glyph a.content && (is_glyph b.content && same_color a.color b.color)
 
@@ -46,6 +49,7 @@ runs_of (part ∷ parts) = onto_runs part (runs_of parts)
 -- ---- items
 
 module _ {X : Type 0} (reading : Reading X) where
+  -- content in so many columns; a line of a cell is its own
   abbrev pub content_items : Content → ℕ → List X
   content_items (Fill c) width = flat_map reading.item (replicate width c)
   content_items (Glyph c) width = flat_map reading.item (replicate width c)
@@ -60,10 +64,12 @@ module _ {X : Type 0} (reading : Reading X) where
   painted (Some color) [] = []
   painted (Some color) (item ∷ items) = reading.paint color (item ∷ items)
 
+  -- a run is coloured as one
   abbrev pub run_items : List Part → List X
   run_items [] = []
   run_items (part ∷ parts) = painted part.color (flat_map part_items (part ∷ parts))
 
+  -- a line of parts
   abbrev pub line_items : List Part → List X
   line_items parts = flat_map run_items (runs_of (filter is_shown parts))
 

@@ -1,17 +1,19 @@
 -- What the picture of a table shows: its characters, in their styles or without.
-use Rattle.std.specs.Prelude.{◌≡◌, ◌≢◌, ℕ, Bool, false, List, [], ◌∷◌, Option, None, IfSome, IsUtf8, encode_utf8_all, flat_map, map, slice_index_or}
+use Rattle.std.specs.Prelude.{◌≡◌, ◌≢◌, ℕ, Bool, ◌||◌, false, true, List, [], ◌∷◌, Option, None, IfSome, IsUtf8, encode_utf8_all, flat_map, map, slice_index_or}
 use Rattle.std.specs.Char.{IsScalar}
-use Rattle.std.specs.List.{AllByRecursion, slice_split}
+use Rattle.std.specs.List.{AllByRecursion, list_all, slice_split}
 use Rattle.ansi_scan.specs.Sequences.{Piece, ArePiecesOf, NoneBroken, escape}
 use Rattle.ansi_scan.specs.Pieces.{pieces}
 use Rattle.ansi_scan.specs.Attributes.{Attributes, plain_attributes}
+use Rattle.ansi_str.specs.Characters.{shown_chars}
 use Rattle.ansi_str.specs.StyledText.{IsClosed, has_escape, strip, styled}
 use Rattle.grid_config_values.specs.declared.position.Position.{Position}
 use Rattle.grid_config_values.specs.declared.sides.Sides.{Sides}
 use Rattle.grid_config_values.specs.Glyphs.{BoundaryKind, along_column, crossing, in_row}
 use Rattle.grid_config_colors.specs.Colors.{Color, no_color}
 use Rattle.grid_config.specs.Looks.{Look}
-use Rattle.grid_records_measure.specs.Measures.{measure}
+use Rattle.grid_records_measure.specs.Measures.{cost, measure}
+use Rattle.grid_records_measure.specs.PlainCharacters.{is_plain_character}
 use Rattle.grid_records_measure.specs.TextLines.{is_line_feed}
 use Rattle.papergrid_picture.specs.Frame.{frame_of}
 use Rattle.papergrid_picture.specs.Blocks.{Grid}
@@ -146,3 +148,17 @@ pub record IsPlainText (text : List ℕ) : Type 0 where
 
 abbrev pub ArePlainTexts : List (List (List ℕ)) → Type 0
 ArePlainTexts rows = AllByRecursion (AllByRecursion IsPlainText) rows
+
+-- ---- columns
+
+-- a character that costs one column
+abbrev pub CostsOne : ℕ → Type 0
+CostsOne c = cost c ≡ 1
+
+-- a whole text that shows plain characters and line feeds
+pub record IsPlainlyShown (text : List ℕ) : Type 0 where
+  pub whole : IsWholeText text
+  pub plain : list_all (λ c. is_plain_character c || is_line_feed c) (shown_chars text) ≡ true
+
+abbrev pub ArePlainlyShown : List (List (List ℕ)) → Type 0
+ArePlainlyShown rows = AllByRecursion (AllByRecursion IsPlainlyShown) rows

@@ -49,3 +49,9 @@ pub record ShowsBlock (grid : Grid) (cell : Position) (y : ℕ) : Type 0 where
 -- line y is one of those of the rectangle of a cell
 abbrev pub IsLineOf : Grid → Position → ℕ → Type 0
 IsLineOf grid cell y = (track_at grid.frame.rows cell.row ≤ y) × (y < track_at grid.frame.rows cell.row + block_height grid.frame cell)
+
+-- each cell that is seen has lines, and its rectangle is high enough to show them all
+pub record ShowsAllLines (grid : Grid) : Type 0 where
+  pub lines : (row column : ℕ) → row < row_count grid.frame → column < column_count grid.frame →
+      let cell = seen grid row column in
+      (0 < length (grid.measures cell)) × ((grid.frame.look.padding cell).top.size + length (grid.measures cell) ≤ block_height grid.frame cell)

@@ -16,6 +16,7 @@ use Rattle.grid_config_colors.specs.Colors.{Color}
 use Rattle.grid_config.specs.Compact.{each_side, no_indent}
 use Rattle.grid_config.specs.Looks.{Look}
 use Rattle.papergrid_picture.specs.Frame.{frame_of}
+use Rattle.papergrid_picture.specs.Blocks.{Grid}
 use Rattle.papergrid_picture.specs.Picture.{at}
 use Rattle.papergrid_picture.specs.Reading.{grid_items}
 use Rattle.papergrid_picture.specs.Tables.{in_color}
@@ -42,6 +43,26 @@ borders_of h v x = record {
 
 abbrev pub ascii : Borders ℕ
 ascii = borders_of 0x2d 0x7c 0x2b
+
+-- a glyph of its own at each place
+abbrev pub lettered : Borders ℕ
+lettered = record {
+  top_left = Some 0x61;
+  top = Some 0x62;
+  top_intersection = Some 0x63;
+  top_right = Some 0x64;
+  left = Some 0x65;
+  vertical = Some 0x66;
+  right = Some 0x67;
+  left_intersection = Some 0x68;
+  horizontal = Some 0x69;
+  intersection = Some 0x6a;
+  right_intersection = Some 0x6b;
+  bottom_left = Some 0x6c;
+  bottom = Some 0x6d;
+  bottom_intersection = Some 0x6e;
+  bottom_right = Some 0x6f;
+}
 
 -- these extents, and every other cell is a single one
 abbrev pub extents : List (Position × Extent) → Position → Extent
@@ -144,3 +165,11 @@ crossed = record plain { borders_color = record no_borders { top = Some brackete
 -- text in the middle between coloured points
 abbrev pub spaced : Look
 spaced = record plain { alignment_horizontal = λ _. Center; justification = λ _. 0x2e; justification_color = λ _. Some bracketed }
+
+-- a cell that measures one column, in a row of height 0 and a column of width 0
+abbrev pub hidden_cell : Grid
+hidden_cell = record { frame = frame_of (record plain { borders = no_borders }) (0 ∷ []) (0 ∷ []); measures = λ _. 1 ∷ []; text_color = λ _. None }
+
+-- one red cell of two lines
+abbrev pub red_rows : List (List (List ℕ))
+red_rows = ((codes "\u{1b}[31ma\nb") ∷ []) ∷ []

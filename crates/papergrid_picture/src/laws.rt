@@ -1,26 +1,28 @@
 //! Laws of the definitions that the contracts of the grids cite.
-ghost use Rattle.std.specs.Prelude.{◌≡◌, ◌↔◌, ◌<◌, ◌≤◌, ◌+◌, ℕ, All, List, [], ◌∷◌, None, Option, Some, chars, codes, encode_utf8_all, flat_map, length, map, slice_index, true};
+ghost use Rattle.std.specs.Prelude.{◌≡◌, ◌==◌, ◌↔◌, if◌then◌else◌, ◌<◌, ◌≤◌, ◌+◌, ℕ, All, List, [], ◌∷◌, None, Option, Some, chars, codes, encode_utf8_all, flat_map, length, map, slice_index, true};
 ghost use Rattle.std.specs.List.{join_with_byte, range_with_len};
 ghost use Rattle.ansi_scan.specs.Attributes.{plain_attributes};
 ghost use Rattle.ansi_scan.specs.Sequences.{Piece, ArePiecesOf, NoneBroken};
 ghost use Rattle.ansi_str.specs.StyledText.{strip};
 ghost use Rattle.grid_config_values.specs.declared.alignment.AlignmentHorizontal.TheVariants.{Right};
-ghost use Rattle.grid_config_values.specs.declared.alignment.AlignmentVertical.TheVariants.{Bottom, Center as Middle};
+ghost use Rattle.grid_config_values.specs.declared.alignment.AlignmentVertical.TheVariants.{Bottom, Center as Middle, Top};
 ghost use Rattle.grid_config_values.specs.declared.position.Position.{Position as Cell};
 ghost use Rattle.grid_config_values.specs.Glyphs.{no_borders};
 ghost use Rattle.grid_config_spans.specs.declared.extent.Extent.{Extent};
 ghost use Rattle.grid_config_colors.specs.Colors.{Color};
 ghost use Rattle.grid_config.specs.Compact.{each_side};
 ghost use Rattle.grid_config.specs.Looks.{Look};
+ghost use Rattle.ansi_str.specs.Characters.{shown_chars};
+ghost use Rattle.grid_records_measure.specs.Measures.{columns};
 ghost use Rattle.grid_records_measure.specs.TextLines.{line_feed};
 ghost use Rattle.papergrid_picture.specs.Blocks.{Grid, text_line};
 ghost use Rattle.papergrid_picture.specs.Frame.{Boundary, Outside, Row, Tracks, boundary_at, column_count, frame_of, line_count, place, row_count, total_width, track_at};
 ghost use Rattle.papergrid_picture.specs.Picture.{laid, picture_line, seen};
 ghost use Rattle.papergrid_picture.specs.Reading.{Reading, grid_items};
-ghost use Rattle.papergrid_picture.specs.Shown.{ArePlainTexts, AreWholeTexts, IsBare, IsReadBy, KeepsLineEnds, Shows, Styled, character_of, character_picture, characters_of, stripped_texts, styled_picture, styled_texts};
-ghost use Rattle.papergrid_picture.specs.Tables.{table_line, table_lines, table_text};
-ghost use Rattle.papergrid_picture.specs.Tiling.{BeginsBehindMargin, HasGoodSpans, HasRoom, IsLineOf, ShowsBlock, ShowsPlace, Tiles};
-ghost use Rattle.papergrid_picture.specs.Worked.{ascii, bracketed, cells, crossed, drawn, drawn_in, extents, half_bracketed, joined, named, no_top, outer, padded, plain, span, spaced, with_margins};
+ghost use Rattle.papergrid_picture.specs.Shown.{ArePlainTexts, ArePlainlyShown, AreWholeTexts, CostsOne, IsBare, IsReadBy, KeepsLineEnds, Shows, ShowsOnly, Styled, character_of, character_picture, characters_of, stripped_texts, styled_picture, styled_texts};
+ghost use Rattle.papergrid_picture.specs.Tables.{table_grid, table_line, table_lines, table_text};
+ghost use Rattle.papergrid_picture.specs.Tiling.{BeginsBehindMargin, HasGoodSpans, HasRoom, IsLineOf, ShowsAllLines, ShowsBlock, ShowsPlace, Tiles};
+ghost use Rattle.papergrid_picture.specs.Worked.{ascii, bracketed, cells, crossed, drawn, drawn_in, extents, half_bracketed, hidden_cell, joined, lettered, named, no_top, outer, padded, plain, red_rows, span, spaced, with_margins};
 
 /// Pictures that were worked out by hand: two by two cells; cells of two lines to the right, with one
 /// indent and line by line; a cell of three lines in a row of two; a line in the middle of four, where
@@ -49,7 +51,7 @@ pub fn worked_tables()
 /// Cells that span rows and columns, worked out by hand: a row span of two in the middle of its height; row
 /// spans of three, two and two, whose texts stand on boundary lines; two by two cells, with the crossing
 /// in their middle hidden, at the first place and at the last; a span over a boundary that is absent; a
-/// row of columns, of which one has the width 0.
+/// row of columns, of which one has the width 0; spans of rows and of columns side by side.
 pub fn worked_spans()
     ensures two_rows { drawn (record plain { extent = extents (span 0 0 2 1 ∷ []); alignment_vertical = λ _. Middle }) (3 ∷ 3 ∷ []) (1 ∷ 1 ∷ []) (named 2 2)
         ≡ joined (codes "+---+---+" ∷ codes "|   |0-1|" ∷ codes "+0-0+---+" ∷ codes "|   |1-1|" ∷ codes "+---+---+" ∷ []) }
@@ -63,11 +65,16 @@ pub fn worked_spans()
         ≡ joined (codes "+---+" ∷ codes "|abc|" ∷ codes "|de |" ∷ codes "+---+" ∷ []) }
     ensures no_width { drawn plain (1 ∷ 0 ∷ []) (1 ∷ []) (cells (codes "a" ∷ [] ∷ []) ∷ [])
         ≡ joined (codes "+-++" ∷ codes "|a||" ∷ codes "+-++" ∷ []) }
+    ensures both_ways { drawn (record plain { extent = extents (span 0 0 2 1 ∷ span 0 1 1 2 ∷ span 2 1 1 2 ∷ []); alignment_vertical = λ cell. if cell.row == 0 then Middle else Top })
+        (3 ∷ 2 ∷ 3 ∷ []) (1 ∷ 1 ∷ 2 ∷ [])
+        (cells (codes "up" ∷ codes "wide" ∷ [] ∷ []) ∷ cells ([] ∷ codes "a" ∷ codes "b" ∷ []) ∷ ((codes "c" ∷ []) ∷ (codes "two" ∷ codes "lines" ∷ []) ∷ []) ∷ [])
+        ≡ joined (codes "+---+--+---+" ∷ codes "|   |wide  |" ∷ codes "+up +--+---+" ∷ codes "|   |a |b  |" ∷ codes "+---+--+---+" ∷ codes "|c  |two   |" ∷ codes "|   |lines |" ∷ codes "+---+--+---+" ∷ []) }
 {}
 
 /// Paddings, margins and boundaries, worked out by hand: fills of each side, where the bottom padding is
 /// not seen in a row that is too low for it; margins, whose lines at the top and bottom are as wide as all
-/// others; boundaries of which one is absent, and a present one without a glyph at some of its places.
+/// others; boundaries of which one is absent, and a present one without a glyph at some of its places;
+/// fifteen different glyphs.
 pub fn worked_edges()
     ensures paddings { drawn padded (4 ∷ []) (3 ∷ []) (cells (codes "ab" ∷ []) ∷ [])
         ≡ joined (codes "+----+" ∷ codes "|^^^^|" ∷ codes "|<ab>|" ∷ codes "|____|" ∷ codes "+----+" ∷ []) }
@@ -77,6 +84,8 @@ pub fn worked_edges()
         ≡ joined (codes "^^^^^^" ∷ codes "^^^^^^" ∷ codes "<+-+>>" ∷ codes "<|a|>>" ∷ codes "<+-+>>" ∷ codes "______" ∷ []) }
     ensures no_top { drawn no_top (1 ∷ []) (1 ∷ []) (cells (codes "a" ∷ []) ∷ [])
         ≡ joined (codes "|a|" ∷ codes " - " ∷ []) }
+    ensures all_glyphs { drawn (record plain { borders = lettered }) (1 ∷ 1 ∷ []) (1 ∷ 1 ∷ []) (cells (codes "1" ∷ codes "2" ∷ []) ∷ cells (codes "3" ∷ codes "4" ∷ []) ∷ [])
+        ≡ joined (codes "abcbd" ∷ codes "e1f2g" ∷ codes "hijik" ∷ codes "e3f4g" ∷ codes "lmnmo" ∷ []) }
     ensures no_vertical { drawn (record plain { borders = record ascii { vertical = None } }) (1 ∷ 1 ∷ []) (1 ∷ []) (cells (codes "a" ∷ codes "b" ∷ []) ∷ [])
         ≡ joined (codes "+-+-+" ∷ codes "|a b|" ∷ codes "+-+-+" ∷ []) }
 {}
@@ -177,12 +186,16 @@ pub fn lines_are_joined()
 {}
 
 /// Where the spans are good and each cell that is seen has room, the pieces of each line stand side by side
-/// from column 0 to the table's width, with no gap and no overlap. A line of a cell fills the width of its
-/// rectangle exactly where it and the paddings at its sides take no more.
+/// from column 0 to the table's width, with no gap and no overlap; and where they do so, each cell that is
+/// seen has room, if all its lines are shown. A line of a cell fills the width of its rectangle exactly where
+/// it and the paddings at its sides take no more.
 pub fn tiling()
     ensures lines { (grid : Grid) (spans : List (Cell × Extent)) (y : ℕ) →
         HasGoodSpans grid spans → HasRoom grid → BeginsBehindMargin grid.frame →
         Tiles 0 (picture_line grid y) (total_width grid.frame) }
+    ensures room { (grid : Grid) (spans : List (Cell × Extent)) →
+        HasGoodSpans grid spans → BeginsBehindMargin grid.frame → ShowsAllLines grid →
+        ((y : ℕ) → y < line_count grid.frame → Tiles 0 (picture_line grid y) (total_width grid.frame)) → HasRoom grid }
     ensures texts { (grid : Grid) (cell : Cell) (width k left : ℕ) →
         (Tiles left (laid left (text_line grid cell width k)) (left + width)
         ↔ ((grid.frame.look.padding cell).left.size + slice_index (grid.measures cell) k + (grid.frame.look.padding cell).right.size ≤ width)) }
@@ -197,4 +210,32 @@ pub fn rectangles_show_blocks()
         HasGoodSpans grid spans → HasRoom grid → BeginsBehindMargin grid.frame →
         i < row_count grid.frame → j < column_count grid.frame → IsLineOf grid (seen grid i j) y →
         ShowsBlock grid (seen grid i j) y }
+{}
+
+/// Where the cells show plain characters and line feeds, and each glyph, fill and character for justification
+/// costs one column, each line of the text of a table without colours takes the columns of the table's
+/// width, trimmed or not: so its edges are straight. The spans are good, and each cell that is seen has room.
+pub fn lines_are_equally_wide()
+    ensures { (look : Look) (rows : List (List (List ℕ))) (widths heights : List ℕ) (spans : List (Cell × Extent)) (y : ℕ) →
+        IsBare look → ShowsOnly CostsOne look → ArePlainlyShown rows →
+        HasGoodSpans (table_grid look rows (λ _. None) widths heights) spans → HasRoom (table_grid look rows (λ _. None) widths heights) →
+        columns (shown_chars (table_line look rows (λ _. None) widths heights y)) ≡ total_width (frame_of look widths heights) }
+{}
+
+/// That all lines are tiled doesn't say by itself that each cell has room: the smallest table of which a cell
+/// has none, one row of height 0 and one column of width 0 without boundaries, has no lines.
+pub fn hidden_cells_need_no_room()
+    ensures no_lines { line_count hidden_cell.frame ≡ 0 }
+    ensures no_room { ¬ (HasRoom hidden_cell) }
+{}
+
+/// One table in three readings, worked out by hand: a red cell of two lines, of which each opens and ends
+/// its own colour; and its look is bare.
+pub fn worked_readings()
+    ensures bare { IsBare plain }
+    ensures bytes { table_text plain red_rows (λ _. None) (2 ∷ []) (2 ∷ [])
+        ≡ joined (codes "+--+" ∷ codes "|\u{1b}[31ma\u{1b}[39m |" ∷ codes "|\u{1b}[31mb\u{1b}[39m |" ∷ codes "+--+" ∷ []) }
+    ensures characters { character_picture plain (((codes "a\nb") ∷ []) ∷ []) (2 ∷ []) (2 ∷ [])
+        ≡ joined (codes "+--+" ∷ codes "|a |" ∷ codes "|b |" ∷ codes "+--+" ∷ []) }
+    ensures stripped { stripped_texts red_rows ≡ ((codes "a\nb") ∷ []) ∷ [] }
 {}
