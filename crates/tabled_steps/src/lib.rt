@@ -1,0 +1,13 @@
+//! What a table is, and its options: each is one step of it.
+#![tactic(auto)]
+
+mod configuration;
+pub mod laws;
+mod measurement;
+mod option;
+mod texts;
+
+pub use configuration::{Configuration, KeptSizes};
+pub use measurement::{Height, Measurement, Width};
+pub use option::{CellOption, TableOption};
+pub use texts::{TextChange, change_texts};
