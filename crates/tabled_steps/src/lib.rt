@@ -2,6 +2,7 @@
 #![tactic(auto)]
 
 mod configuration;
+mod configurations;
 pub mod laws;
 mod measurement;
 mod option;
