@@ -1,0 +1,13 @@
+//! Lines that are broken and cut, priorities of columns, and sizes that a table keeps or is given.
+#![tactic(auto)]
+
+pub mod laws;
+
+pub use tabled_size_dimension::{
+    CompleteDimension, ConstDimension, ConstSize, DimensionPriority, DimensionValue,
+    PoolTableDimension, StaticDimension, SuffixLimit, ZeroDimension,
+};
+pub use tabled_size_priority::{
+    Choice, Peaker, Priority, PriorityLeft, PriorityMax, PriorityMin, PriorityNone, PriorityRight,
+};
+pub use tabled_size_wrap::{Unit, cut_styled, units, wrap_styled};

@@ -1,0 +1,23 @@
+-- The sizes of columns or of rows, each by its number.
+use Rattle.std.specs.Prelude.{ℕ, ◌<◌, List, length, slice_index, slice_index_or}
+
+-- one size for all; or those of a list, and behind it 0 or one size for all others
+pub data Sizes : Type 0 where
+  Alike : ℕ → Sizes
+  Listed : List ℕ → Sizes
+  ListedBefore : List ℕ → ℕ → Sizes
+
+abbrev pub size_at : Sizes → ℕ → ℕ
+size_at (Alike size) number = size
+size_at (Listed sizes) number = slice_index sizes number
+size_at (ListedBefore sizes size) number = slice_index_or sizes number size
+
+-- no number below this one is past a list
+abbrev pub CoversFirst : ℕ → Sizes → Type 0
+CoversFirst count (Alike size) = Unit {0}
+CoversFirst count (Listed sizes) = (k : ℕ) → k < count → k < length sizes
+CoversFirst count (ListedBefore sizes size) = (k : ℕ) → k < count → k < length sizes
+
+-- no column and no row of a table of so many is past its list
+abbrev pub CoversTable : ℕ → ℕ → Sizes × Sizes → Type 0
+CoversTable columns rows sizes = CoversFirst columns sizes.0 × CoversFirst rows sizes.1

@@ -1,0 +1,5 @@
+//! Tests of sizes that a table keeps or is given, by their public calls.
+#![tactic(auto)]
+
+#[cfg(test)]
+mod tests;
