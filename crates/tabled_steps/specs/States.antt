@@ -7,7 +7,7 @@ use Rattle.grid_config_values.specs.declared.position.Position.{Position}
 use Rattle.grid_config_colors.specs.Colors.{Color}
 use Rattle.grid_config.specs.Looks.{Look}
 use Rattle.tabled_steps.specs.Outcomes.{MayRefuse, ◌≫=◌}
-use Rattle.tabled_steps.specs.Stored.{Stored, kept_after}
+use Rattle.tabled_size_dimension.specs.Stored.{Stored, kept_after}
 
 -- its texts by rows, its settings as each cell has them, the colours of its cells, and the sizes that it keeps
 pub record State : Type 0 where

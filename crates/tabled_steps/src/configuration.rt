@@ -4,9 +4,10 @@ ghost use Rattle.grid_config_colors.specs.Colors.{Color};
 ghost use Rattle.grid_config_values.specs.declared.position.Position.{Position as Place};
 ghost use Rattle.grid_config_values.specs.Settings.{value_at};
 ghost use Rattle.grid_config.specs.Looks.{Look, look_of};
-ghost use Rattle.tabled_steps.specs.Stored.{Stored};
+ghost use Rattle.tabled_size_dimension.specs.Stored.{Stored};
 
 use grid_config::ColoredConfig;
+use tabled_size_dimension::CompleteDimension;
 
 /// What contracts see of the settings of a table: those that each cell has, and its colour.
 pub trait Configuration {
@@ -24,4 +25,8 @@ impl Configuration for ColoredConfig {
 /// What contracts see of the sizes that a table keeps: its widths and its heights, where they are kept.
 pub trait KeptSizes {
     ghost sizes: { Self → Stored };
+}
+
+impl KeptSizes for CompleteDimension {
+    ghost sizes = { λ dimension. dimension };
 }

@@ -9,7 +9,7 @@ ghost use Rattle.tabled_steps.specs.Changes.{changed_rows, changing};
 ghost use Rattle.tabled_steps.specs.Looks.{changing_inside, covering, placing, with_columns, with_rows};
 ghost use Rattle.tabled_steps.specs.Outcomes.{◌≫=◌, all_sized, sized};
 ghost use Rattle.tabled_steps.specs.States.{Outcome, Settles, State, positive, settled};
-ghost use Rattle.tabled_steps.specs.Stored.{none_stored};
+ghost use Rattle.tabled_size_dimension.specs.Stored.{none_stored};
 ghost use Rattle.tabled_steps.specs.Worked.{at, keeping, letters};
 
 /// Texts that changed, worked out by hand: those of one column, those that their place names, those of a
