@@ -2,6 +2,7 @@
 #![tactic(auto)]
 
 mod alignment;
+pub mod laws;
 mod margin;
 pub mod object;
 mod padding;

@@ -13,7 +13,7 @@ use grid_records_traits::records::RecordTexts;
 use std::alloc::Global;
 use std::mem;
 
-// Lets a value go that has many parts.
+// Lets a value go that has many parts: dropping it in place would be proved part by part.
 fn let_go<T: Drop>(_value: T) {}
 
 /// Replaces all settings but the colours of the cells. Refused for memory alone.
