@@ -99,6 +99,7 @@ pub fn sizes_are_made_and_parted<const COLUMNS: usize, const ROWS: usize>()
     ensures constant { (sizes pair : ConstWidth COLUMNS × ConstWidth ROWS) →
         ⟦<(ConstSize<COLUMNS>, ConstSize<ROWS>) as From<ConstDimension<COLUMNS, ROWS>>>⟧.from_gives sizes pair → pair ≡ sizes }
     ensures one_size { (size : ℕ) (sizes : ConstWidth 0) → ⟦<ConstSize<0> as From<usize>>⟧.from_gives size sizes → const_sizes sizes ≡ Alike size }
+    ensures list { (list : List ℕ) (sizes : ConstWidth COLUMNS) → ⟦<ConstSize<COLUMNS> as From<[usize; COLUMNS]>>⟧.from_gives list sizes → const_sizes sizes ≡ Listed list }
 {}
 
 /// `==` of values that can be copied is equality of all their parts, and `cmp` finds the same ones equal.

@@ -1,0 +1,2 @@
+pub mod NewLooks
+pub mod Assembled

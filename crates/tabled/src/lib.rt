@@ -1,0 +1,9 @@
+//! Tables: rows of texts under settings, changed step by step.
+#![tactic(auto)]
+
+mod table;
+
+pub use table::Table;
+pub use tabled_options::{Alignment, Margin, Padding, PaddingExpand, Style, object};
+pub use tabled_steps::{CellOption, Height, Measurement, TableOption, Width};
+pub use tabled_text::{Builder, CellText, Tabled};

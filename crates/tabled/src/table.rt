@@ -1,0 +1,141 @@
+//! A table.
+ghost use Rattle.std.specs.Prelude.{◌≡◌, ◌==◌, ◌||◌, [], None, IfErr, IfOk, length};
+ghost use Rattle.grid_config.specs.Looks.{look_of};
+ghost use Rattle.grid_config.specs.Settings.{IsEverywhere};
+ghost use Rattle.tabled.specs.Tables.{new_look, new_state, state_of};
+ghost use Rattle.tabled_steps.specs.Outcomes.{MayRefuse};
+ghost use Rattle.tabled_steps.specs.States.{Settles, Steps, column_count};
+
+use grid_config::{ColoredConfig, Entity, Fault, Sides, SpannedConfig};
+use grid_records_rows::{FromText, Text, VecRecords};
+use grid_records_traits::records::{ExactRecords, RecordColumns};
+use std::alloc::Global;
+use tabled_options::{Padding, Style};
+use tabled_size_dimension::CompleteDimension;
+use tabled_steps::{CellOption, TableOption};
+
+/// A table: rows of cells with texts, its settings, and the sizes that it keeps. It keeps its
+/// allocator.
+#[derive(Debug, Drop)]
+pub struct Table<T = Text> {
+    records: VecRecords<T>,
+    config: ColoredConfig,
+    dimension: CompleteDimension,
+    alloc: Global,
+}
+
+impl Table<Text> {
+    /// A table without rows. Takes no memory.
+    pub fn default(alloc: Global) -> Table<Text>
+        ensures { state_of (λ text. text) result ≡ new_state [] }
+    {
+        Table {
+            records: VecRecords::new(Vec::new(alloc)),
+            config: new_config(alloc),
+            dimension: CompleteDimension::default(),
+            alloc,
+        }
+    }
+}
+
+// The settings of a new table.
+fn new_config(alloc: Global) -> ColoredConfig
+    ensures look { look_of result.settings ≡ new_look }
+    ensures colors { IsEverywhere result.colors None }
+{
+    let mut config = SpannedConfig::new(alloc);
+    config.set_borders(Style::ascii().get_borders());
+    // for all cells it is never refused
+    let _never_refused = config.set_padding(Entity::Global, Sides::from(Padding::new(1, 1, 0, 0)));
+    ColoredConfig::new(config)
+}
+
+impl<T: FromText> Table<T> {
+    /// Changes the table by an option: one step, and behind it the sizes that it leaves as they are stay
+    /// kept, and no others. Refused as the step is, and for memory, and then nothing has changed.
+    pub fn set<O: TableOption<VecRecords<T>, ColoredConfig, CompleteDimension>>(
+        &mut self,
+        option: O,
+    ) -> Result<(), Fault>
+        ensures { Steps (Settles (O.hint option) (O.step option)) result (state_of T.text self.old) (state_of T.text self.new) }
+    {
+        let hint = option.hint_change();
+        option.change(
+            self.alloc,
+            &mut self.records,
+            &mut self.config,
+            &mut self.dimension,
+        )?;
+        self.dimension.reastimate(hint);
+        Ok(())
+    }
+
+    /// Changes the cells of the target by an option, as `set` does the table.
+    pub fn set_cells<O: CellOption<VecRecords<T>, ColoredConfig>>(
+        &mut self,
+        target: Entity,
+        option: &O,
+    ) -> Result<(), Fault>
+        ensures { Steps (Settles (O.hint option.now) (O.step option.now target)) result (state_of T.text self.old) (state_of T.text self.new) }
+    {
+        let hint = option.hint_change();
+        option.change(self.alloc, &mut self.records, &mut self.config, target)?;
+        self.dimension.reastimate(hint);
+        Ok(())
+    }
+
+    /// The table, changed by an option as `set` changes it.
+    pub fn with<O: TableOption<VecRecords<T>, ColoredConfig, CompleteDimension>>(
+        &mut self,
+        option: O,
+    ) -> Result<&mut Self, Fault>
+        ensures lends { IfOk result (λ table. table.ghost_name ≡ self.entry.ghost_name) }
+        ensures step { IfOk result (λ table. Settles (O.hint option) (O.step option) (state_of T.text self.old) (Ok (state_of T.text table.now))) }
+        ensures refused { IfErr result (λ fault. MayRefuse fault (Settles (O.hint option) (O.step option) (state_of T.text self.old))) }
+    {
+        self.set(option)?;
+        Ok(self)
+    }
+
+    /// The table, its target changed by an option as `set_cells` changes it.
+    pub fn modify<O: CellOption<VecRecords<T>, ColoredConfig>>(
+        &mut self,
+        target: Entity,
+        option: &O,
+    ) -> Result<&mut Self, Fault>
+        ensures lends { IfOk result (λ table. table.ghost_name ≡ self.entry.ghost_name) }
+        ensures step { IfOk result (λ table. Settles (O.hint option.now) (O.step option.now target) (state_of T.text self.old) (Ok (state_of T.text table.now))) }
+        ensures refused { IfErr result (λ fault. MayRefuse fault (Settles (O.hint option.now) (O.step option.now target) (state_of T.text self.old))) }
+    {
+        self.set_cells(target, option)?;
+        Ok(self)
+    }
+
+    /// How many rows and how many columns there are.
+    pub fn shape(&self) -> (usize, usize)
+        ensures { let rows = (state_of T.text self.now).rows in result ≡ (length rows, column_count rows) }
+    {
+        (self.count_rows(), self.count_columns())
+    }
+
+    /// How many rows there are.
+    pub fn count_rows(&self) -> usize
+        ensures { result ≡ length (state_of T.text self.now).rows }
+    {
+        self.records.count_rows()
+    }
+
+    /// How many columns there are.
+    pub fn count_columns(&self) -> usize
+        ensures { result ≡ column_count (state_of T.text self.now).rows }
+    {
+        self.records.count_columns()
+    }
+
+    /// Whether there is no row or no column.
+    pub fn is_empty(&self) -> bool
+        ensures { let rows = (state_of T.text self.now).rows in result ≡ (length rows == 0 || column_count rows == 0) }
+    {
+        self.count_rows() == 0 || self.count_columns() == 0
+    }
+}

@@ -1,0 +1,74 @@
+//! Laws: which step each option is, and which sizes it clears.
+ghost use Rattle.std.specs.Prelude.{◌≡◌, ◌↔◌, Some, true};
+ghost use Rattle.std.specs.declared.cmp.Ordering.TheVariants.{Equal};
+ghost use Rattle.grid_config_values.specs.declared.entity.Entity.{Entity as Cells};
+ghost use Rattle.grid_config_values.specs.declared.entity.Entity.TheVariants.{Global as EveryCell};
+ghost use Rattle.grid_config_values.specs.declared.sides.Indent.{Indent as OneIndent};
+ghost use Rattle.grid_config_values.specs.declared.sides.Sides.{Sides as FourSides};
+ghost use Rattle.tabled_options.specs.Options.{margin_sides, padding_sides, with_alignment};
+ghost use Rattle.tabled_options.specs.Styles.{style_borders};
+ghost use Rattle.tabled_options.specs.declared.alignment.Alignment.{Alignment as OneAlignment};
+ghost use Rattle.tabled_options.specs.declared.margin.Margin.{Margin as OneMargin};
+ghost use Rattle.tabled_options.specs.declared.padding.Padding.{Padding as OnePadding};
+ghost use Rattle.tabled_options.specs.declared.style.Style.{Style as OneStyle};
+ghost use Rattle.tabled_steps.specs.Looks.{with_borders, with_margin, with_padding};
+ghost use Rattle.tabled_steps.specs.States.{Outcome, State, looking};
+
+use crate::alignment::Alignment;
+use crate::margin::Margin;
+use crate::padding::Padding;
+use crate::style::Style;
+use grid_config::{ColoredConfig, Indent, Sides};
+use grid_records_traits::records::RecordTexts;
+use tabled_steps::{CellOption, KeptSizes, TableOption};
+
+/// Each option of a table is the step that sets its own setting, of the whole table or of all cells.
+pub fn options_are_their_steps<R: RecordTexts, D: KeptSizes>()
+    ensures margin { (margin : OneMargin) (state : State) (outcome : Outcome) → ⟦<Margin as TableOption<R, ColoredConfig, D>>⟧.step margin state outcome →
+        looking (with_margin (margin_sides margin)) state ≡ outcome }
+    ensures style { (style : OneStyle) (state : State) (outcome : Outcome) → ⟦<Style as TableOption<R, ColoredConfig, D>>⟧.step style state outcome →
+        looking (with_borders (style_borders style)) state ≡ outcome }
+    ensures padding { (padding : OnePadding) (state : State) (outcome : Outcome) → ⟦<Padding as TableOption<R, ColoredConfig, D>>⟧.step padding state outcome →
+        looking (with_padding EveryCell (padding_sides padding)) state ≡ outcome }
+    ensures alignment { (alignment : OneAlignment) (state : State) (outcome : Outcome) → ⟦<Alignment as TableOption<R, ColoredConfig, D>>⟧.step alignment state outcome →
+        looking (with_alignment alignment EveryCell) state ≡ outcome }
+{}
+
+/// Each option of cells is the step that sets its own setting of the cells of an entity.
+pub fn cell_options_are_their_steps<R: RecordTexts>()
+    ensures padding { (padding : OnePadding) (at : Cells) (state : State) (outcome : Outcome) → ⟦<Padding as CellOption<R, ColoredConfig>>⟧.step padding at state outcome →
+        looking (with_padding at (padding_sides padding)) state ≡ outcome }
+    ensures alignment { (alignment : OneAlignment) (at : Cells) (state : State) (outcome : Outcome) → ⟦<Alignment as CellOption<R, ColoredConfig>>⟧.step alignment at state outcome →
+        looking (with_alignment alignment at) state ≡ outcome }
+{}
+
+/// After each of these options no size is kept.
+pub fn options_clear_all_sizes<R: RecordTexts, D: KeptSizes>()
+    ensures margin { (margin : OneMargin) → ⟦<Margin as TableOption<R, ColoredConfig, D>>⟧.hint margin ≡ Some EveryCell }
+    ensures style { (style : OneStyle) → ⟦<Style as TableOption<R, ColoredConfig, D>>⟧.hint style ≡ Some EveryCell }
+    ensures padding { (padding : OnePadding) → ⟦<Padding as TableOption<R, ColoredConfig, D>>⟧.hint padding ≡ Some EveryCell }
+    ensures alignment { (alignment : OneAlignment) → ⟦<Alignment as TableOption<R, ColoredConfig, D>>⟧.hint alignment ≡ Some EveryCell }
+    ensures cell_padding { (padding : OnePadding) → ⟦<Padding as CellOption<R, ColoredConfig>>⟧.hint padding ≡ Some EveryCell }
+    ensures cell_alignment { (alignment : OneAlignment) → ⟦<Alignment as CellOption<R, ColoredConfig>>⟧.hint alignment ≡ Some EveryCell }
+{}
+
+/// A margin and a padding are their four indents.
+pub fn indents_are_made_and_parted()
+    ensures margin { (margin : OneMargin) (sides : FourSides OneIndent) → ⟦<Sides<Indent> as From<Margin>>⟧.from_gives margin sides → sides ≡ margin_sides margin }
+    ensures of_margin { (margin : OneMargin) (sides : FourSides OneIndent) → ⟦<Margin as From<Sides<Indent>>>⟧.from_gives sides margin → margin_sides margin ≡ sides }
+    ensures padding { (padding : OnePadding) (sides : FourSides OneIndent) → ⟦<Sides<Indent> as From<Padding>>⟧.from_gives padding sides → sides ≡ padding_sides padding }
+    ensures of_padding { (padding : OnePadding) (sides : FourSides OneIndent) → ⟦<Padding as From<Sides<Indent>>>⟧.from_gives sides padding → padding_sides padding ≡ sides }
+{}
+
+/// A clone of an option is the same option.
+pub fn clones_are_the_same()
+    ensures margin { (source clone : OneMargin) → ⟦<Margin as Clone>⟧.is_clone source clone → clone ≡ source }
+    ensures padding { (source clone : OnePadding) → ⟦<Padding as Clone>⟧.is_clone source clone → clone ≡ source }
+    ensures alignment { (source clone : OneAlignment) → ⟦<Alignment as Clone>⟧.is_clone source clone → clone ≡ source }
+{}
+
+/// `==` of paddings is equality of their four indents, and `cmp` finds the same ones equal.
+pub fn equal_paddings_are_the_same()
+    ensures equality { (a b : OnePadding) → ⟦<Padding as PartialEq>⟧.eq a b ≡ true → a ≡ b }
+    ensures itself { (a : OnePadding) → ⟦<Padding as PartialEq>⟧.eq a a ≡ true }
+{}

@@ -1,0 +1,3 @@
+pub mod Changing
+pub mod Setting
+pub mod Estimating

@@ -1,0 +1,7 @@
+pub mod Outcomes
+pub use Rattle.tabled_size_dimension.specs.Stored
+pub mod Looks
+pub mod States
+pub mod Changes
+pub mod Sizes
+pub mod Worked

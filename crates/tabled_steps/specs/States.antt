@@ -1,0 +1,56 @@
+-- What a table is, and what a step makes of it.
+use Rattle.std.specs.Prelude.{◌≡◌, ℕ, ◌==◌, if◌then◌else◌, List, [], ◌∷◌, MatchResult, Option, Result, Ok, Err, length}
+use Rattle.grid_config_values.specs.declared.entity.Entity.{Entity}
+use Rattle.grid_config_values.specs.declared.fault.Fault.{Fault}
+use Rattle.grid_config_values.specs.declared.fault.Fault.TheVariants.{Spans}
+use Rattle.grid_config_values.specs.declared.position.Position.{Position}
+use Rattle.grid_config_colors.specs.Colors.{Color}
+use Rattle.grid_config.specs.Looks.{Look}
+use Rattle.tabled_steps.specs.Outcomes.{MayRefuse, ◌≫=◌}
+use Rattle.tabled_size_dimension.specs.Stored.{Stored, kept_after}
+
+-- its texts by rows, its settings as each cell has them, the colours of its cells, and the sizes that it keeps
+pub record State : Type 0 where
+  pub rows : List (List (List ℕ))
+  pub look : Look
+  pub colors : Position → Option Color
+  pub sizes : Stored
+
+abbrev pub state_with : List (List (List ℕ)) → Look → (Position → Option Color) → Stored → State
+state_with rows look colors sizes = record { rows = rows; look = look; colors = colors; sizes = sizes }
+
+-- how many columns rows have: as many as the first one has texts
+abbrev pub column_count : List (List (List ℕ)) → ℕ
+column_count [] = 0
+column_count (row ∷ rows) = length row
+
+-- ---- steps
+
+-- the state that a step leads to, or why it is refused
+abbrev pub Outcome : Type 0
+Outcome = Result State Fault
+
+-- a call is a step. Accepted, it leaves a state that the step may lead to; refused, for memory or as the step may be, it
+-- leaves the state as it was
+abbrev pub Steps : {T : Type 0} → (State → Outcome → Type 0) → Result T Fault → State → State → Type 0
+Steps step result old new = MatchResult result (λ _. step old (Ok new)) (λ fault. (new ≡ old) × MayRefuse fault (step old))
+
+-- the same of a step that leads to one outcome
+abbrev pub StepsTo : {T : Type 0} → (State → Outcome) → Result T Fault → State → State → Type 0
+StepsTo step result old new = Steps (λ state outcome. step state ≡ outcome) result old new
+
+-- what the hint of a step clears: behind the step the sizes are kept that it leaves as they are
+abbrev pub settled : Option Entity → Outcome → Outcome
+settled hint outcome = outcome ≫= λ s. Ok (record s { sizes = kept_after hint s.sizes })
+
+abbrev pub Settles : Option Entity → (State → Outcome → Type 0) → State → Outcome → Type 0
+Settles hint step state outcome = (changed : Outcome) × step state changed × (settled hint changed ≡ outcome)
+
+-- ---- steps on the settings
+
+abbrev pub looking : (Look → Look) → State → Outcome
+looking change s = Ok (record s { look = change s.look })
+
+-- no cell takes 0 rows or columns: such a step is refused
+abbrev pub positive : ℕ → (State → Outcome) → State → Outcome
+positive n step s = if n == 0 then Err Spans else step s

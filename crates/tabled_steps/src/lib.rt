@@ -1,0 +1,14 @@
+//! What a table is, and its options: each is one step of it.
+#![tactic(auto)]
+
+mod configuration;
+mod configurations;
+pub mod laws;
+mod measurement;
+mod option;
+mod texts;
+
+pub use configuration::{Configuration, KeptSizes};
+pub use measurement::{Height, Measurement, Width};
+pub use option::{CellOption, TableOption};
+pub use texts::{TextChange, change_texts};

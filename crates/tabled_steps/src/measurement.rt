@@ -1,0 +1,47 @@
+//! Sizes that are taken from a table.
+ghost use Rattle.std.specs.Prelude.{◌≡◌, ℕ, List, Result, Ok};
+ghost use Rattle.grid_config_values.specs.declared.fault.Fault.{Fault as Refusal};
+ghost use Rattle.grid_config.specs.Looks.{Look, look_of};
+ghost use Rattle.tabled_steps.specs.Outcomes.{Gives};
+
+use grid_config::{Fault, SpannedConfig};
+use grid_records_traits::records::{ExactRecords, PeekableRecords};
+use std::alloc::Global;
+
+/// Marks what is measured in columns; the options of widths are made by its calls.
+#[derive(Clone, Copy, Debug)]
+pub struct Width;
+
+/// Marks what is measured in lines; the options of heights are made by its calls.
+#[derive(Clone, Copy, Debug)]
+pub struct Height;
+
+/// A width, `Measurement<Width>`, or a height, `Measurement<Height>`, that is given or taken from a
+/// table.
+pub trait Measurement<A> {
+    /// What it may be of these rows of so many texts under these settings, or why it is refused.
+    ghost measures: { Self → ℕ → List (List (List ℕ)) → Look → Result ℕ Refusal → Type 0 };
+
+    /// The size, in columns or in lines. Refused as it may be, and for memory.
+    fn measure<R: ExactRecords + PeekableRecords>(
+        &self,
+        alloc: Global,
+        records: &R,
+        cfg: &SpannedConfig,
+    ) -> Result<usize, Fault>
+        ensures { Gives (λ n. n) result (measures self.now (R.columns records.now) (R.ExactRecords.rows records.now) (look_of cfg.now)) };
+}
+
+/// The number itself.
+impl<A> Measurement<A> for usize {
+    ghost measures = { λ n _ _ _ outcome. Ok n ≡ outcome };
+
+    fn measure<R: ExactRecords + PeekableRecords>(
+        &self,
+        _alloc: Global,
+        _records: &R,
+        _cfg: &SpannedConfig,
+    ) -> Result<usize, Fault> {
+        Ok(*self)
+    }
+}
