@@ -1,8 +1,8 @@
 -- Pictures that can be worked out by hand: tables of plain texts.
-use Rattle.std.specs.Prelude.{ℕ, false, List, [], ◌∷◌, ◌++◌, Option, None, Some, ◌+◌, codes, map, length, slice_index_or, unwrap_or}
+use Rattle.std.specs.Prelude.{ℕ, false, List, [], ◌∷◌, ◌++◌, Option, None, Some, ◌+◌, ◌==◌, codes, if◌then◌else◌, map, length, slice_index_or, unwrap_or}
 use Rattle.std.specs.List.{find, range_with_len}
 use Rattle.std.specs.Option.{option_map}
-use Rattle.grid_config_values.specs.declared.alignment.AlignmentHorizontal.TheVariants.{Left, Center}
+use Rattle.grid_config_values.specs.declared.alignment.AlignmentHorizontal.TheVariants.{Left, Center, Right}
 use Rattle.grid_config_values.specs.declared.alignment.AlignmentVertical.TheVariants.{Top}
 use Rattle.grid_config_values.specs.declared.borders.Borders.{Borders}
 use Rattle.grid_config_values.specs.declared.position.Position.{Position}
@@ -125,6 +125,19 @@ bracketed = record { prefix = codes "["; suffix = codes "]" }
 abbrev pub half_bracketed : Color
 half_bracketed = record { prefix = codes "["; suffix = codes ")" }
 
+-- and one that ends alike
+abbrev pub round_bracketed : Color
+round_bracketed = record { prefix = codes "("; suffix = codes "]" }
+
+-- a colour of its own at each side
+abbrev pub sided : Sides (Option Color)
+sided = record {
+  left = Some (record { prefix = codes "<"; suffix = codes ">" });
+  right = Some (record { prefix = codes "("; suffix = codes ")" });
+  top = Some (record { prefix = codes "{"; suffix = codes "}" });
+  bottom = Some (record { prefix = codes "*"; suffix = codes "*" });
+}
+
 abbrev pub indent : ℕ → ℕ → Indent
 indent size character = record { size = size; fill = character }
 
@@ -165,6 +178,14 @@ crossed = record plain { borders_color = record no_borders { top = Some brackete
 -- text in the middle between coloured points
 abbrev pub spaced : Look
 spaced = record plain { alignment_horizontal = λ _. Center; justification = λ _. 0x2e; justification_color = λ _. Some bracketed }
+
+-- the first column to the right between points, with paddings; the others to the left before commas, without
+abbrev pub each_its_own : Look
+each_its_own = record plain {
+  padding = λ cell. if cell.col == 0 then framed else each_side no_indent;
+  alignment_horizontal = λ cell. if cell.col == 0 then Right else Left;
+  justification = λ cell. if cell.col == 0 then 0x2e else 0x2c;
+}
 
 -- a cell that measures one column, in a row of height 0 and a column of width 0
 abbrev pub hidden_cell : Grid

@@ -1,5 +1,5 @@
 //! Laws of the definitions that the contracts of the grids cite.
-ghost use Rattle.std.specs.Prelude.{◌≡◌, ◌==◌, ◌↔◌, if◌then◌else◌, ◌<◌, ◌≤◌, ◌+◌, ℕ, All, List, [], ◌∷◌, None, Option, Some, chars, codes, encode_utf8_all, flat_map, length, map, slice_index, true};
+ghost use Rattle.std.specs.Prelude.{◌≡◌, ◌==◌, ◌↔◌, if◌then◌else◌, ◌<◌, ◌≤◌, ◌+◌, ℕ, All, List, [], ◌∷◌, None, Option, Some, chars, codes, encode_utf8_all, false, flat_map, length, map, slice_index, true};
 ghost use Rattle.std.specs.List.{join_with_byte, range_with_len};
 ghost use Rattle.ansi_scan.specs.Attributes.{plain_attributes};
 ghost use Rattle.ansi_scan.specs.Sequences.{Piece, ArePiecesOf, NoneBroken};
@@ -16,13 +16,14 @@ ghost use Rattle.ansi_str.specs.Characters.{shown_chars};
 ghost use Rattle.grid_records_measure.specs.Measures.{columns};
 ghost use Rattle.grid_records_measure.specs.TextLines.{line_feed};
 ghost use Rattle.papergrid_picture.specs.Blocks.{Grid, text_line};
+ghost use Rattle.papergrid_picture.specs.CellLines.{cell_lines, cell_measures};
 ghost use Rattle.papergrid_picture.specs.Frame.{Boundary, Outside, Row, Tracks, boundary_at, column_count, frame_of, line_count, place, row_count, total_width, track_at};
 ghost use Rattle.papergrid_picture.specs.Picture.{laid, picture_line, seen};
 ghost use Rattle.papergrid_picture.specs.Reading.{Reading, grid_items};
 ghost use Rattle.papergrid_picture.specs.Shown.{ArePlainTexts, ArePlainlyShown, AreWholeTexts, CostsOne, IsBare, IsReadBy, KeepsLineEnds, Shows, ShowsOnly, Styled, character_of, character_picture, characters_of, stripped_texts, styled_picture, styled_texts};
 ghost use Rattle.papergrid_picture.specs.Tables.{table_grid, table_line, table_lines, table_text};
 ghost use Rattle.papergrid_picture.specs.Tiling.{BeginsBehindMargin, HasGoodSpans, HasRoom, IsLineOf, ShowsAllLines, ShowsBlock, ShowsPlace, Tiles};
-ghost use Rattle.papergrid_picture.specs.Worked.{ascii, bracketed, cells, crossed, drawn, drawn_in, extents, half_bracketed, hidden_cell, joined, lettered, named, no_top, outer, padded, plain, red_rows, span, spaced, with_margins};
+ghost use Rattle.papergrid_picture.specs.Worked.{ascii, bracketed, cells, crossed, drawn, drawn_in, each_its_own, extents, half_bracketed, hidden_cell, joined, lettered, named, no_top, outer, padded, plain, red_rows, round_bracketed, sided, span, spaced, with_margins};
 
 /// Pictures that were worked out by hand: two by two cells; cells of two lines to the right, with one
 /// indent and line by line; a cell of three lines in a row of two; a line in the middle of four, where
@@ -92,8 +93,9 @@ pub fn worked_edges()
 
 /// Colours, worked out by hand: a cell's text; a boundary line, of which neighbours in one colour are
 /// coloured together, past a column of width 0 and past a boundary that is absent, but not past a cell
-/// that goes on there; two colours that end in different ways; a text of no bytes, which has no colour;
-/// paddings and margins; the justification, in two parts, of a blank line too.
+/// that goes on there; two colours that begin or end in different ways; a text of no bytes, which has no
+/// colour; paddings and margins, each side in its own colour; two cells, each with its own settings and
+/// colour; the justification, in two parts, of a blank line too.
 pub fn worked_colors()
     ensures text { drawn_in (λ _. Some bracketed) plain (1 ∷ []) (1 ∷ []) (cells (codes "a" ∷ []) ∷ [])
         ≡ joined (codes "+-+" ∷ codes "|[a]|" ∷ codes "+-+" ∷ []) }
@@ -107,6 +109,8 @@ pub fn worked_colors()
         ≡ joined (codes "+[--]+" ∷ codes "|ab|" ∷ codes "+--+" ∷ []) }
     ensures two_colors { drawn (record plain { borders_color = record no_borders { top = Some bracketed; top_intersection = Some half_bracketed } }) (1 ∷ 1 ∷ []) (1 ∷ []) (cells (codes "a" ∷ codes "b" ∷ []) ∷ [])
         ≡ joined (codes "+[-][+)[-]+" ∷ codes "|a|b|" ∷ codes "+-+-+" ∷ []) }
+    ensures two_prefixes { drawn (record plain { borders_color = record no_borders { top = Some bracketed; top_intersection = Some round_bracketed } }) (1 ∷ 1 ∷ []) (1 ∷ []) (cells (codes "a" ∷ codes "b" ∷ []) ∷ [])
+        ≡ joined (codes "+[-](+][-]+" ∷ codes "|a|b|" ∷ codes "+-+-+" ∷ []) }
     ensures past_a_cell { drawn (record plain { extent = extents (span 0 1 2 1 ∷ []); borders_color = record no_borders { horizontal = Some bracketed; intersection = Some bracketed } })
         (1 ∷ 1 ∷ 1 ∷ []) (0 ∷ 1 ∷ []) (cells (codes "a" ∷ codes "b" ∷ codes "c" ∷ []) ∷ cells (codes "d" ∷ codes "e" ∷ codes "f" ∷ []) ∷ [])
         ≡ joined (codes "+-+-+-+" ∷ codes "+[-+]b[+-]+" ∷ codes "|d| |f|" ∷ codes "+-+-+-+" ∷ []) }
@@ -114,6 +118,12 @@ pub fn worked_colors()
         ≡ joined (codes "+---+" ∷ codes "|[^^^]|" ∷ codes "|[<]a[>]|" ∷ codes "|[___]|" ∷ codes "+---+" ∷ []) }
     ensures margins { drawn (record with_margins { margin_color = each_side (Some bracketed) }) (1 ∷ []) (1 ∷ []) (cells (codes "a" ∷ []) ∷ [])
         ≡ joined (codes "[^^^^^^]" ∷ codes "[^^^^^^]" ∷ codes "[<]+-+[>>]" ∷ codes "[<]|a|[>>]" ∷ codes "[<]+-+[>>]" ∷ codes "[______]" ∷ []) }
+    ensures padding_sides { drawn (record padded { padding_color = λ _. sided }) (3 ∷ []) (3 ∷ []) (cells (codes "a" ∷ []) ∷ [])
+        ≡ joined (codes "+---+" ∷ codes "|{^^^}|" ∷ codes "|<<>a(>)|" ∷ codes "|*___*|" ∷ codes "+---+" ∷ []) }
+    ensures margin_sides { drawn (record with_margins { margin_color = sided }) (1 ∷ []) (1 ∷ []) (cells (codes "a" ∷ []) ∷ [])
+        ≡ joined (codes "{^^^^^^}" ∷ codes "{^^^^^^}" ∷ codes "<<>+-+(>>)" ∷ codes "<<>|a|(>>)" ∷ codes "<<>+-+(>>)" ∷ codes "*______*" ∷ []) }
+    ensures own_settings { drawn_in (λ cell. if cell.col == 0 then Some bracketed else None) each_its_own (5 ∷ 3 ∷ []) (3 ∷ []) (cells (codes "a" ∷ codes "b" ∷ []) ∷ [])
+        ≡ joined (codes "+-----+---+" ∷ codes "|^^^^^|b,,|" ∷ codes "|<..[a]>|,,,|" ∷ codes "|_____|,,,|" ∷ codes "+-----+---+" ∷ []) }
     ensures blank { drawn (record spaced { alignment_horizontal = λ _. Right }) (4 ∷ []) (2 ∷ []) (cells (codes "a" ∷ []) ∷ [])
         ≡ joined (codes "+----+" ∷ codes "|[...]a|" ∷ codes "|[...][.]|" ∷ codes "+----+" ∷ []) }
     ensures blank_line { drawn (record spaced { alignment_horizontal = λ _. Right; line_alignment = λ _. true }) (4 ∷ []) (2 ∷ []) (cells (codes "a" ∷ []) ∷ [])
@@ -238,4 +248,15 @@ pub fn worked_readings()
     ensures characters { character_picture plain (((codes "a\nb") ∷ []) ∷ []) (2 ∷ []) (2 ∷ [])
         ≡ joined (codes "+--+" ∷ codes "|a |" ∷ codes "|b |" ∷ codes "+--+" ∷ []) }
     ensures stripped { stripped_texts red_rows ≡ ((codes "a\nb") ∷ []) ∷ [] }
+{}
+
+/// The lines of a cell that are kept, worked out by hand: without blank lines at both ends, and without white
+/// space at the ends of a line; a text of blank lines keeps none.
+pub fn worked_trims()
+    ensures both { cell_lines true true (codes "\n  a \n\n") ≡ codes "a" ∷ [] }
+    ensures measured { cell_measures true true (codes "\n  a \n\n") ≡ 1 ∷ [] }
+    ensures vertical { cell_lines false true (codes "\n  a \n\n") ≡ codes "  a " ∷ [] }
+    ensures inner { cell_lines false true (codes "\na\n\nb\n") ≡ codes "a" ∷ [] ∷ codes "b" ∷ [] }
+    ensures horizontal { cell_lines true false (codes "\n  a ") ≡ [] ∷ codes "a" ∷ [] }
+    ensures blank { cell_lines false true (codes " \n") ≡ [] }
 {}
