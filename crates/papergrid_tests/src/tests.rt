@@ -8,6 +8,7 @@ use std::alloc::{AllocError, Global};
 use std::process::Abort;
 
 mod grids;
+mod limits;
 
 // Sizes by their numbers.
 #[derive(Drop)]
