@@ -1,9 +1,9 @@
 -- Glyphs are printed as their runs show.
-use Rattle.std.proofs.Common.{◌≡◌, ◌<◌, ℕ, Bool, true, false, cond, List, [], ◌∷◌, ◌++◌, Option, None, Some, length, map, refl, ap, sym, ◌∙◌, arith, append_assoc, append-nil, replicate}
-use Rattle.std.specs.Prelude.{◌==◌, ◌&&◌, not, flat_map, encode_utf8, bytes_eq, suc, zero}
+use Rattle.std.proofs.Common.{◌≡◌, ◌<◌, ◌≤◌, ◌-◌, ℕ, Bool, true, false, cond, List, [], ◌∷◌, ◌++◌, Option, None, Some, length, map, refl, ap, sym, ◌∙◌, arith, append_assoc, append-nil, replicate, take}
+use Rattle.std.specs.Prelude.{◌==◌, ◌&&◌, not, flat_map, encode_utf8, bytes_eq, slice_range, suc, zero}
 use Rattle.std.specs.Option.{option_map}
 use Rattle.std.specs.List.{filter}
-use Rattle.std.proofs.lemmas.List.{length-append}
+use Rattle.std.proofs.lemmas.List.{length-append, take-replicate}
 use Rattle.std.proofs.lemmas.List.Concat.{flat_map-cons}
 use Rattle.std.proofs.lemmas.Slice.Eq.{bytes_eq-Decides}
 use Rattle.std.proofs.lemmas.Str.{length-encode, len_utf8_bounds}
@@ -67,6 +67,18 @@ pub appended3 : (old x y z : List ℕ) {one two new all : List ℕ} → one ≡ 
 appended3 old x y z {one} {two} {new} {all} first second third whole =
     third ∙ (ap (λ l. l ++ z) (second ∙ ap (λ l. l ++ y) first)
     ∙ (append_assoc (old ++ x) y z ∙ (append_assoc old x (y ++ z) ∙ ap (λ l. old ++ l) whole)))
+
+-- ---- spaces
+
+spaces-filled : (k : ℕ) → fill_bytes 0x20 k ≡ replicate k 0x20
+unfolding lib.Utf8.encode
+spaces-filled zero = refl
+spaces-filled (suc k) = flat_map-cons encode_utf8 0x20 (replicate k 0x20) ∙ ap (λ l. 0x20 ∷ l) (spaces-filled k)
+
+pub spaces-front : (spaces : List ℕ) (k : ℕ) → spaces ≡ replicate (length spaces) 0x20 → k ≤ length spaces → slice_range spaces 0 k ≡ fill_bytes 0x20 k
+spaces-front spaces k are fits =
+    let same : k - 0 ≡ k = omega arith in
+    ap (λ m. take m spaces) same ∙ ap (take k) are ∙ take-replicate k (length spaces) 0x20 fits ∙ sym (spaces-filled k)
 
 -- ---- runs of glyphs
 

@@ -1,5 +1,5 @@
 //! Fills, texts and boundary lines in their colours.
-ghost use Rattle.std.specs.Prelude.{◌≡◌, ◌++◌, OnOk, map, string_bytes};
+ghost use Rattle.std.specs.Prelude.{◌≡◌, ◌≤◌, ◌++◌, OnOk, length, map, replicate, string_bytes};
 ghost use Rattle.std.specs.Option.{option_map};
 ghost use Rattle.grid_config_colors.specs.Colors.{color_of};
 ghost use Rattle.papergrid_picture.specs.Reading.{line_items, same_color};
@@ -28,6 +28,9 @@ pub(crate) fn push_fill(
     if width == 0 {
         return Ok(());
     }
+    let Some(_) = color else {
+        return push_repeated(out, character, width);
+    };
     change_color(out, None, color)?;
     push_repeated(out, character, width)?;
     change_color(out, color, None)
@@ -41,12 +44,15 @@ pub(crate) fn push_text(
 ) -> Result<(), AllocError>
     ensures { OnOk result (string_bytes out.new ≡ string_bytes out.old ++ colored (option_map color_of color.entry) text.now) }
 {
+    let Some(color) = color else {
+        return out.push_str(text);
+    };
     if text.is_empty() {
         return Ok(());
     }
-    change_color(out, None, color)?;
+    out.push_str(color.get_prefix())?;
     out.push_str(text)?;
-    change_color(out, color, None)
+    out.push_str(color.get_suffix())
 }
 
 /// Appends glyphs of a boundary line, of which neighbours in one colour are coloured together. Refused
@@ -115,6 +121,27 @@ fn suffix_of<'a>(color: Option<ANSIStr<'a>>) -> &'a str
 
 // Appends a character so many times, with one growth.
 fn push_repeated(out: &mut String, character: char, width: usize) -> Result<(), AllocError>
+    ensures { OnOk result (string_bytes out.new ≡ string_bytes out.old ++ fill_bytes character width) }
+{
+    if character == ' ' && width <= 64 {
+        let spaces = "                                                                ";
+        return push_spaces(out, spaces, width);
+    }
+    push_each(out, character, width)
+}
+
+// Appends so many of these spaces.
+fn push_spaces(out: &mut String, spaces: &str, width: usize) -> Result<(), AllocError>
+    requires spaces { spaces.now ≡ replicate (length spaces.now) 0x20 }
+    requires enough { width ≤ length spaces.now }
+    ensures { OnOk result (string_bytes out.new ≡ string_bytes out.old ++ fill_bytes 0x20 width) }
+{
+    out.push_str(&spaces[..width])?;
+    Ok(())
+}
+
+// The same, one by one.
+fn push_each(out: &mut String, character: char, width: usize) -> Result<(), AllocError>
     ensures { OnOk result (string_bytes out.new ≡ string_bytes out.old ++ fill_bytes character width) }
 {
     let Some(size) = width.checked_mul(character.len_utf8()) else {

@@ -1,5 +1,5 @@
 //! The whole table.
-ghost use Rattle.std.specs.Prelude.{◌≡◌, ◌++◌, OnErr, OnOk, length, string_bytes};
+ghost use Rattle.std.specs.Prelude.{◌≡◌, ◌<◌, ◌++◌, [], OnErr, OnOk, length, string_bytes};
 ghost use Rattle.grid_config_spans.specs.Spans.{AreGood};
 ghost use Rattle.grid_config.specs.Looks.{look_of};
 ghost use Rattle.papergrid_picture.specs.Fitting.{InRange};
@@ -14,7 +14,7 @@ use std::alloc::{AllocError, Global};
 
 /// Appends the text of a table of these sizes: the lines of its picture, a line feed between each two,
 /// and nothing where it has no rows or no columns. Refused for memory alone, and then the text is as it
-/// was. The text is made apart and then appended at once.
+/// was. Behind another text it is made apart and then appended at once.
 pub fn print_table<R: PeekableRecords, C: Colors>(
     alloc: Global,
     records: &R,
@@ -39,7 +39,31 @@ pub fn print_table<R: PeekableRecords, C: Colors>(
         widths,
         heights,
     };
+    if out.as_str().is_empty() {
+        return push_to_empty(alloc, &table, out);
+    }
     let mut text = String::new(alloc);
     table.push_lines(alloc, &mut text)?;
     out.push_str(&text)
+}
+
+// The same to an empty text, in place.
+fn push_to_empty<'a, R: PeekableRecords, C: Colors>(
+    alloc: Global,
+    table: &Table<'a, R, C>,
+    out: &mut String,
+) -> Result<(), AllocError>
+    requires good { AreGood table.now.cfg.now.spans (length table.now.heights.now) (length table.now.widths.now) }
+    requires range { InRange (frame_of (look_of table.now.cfg.now) table.now.widths.now table.now.heights.now) }
+    requires rows { 0 < length table.now.heights.now }
+    requires columns { 0 < length table.now.widths.now }
+    requires empty { string_bytes out.old ≡ [] }
+    ensures text { OnOk result (string_bytes out.new ≡ table_text (look_of table.now.cfg.now) (R.rows table.now.records.now) (C.color table.now.colors.now) table.now.widths.now table.now.heights.now) }
+    ensures refused { OnErr result (string_bytes out.new ≡ []) }
+{
+    let outcome = table.push_lines(alloc, out);
+    if outcome.is_err() {
+        out.clear();
+    }
+    outcome
 }

@@ -472,6 +472,19 @@ impl<'a, R: PeekableRecords, C: Colors> Table<'a, R, C> {
         self.push_all_rows(alloc, out, &flat, &between, &mut runs, &mut cells)
     }
 
+    // How many bytes the lines take at least, of which each has so many columns: what no memory holds is
+    // refused before anything is written.
+    fn room(&self, width: usize) -> usize {
+        let margin = self.cfg.get_margin();
+        let mut lines = margin.top.size.saturating_add(margin.bottom.size);
+        for height in self.heights {
+            lines = lines.saturating_add(*height);
+        }
+        lines
+            .saturating_mul(width.saturating_add(1))
+            .saturating_sub(1)
+    }
+
     // Appends all lines of a table with rows and columns to an empty text.
     pub(crate) fn push_lines(&self, alloc: Global, out: &mut String) -> Result<(), AllocError>
         requires printable { IsPrintable (sheet_of self.now.cfg.now (R.rows self.now.records.now) (C.color self.now.colors.now) self.now.widths.now self.now.heights.now) }
@@ -483,6 +496,7 @@ impl<'a, R: PeekableRecords, C: Colors> Table<'a, R, C> {
         let margin = self.cfg.get_margin();
         let colors = self.cfg.get_margin_color();
         let width = self.total_width();
+        out.reserve(self.room(width))?;
         self.push_margin(out, 0, margin.top, &colors.top, width)?;
         let y = self.push_rows(alloc, out)?;
         self.push_margin(out, y, margin.bottom, &colors.bottom, width)

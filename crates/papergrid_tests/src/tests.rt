@@ -9,6 +9,7 @@ use std::process::Abort;
 
 mod compact;
 mod grids;
+mod limits;
 
 // Sizes by their numbers.
 #[derive(Drop)]
