@@ -1,2 +1,3 @@
 pub mod NewLooks
 pub mod Assembled
+pub mod Even

@@ -1,6 +1,7 @@
 //! Tables: rows of texts under settings, changed step by step.
 #![tactic(auto)]
 
+mod cells;
 mod table;
 
 pub use table::Table;
