@@ -40,3 +40,7 @@ even_cells text (row ∷ cells) n all =
 pub even_filled : {T Z : Type 0} (text : T → List ℕ) (cells : List (Vec T Z)) (rows : List (List (List ℕ))) → texts_of_rows text cells ≡ filled rows → AreEquallyLong cells
 even_filled text cells rows same =
     even_cells text cells (longest rows) (All-same (λ (row : List (List ℕ)). length row ≡ longest rows) (texts_of_rows text cells) (filled rows) same (filled_even rows))
+
+-- cells of texts that are equally many in each row
+pub even_rows : {T Z : Type 0} (text : T → List ℕ) (cells : List (Vec T Z)) (rows : List (List (List ℕ))) (n : ℕ) → texts_of_rows text cells ≡ rows → All (λ row. length row ≡ n) rows → AreEquallyLong cells
+even_rows text cells rows n same wide = even_cells text cells n (All-same (λ (row : List (List ℕ)). length row ≡ n) (texts_of_rows text cells) rows same wide)

@@ -2,6 +2,7 @@
 #![tactic(auto)]
 
 mod cells;
+mod makers;
 mod table;
 
 pub use table::Table;
