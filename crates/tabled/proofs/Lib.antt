@@ -1,2 +1,4 @@
 pub mod NewLooks
 pub mod Assembled
+pub mod Even
+pub mod Values

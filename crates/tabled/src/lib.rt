@@ -1,6 +1,8 @@
 //! Tables: rows of texts under settings, changed step by step.
 #![tactic(auto)]
 
+mod cells;
+mod makers;
 mod table;
 
 pub use table::Table;

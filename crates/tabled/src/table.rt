@@ -1,18 +1,27 @@
 //! A table.
+ghost use Rattle.std.specs.Borrow.{sem};
 ghost use Rattle.std.specs.Prelude.{◌≡◌, ◌==◌, ◌||◌, [], None, IfErr, IfOk, length};
+ghost use Rattle.grid_config_values.specs.Settings.{value_at};
+ghost use Rattle.grid_config_values.specs.declared.fault.Fault.TheVariants.{Memory};
 ghost use Rattle.grid_config.specs.Looks.{look_of};
 ghost use Rattle.grid_config.specs.Settings.{IsEverywhere};
+ghost use Rattle.grid_records_rows.specs.Sources.{AreEquallyLong};
+ghost use Rattle.grid_records_traits.specs.Sources.{texts_of_rows};
+ghost use Rattle.tabled.specs.Lending.{LendsConfig, LendsDimension, LendsRecords};
 ghost use Rattle.tabled.specs.Tables.{new_look, new_state, state_of};
 ghost use Rattle.tabled_steps.specs.Outcomes.{MayRefuse};
+ghost use Rattle.tabled_text.specs.Rows.{filled};
 ghost use Rattle.tabled_steps.specs.States.{Settles, Steps, column_count};
 
+use crate::cells::cells_of;
 use grid_config::{ColoredConfig, Entity, Fault, Sides, SpannedConfig};
 use grid_records_rows::{FromText, Text, VecRecords};
-use grid_records_traits::records::{ExactRecords, RecordColumns};
+use grid_records_traits::records::{ExactRecords, RecordColumns, RecordTexts};
 use std::alloc::Global;
 use tabled_options::{Padding, Style};
 use tabled_size_dimension::CompleteDimension;
 use tabled_steps::{CellOption, TableOption};
+use tabled_text::Builder;
 
 /// A table: rows of cells with texts, its settings, and the sizes that it keeps. It keeps its
 /// allocator.
@@ -29,8 +38,27 @@ impl Table<Text> {
     pub fn default(alloc: Global) -> Table<Text>
         ensures { state_of (λ text. text) result ≡ new_state [] }
     {
+        Table::of_cells(alloc, Vec::new(alloc))
+    }
+
+    /// The table of a builder's rows, the short ones filled with empty texts. Refused for memory alone.
+    pub fn from_builder(builder: Builder) -> Result<Table<Text>, Fault>
+        ensures table { IfOk result (λ table. state_of (λ text. text) table ≡ new_state (filled builder)) }
+        ensures refused { IfErr result (λ fault. fault ≡ Memory) }
+    {
+        let rows = builder.into_rows()?;
+        let alloc = *rows.allocator();
+        let cells = cells_of(alloc, rows)?;
+        Ok(Table::of_cells(alloc, cells))
+    }
+
+    // A new table of these cells.
+    pub(crate) fn of_cells(alloc: Global, cells: Vec<Vec<Text>>) -> Table<Text>
+        requires { AreEquallyLong cells.items }
+        ensures { state_of (λ text. text) result ≡ new_state (texts_of_rows (λ text. text) cells.items) }
+    {
         Table {
-            records: VecRecords::new(Vec::new(alloc)),
+            records: VecRecords::new(cells),
             config: new_config(alloc),
             dimension: CompleteDimension::default(),
             alloc,
@@ -137,5 +165,52 @@ impl<T: FromText> Table<T> {
         ensures { let rows = (state_of T.text self.now).rows in result ≡ (length rows == 0 || column_count rows == 0) }
     {
         self.count_rows() == 0 || self.count_columns() == 0
+    }
+
+    /// The settings, and the colours of the cells.
+    pub fn get_config(&self) -> &ColoredConfig
+        ensures look { look_of result.now.settings ≡ (state_of T.text self.now).look }
+        ensures colors { value_at result.now.colors ≡ (state_of T.text self.now).colors }
+    {
+        &self.config
+    }
+
+    /// The settings, and the colours of the cells, to be changed. The sizes stay kept.
+    pub fn get_config_mut(&mut self) -> &mut ColoredConfig
+        ensures* lends { sem 𝓛 (LendsConfig T.row self.entry result) }
+        ensures look { look_of result.now.settings ≡ (state_of T.text self.old).look }
+        ensures colors { value_at result.now.colors ≡ (state_of T.text self.old).colors }
+    {
+        &mut self.config
+    }
+
+    /// The rows of cells.
+    pub fn get_records(&self) -> &VecRecords<T>
+        ensures { ⟦<VecRecords<T> as RecordTexts>⟧.rows result.now ≡ (state_of T.text self.now).rows }
+    {
+        &self.records
+    }
+
+    /// The rows of cells, to be changed. The sizes stay kept.
+    pub fn get_records_mut(&mut self) -> &mut VecRecords<T>
+        ensures* lends { sem 𝓛 (LendsRecords T.row self.entry result) }
+        ensures rows { ⟦<VecRecords<T> as RecordTexts>⟧.rows result.now ≡ (state_of T.text self.old).rows }
+    {
+        &mut self.records
+    }
+
+    /// The sizes that are kept.
+    pub fn get_dimension(&self) -> &CompleteDimension
+        ensures { result.now ≡ (state_of T.text self.now).sizes }
+    {
+        &self.dimension
+    }
+
+    /// The sizes that are kept, to be changed.
+    pub fn get_dimension_mut(&mut self) -> &mut CompleteDimension
+        ensures* lends { sem 𝓛 (LendsDimension T.row self.entry result) }
+        ensures sizes { result.now ≡ (state_of T.text self.old).sizes }
+    {
+        &mut self.dimension
     }
 }

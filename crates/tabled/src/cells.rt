@@ -1,0 +1,29 @@
+//! Cells made of texts.
+ghost use Rattle.std.specs.Prelude.{◌≡◌, IfOk, map, string_bytes};
+ghost use Rattle.grid_records_traits.specs.Sources.{texts_of_rows};
+ghost use Rattle.tabled_text.specs.Rows.{text_rows};
+
+use grid_records_rows::Text;
+use std::alloc::{AllocError, Global};
+
+/// Cells with the texts of these rows. Refused for memory alone.
+pub(crate) fn cells_of(alloc: Global, rows: Vec<Vec<String>>) -> Result<Vec<Vec<Text>>, AllocError>
+    ensures { IfOk result (λ cells. texts_of_rows (λ text. text) cells.items ≡ text_rows rows.items) }
+{
+    let mut cells = Vec::with_capacity(alloc, rows.len())?;
+    for row in rows {
+        cells.push(row_of(alloc, row)?)?;
+    }
+    Ok(cells)
+}
+
+// Cells with these texts.
+fn row_of(alloc: Global, texts: Vec<String>) -> Result<Vec<Text>, AllocError>
+    ensures { IfOk result (λ cells. map (λ text. text) cells.items ≡ map string_bytes texts.items) }
+{
+    let mut cells = Vec::with_capacity(alloc, texts.len())?;
+    for text in texts {
+        cells.push(Text::new(alloc, text)?)?;
+    }
+    Ok(cells)
+}
