@@ -27,10 +27,18 @@ fn expect_memory(
     let read = IterGrid::new(&records, cfg, &sizes, NoColors).build(alloc, &mut text);
     assert_eq!(rt; read, Err(Fault::Memory), "read once, {what:?}");
     let looked_up = PeekableGrid::new(&records, cfg, &sizes, NoColors);
-    assert_eq!(rt; looked_up.build(alloc, &mut text), Err(Fault::Memory), "looked up, {what:?}");
+    assert_eq!(rt;
+        looked_up.build(alloc, &mut text),
+        Err(Fault::Memory),
+        "looked up, {what:?}"
+    );
     assert_eq!(rt; text.as_str(), "before");
     text.clear();
-    assert_eq!(rt; looked_up.build(alloc, &mut text), Err(Fault::Memory), "to an empty text, {what:?}");
+    assert_eq!(rt;
+        looked_up.build(alloc, &mut text),
+        Err(Fault::Memory),
+        "to an empty text, {what:?}"
+    );
     assert_eq!(rt; text.as_str(), "");
     Ok(())
 }
