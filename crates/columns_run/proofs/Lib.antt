@@ -23,5 +23,4 @@ pub mod SplitLemmas
 pub mod TextLemmas
 pub mod TilingLemmas
 pub mod TotalLemmas
-pub mod Written
 pub mod AcceptedLemmas

@@ -3,7 +3,7 @@ use Rattle.std.proofs.Common.{ℕ, List, Option, Result, IfSome}
 use Rattle.std.proofs.lemmas.Option.{IfSome_then}
 use Rattle.columns_run.specs.declared.fault.RunFault.{RunFault}
 use Rattle.columns_run.specs.Layout.{output_of}
-use Rattle.columns_run.specs.Streams.{ConsumesSome}
+use Rattle.tabled_output.specs.Streams.{ConsumesSome}
 use Rattle.columns_run.specs.Run.{MayAnswer, Writes, Serves, LeavesAlone}
 use Rattle.columns_run.proofs.PictureLemmas.{output-shows_table}
 

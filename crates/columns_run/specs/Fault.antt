@@ -2,6 +2,8 @@
 use Rattle.std.specs.Prelude.{ℕ, List, ⊤, ◌++◌, codes, decimal}
 use Rattle.columns_run.specs.declared.fault.RunFault.{RunFault}
 use Rattle.columns_run.specs.declared.fault.RunFault.TheVariants.{Read, ReadTooLong, NotUtf8, Escape, Range, LineTooWide, Write, WriteZero, Memory}
+use Rattle.tabled_output.specs.declared.writing.WriteFault.{WriteFault}
+use Rattle.tabled_output.specs.declared.writing.WriteFault.TheVariants.{Write as Failed, WriteZero as TookNothing}
 use Rattle.columns_run.specs.declared.layout.LayoutFault.{LayoutFault}
 use Rattle.columns_run.specs.declared.layout.LayoutFault.TheVariants.{Range as PassesMax, Memory as NoMemory}
 
@@ -16,6 +18,11 @@ fault_text (LineTooWide row column) = codes "row " ++ (decimal row ++ (codes " c
 fault_text Write = codes "write failed"
 fault_text WriteZero = codes "writer took nothing"
 fault_text Memory = codes "out of memory"
+
+-- what a run calls it where not all was written
+abbrev pub write_fault : WriteFault → RunFault
+write_fault Failed = Write
+write_fault TookNothing = WriteZero
 
 -- what a run calls it where a text has no table
 abbrev pub run_fault : LayoutFault → RunFault

@@ -1,4 +1,3 @@
-pub mod Counts
 pub mod Estimates
 pub mod Fault
 pub mod Frame
@@ -12,5 +11,4 @@ pub mod Records
 pub mod Rows
 pub mod Run
 pub mod Settings
-pub mod Streams
 pub mod Totals

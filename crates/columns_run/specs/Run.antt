@@ -7,7 +7,7 @@ use Rattle.columns_run.specs.declared.fault.RunFault.TheVariants.{Read, ReadTooL
 use Rattle.ansi_scan.specs.Sequences.{IsWhole, IsFirstBroken}
 use Rattle.columns_run.specs.Layout.{output_of, TableFits}
 use Rattle.columns_run.specs.TableShown.{ShowsTableOf}
-use Rattle.columns_run.specs.Streams.{AppendsFront}
+use Rattle.tabled_output.specs.Streams.{AppendsFront}
 
 -- how many reads without an end are too many
 abbrev pub read_limit : ℕ

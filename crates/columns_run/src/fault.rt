@@ -3,6 +3,7 @@ use crate::layout::LayoutFault;
 use std::alloc::AllocError;
 use std::error::Error;
 use std::fmt;
+use tabled_output::WriteFault;
 
 /// Why `run` gave up. Where several hold, the answer is the first in this order, except that
 /// `Memory` may come at any step.
@@ -62,6 +63,21 @@ impl From<AllocError> for RunFault {
 
     fn from(_error: AllocError) -> RunFault {
         RunFault::Memory
+    }
+}
+
+/// Why not all was written, by the same names.
+impl From<WriteFault> for RunFault {
+    ghost use Rattle.std.specs.Prelude.{◌≡◌};
+    ghost use Rattle.columns_run.specs.Fault.{write_fault};
+
+    ghost from_gives = { λ given fault. fault ≡ write_fault given };
+
+    fn from(fault: WriteFault) -> RunFault {
+        match fault {
+            WriteFault::Write => RunFault::Write,
+            WriteFault::WriteZero => RunFault::WriteZero,
+        }
     }
 }
 

@@ -2,12 +2,10 @@
 //! standard streams.
 #![tactic(auto)]
 
-mod counted;
 mod fault;
 mod input;
 pub mod laws;
 mod layout;
-mod output;
 mod parts;
 mod print;
 mod records;
@@ -15,7 +13,7 @@ mod rows;
 mod running;
 mod sizes;
 
-pub use counted::Counted;
 pub use fault::RunFault;
 pub use input::read_all;
 pub use running::{Options, run};
+pub use tabled_output::Counted;

@@ -1,7 +1,7 @@
 use Rattle.std.proofs.Common.{◌≡◌, length}
-use Rattle.columns_run.specs.Counts.{inner_of, failures_of, empty_writes_of, pieces_read_of}
-use Rattle.columns_run.proofs.Written.{HasWritten}
-use Rattle.columns_run.proofs.output.write_all.Given as goal
+use Rattle.tabled_output.specs.Counts.{inner_of, failures_of, empty_writes_of, pieces_read_of, flushes_of}
+use Rattle.tabled_output.proofs.Written.{HasWritten}
+use Rattle.tabled_output.proofs.writing.write_all.Given as goal
 
 -- so far every write took bytes, and `rest` is what the writer has still to take
 abbrev pub invariant-loop-rest : goal.invariant-loop-rest
@@ -10,6 +10,7 @@ invariant-loop-rest g l = record {
   failures : failures_of l.writer ≡ failures_of l.initial.writer;
   empty_writes : empty_writes_of l.writer ≡ empty_writes_of l.initial.writer;
   pieces_read : pieces_read_of l.writer ≡ pieces_read_of l.initial.writer;
+  flushes : flushes_of l.writer ≡ flushes_of l.initial.writer;
   nothing : length l.bytes ≡ 0 → (l.writer ≡ l.initial.writer) × (length l.rest ≡ 0);
 }
 

@@ -1,6 +1,6 @@
 use Rattle.std.proofs.Common.{rules, ◌≡◌, ◌==◌, ◌∙◌, ℕ, zero, suc, Bool, true, false, sym, arith}
-use Rattle.columns_run.proofs.Written.{HasWritten-step}
-use Rattle.columns_run.proofs.output.write_all.Goals as goal
+use Rattle.tabled_output.proofs.Written.{HasWritten-step}
+use Rattle.tabled_output.proofs.writing.write_all.Goals as goal
 
 -- a rest that is written of is not empty
 not_empty : {T : Type 0} (n : ℕ) {test : Bool} → test ≡ (n == 0) → test ≡ false → n ≡ 0 → T
@@ -13,6 +13,7 @@ loop-rest-preserved g c = record {
   failures = search rules;
   empty_writes = search rules;
   pieces_read = search rules;
+  flushes = search rules;
   nothing = λ none. not_empty _ c.is_empty.ensures c.loop-rest-test.true (c.loop-rest.invariant.nothing none).1;
 }
 
