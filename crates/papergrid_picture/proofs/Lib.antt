@@ -1,2 +1,4 @@
 pub mod ReadingLemmas
+pub mod RelatedLemmas
+pub mod ShownLemmas
 pub mod FrameLemmas

@@ -6,4 +6,5 @@ pub mod CellLines
 pub mod Tables
 pub mod Tiling
 pub mod Fitting
+pub mod Shown
 pub mod Worked

@@ -1,9 +1,12 @@
 //! Laws of the definitions that the contracts of the grids cite.
-ghost use Rattle.std.specs.Prelude.{◌≡◌, List, [], ◌∷◌, None, Some, codes, true};
+ghost use Rattle.std.specs.Prelude.{◌≡◌, ℕ, List, [], ◌∷◌, None, Some, codes, true};
 ghost use Rattle.grid_config_values.specs.declared.alignment.AlignmentHorizontal.TheVariants.{Right};
 ghost use Rattle.grid_config_values.specs.declared.alignment.AlignmentVertical.TheVariants.{Bottom, Center as Middle};
 ghost use Rattle.grid_config_values.specs.Glyphs.{no_borders};
 ghost use Rattle.grid_config.specs.Compact.{each_side};
+ghost use Rattle.grid_config.specs.Looks.{Look};
+ghost use Rattle.papergrid_picture.specs.Tables.{table_text};
+ghost use Rattle.papergrid_picture.specs.Shown.{AreWholeTexts, IsBare, KeepsLineEnds, Shows, styled_picture, styled_texts};
 ghost use Rattle.papergrid_picture.specs.Worked.{ascii, bracketed, cells, crossed, drawn, drawn_in, extents, half_bracketed, joined, named, no_top, outer, padded, plain, span, spaced, with_margins};
 
 /// Pictures that were worked out by hand: two by two cells; cells of two lines to the right, with one
@@ -95,4 +98,13 @@ pub fn worked_colors()
         ≡ joined (codes "+----+" ∷ codes "|[...]a|" ∷ codes "|[....]|" ∷ codes "+----+" ∷ []) }
     ensures justification { drawn spaced (4 ∷ []) (1 ∷ []) (cells (codes "a" ∷ []) ∷ [])
         ≡ joined (codes "+----+" ∷ codes "|[.]a[..]|" ∷ codes "+----+" ∷ []) }
+{}
+
+/// The text of a table without colours shows the picture of what its cells show: characters in their
+/// styles, with glyphs, fills and line feeds in the plain style; and no style is open at its end. The cells
+/// are whole texts, of which no line is trimmed at its ends.
+pub fn texts_show_their_pictures()
+    ensures { (look : Look) (rows : List (List (List ℕ))) (widths heights : List ℕ) →
+        IsBare look → AreWholeTexts rows → KeepsLineEnds look →
+        Shows (table_text look rows (λ _. None) widths heights) (styled_picture look (styled_texts rows) widths heights) }
 {}

@@ -1,0 +1,132 @@
+-- What the picture of a table shows: its characters, in their styles or without.
+use Rattle.std.specs.Prelude.{◌≡◌, ◌≢◌, ℕ, Bool, false, List, [], ◌∷◌, Option, None, IfSome, IsUtf8, encode_utf8_all, map, slice_index_or}
+use Rattle.std.specs.Char.{IsScalar}
+use Rattle.std.specs.List.{AllByRecursion, slice_split}
+use Rattle.ansi_scan.specs.Sequences.{Piece, ArePiecesOf, NoneBroken, escape}
+use Rattle.ansi_scan.specs.Pieces.{pieces}
+use Rattle.ansi_scan.specs.Attributes.{Attributes, plain_attributes}
+use Rattle.ansi_str.specs.StyledText.{IsClosed, strip, styled}
+use Rattle.grid_config_values.specs.declared.position.Position.{Position}
+use Rattle.grid_config_values.specs.declared.sides.Sides.{Sides}
+use Rattle.grid_config_values.specs.Glyphs.{BoundaryKind, along_column, crossing, in_row}
+use Rattle.grid_config_colors.specs.Colors.{Color, no_color}
+use Rattle.grid_config.specs.Looks.{Look}
+use Rattle.grid_records_measure.specs.Measures.{measure}
+use Rattle.grid_records_measure.specs.TextLines.{is_line_feed}
+use Rattle.papergrid_picture.specs.Frame.{frame_of}
+use Rattle.papergrid_picture.specs.Blocks.{Grid}
+use Rattle.papergrid_picture.specs.CellLines.{kept_lines, those}
+use Rattle.papergrid_picture.specs.Reading.{Reading, grid_items}
+
+-- ---- what a look shows besides texts
+
+abbrev pub OnEachSide : {T : Type 0} → (T → Type 0) → Sides T → Type 0
+OnEachSide P sides = P sides.left × P sides.right × P sides.top × P sides.bottom
+
+-- each glyph that is set, each fill and each character for justification is of a kind
+pub record ShowsOnly (P : ℕ → Type 0) (look : Look) : Type 0 where
+  pub crossings : (row column : BoundaryKind) → IfSome (crossing look.borders row column) P
+  pub along_columns : (kind : BoundaryKind) → IfSome (along_column look.borders kind) P
+  pub in_rows : (kind : BoundaryKind) → IfSome (in_row look.borders kind) P
+  pub margins : OnEachSide (λ margin. P margin.fill) look.margin
+  pub paddings : (cell : Position) → OnEachSide (λ padding. P padding.fill) (look.padding cell)
+  pub justification : (cell : Position) → P (look.justification cell)
+
+-- each colour, and where none is set
+pub record IsColoredBy (P : Option Color → Type 0) (look : Look) : Type 0 where
+  pub crossings : (row column : BoundaryKind) → P (crossing look.borders_color row column)
+  pub along_columns : (kind : BoundaryKind) → P (along_column look.borders_color kind)
+  pub in_rows : (kind : BoundaryKind) → P (in_row look.borders_color kind)
+  pub margins : OnEachSide P look.margin_color
+  pub paddings : (cell : Position) → OnEachSide P (look.padding_color cell)
+  pub justification : (cell : Position) → P (look.justification_color cell)
+
+-- a character that begins no sequence
+pub record IsShown (c : ℕ) : Type 0 where
+  pub scalar : IsScalar c
+  pub no_escape : c ≢ escape
+
+-- no colour, or one that writes nothing
+abbrev pub WritesNothing : Option Color → Type 0
+WritesNothing color = IfSome color (λ set. set ≡ no_color)
+
+-- a look whose glyphs and fills begin no sequence, and that has no colour
+pub record IsBare (look : Look) : Type 0 where
+  pub shown : ShowsOnly IsShown look
+  pub no_colors : IsColoredBy WritesNothing look
+
+-- ---- texts
+
+-- a text in UTF-8 of which no sequence is broken
+pub record IsWholeText (text : List ℕ) : Type 0 where
+  pub utf8 : IsUtf8 text
+  pub whole : NoneBroken (pieces text)
+
+abbrev pub AreWholeTexts : List (List (List ℕ)) → Type 0
+AreWholeTexts rows = AllByRecursion (AllByRecursion IsWholeText) rows
+
+-- the texts without their sequences
+abbrev pub stripped_texts : List (List (List ℕ)) → List (List (List ℕ))
+stripped_texts rows = map (map (λ text. strip (pieces text))) rows
+
+-- ---- pictures of characters
+
+abbrev pub Styled : Type 0
+Styled = ℕ × Attributes
+
+abbrev pub character_of : Styled → ℕ
+character_of shown = shown.0
+
+-- a character in the plain style
+abbrev pub in_plain : ℕ → Styled
+in_plain c = (c, plain_attributes)
+
+-- the characters that texts show, each with its style
+abbrev pub styled_texts : List (List (List ℕ)) → List (List (List Styled))
+styled_texts rows = map (map (λ text. styled (pieces text))) rows
+
+abbrev pub characters_of : List (List (List Styled)) → List (List (List ℕ))
+characters_of rows = map (map (map character_of)) rows
+
+-- the lines that a cell shows, with the vertical trim or without: it is parted at its line feeds
+abbrev pub item_lines : {X : Type 0} → (X → ℕ) → Bool → List X → List (List X)
+item_lines character trim_vertical cell =
+    let lines = slice_split (λ item. is_line_feed (character item)) cell in
+    those (kept_lines trim_vertical (map (λ line. encode_utf8_all (map character line)) lines)) lines
+
+-- rows of cells by what they show, a list of items each that stand for characters; `bare` is a glyph or a fill as an item
+module _ {X : Type 0} (character : X → ℕ) (bare : ℕ → X) (look : Look) (rows : List (List (List X))) where
+  abbrev pub lines_of : Position → List (List X)
+  lines_of cell = item_lines character (look.trim_vertical cell) (slice_index_or (slice_index_or rows cell.row []) cell.col [])
+
+  -- a line measures what its characters measure
+  abbrev pub item_grid : List ℕ → List ℕ → Grid
+  item_grid widths heights = record {
+    frame = frame_of look widths heights;
+    measures = λ cell. map (λ line. measure (map character line)) (lines_of cell);
+    text_color = λ _. None;
+  }
+
+  abbrev pub in_items : Reading X
+  in_items = record { item = λ c. bare c ∷ []; line = λ cell k. slice_index_or (lines_of cell) k []; paint = λ _ items. items }
+
+  abbrev pub item_picture : List ℕ → List ℕ → List X
+  item_picture widths heights = grid_items in_items (item_grid widths heights)
+
+-- the picture of styled characters: glyphs, fills and line feeds have the plain style
+abbrev pub styled_picture : Look → List (List (List Styled)) → List ℕ → List ℕ → List Styled
+styled_picture look rows widths heights = item_picture character_of in_plain look rows widths heights
+
+-- the picture of characters alone
+abbrev pub character_picture : Look → List (List (List ℕ)) → List ℕ → List ℕ → List ℕ
+character_picture look rows widths heights = item_picture (λ c. c) (λ c. c) look rows widths heights
+
+-- bytes show these characters in their styles, and no style is open at their end
+pub record Shows (bytes : List ℕ) (characters : List Styled) : Type 0 where
+  pub text : IsUtf8 bytes
+  pub shown : (ps : List Piece) → ArePiecesOf bytes ps → styled ps ≡ characters
+  pub closed : (ps : List Piece) → ArePiecesOf bytes ps → IsClosed ps
+
+-- no cell is trimmed at the ends of its lines
+abbrev pub KeepsLineEnds : Look → Type 0
+KeepsLineEnds look = (cell : Position) → look.trim_horizontal cell ≡ false
