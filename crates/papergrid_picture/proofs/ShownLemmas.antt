@@ -265,19 +265,20 @@ module _ (text : List ℕ) (whole : IsWholeText text) where
 -- ---- the text of a table
 
 -- a colour that writes nothing leaves what it colours
-painted-nothing : (look : Look) (rows : List (List (List ℕ))) (color : Option Color) (bytes : List ℕ) → WritesNothing color → painted (in_bytes look rows) color bytes ≡ bytes
+pub painted-nothing : (look : Look) (rows : List (List (List ℕ))) (color : Option Color) (bytes : List ℕ) → WritesNothing color → painted (in_bytes look rows) color bytes ≡ bytes
 painted-nothing look rows None bytes nothing = refl
 painted-nothing look rows (Some color) [] nothing = refl
 painted-nothing look rows (Some color) (b ∷ bs) nothing = ap (λ c. c.prefix ++ (b ∷ bs ++ c.suffix)) nothing ∙ append-nil (b ∷ bs)
 
+-- each cell is a whole text, where there is one and where there is none
+pub whole-at : (rows : List (List (List ℕ))) → AreWholeTexts rows → (cell : Position) → IsWholeText (text_at rows cell)
+whole-at rows texts cell =
+    All-get_or IsWholeText (get_or rows cell.row []) cell.col [] (All-get_or (AllByRecursion IsWholeText) rows cell.row [] texts tt)
+    (record { utf8 = IsUtf8-nil; whole = subst NoneBroken (sym pieces-nothing) tt })
+
 module _ (look : Look) (rows : List (List (List ℕ))) (widths heights : List ℕ) (bare : IsBare look) (texts : AreWholeTexts rows) (keeps : KeepsLineEnds look) where
   abbrev shown_rows : List (List (List Styled))
   shown_rows = styled_texts rows
-
-  whole_at : (cell : Position) → IsWholeText (text_at rows cell)
-  whole_at cell =
-      All-get_or IsWholeText (get_or rows cell.row []) cell.col [] (All-get_or (AllByRecursion IsWholeText) rows cell.row [] texts tt)
-      (record { utf8 = IsUtf8-nil; whole = subst NoneBroken (sym pieces-nothing) tt })
 
   cell-styled : (cell : Position) → get_or (get_or shown_rows cell.row []) cell.col [] ≡ styled_of (text_at rows cell)
   cell-styled cell =
@@ -292,13 +293,13 @@ module _ (look : Look) (rows : List (List (List ℕ))) (widths heights : List �
   line-shown cell k =
       subst (λ (lines : List (List Styled)). ShowsHere ((in_bytes look rows).line cell k) (get_or lines k [])) (sym (lines-are cell))
       (subst (λ (trims : Bool). ShowsHere (get_or (cell_lines trims (look.trim_vertical cell) (text_at rows cell)) k []) (get_or (item_lines character_of (look.trim_vertical cell) (styled_of (text_at rows cell))) k [])) (sym (keeps cell))
-      (cell_line-shown (text_at rows cell) (whole_at cell) (look.trim_vertical cell) k))
+      (cell_line-shown (text_at rows cell) (whole-at rows texts cell) (look.trim_vertical cell) k))
 
   measures-are : (cell : Position) → cell_measures (look.trim_horizontal cell) (look.trim_vertical cell) (text_at rows cell)
       ≡ map (λ line. measure (map character_of line)) (lines_of character_of in_plain look shown_rows cell)
   measures-are cell =
       ap (λ trims. cell_measures trims (look.trim_vertical cell) (text_at rows cell)) (keeps cell)
-      ∙ cell_measures-are (text_at rows cell) (whole_at cell) (look.trim_vertical cell)
+      ∙ cell_measures-are (text_at rows cell) (whole-at rows texts cell) (look.trim_vertical cell)
       ∙ ap (map (λ (line : List Styled). measure (map character_of line))) (sym (lines-are cell))
 
   abbrev with_measures : (Position → List ℕ) → Grid
@@ -315,7 +316,7 @@ module _ (look : Look) (rows : List (List (List ℕ))) (widths heights : List �
       same (Some color) [] = refl
       same (Some color) (x ∷ xs) = refl
 
-  text-shown : ShowsHere (table_text look rows (λ _. None) widths heights) (styled_picture look shown_rows widths heights)
+  pub text-shown : ShowsHere (table_text look rows (λ _. None) widths heights) (styled_picture look shown_rows widths heights)
   text-shown =
       subst (λ (measures : Position → List ℕ). ShowsHere (table_text look rows (λ _. None) widths heights) (grid_items (in_items character_of in_plain look shown_rows) (with_measures measures)))
       (λ n cell. measures-are cell n)

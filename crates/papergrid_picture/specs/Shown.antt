@@ -1,11 +1,11 @@
 -- What the picture of a table shows: its characters, in their styles or without.
-use Rattle.std.specs.Prelude.{◌≡◌, ◌≢◌, ℕ, Bool, false, List, [], ◌∷◌, Option, None, IfSome, IsUtf8, encode_utf8_all, map, slice_index_or}
+use Rattle.std.specs.Prelude.{◌≡◌, ◌≢◌, ℕ, Bool, false, List, [], ◌∷◌, Option, None, IfSome, IsUtf8, encode_utf8_all, flat_map, map, slice_index_or}
 use Rattle.std.specs.Char.{IsScalar}
 use Rattle.std.specs.List.{AllByRecursion, slice_split}
 use Rattle.ansi_scan.specs.Sequences.{Piece, ArePiecesOf, NoneBroken, escape}
 use Rattle.ansi_scan.specs.Pieces.{pieces}
 use Rattle.ansi_scan.specs.Attributes.{Attributes, plain_attributes}
-use Rattle.ansi_str.specs.StyledText.{IsClosed, strip, styled}
+use Rattle.ansi_str.specs.StyledText.{IsClosed, has_escape, strip, styled}
 use Rattle.grid_config_values.specs.declared.position.Position.{Position}
 use Rattle.grid_config_values.specs.declared.sides.Sides.{Sides}
 use Rattle.grid_config_values.specs.Glyphs.{BoundaryKind, along_column, crossing, in_row}
@@ -16,7 +16,7 @@ use Rattle.grid_records_measure.specs.TextLines.{is_line_feed}
 use Rattle.papergrid_picture.specs.Frame.{frame_of}
 use Rattle.papergrid_picture.specs.Blocks.{Grid}
 use Rattle.papergrid_picture.specs.CellLines.{kept_lines, those}
-use Rattle.papergrid_picture.specs.Reading.{Reading, grid_items}
+use Rattle.papergrid_picture.specs.Reading.{Reading, grid_items, painted}
 
 -- ---- what a look shows besides texts
 
@@ -130,3 +130,19 @@ pub record Shows (bytes : List ℕ) (characters : List Styled) : Type 0 where
 -- no cell is trimmed at the ends of its lines
 abbrev pub KeepsLineEnds : Look → Type 0
 KeepsLineEnds look = (cell : Position) → look.trim_horizontal cell ≡ false
+
+-- ---- the same picture in other items
+
+-- f takes what one reading shows to what another one shows
+pub record IsReadBy {X Y : Type 0} (f : X → List Y) (first : Reading X) (second : Reading Y) : Type 0 where
+  pub items : (c : ℕ) → flat_map f (first.item c) ≡ second.item c
+  pub lines : (cell : Position) (k : ℕ) → flat_map f (first.line cell k) ≡ second.line cell k
+  pub colors : (color : Option Color) (items : List X) → flat_map f (painted first color items) ≡ painted second color (flat_map f items)
+
+-- a text in UTF-8 without sequences
+pub record IsPlainText (text : List ℕ) : Type 0 where
+  pub utf8 : IsUtf8 text
+  pub no_escape : has_escape text ≡ false
+
+abbrev pub ArePlainTexts : List (List (List ℕ)) → Type 0
+ArePlainTexts rows = AllByRecursion (AllByRecursion IsPlainText) rows

@@ -1,12 +1,18 @@
 //! Laws of the definitions that the contracts of the grids cite.
-ghost use Rattle.std.specs.Prelude.{◌≡◌, ℕ, List, [], ◌∷◌, None, Some, codes, true};
+ghost use Rattle.std.specs.Prelude.{◌≡◌, ℕ, All, List, [], ◌∷◌, None, Some, chars, codes, encode_utf8_all, flat_map, map, true};
+ghost use Rattle.ansi_scan.specs.Attributes.{plain_attributes};
+ghost use Rattle.ansi_scan.specs.Sequences.{Piece, ArePiecesOf, NoneBroken};
+ghost use Rattle.ansi_str.specs.StyledText.{strip};
 ghost use Rattle.grid_config_values.specs.declared.alignment.AlignmentHorizontal.TheVariants.{Right};
 ghost use Rattle.grid_config_values.specs.declared.alignment.AlignmentVertical.TheVariants.{Bottom, Center as Middle};
 ghost use Rattle.grid_config_values.specs.Glyphs.{no_borders};
 ghost use Rattle.grid_config.specs.Compact.{each_side};
 ghost use Rattle.grid_config.specs.Looks.{Look};
+ghost use Rattle.grid_records_measure.specs.TextLines.{line_feed};
+ghost use Rattle.papergrid_picture.specs.Blocks.{Grid};
+ghost use Rattle.papergrid_picture.specs.Reading.{Reading, grid_items};
+ghost use Rattle.papergrid_picture.specs.Shown.{ArePlainTexts, AreWholeTexts, IsBare, IsReadBy, KeepsLineEnds, Shows, Styled, character_of, character_picture, characters_of, stripped_texts, styled_picture, styled_texts};
 ghost use Rattle.papergrid_picture.specs.Tables.{table_text};
-ghost use Rattle.papergrid_picture.specs.Shown.{AreWholeTexts, IsBare, KeepsLineEnds, Shows, styled_picture, styled_texts};
 ghost use Rattle.papergrid_picture.specs.Worked.{ascii, bracketed, cells, crossed, drawn, drawn_in, extents, half_bracketed, joined, named, no_top, outer, padded, plain, span, spaced, with_margins};
 
 /// Pictures that were worked out by hand: two by two cells; cells of two lines to the right, with one
@@ -100,11 +106,42 @@ pub fn worked_colors()
         ≡ joined (codes "+----+" ∷ codes "|[.]a[..]|" ∷ codes "+----+" ∷ []) }
 {}
 
+/// A function that takes what one reading shows of each character, of each line of a cell and of each colour
+/// to what another reading shows of it takes the whole picture in the one to the picture in the other.
+pub fn readings<X, Y>()
+    ensures { (f : X → List Y) (first : Reading X) (second : Reading Y) (grid : Grid) →
+        IsReadBy f first second → flat_map f (grid_items first grid) ≡ grid_items second grid }
+{}
+
 /// The text of a table without colours shows the picture of what its cells show: characters in their
 /// styles, with glyphs, fills and line feeds in the plain style; and no style is open at its end. The cells
 /// are whole texts, of which no line is trimmed at its ends.
-pub fn texts_show_their_pictures()
+pub fn styled_reading()
     ensures { (look : Look) (rows : List (List (List ℕ))) (widths heights : List ℕ) →
         IsBare look → AreWholeTexts rows → KeepsLineEnds look →
         Shows (table_text look rows (λ _. None) widths heights) (styled_picture look (styled_texts rows) widths heights) }
+{}
+
+/// Without its sequences the text of a table without colours is the text of the table of the stripped cells,
+/// with these sizes, trimmed or not; and no sequence of it is broken. The cells are whole texts.
+pub fn stripped_reading()
+    ensures text { (look : Look) (rows : List (List (List ℕ))) (widths heights : List ℕ) (ps : List Piece) →
+        IsBare look → AreWholeTexts rows → ArePiecesOf (table_text look rows (λ _. None) widths heights) ps →
+        strip ps ≡ table_text look (stripped_texts rows) (λ _. None) widths heights }
+    ensures whole { (look : Look) (rows : List (List (List ℕ))) (widths heights : List ℕ) (ps : List Piece) →
+        IsBare look → AreWholeTexts rows → ArePiecesOf (table_text look rows (λ _. None) widths heights) ps →
+        NoneBroken ps }
+{}
+
+/// Styles change no character of a picture, which is that of the characters alone; each line feed in it has
+/// the plain style, so that no style is open where a line ends. The text of a table of texts without
+/// sequences is the picture of their characters.
+pub fn character_reading()
+    ensures characters { (look : Look) (rows : List (List (List Styled))) (widths heights : List ℕ) →
+        map character_of (styled_picture look rows widths heights) ≡ character_picture look (characters_of rows) widths heights }
+    ensures line_feeds { (look : Look) (rows : List (List (List Styled))) (widths heights : List ℕ) →
+        All (λ x. x.0 ≡ line_feed → x.1 ≡ plain_attributes) (styled_picture look rows widths heights) }
+    ensures plain { (look : Look) (rows : List (List (List ℕ))) (widths heights : List ℕ) →
+        IsBare look → ArePlainTexts rows → KeepsLineEnds look →
+        table_text look rows (λ _. None) widths heights ≡ encode_utf8_all (character_picture look (map (map chars) rows) widths heights) }
 {}

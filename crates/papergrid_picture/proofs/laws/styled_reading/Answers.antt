@@ -1,5 +1,5 @@
 use Rattle.papergrid_picture.proofs.ShownLemmas.{table-shows}
-use Rattle.papergrid_picture.proofs.laws.texts_show_their_pictures.Goals as goal
+use Rattle.papergrid_picture.proofs.laws.styled_reading.Goals as goal
 
 pub returns : goal.returns
 returns c = table-shows

@@ -1,0 +1,5 @@
+use Rattle.papergrid_picture.proofs.ItemLemmas.{feeds-plain, picture-characters, table-plain}
+use Rattle.papergrid_picture.proofs.laws.character_reading.Goals as goal
+
+pub returns : goal.returns
+returns c = record { characters = picture-characters; line_feeds = feeds-plain; plain = table-plain }

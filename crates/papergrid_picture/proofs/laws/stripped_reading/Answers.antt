@@ -1,0 +1,5 @@
+use Rattle.papergrid_picture.proofs.StrippedLemmas.{table-stripped, table-whole}
+use Rattle.papergrid_picture.proofs.laws.stripped_reading.Goals as goal
+
+pub returns : goal.returns
+returns c = record { text = table-stripped; whole = table-whole }
