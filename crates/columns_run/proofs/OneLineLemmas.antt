@@ -13,9 +13,7 @@ use Rattle.ansi_str_search.proofs.AllParts.{strip-styled_parts}
 use Rattle.ansi_str_search.proofs.StdSplits.{split_at_one_byte}
 use Rattle.grid_records_measure.specs.TextLines.{is_line_feed, line_feed, widest}
 use Rattle.grid_records_traits.specs.Cells.{HasLineCount, HasWidth}
-use Rattle.columns_run.specs.Estimates.{Line}
-use Rattle.columns_run.specs.Layout.{part_line}
-use Rattle.columns_run.specs.Printing.{shown, cut, line_rows, rows_shown}
+use Rattle.columns_run.specs.Cells.{shown, cut, line_rows, rows_shown}
 use Rattle.columns_run.specs.Records.{IsMeasured}
 use Rattle.columns_run.specs.Rows.{tab, stripped, places, parts_at, row_parts, cell_parts}
 use Rattle.columns_run.specs.declared.rows.Rows.{Rows}
@@ -39,7 +37,7 @@ abbrev IsOneLine : List ℕ → Type 0
 IsOneLine part = NoLineFeeds (stripped part)
 
 -- a line, and what it measures
-abbrev IsMeasuredLine : Line ℕ → Type 0
+abbrev IsMeasuredLine : Line → Type 0
 IsMeasuredLine line = HasLineCount line.items 1 × HasWidth line.items line.measure
 
 part-measured : (part : List ℕ) → IsOneLine part → IsMeasuredLine (part_line part)

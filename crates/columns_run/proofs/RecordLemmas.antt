@@ -9,7 +9,7 @@ use Rattle.grid_records_measure.specs.TextLines.{shown_lines, widest}
 use Rattle.grid_records_traits.specs.Cells.{HasLineCount, HasWidth}
 use Rattle.grid_records_traits.specs.Rows.{fitted, fitted_row}
 use Rattle.grid_records_traits.proofs.FittedRows.{fitted-same, length-fitted_row}
-use Rattle.columns_run.specs.Printing.{cut}
+use Rattle.columns_run.specs.Cells.{cut}
 use Rattle.columns_run.specs.Records.{row_texts, table_texts}
 use Rattle.columns_run.specs.declared.rows.Cell.{Cell}
 use Rattle.columns_run.proofs.PlaceLemmas.{pieces-none}
@@ -19,15 +19,19 @@ use Rattle.columns_run.proofs.PlaceLemmas.{pieces-none}
 no_pieces : (ps : List Piece) → ArePiecesOf [] ps → [] ≡ ps
 no_pieces ps of_text = sym pieces-none ∙ pieces-ArePiecesOf [] ps of_text
 
-pub empty_line_count : HasLineCount [] 1
+empty_line_count : HasLineCount [] 1
 empty_line_count = λ ps of_text. ap (λ found. length (shown_lines found)) (no_pieces ps of_text)
 
 no_width : 0 ≡ widest ([] ∷ [])
 unfolding chars str_width
 no_width = refl
 
-pub empty_width : HasWidth [] 0
+empty_width : HasWidth [] 0
 empty_width = λ ps of_text. no_width ∙ ap (λ found. widest (shown_lines found)) (no_pieces ps of_text)
+
+-- nothing is one line
+pub empty_one_line : IsOneLine [] 0
+empty_one_line = (empty_line_count, empty_width, λ ps lines of_text are. sym (lines-joined ([] ∷ []) lines ps (omega arith) (All-from_recursion IsClosedLine ([] ∷ []) (empty_closed, tt)) of_text are |> λ same. ap (λ found. get_or found 0 []) same)
 
 -- ---- rows of as many texts
 

@@ -4,8 +4,8 @@ use Rattle.columns_run.specs.declared.fault.RunFault.{RunFault}
 use Rattle.columns_run.specs.declared.fault.RunFault.TheVariants.{Read, ReadTooLong, NotUtf8, Escape, Range, LineTooWide, Write, WriteZero, Memory}
 use Rattle.tabled_output.specs.declared.writing.WriteFault.{WriteFault}
 use Rattle.tabled_output.specs.declared.writing.WriteFault.TheVariants.{Write as Failed, WriteZero as TookNothing}
-use Rattle.columns_run.specs.declared.layout.LayoutFault.{LayoutFault}
-use Rattle.columns_run.specs.declared.layout.LayoutFault.TheVariants.{Range as PassesMax, Memory as NoMemory}
+use Rattle.grid_config_values.specs.declared.fault.Fault.{Fault}
+use Rattle.grid_config_values.specs.declared.fault.Fault.TheVariants.{Memory as NoMemory, Range as PassesMax, Room, Spans}
 
 -- the bytes that a fault prints
 abbrev pub fault_text : RunFault → List ℕ
@@ -25,9 +25,11 @@ write_fault Failed = Write
 write_fault TookNothing = WriteZero
 
 -- what a run calls it where a text has no table
-abbrev pub run_fault : LayoutFault → RunFault
-run_fault PassesMax = Range
+abbrev pub run_fault : Fault → RunFault
 run_fault NoMemory = Memory
+run_fault PassesMax = Range
+run_fault Spans = Range
+run_fault (Room row column) = LineTooWide row column
 
 -- a fault that reading may give
 abbrev pub IsOfReading : RunFault → Type 0

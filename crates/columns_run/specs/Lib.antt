@@ -1,14 +1,9 @@
-pub mod Estimates
+pub mod Cells
 pub mod Fault
-pub mod Frame
-pub mod Glyphs
 pub mod TableShown
 pub mod Layout
-pub mod Picture
-pub mod Printing
-pub mod Readings
+pub mod Plain
 pub mod Records
 pub mod Rows
 pub mod Run
 pub mod Settings
-pub mod Totals

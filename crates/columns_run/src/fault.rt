@@ -1,5 +1,5 @@
 //! Why a run gave up.
-use crate::layout::LayoutFault;
+use grid_config::Fault;
 use std::alloc::AllocError;
 use std::error::Error;
 use std::fmt;
@@ -81,17 +81,18 @@ impl From<WriteFault> for RunFault {
     }
 }
 
-/// Why the text has no table, by the same names.
-impl From<LayoutFault> for RunFault {
+/// Why the text has no table. A table of a text has no spans, so that `Spans` isn't met.
+impl From<Fault> for RunFault {
     ghost use Rattle.std.specs.Prelude.{◌≡◌};
     ghost use Rattle.columns_run.specs.Fault.{run_fault};
 
     ghost from_gives = { λ given fault. fault ≡ run_fault given };
 
-    fn from(fault: LayoutFault) -> RunFault {
+    fn from(fault: Fault) -> RunFault {
         match fault {
-            LayoutFault::Range => RunFault::Range,
-            LayoutFault::Memory => RunFault::Memory,
+            Fault::Memory => RunFault::Memory,
+            Fault::Range | Fault::Spans => RunFault::Range,
+            Fault::Room { row, column } => RunFault::LineTooWide { row, column },
         }
     }
 }

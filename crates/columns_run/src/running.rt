@@ -3,13 +3,16 @@ ghost use Rattle.std.specs.Prelude.{◌≡◌, ◌≢◌, ◌↔◌, IfSome, IfO
 ghost use Rattle.std.specs.Io.KnownBytes.{IsAtEnd};
 ghost use Rattle.tabled_output.specs.Counts.{inner_of, empty_writes_of, pieces_read_of, flushes_of, FailsIff, TakesNothingIff, HasGivenPieces};
 ghost use Rattle.columns_run.specs.Fault.{IsOfInput, MayFollowWrites};
+ghost use Rattle.grid_config.specs.Compact.{compact_of};
 ghost use Rattle.columns_run.specs.Layout.{output_of};
+ghost use Rattle.columns_run.specs.Plain.{IsPlain};
 ghost use Rattle.tabled_output.specs.Streams.{ConsumesSome};
 ghost use Rattle.columns_run.specs.Run.{MayAnswer, Serves, LeavesAlone, HasReadAll, read_limit};
 
 use crate::fault::RunFault;
 use crate::input::{read_all, text_of};
 use crate::layout::{plain_table, styled_table};
+use crate::options::Options;
 use ansi_scan::first_broken;
 use ansi_str::AnsiStr;
 use std::alloc::Global;
@@ -18,19 +21,6 @@ use tabled_output::{Counted, write_all};
 
 // How many reads without an end are too many.
 const READ_LIMIT: u64 = 1 << 40;
-
-/// What `run` is asked.
-#[derive(Debug, Drop)]
-pub struct Options {
-    _private: (),
-}
-
-impl Options {
-    /// The defaults: a table with ASCII borders.
-    pub fn new() -> Options {
-        Options { _private: () }
-    }
-}
 
 /// Reads all text, cells between tabs and rows between line feeds, and writes it as a table with
 /// borders. `RunFault` says when it gives up. Before a fault of the reader or the input nothing is
@@ -41,16 +31,18 @@ pub fn run<R: Read, W: Write>(
     reader: &mut Counted<R>,
     writer: &mut Counted<W>,
 ) -> Result<(), RunFault>
+    requires { IsPlain (compact_of options.now.style) }
+
     // Where the reader's bytes are known, they decide the answer and what is written.
     ensures known_input { IfSome (R.remaining (inner_of reader.old)) (λ input.
-        Serves input result (W.contents (inner_of writer.old)) (W.contents (inner_of writer.new))
-        × LeavesAlone input writer.old writer.new) }
+        Serves options.now input result (W.contents (inner_of writer.old)) (W.contents (inner_of writer.new))
+        × LeavesAlone options.now input writer.old writer.new) }
 
     // Where they are not, the same holds of some bytes that the reader gave.
     ensures some_input { ConsumesSome (R.remaining (inner_of reader.old))
         (R.remaining (inner_of reader.new)) (λ input.
-        Serves input result (W.contents (inner_of writer.old)) (W.contents (inner_of writer.new))
-        × LeavesAlone input writer.old writer.new) }
+        Serves options.now input result (W.contents (inner_of writer.old)) (W.contents (inner_of writer.new))
+        × LeavesAlone options.now input writer.old writer.new) }
     ensures at_end { HasReadAll result → IsAtEnd (R.remaining (inner_of reader.new)) }
 
     // The counts say exactly when a fault of the reader or the writer comes.
@@ -74,9 +66,9 @@ pub fn run<R: Read, W: Write>(
 }
 
 // The table of an input, or why it has none.
-fn table_of(alloc: Global, _options: &Options, bytes: &[u8]) -> Result<String, RunFault>
-    ensures answers { MayAnswer bytes.now result }
-    ensures table { IfOk result (λ table. string_bytes table ≡ output_of bytes.now) }
+fn table_of(alloc: Global, options: &Options, bytes: &[u8]) -> Result<String, RunFault>
+    ensures answers { MayAnswer options.now bytes.now result }
+    ensures table { IfOk result (λ table. string_bytes table ≡ output_of options.now bytes.now) }
     ensures faults { IfErr result IsOfInput }
 {
     let text = text_of(bytes)?;
@@ -84,9 +76,9 @@ fn table_of(alloc: Global, _options: &Options, bytes: &[u8]) -> Result<String, R
         if let Some(at) = first_broken(text) {
             return Err(RunFault::Escape { at });
         }
-        styled_table(alloc, text)
+        styled_table(alloc, options, text)
     } else {
-        plain_table(alloc, text)
+        plain_table(alloc, options, text)
     };
     Ok(table?)
 }

@@ -2,7 +2,7 @@ use Rattle.std.proofs.Common.{◌≡◌, ◌<◌, Option, IsSome, Vec, Global, �
 use Rattle.std.specs.Cow.{cow_str_bytes}
 use Rattle.std.specs.declared.borrow.CowStr.{CowStr}
 use Rattle.columns_run.specs.Rows.{line_feed, parts_at, row_parts, without_bare_last}
-use Rattle.columns_run.specs.Printing.{last_is_bare}
+use Rattle.columns_run.specs.Cells.{last_is_bare}
 use Rattle.columns_run.proofs.PartLemmas.{popped, kept}
 use Rattle.columns_run.proofs.parts.row_parts.Goals as goal
 use Rattle.columns_run.proofs.parts.row_parts.Goals.{then-is_last_bare+in-Some+in-Owned-1, then-is_last_bare+in-Some+in-Borrowed-1, then-is_last_bare+in-None-1, else-is_last_bare}
