@@ -6,6 +6,8 @@ pub mod PartLemmas
 pub mod PassLemmas
 pub mod PictureLemmas
 pub mod PlaceLemmas
+pub mod PrintedLemmas
+pub mod PlacedLemmas
 pub mod PlainLemmas
 pub mod RecordLemmas
 pub mod RowLemmas

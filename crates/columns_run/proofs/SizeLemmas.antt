@@ -8,7 +8,10 @@ use Rattle.std.proofs.lemmas.Simd.{map-map}
 use Rattle.grid_config.specs.Compact.{Compact}
 use Rattle.grid_config.specs.Looks.{compact_look}
 use Rattle.grid_config_values.specs.Glyphs.{boundary_count, boundary_kind, has_column_boundary, has_row_boundary}
+use Rattle.grid_config_values.specs.declared.borders.Borders.{Borders}
 use Rattle.grid_config_values.specs.declared.position.Position.{Position}
+use Rattle.grid_config_values.specs.declared.sides.Indent.{Indent}
+use Rattle.grid_config_values.specs.declared.sides.Sides.{Sides}
 use Rattle.grid_records_measure.specs.TextLines.{text_height, text_width}
 use Rattle.grid_records_traits.specs.Rows.{fitted, fitted_row, text_at}
 use Rattle.grid_records_traits.proofs.FittedRows.{fitted-twice}
@@ -45,7 +48,7 @@ module _ (counts : List ℕ) (cells : List Cell) where
   abbrev pub cut_texts : List (List (List ℕ))
   cut_texts = texts_of_lines (cut counts (map shown cells))
 
-  texts-cut : cut_texts ≡ map (map (λ cell. cell.text.now)) (cut counts cells)
+  pub texts-cut : cut_texts ≡ map (map (λ cell. cell.text.now)) (cut counts cells)
   texts-cut =
       ap (map (map (λ (line : Line). line.items))) (cut-map shown counts cells)
       ∙ map-map (map (λ (line : Line). line.items)) (map shown) (cut counts cells)
@@ -171,10 +174,10 @@ tracks-total tracks behind some = step tracks.sizes refl some where
       omega (arith, whole, counted tracks.has_boundary (length (size ∷ sizes)))
 
 module _ (style : Compact) (widths heights : List ℕ) where
-  abbrev across : ℕ
+  abbrev pub across : ℕ
   across = total widths (boundary_count (has_column_boundary style.borders) (length widths)) style.margin.left.size style.margin.right.size
 
-  abbrev down : ℕ
+  abbrev pub down : ℕ
   down = total heights (boundary_count (has_row_boundary style.borders) (length heights)) style.margin.top.size style.margin.bottom.size
 
   is_some : (n : ℕ) → 0 < n → (n == 0) ≡ false
@@ -200,6 +203,21 @@ module _ (style : Compact) (widths heights : List ℕ) where
 
   pub too_high : 0 < length widths → 0 < length heights → 2 ^ 64 ≤ down → ¬ (InRange (frame_of (compact_look style) widths heights))
   too_high wide high over = λ fits. let same = height-total wide high in let low = fits.1 in omega (arith, same, low, over)
+
+-- what is added up is their total
+module _ (style : Compact) (widths heights : List ℕ) (borders : Borders ℕ) (margin : Sides Indent) (glyphs : borders ≡ style.borders) (round : margin ≡ style.margin) (n : ℕ) where
+  pub across-is : n ≡ boundary_count (has_column_boundary borders) (length widths) → total widths n margin.left.size margin.right.size ≡ across style widths heights
+  across-is number =
+      ap (λ m. total widths m margin.left.size margin.right.size) (number ∙ ap (λ b. boundary_count (has_column_boundary b) (length widths)) glyphs)
+      ∙ ap (λ m. total widths (boundary_count (has_column_boundary style.borders) (length widths)) m.left.size m.right.size) round
+
+  pub down-is : n ≡ boundary_count (has_row_boundary borders) (length heights) → total heights n margin.top.size margin.bottom.size ≡ down style widths heights
+  down-is number =
+      ap (λ m. total heights m margin.top.size margin.bottom.size) (number ∙ ap (λ b. boundary_count (has_row_boundary b) (length heights)) glyphs)
+      ∙ ap (λ m. total heights (boundary_count (has_row_boundary style.borders) (length heights)) m.top.size m.bottom.size) round
+
+pub some-of : (n : ℕ) (b : Bool) → b ≡ (n == 0) → b ≡ false → 0 < n
+some-of n b is off = let e : (n == 0) ≡ false = sym is ∙ off in grind (arith, nat_tests)
 
 -- ---- sizes that are too great
 

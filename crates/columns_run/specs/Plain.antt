@@ -4,7 +4,6 @@ use Rattle.std.specs.Char.{IsScalar, is_control}
 use Rattle.grid_config.specs.Compact.{Compact}
 use Rattle.grid_config.specs.Settings.{IsUncolored}
 use Rattle.grid_config_colors.specs.Colors.{Color, is_no_color}
-use Rattle.grid_config_values.specs.Glyphs.{BoundaryKind, along_column, crossing, in_row}
 use Rattle.grid_config_values.specs.declared.borders.Borders.{Borders}
 use Rattle.grid_config_values.specs.declared.sides.Sides.{Sides}
 use Rattle.grid_records_measure.specs.Measures.{own_width}
@@ -16,11 +15,18 @@ pub record IsPlainCharacter (c : ℕ) : Type 0 where
   pub one_column : own_width c ≡ 1
   pub no_control : is_control c ≡ false
 
+-- each of three glyphs that is set is of a kind
+abbrev ThreeAre : (ℕ → Type 0) → Option ℕ → Option ℕ → Option ℕ → Type 0
+ThreeAre P a b c = IfSome a P × IfSome b P × IfSome c P
+
 -- each glyph that is set is of a kind
-pub record GlyphsAre (P : ℕ → Type 0) (borders : Borders ℕ) : Type 0 where
-  pub crossings : (row column : BoundaryKind) → IfSome (crossing borders row column) P
-  pub along_columns : (kind : BoundaryKind) → IfSome (along_column borders kind) P
-  pub in_rows : (kind : BoundaryKind) → IfSome (in_row borders kind) P
+abbrev pub GlyphsAre : (ℕ → Type 0) → Borders ℕ → Type 0
+GlyphsAre P b =
+    ThreeAre P b.top_left b.top_intersection b.top_right
+    × ThreeAre P b.left_intersection b.intersection b.right_intersection
+    × ThreeAre P b.bottom_left b.bottom_intersection b.bottom_right
+    × ThreeAre P b.top b.horizontal b.bottom
+    × ThreeAre P b.left b.vertical b.right
 
 -- each glyph and each fill is such a character, and no colour is set: a set one is there and not empty
 pub record IsPlain (style : Compact) : Type 0 where
@@ -38,7 +44,7 @@ is_uncolored (Some color) = is_no_color color
 abbrev pub are_sides_uncolored : Sides Color → Bool
 are_sides_uncolored colors = is_no_color colors.left && (is_no_color colors.right && (is_no_color colors.top && is_no_color colors.bottom))
 
-abbrev are_three_uncolored : Option Color → Option Color → Option Color → Bool
+abbrev pub are_three_uncolored : Option Color → Option Color → Option Color → Bool
 are_three_uncolored a b c = is_uncolored a && (is_uncolored b && is_uncolored c)
 
 abbrev pub are_borders_uncolored : Borders Color → Bool
@@ -48,3 +54,13 @@ are_borders_uncolored b =
     && (are_three_uncolored b.bottom_left b.bottom_intersection b.bottom_right
     && (are_three_uncolored b.top b.horizontal b.bottom
     && are_three_uncolored b.left b.vertical b.right)))
+
+-- a plain style, setting by setting
+abbrev pub ArePlain : Compact → Type 0
+ArePlain style =
+    GlyphsAre IsPlainCharacter style.borders
+    × OnEachSide (λ indent. IsPlainCharacter indent.fill) style.margin
+    × OnEachSide (λ indent. IsPlainCharacter indent.fill) style.padding
+    × (are_sides_uncolored style.margin_color ≡ true)
+    × (are_sides_uncolored style.padding_color ≡ true)
+    × (are_borders_uncolored style.borders_color ≡ true)

@@ -1,13 +1,19 @@
 -- The rows of a text as records: each cell is one line, and known is what it measures.
-use Rattle.std.specs.Prelude.{ℕ, ◌+◌, List, [], ◌∷◌, length, map, slice_index_or, slice_range}
-use Rattle.grid_records_traits.specs.Cells.{HasLineCount, HasWidth, IsLineAt}
+use Rattle.ansi_scan.specs.Sequences.{Piece, ArePiecesOf}
+use Rattle.grid_records_measure.specs.TextLines.{AreLinesOf}
+use Rattle.std.specs.Prelude.{◌≡◌, ℕ, ◌+◌, List, [], ◌∷◌, length, map, slice_index_or, slice_range}
+use Rattle.grid_records_traits.specs.Cells.{HasLineCount, HasWidth}
 use Rattle.grid_records_traits.specs.Rows.{fitted_row}
 use Rattle.columns_run.specs.Cells.{cut}
 use Rattle.columns_run.specs.declared.rows.Cell.{Cell}
 
--- the text is one line, which is the text itself, and measures so many columns
+-- the text is its only line
+abbrev pub IsOnlyLine : List ℕ → Type 0
+IsOnlyLine text = (pieces : List Piece) (lines : List (List ℕ)) → ArePiecesOf text pieces → AreLinesOf pieces lines → lines ≡ text ∷ []
+
+-- the text is one line, and measures so many columns
 abbrev pub IsOneLine : List ℕ → ℕ → Type 0
-IsOneLine text width = HasLineCount text 1 × HasWidth text width × IsLineAt text 0 text
+IsOneLine text width = HasLineCount text 1 × HasWidth text width × IsOnlyLine text
 
 abbrev pub IsMeasured : Cell → Type 0
 IsMeasured cell = IsOneLine cell.text.now cell.width

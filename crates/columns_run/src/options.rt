@@ -2,6 +2,7 @@
 ghost use Rattle.std.specs.Prelude.{◌≡◌};
 ghost use Rattle.grid_config.specs.Compact.{compact_of};
 ghost use Rattle.papergrid_picture.specs.Worked.{ascii};
+ghost use Rattle.columns_run.specs.Plain.{IsPlain};
 ghost use Rattle.columns_run.specs.Settings.{ascii_settings};
 
 use grid_config::{Borders, CompactConfig, Indent, Sides};
@@ -16,7 +17,8 @@ pub struct Options {
 impl Options {
     /// The defaults: boundaries of `-`, `|` and `+`, and a column of space at both sides of a text.
     pub fn new() -> Options
-        ensures { compact_of result.style ≡ ascii_settings }
+        ensures style { compact_of result.style ≡ ascii_settings }
+        ensures plain { IsPlain (compact_of result.style) }
     {
         let column = Indent::spaced(1);
         let none = Indent::zero();

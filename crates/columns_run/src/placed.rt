@@ -1,7 +1,5 @@
 //! The cells of a text looked up by their places.
-ghost use Rattle.std.specs.Prelude.{◌≡◌, ◌^◌, ◌<◌, All, IfSome, false, length, sum};
-ghost use Rattle.std.specs.Borrow.{Bor};
-ghost use Rattle.grid_records_traits.specs.Cells.{text_or_empty};
+ghost use Rattle.std.specs.Prelude.{◌≡◌, ◌^◌, ◌<◌, [], All, false, map, slice_index_or, sum};
 ghost use Rattle.grid_records_traits.specs.Rows.{text_at};
 ghost use Rattle.columns_run.specs.Records.{IsMeasured, placed_texts, starts_from};
 
@@ -26,7 +24,7 @@ impl<'a> PlacedRows<'a> {
         requires measured { All IsMeasured cells.items }
         requires range { sum counts.items < 2 ^ 64 }
         ensures columns { ⟦<PlacedRows<'a> as RecordColumns>⟧.columns result ≡ columns }
-        ensures rows { ⟦<PlacedRows<'a> as RecordTexts>⟧.rows result ≡ placed_texts (starts_from 0 counts.items) cells.items }
+        ensures rows { ⟦<PlacedRows<'a> as RecordTexts>⟧.rows result ≡ placed_texts (starts_from 0 counts.items) cells.entry.items }
     {
         PlacedRows {
             cells,
@@ -35,21 +33,51 @@ impl<'a> PlacedRows<'a> {
         }
     }
 
-    // The cell at this place, where its row has one.
-    fn get(&self, pos: Position) -> Option<&Cell<'a>>
-        ensures text { text_or_empty (λ (cell : Bor Cell). cell.now.text.now) result ≡ text_at (placed_texts self.now.starts.items self.now.cells.items) pos }
-        ensures measured { IfSome result (λ cell. IsMeasured cell.now) }
+    // The cell at this place, and an empty one where its row has none.
+    fn cell(&self, pos: Position) -> Cell<'a>
+        ensures text { result.text.now ≡ text_at (placed_texts self.now.starts.items self.now.cells.items) pos }
+        ensures measured { IsMeasured result }
     {
-        let start = *self.starts.get(pos.row)?;
-        let end = match self.starts.get(pos.row + 1) {
-            Some(end) => *end,
-            None => self.cells.len(),
-        };
-        if pos.col < end.saturating_sub(start) {
-            self.cells.get(start + pos.col)
-        } else {
-            None
+        if pos.row >= self.starts.len() {
+            return empty();
         }
+        let start = self.starts[pos.row];
+        let end = number_at(&self.starts, pos.row + 1, self.cells.len());
+        if pos.col >= end.saturating_sub(start) {
+            return empty();
+        }
+        cell_at(&self.cells, start + pos.col)
+    }
+}
+
+// A cell without a text.
+fn empty<'a>() -> Cell<'a>
+    ensures text { result.text.now ≡ [] }
+    ensures measured { IsMeasured result }
+{
+    Cell { text: "", width: 0 }
+}
+
+// The cell with this number, and behind the last an empty one.
+fn cell_at<'a>(cells: &[Cell<'a>], index: usize) -> Cell<'a>
+    requires { All IsMeasured cells.now }
+    ensures text { result.text.now ≡ slice_index_or (map (λ cell. cell.text.now) cells.now) index [] }
+    ensures measured { IsMeasured result }
+{
+    if index < cells.len() {
+        cells[index]
+    } else {
+        empty()
+    }
+}
+
+// The number at this place, and behind the last the other one.
+fn number_at(numbers: &[usize], index: usize, other: usize) -> usize
+    ensures { result ≡ slice_index_or numbers.now index other }
+{
+    match numbers.get(index) {
+        Some(number) => *number,
+        None => other,
     }
 }
 
@@ -90,10 +118,7 @@ impl<'a> ExactRecords for PlacedRows<'a> {
 /// A cell is one line, with the bytes that it has in the text.
 impl<'a> PeekableRecords for PlacedRows<'a> {
     fn get_text(&self, pos: Position) -> &str {
-        match self.get(pos) {
-            Some(cell) => cell.text,
-            None => "",
-        }
+        self.cell(pos).text
     }
 
     fn get_line(
@@ -113,16 +138,6 @@ impl<'a> PeekableRecords for PlacedRows<'a> {
     }
 
     fn get_width(&self, pos: Position) -> usize {
-        match self.get(pos) {
-            Some(cell) => cell.width,
-            None => 0,
-        }
-    }
-
-    fn get_line_width(&self, pos: Position, line: usize) -> usize {
-        if line > 0 {
-            return 0;
-        }
-        self.get_width(pos)
+        self.cell(pos).width
     }
 }

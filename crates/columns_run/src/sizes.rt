@@ -66,7 +66,7 @@ fn totalled(
     heights: Vec<usize>,
     style: &CompactConfig,
 ) -> Result<Sizes, Fault>
-    ensures sizes { IfOk result (λ sizes. (sizes.widths ≡ widths) × (sizes.heights ≡ heights)) }
+    ensures sizes { IfOk result (λ sizes. (sizes.widths.items ≡ widths.items) × (sizes.heights.items ≡ heights.items)) }
     ensures lines { IfOk result (λ sizes. sizes.lines ≡ line_count (frame_of (compact_look (compact_of style.now)) widths.items heights.items)) }
     ensures fits { OnOk result (InRange (frame_of (compact_look (compact_of style.now)) widths.items heights.items)) }
     ensures refused { IfErr result (λ fault. (fault ≡ Range) × (¬ (InRange (frame_of (compact_look (compact_of style.now)) widths.items heights.items)))) }
@@ -93,11 +93,14 @@ fn lines_of(widths: &[usize], heights: &[usize], style: &CompactConfig) -> Resul
     let margin = style.get_margin();
     let boundaries = borders.count_vertical(widths.len());
     match total(widths, boundaries, margin.left.size, margin.right.size) {
-        Ok(_) => {}
+        Ok(_columns) => {}
         Err(fault) => return Err(fault),
     }
     let boundaries = borders.count_horizontal(heights.len());
-    total(heights, boundaries, margin.top.size, margin.bottom.size)
+    match total(heights, boundaries, margin.top.size, margin.bottom.size) {
+        Ok(lines) => Ok(lines),
+        Err(fault) => Err(fault),
+    }
 }
 
 /// The greatest of the numbers, and 0 where there is none.

@@ -1,7 +1,7 @@
 //! Whether a style draws straight lines without colours.
 ghost use Rattle.std.specs.Prelude.{◌≡◌, ◌↔◌, ◌&&◌, IfSome, IsTrue};
 ghost use Rattle.grid_config.specs.Compact.{border_colors, compact_of, side_colors};
-ghost use Rattle.columns_run.specs.Plain.{GlyphsAre, IsPlain, IsPlainCharacter, are_borders_uncolored, are_sides_uncolored, is_uncolored};
+ghost use Rattle.columns_run.specs.Plain.{ArePlain, GlyphsAre, IsPlain, IsPlainCharacter, are_borders_uncolored, are_sides_uncolored, is_uncolored};
 ghost use Rattle.papergrid_picture.specs.Shown.{OnEachSide};
 ghost use Rattle.grid_config_colors.specs.Colors.{color_of, is_no_color};
 ghost use Rattle.std.specs.Option.{option_map};
@@ -14,6 +14,13 @@ use grid_records_measure::get_char_width;
 /// colour is set: a colour with empty texts is none. Takes no memory.
 pub fn style_is_plain(style: &CompactConfig) -> bool
     ensures { IsTrue result ↔ IsPlain (compact_of style.now) }
+{
+    are_settings_plain(style)
+}
+
+// The same, setting by setting.
+fn are_settings_plain(style: &CompactConfig) -> bool
+    ensures { IsTrue result ↔ ArePlain (compact_of style.now) }
 {
     glyphs_are_plain(style.get_borders())
         && fills_are_plain(style.get_margin())

@@ -2,7 +2,7 @@ use Rattle.std.proofs.Common.{◌≡◌, ℕ, ◌+◌, ◌-◌, ◌<◌, ◌≤�
 use Rattle.std.specs.Int.{is_in_range}
 use Rattle.std.proofs.lemmas.List.{length-map}
 use Rattle.columns_run.specs.Rows.{line_feed, tab}
-use Rattle.columns_run.specs.Cells.{shown, byte_line}
+use Rattle.columns_run.specs.Cells.{Line, shown, byte_line}
 use Rattle.grid_records_measure.specs.Measures.{are_printable}
 use Rattle.columns_run.specs.declared.rows.Cell.{Cell}
 use Rattle.columns_run.proofs.PassLemmas.{Pass, AreRows, cell-last, Pass-start, Pass-tab, Pass-line_feed, Pass-printable, Pass-other, Pass-last, Pass-none}
