@@ -15,5 +15,6 @@ pub mod ServeLemmas
 pub mod ShowLemmas
 pub mod SizeLemmas
 pub mod SplitLemmas
+pub mod TableLemmas
 pub mod TextLemmas
 pub mod WorkedLemmas

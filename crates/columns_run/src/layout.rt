@@ -1,5 +1,5 @@
 //! The table of a text.
-ghost use Rattle.std.specs.Prelude.{◌≡◌, ◌≢◌, All, false, sum, vec_len, IfErr, IfOk, OnOk, string_bytes};
+ghost use Rattle.std.specs.Prelude.{◌≡◌, ◌≢◌, ◌++◌, ◌∷◌, [], All, None, false, slice_index, sum, vec_len, IfErr, IfOk, OnOk, string_bytes};
 ghost use Rattle.ansi_scan.specs.Sequences.{IsWhole};
 ghost use Rattle.ansi_str.specs.StyledText.{has_escape};
 ghost use Rattle.grid_config.specs.Compact.{compact_of};
@@ -9,7 +9,11 @@ ghost use Rattle.papergrid_picture.specs.Fitting.{InRange};
 ghost use Rattle.papergrid_picture.specs.Frame.{line_count};
 ghost use Rattle.columns_run.specs.Layout.{frame_under, heights_of, output_of, rows_text, TableFits, widths_of};
 ghost use Rattle.columns_run.specs.Cells.{rows_shown, texts_of_lines};
-ghost use Rattle.columns_run.specs.Records.{IsMeasured};
+ghost use Rattle.columns_run.specs.Records.{IsMeasured, placed_texts};
+ghost use Rattle.columns_run.specs.Rows.{line_feed};
+ghost use Rattle.grid_config.specs.Looks.{look_of};
+ghost use Rattle.papergrid.specs.Grids.{grid_text};
+ghost use Rattle.papergrid_fits.specs.Tables.{Fits};
 
 use crate::options::Options;
 use crate::parts::{cell_parts, measured, row_parts, texts};
@@ -80,12 +84,31 @@ fn printed(
     ensures table { IfOk result (λ table. string_bytes table ≡ rows_text (compact_of style.now) (texts_of_lines (rows_shown rows.entry))) }
     ensures refused { IfErr result (λ fault. fault ≡ Memory) }
 {
-    let settings = SpannedConfig::from_compact_config(alloc, *style)?;
     let columns = greatest(&rows.counts);
     let Rows { cells, counts } = rows;
     let records = PlacedRows::new(cells, counts, columns);
-    let grid = PeekableGrid::new(records, &settings, sizes, NoColors);
+    let settings = SpannedConfig::from_compact_config(alloc, *style)?;
+    let text = text_of_grid(alloc, records, &settings, sizes);
+    end(settings);
+    text
+}
+
+// The text of these records with a line feed behind its last line, where they fit the sizes.
+fn text_of_grid(
+    alloc: Global,
+    records: PlacedRows<'_>,
+    settings: &SpannedConfig,
+    sizes: Sizes,
+) -> Result<String, Fault>
+    requires { Fits settings.now (slice_index sizes.widths.items) (slice_index sizes.heights.items) records.columns (placed_texts records.starts.items records.cells.items) }
+    ensures text { IfOk result (λ text. string_bytes text ≡ grid_text (look_of settings.now) (slice_index sizes.widths.items) (slice_index sizes.heights.items) (λ _. None) records.entry.columns (placed_texts records.entry.starts.items records.entry.cells.items) ++ line_feed ∷ []) }
+    ensures refused { IfErr result (λ fault. fault ≡ Memory) }
+{
+    let grid = PeekableGrid::new(records, settings, sizes, NoColors);
     let mut text = grid.to_string(alloc)?;
-    text.push('\n')?;
+    text.push_str("\n")?;
     Ok(text)
 }
+
+// Lets the settings go, in one place.
+fn end(_settings: SpannedConfig) {}
