@@ -26,4 +26,3 @@ pub AllByRecursion-get_or : {A : Type 0} (P : A → Type 0) (xs : List A) (i : �
 AllByRecursion-get_or P [] i d all default = default
 AllByRecursion-get_or P (x ∷ xs) zero d all default = all.0
 AllByRecursion-get_or P (x ∷ xs) (suc i) d all default = AllByRecursion-get_or P xs i d all.1 default
-

@@ -125,6 +125,7 @@ module _ (borders : Borders ℕ) (are : GlyphsAre IsPlainCharacter borders) wher
 
 -- a plain style shows nothing but its characters
 pub bare : (style : Compact) → IsPlain style → IsBare (compact_look style)
+unfolding IsPlain
 bare style plain =
     let borders = style.borders_color in
     let none = plain.uncolored.borders in
@@ -244,6 +245,7 @@ module _ (b : Borders Color) where
 
 -- the style is plain where each of its settings is
 pub plain-settings : (style : Compact) → ArePlain style → IsPlain style
+unfolding IsPlain
 plain-settings style are = record {
   glyphs = are.0;
   margin = are.1;
@@ -252,6 +254,7 @@ plain-settings style are = record {
 }
 
 pub settings-plain : (style : Compact) → IsPlain style → ArePlain style
+unfolding IsPlain
 settings-plain style plain = (
   plain.glyphs,
   plain.margin,
@@ -267,6 +270,7 @@ plain-ascii : (c : ℕ) → is_one_column c ≡ true → IsScalar c → is_contr
 plain-ascii c one scalar no_control = record { scalar = scalar; one_column = one-column c one; no_control = no_control }
 
 pub default-plain : IsPlain ascii_settings
+unfolding IsPlain
 default-plain =
     let dash = plain-ascii 0x2d refl refl refl in
     let bar = plain-ascii 0x7c refl refl refl in

@@ -29,11 +29,15 @@ GlyphsAre P b =
     × ThreeAre P b.left b.vertical b.right
 
 -- each glyph and each fill is such a character, and no colour is set: a set one is there and not empty
-pub record IsPlain (style : Compact) : Type 0 where
+pub record PlainStyle (style : Compact) : Type 0 where
   pub glyphs : GlyphsAre IsPlainCharacter style.borders
   pub margin : OnEachSide (λ indent. IsPlainCharacter indent.fill) style.margin
   pub padding : OnEachSide (λ indent. IsPlainCharacter indent.fill) style.padding
   pub uncolored : IsUncolored style
+
+-- the same, as a word that searches leave closed
+unfoldable pub IsPlain : Compact → Type 0
+IsPlain style = PlainStyle style
 
 -- ---- no colour, as a test
 

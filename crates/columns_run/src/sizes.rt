@@ -61,11 +61,7 @@ pub fn sizes_of(alloc: Global, rows: &Rows<'_>, style: &CompactConfig) -> Result
 
 /// The sizes with the lines that they take together. Refused as `Range` where the columns of a line or
 /// the lines pass `usize::MAX`. Takes no memory.
-fn totalled(
-    widths: Vec<usize>,
-    heights: Vec<usize>,
-    style: &CompactConfig,
-) -> Result<Sizes, Fault>
+fn totalled(widths: Vec<usize>, heights: Vec<usize>, style: &CompactConfig) -> Result<Sizes, Fault>
     ensures sizes { IfOk result (λ sizes. (sizes.widths.items ≡ widths.items) × (sizes.heights.items ≡ heights.items)) }
     ensures lines { IfOk result (λ sizes. sizes.lines ≡ line_count (frame_of (compact_look (compact_of style.now)) widths.items heights.items)) }
     ensures fits { OnOk result (InRange (frame_of (compact_look (compact_of style.now)) widths.items heights.items)) }

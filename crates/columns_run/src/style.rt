@@ -34,18 +34,19 @@ fn are_settings_plain(style: &CompactConfig) -> bool
 fn glyphs_are_plain(borders: &Borders<char>) -> bool
     ensures { IsTrue result ↔ GlyphsAre IsPlainCharacter borders.now }
 {
-    are_plain(borders.top_left, borders.top_intersection, borders.top_right)
-        && are_plain(
-            borders.left_intersection,
-            borders.intersection,
-            borders.right_intersection,
-        )
-        && are_plain(
-            borders.bottom_left,
-            borders.bottom_intersection,
-            borders.bottom_right,
-        )
-        && are_plain(borders.top, borders.horizontal, borders.bottom)
+    are_plain(
+        borders.top_left,
+        borders.top_intersection,
+        borders.top_right,
+    ) && are_plain(
+        borders.left_intersection,
+        borders.intersection,
+        borders.right_intersection,
+    ) && are_plain(
+        borders.bottom_left,
+        borders.bottom_intersection,
+        borders.bottom_right,
+    ) && are_plain(borders.top, borders.horizontal, borders.bottom)
         && are_plain(borders.left, borders.vertical, borders.right)
 }
 
@@ -97,18 +98,19 @@ fn sides_are_uncolored(colors: &Sides<ANSIStr<'static>>) -> bool
 fn borders_are_uncolored(colors: &Borders<ANSIStr<'static>>) -> bool
     ensures { result ≡ are_borders_uncolored (border_colors colors.now) }
 {
-    are_uncolored(&colors.top_left, &colors.top_intersection, &colors.top_right)
-        && are_uncolored(
-            &colors.left_intersection,
-            &colors.intersection,
-            &colors.right_intersection,
-        )
-        && are_uncolored(
-            &colors.bottom_left,
-            &colors.bottom_intersection,
-            &colors.bottom_right,
-        )
-        && are_uncolored(&colors.top, &colors.horizontal, &colors.bottom)
+    are_uncolored(
+        &colors.top_left,
+        &colors.top_intersection,
+        &colors.top_right,
+    ) && are_uncolored(
+        &colors.left_intersection,
+        &colors.intersection,
+        &colors.right_intersection,
+    ) && are_uncolored(
+        &colors.bottom_left,
+        &colors.bottom_intersection,
+        &colors.bottom_right,
+    ) && are_uncolored(&colors.top, &colors.horizontal, &colors.bottom)
         && are_uncolored(&colors.left, &colors.vertical, &colors.right)
 }
 

@@ -30,6 +30,9 @@ known c =
     ] in
     subst (λ bytes. Known options bytes c.if-ansi_has_any.table) same of_text
 
+told_by : (table : Result (String Global) Fault) (given : Fault) (P : Type 0) → table ≡ Err given → IfErr table (λ fault. IsRefusal fault P) → IsRefusal given P
+told_by table given P e all = subst (λ r. IfErr r (λ fault. IsRefusal fault P)) e all
+
 -- a text has no table for the reason that is told
 refused : (options : Options) (bytes : List ℕ) (given : Fault) (result : Result (String Global) RunFault) → result ≡ Err (run_fault given) → IsUtf8 bytes → IsWhole bytes → IsRefusal given (¬ (TableFits options bytes)) → MayAnswer options bytes result
 refused options bytes given result is utf8 whole (inl memory) = subst (MayAnswer options bytes) (sym (is ∙ ap (λ fault. Err (run_fault fault)) memory)) tt
@@ -42,13 +45,13 @@ of_input P given result is (inr passes) = subst (λ r. IfErr r IsOfInput) (sym (
 pub returns-in_err-table-clause-answers : goal.returns-in_err-table-clause-answers
 returns-in_err-table-clause-answers c =
     let facts = known (goal.at.returns-in_err-table-clause-answers c).Joined-ansi_has_any in
-    let told = subst (λ r. IfErr r (λ fault. IsRefusal fault (¬ (TableFits c.args.options.now c.args.bytes.now)))) (search rules) facts.2 in
+    let told = told_by c.if-ansi_has_any.table c.in_err-table.field-0.0 (¬ (TableFits c.args.options.now c.args.bytes.now)) (search rules) facts.2 in
     refused c.args.options.now c.args.bytes.now c.in_err-table.field-0.0 c.from_residual-in_err-table.result (search rules) c.in_ok-text.ensures.ok.1 facts.0 told
 
 pub returns-in_err-table-clause-faults : goal.returns-in_err-table-clause-faults
 returns-in_err-table-clause-faults c =
     let facts = known (goal.at.returns-in_err-table-clause-faults c).Joined-ansi_has_any in
-    let told = subst (λ r. IfErr r (λ fault. IsRefusal fault (¬ (TableFits c.args.options.now c.args.bytes.now)))) (search rules) facts.2 in
+    let told = told_by c.if-ansi_has_any.table c.in_err-table.field-0.0 (¬ (TableFits c.args.options.now c.args.bytes.now)) (search rules) facts.2 in
     of_input _ c.in_err-table.field-0.0 c.from_residual-in_err-table.result (search rules) told
 
 pub returns-clause-answers : goal.returns-clause-answers

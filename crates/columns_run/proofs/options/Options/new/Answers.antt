@@ -1,4 +1,4 @@
-use Rattle.std.proofs.Common.{subst, sym}
+use Rattle.std.proofs.Common.{rules, subst, sym}
 use Rattle.columns_run.specs.Plain.{IsPlain}
 use Rattle.columns_run.proofs.PlainLemmas.{default-plain}
 use Rattle.columns_run.proofs.options.Options.new.Goals as goal
