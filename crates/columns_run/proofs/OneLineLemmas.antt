@@ -1,6 +1,6 @@
 -- The cells of a text are one line each, of which the width is known.
-use Rattle.std.proofs.Common.{◌≡◌, ℕ, ◌<◌, ◌==◌, cond, max, All, List, [], ◌∷◌, map, length, sum, take, drop, refl, ap, sym, subst, ◌∙◌, arith, lit<, length-drop, vec_items}
-use Rattle.std.specs.List.{slice_split, onto_first, AllByRecursion}
+use Rattle.std.proofs.Common.{◌≡◌, ℕ, ◌<◌, ◌==◌, ◌||◌, false, cond, max, All, List, [], ◌∷◌, map, length, sum, take, drop, refl, ap, sym, subst, ◌∙◌, arith, lit<, length-drop, vec_items}
+use Rattle.std.specs.List.{slice_split, onto_first, AllByRecursion, list_any}
 use Rattle.std.proofs.lemmas.List.{nil_from_length, take-append-drop}
 use Rattle.std.proofs.lemmas.List.Elements.{All-from_recursion}
 use Rattle.std.proofs.lemmas.List.Sums.{sum_by-cons}
@@ -12,17 +12,15 @@ use Rattle.ansi_str.specs.StyledText.{strip}
 use Rattle.ansi_str_search.proofs.AllParts.{strip-styled_parts}
 use Rattle.ansi_str_search.proofs.StdSplits.{split_at_one_byte}
 use Rattle.grid_records_measure.specs.TextLines.{is_line_feed, line_feed, widest}
-use Rattle.grid_records_traits.specs.Cells.{HasLineCount, HasWidth}
-use Rattle.columns_run.specs.Estimates.{Line}
-use Rattle.columns_run.specs.Layout.{part_line}
-use Rattle.columns_run.specs.Printing.{shown, cut, line_rows, rows_shown}
-use Rattle.columns_run.specs.Records.{IsMeasured}
+use Rattle.columns_run.specs.Cells.{Line, shown, cut, line_rows, part_line, rows_shown}
+use Rattle.columns_run.specs.Records.{IsMeasured, IsOneLine}
 use Rattle.columns_run.specs.Rows.{tab, stripped, places, parts_at, row_parts, cell_parts}
 use Rattle.columns_run.specs.declared.rows.Rows.{Rows}
 use Rattle.columns_run.proofs.ItemLemmas.{AllByRecursion-append, AllByRecursion-map_of}
-use Rattle.columns_run.proofs.PictureLemmas.{Fails, closed_rows, slice_split-fails, slice_split-keeps, without_bare_last-keeps}
+use Rattle.columns_run.proofs.CellLemmas.{Fails, closed_rows, slice_split-fails, slice_split-keeps, without_bare_last-keeps}
+use Rattle.columns_run.proofs.RecordLemmas.{only_line}
 use Rattle.columns_run.proofs.PlaceLemmas.{AreMatches-places}
-use Rattle.columns_run.proofs.SplitLemmas.{IsWholeText, IsClosedPart, whole-closed}
+use Rattle.columns_run.proofs.SplitLemmas.{IsWholeText, IsClosedPart, closed-parts_at, whole-closed}
 
 -- ---- what a text without line feed shows
 
@@ -35,19 +33,24 @@ slice_split-none (b ∷ bs) none =
     ap (λ test. cond test ([] ∷ slice_split is_line_feed bs) (onto_first b (slice_split is_line_feed bs))) none.0
     ∙ ap (onto_first b) (slice_split-none bs none.1)
 
-abbrev IsOneLine : List ℕ → Type 0
-IsOneLine part = NoLineFeeds (stripped part)
+abbrev HasOneLine : List ℕ → Type 0
+HasOneLine part = NoLineFeeds (stripped part)
 
 -- a line, and what it measures
-abbrev IsMeasuredLine : Line ℕ → Type 0
-IsMeasuredLine line = HasLineCount line.items 1 × HasWidth line.items line.measure
+abbrev IsMeasuredLine : Line → Type 0
+IsMeasuredLine line = IsOneLine line.items line.measure
 
-part-measured : (part : List ℕ) → IsOneLine part → IsMeasuredLine (part_line part)
-part-measured part one =
+no_feed : (bytes : List ℕ) → NoLineFeeds bytes → list_any (λ byte. byte == 0x0a) bytes ≡ false
+no_feed [] none = refl
+no_feed (b ∷ bs) none = ap (λ t. t || list_any (λ byte. byte == 0x0a) bs) none.0 ∙ no_feed bs none.1
+
+part-measured : (part : List ℕ) → IsClosedPart part × HasOneLine part → IsMeasuredLine (part_line part)
+part-measured part (whole, one) =
     let lines : (ps : List Piece) → ArePiecesOf part ps → stripped part ∷ [] ≡ slice_split is_line_feed (strip ps) =
     λ ps of_text. sym (slice_split-none (stripped part) one) ∙ ap (λ found. slice_split is_line_feed (strip found)) (pieces-ArePiecesOf part ps of_text) in (
       λ ps of_text. ap (λ found. length found) (lines ps of_text),
       λ ps of_text. sym (max-none (part_line part).measure) ∙ ap widest (lines ps of_text),
+      only_line part (record { pieces = pieces part; of_line = ArePiecesOf-pieces part; closed = whole.closed; one_line = no_feed (stripped part) one }),
     )
   where
     max-none : (n : ℕ) → max n 0 ≡ n
@@ -71,12 +74,12 @@ both : {A : Type 0} (P Q : A → Type 0) (xs : List A) → AllByRecursion P xs �
 both P Q [] first second = tt
 both P Q (x ∷ xs) first second = ((first.0, second.0), both P Q xs first.1 second.1)
 
-lines-one : (text : List ℕ) → IsWholeText text → AllByRecursion IsOneLine (parts_at line_feed text)
+lines-one : (text : List ℕ) → IsWholeText text → AllByRecursion HasOneLine (parts_at line_feed text)
 lines-one text whole =
     of_images NoLineFeeds stripped (parts_at line_feed text)
     (subst (AllByRecursion NoLineFeeds) (sym (stripped-parts_at line_feed text (lit< tt) whole)) (slice_split-fails is_line_feed (stripped text)))
 
-cells-one : (row : List ℕ) → IsWholeText row → IsOneLine row → AllByRecursion IsOneLine (parts_at tab row)
+cells-one : (row : List ℕ) → IsWholeText row → HasOneLine row → AllByRecursion HasOneLine (parts_at tab row)
 cells-one row whole one =
     of_images NoLineFeeds stripped (parts_at tab row)
     (subst (AllByRecursion NoLineFeeds) (sym (stripped-parts_at tab row (lit< tt) whole)) (slice_split-keeps (Fails is_line_feed) (λ b. b == tab) (stripped row) one))
@@ -84,13 +87,13 @@ cells-one row whole one =
 rows-measured : (text : List ℕ) → IsWholeText text → AllByRecursion (AllByRecursion IsMeasuredLine) (line_rows text)
 rows-measured text whole =
     let rows = row_parts text in
-    let one = without_bare_last-keeps IsOneLine (parts_at line_feed text) (lines-one text whole) in
-    AllByRecursion-map_of (AllByRecursion IsOneLine) (AllByRecursion IsMeasuredLine) (map part_line)
-    (λ cells each. AllByRecursion-map_of IsOneLine IsMeasuredLine part_line part-measured cells each)
+    let one = without_bare_last-keeps HasOneLine (parts_at line_feed text) (lines-one text whole) in
+    AllByRecursion-map_of (AllByRecursion (λ part. IsClosedPart part × HasOneLine part)) (AllByRecursion IsMeasuredLine) (map part_line)
+    (λ cells each. AllByRecursion-map_of (λ part. IsClosedPart part × HasOneLine part) IsMeasuredLine part_line part-measured cells each)
     (cell_parts text)
-    (AllByRecursion-map_of (λ row. IsClosedPart row × IsOneLine row) (AllByRecursion IsOneLine) (parts_at tab)
-    (λ row known. cells-one row (whole-closed row known.0) known.1) rows
-    (both IsClosedPart IsOneLine rows (closed_rows text whole) one))
+    (AllByRecursion-map_of (λ row. IsClosedPart row × HasOneLine row) (AllByRecursion (λ part. IsClosedPart part × HasOneLine part)) (parts_at tab)
+    (λ row known. both IsClosedPart HasOneLine (parts_at tab row) (closed-parts_at tab row (lit< tt) (whole-closed row known.0)) (cells-one row (whole-closed row known.0) known.1)) rows
+    (both IsClosedPart HasOneLine rows (closed_rows text whole) one))
 
 -- ---- the cells of the rows
 

@@ -8,14 +8,13 @@ use Rattle.std.proofs.lemmas.Bool.Decides.{nat_tests}
 use Rattle.std.proofs.lemmas.List.Folds.{list_all-append}
 use Rattle.std.proofs.lemmas.List.{drop_more, drop_all, take_all, take_more, get_or-drop}
 use Rattle.columns_run.specs.Rows.{line_feed, tab, rows_of}
-use Rattle.columns_run.specs.Estimates.{Line}
-use Rattle.columns_run.specs.Printing.{byte_line, cut}
+use Rattle.columns_run.specs.Cells.{Line, byte_line, cut}
 use Rattle.grid_records_measure.specs.Measures.{are_printable}
 use Rattle.columns_run.proofs.RowLemmas.{rows_from-start, rows_with, rows_with-tab, rows_with-line_feed, rows_with-other, rows_with-last, rows_with-none, sum-more}
 
 -- before the byte at `end`: the present cell begins at `start`, and `count` cells of the present row stand before it;
 -- `plain` where its bytes are printable; the rows that have ended have `counts` cells, and `lines` are all cells so far
-pub record Pass (text : List ℕ) (end start count : ℕ) (plain : Bool) (counts : List ℕ) (lines : List (Line ℕ)) : Type 0 where
+pub record Pass (text : List ℕ) (end start count : ℕ) (plain : Bool) (counts : List ℕ) (lines : List (Line)) : Type 0 where
   pub ordered : start ≤ end
   pub few : count ≤ start
   pub boundary : IsCharBoundary text start
@@ -52,7 +51,7 @@ Pass-start text utf8 = record {
 
 -- ---- a byte
 
-pub Pass-tab : (text : List ℕ) (end start count : ℕ) (plain : Bool) (counts : List ℕ) (lines pushed : List (Line ℕ)) → IsUtf8 text → end < length text → Pass text end start count plain counts lines
+pub Pass-tab : (text : List ℕ) (end start count : ℕ) (plain : Bool) (counts : List ℕ) (lines pushed : List (Line)) → IsUtf8 text → end < length text → Pass text end start count plain counts lines
     → get_or text end 0 ≡ tab → pushed ≡ lines ++ byte_line (slice_range text start end) ∷ [] → Pass text (end + 1) (end + 1) (count + 1) true counts pushed
 Pass-tab text end start count plain counts lines pushed utf8 below pass same is =
     let cell = slice_range text start end in
@@ -72,7 +71,7 @@ Pass-tab text end start count plain counts lines pushed utf8 below pass same is 
           ∙ pass.rows;
     }
 
-pub Pass-line_feed : (text : List ℕ) (end start count : ℕ) (plain : Bool) (counts ended : List ℕ) (lines pushed : List (Line ℕ)) → IsUtf8 text → end < length text → Pass text end start count plain counts lines
+pub Pass-line_feed : (text : List ℕ) (end start count : ℕ) (plain : Bool) (counts ended : List ℕ) (lines pushed : List (Line)) → IsUtf8 text → end < length text → Pass text end start count plain counts lines
     → get_or text end 0 ≡ line_feed → pushed ≡ lines ++ byte_line (slice_range text start end) ∷ [] → ended ≡ counts ++ (count + 1) ∷ [] → Pass text (end + 1) (end + 1) 0 true ended pushed
 Pass-line_feed text end start count plain counts ended lines pushed utf8 below pass same is ends =
     let cell = slice_range text start end in
@@ -93,7 +92,7 @@ Pass-line_feed text end start count plain counts ended lines pushed utf8 below p
     }
 
 -- a byte within the present cell
-Pass-within : (text : List ℕ) (end start count : ℕ) (plain still_plain : Bool) (counts : List ℕ) (lines : List (Line ℕ)) → end < length text → Pass text end start count plain counts lines
+Pass-within : (text : List ℕ) (end start count : ℕ) (plain still_plain : Bool) (counts : List ℕ) (lines : List (Line)) → end < length text → Pass text end start count plain counts lines
     → (get_or text end 0 ≡ tab → ⊥) → (get_or text end 0 ≡ line_feed → ⊥) → (still_plain ≡ true → are_printable (slice_range text start end ++ get_or text end 0 ∷ []) ≡ true)
     → Pass text (end + 1) start count still_plain counts lines
 Pass-within text end start count plain still_plain counts lines below pass no_tab no_line_feed printable =
@@ -115,7 +114,7 @@ Pass-within text end start count plain still_plain counts lines below pass no_ta
 above_line_feed : (b : ℕ) → is_in_range 0x20 0x7E b ≡ true → line_feed < b
 above_line_feed b h = grind (arith, nat_tests)
 
-pub Pass-printable : (text : List ℕ) (end start count : ℕ) (plain : Bool) (counts : List ℕ) (lines : List (Line ℕ)) → end < length text → Pass text end start count plain counts lines
+pub Pass-printable : (text : List ℕ) (end start count : ℕ) (plain : Bool) (counts : List ℕ) (lines : List (Line)) → end < length text → Pass text end start count plain counts lines
     → is_in_range 0x20 0x7E (get_or text end 0) ≡ true → Pass text (end + 1) start count plain counts lines
 Pass-printable text end start count plain counts lines below pass here =
     let cell = slice_range text start end in
@@ -124,7 +123,7 @@ Pass-printable text end start count plain counts lines below pass here =
     Pass-within text end start count plain plain counts lines below pass (λ is_tab. omega arith) (λ is_line_feed. omega arith) (λ h.
     list_all-append (is_in_range 0x20 0x7E) cell (byte ∷ []) ∙ ap (λ b. b && are_printable (byte ∷ [])) (pass.printable h) ∙ ap (λ b. b && true) here)
 
-pub Pass-other : (text : List ℕ) (end start count : ℕ) (plain : Bool) (counts : List ℕ) (lines : List (Line ℕ)) → end < length text → Pass text end start count plain counts lines
+pub Pass-other : (text : List ℕ) (end start count : ℕ) (plain : Bool) (counts : List ℕ) (lines : List (Line)) → end < length text → Pass text end start count plain counts lines
     → (get_or text end 0 ≡ tab → ⊥) → (get_or text end 0 ≡ line_feed → ⊥) → Pass text (end + 1) start count false counts lines
 Pass-other text end start count plain counts lines below pass no_tab no_line_feed =
     Pass-within text end start count plain false counts lines below pass no_tab no_line_feed (λ h. cc)
@@ -132,18 +131,18 @@ Pass-other text end start count plain counts lines below pass no_tab no_line_fee
 -- ---- the end
 
 -- the cells of these rows
-pub record AreRows (text counts : List ℕ) (lines : List (Line ℕ)) : Type 0 where
+pub record AreRows (text counts : List ℕ) (lines : List (Line)) : Type 0 where
   pub whole : sum counts ≡ length lines
   pub rows : cut counts lines ≡ map (map byte_line) (rows_of (λ b. b) text)
 
-at-end : (text : List ℕ) (end start count : ℕ) (plain : Bool) (counts : List ℕ) (lines : List (Line ℕ)) → length text ≤ end → Pass text end start count plain counts lines
+at-end : (text : List ℕ) (end start count : ℕ) (plain : Bool) (counts : List ℕ) (lines : List (Line)) → length text ≤ end → Pass text end start count plain counts lines
     → rows_with byte_line counts lines (drop start text) [] ≡ map (map byte_line) (rows_of (λ b. b) text)
 at-end text end start count plain counts lines all pass =
     ap (λ cell. rows_with byte_line counts lines cell []) (sym (cell-last text start end all))
     ∙ ap (rows_with byte_line counts lines (slice_range text start end)) (sym (drop_all end text all))
     ∙ pass.rows
 
-pub Pass-last : (text : List ℕ) (end start count : ℕ) (plain : Bool) (counts ended : List ℕ) (lines pushed : List (Line ℕ)) → length text ≤ end → Pass text end start count plain counts lines
+pub Pass-last : (text : List ℕ) (end start count : ℕ) (plain : Bool) (counts ended : List ℕ) (lines pushed : List (Line)) → length text ≤ end → Pass text end start count plain counts lines
     → 0 < count + (length text - start) → pushed ≡ lines ++ byte_line (drop start text) ∷ [] → ended ≡ counts ++ (count + 1) ∷ [] → AreRows text ended pushed
 Pass-last text end start count plain counts ended lines pushed all pass some is ends =
     let cell = drop start text in
@@ -157,7 +156,7 @@ Pass-last text end start count plain counts ended lines pushed all pass some is 
           ∙ at-end text end start count plain counts lines all pass;
     }
 
-pub Pass-none : (text : List ℕ) (end start count : ℕ) (plain : Bool) (counts : List ℕ) (lines : List (Line ℕ)) → length text ≤ end → Pass text end start count plain counts lines
+pub Pass-none : (text : List ℕ) (end start count : ℕ) (plain : Bool) (counts : List ℕ) (lines : List (Line)) → length text ≤ end → Pass text end start count plain counts lines
     → count ≤ 0 → length text ≤ start → AreRows text counts lines
 Pass-none text end start count plain counts lines all pass no_cells no_bytes =
     let cell = drop start text in

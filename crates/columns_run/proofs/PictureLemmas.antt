@@ -1,272 +1,239 @@
 -- What the output shows.
-use Rattle.std.proofs.Common.{◌≡◌, ◌≢◌, ℕ, suc, ◌<◌, ◌≤◌, ◌==◌, Bool, true, false, cond, All, List, [], ◌∷◌, map, flat_map, length, refl, ap, sym, subst, ◌∙◌, arith, append-nil, if◌then◌else◌, lit<, eq-eqb}
-use Rattle.std.specs.Prelude.{chars, encode_utf8, encode_utf8_all, IsUtf8}
-use Rattle.std.specs.Int.{is_in_range}
-use Rattle.std.specs.List.{slice_split, onto_first, AllByRecursion}
-use Rattle.std.proofs.lemmas.Bool.Decides.{nat_tests}
-use Rattle.std.proofs.lemmas.List.Elements.{All-from_recursion}
+use Rattle.std.proofs.Common.{◌≡◌, ◌==◌, ℕ, Bool, true, false, All, List, [], ◌∷◌, ◌++◌, length, map, refl, ap, sym, subst, ◌∙◌, arith, lit<, if◌then◌else◌}
+use Rattle.std.specs.Prelude.{chars, encode_utf8_all, IsUtf8, None}
+use Rattle.std.specs.Char.{IsScalar}
+use Rattle.std.specs.List.{AllByRecursion, slice_split}
+use Rattle.std.proofs.lemmas.Bool.{true≢false}
+use Rattle.std.proofs.lemmas.List.{map-append}
+use Rattle.std.proofs.lemmas.List.Elements.{All-nil, All-push}
 use Rattle.std.proofs.lemmas.Simd.{map-map}
-use Rattle.std.proofs.lemmas.Str.{chars-nil, encodes-chars}
-use Rattle.ansi_scan.specs.Sequences.{escape, NoneBroken, IsWhole}
+use Rattle.std.proofs.lemmas.Str.{chars-encodes, encode_ascii, encodes-append, encodes-chars, scalars-chars}
+use Rattle.ansi_scan.specs.Sequences.{Piece, ArePiecesOf, IsWhole, NoneBroken}
 use Rattle.ansi_scan.specs.Pieces.{pieces}
 use Rattle.ansi_scan.specs.Attributes.{plain_attributes}
 use Rattle.ansi_scan.proofs.Existence.{ArePiecesOf-pieces}
 use Rattle.ansi_scan.proofs.Uniqueness.{pieces-ArePiecesOf}
-use Rattle.ansi_str.specs.StyledText.{styled}
-use Rattle.columns_run.specs.Rows.{line_feed, tab, stripped, without_empty_last, rows_of, row_texts, parts_at, without_bare_last, row_parts, cell_parts}
-use Rattle.grid_records_measure.specs.Measures.{measure}
-use Rattle.columns_run.specs.Estimates.{Line}
-use Rattle.columns_run.specs.Picture.{picture_items}
-use Rattle.columns_run.specs.Readings.{read_line, read_rows}
-use Rattle.columns_run.specs.Layout.{grid_of, characters_of, styled_line, styled_rows, plain, picture_of, part_rows, output_of}
+use Rattle.ansi_str.specs.StyledText.{IsClosed, has_escape, strip, styled}
+use Rattle.ansi_str_text.proofs.Stripping.{has_escape-strip, strip-without_escape}
+use Rattle.grid_config.specs.Compact.{Compact, compact_of}
+use Rattle.grid_config.specs.Looks.{Look, compact_look}
+use Rattle.grid_records_measure.specs.TextLines.{shown_lines, text_height, text_width, widest}
+use Rattle.papergrid_picture.specs.Fitting.{InRange}
+use Rattle.papergrid_picture.specs.Frame.{Frame, line_count}
+use Rattle.papergrid_picture.specs.Shown.{AreWholeTexts, ArePlainTexts, IsBare, IsWholeText as IsWholeCell, IsPlainText, Styled, character_of, character_picture, in_plain, styled_picture, styled_texts}
+use Rattle.papergrid_picture.specs.Tables.{table_text}
+use Rattle.papergrid_picture.proofs.ItemLemmas.{feeds-plain, picture-characters, table-plain}
+use Rattle.papergrid_picture.proofs.ShownLemmas.{IsShown-feed, ShowsHere, ShowsHere-append, ShowsHere-character, ShowsHere-nothing, text-shown}
+use Rattle.columns_run.specs.Rows.{cell_parts, line_feed, row_texts, rows_of, stripped, tab}
+use Rattle.columns_run.specs.Layout.{characters_of, ended, frame_under, heights_of, output_of, picture, rows_text, table_characters, TableFits, texts_of, widths_of}
+use Rattle.columns_run.specs.Plain.{IsPlain}
 use Rattle.columns_run.specs.TableShown.{ShowsTableOf}
-use Rattle.columns_run.proofs.ReadingLemmas.{read-table}
-use Rattle.columns_run.proofs.ShowLemmas.{Styled, Shows, Shows-ascii, Shows-flat_map, Shows-styled, Shows-closed, IsUtf8-stripped, characters_of-styled}
-use Rattle.columns_run.proofs.SplitLemmas.{styled_characters, IsWholeText, IsClosedPart, whole-closed, styled-parts_at, closed-parts_at}
-use Rattle.columns_run.proofs.ItemLemmas.{AllByRecursion-keeps, AllByRecursion-map_of, map-same, items-hold}
+use Rattle.columns_run.specs.declared.options.Options.{Options}
+use Rattle.columns_run.proofs.CellLemmas.{closed_cells, rows_of-characters, styled-cell_parts, texts-stripped, whole_text}
+use Rattle.columns_run.proofs.ItemLemmas.{AllByRecursion-keeps, AllByRecursion-map_of, map-same}
+use Rattle.columns_run.proofs.PlaceLemmas.{IsWhole-without_escape, cell_parts-plain, pieces-none, plain_cells, stripped-without_escape}
+use Rattle.columns_run.proofs.PlainLemmas.{bare}
+use Rattle.columns_run.proofs.ShowLemmas.{IsUtf8-strip, TextsAreUtf8-pieces, chars-strip_from, characters_of-styled}
+use Rattle.columns_run.proofs.SizeLemmas.{same-frame, same-heights, same-widths}
+use Rattle.columns_run.proofs.SplitLemmas.{IsClosedPart, IsWholeText, styled_characters}
+use Rattle.columns_run.proofs.TextLemmas.{AreScalars, AreScalars-cells, AreScalars-slice_split, AreScalars-without_empty_last, rows_of-encodes}
 
--- ---- the rows and cells of the bytes are those of the styled characters
+-- ---- sizes without sequences
 
--- a text shows nothing exactly where nothing is left of it without its sequences
-shows-none : (text : List ℕ) → IsUtf8 text → stripped text ≡ [] → styled_characters text ≡ []
-shows-none text utf8 none = nothing (styled_characters text) (characters_of-styled text utf8 ∙ ap chars none ∙ chars-nil)
-  where
-    nothing : (cs : List Styled) → characters_of cs ≡ [] → cs ≡ []
-    nothing [] h = refl
-    nothing (c ∷ cs) h = absurd (cc h)
+stripped-none : stripped [] ≡ []
+stripped-none = ap strip pieces-none
 
-shows-some : (text : List ℕ) → IsUtf8 text → styled_characters text ≡ [] → stripped text ≡ []
-shows-some text utf8 none =
-    sym (encodes-chars (stripped text) (IsUtf8-stripped text utf8)) ∙ ap encode_utf8_all (sym (characters_of-styled text utf8) ∙ ap characters_of none)
+stripped-twice : (text : List ℕ) → stripped (stripped text) ≡ stripped text
+stripped-twice text = stripped-without_escape (stripped text) (has_escape-strip text (pieces text) (ArePiecesOf-pieces text))
 
-one_shown : (cs : List Styled) → (cs ≡ [] → ⊥) → cs ∷ [] ≡ without_empty_last (cs ∷ [])
-one_shown [] some = absurd (some refl)
-one_shown (c ∷ cs) some = refl
+stripped-width : (text : List ℕ) → text_width (stripped text) ≡ text_width text
+unfolding text_width
+stripped-width text = ap (λ shown. widest (slice_split (λ c. c == line_feed) shown)) (stripped-twice text)
 
-without_empty_last-more : (cs next : List Styled) (others : List (List Styled)) → without_empty_last (cs ∷ next ∷ others) ≡ cs ∷ without_empty_last (next ∷ others)
-without_empty_last-more [] next others = refl
-without_empty_last-more (c ∷ cs) next others = refl
+stripped-height : (text : List ℕ) → text_height (stripped text) ≡ text_height text
+unfolding text_height
+stripped-height text = ap (λ shown. length (slice_split (λ c. c == line_feed) shown)) (stripped-twice text)
 
-last_shown : (part left : List ℕ) → IsUtf8 part → stripped part ≡ left
-    → map styled_characters (if length left == 0 then [] else part ∷ []) ≡ without_empty_last (styled_characters part ∷ [])
-last_shown part [] utf8 is = ap (λ cs. without_empty_last (cs ∷ [])) (sym (shows-none part utf8 is))
-last_shown part (b ∷ bs) utf8 is =
-    let some : (length (b ∷ bs) == 0) ≡ false = some_length (length bs) in
-    ap (λ bare. map styled_characters (if bare then [] else part ∷ [])) some
-    ∙ one_shown (styled_characters part) (λ none. let both : [] ≡ b ∷ bs = sym (shows-some part utf8 none) ∙ is in cc both)
-  where
-    some_length : (n : ℕ) → (suc n == 0) ≡ false
-    some_length n = grind (arith, nat_tests)
+module _ (style : Compact) (text : List ℕ) (whole : IsWholeText text) where
+  abbrev cells : List (List (List ℕ))
+  cells = cell_parts text
 
-styled-without_bare_last : (parts : List (List ℕ)) → AllByRecursion IsClosedPart parts → map styled_characters (without_bare_last parts) ≡ without_empty_last (map styled_characters parts)
-styled-without_bare_last [] all = refl
-styled-without_bare_last (part ∷ []) all = last_shown part (stripped part) all.0.utf8 refl
-styled-without_bare_last (part ∷ next ∷ parts) all =
-    ap (λ others. styled_characters part ∷ others) (styled-without_bare_last (next ∷ parts) all.1)
-    ∙ sym (without_empty_last-more (styled_characters part) (styled_characters next) (map styled_characters parts))
+  abbrev texts : List (List (List ℕ))
+  texts = texts_of (chars (stripped text))
 
-one-if : (P : List ℕ → Type 0) (bare : Bool) (part : List ℕ) → P part → AllByRecursion P (if bare then [] else part ∷ [])
-one-if P true part here = tt
-one-if P false part here = (here, tt)
+  widths-stripped : widths_of style texts ≡ widths_of style cells
+  widths-stripped = ap (widths_of style) (texts-stripped text whole) ∙ same-widths stripped stripped-none style cells stripped-width stripped-height
 
-pub without_bare_last-keeps : (P : List ℕ → Type 0) (parts : List (List ℕ)) → AllByRecursion P parts → AllByRecursion P (without_bare_last parts)
-without_bare_last-keeps P [] all = tt
-without_bare_last-keeps P (part ∷ []) all = one-if P (length (stripped part) == 0) part all.0
-without_bare_last-keeps P (part ∷ next ∷ parts) all = (all.0, without_bare_last-keeps P (next ∷ parts) all.1)
+  heights-stripped : heights_of style texts ≡ heights_of style cells
+  heights-stripped = ap (heights_of style) (texts-stripped text whole) ∙ same-heights stripped stripped-none style cells stripped-width stripped-height
 
-module _ (text : List ℕ) (whole : IsWholeText text) where
-  pub closed_rows : AllByRecursion IsClosedPart (row_parts text)
-  closed_rows = without_bare_last-keeps IsClosedPart (parts_at line_feed text) (closed-parts_at line_feed text (lit< tt) whole)
+  pub frame-stripped : frame_under style texts ≡ frame_under style cells
+  frame-stripped = ap (frame_under style) (texts-stripped text whole) ∙ same-frame stripped stripped-none style cells stripped-width stripped-height
 
-  pub closed_cells : AllByRecursion (AllByRecursion IsClosedPart) (cell_parts text)
-  closed_cells =
-      AllByRecursion-map_of IsClosedPart (AllByRecursion IsClosedPart) (parts_at tab) (λ row closed. closed-parts_at tab row (lit< tt) (whole-closed row closed)) (row_parts text) closed_rows
+  whole_cells : AreWholeTexts cells
+  whole_cells =
+      AllByRecursion-keeps (AllByRecursion IsClosedPart) (AllByRecursion IsWholeCell)
+      (λ row closed. AllByRecursion-keeps IsClosedPart IsWholeCell (λ part good. record { utf8 = good.utf8; whole = good.closed.none_broken }) row closed)
+      cells (closed_cells text whole)
 
-  styled-row_parts : map styled_characters (row_parts text) ≡ row_texts (λ x. x.0) (styled_characters text)
-  styled-row_parts =
-      styled-without_bare_last (parts_at line_feed text) (closed-parts_at line_feed text (lit< tt) whole)
-      ∙ ap without_empty_last (styled-parts_at line_feed text (lit< tt) whole)
+-- ---- the output and the picture
 
-  pub styled-cell_parts : map (map styled_characters) (cell_parts text) ≡ rows_of (λ x. x.0) (styled_characters text)
-  styled-cell_parts =
-      let cells = slice_split (λ (x : Styled). x.0 == tab) in
-      map-map (map styled_characters) (parts_at tab) (row_parts text)
-      ∙ map-same IsClosedPart (λ row. map styled_characters (parts_at tab row)) (λ row. cells (styled_characters row)) (λ row closed. styled-parts_at tab row (lit< tt) (whole-closed row closed)) (row_parts text) closed_rows
-      ∙ sym (map-map cells styled_characters (row_parts text))
-      ∙ ap (map cells) styled-row_parts
+-- a line feed more
+shown-ended : (frame : Frame) (bytes : List ℕ) (characters : List Styled) → ShowsHere bytes characters → ShowsHere (ended line_feed frame bytes) (ended (in_plain line_feed) frame characters)
+shown-ended frame bytes characters shows = step (line_count frame == 0) where
+  step : (b : Bool) → ShowsHere (if b then [] else bytes ++ line_feed ∷ []) (if b then [] else characters ++ in_plain line_feed ∷ [])
+  step true = ShowsHere-nothing
+  step false = ShowsHere-append bytes (line_feed ∷ []) characters (in_plain line_feed ∷ []) shows (subst (λ bytes. ShowsHere bytes (in_plain line_feed ∷ [])) (encode_ascii line_feed (lit< tt)) (ShowsHere-character line_feed IsShown-feed))
 
--- ---- one picture, of bytes together with what they show
+module _ (options : Options) (text : List ℕ) (whole : IsWholeText text) where
+  abbrev style : Compact
+  style = compact_of options.style
 
--- some bytes, and what they show
-pub record Chunk : Type 0 where
-  pub bytes : List ℕ
-  pub styled : List Styled
+  abbrev drawn : List ℕ → List ℕ → List Styled
+  drawn = styled_picture (compact_look style) (styled_texts (cell_parts text))
 
-abbrev pub chunk_bytes : Chunk → List ℕ
-chunk_bytes chunk = chunk.bytes
+  picture-cells : picture options (styled_characters text) ≡ ended (in_plain line_feed) (frame_under style (cell_parts text)) (drawn (widths_of style (cell_parts text)) (heights_of style (cell_parts text)))
+  unfolding picture
+  picture-cells =
+      ap (λ characters. let texts = texts_of characters in ended (in_plain line_feed) (frame_under style texts) (styled_picture (compact_look style) (rows_of character_of (styled_characters text)) (widths_of style texts) (heights_of style texts))) (characters_of-styled text whole.utf8)
+      ∙ ap (λ rows. ended (in_plain line_feed) (frame_under style (texts style text whole)) (styled_picture (compact_look style) rows (widths_of style (texts style text whole)) (heights_of style (texts style text whole)))) (sym (styled-cell_parts text whole))
+      ∙ ap (λ frame. ended (in_plain line_feed) frame (drawn (widths_of style (texts style text whole)) (heights_of style (texts style text whole)))) (frame-stripped style text whole)
+      ∙ ap (λ widths. ended (in_plain line_feed) (frame_under style (cell_parts text)) (drawn widths (heights_of style (texts style text whole)))) (widths-stripped style text whole)
+      ∙ ap (λ heights. ended (in_plain line_feed) (frame_under style (cell_parts text)) (drawn (widths_of style (cell_parts text)) heights)) (heights-stripped style text whole)
 
-abbrev pub chunk_styled : Chunk → List Styled
-chunk_styled chunk = chunk.styled
-
-abbrev IsShown : Chunk → Type 0
-IsShown chunk = Shows chunk.bytes chunk.styled
-
-abbrev chunk_item : ℕ → List Chunk
-chunk_item c = record { bytes = encode_utf8 c; styled = plain c ∷ [] } ∷ []
-
-abbrev pub chunk_line : List ℕ → Line Chunk
-chunk_line part = record { measure = measure (chars (stripped part)); items = record { bytes = part; styled = styled_characters part } ∷ [] }
-
-abbrev pub chunk_rows : List ℕ → List (List (List (Line Chunk)))
-chunk_rows text = map (map (λ cell. chunk_line cell ∷ [])) (cell_parts text)
-
-pub read-cells : {X Y Z : Type 0} (f : X → List Y) (make : Z → Line X) (rows : List (List Z)) → read_rows f (map (map (λ cell. make cell ∷ [])) rows) ≡ map (map (λ cell. read_line f (make cell) ∷ [])) rows
-read-cells f make rows =
-    map-map (map (map (read_line f))) (map (λ cell. make cell ∷ [])) rows
-    ∙ (λ n. map (λ row. map-map (map (read_line f)) (λ cell. make cell ∷ []) row n) rows)
-
-pub bytes-rows : (text : List ℕ) → read_rows chunk_bytes (chunk_rows text) ≡ part_rows text
-bytes-rows text =
-    read-cells chunk_bytes chunk_line (cell_parts text)
-    ∙ (λ n. map (map (λ cell. record { measure = measure (chars (stripped cell)); items = append-nil cell n } ∷ [])) (cell_parts text))
-
-pub styled-rows : (text : List ℕ) → IsWholeText text → read_rows chunk_styled (chunk_rows text) ≡ styled_rows (styled_characters text)
-styled-rows text whole =
-    let rows = cell_parts text in
-    let line = λ (cell : List ℕ). styled_line (styled_characters cell) ∷ [] in
-    read-cells chunk_styled chunk_line rows
-    ∙ map-same (AllByRecursion IsClosedPart) (map (λ cell. read_line chunk_styled (chunk_line cell) ∷ [])) (map line)
-    (λ row closed. map-same IsClosedPart (λ cell. read_line chunk_styled (chunk_line cell) ∷ []) line (λ cell closed. shown_line cell closed) row closed) rows (closed_cells text whole)
-    ∙ (λ n. map (λ row. sym (map-map (λ cs. styled_line cs ∷ []) styled_characters row) n) rows)
-    ∙ sym (map-map (map (λ cs. styled_line cs ∷ [])) (map styled_characters) rows)
-    ∙ ap (map (map (λ cs. styled_line cs ∷ []))) (styled-cell_parts text whole)
-  where
-    shown_line : (cell : List ℕ) → IsClosedPart cell → read_line chunk_styled (chunk_line cell) ∷ [] ≡ styled_line (styled_characters cell) ∷ []
-    shown_line cell closed =
-        ap (λ (items : List Styled). record { measure = measure (chars (stripped cell)); items = items } ∷ []) (append-nil (styled_characters cell))
-        ∙ ap (λ (characters : List ℕ). record { measure = measure characters; items = styled_characters cell } ∷ []) (sym (characters_of-styled cell closed.utf8))
-
-abbrev chunks : List ℕ → List Chunk
-chunks text = picture_items chunk_item (grid_of (chunk_rows text))
-
-output-chunks : (text : List ℕ) → flat_map chunk_bytes (chunks text) ≡ output_of text
-unfolding output_of
-output-chunks text =
-    read-table chunk_bytes chunk_item (chunk_rows text)
-    ∙ (λ n. picture_items (λ c. append-nil (encode_utf8 c) n) (grid_of (read_rows chunk_bytes (chunk_rows text))))
-    ∙ ap (λ rows. picture_items encode_utf8 (grid_of rows)) (bytes-rows text)
-
-picture-chunks : (text : List ℕ) → IsWholeText text → flat_map chunk_styled (chunks text) ≡ picture_of (styled_characters text)
-picture-chunks text whole =
-    read-table chunk_styled chunk_item (chunk_rows text)
-    ∙ ap (λ rows. picture_items (λ c. plain c ∷ []) (grid_of rows)) (styled-rows text whole)
-
-Shows-closed_part : (text : List ℕ) → IsClosedPart text → Shows text (styled_characters text)
-Shows-closed_part text closed = record { pieces = pieces text; of_bytes = ArePiecesOf-pieces text; closed = closed.closed; utf8 = closed.utf8; shown = refl }
-
-chunks-shown : (text : List ℕ) → IsWholeText text → AllByRecursion IsShown (chunks text)
-chunks-shown text whole =
-    items-hold chunk_item IsShown
-    (λ c printable. (Shows-ascii c (printable_ascii c printable) (printable_other c printable), tt)) (chunk_rows text)
-    (AllByRecursion-map_of (AllByRecursion IsClosedPart) (AllByRecursion (AllByRecursion (λ (line : Line Chunk). AllByRecursion IsShown line.items))) (map (λ cell. chunk_line cell ∷ []))
-    (λ row closed. AllByRecursion-map_of IsClosedPart (AllByRecursion (λ (line : Line Chunk). AllByRecursion IsShown line.items)) (λ cell. chunk_line cell ∷ []) (λ cell good. ((Shows-closed_part cell good, tt), tt)) row closed)
-    (cell_parts text) (closed_cells text whole))
-    (Shows-ascii line_feed (lit< tt) (λ same. cc same), tt)
-  where
-    printable_ascii : (c : ℕ) → is_in_range 0x20 0x7E c ≡ true → c < 128
-    printable_ascii c h = grind (arith, nat_tests)
-
-    printable_other : (c : ℕ) → is_in_range 0x20 0x7E c ≡ true → c ≢ escape
-    printable_other c h same = let low : 0x20 ≤ c = grind (arith, nat_tests) in omega (arith, same)
-
--- the output shows the picture
-pub output-shows : (text : List ℕ) → IsWholeText text → Shows (output_of text) (picture_of (styled_characters text))
-output-shows text whole =
-    subst (λ bytes. Shows bytes (picture_of (styled_characters text))) (output-chunks text)
-    (subst (Shows (flat_map chunk_bytes (chunks text))) (picture-chunks text whole) (Shows-flat_map chunk_bytes chunk_styled (chunks text) (chunks-shown text whole)))
+  output-shows : IsPlain style → ShowsHere (output_of options text) (picture options (styled_characters text))
+  unfolding output_of
+  output-shows plain =
+      subst (ShowsHere (rows_text style (cell_parts text))) (sym picture-cells)
+      (shown-ended (frame_under style (cell_parts text)) _ _
+      (text-shown (compact_look style) (cell_parts text) (widths_of style (cell_parts text)) (heights_of style (cell_parts text)) (bare style plain) (whole_cells style text whole) (λ _. refl)))
 
 -- ---- line feeds
 
--- a line feed is plain
-abbrev EndsPlain : Styled → Type 0
-EndsPlain x = x.0 ≡ line_feed → x.1 ≡ plain_attributes
+abbrev FeedIsPlain : Styled → Type 0
+FeedIsPlain x = x.0 ≡ line_feed → x.1 ≡ plain_attributes
 
-abbrev pub Fails : {X : Type 0} → (X → Bool) → X → Type 0
-Fails p x = p x ≡ false
-
-onto-first : {X : Type 0} (P : X → Type 0) (x : X) (parts : List (List X)) → P x → AllByRecursion (AllByRecursion P) parts → AllByRecursion (AllByRecursion P) (onto_first x parts)
-onto-first P x [] here all = ((here, tt), tt)
-onto-first P x (part ∷ parts) here all = ((here, all.0), all.1)
-
--- no element of a part passes the test
-pub slice_split-fails : {X : Type 0} (p : X → Bool) (xs : List X) → AllByRecursion (AllByRecursion (Fails p)) (slice_split p xs)
-slice_split-fails p [] = (tt, tt)
-slice_split-fails {X} p (x ∷ xs) =
-    let rest = slice_split-fails p xs in
-    let step : (test : Bool) → p x ≡ test → AllByRecursion (AllByRecursion (Fails p)) (cond test ([] ∷ slice_split p xs) (onto_first x (slice_split p xs))) =
-    λ test. elim test as (λ test. p x ≡ test → AllByRecursion (AllByRecursion (Fails p)) (cond test ([] ∷ slice_split p xs) (onto_first x (slice_split p xs)))) [
-      | true ↦ λ h. (tt, rest)
-      | false ↦ λ h. onto-first (Fails p) x (slice_split p xs) h rest
-    ] in
-    step (p x) refl
-
-pub slice_split-keeps : {X : Type 0} (P : X → Type 0) (p : X → Bool) (xs : List X) → AllByRecursion P xs → AllByRecursion (AllByRecursion P) (slice_split p xs)
-slice_split-keeps P p [] all = (tt, tt)
-slice_split-keeps P p (x ∷ xs) all =
-    let rest = slice_split-keeps P p xs all.1 in
-    elim (p x) as (λ test. AllByRecursion (AllByRecursion P) (cond test ([] ∷ slice_split p xs) (onto_first x (slice_split p xs)))) [
-      | true ↦ (tt, rest)
-      | false ↦ onto-first P x (slice_split p xs) all.0 rest
-    ]
-
-without_empty_last-keeps : {X : Type 0} (P : List X → Type 0) (parts : List (List X)) → AllByRecursion P parts → AllByRecursion P (without_empty_last parts)
-without_empty_last-keeps P [] all = tt
-without_empty_last-keeps P ([] ∷ []) all = tt
-without_empty_last-keeps P ([] ∷ next ∷ parts) all = (all.0, without_empty_last-keeps P (next ∷ parts) all.1)
-without_empty_last-keeps P ((x ∷ xs) ∷ parts) all = (all.0, without_empty_last-keeps P parts all.1)
-
-abbrev NoLineFeed : Styled → Type 0
-NoLineFeed x = (x.0 == line_feed) ≡ false
-
-no_line_feed : (x : Styled) → NoLineFeed x → EndsPlain x
-no_line_feed x fails same = let here : (x.0 == line_feed) ≡ true = eq-eqb x.0 line_feed same in absurd (both fails here) where
-  both : {b : Bool} → b ≡ false → b ≡ true → ⊥
-  both f t = let clash : false ≡ true = sym f ∙ t in cc clash
-
-abbrev AllEndPlain : List Styled → Type 0
-AllEndPlain cs = AllByRecursion EndsPlain cs
-
-cells-end_plain : (cs : List Styled) → AllByRecursion (AllByRecursion AllEndPlain) (rows_of (λ x. x.0) cs)
-cells-end_plain cs =
-    AllByRecursion-map_of (AllByRecursion NoLineFeed) (AllByRecursion AllEndPlain) (slice_split (λ (x : Styled). x.0 == tab))
-    (λ row fails. AllByRecursion-keeps (AllByRecursion NoLineFeed) AllEndPlain (λ cell none. AllByRecursion-keeps NoLineFeed EndsPlain no_line_feed cell none) (slice_split (λ (x : Styled). x.0 == tab) row) (slice_split-keeps NoLineFeed (λ (x : Styled). x.0 == tab) row fails))
-    (row_texts (λ x. x.0) cs)
-    (without_empty_last-keeps (AllByRecursion NoLineFeed) (slice_split (λ (x : Styled). x.0 == line_feed) cs) (slice_split-fails (λ (x : Styled). x.0 == line_feed) cs))
-
-pub picture-ends_plain : (cs : List Styled) → AllEndPlain (picture_of cs)
-picture-ends_plain cs =
-    items-hold (λ c. plain c ∷ []) EndsPlain (λ c printable. ((λ same. refl), tt)) (styled_rows cs)
-    (AllByRecursion-map_of (AllByRecursion AllEndPlain) (AllByRecursion (AllByRecursion (λ (line : Line Styled). AllEndPlain line.items))) (map (λ cell. styled_line cell ∷ []))
-    (λ row all. AllByRecursion-map_of AllEndPlain (AllByRecursion (λ (line : Line Styled). AllEndPlain line.items)) (λ cell. styled_line cell ∷ []) (λ cell plainly. (plainly, tt)) row all)
-    (rows_of (λ x. x.0) cs) (cells-end_plain cs))
-    ((λ same. refl), tt)
+pub picture-feeds : (options : Options) (cs : List Styled) → All FeedIsPlain (picture options cs)
+unfolding picture
+picture-feeds options cs =
+    let style = compact_of options.style in
+    let texts = texts_of (characters_of cs) in
+    step (line_count (frame_under style texts) == 0) (styled_picture (compact_look style) (rows_of character_of cs) (widths_of style texts) (heights_of style texts))
+    (feeds-plain (compact_look style) (rows_of character_of cs) (widths_of style texts) (heights_of style texts))
+  where
+    step : (b : Bool) (items : List Styled) → All FeedIsPlain items → All FeedIsPlain (if b then [] else items ++ in_plain line_feed ∷ [])
+    step true items all = All-nil FeedIsPlain
+    step false items all = All-push FeedIsPlain items (in_plain line_feed) all (λ same. refl)
 
 -- ---- the whole
 
-pub whole_text : (text : List ℕ) → IsUtf8 text → IsWhole text → IsWholeText text
-whole_text text utf8 whole = record { utf8 = utf8; none_broken = subst NoneBroken (sym (pieces-ArePiecesOf text whole.pieces whole.of_text)) whole.none_broken }
-
-pub output-shows_table : (text : List ℕ) → IsUtf8 text → IsWhole text → ShowsTableOf text (output_of text)
-output-shows_table text utf8 whole =
-    let shows = output-shows text (whole_text text utf8 whole) in
-    let bytes = output_of text in
+pub output-shows_table : (options : Options) (text : List ℕ) → IsPlain (compact_of options.style) → IsUtf8 text → IsWhole text → ShowsTableOf options text (output_of options text)
+output-shows_table options text plain utf8 whole =
+    let shows = output-shows options text (whole_text text utf8 whole) plain in
+    let bytes = output_of options text in
     let cs = styled_characters text in
+    let shown : (qs : List Piece) → ArePiecesOf bytes qs → styled qs ≡ picture options cs = λ qs of_output. ap styled (sym (pieces-ArePiecesOf bytes qs of_output)) ∙ shows.shown in
     record {
       text = shows.utf8;
-      picture = λ ps qs of_input of_output.
-          Shows-styled bytes (picture_of cs) qs shows of_output ∙ ap (λ found. picture_of (styled found)) (pieces-ArePiecesOf text ps of_input);
+      picture = λ ps qs of_input of_output. shown qs of_output ∙ ap (λ found. picture options (styled found)) (pieces-ArePiecesOf text ps of_input);
       lines = λ qs of_output. record {
-        closed = Shows-closed bytes (picture_of cs) qs shows of_output;
-        line_feeds = subst (All EndsPlain) (sym (Shows-styled bytes (picture_of cs) qs shows of_output)) (All-from_recursion EndsPlain (picture_of cs) (picture-ends_plain cs));
+        closed = subst IsClosed (pieces-ArePiecesOf bytes qs of_output) shows.closed;
+        line_feeds = subst (All FeedIsPlain) (sym (shown qs of_output)) (picture-feeds options cs);
       };
     }
+
+-- ---- without styles
+
+characters-ended : (frame : Frame) (items : List Styled) → characters_of (ended (in_plain line_feed) frame items) ≡ ended line_feed frame (characters_of items)
+characters-ended frame items = step (line_count frame == 0) where
+  step : (b : Bool) → characters_of (if b then [] else items ++ in_plain line_feed ∷ []) ≡ if b then [] else characters_of items ++ line_feed ∷ []
+  step true = refl
+  step false = map-append character_of items (in_plain line_feed ∷ [])
+
+pub picture-alone : (options : Options) (cs : List Styled) → characters_of (picture options cs) ≡ table_characters options (characters_of cs)
+unfolding picture table_characters
+picture-alone options cs =
+    let style = compact_of options.style in
+    let texts = texts_of (characters_of cs) in
+    characters-ended (frame_under style texts) (styled_picture (compact_look style) (rows_of character_of cs) (widths_of style texts) (heights_of style texts))
+    ∙ ap (ended line_feed (frame_under style texts))
+    (picture-characters (compact_look style) (rows_of character_of cs) (widths_of style texts) (heights_of style texts)
+    ∙ ap (λ rows. character_picture (compact_look style) rows (widths_of style texts) (heights_of style texts)) (sym (rows_of-characters cs)))
+
+plain-characters : (cs : List ℕ) → characters_of (map in_plain cs) ≡ cs
+plain-characters [] = refl
+plain-characters (c ∷ cs) = ap (λ rest. c ∷ rest) (plain-characters cs)
+
+-- without styles the picture is the same
+pub picture-plain : (options : Options) (cs : List Styled) → characters_of (picture options cs) ≡ characters_of (picture options (map in_plain (characters_of cs)))
+picture-plain options cs =
+    picture-alone options cs ∙ ap (table_characters options) (sym (plain-characters (characters_of cs))) ∙ sym (picture-alone options (map in_plain (characters_of cs)))
+
+-- ---- without sequences
+
+module _ (text : List ℕ) (utf8 : IsUtf8 text) (none : has_escape text ≡ false) where
+  plain_whole : IsWholeText text
+  plain_whole = whole_text text utf8 (IsWhole-without_escape text none)
+
+  abbrev plain_rows : List (List (List ℕ))
+  plain_rows = rows_of (λ c. c) (chars text)
+
+  -- the texts of its characters are its cells
+  texts-plain : texts_of (chars text) ≡ cell_parts text
+  texts-plain =
+      sym (rows_of-encodes (chars text)) ∙ ap (rows_of (λ b. b)) (encodes-chars text utf8) ∙ sym (cell_parts-plain text none)
+
+  cells-plain : map (map chars) (cell_parts text) ≡ plain_rows
+  cells-plain =
+      ap (map (map chars)) (sym texts-plain)
+      ∙ map-map (map chars) (map encode_utf8_all) plain_rows
+      ∙ map-same (AllByRecursion AreScalars) (λ row. map chars (map encode_utf8_all row)) (λ row. row)
+      (λ row all. map-map chars encode_utf8_all row ∙ map-same AreScalars (λ cell. chars (encode_utf8_all cell)) (λ cell. cell) (λ cell good. chars-encodes cell good) row all ∙ map-itself row)
+      plain_rows
+      (AreScalars-cells (λ c. c == tab) (row_texts (λ c. c) (chars text)) (AreScalars-without_empty_last (slice_split (λ c. c == line_feed) (chars text)) (AreScalars-slice_split (λ c. c == line_feed) (chars text) (scalars-chars text utf8))))
+      ∙ map-itself plain_rows
+    where
+      map-itself : {A : Type 0} (xs : List A) → map (λ x. x) xs ≡ xs
+      map-itself [] = refl
+      map-itself (x ∷ xs) = ap (λ rest. x ∷ rest) (map-itself xs)
+
+  plain_texts : ArePlainTexts (cell_parts text)
+  plain_texts =
+      both (cell_parts text) (closed_cells text plain_whole) (subst (AllByRecursion (AllByRecursion (λ part. has_escape part ≡ false))) (sym (cell_parts-plain text none)) (plain_cells text none))
+    where
+      in_row : (row : List (List ℕ)) → AllByRecursion IsClosedPart row → AllByRecursion (λ part. has_escape part ≡ false) row → AllByRecursion IsPlainText row
+      in_row [] closed gone = tt
+      in_row (part ∷ parts) closed gone = (record { utf8 = closed.0.utf8; no_escape = gone.0 }, in_row parts closed.1 gone.1)
+
+      both : (rows : List (List (List ℕ))) → AllByRecursion (AllByRecursion IsClosedPart) rows → AllByRecursion (AllByRecursion (λ part. has_escape part ≡ false)) rows → ArePlainTexts rows
+      both [] closed gone = tt
+      both (row ∷ rows) closed gone = (in_row row closed.0 gone.0, both rows closed.1 gone.1)
+
+  -- the output is the table of its characters
+  pub output-plain : (options : Options) → IsPlain (compact_of options.style) → output_of options text ≡ encode_utf8_all (table_characters options (chars text))
+  unfolding output_of table_characters
+  output-plain options plain =
+      let style = compact_of options.style in
+      let widths = widths_of style (cell_parts text) in
+      let heights = heights_of style (cell_parts text) in
+      ap (ended line_feed (frame_under style (cell_parts text))) (table-plain (compact_look style) (cell_parts text) widths heights (bare style plain) plain_texts (λ _. refl))
+      ∙ encoded (line_count (frame_under style (cell_parts text)) == 0) (character_picture (compact_look style) (map (map chars) (cell_parts text)) widths heights)
+      ∙ ap (λ rows. encode_utf8_all (ended line_feed (frame_under style (cell_parts text)) (character_picture (compact_look style) rows widths heights))) cells-plain
+      ∙ ap (λ texts. encode_utf8_all (ended line_feed (frame_under style texts) (character_picture (compact_look style) plain_rows (widths_of style texts) (heights_of style texts)))) (sym texts-plain)
+    where
+      encoded : (b : Bool) (characters : List ℕ) → (if b then [] else encode_utf8_all characters ++ line_feed ∷ []) ≡ encode_utf8_all (if b then [] else characters ++ line_feed ∷ [])
+      encoded true characters = refl
+      encoded false characters =
+          sym (encodes-append characters (line_feed ∷ []) ∙ ap (λ bytes. encode_utf8_all characters ++ (bytes ++ [])) (encode_ascii line_feed (lit< tt)))
+
+-- without its sequences the output is the output of the text without its own
+pub strip-output : (options : Options) (text : List ℕ) (ps qs : List Piece) → IsPlain (compact_of options.style) → IsUtf8 text → ArePiecesOf text ps → NoneBroken ps → ArePiecesOf (output_of options text) qs → strip qs ≡ output_of options (strip ps)
+strip-output options text ps qs plain utf8 of_text whole of_output =
+    let shows = output-shows_table options text plain utf8 (record { pieces = ps; of_text = of_text; none_broken = whole }) in
+    let texts = TextsAreUtf8-pieces text ps of_text utf8 in
+    let shown = TextsAreUtf8-pieces (output_of options text) qs of_output shows.text in
+    let characters : chars (strip qs) ≡ table_characters options (chars (strip ps)) =
+    sym (chars-strip_from plain_attributes qs shown) ∙ ap characters_of (shows.picture ps qs of_text of_output)
+    ∙ picture-alone options (styled ps) ∙ ap (table_characters options) (chars-strip_from plain_attributes ps texts) in
+    sym (encodes-chars (strip qs) (IsUtf8-strip qs shown)) ∙ ap encode_utf8_all characters
+    ∙ sym (output-plain (strip ps) (IsUtf8-strip ps texts) (has_escape-strip text ps of_text) options plain)

@@ -6,11 +6,14 @@ use Rattle.unicode_width.specs.Width.{str_width}
 use Rattle.ansi_scan.specs.Sequences.{Piece, ArePiecesOf}
 use Rattle.ansi_scan.proofs.Uniqueness.{pieces-ArePiecesOf}
 use Rattle.grid_records_measure.specs.TextLines.{shown_lines, widest}
+use Rattle.std.proofs.lemmas.List.Elements.{All-from_recursion}
+use Rattle.ansi_str.specs.Lines.{IsClosedLine}
+use Rattle.grid_records_measure.proofs.LineLemmas.{lines-joined}
 use Rattle.grid_records_traits.specs.Cells.{HasLineCount, HasWidth}
 use Rattle.grid_records_traits.specs.Rows.{fitted, fitted_row}
 use Rattle.grid_records_traits.proofs.FittedRows.{fitted-same, length-fitted_row}
-use Rattle.columns_run.specs.Printing.{cut}
-use Rattle.columns_run.specs.Records.{row_texts, table_texts}
+use Rattle.columns_run.specs.Cells.{cut}
+use Rattle.columns_run.specs.Records.{IsOneLine, IsOnlyLine, row_texts, table_texts}
 use Rattle.columns_run.specs.declared.rows.Cell.{Cell}
 use Rattle.columns_run.proofs.PlaceLemmas.{pieces-none}
 
@@ -19,15 +22,29 @@ use Rattle.columns_run.proofs.PlaceLemmas.{pieces-none}
 no_pieces : (ps : List Piece) → ArePiecesOf [] ps → [] ≡ ps
 no_pieces ps of_text = sym pieces-none ∙ pieces-ArePiecesOf [] ps of_text
 
-pub empty_line_count : HasLineCount [] 1
+empty_line_count : HasLineCount [] 1
 empty_line_count = λ ps of_text. ap (λ found. length (shown_lines found)) (no_pieces ps of_text)
 
 no_width : 0 ≡ widest ([] ∷ [])
 unfolding chars str_width
 no_width = refl
 
-pub empty_width : HasWidth [] 0
+empty_width : HasWidth [] 0
 empty_width = λ ps of_text. no_width ∙ ap (λ found. widest (shown_lines found)) (no_pieces ps of_text)
+
+-- a closed line is the only one of itself
+pub only_line : (text : List ℕ) → IsClosedLine text → IsOnlyLine text
+only_line text closed = λ ps lines of_text are.
+    let some : 0 < length (text ∷ []) = omega arith in
+    lines-joined (text ∷ []) lines ps some (All-from_recursion IsClosedLine (text ∷ []) (closed, tt)) of_text are
+
+-- nothing is one line
+pub empty_one_line : IsOneLine [] 0
+empty_one_line = (
+  empty_line_count,
+  empty_width,
+  only_line [] (record { pieces = []; of_line = record { joins = refl; stand = tt }; closed = record { none_broken = tt; plain = refl }; one_line = refl }),
+)
 
 -- ---- rows of as many texts
 

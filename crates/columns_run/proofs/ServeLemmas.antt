@@ -2,20 +2,23 @@
 use Rattle.std.proofs.Common.{ℕ, List, Option, Result, IfSome}
 use Rattle.std.proofs.lemmas.Option.{IfSome_then}
 use Rattle.columns_run.specs.declared.fault.RunFault.{RunFault}
+use Rattle.grid_config.specs.Compact.{compact_of}
 use Rattle.columns_run.specs.Layout.{output_of}
-use Rattle.columns_run.specs.Streams.{ConsumesSome}
+use Rattle.columns_run.specs.Plain.{IsPlain}
+use Rattle.columns_run.specs.declared.options.Options.{Options}
+use Rattle.tabled_output.specs.Streams.{ConsumesSome}
 use Rattle.columns_run.specs.Run.{MayAnswer, Writes, Serves, LeavesAlone}
 use Rattle.columns_run.proofs.PictureLemmas.{output-shows_table}
 
-module _ {T : Type 0} (result : Result T RunFault) (old new : Option (List ℕ)) {W : Type 0} (writer left : W) where
+module _ (options : Options) (plain : IsPlain (compact_of options.style)) {T : Type 0} (result : Result T RunFault) (old new : Option (List ℕ)) {W : Type 0} (writer left : W) where
   abbrev Answers : List ℕ → Type 0
-  Answers input = MayAnswer input result × Writes (output_of input) result old new × LeavesAlone input writer left
+  Answers input = MayAnswer options input result × Writes (output_of options input) result old new × LeavesAlone options input writer left
 
   abbrev Serving : List ℕ → Type 0
-  Serving input = Serves input result old new × LeavesAlone input writer left
+  Serving input = Serves options input result old new × LeavesAlone options input writer left
 
   serves : (input : List ℕ) → Answers input → Serving input
-  serves input answers = (record { answers = answers.0; writes = answers.1; shows = λ has. output-shows_table input has.0 has.1 }, answers.2)
+  serves input answers = (record { answers = answers.0; writes = answers.1; shows = λ has. output-shows_table options input plain has.0 has.1 }, answers.2)
 
   pub known : (input : Option (List ℕ)) → IfSome input Answers → IfSome input Serving
   known input answers = IfSome_then input answers serves

@@ -1,36 +1,38 @@
--- Rows cut from a list of cells, and the greatest measures of their columns.
-use Rattle.std.proofs.Common.{◌≡◌, ℕ, suc, ◌+◌, ◌-◌, ◌<◌, ◌≤◌, List, [], ◌∷◌, map, length, sum, take, drop, get_or, refl, ap, sym, subst, ◌∙◌, arith, add-one, zero, length-drop, All, ◌==◌, false}
+-- Rows cut from a list of cells, and the sizes of a table of their texts.
+use Rattle.std.proofs.Common.{◌≡◌, ◌==◌, ◌||◌, ℕ, zero, suc, ◌+◌, ◌-◌, ◌^◌, ◌<◌, ◌≤◌, ◌⊎◌, inl, inr, Bool, true, false, cond, List, [], ◌∷◌, ◌++◌, map, length, sum, take, drop, get_or, replicate, refl, ap, sym, subst, ◌∙◌, arith, length-drop, add-one, if◌then◌else◌}
+use Rattle.std.specs.List.{drop-map, filter, range_with_len, take-map}
 use Rattle.std.proofs.lemmas.Bool.Decides.{nat_tests}
-use Rattle.std.proofs.Math.Seq.{drop-cons}
-use Rattle.std.proofs.lemmas.List.{take_rest, length-take-le}
+use Rattle.std.proofs.lemmas.List.{length-map, length-take-le, take_all}
 use Rattle.std.proofs.lemmas.List.Sums.{sum_by-cons}
-use Rattle.std.specs.List.{drop-map}
-use Rattle.std.proofs.lemmas.List.FromFn.{length-map-range_with_len, get_or-map-range_with_len}
-use Rattle.columns_run.specs.Estimates.{Line, empty_line, greatest}
-use Rattle.columns_run.specs.Printing.{shown, cut, content_widths, Fits}
+use Rattle.std.proofs.lemmas.Simd.{map-map}
+use Rattle.grid_config.specs.Compact.{Compact}
+use Rattle.grid_config.specs.Looks.{compact_look}
+use Rattle.grid_config_values.specs.Glyphs.{boundary_count, boundary_kind, has_column_boundary, has_row_boundary}
+use Rattle.grid_config_values.specs.declared.borders.Borders.{Borders}
+use Rattle.grid_config_values.specs.declared.position.Position.{Position}
+use Rattle.grid_config_values.specs.declared.sides.Indent.{Indent}
+use Rattle.grid_config_values.specs.declared.sides.Sides.{Sides}
+use Rattle.grid_records_measure.specs.TextLines.{text_height, text_width}
+use Rattle.grid_records_traits.specs.Rows.{fitted, fitted_row, text_at}
+use Rattle.grid_records_traits.proofs.FittedRows.{fitted-twice}
+use Rattle.grid_records_estimate.specs.Collecting.{PassesMax}
+use Rattle.grid_records_estimate.specs.Estimates.{Axis, greatest, track_sizes}
+use Rattle.grid_records_estimate.specs.Sizes.{table_heights, table_widths}
+use Rattle.grid_records_estimate.specs.Sizing.{Sizing, column_axis, compact_sizing, place, row_axis}
+use Rattle.grid_records_estimate.specs.Totals.{total}
+use Rattle.grid_records_estimate.proofs.Lengths.{length-fitted, length-table_heights, length-table_widths}
+use Rattle.grid_records_estimate.proofs.SizeLemmas.{total-passes}
+use Rattle.papergrid_picture.specs.Fitting.{InRange, table_width}
+use Rattle.papergrid_picture.specs.Frame.{Tracks, frame_of, line_count, thickness, track_at}
+use Rattle.papergrid_picture.proofs.FrameLemmas.{range_with_len-more}
+use Rattle.papergrid_picture.proofs.ShownLemmas.{get_or-map}
+use Rattle.columns_run.specs.Cells.{Line, cut, shown, texts_of_lines}
+use Rattle.columns_run.specs.Layout.{column_count, frame_under, heights_of, widths_of}
+use Rattle.columns_run.specs.Records.{row_texts, table_texts}
 use Rattle.columns_run.specs.declared.rows.Cell.{Cell}
-use Rattle.columns_run.proofs.PrintingLemmas.{content_width, content_widths-measured, greatest_measures}
+use Rattle.columns_run.proofs.PartLemmas.{cut-map}
 
--- the first of the rows that are left, and the others
-pub cut-step : {X : Type 0} (counts : List ℕ) (i : ℕ) (xs : List X) → i < length counts
-    → cut (drop i counts) xs ≡ take (get_or counts i 0) xs ∷ cut (drop (i + 1) counts) (drop (get_or counts i 0) xs)
-cut-step counts i xs h =
-    let next : drop i counts ≡ get_or counts i 0 ∷ drop (i + 1) counts = rw add-one (drop-cons counts i 0 h) in
-    ap (λ ns. cut ns xs) next
-
-pub sum-step : (counts : List ℕ) (i : ℕ) → i < length counts → sum (drop i counts) ≡ get_or counts i 0 + sum (drop (i + 1) counts)
-sum-step counts i h =
-    let next : drop i counts ≡ get_or counts i 0 ∷ drop (i + 1) counts = rw add-one (drop-cons counts i 0 h) in
-    ap sum next ∙ sum_by-cons (λ n. n) (get_or counts i 0) (drop (i + 1) counts)
-
--- cells from n on, as a slice of the rest reads them
-pub shown-rest : (cells : List Cell) (n : ℕ) → map shown (take (length cells - n) (drop n cells)) ≡ drop n (map shown cells)
-shown-rest cells n = ap (map shown) (take_rest cells n) ∙ sym (drop-map shown n cells)
-
-pub greatest-among : (numbers : List ℕ) (k d : ℕ) → k < length numbers → get_or numbers k d ≤ greatest numbers
-greatest-among [] k d h = absurd (omega arith)
-greatest-among (n ∷ ns) zero d h = omega arith
-greatest-among (n ∷ ns) (suc k) d h = let below : k < length ns = omega arith in omega (arith, greatest-among ns k d below)
+-- ---- rows cut from a list
 
 -- pieces of these lengths have these lengths
 pub length-cut : {X : Type 0} (counts : List ℕ) (xs : List X) → sum counts ≡ length xs → map (λ piece. length piece) (cut counts xs) ≡ counts
@@ -41,31 +43,267 @@ length-cut {X} (n ∷ ns) xs h =
     let left : sum ns ≡ length (drop n xs) = omega (arith, total, length-drop n xs) in
     ap (λ k. k ∷ map (λ piece. length piece) (cut ns (drop n xs))) (length-take-le n xs fits) ∙ ap (λ ks. n ∷ ks) (length-cut ns (drop n xs) left)
 
-content_width-among : (rows : List (List (Line ℕ))) (k j : ℕ) (d : List (Line ℕ)) → k < length rows → (get_or (get_or rows k d) j empty_line).measure ≤ content_width rows j
-content_width-among [] k j d h = absurd (omega arith)
-content_width-among (row ∷ rows) zero j d h = omega arith
-content_width-among (row ∷ rows) (suc k) j d h = let below : k < length rows = omega arith in omega (arith, content_width-among rows k j d below)
+-- the texts of the rows
+module _ (counts : List ℕ) (cells : List Cell) where
+  abbrev pub cut_texts : List (List (List ℕ))
+  cut_texts = texts_of_lines (cut counts (map shown cells))
 
--- each cell fits the greatest measure of its column
-measures-fit : (rows : List (List (Line ℕ))) → All (Fits (greatest_measures rows)) rows
-measures-fit rows = λ k d h j inside.
-    let wide = content_width rows in
-    let columns = greatest (map (λ row. length row) rows) in
-    let size : length (greatest_measures rows) ≡ columns = length-map-range_with_len wide 0 columns in
-    let below : j < columns = omega arith in
-    let same : 0 + j ≡ j = omega arith in
-    let there : get_or (greatest_measures rows) j 0 ≡ wide j = get_or-map-range_with_len wide 0 columns j j 0 below same in
-    rw there (content_width-among rows k j d h)
+  pub texts-cut : cut_texts ≡ map (map (λ cell. cell.text.now)) (cut counts cells)
+  texts-cut =
+      ap (map (map (λ (line : Line). line.items))) (cut-map shown counts cells)
+      ∙ map-map (map (λ (line : Line). line.items)) (map shown) (cut counts cells)
+      ∙ (λ k. map (λ row. map-map (λ (line : Line). line.items) shown row k) (cut counts cells))
 
-pub content_widths-fit : (rows : List (List (Line ℕ))) → All (Fits (content_widths rows)) rows
-content_widths-fit rows = subst (λ (contents : List ℕ). All (Fits contents) rows) (sym (content_widths-measured rows)) (measures-fit rows)
+  texts-fitted : (columns : ℕ) → table_texts columns counts cells ≡ fitted columns cut_texts
+  texts-fitted columns = sym (ap (fitted columns) texts-cut ∙ map-map (fitted_row columns) (map (λ (cell : Cell). cell.text.now)) (cut counts cells))
 
-pub length-cut_counts : {X : Type 0} (counts : List ℕ) (xs : List X) → length (cut counts xs) ≡ length counts
-length-cut_counts [] xs = refl
-length-cut_counts (n ∷ ns) xs = ap suc (length-cut_counts ns (drop n xs))
+  pub columns-cut : sum counts ≡ length cells → column_count cut_texts ≡ greatest counts
+  columns-cut whole =
+      ap column_count texts-cut
+      ∙ ap greatest (map-map (λ (row : List (List ℕ)). length row) (map (λ (cell : Cell). cell.text.now)) (cut counts cells))
+      ∙ ap greatest (λ k. map (λ row. length-map row (λ (cell : Cell). cell.text.now) k) (cut counts cells))
+      ∙ ap greatest (length-cut counts cells whole)
 
-not_zero : (n : ℕ) → (n == 0) ≡ false → 0 < n
-not_zero n h = grind (arith, nat_tests)
+  -- what is estimated of records are their sizes
+  module _ (style : Compact) (whole : sum counts ≡ length cells) (n : ℕ) (read : List (List (List ℕ))) (wide : n ≡ greatest counts) (same : read ≡ table_texts (greatest counts) counts cells) where
+    pub estimated-widths : table_widths (compact_sizing style) n read ≡ widths_of style cut_texts
+    unfolding table_widths
+    estimated-widths =
+        ap (λ m. table_widths (compact_sizing style) m read) (wide ∙ sym (columns-cut whole))
+        ∙ ap (table_widths (compact_sizing style) (column_count cut_texts)) (same ∙ ap (λ m. table_texts m counts cells) (sym (columns-cut whole)) ∙ texts-fitted (column_count cut_texts))
+        ∙ ap (λ rows. track_sizes (column_axis (compact_sizing style) (column_count cut_texts) rows)) (fitted-twice cut_texts (column_count cut_texts))
 
-pub cut-some : {X : Type 0} (n : ℕ) (counts : List ℕ) (xs : List X) → (n == 0) ≡ false → n ≡ length counts → 0 < length (cut counts xs)
-cut-some n counts xs h e = let some = not_zero n h in omega (arith, length-cut_counts counts xs)
+    pub estimated-heights : table_heights (compact_sizing style) n read ≡ heights_of style cut_texts
+    unfolding table_heights
+    estimated-heights =
+        ap (λ m. table_heights (compact_sizing style) m read) (wide ∙ sym (columns-cut whole))
+        ∙ ap (table_heights (compact_sizing style) (column_count cut_texts)) (same ∙ ap (λ m. table_texts m counts cells) (sym (columns-cut whole)) ∙ texts-fitted (column_count cut_texts))
+        ∙ ap (λ rows. track_sizes (row_axis (compact_sizing style) (column_count cut_texts) rows)) (fitted-twice cut_texts (column_count cut_texts))
+
+-- ---- the same sizes
+
+module _ (f : List ℕ → List ℕ) (none : f [] ≡ []) where
+  replicate-none : (n : ℕ) → replicate n [] ≡ map f (replicate n [])
+  replicate-none zero = refl
+  replicate-none (suc n) = ap (λ text. text ∷ replicate n []) (sym none) ∙ ap (λ texts. f [] ∷ texts) (replicate-none n)
+
+  append-map : (xs ys : List (List ℕ)) → map f xs ++ map f ys ≡ map f (xs ++ ys)
+  append-map [] ys = refl
+  append-map (x ∷ xs) ys = ap (λ rest. f x ∷ rest) (append-map xs ys)
+
+  fitted_row-map : (n : ℕ) (row : List (List ℕ)) → fitted_row n (map f row) ≡ map f (fitted_row n row)
+  fitted_row-map n row =
+      ap (λ front. front ++ replicate (n - length (map f row)) []) (take-map f n row)
+      ∙ ap (λ m. map f (take n row) ++ replicate (n - m) []) (length-map row f)
+      ∙ ap (λ back. map f (take n row) ++ back) (replicate-none (n - length row))
+      ∙ append-map (take n row) (replicate (n - length row) [])
+
+  fitted-map : (n : ℕ) (rows : List (List (List ℕ))) → fitted n (map (map f) rows) ≡ map (map f) (fitted n rows)
+  fitted-map n rows =
+      map-map (fitted_row n) (map f) rows ∙ (λ k. map (λ row. fitted_row-map n row k) rows) ∙ sym (map-map (map f) (fitted_row n) rows)
+
+  text-map : (rows : List (List (List ℕ))) (cell : Position) → text_at (map (map f) rows) cell ≡ f (text_at rows cell)
+  text-map rows cell =
+      ap (λ row. get_or row cell.col []) (get_or-map (map f) rows cell.row [])
+      ∙ ap (get_or (map f (get_or rows cell.row [])) cell.col) (sym none)
+      ∙ get_or-map f (get_or rows cell.row []) cell.col []
+
+  columns-map : (rows : List (List (List ℕ))) → column_count (map (map f) rows) ≡ column_count rows
+  columns-map rows =
+      ap greatest (map-map (λ (row : List (List ℕ)). length row) (map f) rows) ∙ (λ k. greatest (map (λ row. length-map row f k) rows))
+
+  module _ (sizing : Sizing) (n : ℕ) (rows : List (List (List ℕ))) where
+    abbrev all : List (List (List ℕ))
+    all = fitted n rows
+
+    widths-map : ((text : List ℕ) → text_width (f text) ≡ text_width text) → table_widths sizing n (map (map f) rows) ≡ table_widths sizing n rows
+    unfolding table_widths
+    widths-map same =
+        ap (λ found. track_sizes (column_axis sizing n found)) (fitted-map n rows)
+        ∙ ap (λ crossings. track_sizes (record (column_axis sizing n (map (map f) all)) { crossings = crossings })) (length-map all (map f))
+        ∙ (λ k. track_sizes (record (column_axis sizing n all) { need = λ column row. let padding = sizing.padding (place row column) in (ap text_width (text-map all (place row column)) ∙ same (text_at all (place row column))) k + padding.left.size + padding.right.size }))
+
+    heights-map : ((text : List ℕ) → text_height (f text) ≡ text_height text) → table_heights sizing n (map (map f) rows) ≡ table_heights sizing n rows
+    unfolding table_heights
+    heights-map same =
+        ap (λ found. track_sizes (row_axis sizing n found)) (fitted-map n rows)
+        ∙ ap (λ m. track_sizes (record (row_axis sizing n (map (map f) all)) { tracks = m; has_boundary = λ i. has_row_boundary sizing.borders (boundary_kind i m) })) (length-map all (map f))
+        ∙ (λ k. track_sizes (record (row_axis sizing n all) { need = λ row column. let padding = sizing.padding (place row column) in (ap text_height (text-map all (place row column)) ∙ same (text_at all (place row column))) k + padding.top.size + padding.bottom.size }))
+
+  module _ (style : Compact) (rows : List (List (List ℕ))) (wide : (text : List ℕ) → text_width (f text) ≡ text_width text) (high : (text : List ℕ) → text_height (f text) ≡ text_height text) where
+    pub same-widths : widths_of style (map (map f) rows) ≡ widths_of style rows
+    same-widths = ap (λ n. table_widths (compact_sizing style) n (map (map f) rows)) (columns-map rows) ∙ widths-map (compact_sizing style) (column_count rows) rows wide
+
+    pub same-heights : heights_of style (map (map f) rows) ≡ heights_of style rows
+    same-heights = ap (λ n. table_heights (compact_sizing style) n (map (map f) rows)) (columns-map rows) ∙ heights-map (compact_sizing style) (column_count rows) rows high
+
+    pub same-frame : frame_under style (map (map f) rows) ≡ frame_under style rows
+    same-frame = ap (λ widths. frame_of (compact_look style) widths (heights_of style (map (map f) rows))) same-widths ∙ ap (frame_of (compact_look style) (widths_of style rows)) same-heights
+
+-- ---- totals
+
+filter-last : (p : ℕ → Bool) (xs : List ℕ) (x : ℕ) → length (filter p (xs ++ x ∷ [])) ≡ length (filter p xs) + thickness (p x)
+filter-last p [] x = one (p x)
+  where
+    one : (b : Bool) → length (cond b (x ∷ []) []) ≡ 0 + thickness b
+    one true = refl
+    one false = refl
+filter-last p (y ∷ ys) x = onto (p y) (filter-last p ys x)
+  where
+    onto : (b : Bool) → length (filter p (ys ++ x ∷ [])) ≡ length (filter p ys) + thickness (p x)
+        → length (cond b (y ∷ filter p (ys ++ x ∷ [])) (filter p (ys ++ x ∷ []))) ≡ length (cond b (y ∷ filter p ys) (filter p ys)) + thickness (p x)
+    onto true same = omega (arith, same)
+    onto false same = same
+
+counted : (p : ℕ → Bool) (n : ℕ) → length (filter p (range_with_len 0 (n + 1))) ≡ length (filter p (range_with_len 0 n)) + thickness (p n)
+counted p n =
+    let place : 0 + n ≡ n = omega arith in
+    ap (λ ns. length (filter p ns)) (range_with_len-more 0 n) ∙ ap (λ m. length (filter p (range_with_len 0 n ++ m ∷ []))) place ∙ filter-last p (range_with_len 0 n) n
+
+-- a total is where the tracks end, and the margin behind them
+tracks-total : (tracks : Tracks) (behind : ℕ) → 0 < length tracks.sizes
+    → total tracks.sizes (length (filter tracks.has_boundary (range_with_len 0 (length tracks.sizes + 1)))) tracks.margin behind ≡ track_at tracks (length tracks.sizes) + behind
+tracks-total tracks behind some = step tracks.sizes refl some where
+  step : (sizes : List ℕ) → tracks.sizes ≡ sizes → 0 < length sizes
+      → total sizes (length (filter tracks.has_boundary (range_with_len 0 (length sizes + 1)))) tracks.margin behind
+      ≡ tracks.margin + sum (take (length sizes) tracks.sizes) + length (filter tracks.has_boundary (range_with_len 0 (length sizes))) + thickness (tracks.has_boundary (length sizes)) + behind
+  step [] same some = absurd (omega arith)
+  step (size ∷ sizes) same some =
+      let all : length tracks.sizes ≤ length (size ∷ sizes) = omega (arith, ap (λ xs. length xs) same) in
+      let whole : sum (take (length (size ∷ sizes)) tracks.sizes) ≡ sum (size ∷ sizes) = ap sum (take_all (length (size ∷ sizes)) tracks.sizes all ∙ same) in
+      omega (arith, whole, counted tracks.has_boundary (length (size ∷ sizes)))
+
+module _ (style : Compact) (widths heights : List ℕ) where
+  abbrev pub across : ℕ
+  across = total widths (boundary_count (has_column_boundary style.borders) (length widths)) style.margin.left.size style.margin.right.size
+
+  abbrev pub down : ℕ
+  down = total heights (boundary_count (has_row_boundary style.borders) (length heights)) style.margin.top.size style.margin.bottom.size
+
+  is_some : (n : ℕ) → 0 < n → (n == 0) ≡ false
+  is_some n h = grind (arith, nat_tests)
+
+  pub width-total : 0 < length widths → 0 < length heights → across ≡ table_width (frame_of (compact_look style) widths heights)
+  width-total wide high =
+      tracks-total (frame_of (compact_look style) widths heights).columns style.margin.right.size wide
+      ∙ sym (ap (λ b. if b || (length widths == 0) then 0 else track_at (frame_of (compact_look style) widths heights).columns (length widths) + style.margin.right.size) (is_some (length heights) high)
+      ∙ ap (λ b. if b then 0 else track_at (frame_of (compact_look style) widths heights).columns (length widths) + style.margin.right.size) (is_some (length widths) wide))
+
+  pub height-total : 0 < length widths → 0 < length heights → down ≡ line_count (frame_of (compact_look style) widths heights)
+  height-total wide high =
+      tracks-total (frame_of (compact_look style) widths heights).rows style.margin.bottom.size high
+      ∙ sym (ap (λ b. if b then 0 else if length widths == 0 then 0 else track_at (frame_of (compact_look style) widths heights).rows (length heights) + style.margin.bottom.size) (is_some (length heights) high)
+      ∙ ap (λ b. if b then 0 else track_at (frame_of (compact_look style) widths heights).rows (length heights) + style.margin.bottom.size) (is_some (length widths) wide))
+
+  pub in_range : 0 < length widths → 0 < length heights → across < 2 ^ 64 → down < 2 ^ 64 → InRange (frame_of (compact_look style) widths heights)
+  in_range wide high w h = (subst (λ n. n < 2 ^ 64) (width-total wide high) w, subst (λ n. n < 2 ^ 64) (height-total wide high) h)
+
+  pub too_wide : 0 < length widths → 0 < length heights → 2 ^ 64 ≤ across → ¬ (InRange (frame_of (compact_look style) widths heights))
+  too_wide wide high over = λ fits. let same = width-total wide high in let low = fits.0 in omega (arith, same, low, over)
+
+  pub too_high : 0 < length widths → 0 < length heights → 2 ^ 64 ≤ down → ¬ (InRange (frame_of (compact_look style) widths heights))
+  too_high wide high over = λ fits. let same = height-total wide high in let low = fits.1 in omega (arith, same, low, over)
+
+-- what is added up is their total
+module _ (style : Compact) (widths heights : List ℕ) (borders : Borders ℕ) (margin : Sides Indent) (glyphs : borders ≡ style.borders) (round : margin ≡ style.margin) (n : ℕ) where
+  pub across-is : n ≡ boundary_count (has_column_boundary borders) (length widths) → total widths n margin.left.size margin.right.size ≡ across style widths heights
+  across-is number =
+      ap (λ m. total widths m margin.left.size margin.right.size) (number ∙ ap (λ b. boundary_count (has_column_boundary b) (length widths)) glyphs)
+      ∙ ap (λ m. total widths (boundary_count (has_column_boundary style.borders) (length widths)) m.left.size m.right.size) round
+
+  pub down-is : n ≡ boundary_count (has_row_boundary borders) (length heights) → total heights n margin.top.size margin.bottom.size ≡ down style widths heights
+  down-is number =
+      ap (λ m. total heights m margin.top.size margin.bottom.size) (number ∙ ap (λ b. boundary_count (has_row_boundary b) (length heights)) glyphs)
+      ∙ ap (λ m. total heights (boundary_count (has_row_boundary style.borders) (length heights)) m.top.size m.bottom.size) round
+
+pub some-of : (n : ℕ) (b : Bool) → b ≡ (n == 0) → b ≡ false → 0 < n
+some-of n b is off = let e : (n == 0) ≡ false = sym is ∙ off in grind (arith, nat_tests)
+
+-- ---- sizes that are too great
+
+passing : (sizes : List ℕ) → PassesMax sizes → 0 < length sizes
+passing [] p = let high : 2 ^ 64 ≤ 0 = p.1 in absurd (omega arith)
+passing (size ∷ sizes) p = omega arith
+
+none-crossed : (axis : Axis) → axis.crossings ≡ 0 → length (track_sizes axis) ≡ 0
+unfolding track_sizes
+none-crossed axis none =
+    let test : (axis.crossings == 0) ≡ true = grind (arith, nat_tests) in
+    rw test refl
+
+module _ (style : Compact) (texts : List (List (List ℕ))) where
+  abbrev sizing : Sizing
+  sizing = compact_sizing style
+
+  abbrev columns : ℕ
+  columns = column_count texts
+
+  -- a table with a width has rows, and one with a height has columns
+  some-rows : 0 < length (widths_of style texts) → 0 < length texts
+  unfolding table_widths
+  some-rows wide = step (length texts == 0) refl where
+    step : (b : Bool) → (length texts == 0) ≡ b → 0 < length texts
+    step true e =
+        let none : length texts ≡ 0 = grind (arith, nat_tests) in
+        let gone = none-crossed (column_axis sizing columns (fitted columns texts)) (length-fitted columns texts ∙ none) in
+        absurd (omega (arith, wide, gone))
+    step false e = grind (arith, nat_tests)
+
+  some-columns : 0 < length (heights_of style texts) → 0 < columns
+  unfolding table_heights
+  some-columns high = step (columns == 0) refl where
+    step : (b : Bool) → (columns == 0) ≡ b → 0 < columns
+    step true e =
+        let none : columns ≡ 0 = grind (arith, nat_tests) in
+        let gone = none-crossed (row_axis sizing columns (fitted columns texts)) none in
+        absurd (omega (arith, high, gone))
+    step false e = grind (arith, nat_tests)
+
+  pub wide-high : 0 < length (widths_of style texts) → 0 < length (heights_of style texts)
+  wide-high wide =
+      let rows = some-rows wide in
+      let some : 0 < columns = omega (arith, wide, length-table_widths sizing columns texts rows) in
+      omega (arith, rows, length-table_heights sizing columns texts some)
+
+  pub high-wide : 0 < length (heights_of style texts) → 0 < length (widths_of style texts)
+  high-wide high =
+      let some = some-columns high in
+      let rows : 0 < length texts = omega (arith, high, length-table_heights sizing columns texts some) in
+      omega (arith, some, length-table_widths sizing columns texts rows)
+
+  -- there is a size of each
+  pub width-each : 0 < length (heights_of style texts) → length (widths_of style texts) ≡ columns
+  width-each high = let rows = some-rows (high-wide high) in length-table_widths sizing columns texts rows
+
+  pub height-each : 0 < length (heights_of style texts) → length (heights_of style texts) ≡ length texts
+  height-each high = length-table_heights sizing columns texts (some-columns high)
+
+  pub one-too_great : PassesMax (widths_of style texts) ⊎ PassesMax (heights_of style texts) → ¬ (InRange (frame_under style texts))
+  one-too_great (inl passes) =
+      let wide = passing (widths_of style texts) passes in
+      too_wide style (widths_of style texts) (heights_of style texts) wide (wide-high wide)
+      (total-passes (widths_of style texts) (boundary_count (has_column_boundary style.borders) (length (widths_of style texts))) style.margin.left.size style.margin.right.size passes)
+  one-too_great (inr passes) =
+      let high = passing (heights_of style texts) passes in
+      too_high style (widths_of style texts) (heights_of style texts) (high-wide high) high
+      (total-passes (heights_of style texts) (boundary_count (has_row_boundary style.borders) (length (heights_of style texts))) style.margin.top.size style.margin.bottom.size passes)
+
+-- where there are no widths or no heights nothing is out of range
+module _ (style : Compact) where
+  pub none-wide : (heights : List ℕ) → (line_count (frame_of (compact_look style) [] heights) ≡ 0) × InRange (frame_of (compact_look style) [] heights)
+  none-wide heights =
+      let frame = frame_of (compact_look style) [] heights in
+      let lines : line_count frame ≡ 0 = no_lines (length heights == 0) (track_at frame.rows (length heights) + style.margin.bottom.size) in
+      let columns : table_width frame ≡ 0 = no_columns (length heights == 0) (track_at frame.columns 0 + style.margin.right.size) in
+      (lines, (omega (arith, columns), omega (arith, lines)))
+    where
+      no_lines : (b : Bool) (n : ℕ) → (if b then 0 else if true then 0 else n) ≡ 0
+      no_lines true n = refl
+      no_lines false n = refl
+
+      no_columns : (b : Bool) (n : ℕ) → (if b || true then 0 else n) ≡ 0
+      no_columns true n = refl
+      no_columns false n = refl
+
+  pub none-high : (widths : List ℕ) → (line_count (frame_of (compact_look style) widths []) ≡ 0) × InRange (frame_of (compact_look style) widths [])
+  none-high widths = (refl, (omega arith, omega arith))

@@ -8,15 +8,7 @@ use Rattle.std.proofs.lemmas.Str.{inside_one, encode_ascii, length-encode, len_u
 use Rattle.std.proofs.lemmas.List.Splits.{slice_split-cons_yes, slice_split-cons_no}
 use Rattle.std.proofs.lemmas.Simd.{map-map}
 use Rattle.columns_run.specs.Rows.{line_feed, tab, without_empty_last, row_texts, rows_of}
-use Rattle.grid_records_measure.specs.Measures.{measure}
-use Rattle.columns_run.specs.Estimates.{Line}
-use Rattle.columns_run.specs.Picture.{picture_items}
-use Rattle.columns_run.specs.Readings.{read_line, read_rows}
-use Rattle.columns_run.specs.Layout.{grid_of, character_line, character_rows, table_characters}
-use Rattle.columns_run.specs.Printing.{one_line, byte_line}
 use Rattle.columns_run.proofs.RowLemmas.{slice_split-parts}
-use Rattle.columns_run.proofs.ItemLemmas.{map-same}
-use Rattle.columns_run.proofs.ReadingLemmas.{read-table}
 
 -- the elements put before the first part
 abbrev onto_front : {X : Type 0} → List X → List (List X) → List (List X)
@@ -86,7 +78,7 @@ without_empty_last-encodes ((x ∷ xs) ∷ xss) =
     ∙ ap (λ rest. (first.0 ∷ (first.1 ++ encode_utf8_all xs)) ∷ rest) (without_empty_last-encodes xss)
     ∙ ap (λ bytes. (bytes ++ encode_utf8_all xs) ∷ map encode_utf8_all (without_empty_last xss)) (sym first.2)
 
-rows_of-encodes : (cs : List ℕ) → rows_of (λ b. b) (encode_utf8_all cs) ≡ map (map encode_utf8_all) (rows_of (λ c. c) cs)
+pub rows_of-encodes : (cs : List ℕ) → rows_of (λ b. b) (encode_utf8_all cs) ≡ map (map encode_utf8_all) (rows_of (λ c. c) cs)
 rows_of-encodes cs =
     let cells = slice_split (λ (b : ℕ). b == tab) in
     ap (λ rows. map cells (without_empty_last rows)) (slice_split-encodes line_feed (lit< tt) cs)
@@ -97,7 +89,7 @@ rows_of-encodes cs =
 
 -- ---- the characters of a cell
 
-abbrev AreScalars : List ℕ → Type 0
+abbrev pub AreScalars : List ℕ → Type 0
 AreScalars cs = scalars cs ≡ true
 
 AreScalars-cons : (c : ℕ) (cs : List ℕ) → scalar c ≡ true → AreScalars cs → AreScalars (c ∷ cs)
@@ -107,7 +99,7 @@ AreScalars-onto_first : (c : ℕ) (parts : List (List ℕ)) → scalar c ≡ tru
 AreScalars-onto_first c [] first all = (AreScalars-cons c [] first refl, tt)
 AreScalars-onto_first c (part ∷ parts) first all = (AreScalars-cons c part first all.0, all.1)
 
-AreScalars-slice_split : (p : ℕ → Bool) (cs : List ℕ) → AreScalars cs → AllByRecursion AreScalars (slice_split p cs)
+pub AreScalars-slice_split : (p : ℕ → Bool) (cs : List ℕ) → AreScalars cs → AllByRecursion AreScalars (slice_split p cs)
 AreScalars-slice_split p [] all = (refl, tt)
 AreScalars-slice_split p (c ∷ cs) all =
     let split = and_parts (scalar c) (scalars cs) all in
@@ -117,55 +109,12 @@ AreScalars-slice_split p (c ∷ cs) all =
       | false ↦ AreScalars-onto_first c (slice_split p cs) split.0 rest
     ]
 
-AreScalars-without_empty_last : (xss : List (List ℕ)) → AllByRecursion AreScalars xss → AllByRecursion AreScalars (without_empty_last xss)
+pub AreScalars-without_empty_last : (xss : List (List ℕ)) → AllByRecursion AreScalars xss → AllByRecursion AreScalars (without_empty_last xss)
 AreScalars-without_empty_last [] all = tt
 AreScalars-without_empty_last ([] ∷ []) all = tt
 AreScalars-without_empty_last ([] ∷ xs ∷ xss) all = (all.0, AreScalars-without_empty_last (xs ∷ xss) all.1)
 AreScalars-without_empty_last ((x ∷ xs) ∷ xss) all = (all.0, AreScalars-without_empty_last xss all.1)
 
-AreScalars-cells : (p : ℕ → Bool) (rows : List (List ℕ)) → AllByRecursion AreScalars rows → AllByRecursion (AllByRecursion AreScalars) (map (slice_split p) rows)
+pub AreScalars-cells : (p : ℕ → Bool) (rows : List (List ℕ)) → AllByRecursion AreScalars rows → AllByRecursion (AllByRecursion AreScalars) (map (slice_split p) rows)
 AreScalars-cells p [] all = tt
 AreScalars-cells p (row ∷ rows) all = (AreScalars-slice_split p row all.0, AreScalars-cells p rows all.1)
-
-encodes-flat_map : (cs : List ℕ) → encode_utf8_all cs ≡ flat_map encode_utf8 cs
-encodes-flat_map [] = refl
-encodes-flat_map (c ∷ cs) = ap (λ bytes. encode_utf8 c ++ bytes) (encodes-flat_map cs)
-
--- a cell of characters, read as bytes
-read-character_line : (cell : List ℕ) → AreScalars cell → read_line encode_utf8 (character_line cell) ≡ byte_line (encode_utf8_all cell)
-read-character_line cell all =
-    ap (λ (bytes : List ℕ). record { measure = measure cell; items = bytes }) (sym (encodes-flat_map cell))
-    ∙ ap (λ (characters : List ℕ). record { measure = measure characters; items = encode_utf8_all cell }) (sym (chars-encodes cell all))
-
-read-character_rows : (cs : List ℕ) → AreScalars cs → read_rows encode_utf8 (character_rows cs) ≡ map one_line (map (map byte_line) (rows_of (λ b. b) (encode_utf8_all cs)))
-read-character_rows cs all =
-    let rows = rows_of (λ (c : ℕ). c) cs in
-    let cells = AreScalars-cells (λ c. c == tab) (row_texts (λ c. c) cs) (AreScalars-without_empty_last (slice_split (λ c. c == line_feed) cs) (AreScalars-slice_split (λ c. c == line_feed) cs all)) in
-    let characters = λ (cell : List ℕ). character_line cell ∷ [] in
-    let bytes = λ (cell : List ℕ). byte_line (encode_utf8_all cell) ∷ [] in
-    map-map (map (map (read_line encode_utf8))) (map characters) rows
-    ∙ (λ n. map (λ row. map-map (map (read_line encode_utf8)) characters row n) rows)
-    ∙ map-same (AllByRecursion AreScalars) (map (λ cell. read_line encode_utf8 (character_line cell) ∷ [])) (map bytes)
-    (λ row in_row. map-same AreScalars (λ cell. read_line encode_utf8 (character_line cell) ∷ []) bytes (λ cell good. ap (λ line. line ∷ []) (read-character_line cell good)) row in_row) rows cells
-    ∙ (λ n. map (λ row. sym (map-map (λ (line : Line ℕ). line ∷ []) (λ cell. byte_line (encode_utf8_all cell)) row) n) rows)
-    ∙ (λ n. map (λ row. one_line (sym (map-map byte_line encode_utf8_all row) n)) rows)
-    ∙ sym (map-map one_line (λ row. map byte_line (map encode_utf8_all row)) rows)
-    ∙ ap (map one_line) (sym (map-map (map byte_line) (map encode_utf8_all) rows))
-    ∙ ap (λ found. map one_line (map (map byte_line) found)) (sym (rows_of-encodes cs))
-
--- ---- the table of a text without sequences
-
-abbrev pub byte_rows : List ℕ → List (List (Line ℕ))
-byte_rows bytes = map (map byte_line) (rows_of (λ b. b) bytes)
-
-read-bytes : (bytes : List ℕ) → IsUtf8 bytes → read_rows encode_utf8 (character_rows (chars bytes)) ≡ map one_line (byte_rows bytes)
-read-bytes bytes utf8 = read-character_rows (chars bytes) (scalars-chars bytes utf8) ∙ ap (λ text. map one_line (byte_rows text)) (encodes-chars bytes utf8)
-
--- the bytes of the table of its characters
-pub table-bytes : (bytes : List ℕ) → IsUtf8 bytes → encode_utf8_all (table_characters (chars bytes)) ≡ picture_items encode_utf8 (grid_of (map one_line (byte_rows bytes)))
-table-bytes bytes utf8 =
-    let rows = character_rows (chars bytes) in
-    encodes-flat_map (table_characters (chars bytes))
-    ∙ read-table encode_utf8 (λ c. c ∷ []) rows
-    ∙ (λ n. picture_items (λ c. append-nil (encode_utf8 c) n) (grid_of (read_rows encode_utf8 rows)))
-    ∙ ap (λ found. picture_items encode_utf8 (grid_of found)) (read-bytes bytes utf8)

@@ -1,72 +1,74 @@
 -- The table of a text: what the program writes for it, and what that shows.
-use Rattle.std.specs.Prelude.{ℕ, ◌^◌, ◌<◌, List, [], ◌∷◌, map, chars, encode_utf8}
-use Rattle.ansi_scan.specs.Attributes.{Attributes, plain_attributes}
-use Rattle.columns_run.specs.Rows.{rows_of, stripped, cell_parts}
-use Rattle.grid_records_measure.specs.Measures.{measure}
-use Rattle.columns_run.specs.Glyphs.{ascii}
-use Rattle.columns_run.specs.Estimates.{Line, Padding, column_widths, row_heights}
-use Rattle.columns_run.specs.Totals.{total}
-use Rattle.columns_run.specs.Picture.{Grid, picture_items}
+use Rattle.std.specs.Prelude.{ℕ, ◌==◌, List, [], ◌∷◌, ◌++◌, Option, None, map, length, chars, encode_utf8_all, if◌then◌else◌}
+use Rattle.ansi_scan.specs.Attributes.{plain_attributes}
+use Rattle.grid_config.specs.Compact.{Compact, compact_of}
+use Rattle.grid_config.specs.Looks.{compact_look}
+use Rattle.grid_records_estimate.specs.Estimates.{greatest}
+use Rattle.grid_records_estimate.specs.Sizes.{table_heights, table_widths}
+use Rattle.grid_records_estimate.specs.Sizing.{compact_sizing}
+use Rattle.papergrid_picture.specs.Fitting.{InRange}
+use Rattle.papergrid_picture.specs.Frame.{Frame, frame_of, line_count}
+use Rattle.papergrid_picture.specs.Shown.{Styled, character_of, character_picture, in_plain, styled_picture}
+use Rattle.papergrid_picture.specs.Tables.{table_text}
+use Rattle.columns_run.specs.Rows.{cell_parts, line_feed, rows_of, stripped}
+use Rattle.columns_run.specs.declared.options.Options.{Options}
 
--- one column at both sides of a text
-abbrev pub one_each : Padding
-one_each = record { left = 1; right = 1 }
+-- the items of a picture with a line feed behind its last line too
+abbrev pub ended : {X : Type 0} → X → Frame → List X → List X
+ended feed frame items = if line_count frame == 0 then [] else items ++ feed ∷ []
 
--- rows of cells in the style `ascii`, each row and column as small as its cells allow
-abbrev pub grid_of : {X : Type 0} → List (List (List (Line X))) → Grid X
-grid_of rows = record { borders = ascii; padding = one_each; rows = rows; widths = column_widths one_each rows; heights = row_heights rows }
+-- as many columns as the longest row has cells; a cell that a row lacks is empty
+abbrev pub column_count : {X : Type 0} → List (List X) → ℕ
+column_count rows = greatest (map (λ row. length row) rows)
 
--- ---- without styles
+module _ (style : Compact) (texts : List (List (List ℕ))) where
+  -- the least sizes of a table of these texts
+  abbrev pub widths_of : List ℕ
+  widths_of = table_widths (compact_sizing style) (column_count texts) texts
 
--- a cell is one line of characters
-abbrev pub character_line : List ℕ → Line ℕ
-character_line characters = record { measure = measure characters; items = characters }
+  abbrev pub heights_of : List ℕ
+  heights_of = table_heights (compact_sizing style) (column_count texts) texts
 
-abbrev pub character_rows : List ℕ → List (List (List (Line ℕ)))
-character_rows characters = map (map (λ cell. character_line cell ∷ [])) (rows_of (λ c. c) characters)
+  -- where its rows and columns stand
+  abbrev pub frame_under : Frame
+  frame_under = frame_of (compact_look style) widths_of heights_of
 
--- the characters of the table of a text of these characters
-abbrev pub table_characters : List ℕ → List ℕ
-table_characters characters = picture_items (λ c. c ∷ []) (grid_of (character_rows characters))
+  -- the bytes of the table of these texts
+  abbrev pub rows_text : List ℕ
+  rows_text = ended line_feed frame_under (table_text (compact_look style) texts (λ _. None) widths_of heights_of)
+
+-- ---- by bytes
+
+-- the bytes of the table of a text, of which each cell is a part with its own bytes
+unfoldable pub output_of : Options → List ℕ → List ℕ
+output_of options input = rows_text (compact_of options.style) (cell_parts input)
 
 -- ---- with styles
 
 -- the characters alone
-abbrev pub characters_of : List (ℕ × Attributes) → List ℕ
-characters_of styled = map (λ x. x.0) styled
+abbrev pub characters_of : List Styled → List ℕ
+characters_of styled = map character_of styled
 
--- a cell is one line of characters, each with its style
-abbrev pub styled_line : List (ℕ × Attributes) → Line (ℕ × Attributes)
-styled_line styled = record { measure = measure (characters_of styled); items = styled }
+-- the cells of a text of these characters, without styles
+abbrev pub texts_of : List ℕ → List (List (List ℕ))
+texts_of characters = map (map encode_utf8_all) (rows_of (λ c. c) characters)
 
-abbrev pub styled_rows : List (ℕ × Attributes) → List (List (List (Line (ℕ × Attributes))))
-styled_rows styled = map (map (λ cell. styled_line cell ∷ [])) (rows_of (λ x. x.0) styled)
+-- the picture of a text of these characters: its boundaries, fills and line feeds are in the plain style
+unfoldable pub picture : Options → List Styled → List Styled
+picture options styled =
+    let style = compact_of options.style in
+    let texts = texts_of (characters_of styled) in
+    ended (in_plain line_feed) (frame_under style texts) (styled_picture (compact_look style) (rows_of character_of styled) (widths_of style texts) (heights_of style texts))
 
--- a character in the plain style
-abbrev pub plain : ℕ → ℕ × Attributes
-plain c = (c, plain_attributes)
+-- ---- without styles
 
--- the picture of a text of these characters, its boundaries, fills and line feeds in the plain style
-abbrev pub picture_of : List (ℕ × Attributes) → List (ℕ × Attributes)
-picture_of styled = picture_items (λ c. plain c ∷ []) (grid_of (styled_rows styled))
-
--- ---- by bytes
-
--- a cell is one line, a part of the text: its bytes, and the columns of the characters that it shows
-abbrev pub part_line : List ℕ → Line ℕ
-part_line part = record { measure = measure (chars (stripped part)); items = part }
-
-abbrev pub part_rows : List ℕ → List (List (List (Line ℕ)))
-part_rows text = map (map (λ cell. part_line cell ∷ [])) (cell_parts text)
-
--- the bytes of the table of a text
-unfoldable pub output_of : List ℕ → List ℕ
-output_of text = picture_items encode_utf8 (grid_of (part_rows text))
+-- the characters of the table of a text of these characters
+unfoldable pub table_characters : Options → List ℕ → List ℕ
+table_characters options characters =
+    let style = compact_of options.style in
+    let texts = texts_of characters in
+    ended line_feed (frame_under style texts) (character_picture (compact_look style) (rows_of (λ c. c) characters) (widths_of style texts) (heights_of style texts))
 
 -- the table's width and height fit a `usize`, and so does each size, since no size passes its total
-pub record TotalsFit {X : Type 0} (grid : Grid X) : Type 0 where
-  pub width : total grid.widths < 2 ^ 64
-  pub height : total grid.heights < 2 ^ 64
-
-unfoldable pub TableFits : List ℕ → Type 0
-TableFits text = TotalsFit (grid_of (character_rows (chars (stripped text))))
+unfoldable pub TableFits : Options → List ℕ → Type 0
+TableFits options text = InRange (frame_under (compact_of options.style) (texts_of (chars (stripped text))))

@@ -6,30 +6,31 @@ use Rattle.columns_run.specs.declared.fault.RunFault.{RunFault}
 use Rattle.columns_run.specs.declared.fault.RunFault.TheVariants.{Read, ReadTooLong, NotUtf8, Escape, Range, LineTooWide, Write, WriteZero, Memory}
 use Rattle.ansi_scan.specs.Sequences.{IsWhole, IsFirstBroken}
 use Rattle.columns_run.specs.Layout.{output_of, TableFits}
+use Rattle.columns_run.specs.declared.options.Options.{Options}
 use Rattle.columns_run.specs.TableShown.{ShowsTableOf}
-use Rattle.columns_run.specs.Streams.{AppendsFront}
+use Rattle.tabled_output.specs.Streams.{AppendsFront}
 
 -- how many reads without an end are too many
 abbrev pub read_limit : ℕ
 read_limit = 2 ^ 40
 
 -- the input has a table: it is text, each ESC of it begins a whole sequence, and width and height of the table are in range
-abbrev pub HasTable : List ℕ → Type 0
-HasTable input = IsUtf8 input × IsWhole input × TableFits input
+abbrev pub HasTable : Options → List ℕ → Type 0
+HasTable options input = IsUtf8 input × IsWhole input × TableFits options input
 
 -- an input may be answered so. The cases exclude one another, but for the faults of reading, writing
 -- and memory, which the counts of the reader and the writer tell
-abbrev pub MayAnswer : {T : Type 0} → List ℕ → Result T RunFault → Type 0
-MayAnswer input (Ok _) = HasTable input
-MayAnswer input (Err Read) = ⊤
-MayAnswer input (Err ReadTooLong) = read_limit ≤ length input
-MayAnswer input (Err (NotUtf8 at)) = ¬ (IsUtf8 input) × (at ≡ utf8_valid_len input)
-MayAnswer input (Err (Escape at)) = IsUtf8 input × IsFirstBroken input at
-MayAnswer input (Err Range) = IsUtf8 input × IsWhole input × ¬ (TableFits input)
-MayAnswer input (Err (LineTooWide row column)) = ⊥
-MayAnswer input (Err Write) = HasTable input
-MayAnswer input (Err WriteZero) = HasTable input
-MayAnswer input (Err Memory) = ⊤
+abbrev pub MayAnswer : {T : Type 0} → Options → List ℕ → Result T RunFault → Type 0
+MayAnswer options input (Ok _) = HasTable options input
+MayAnswer options input (Err Read) = ⊤
+MayAnswer options input (Err ReadTooLong) = read_limit ≤ length input
+MayAnswer options input (Err (NotUtf8 at)) = ¬ (IsUtf8 input) × (at ≡ utf8_valid_len input)
+MayAnswer options input (Err (Escape at)) = IsUtf8 input × IsFirstBroken input at
+MayAnswer options input (Err Range) = IsUtf8 input × IsWhole input × ¬ (TableFits options input)
+MayAnswer options input (Err (LineTooWide row column)) = ⊥
+MayAnswer options input (Err Write) = HasTable options input
+MayAnswer options input (Err WriteZero) = HasTable options input
+MayAnswer options input (Err Memory) = ⊤
 
 -- what is written of the text with an answer: all of it, or a front of it where writing was cut
 -- short, or nothing
@@ -48,12 +49,12 @@ HasReadAll (Err Memory) = ⊥
 HasReadAll _ = ⊤
 
 -- the answer is one that the input calls for, of its table that much was written, and the table is its picture
-pub record Serves {T : Type 0} (input : List ℕ) (result : Result T RunFault) (old new : Option (List ℕ)) : Type 0 where
-  pub answers : MayAnswer input result
-  pub writes : Writes (output_of input) result old new
-  pub shows : HasTable input → ShowsTableOf input (output_of input)
+pub record Serves {T : Type 0} (options : Options) (input : List ℕ) (result : Result T RunFault) (old new : Option (List ℕ)) : Type 0 where
+  pub answers : MayAnswer options input result
+  pub writes : Writes (output_of options input) result old new
+  pub shows : HasTable options input → ShowsTableOf options input (output_of options input)
 
 -- where the input has no table, and where its table is empty, the writer is not even touched
-pub record LeavesAlone {T : Type 0} (input : List ℕ) (old new : T) : Type 0 where
-  pub no_table : ¬ (HasTable input) → new ≡ old
-  pub empty : length (output_of input) ≡ 0 → new ≡ old
+pub record LeavesAlone {T : Type 0} (options : Options) (input : List ℕ) (old new : T) : Type 0 where
+  pub no_table : ¬ (HasTable options input) → new ≡ old
+  pub empty : length (output_of options input) ≡ 0 → new ≡ old

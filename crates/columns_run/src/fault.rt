@@ -1,8 +1,9 @@
 //! Why a run gave up.
-use crate::layout::LayoutFault;
+use grid_config::Fault;
 use std::alloc::AllocError;
 use std::error::Error;
 use std::fmt;
+use tabled_output::WriteFault;
 
 /// Why `run` gave up. Where several hold, the answer is the first in this order, except that
 /// `Memory` may come at any step.
@@ -65,17 +66,33 @@ impl From<AllocError> for RunFault {
     }
 }
 
-/// Why the text has no table, by the same names.
-impl From<LayoutFault> for RunFault {
+/// Why not all was written, by the same names.
+impl From<WriteFault> for RunFault {
+    ghost use Rattle.std.specs.Prelude.{◌≡◌};
+    ghost use Rattle.columns_run.specs.Fault.{write_fault};
+
+    ghost from_gives = { λ given fault. fault ≡ write_fault given };
+
+    fn from(fault: WriteFault) -> RunFault {
+        match fault {
+            WriteFault::Write => RunFault::Write,
+            WriteFault::WriteZero => RunFault::WriteZero,
+        }
+    }
+}
+
+/// Why the text has no table. A table of a text has no spans, so that `Spans` isn't met.
+impl From<Fault> for RunFault {
     ghost use Rattle.std.specs.Prelude.{◌≡◌};
     ghost use Rattle.columns_run.specs.Fault.{run_fault};
 
     ghost from_gives = { λ given fault. fault ≡ run_fault given };
 
-    fn from(fault: LayoutFault) -> RunFault {
+    fn from(fault: Fault) -> RunFault {
         match fault {
-            LayoutFault::Range => RunFault::Range,
-            LayoutFault::Memory => RunFault::Memory,
+            Fault::Memory => RunFault::Memory,
+            Fault::Range | Fault::Spans => RunFault::Range,
+            Fault::Room { row, column } => RunFault::LineTooWide { row, column },
         }
     }
 }

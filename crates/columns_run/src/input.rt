@@ -2,15 +2,15 @@
 ghost use Rattle.std.specs.Prelude.{◌≡◌, ◌≤◌, ◌≢◌, ◌↔◌, length, IfOk, IfErr, OnOk, IsErrOf, IsUtf8, Err};
 ghost use Rattle.std.specs.Str.Lossy.{utf8_valid_len};
 ghost use Rattle.std.specs.Io.KnownBytes.{Consumes, IsAtEnd};
-ghost use Rattle.columns_run.specs.Counts.{inner_of, empty_writes_of, HasFailed, HasGivenPieces};
+ghost use Rattle.tabled_output.specs.Counts.{inner_of, empty_writes_of, flushes_of, FailsIff, HasGivenPieces};
 ghost use Rattle.columns_run.specs.Fault.{IsOfReading};
-ghost use Rattle.columns_run.specs.Streams.{ConsumesSome};
+ghost use Rattle.tabled_output.specs.Streams.{ConsumesSome};
 
-use crate::counted::Counted;
 use crate::fault::RunFault;
 use std::alloc::Global;
 use std::io::Read;
 use std::str;
+use tabled_output::Counted;
 
 // How many bytes one read asks for.
 const CHUNK: usize = 65536;
@@ -30,10 +30,11 @@ pub fn read_all<R: Read>(
         (λ bytes. IsErrOf result RunFault.ReadTooLong → limit ≤ length bytes) }
 
     ensures faults { IfErr result IsOfReading }
-    ensures read { IsErrOf result RunFault.Read ↔ HasFailed reader.old reader.new }
+    ensures read { FailsIff (IsErrOf result RunFault.Read) reader.old reader.new }
     ensures too_long { result ≢ Err RunFault.Memory →
         (IsErrOf result RunFault.ReadTooLong ↔ HasGivenPieces reader.old reader.new limit) }
     ensures empty_writes { empty_writes_of reader.new ≡ empty_writes_of reader.old }
+    ensures flushes { flushes_of reader.new ≡ flushes_of reader.old }
 {
     let mut bytes = Vec::new(alloc);
     let mut chunk = [0u8; CHUNK];

@@ -2,20 +2,22 @@
 //! standard streams.
 #![tactic(auto)]
 
-mod counted;
 mod fault;
 mod input;
 pub mod laws;
 mod layout;
-mod output;
+mod options;
 mod parts;
-mod print;
+mod placed;
 mod records;
 mod rows;
 mod running;
 mod sizes;
+mod style;
 
-pub use counted::Counted;
 pub use fault::RunFault;
 pub use input::read_all;
-pub use running::{Options, run};
+pub use options::Options;
+pub use running::run;
+pub use style::style_is_plain;
+pub use tabled_output::Counted;

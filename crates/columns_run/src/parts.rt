@@ -3,18 +3,17 @@
 ghost use Rattle.std.specs.Prelude.{◌≡◌, ℕ, ◌==◌, ◌<◌, ◌≤◌, [], ◌∷◌, ◌++◌, map, length, sum, vec_len, IfOk, OnOk};
 ghost use Rattle.std.specs.Cow.{cow_str_bytes};
 ghost use Rattle.columns_run.specs.Rows.{stripped, tab, parts_at, row_parts};
-ghost use Rattle.columns_run.specs.Layout.{part_line};
-ghost use Rattle.columns_run.specs.Printing.{bytes, shown, cut, last_is_bare};
+ghost use Rattle.columns_run.specs.Cells.{bytes, shown, cut, last_is_bare, part_line};
 
 use crate::rows::Cell;
-use ansi_str::{AnsiStr, get_blocks};
+use ansi_str::{AnsiSplit, get_blocks};
 use grid_records_measure::get_line_width;
 use std::alloc::{AllocError, Global};
 use std::borrow::CowStr;
 
 /// The rows of a text: its parts at line feeds, but for a last one that shows nothing.
-pub fn row_parts<'a>(alloc: Global, text: &'a &'a str) -> Result<Vec<CowStr<'a>>, AllocError>
-    ensures { IfOk result (λ rows. map cow_str_bytes rows.items ≡ row_parts text.now.now) }
+pub fn row_parts<'a>(alloc: Global, text: &'a str) -> Result<Vec<CowStr<'a>>, AllocError>
+    ensures { IfOk result (λ rows. map cow_str_bytes rows.items ≡ row_parts text.now) }
 {
     let mut rows = Vec::new(alloc);
     push_parts(alloc, &mut rows, text, "\n")?;
@@ -39,7 +38,7 @@ pub fn texts<'a>(alloc: Global, parts: &'a [CowStr<'a>]) -> Result<Vec<&'a str>,
 /// The cells of all rows, one row after the other, and how many each row has.
 pub fn cell_parts<'a>(
     alloc: Global,
-    rows: &'a [&'a str],
+    rows: &[&'a str],
 ) -> Result<(Vec<CowStr<'a>>, Vec<usize>), AllocError>
     ensures whole { IfOk result (λ found. sum found.1.items ≡ vec_len found.0) }
     ensures cells { IfOk result (λ found. cut found.1.items (map cow_str_bytes found.0.items) ≡ map (parts_at tab) (map bytes rows.now)) }
@@ -79,13 +78,13 @@ fn measured_cell(part: &str) -> Cell<'_>
 fn push_parts<'a>(
     alloc: Global,
     parts: &mut Vec<CowStr<'a>>,
-    text: &'a &'a str,
+    text: &'a str,
     character: &'a str,
 ) -> Result<(), AllocError>
     ensures grows { OnOk result (vec_len parts.old ≤ vec_len parts.new) }
-    ensures parts { OnOk result ((c : ℕ) → c < 128 → character.now ≡ c ∷ [] → map cow_str_bytes parts.new.items ≡ map cow_str_bytes parts.old.items ++ parts_at c text.now.now) }
+    ensures parts { OnOk result ((c : ℕ) → c < 128 → character.now ≡ c ∷ [] → map cow_str_bytes parts.new.items ≡ map cow_str_bytes parts.old.items ++ parts_at c text.now) }
 {
-    for part in text.ansi_split(alloc, character) {
+    for part in AnsiSplit::new(alloc, text, character) {
         parts.push(part?)?;
     }
     Ok(())

@@ -2,11 +2,10 @@
 ghost use Rattle.std.proofs.Common.{ap, sym};
 ghost use Rattle.std.specs.Prelude.{◌≡◌, All, Some, drop, false, length, refl, sum, vec_len};
 ghost use Rattle.std.specs.Iterator.{at_most};
-ghost use Rattle.grid_records_traits.specs.Cells.{HasLineCount, HasWidth};
-ghost use Rattle.columns_run.specs.Estimates.{greatest};
+ghost use Rattle.grid_records_estimate.specs.Estimates.{greatest};
 ghost use Rattle.grid_records_traits.specs.Giving.{GivesRow, GivesText, TakesOne};
 ghost use Rattle.grid_records_traits.specs.Laws.Giving.{each_cell, each_row};
-ghost use Rattle.columns_run.specs.Records.{IsMeasured, row_texts, table_texts};
+ghost use Rattle.columns_run.specs.Records.{IsMeasured, IsOneLine, row_texts, table_texts};
 
 use crate::rows::{Cell, Rows};
 use crate::sizes::greatest;
@@ -18,8 +17,7 @@ use std::alloc::AllocError;
 pub struct MeasuredCell<'a> {
     text: &'a str,
     width: usize,
-    ghost one_line: { HasLineCount text.now 1 },
-    ghost measured: { HasWidth text.now width },
+    ghost one_line: { IsOneLine text.now width },
 }
 
 impl<'a> Record for MeasuredCell<'a> {

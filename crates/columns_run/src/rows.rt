@@ -2,7 +2,7 @@
 ghost use Rattle.std.specs.Prelude.{◌≡◌, [], ◌∷◌, ◌++◌, map, sum, vec_len, IfOk, OnOk, IsTrue};
 ghost use Rattle.std.specs.Int.{is_in_range};
 ghost use Rattle.columns_run.specs.Rows.{rows_of};
-ghost use Rattle.columns_run.specs.Printing.{shown, byte_line, rows_shown};
+ghost use Rattle.columns_run.specs.Cells.{shown, byte_line, rows_shown};
 ghost use Rattle.grid_records_measure.specs.Measures.{are_printable};
 
 use grid_records_measure::get_string_width;

@@ -1,37 +1,26 @@
 //! From a reader to a writer: all bytes, the text, the table.
 ghost use Rattle.std.specs.Prelude.{◌≡◌, ◌≢◌, ◌↔◌, IfSome, IfOk, IfErr, IsErrOf, Err, string_bytes};
 ghost use Rattle.std.specs.Io.KnownBytes.{IsAtEnd};
-ghost use Rattle.columns_run.specs.Counts.{inner_of, HasFailed, HasTakenNothing, HasGivenPieces};
+ghost use Rattle.tabled_output.specs.Counts.{inner_of, empty_writes_of, pieces_read_of, flushes_of, FailsIff, TakesNothingIff, HasGivenPieces};
 ghost use Rattle.columns_run.specs.Fault.{IsOfInput, MayFollowWrites};
+ghost use Rattle.grid_config.specs.Compact.{compact_of};
 ghost use Rattle.columns_run.specs.Layout.{output_of};
-ghost use Rattle.columns_run.specs.Streams.{ConsumesSome};
+ghost use Rattle.columns_run.specs.Plain.{IsPlain};
+ghost use Rattle.tabled_output.specs.Streams.{ConsumesSome};
 ghost use Rattle.columns_run.specs.Run.{MayAnswer, Serves, LeavesAlone, HasReadAll, read_limit};
 
-use crate::counted::Counted;
 use crate::fault::RunFault;
 use crate::input::{read_all, text_of};
 use crate::layout::{plain_table, styled_table};
-use crate::output::write_all;
+use crate::options::Options;
 use ansi_scan::first_broken;
 use ansi_str::AnsiStr;
 use std::alloc::Global;
 use std::io::{Read, Write};
+use tabled_output::{Counted, write_all};
 
 // How many reads without an end are too many.
 const READ_LIMIT: u64 = 1 << 40;
-
-/// What `run` is asked.
-#[derive(Debug, Drop)]
-pub struct Options {
-    _private: (),
-}
-
-impl Options {
-    /// The defaults: a table with ASCII borders.
-    pub fn new() -> Options {
-        Options { _private: () }
-    }
-}
 
 /// Reads all text, cells between tabs and rows between line feeds, and writes it as a table with
 /// borders. `RunFault` says when it gives up. Before a fault of the reader or the input nothing is
@@ -42,25 +31,30 @@ pub fn run<R: Read, W: Write>(
     reader: &mut Counted<R>,
     writer: &mut Counted<W>,
 ) -> Result<(), RunFault>
+    requires { IsPlain (compact_of options.now.style) }
+
     // Where the reader's bytes are known, they decide the answer and what is written.
     ensures known_input { IfSome (R.remaining (inner_of reader.old)) (λ input.
-        Serves input result (W.contents (inner_of writer.old)) (W.contents (inner_of writer.new))
-        × LeavesAlone input writer.old writer.new) }
+        Serves options.now input result (W.contents (inner_of writer.old)) (W.contents (inner_of writer.new))
+        × LeavesAlone options.now input writer.old writer.new) }
 
     // Where they are not, the same holds of some bytes that the reader gave.
     ensures some_input { ConsumesSome (R.remaining (inner_of reader.old))
         (R.remaining (inner_of reader.new)) (λ input.
-        Serves input result (W.contents (inner_of writer.old)) (W.contents (inner_of writer.new))
-        × LeavesAlone input writer.old writer.new) }
+        Serves options.now input result (W.contents (inner_of writer.old)) (W.contents (inner_of writer.new))
+        × LeavesAlone options.now input writer.old writer.new) }
     ensures at_end { HasReadAll result → IsAtEnd (R.remaining (inner_of reader.new)) }
 
     // The counts say exactly when a fault of the reader or the writer comes.
-    ensures read { IsErrOf result RunFault.Read ↔ HasFailed reader.old reader.new }
+    ensures read { FailsIff (IsErrOf result RunFault.Read) reader.old reader.new }
     ensures read_too_long { result ≢ Err RunFault.Memory →
         (IsErrOf result RunFault.ReadTooLong ↔ HasGivenPieces reader.old reader.new read_limit) }
-    ensures write { IsErrOf result RunFault.Write ↔ HasFailed writer.old writer.new }
-    ensures write_zero { IsErrOf result RunFault.WriteZero
-        ↔ HasTakenNothing writer.old writer.new }
+    ensures write { FailsIff (IsErrOf result RunFault.Write) writer.old writer.new }
+    ensures write_zero { TakesNothingIff (IsErrOf result RunFault.WriteZero) writer.old writer.new }
+
+    // A reader is only read, and a writer only written: nothing is flushed.
+    ensures only_reads { (empty_writes_of reader.new ≡ empty_writes_of reader.old) × (flushes_of reader.new ≡ flushes_of reader.old) }
+    ensures only_writes { (pieces_read_of writer.new ≡ pieces_read_of writer.old) × (flushes_of writer.new ≡ flushes_of writer.old) }
 
     // A fault of the reader or the input comes before the writer is touched.
     ensures untouched { IfErr result (λ fault.
@@ -68,13 +62,13 @@ pub fn run<R: Read, W: Write>(
 {
     let bytes = read_all(alloc, reader, READ_LIMIT)?;
     let table = table_of(alloc, options, &bytes)?;
-    write_all(writer, table.as_bytes())
+    Ok(write_all(writer, table.as_bytes())?)
 }
 
 // The table of an input, or why it has none.
-fn table_of(alloc: Global, _options: &Options, bytes: &[u8]) -> Result<String, RunFault>
-    ensures answers { MayAnswer bytes.now result }
-    ensures table { IfOk result (λ table. string_bytes table ≡ output_of bytes.now) }
+fn table_of(alloc: Global, options: &Options, bytes: &[u8]) -> Result<String, RunFault>
+    ensures answers { MayAnswer options.now bytes.now result }
+    ensures table { IfOk result (λ table. string_bytes table ≡ output_of options.now bytes.now) }
     ensures faults { IfErr result IsOfInput }
 {
     let text = text_of(bytes)?;
@@ -82,9 +76,9 @@ fn table_of(alloc: Global, _options: &Options, bytes: &[u8]) -> Result<String, R
         if let Some(at) = first_broken(text) {
             return Err(RunFault::Escape { at });
         }
-        styled_table(alloc, text)
+        styled_table(alloc, options, text)
     } else {
-        plain_table(alloc, text)
+        plain_table(alloc, options, text)
     };
     Ok(table?)
 }

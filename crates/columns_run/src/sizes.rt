@@ -1,119 +1,101 @@
 //! How wide and how high a table is, by the estimates of records.
-ghost use Rattle.std.specs.Prelude.{◌≡◌, ◌-◌, ◌^◌, ◌<◌, ◌≤◌, ◌⊎◌, All, IfErr, IfOk, OnOk, map, sum, vec_len};
+ghost use Rattle.std.specs.Prelude.{◌≡◌, All, IfErr, IfOk, OnOk, slice_index, sum, vec_len};
 ghost use Rattle.grid_config.specs.Compact.{compact_of};
+ghost use Rattle.grid_config.specs.Looks.{compact_look};
 ghost use Rattle.grid_config_values.specs.declared.fault.Fault.TheVariants.{Range};
 ghost use Rattle.grid_records_estimate.specs.Sizes.{IsRefusal};
-ghost use Rattle.columns_run.specs.Estimates.{column_widths, greatest};
-ghost use Rattle.columns_run.specs.Glyphs.{ascii};
-ghost use Rattle.columns_run.specs.Layout.{TotalsFit, grid_of, one_each};
-ghost use Rattle.columns_run.specs.Printing.{one_line, rows_shown};
+ghost use Rattle.grid_records_estimate.specs.Estimates.{greatest};
+ghost use Rattle.papergrid_picture.specs.Fitting.{InRange};
+ghost use Rattle.papergrid_picture.specs.Frame.{frame_of, line_count};
+ghost use Rattle.columns_run.specs.Cells.{rows_shown, texts_of_lines};
+ghost use Rattle.columns_run.specs.Layout.{frame_under, heights_of, widths_of};
 ghost use Rattle.columns_run.specs.Records.{IsMeasured};
-ghost use Rattle.columns_run.specs.Settings.{all_set, ascii_settings};
-ghost use Rattle.columns_run.specs.Totals.{total};
 
 use crate::records::MeasuredRows;
 use crate::rows::Rows;
-use grid_config::{Borders, CompactConfig, Fault, Indent, Sides};
+use grid_config::{CompactConfig, Fault};
 use grid_records_estimate::{CompactGridDimension, total};
+use grid_records_traits::Dimension;
 use std::alloc::Global;
 
-/// The sizes of a table: what each column takes with its padding, and how wide and high it is with its
-/// boundaries.
+/// The sizes of a table: of each column, of each row, and how many lines they are with the boundaries
+/// and margins.
 #[derive(Drop)]
 pub struct Sizes {
     pub widths: Vec<usize>,
-    pub width: usize,
-    pub height: usize,
+    pub heights: Vec<usize>,
+    pub lines: usize,
+}
+
+/// Behind the last column or row every size is 0.
+impl Dimension for Sizes {
+    ghost width = { λ sizes column. slice_index sizes.widths.items column };
+
+    ghost height = { λ sizes row. slice_index sizes.heights.items row };
+
+    fn get_width(&self, column: usize) -> usize {
+        self.widths.get(column).copied().unwrap_or(0)
+    }
+
+    fn get_height(&self, row: usize) -> usize {
+        self.heights.get(row).copied().unwrap_or(0)
+    }
 }
 
 /// The least sizes of a table of these rows. Refused as `Range` where its width or height passes
 /// `usize::MAX`, and for memory.
-pub fn sizes_of(alloc: Global, rows: &Rows<'_>) -> Result<Sizes, Fault>
+pub fn sizes_of(alloc: Global, rows: &Rows<'_>, style: &CompactConfig) -> Result<Sizes, Fault>
     requires whole { sum rows.now.counts.items ≡ vec_len rows.now.cells }
     requires measured { All IsMeasured rows.now.cells.items }
-    ensures widths { IfOk result (λ sizes. sizes.widths.items ≡ column_widths one_each (map one_line (rows_shown rows.now))) }
-    ensures fits { OnOk result (TotalsFit (grid_of (map one_line (rows_shown rows.now)))) }
-    ensures refused { IfErr result (λ fault. IsRefusal fault (¬ (TotalsFit (grid_of (map one_line (rows_shown rows.now)))))) }
+    ensures widths { IfOk result (λ sizes. sizes.widths.items ≡ widths_of (compact_of style.now) (texts_of_lines (rows_shown rows.now))) }
+    ensures heights { IfOk result (λ sizes. sizes.heights.items ≡ heights_of (compact_of style.now) (texts_of_lines (rows_shown rows.now))) }
+    ensures lines { IfOk result (λ sizes. sizes.lines ≡ line_count (frame_under (compact_of style.now) (texts_of_lines (rows_shown rows.now)))) }
+    ensures fits { OnOk result (InRange (frame_under (compact_of style.now) (texts_of_lines (rows_shown rows.now)))) }
+    ensures refused { IfErr result (λ fault. IsRefusal fault (¬ (InRange (frame_under (compact_of style.now) (texts_of_lines (rows_shown rows.now)))))) }
 {
-    let settings = settings();
-    match CompactGridDimension::dimension(alloc, MeasuredRows::new(rows), &settings) {
-        Ok((widths, heights)) => totalled(widths, &heights, settings.get_borders()),
+    match CompactGridDimension::dimension(alloc, MeasuredRows::new(rows), style) {
+        Ok((widths, heights)) => totalled(widths, heights, style),
         Err(fault) => Err(fault),
     }
 }
 
-/// The sizes with how much the widths and heights take together. Refused as `Range` where either passes
-/// `usize::MAX`. Takes no memory.
-fn totalled(widths: Vec<usize>, heights: &[usize], borders: &Borders<char>) -> Result<Sizes, Fault>
-    requires { borders.now ≡ all_set ascii }
-    ensures widths { IfOk result (λ sizes. sizes.widths.items ≡ widths.items) }
-    ensures fits { OnOk result (total widths.items < 2 ^ 64 × total heights.now < 2 ^ 64) }
-    ensures refused { IfErr result (λ fault. (fault ≡ Range) × ((2 ^ 64 ≤ total widths.items) ⊎ (2 ^ 64 ≤ total heights.now))) }
+/// The sizes with the lines that they take together. Refused as `Range` where the columns of a line or
+/// the lines pass `usize::MAX`. Takes no memory.
+fn totalled(widths: Vec<usize>, heights: Vec<usize>, style: &CompactConfig) -> Result<Sizes, Fault>
+    ensures sizes { IfOk result (λ sizes. (sizes.widths.items ≡ widths.items) × (sizes.heights.items ≡ heights.items)) }
+    ensures lines { IfOk result (λ sizes. sizes.lines ≡ line_count (frame_of (compact_look (compact_of style.now)) widths.items heights.items)) }
+    ensures fits { OnOk result (InRange (frame_of (compact_look (compact_of style.now)) widths.items heights.items)) }
+    ensures refused { IfErr result (λ fault. (fault ≡ Range) × (¬ (InRange (frame_of (compact_look (compact_of style.now)) widths.items heights.items)))) }
 {
+    let lines = lines_of(&widths, &heights, style)?;
+    Ok(Sizes {
+        widths,
+        heights,
+        lines,
+    })
+}
+
+/// How many lines these sizes take together. Refused as `Range` where the columns of a line or the
+/// lines pass `usize::MAX`. Takes no memory.
+fn lines_of(widths: &[usize], heights: &[usize], style: &CompactConfig) -> Result<usize, Fault>
+    ensures lines { IfOk result (λ lines. lines ≡ line_count (frame_of (compact_look (compact_of style.now)) widths.now heights.now)) }
+    ensures fits { OnOk result (InRange (frame_of (compact_look (compact_of style.now)) widths.now heights.now)) }
+    ensures refused { IfErr result (λ fault. (fault ≡ Range) × (¬ (InRange (frame_of (compact_look (compact_of style.now)) widths.now heights.now)))) }
+{
+    if widths.is_empty() || heights.is_empty() {
+        return Ok(0);
+    }
+    let borders = style.get_borders();
+    let margin = style.get_margin();
     let boundaries = borders.count_vertical(widths.len());
-    let width = match total(&widths, boundaries, 0, 0) {
-        Ok(width) => width,
+    match total(widths, boundaries, margin.left.size, margin.right.size) {
+        Ok(_columns) => {}
         Err(fault) => return Err(fault),
-    };
+    }
     let boundaries = borders.count_horizontal(heights.len());
-    match total(heights, boundaries, 0, 0) {
-        Ok(height) => Ok(Sizes {
-            widths,
-            width,
-            height,
-        }),
+    match total(heights, boundaries, margin.top.size, margin.bottom.size) {
+        Ok(lines) => Ok(lines),
         Err(fault) => Err(fault),
-    }
-}
-
-/// The settings of the table: the glyphs of `ascii`, and a column at both sides of each text.
-fn settings() -> CompactConfig
-    ensures { compact_of result ≡ ascii_settings }
-{
-    let column = Indent::spaced(1);
-    let none = Indent::zero();
-    CompactConfig::new()
-        .set_borders(ascii())
-        .set_padding(Sides::new(column, column, none, none))
-}
-
-/// The glyphs of `ascii`: `-` along rows, `|` along columns, `+` where they meet.
-fn ascii() -> Borders<char>
-    ensures { result ≡ all_set ascii }
-{
-    Borders {
-        top: Some('-'),
-        top_left: Some('+'),
-        top_right: Some('+'),
-        top_intersection: Some('+'),
-        bottom: Some('-'),
-        bottom_left: Some('+'),
-        bottom_right: Some('+'),
-        bottom_intersection: Some('+'),
-        horizontal: Some('-'),
-        left_intersection: Some('+'),
-        right_intersection: Some('+'),
-        intersection: Some('+'),
-        vertical: Some('|'),
-        left: Some('|'),
-        right: Some('|'),
-    }
-}
-
-/// What texts have of the widths: all but a column at both sides.
-pub fn without_padding(mut widths: Vec<usize>) -> Vec<usize>
-    ensures { result.items ≡ map (λ width. width - 2) widths.items }
-{
-    take_padding(&mut widths);
-    widths
-}
-
-/// Takes a column at both sides from each width.
-fn take_padding(widths: &mut [usize])
-    ensures { widths.new ≡ map (λ width. width - 2) widths.old }
-{
-    for width in widths.iter_mut() {
-        *width = width.saturating_sub(2);
     }
 }
 

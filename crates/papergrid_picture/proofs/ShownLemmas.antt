@@ -87,7 +87,7 @@ pub record ShowsHere (bytes : List ℕ) (characters : List Styled) : Type 0 wher
 pub pieces-nothing : pieces [] ≡ []
 pieces-nothing = pieces-ArePiecesOf [] [] (record { joins = refl; stand = tt })
 
-ShowsHere-nothing : ShowsHere [] []
+pub ShowsHere-nothing : ShowsHere [] []
 ShowsHere-nothing = record {
   utf8 = IsUtf8-nil;
   closed = subst IsClosed (sym pieces-nothing) (record { none_broken = tt; plain = refl });
@@ -97,7 +97,7 @@ ShowsHere-nothing = record {
 each_utf8 : (bytes : List ℕ) → IsUtf8 bytes → EachUtf8 (pieces bytes)
 each_utf8 bytes utf8 = let of = ArePiecesOf-pieces bytes in EachUtf8-pieces (pieces bytes) of.stand (subst IsUtf8 (sym of.joins) utf8)
 
-ShowsHere-append : (a c : List ℕ) (b d : List Styled) → ShowsHere a b → ShowsHere c d → ShowsHere (a ++ c) (b ++ d)
+pub ShowsHere-append : (a c : List ℕ) (b d : List Styled) → ShowsHere a b → ShowsHere c d → ShowsHere (a ++ c) (b ++ d)
 ShowsHere-append a c b d first second =
     let ps = pieces a in
     let qs = pieces c in
@@ -147,7 +147,7 @@ pieces-character c is = pieces-ArePiecesOf (encode_utf8 c) (record { kind = Text
   stand = (record { some = some-encode c is.scalar; plain = plain-encode c is.no_escape; ends = tt }, tt);
 })
 
-ShowsHere-character : (c : ℕ) → IsShown c → ShowsHere (encode_utf8 c) (in_plain c ∷ [])
+pub ShowsHere-character : (c : ℕ) → IsShown c → ShowsHere (encode_utf8 c) (in_plain c ∷ [])
 ShowsHere-character c is =
     let one = pieces-character c is in
     record {

@@ -1,6 +1,13 @@
-use Rattle.std.proofs.Common.{rules}
+use Rattle.std.proofs.Common.{rules, ◌≡◌, ◌+◌, ◌%◌, ◌^◌, ◌≤◌, refl, arith}
 use Rattle.std.proofs.KnownBytes.{Consumes-trans}
+use Rattle.tabled_output.specs.Counts.{pieces_read_of}
 use Rattle.columns_run.proofs.input.read_all.Goals as goal
+
+pub loop-init : goal.loop-init
+loop-init g c =
+    let below = c.args.reader.now.in_range in
+    let here : pieces_read_of c.args.reader.now ≡ (pieces_read_of c.args.reader.now + 0) % 2 ^ 64 = omega (arith, below) in
+    record { bytes = search rules; enough = omega arith; failures = refl; flushes = refl; empty_writes = refl; pieces_read = here }
 
 -- the bytes so far, and those of the read whose piece found no memory
 pub returns-in_err-extend_from_slice-clause-some_bytes :

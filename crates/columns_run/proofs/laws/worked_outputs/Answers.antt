@@ -1,16 +1,18 @@
-use Rattle.std.specs.Fmt.{digits}
-use Rattle.std.specs.Str.{chars}
-use Rattle.std.proofs.Math.Utf8.{encode}
-use Rattle.std.proofs.Common.{refl}
-use Rattle.unicode_width.specs.Width.{str_width, step, past_emoji}
-use Rattle.ansi_scan.specs.Pieces.{pieces, first_pieces, front, at_escape, sequence_front, opened, control_from, string_from, escape_from}
-use Rattle.ansi_scan.specs.Attributes.{plain_attributes}
-use Rattle.ansi_scan.specs.Rendition.{applied, after_parameters}
-use Rattle.ansi_scan.specs.StartsAndEnds.{start_bytes, start_sequences, end_bytes, end_sequences}
-use Rattle.grid_records_estimate.specs.Estimates.{track_sizes}
-use Rattle.columns_run.specs.Layout.{output_of}
+use Rattle.std.specs.Prelude.{[], codes}
+use Rattle.columns_run.proofs.WorkedLemmas as worked
 use Rattle.columns_run.proofs.laws.worked_outputs.Goals as goal
 
-pub returns : goal.returns
-unfolding output_of track_sizes pieces first_pieces front at_escape sequence_front opened control_from string_from escape_from applied after_parameters plain_attributes start_bytes start_sequences end_bytes end_sequences digits str_width step past_emoji chars encode
-returns c = record { two_cells = refl; two_lines = refl; lone_sequence = refl; tab_in_a_string = refl; same_color_twice = refl }
+pub returns-clause-two_cells : goal.returns-clause-two_cells
+returns-clause-two_cells c = λ options is. worked.output_is options is (codes "\u{1b}[31mab\tc\n") (codes "+----+---+\n| \u{1b}[31mab\u{1b}[39m | \u{1b}[31mc\u{1b}[39m |\n+----+---+\n") worked.two_cells
+
+pub returns-clause-two_lines : goal.returns-clause-two_lines
+returns-clause-two_lines c = λ options is. worked.output_is options is (codes "\u{1b}[1ma\nb\u{1b}[0m\n") (codes "+---+\n| \u{1b}[1ma\u{1b}[22m |\n+---+\n| \u{1b}[1mb\u{1b}[0m |\n+---+\n") worked.two_lines
+
+pub returns-clause-lone_sequence : goal.returns-clause-lone_sequence
+returns-clause-lone_sequence c = λ options is. worked.output_is options is (codes "\u{1b}[31m") [] worked.lone_sequence
+
+pub returns-clause-tab_in_a_string : goal.returns-clause-tab_in_a_string
+returns-clause-tab_in_a_string c = λ options is. worked.output_is options is (codes "\u{1b}]0;a\tb\u{7}x\n") (codes "+---+\n| \u{1b}]0;a\tb\u{7}x |\n+---+\n") worked.tab_in_a_string
+
+pub returns-clause-same_color_twice : goal.returns-clause-same_color_twice
+returns-clause-same_color_twice c = λ options is. worked.output_is options is (codes "\u{1b}[31ma\u{1b}[31mb\n") (codes "+----+\n| \u{1b}[31ma\u{1b}[31mb\u{1b}[39m |\n+----+\n") worked.same_color_twice

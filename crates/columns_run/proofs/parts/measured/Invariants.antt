@@ -1,7 +1,6 @@
 use Rattle.std.proofs.Common.{◌≡◌, map, take}
 use Rattle.std.specs.Cow.{cow_str_bytes}
-use Rattle.columns_run.specs.Layout.{part_line}
-use Rattle.columns_run.specs.Printing.{shown}
+use Rattle.columns_run.specs.Cells.{part_line, shown}
 use Rattle.columns_run.proofs.parts.measured.Given as goal
 
 abbrev pub invariant-loop-part : goal.invariant-loop-part

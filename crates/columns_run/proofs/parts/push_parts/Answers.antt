@@ -9,12 +9,12 @@ use Rattle.columns_run.proofs.parts.push_parts.Goals as goal
 
 pub returns-clause-parts : goal.returns-clause-parts
 returns-clause-parts c = λ byte ascii is.
-    let text = c.args.text.now.now in
+    let text = c.args.text.now in
     let shown = stripped text in
     let found = places byte shown in
     let old = map cow_str_bytes c.args.parts.now.items in
     let are = subst (λ pattern. AreMatches pattern shown found) (sym is) (AreMatches-places byte shown ascii) in
-    let parts = c.ansi_split-part-items.ensures.parts (pieces text) found (ArePiecesOf-pieces text) are in
+    let parts = c.new-part-items.ensures.parts (pieces text) found (ArePiecesOf-pieces text) are in
     let left = c.in-None.ensures.steps.1.0 in
     let begun = c.into_iter-part-iterator.ensures.into_iter_gives in
     sym (append-nil (map cow_str_bytes c.loop-part.parts.items))

@@ -2,7 +2,7 @@ use Rattle.std.proofs.Common.{◌≡◌, ◌<◌, Option, IsSome, Vec, Global, �
 use Rattle.std.specs.Cow.{cow_str_bytes}
 use Rattle.std.specs.declared.borrow.CowStr.{CowStr}
 use Rattle.columns_run.specs.Rows.{line_feed, parts_at, row_parts, without_bare_last}
-use Rattle.columns_run.specs.Printing.{last_is_bare}
+use Rattle.columns_run.specs.Cells.{last_is_bare}
 use Rattle.columns_run.proofs.PartLemmas.{popped, kept}
 use Rattle.columns_run.proofs.parts.row_parts.Goals as goal
 use Rattle.columns_run.proofs.parts.row_parts.Goals.{then-is_last_bare+in-Some+in-Owned-1, then-is_last_bare+in-Some+in-Borrowed-1, then-is_last_bare+in-None-1, else-is_last_bare}
@@ -11,14 +11,14 @@ abbrev Rows : Type 0
 Rows = Vec (CowStr Global) Global
 
 -- the parts at line feeds
-parts : (c : goal.Joined-is_last_bare) → map cow_str_bytes c.push_parts.new.parts.items ≡ parts_at line_feed c.args.text.now.now
+parts : (c : goal.Joined-is_last_bare) → map cow_str_bytes c.push_parts.new.parts.items ≡ parts_at line_feed c.args.text.now
 parts c =
     c.in_ok-push_parts.ensures.parts line_feed (lit< tt) refl
-    ∙ ap (λ items. map cow_str_bytes items ++ parts_at line_feed c.args.text.now.now) c.new-rows.ensures.items
+    ∙ ap (λ items. map cow_str_bytes items ++ parts_at line_feed c.args.text.now) c.new-rows.ensures.items
 
 without_last : (c : goal.Joined-is_last_bare) (rows : Rows) (last : Option (CowStr Global)) → c.if-is_last_bare.rows ≡ rows → c.is_last_bare.result ≡ true
     → c.push_parts.new.parts.items ≡ rows.items ++ option_to_list last → (0 < length c.push_parts.new.parts.items → IsSome last)
-    → map cow_str_bytes c.if-is_last_bare.rows.items ≡ row_parts c.args.text.now.now
+    → map cow_str_bytes c.if-is_last_bare.rows.items ≡ row_parts c.args.text.now
 without_last c rows last is test items there =
     let bare : last_is_bare (map cow_str_bytes c.push_parts.new.parts.items) ≡ true = ap (λ found. last_is_bare (map cow_str_bytes found)) (sym c.deref.ensures.value) ∙ sym c.is_last_bare.ensures ∙ test in
     ap (λ (found : Rows). map cow_str_bytes found.items) is

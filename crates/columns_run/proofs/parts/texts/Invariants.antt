@@ -1,6 +1,6 @@
 use Rattle.std.proofs.Common.{◌≡◌, map, take}
 use Rattle.std.specs.Cow.{cow_str_bytes}
-use Rattle.columns_run.specs.Printing.{bytes}
+use Rattle.columns_run.specs.Cells.{bytes}
 use Rattle.columns_run.proofs.parts.texts.Given as goal
 
 abbrev pub invariant-loop-part : goal.invariant-loop-part

@@ -1,7 +1,7 @@
 use Rattle.std.proofs.Common.{◌≡◌, [], ◌∷◌, ◌++◌, map, chars, ap, sym, ◌∙◌}
 use Rattle.std.proofs.lemmas.List.{map_push}
 use Rattle.grid_records_measure.specs.Measures.{measure}
-use Rattle.columns_run.specs.Printing.{shown}
+use Rattle.columns_run.specs.Cells.{shown}
 use Rattle.grid_records_measure.proofs.PrintableLemmas.{measure-printable}
 use Rattle.columns_run.proofs.rows.push_cell.Goals as goal
 use Rattle.columns_run.proofs.rows.push_cell.Goals.{then-plain, else-plain}

@@ -1,5 +1,5 @@
 use Rattle.std.proofs.Common.{map}
-use Rattle.columns_run.specs.Printing.{shown}
+use Rattle.columns_run.specs.Cells.{shown}
 use Rattle.columns_run.proofs.PassLemmas.{Pass}
 use Rattle.columns_run.proofs.rows.rows_of.Given as goal
 

@@ -1,34 +1,43 @@
-use Rattle.std.proofs.Common.{rules, arith}
+use Rattle.std.proofs.Common.{rules, arith, Ok}
 use Rattle.std.proofs.lemmas.Grind.{common_steps}
-use Rattle.columns_run.specs.Counts.{inner_of}
+use Rattle.tabled_output.specs.Counts.{inner_of}
 use Rattle.columns_run.proofs.ServeLemmas.{known, some}
 use Rattle.columns_run.proofs.running.run.Goals as goal
 
 pub returns-in_err-bytes-clause-known_input : goal.returns-in_err-bytes-clause-known_input
 returns-in_err-bytes-clause-known_input g c =
     let written = g.W.Write.contents (inner_of c.args.writer.now) in
-    known c.from_residual.result written written c.args.writer.now c.args.writer.now (g.R.Read.remaining (inner_of c.args.reader.now)) (grind (arith, common_steps))
+    known c.args.options.now c.requires c.from_residual.result written written c.args.writer.now c.args.writer.now (g.R.Read.remaining (inner_of c.args.reader.now)) (grind (arith, common_steps))
 
 pub returns-in_err-bytes-clause-some_input : goal.returns-in_err-bytes-clause-some_input
 returns-in_err-bytes-clause-some_input g c =
     let written = g.W.Write.contents (inner_of c.args.writer.now) in
-    some c.from_residual.result written written c.args.writer.now c.args.writer.now (g.R.Read.remaining (inner_of c.args.reader.now)) (g.R.Read.remaining (inner_of c.read_all.new.reader)) (search rules)
+    some c.args.options.now c.requires c.from_residual.result written written c.args.writer.now c.args.writer.now (g.R.Read.remaining (inner_of c.args.reader.now)) (g.R.Read.remaining (inner_of c.read_all.new.reader)) (search rules)
 
 pub returns-in_err-table-clause-known_input : goal.returns-in_err-table-clause-known_input
 returns-in_err-table-clause-known_input g c =
     let written = g.W.Write.contents (inner_of c.args.writer.now) in
-    known c.from_residual-in_err-table.result written written c.args.writer.now c.args.writer.now (g.R.Read.remaining (inner_of c.args.reader.now)) (search rules)
+    known c.args.options.now c.requires c.from_residual-in_err-table.result written written c.args.writer.now c.args.writer.now (g.R.Read.remaining (inner_of c.args.reader.now)) (search rules)
 
 pub returns-in_err-table-clause-some_input : goal.returns-in_err-table-clause-some_input
 returns-in_err-table-clause-some_input g c =
     let written = g.W.Write.contents (inner_of c.args.writer.now) in
-    some c.from_residual-in_err-table.result written written c.args.writer.now c.args.writer.now (g.R.Read.remaining (inner_of c.args.reader.now)) (g.R.Read.remaining (inner_of c.read_all.new.reader)) (c.in_ok-bytes.bytes.items, c.in_ok-bytes.ensures.bytes, search rules)
+    some c.args.options.now c.requires c.from_residual-in_err-table.result written written c.args.writer.now c.args.writer.now (g.R.Read.remaining (inner_of c.args.reader.now)) (g.R.Read.remaining (inner_of c.read_all.new.reader)) (c.in_ok-bytes.bytes.items, c.in_ok-bytes.ensures.bytes, search rules)
+
+pub returns-in_err-write_all-clause-known_input : goal.returns-in_err-write_all-clause-known_input
+returns-in_err-write_all-clause-known_input g c =
+    known c.args.options.now c.requires c.from_residual-in_err-write_all.result (g.W.Write.contents (inner_of c.args.writer.now)) (g.W.Write.contents (inner_of c.write_all.new.writer)) c.args.writer.now c.write_all.new.writer (g.R.Read.remaining (inner_of c.args.reader.now)) (search rules)
+
+pub returns-in_err-write_all-clause-some_input : goal.returns-in_err-write_all-clause-some_input
+returns-in_err-write_all-clause-some_input g c =
+    some c.args.options.now c.requires c.from_residual-in_err-write_all.result (g.W.Write.contents (inner_of c.args.writer.now)) (g.W.Write.contents (inner_of c.write_all.new.writer)) c.args.writer.now c.write_all.new.writer
+    (g.R.Read.remaining (inner_of c.args.reader.now)) (g.R.Read.remaining (inner_of c.read_all.new.reader)) (search rules)
 
 pub returns-clause-known_input : goal.returns-clause-known_input
 returns-clause-known_input g c =
-    known c.write_all.result (g.W.Write.contents (inner_of c.args.writer.now)) (g.W.Write.contents (inner_of c.write_all.new.writer)) c.args.writer.now c.write_all.new.writer (g.R.Read.remaining (inner_of c.args.reader.now)) (search rules)
+    known c.args.options.now c.requires (Ok tt) (g.W.Write.contents (inner_of c.args.writer.now)) (g.W.Write.contents (inner_of c.write_all.new.writer)) c.args.writer.now c.write_all.new.writer (g.R.Read.remaining (inner_of c.args.reader.now)) (search rules)
 
 pub returns-clause-some_input : goal.returns-clause-some_input
 returns-clause-some_input g c =
-    some c.write_all.result (g.W.Write.contents (inner_of c.args.writer.now)) (g.W.Write.contents (inner_of c.write_all.new.writer)) c.args.writer.now c.write_all.new.writer
+    some c.args.options.now c.requires (Ok tt) (g.W.Write.contents (inner_of c.args.writer.now)) (g.W.Write.contents (inner_of c.write_all.new.writer)) c.args.writer.now c.write_all.new.writer
     (g.R.Read.remaining (inner_of c.args.reader.now)) (g.R.Read.remaining (inner_of c.read_all.new.reader)) (search rules)

@@ -1,5 +1,5 @@
 use Rattle.std.proofs.Common.{◌≡◌, max, drop}
-use Rattle.columns_run.specs.Estimates.{greatest}
+use Rattle.grid_records_estimate.specs.Estimates.{greatest}
 use Rattle.columns_run.proofs.sizes.greatest.Given as goal
 
 abbrev pub invariant-loop-number : goal.invariant-loop-number

@@ -1,0 +1,51 @@
+-- The cells of a text as the code holds them: measured parts of the text, one row after the other.
+use Rattle.std.specs.Prelude.{ℕ, ◌==◌, Bool, false, List, [], ◌∷◌, chars, drop, length, map, slice_index_or, take, vec_items}
+use Rattle.std.specs.Borrow.{Bor}
+use Rattle.grid_records_measure.specs.Measures.{measure}
+use Rattle.columns_run.specs.Rows.{cell_parts, stripped}
+use Rattle.columns_run.specs.declared.rows.Cell.{Cell}
+use Rattle.columns_run.specs.declared.rows.Rows.{Rows}
+
+-- a line: the columns that it measures, and its bytes
+pub record Line : Type 0 where
+  pub measure : ℕ
+  pub items : List ℕ
+
+-- the bytes of a text
+abbrev pub bytes : Bor (List ℕ) → List ℕ
+bytes text = text.now
+
+-- a cell as a line
+abbrev pub shown : Cell → Line
+shown cell = record { measure = cell.width; items = cell.text.now }
+
+-- a part of a text: its bytes, and the columns of the characters that it shows
+abbrev pub part_line : List ℕ → Line
+part_line part = record { measure = measure (chars (stripped part)); items = part }
+
+-- bytes of a text with the columns that they measure
+abbrev pub byte_line : List ℕ → Line
+byte_line bytes = record { measure = measure (chars bytes); items = bytes }
+
+-- the rows of a text, each cell its one line
+abbrev pub line_rows : List ℕ → List (List Line)
+line_rows text = map (map part_line) (cell_parts text)
+
+-- the texts of lines
+abbrev pub texts_of_lines : List (List Line) → List (List (List ℕ))
+texts_of_lines rows = map (map (λ line. line.items)) rows
+
+-- there is a last part, and it shows nothing
+abbrev pub last_is_bare : List (List ℕ) → Bool
+last_is_bare [] = false
+last_is_bare (part ∷ []) = length (stripped part) == 0
+last_is_bare (part ∷ next ∷ parts) = last_is_bare (next ∷ parts)
+
+-- a list in pieces of these lengths
+abbrev pub cut : {X : Type 0} → List ℕ → List X → List (List X)
+cut [] xs = []
+cut (n ∷ ns) xs = take n xs ∷ cut ns (drop n xs)
+
+-- the rows of cells, each of one line
+abbrev pub rows_shown : Rows → List (List Line)
+rows_shown rows = cut (vec_items rows.counts) (map shown (vec_items rows.cells))

@@ -1,0 +1,84 @@
+-- What a clause reads of a `Counted`, and what a call does to its counts.
+use Rattle.std.specs.Prelude.{ℕ, ◌+◌, ◌%◌, ◌^◌, ◌≡◌, ◌≢◌, ◌==◌, ◌&&◌, not, if◌then◌else◌, Bool, true, false, List, length, Result, Ok, Err}
+use Rattle.tabled_output.specs.declared.counted.Counted.{Counted}
+
+-- `c.into_inner()`
+abbrev pub inner_of : {T : Type 0} → Counted T → T
+inner_of c = c.inner
+
+-- `c.failures()`: how many calls answered an error
+abbrev pub failures_of : {T : Type 0} → Counted T → ℕ
+failures_of c = c.failures
+
+-- `c.empty_writes()`: how many writes took no byte of a piece that had some
+abbrev pub empty_writes_of : {T : Type 0} → Counted T → ℕ
+empty_writes_of c = c.empty_writes
+
+-- how many reads gave at least one byte
+abbrev pub pieces_read_of : {T : Type 0} → Counted T → ℕ
+pieces_read_of c = c.pieces_read
+
+-- how many calls were flushes, whatever they answered
+abbrev pub flushes_of : {T : Type 0} → Counted T → ℕ
+flushes_of c = c.flushes
+
+-- whether the last call was refused: it answered an error, or was a write that took no byte of a piece that had some
+abbrev pub last_refused : {T : Type 0} → Counted T → Bool
+last_refused c = c.last_refused
+
+-- ---- one call
+
+-- a count of 64 bits, gone up by one: after the greatest comes 0
+abbrev pub next_count : ℕ → ℕ
+next_count n = (n + 1) % 2 ^ 64
+
+-- a read or a flush that answered this was refused
+abbrev pub is_refused : {T E : Type 0} → Result T E → Bool
+is_refused (Ok _) = false
+is_refused (Err _) = true
+
+-- a write of `piece` that answered this was refused
+abbrev pub is_write_refused : {E : Type 0} → Result ℕ E → List ℕ → Bool
+is_write_refused (Ok n) piece = n == 0 && not (length piece == 0)
+is_write_refused (Err _) piece = true
+
+-- the count of failures after a call that answered this
+abbrev pub failures_after : {T E : Type 0} → Result T E → ℕ → ℕ
+failures_after (Ok _) count = count
+failures_after (Err _) count = next_count count
+
+-- the count of reads that gave bytes, after a read that answered this
+abbrev pub pieces_after : {E : Type 0} → Result ℕ E → ℕ → ℕ
+pieces_after (Ok n) count = if n == 0 then count else next_count count
+pieces_after (Err _) count = count
+
+-- the count of empty writes, after a write of `piece` that answered this
+abbrev pub empty_writes_after : {E : Type 0} → Result ℕ E → List ℕ → ℕ → ℕ
+empty_writes_after (Ok n) piece count = if n == 0 then (if length piece == 0 then count else next_count count) else count
+empty_writes_after (Err _) piece count = count
+
+-- ---- several calls, from `before` to `after`
+
+-- a call answered an error
+abbrev pub HasFailed : {T : Type 0} → Counted T → Counted T → Type 0
+HasFailed before after = failures_of after ≢ failures_of before
+
+-- a write took no byte of a piece that had some
+abbrev pub HasTakenNothing : {T : Type 0} → Counted T → Counted T → Type 0
+HasTakenNothing before after = empty_writes_of after ≢ empty_writes_of before
+
+-- n reads gave bytes
+abbrev pub HasGivenPieces : {T : Type 0} → Counted T → Counted T → ℕ → Type 0
+HasGivenPieces before after n = pieces_read_of after ≡ (pieces_read_of before + n) % 2 ^ 64
+
+-- a call answered an error exactly where P holds, and then it was one, and no call came behind it
+pub record FailsIff {T : Type 0} (P : Type 0) (before after : Counted T) : Type 0 where
+  pub once : P → failures_of after ≡ next_count (failures_of before)
+  pub last : P → last_refused after ≡ true
+  pub others : ¬ P → failures_of after ≡ failures_of before
+
+-- a write took no byte of a piece that had some exactly where P holds, and then it was one, and no call came behind it
+pub record TakesNothingIff {T : Type 0} (P : Type 0) (before after : Counted T) : Type 0 where
+  pub once : P → empty_writes_of after ≡ next_count (empty_writes_of before)
+  pub last : P → last_refused after ≡ true
+  pub others : ¬ P → empty_writes_of after ≡ empty_writes_of before

@@ -1,0 +1,61 @@
+//! From bytes to a writer.
+ghost use Rattle.std.specs.Prelude.{◌≡◌, length, IsErrOf, OnOk};
+ghost use Rattle.std.specs.Io.KnownBytes.{Appends};
+ghost use Rattle.tabled_output.specs.Counts.{inner_of, pieces_read_of, flushes_of, FailsIff, TakesNothingIff};
+ghost use Rattle.tabled_output.specs.Streams.{AppendsFront};
+
+use crate::counted::Counted;
+use std::error::Error;
+use std::fmt;
+use std::io::Write;
+
+/// Why not all bytes were written.
+#[derive(Clone, Copy, Debug, PartialEq, Eq)]
+pub enum WriteFault {
+    /// The writer failed in this call, by an error of any kind.
+    Write,
+    /// The writer took no byte of a piece that had some.
+    WriteZero,
+}
+
+/// The reason in a few words, with no line feed.
+impl fmt::Display for WriteFault {
+    ghost use Rattle.std.specs.Prelude.{Some};
+    ghost use Rattle.tabled_output.specs.Faults.{fault_text};
+
+    ghost output = { λ fault. Some (fault_text fault) };
+
+    fn fmt<W: fmt::Write>(&self, f: &mut fmt::Formatter<W>) -> fmt::Result {
+        match *self {
+            WriteFault::Write => write!(f, "write failed"),
+            WriteFault::WriteZero => write!(f, "writer took nothing"),
+        }
+    }
+}
+
+impl Error for WriteFault {}
+
+/// Writes all bytes, and flushes nothing. It gives up with `Write` at the first error of any kind, and
+/// with `WriteZero` where the writer takes nothing; the bytes before that are then written, and the
+/// writer isn't called again.
+pub fn write_all<W: Write>(writer: &mut Counted<W>, bytes: &[u8]) -> Result<(), WriteFault>
+    ensures ok { OnOk result (Appends (W.contents (inner_of writer.old))
+        (W.contents (inner_of writer.new)) bytes.now) }
+    ensures front { AppendsFront (W.contents (inner_of writer.old))
+        (W.contents (inner_of writer.new)) bytes.now }
+    ensures write { FailsIff (IsErrOf result WriteFault.Write) writer.old writer.new }
+    ensures write_zero { TakesNothingIff (IsErrOf result WriteFault.WriteZero) writer.old writer.new }
+    ensures nothing { length bytes.now ≡ 0 → writer.new ≡ writer.old }
+    ensures pieces_read { pieces_read_of writer.new ≡ pieces_read_of writer.old }
+    ensures flushes { flushes_of writer.new ≡ flushes_of writer.old }
+{
+    let mut rest = bytes;
+    while !rest.is_empty() {
+        match writer.write(rest) {
+            Ok(0) => return Err(WriteFault::WriteZero),
+            Ok(count) => rest = &rest[count..],
+            Err(_) => return Err(WriteFault::Write),
+        }
+    }
+    Ok(())
+}
