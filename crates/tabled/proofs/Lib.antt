@@ -2,3 +2,4 @@ pub mod NewLooks
 pub mod Assembled
 pub mod Even
 pub mod Values
+pub mod Fitting

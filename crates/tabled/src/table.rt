@@ -214,3 +214,5 @@ impl<T: FromText> Table<T> {
         &mut self.dimension
     }
 }
+
+mod printing;

@@ -1,0 +1,193 @@
+-- Why a table fits its sizes, or doesn't.
+use Rattle.std.proofs.Common.{◌≡◌, Bool, IsTrue, ◌↔◌, ℕ, zero, suc, ◌+◌, ◌<◌, ◌≤◌, ◌^◌, ◌⊎◌, inl, inr, List, [], ◌∷◌, Option, None, Result, Ok, Err, ap, sym, subst, refl, ◌∙◌, arith, length, get_or, slice_index, unwrap_or}
+use Rattle.std.proofs.lemmas.List.FromFn.{get_or-map-range_with_len, length-map-range_with_len}
+use Rattle.grid_config_colors.specs.Colors.{Color}
+use Rattle.grid_config_values.specs.declared.fault.Fault.{Fault}
+use Rattle.grid_config_values.specs.declared.fault.Fault.TheVariants.{Memory, Range, Spans, Room}
+use Rattle.grid_config_values.specs.declared.position.Position.{Position}
+use Rattle.grid_config_spans.specs.Spans.{AreGood, extent_at}
+use Rattle.grid_config_spans.specs.declared.extent.Extent.{Extent}
+use Rattle.grid_config.specs.Looks.{look_of}
+use Rattle.grid_config.specs.Settings.{Settings}
+use Rattle.grid_records_estimate.proofs.Lengths.{length-table_heights, length-table_widths}
+use Rattle.grid_records_estimate.specs.Estimates.{track_sizes}
+use Rattle.grid_records_estimate.specs.Kept.{least_sizes}
+use Rattle.grid_records_estimate.specs.Sizes.{IsRefusal, table_heights, table_widths}
+use Rattle.grid_records_estimate.specs.Sizing.{Sizing, sizing_of}
+use Rattle.papergrid.specs.Grids.{grid_text}
+use Rattle.papergrid_fits.proofs.Ranges.{line_count-is, table_width-is}
+use Rattle.papergrid_fits.specs.Tables.{Fits, IsFitsAnswer, column_tracks, row_tracks}
+use Rattle.papergrid_picture.proofs.FrameLemmas.{boundary-bounded, boundary-next}
+use Rattle.papergrid_picture.specs.Fitting.{FitsAnswer, InRange}
+use Rattle.papergrid_picture.specs.Frame.{Frame, Tracks, track_at}
+use Rattle.tabled_size_dimension.specs.Sizes.{size_at}
+use Rattle.tabled_size_dimension.specs.Stored.{FilledPass, Stored, filled, stored_sizes}
+use Rattle.tabled_steps.proofs.Estimating.{heights_by_look, widths_by_look}
+use Rattle.tabled_steps.specs.Sizes.{natural_heights, natural_widths}
+use Rattle.tabled_steps.specs.States.{State, column_count, state_with}
+use Rattle.tabled.specs.Printing.{IsFit, SpansAreGood, drawn_frame, drawn_sizes, printed}
+
+module _ (spans : List (Position × Extent)) (rows columns : ℕ) where
+  pub by_extent : AreGood spans rows columns → SpansAreGood (extent_at spans) rows columns
+  by_extent good = record { inside = good.inside; apart = good.apart }
+
+  pub by_spans : SpansAreGood (extent_at spans) rows columns → AreGood spans rows columns
+  by_spans good = record { inside = good.inside; apart = good.apart }
+
+-- whichever way it is said that spans are good
+same_answer : (frame : Frame) (rows : List (List (List ℕ))) (P Q : Type 0) → (P → Q) → (Q → P) → (answer : Result (Unit {0}) Fault) → FitsAnswer frame rows P answer → FitsAnswer frame rows Q answer
+same_answer frame rows P Q there back (Ok done) fit = (there fit.0, fit.1, fit.2)
+same_answer frame rows P Q there back (Err Spans) fit = λ q. fit (back q)
+same_answer frame rows P Q there back (Err Range) fit = (there fit.0, fit.1)
+same_answer frame rows P Q there back (Err (Room row column)) fit = (there fit.0, fit.1, fit.2)
+same_answer frame rows P Q there back (Err Memory) fit = fit
+
+-- ---- sizes that pass the range
+
+inside_of : (xs : List ℕ) (t : ℕ) → 2 ^ 64 ≤ slice_index xs t → t < length xs
+inside_of [] t passes = absurd (omega (arith, passes))
+inside_of (x ∷ xs) zero passes = omega arith
+inside_of (x ∷ xs) (suc t) passes = let less = inside_of xs t passes in omega (arith, less)
+
+-- tracks of which one passes the range pass it together
+track_passes : (tracks : Tracks) (t : ℕ) → t < length tracks.sizes → 2 ^ 64 ≤ get_or tracks.sizes t 0 → 2 ^ 64 ≤ track_at tracks (length tracks.sizes)
+track_passes tracks t inside passes = omega (arith, boundary-next tracks t inside, boundary-bounded tracks (t + 1) (omega arith))
+
+no_rows : (sizing : Sizing) (columns : ℕ) → table_widths sizing columns [] ≡ []
+unfolding table_widths track_sizes
+no_rows sizing columns = refl
+
+no_columns : (sizing : Sizing) (rows : List (List (List ℕ))) → table_heights sizing 0 rows ≡ []
+unfolding table_heights track_sizes
+no_columns sizing rows = refl
+
+some_rows : (sizing : Sizing) (columns : ℕ) (rows : List (List (List ℕ))) → 0 < length (table_widths sizing columns rows) → 0 < length rows
+some_rows sizing columns [] some = absurd (omega (arith, some, ap length (no_rows sizing columns)))
+some_rows sizing columns (row ∷ rows) some = omega arith
+
+some_columns : (sizing : Sizing) (columns : ℕ) (rows : List (List (List ℕ))) → 0 < length (table_heights sizing columns rows) → 0 < columns
+some_columns sizing zero rows some = absurd (omega (arith, some, ap length (no_columns sizing rows)))
+some_columns sizing (suc columns) rows some = omega arith
+
+module _ (settings : Settings) (rows : List (List (List ℕ))) (colors : Position → Option Color) (stored : Stored) where
+  abbrev state : State
+  state = state_with rows (look_of settings) colors stored
+
+  abbrev columns : ℕ
+  columns = column_count rows
+
+  abbrev width : ℕ → ℕ
+  width = size_at (stored_sizes (drawn_sizes state).widths)
+
+  abbrev height : ℕ → ℕ
+  height = size_at (stored_sizes (drawn_sizes state).heights)
+
+  pub drawn_by_settings : filled (least_sizes (sizing_of settings) columns rows) stored ≡ drawn_sizes state
+  drawn_by_settings =
+      ap (λ widths. filled (record { widths = widths; heights = table_heights (sizing_of settings) columns rows }) stored) (widths_by_look settings columns rows)
+      ∙ ap (λ heights. filled (record { widths = natural_widths (look_of settings) columns rows; heights = heights }) stored) (heights_by_look settings columns rows)
+
+  widths_pass : stored.widths ≡ None → (t : ℕ) → 2 ^ 64 ≤ slice_index (table_widths (sizing_of settings) columns rows) t → ¬ (InRange (drawn_frame state))
+  widths_pass none t passes range =
+      let least : List ℕ = table_widths (sizing_of settings) columns rows in
+      let inside : t < length least = inside_of least t passes in
+      let some : 0 < length least = omega arith in
+      let there : 0 < length rows = some_rows (sizing_of settings) columns rows some in
+      let counted : length least ≡ columns = length-table_widths (sizing_of settings) columns rows there in
+      let below : t < columns = omega arith in
+      let tracks : Tracks = column_tracks settings width columns in
+      let many : length tracks.sizes ≡ columns = length-map-range_with_len width 0 columns in
+      let drawn : width t ≡ slice_index least t =
+      ap (λ kept. slice_index (unwrap_or kept (natural_widths (look_of settings) columns rows)) t) none ∙ ap (λ widths. slice_index widths t) (sym (widths_by_look settings columns rows)) in
+      let size : get_or tracks.sizes t 0 ≡ width t = get_or-map-range_with_len width 0 columns t t 0 below (omega arith) in
+      let passed : 2 ^ 64 ≤ track_at tracks (length tracks.sizes) = track_passes tracks t (omega (arith, many, below)) (omega (arith, size, drawn, passes)) in
+      let some_columns : 0 < columns = omega arith in
+      let total = table_width-is settings width height columns (length rows) there some_columns in
+      let end : track_at tracks (length tracks.sizes) ≡ track_at tracks columns = ap (track_at tracks) many in
+      omega (arith, range.0, total, passed, end)
+
+  heights_pass : stored.heights ≡ None → (t : ℕ) → 2 ^ 64 ≤ slice_index (table_heights (sizing_of settings) columns rows) t → ¬ (InRange (drawn_frame state))
+  heights_pass none t passes range =
+      let least : List ℕ = table_heights (sizing_of settings) columns rows in
+      let inside : t < length least = inside_of least t passes in
+      let some : 0 < length least = omega arith in
+      let there : 0 < columns = some_columns (sizing_of settings) columns rows some in
+      let counted : length least ≡ length rows = length-table_heights (sizing_of settings) columns rows there in
+      let below : t < length rows = omega arith in
+      let tracks : Tracks = row_tracks settings height (length rows) in
+      let many : length tracks.sizes ≡ length rows = length-map-range_with_len height 0 (length rows) in
+      let drawn : height t ≡ slice_index least t =
+      ap (λ kept. slice_index (unwrap_or kept (natural_heights (look_of settings) columns rows)) t) none ∙ ap (λ heights. slice_index heights t) (sym (heights_by_look settings columns rows)) in
+      let size : get_or tracks.sizes t 0 ≡ height t = get_or-map-range_with_len height 0 (length rows) t t 0 below (omega arith) in
+      let passed : 2 ^ 64 ≤ track_at tracks (length tracks.sizes) = track_passes tracks t (omega (arith, many, below)) (omega (arith, size, drawn, passes)) in
+      let some_rows : 0 < length rows = omega arith in
+      let total = line_count-is settings width height columns (length rows) some_rows there in
+      let end : track_at tracks (length tracks.sizes) ≡ track_at tracks (length rows) = ap (track_at tracks) many in
+      omega (arith, range.1, total, passed, end)
+
+  -- an estimate is refused where a size passes, and then a total does
+  pub estimate_refused : (fault : Fault) → IsRefusal fault (FilledPass (least_sizes (sizing_of settings) columns rows) stored) → (fault ≡ Memory) ⊎ ((fault ≡ Range) × ¬ (InRange (drawn_frame state)))
+  estimate_refused fault refused = elim refused as (λ _. (fault ≡ Memory) ⊎ ((fault ≡ Range) × ¬ (InRange (drawn_frame state)))) [
+    | inl memory ↦ inl memory
+    | inr range ↦ inr (
+      range.0,
+      elim range.1 as (λ _. ¬ (InRange (drawn_frame state))) [
+        | inl widths ↦ widths_pass widths.0 widths.1.0 widths.1.1
+        | inr heights ↦ heights_pass heights.0 heights.1.0 heights.1.1
+      ],
+    )
+  ]
+
+  -- ---- what `fits` answers, by other names of the same
+
+  module _ (given : Settings) (sizes : Stored) (n : ℕ) (same : given ≡ settings) (is : sizes ≡ drawn_sizes state) (counted : n ≡ columns) where
+    abbrev answers : Settings → Stored → ℕ → Result (Unit {0}) Fault → Type 0
+    answers given sizes n answer = IsFitsAnswer given (size_at (stored_sizes sizes.widths)) (size_at (stored_sizes sizes.heights)) n rows answer
+
+    pub is_fit : (answer : Result (Unit {0}) Fault) → answers given sizes n answer → IsFit state answer
+    is_fit answer fit =
+        same_answer (drawn_frame state) rows (AreGood settings.spans (length rows) columns) (SpansAreGood (look_of settings).extent (length rows) columns)
+        (by_extent settings.spans (length rows) columns) (by_spans settings.spans (length rows) columns) answer
+        (subst (λ (n : ℕ). answers settings (drawn_sizes state) n answer) counted
+        (subst (λ (sizes : Stored). answers settings sizes n answer) is (subst (λ (given : Settings). answers given sizes n answer) same fit)))
+
+    abbrev fits_in : Settings → Stored → ℕ → Type 0
+    fits_in given sizes n = Fits given (size_at (stored_sizes sizes.widths)) (size_at (stored_sizes sizes.heights)) n rows
+
+    pub fits_given : IsFit state (Ok tt) → fits_in given sizes n
+    fits_given fit =
+        subst (λ (given : Settings). fits_in given sizes n) (sym same)
+        (subst (λ (sizes : Stored). fits_in settings sizes n) (sym is)
+        (subst (λ (n : ℕ). fits_in settings (drawn_sizes state) n) (sym counted) (record { good = by_spans settings.spans (length rows) columns fit.0; range = fit.1; room = fit.2 })))
+
+    abbrev text_in : Settings → Stored → ℕ → List ℕ
+    text_in given sizes n = grid_text (look_of given) (size_at (stored_sizes sizes.widths)) (size_at (stored_sizes sizes.heights)) colors n rows
+
+    pub is_printed : text_in given sizes n ≡ printed state
+    is_printed = ap (λ given. text_in given sizes n) same ∙ ap (λ sizes. text_in settings sizes n) is ∙ ap (λ n. text_in settings (drawn_sizes state) n) counted
+
+  -- where the spans are good a refused estimate is a table that doesn't fit
+  pub refused_unfit : (fault : Fault) → AreGood settings.spans (length rows) columns → (fault ≡ Memory) ⊎ ((fault ≡ Range) × ¬ (InRange (drawn_frame state))) → (fault ≡ Memory) ⊎ IsFit state (Err fault)
+  refused_unfit fault good refused = elim refused as (λ _. (fault ≡ Memory) ⊎ IsFit state (Err fault)) [
+    | inl memory ↦ inl memory
+    | inr range ↦ inr (subst (λ (fault : Fault). IsFit state (Err fault)) (sym range.0) (by_extent settings.spans (length rows) columns good, range.1))
+  ]
+
+  module _ (given : Settings) (n : ℕ) (same : given ≡ settings) (counted : n ≡ columns) where
+    pub spans_told : (answer : Bool) (m : ℕ) → m ≡ length rows → (IsTrue answer ↔ AreGood given.spans m n) → IsTrue answer ↔ AreGood settings.spans (length rows) columns
+    spans_told answer m many told =
+        subst (λ (n : ℕ). IsTrue answer ↔ AreGood settings.spans (length rows) n) counted
+        (subst (λ (m : ℕ). IsTrue answer ↔ AreGood settings.spans m n) many (subst (λ (given : Settings). IsTrue answer ↔ AreGood given.spans m n) same told))
+
+    module _ (kept : Stored) (copied : kept ≡ stored) where
+      pub drawn_here : filled (least_sizes (sizing_of given) n rows) kept ≡ drawn_sizes state
+      drawn_here =
+          ap (λ (given : Settings). filled (least_sizes (sizing_of given) n rows) kept) same ∙ ap (λ n. filled (least_sizes (sizing_of settings) n rows) kept) counted
+          ∙ ap (filled (least_sizes (sizing_of settings) columns rows)) copied ∙ drawn_by_settings
+
+      pub refused_here : (fault : Fault) → IsRefusal fault (FilledPass (least_sizes (sizing_of given) n rows) kept) → (fault ≡ Memory) ⊎ ((fault ≡ Range) × ¬ (InRange (drawn_frame state)))
+      refused_here fault refused =
+          estimate_refused fault
+          (subst (λ (kept : Stored). IsRefusal fault (FilledPass (least_sizes (sizing_of settings) columns rows) kept)) copied
+          (subst (λ (n : ℕ). IsRefusal fault (FilledPass (least_sizes (sizing_of settings) n rows) kept)) counted
+          (subst (λ (given : Settings). IsRefusal fault (FilledPass (least_sizes (sizing_of given) n rows) kept)) same refused)))

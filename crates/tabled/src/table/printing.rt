@@ -1,0 +1,68 @@
+//! A table as a text.
+ghost use Rattle.std.specs.Prelude.{◌≡◌, ◌⊎◌, Err, IfErr, IfOk, Ok, OnOk, string_bytes};
+ghost use Rattle.grid_config_values.specs.declared.fault.Fault.TheVariants.{Memory, Range as PassesMax};
+ghost use Rattle.papergrid_picture.specs.Fitting.{InRange};
+ghost use Rattle.tabled.specs.Printing.{IsFit, drawn_frame, drawn_sizes, printed};
+ghost use Rattle.tabled.specs.Tables.{state_of};
+
+use crate::table::Table;
+use grid_config::Fault;
+use grid_records_estimate::Estimate;
+use grid_records_rows::FromText;
+use papergrid::{PeekableGrid, fits};
+use tabled_size_dimension::CompleteDimension;
+
+impl<T: FromText> Table<T> {
+    /// Whether the table fits its sizes, those that it keeps and in place of the others the least. Refused
+    /// as `Spans` where its spans are not good; else as `Range` where the columns of a line, or the lines,
+    /// pass `usize::MAX`; else as `Room` of the first visible cell, by row, then by column, that needs more
+    /// columns than it has; and for memory.
+    pub fn fits(&self) -> Result<(), Fault>
+        ensures fits { OnOk result (IsFit (state_of T.text self.now) (Ok tt)) }
+        ensures refused { IfErr result (λ fault. (fault ≡ Memory) ⊎ IsFit (state_of T.text self.now) (Err fault)) }
+    {
+        self.fitting_sizes()?;
+        Ok(())
+    }
+
+    /// The text of the table: its lines, a line feed between each two. Refused as `fits` is.
+    pub fn to_string(&self) -> Result<String, Fault>
+        ensures text { IfOk result (λ text. string_bytes text ≡ printed (state_of T.text self.now)) }
+        ensures fits { OnOk result (IsFit (state_of T.text self.now) (Ok tt)) }
+        ensures refused { IfErr result (λ fault. (fault ≡ Memory) ⊎ IsFit (state_of T.text self.now) (Err fault)) }
+    {
+        let sizes = self.fitting_sizes()?;
+        PeekableGrid::new(
+            &self.records,
+            self.config.spanned(),
+            sizes,
+            self.config.get_colors(),
+        )
+        .to_string(self.alloc)
+    }
+
+    // The sizes that are drawn, where the table fits them.
+    fn fitting_sizes(&self) -> Result<CompleteDimension, Fault>
+        ensures sizes { IfOk result (λ sizes. sizes ≡ drawn_sizes (state_of T.text self.now)) }
+        ensures fits { OnOk result (IsFit (state_of T.text self.now) (Ok tt)) }
+        ensures refused { IfErr result (λ fault. (fault ≡ Memory) ⊎ IsFit (state_of T.text self.now) (Err fault)) }
+    {
+        let config = self.config.spanned();
+        if !config.spans_are_good(self.count_rows(), self.count_columns()) {
+            return Err(Fault::Spans);
+        }
+        let sizes = self.drawn_sizes()?;
+        fits(&self.records, config, &sizes)?;
+        Ok(sizes)
+    }
+
+    // The sizes that are kept, and the least in place of the others.
+    fn drawn_sizes(&self) -> Result<CompleteDimension, Fault>
+        ensures sizes { IfOk result (λ sizes. sizes ≡ drawn_sizes (state_of T.text self.now)) }
+        ensures refused { IfErr result (λ fault. (fault ≡ Memory) ⊎ ((fault ≡ PassesMax) × ¬ (InRange (drawn_frame (state_of T.text self.now))))) }
+    {
+        let mut sizes = self.dimension.clone(self.alloc)?;
+        sizes.estimate(self.alloc, &self.records, self.config.spanned())?;
+        Ok(sizes)
+    }
+}
