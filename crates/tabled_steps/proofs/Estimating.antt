@@ -23,11 +23,13 @@ itself p = grind (arith, nat_tests)
 
 module _ (spans : List (Position × Extent)) where
   seen_decides : (p : Position) → IsTrue (is_seen (extent_at spans) p) ↔ IsVisible spans p
-  seen_decides p =
-      (λ seen. elim (is_owned (extent_at spans) p) [
-        | Itself same only ↦ only
-        | Held held other ↦ absurd (other (same_position (owner (extent_at spans) p) p seen))
-      ], λ visible. ap (λ o. same_place o p) (own_if_visible spans p visible) ∙ itself p)
+  seen_decides p = (
+    λ seen. elim (is_owned (extent_at spans) p) [
+      | Itself same only ↦ only
+      | Held held other ↦ absurd (other (same_position (owner (extent_at spans) p) p seen))
+    ],
+    λ visible. ap (λ o. same_place o p) (own_if_visible spans p visible) ∙ itself p,
+  )
 
   visible_as_seen : (λ (p : Position). is_visible spans p) ≡ is_seen (extent_at spans)
   visible_as_seen = fun_ext (λ p. sym (is_visible-decides spans p (is_seen (extent_at spans) p) (seen_decides p)))
