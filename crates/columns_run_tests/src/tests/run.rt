@@ -1,5 +1,7 @@
 ghost use Rattle.std.specs.Prelude.{◌≡◌, IfOk};
+ghost use Rattle.grid_config.specs.Compact.{compact_of};
 ghost use Rattle.columns_run.specs.Layout.{output_of};
+ghost use Rattle.columns_run.specs.Plain.{IsPlain};
 
 use super::counted::expect_counts;
 use crate::fakes::{ByteReader, StepWriter};
@@ -14,16 +16,12 @@ const INPUT: &[u8] = b"a\tb\n1\t2\n";
 const TABLE: &[u8] = b"+---+---+\n| a | b |\n+---+---+\n| 1 | 2 |\n+---+---+\n";
 
 // The contract of `run` tells its caller which bytes these are.
-fn table_bytes(alloc: Global, input: &[u8]) -> Result<Vec<u8>, RunFault>
-    ensures { IfOk result (λ bytes. bytes.items ≡ output_of input.now) }
+fn table_bytes(alloc: Global, options: &Options, input: &[u8]) -> Result<Vec<u8>, RunFault>
+    requires { IsPlain (compact_of options.now.style) }
+    ensures { IfOk result (λ bytes. bytes.items ≡ output_of options.now input.now) }
 {
     let mut writer = Counted::new(Vec::new(alloc));
-    run(
-        alloc,
-        &Options::new(),
-        &mut Counted::new(input),
-        &mut writer,
-    )?;
+    run(alloc, options, &mut Counted::new(input), &mut writer)?;
     Ok(writer.into_inner())
 }
 
@@ -33,7 +31,7 @@ fn expect_table(
     input: &[u8],
     table: &[u8],
 ) -> Result<(), RunFault> {
-    assert_eq!(rt; table_bytes(alloc, input)?.as_slice(), table);
+    assert_eq!(rt; table_bytes(alloc, &Options::new(), input)?.as_slice(), table);
     for step in 1..7 {
         let mut reader = Counted::new(ByteReader::new(input));
         let mut writer = Counted::new(StepWriter::new(alloc, step));
