@@ -31,7 +31,10 @@ fn expect_table(
     input: &[u8],
     table: &[u8],
 ) -> Result<(), RunFault> {
-    assert_eq!(rt; table_bytes(alloc, &Options::new(), input)?.as_slice(), table);
+    assert_eq!(rt;
+        table_bytes(alloc, &Options::new(), input)?.as_slice(),
+        table
+    );
     for step in 1..7 {
         let mut reader = Counted::new(ByteReader::new(input));
         let mut writer = Counted::new(StepWriter::new(alloc, step));
