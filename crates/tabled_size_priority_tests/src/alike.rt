@@ -103,6 +103,7 @@ fn print_alike<P: Peaker + Copy + Drop>(
     println!(rt; "{name}: {alike} as one column at a time, {other} not")
 }
 
+/// Prints how often a priority and the trait's own bodies over it differ.
 pub fn print_all_alike(rt: &impl Print) -> io::Result<()> {
     // the one that goes round also where it stands behind some columns
     let mut none = PriorityNone::new();

@@ -134,6 +134,7 @@ fn print_values(rt: &impl Print) -> io::Result<()> {
     println!(rt; "less: {less:?}")
 }
 
+/// Prints what the priorities keep from one call to the next.
 pub fn print_states(rt: &impl Print) -> io::Result<()> {
     print_peaks(rt, "none", Priority::none())?;
     print_peaks(rt, "left", Priority::left())?;

@@ -1,7 +1,7 @@
 //! What the calls ask of widths.
 ghost use Rattle.std.specs.Prelude.{◌≡◌, ◌+◌, ◌^◌, ◌<◌, ◌≤◌, length, sum, IsTrue};
 
-// Whether the widths and so much more sum to no more than the greatest `usize`.
+/// Whether the widths and so much more sum to no more than the greatest `usize`.
 pub fn fits(widths: &[usize], more: usize) -> bool
     ensures { IsTrue result → sum widths.now + more < 2 ^ 64 }
 {

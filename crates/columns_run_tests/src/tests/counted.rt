@@ -4,6 +4,7 @@ use std::io::{ErrorKind, Read, Write};
 use std::process::Abort;
 use std::test::Fail;
 
+/// That so many calls failed, and so many writes took nothing.
 pub fn expect_counts<T>(rt: &impl Abort, counted: &Counted<T>, failures: u64, empty_writes: u64) {
     assert_eq!(rt;
         (counted.failures(), counted.empty_writes()),
