@@ -7,5 +7,5 @@ mod table;
 
 pub use table::Table;
 pub use tabled_options::{Alignment, Margin, Padding, PaddingExpand, Style, object};
-pub use tabled_steps::{CellOption, Height, Measurement, TableOption, Width};
+pub use tabled_steps::{CellOption, Max, Measurement, Min, Percent, TableOption};
 pub use tabled_text::{Builder, CellText, Tabled};

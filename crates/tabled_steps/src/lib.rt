@@ -9,6 +9,6 @@ mod option;
 mod texts;
 
 pub use configuration::{Configuration, KeptSizes};
-pub use measurement::{Height, Measurement, Width};
+pub use measurement::{Max, Measurement, Min, Percent};
 pub use option::{CellOption, TableOption};
 pub use texts::{TextChange, change_texts};

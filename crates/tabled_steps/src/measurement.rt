@@ -8,16 +8,20 @@ use grid_config::{Fault, SpannedConfig};
 use grid_records_traits::records::{ExactRecords, PeekableRecords};
 use std::alloc::Global;
 
-/// Marks what is measured in columns; the options of widths are made by its calls.
+/// The greatest measure of what a table has: of its cells' widths, or of their counts of lines.
 #[derive(Clone, Copy, Debug)]
-pub struct Width;
+pub struct Max;
 
-/// Marks what is measured in lines; the options of heights are made by its calls.
+/// The least size that holds: of widths the greatest over the rows of a row's least, of heights the least
+/// over the rows of a row's greatest.
 #[derive(Clone, Copy, Debug)]
-pub struct Height;
+pub struct Min;
 
-/// A width, `Measurement<Width>`, or a height, `Measurement<Height>`, that is given or taken from a
-/// table.
+/// So many hundredths of a table's total width or height.
+#[derive(Clone, Copy, Debug)]
+pub struct Percent(pub usize);
+
+/// A size that is given or taken from a table. `A` marks which: a width, in columns, or a height, in lines.
 pub trait Measurement<A> {
     /// What it may be of these rows of so many texts under these settings, or why it is refused.
     ghost measures: { Self → ℕ → List (List (List ℕ)) → Look → Result ℕ Refusal → Type 0 };
