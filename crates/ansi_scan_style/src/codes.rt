@@ -1,3 +1,4 @@
+//! What a single code of a sequence sets or clears.
 ghost use Rattle.std.specs.Prelude.{◌≡◌};
 ghost use Rattle.ansi_scan_style.specs.Attributes.{flag_after, font_after, foreground_after, background_after, underline_color_after};
 

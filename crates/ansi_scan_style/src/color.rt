@@ -1,3 +1,4 @@
+//! Colours, as sequences set them and as they are named.
 ghost use Rattle.std.specs.Prelude.{◌≡◌};
 ghost use Rattle.ansi_scan_style.specs.Color.{color_of, named_color};
 

@@ -1,3 +1,4 @@
+//! The attributes of a style that are set or not.
 ghost use Rattle.std.specs.Prelude.{◌≡◌};
 ghost use Rattle.ansi_scan_style.specs.Attributes.{after_code};
 ghost use Rattle.ansi_scan_style.specs.Flags.{flags_of, only_flags};

@@ -1,3 +1,4 @@
+//! What the next parameter of a sequence is: a code, or a part of a colour.
 ghost use Rattle.std.specs.Prelude.{◌≡◌};
 ghost use Rattle.ansi_scan_style.specs.Rendition.{next_after};
 

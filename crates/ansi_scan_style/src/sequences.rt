@@ -1,3 +1,4 @@
+//! Sequences as they are written: one for each attribute.
 ghost use Rattle.std.specs.Prelude.{◌≡◌, Some};
 ghost use Rattle.std.specs.List.{concat};
 ghost use Rattle.std.specs.Fmt.{WritesOnOk};

@@ -1,3 +1,4 @@
+//! Styles: what sequences have set.
 ghost use Rattle.std.specs.Prelude.{◌≡◌, ◌↔◌, IsTrue, Some};
 ghost use Rattle.std.specs.Option.{option_map};
 ghost use Rattle.ansi_scan_style.specs.Attributes.{IsColor, IsRendition, after_code, is_no_code, plain_attributes};

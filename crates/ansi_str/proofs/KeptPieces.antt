@@ -17,21 +17,21 @@ use Rattle.ansi_str_search.proofs.MergeLemmas.{slice_both}
 use Rattle.ansi_str.proofs.KeepLemmas.{empty_slice}
 
 -- a piece of text, where that is not empty
-abbrev text_if : List ℕ → Bool → List Piece
+abbrev pub text_if : List ℕ → Bool → List Piece
 text_if bytes true = []
 text_if bytes false = record { kind = Text; bytes = bytes } ∷ []
 
-abbrev of_kind : Bool → ℕ → ℕ → Piece → List Piece
+abbrev pub of_kind : Bool → ℕ → ℕ → Piece → List Piece
 of_kind true a b p = text_if (slice_range p.bytes a b) (length (slice_range p.bytes a b) == 0)
 of_kind false a b p = p ∷ []
 
-abbrev kept_pieces : ℕ → ℕ → ℕ → List Piece → List Piece
+abbrev pub kept_pieces : ℕ → ℕ → ℕ → List Piece → List Piece
 kept_pieces a b place [] = []
 kept_pieces a b place (p ∷ ps) = of_kind (is_text_kind p.kind) (a - place) (b - place) p ++ kept_pieces a b (place + length (text_of p)) ps
 
 -- ---- their bytes, and what they show
 
-no_bytes : (bytes : List ℕ) → (length bytes == 0) ≡ true → bytes ≡ []
+pub no_bytes : (bytes : List ℕ) → (length bytes == 0) ≡ true → bytes ≡ []
 no_bytes [] e = refl
 no_bytes (b ∷ bs) e = let none : length (b ∷ bs) ≡ 0 = eqb-true (length (b ∷ bs)) 0 e in absurd (omega (arith, none))
 
@@ -148,7 +148,7 @@ sequences_among-kept a b place (p ∷ ps) =
 -- ---- the pieces of what is kept
 
 module _ (a b : ℕ) (text : List ℕ) (ps left : List Piece) (of_text : ArePiecesOf text ps) (whole : NoneBroken ps) (of_left : ArePiecesOf (kept a b ps) left) where
-  pieces_kept : left ≡ kept_pieces a b 0 ps
+  pub pieces_kept : left ≡ kept_pieces a b 0 ps
   pieces_kept = ArePiecesOf-unique (kept a b ps) left (kept_pieces a b 0 ps) of_left (record { joins = joined-kept a b 0 ps; stand = EachStands-kept a b 0 ps of_text.stand whole })
 
   pub kept_shown : strip left ≡ slice_range (strip ps) a b

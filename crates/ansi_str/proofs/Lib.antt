@@ -7,6 +7,7 @@ pub mod WholeSlices
 pub mod KeepLemmas
 pub mod TrimLemmas
 pub mod KeptPieces
+pub mod KeptSlices
 pub mod EditLemmas
 pub mod EditLaws
 pub mod WholeEdits

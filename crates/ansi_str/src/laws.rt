@@ -38,7 +38,8 @@ pub fn taken_where_they_are()
 {}
 
 /// Where text is taken away at the ends of a whole text, what is left shows the text between them, has
-/// the same sequences, and is whole.
+/// the same sequences, and is whole. In UTF-8 it shows the characters between them, each in the style that
+/// it has in the text.
 pub fn sequences_are_kept()
     ensures shown { (a b : ℕ) (text : List ℕ) (pieces left : List Piece) → ArePiecesOf text pieces → NoneBroken pieces →
         ArePiecesOf (kept a b pieces) left → strip left ≡ slice_range (strip pieces) a b }
@@ -46,6 +47,11 @@ pub fn sequences_are_kept()
         ArePiecesOf (kept a b pieces) left → sequences_among left ≡ sequences_among pieces }
     ensures whole { (a b : ℕ) (text : List ℕ) (pieces left : List Piece) → ArePiecesOf text pieces → NoneBroken pieces →
         ArePiecesOf (kept a b pieces) left → NoneBroken left }
+    ensures slice { (a b : ℕ) (text : List ℕ) (pieces left : List Piece) → a ≤ b → IsUtf8 text →
+        ArePiecesOf text pieces → NoneBroken pieces → IsCharBoundary (strip pieces) a → IsCharBoundary (strip pieces) b →
+        ArePiecesOf (kept a b pieces) left →
+        styled left ≡ slice_range (styled pieces)
+        (length (chars (take a (strip pieces)))) (length (chars (take b (strip pieces)))) }
 {}
 
 /// Without its sequences a trimmed whole text is the trimmed text without its own.

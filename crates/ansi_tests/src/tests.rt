@@ -1,3 +1,4 @@
+//! What the tests share.
 use std::borrow::CowStr;
 use std::process::Abort;
 

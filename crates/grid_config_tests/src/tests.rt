@@ -1,3 +1,4 @@
+//! What the tests share.
 use grid_config_values::Position;
 use std::process::Abort;
 

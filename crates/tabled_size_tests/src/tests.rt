@@ -1,3 +1,4 @@
+//! What the tests share.
 use std::process::Abort;
 use tabled_size::CompleteDimension;
 

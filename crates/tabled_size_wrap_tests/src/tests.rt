@@ -1,3 +1,4 @@
+//! Units, wraps and cuts.
 use std::alloc::AllocError;
 use tabled_size_wrap::{Unit, cut_styled, units, wrap_styled};
 

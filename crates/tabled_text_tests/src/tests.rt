@@ -1,3 +1,4 @@
+//! Texts and names of values, and rows being made.
 use std::alloc::{AllocError, Global};
 use std::borrow::CowStr;
 use std::process::Abort;

@@ -1,3 +1,4 @@
+//! Calls that take memory, each with ample memory; `tests/memory` refuses it.
 use super::search::expect_parts;
 use super::{expect, expect_found};
 use Call::*;

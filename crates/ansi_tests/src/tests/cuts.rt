@@ -1,3 +1,4 @@
+//! Cuts, splits at places, and which bounds and places are good.
 use super::{expect, expect_found, expect_text};
 use Bounds::*;
 use ansi_str::{AnsiRange, AnsiStr, are_places, is_good_range, split_places};

@@ -1,3 +1,4 @@
+//! Edits of a text, one after the other.
 use super::expect;
 use ansi_str::{Edit, edit};
 use std::test::Fail;

@@ -1,3 +1,4 @@
+//! Items of a text, each form held against one that just has it not.
 use super::expect;
 use ansi_scan::{Item, Kind, first_broken, is_whole, scan};
 use std::process::Abort;

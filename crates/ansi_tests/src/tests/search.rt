@@ -1,3 +1,4 @@
+//! Stripping, searching and splitting.
 use super::{expect, expect_text};
 use ansi_str_search::{AnsiSplit, has_escape, strip_text};
 use std::alloc::{AllocError, Global};

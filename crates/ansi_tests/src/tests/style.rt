@@ -1,3 +1,4 @@
+//! Styles, colours and codes.
 use super::{expect, expect_text};
 use ansi_scan::{AnsiColor, Color, RESET_ALL, Style};
 use std::alloc::{AllocError, Global};

@@ -1,3 +1,4 @@
+//! Blocks and shown characters.
 use super::{expect, expect_text};
 use ansi_str_text::{AnsiBlock, get_blocks, stripped_chars};
 use std::alloc::{AllocError, Global};

@@ -1,3 +1,4 @@
+//! Colours of a table.
 use super::{expect, expect_text};
 use grid_config_colors::{ANSIBuf, ANSIStr, BufFault};
 use std::alloc::{AllocError, Global};

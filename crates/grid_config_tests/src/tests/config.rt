@@ -1,3 +1,4 @@
+//! Settings of cells and of the whole table.
 use super::{at, expect};
 use grid_config::{
     ANSIBuf, ANSIStr, AlignmentHorizontal, AlignmentVertical, Borders, ColoredConfig,

@@ -1,3 +1,4 @@
+//! Spans that are set, read and refused.
 use super::{at, expect};
 use Set::*;
 use grid_config_spans::Spans;

@@ -1,3 +1,4 @@
+//! Values of settings, sets of cells and maps over them.
 use super::{at, expect, expect_text};
 use grid_config_values::{
     AlignmentHorizontal, AlignmentVertical, Borders, Entity, EntityMap, Fault, Formatting, Indent,

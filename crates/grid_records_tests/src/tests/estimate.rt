@@ -1,3 +1,4 @@
+//! Least sizes of tables, totals, and their refusals.
 ghost use Rattle.std.specs.Prelude.{◌<◌};
 
 use super::expect_number;

@@ -1,3 +1,4 @@
+//! Measures, lines, tabs and cuts.
 use super::{expect, expect_number, expect_text};
 use grid_records_measure::{
     Lines, count_lines, cut_width, get_char_width, get_line_width, get_lines, get_string_width,

@@ -1,3 +1,4 @@
+//! Rows of cells: sources, adapters, and cells that are set.
 ghost use Rattle.std.specs.Iterator.{IsFinite};
 
 use super::{expect, expect_number, expect_text};

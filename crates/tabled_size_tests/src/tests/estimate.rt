@@ -1,3 +1,4 @@
+//! Estimates of kept sizes.
 ghost use Rattle.std.specs.Prelude.{◌<◌};
 
 use super::kept::kept;

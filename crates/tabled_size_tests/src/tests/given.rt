@@ -1,3 +1,4 @@
+//! Sizes that are given.
 use super::expect;
 use grid_config::Fault;
 use grid_records_estimate::Estimate;

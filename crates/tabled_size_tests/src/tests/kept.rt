@@ -1,3 +1,4 @@
+//! Sizes that are kept, cleared and cloned.
 use super::{Lists, expect, expect_kept};
 use grid_config::{Entity, Fault};
 use grid_records_rows::Dimension;

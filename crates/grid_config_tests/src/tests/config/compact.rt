@@ -1,3 +1,4 @@
+//! Settings of a compact table.
 use super::*;
 use std::hash::{DefaultHasher, Hash, Hasher};
 
