@@ -1,0 +1,3 @@
+pub mod BridgeLemmas
+pub mod SizeLemmas
+pub mod TableLemmas

@@ -1,7 +1,17 @@
 //! Laws of tables in a width that is asked, each the contract of a function that does nothing.
-ghost use Rattle.std.specs.Prelude.{◌≡◌, ◌∷◌, [], codes, false, true};
+ghost use Rattle.std.specs.Prelude.{◌≡◌, ◌∷◌, ℕ, All, List, None, [], codes, false, true};
+ghost use Rattle.ansi_scan.specs.Attributes.{plain_attributes};
+ghost use Rattle.ansi_scan.specs.Pieces.{pieces};
+ghost use Rattle.ansi_str.specs.StyledText.{styled};
+ghost use Rattle.grid_config.specs.Compact.{Compact};
+ghost use Rattle.grid_config.specs.Looks.{compact_look};
+ghost use Rattle.grid_records_measure.specs.TextLines.{line_feed};
+ghost use Rattle.papergrid_picture.specs.Shown.{AreWholeTexts, IsBare, IsWholeText, Shows, Styled, character_of, in_plain, styled_texts};
+ghost use Rattle.papergrid_picture.specs.Tables.{table_text};
 ghost use Rattle.tabled_size_priority.specs.declared.choice.Choice.TheVariants.{None as InTurns, MaxLeft};
-ghost use Rattle.columns_asked.specs.Layout.{asked_text};
+ghost use Rattle.columns_asked.specs.Asked.{Asked, Resize};
+ghost use Rattle.columns_asked.specs.Layout.{asked_frame, asked_picture, asked_text, asked_widths, ended, heights_of, kept_cells, kept_texts};
+ghost use Rattle.columns_asked.specs.Resizing.{resized, resized_text};
 ghost use Rattle.columns_asked.specs.Worked.{ascii_settings, cuts, no_width, one_row, wraps};
 
 /// Tables worked out by hand, by their bytes: a coloured text is wrapped, each line in its own colour, and
@@ -25,4 +35,35 @@ pub fn worked_texts()
     ensures natural { asked_text ascii_settings (wraps 6 false InTurns) (one_row (codes "ab" ∷ [])) ≡ codes "+----+\n| ab |\n+----+\n" }
     ensures wide { asked_text ascii_settings (wraps 100 false InTurns) (one_row (codes "ab" ∷ [])) ≡ codes "+----+\n| ab |\n+----+\n" }
     ensures no_width { asked_text ascii_settings no_width (one_row (codes "ab" ∷ [])) ≡ codes "+----+\n| ab |\n+----+\n" }
+{}
+
+/// A resized cell is one thing as a text and as styled characters: what a resized text shows is the resized
+/// list of the characters that the text shows, in their styles, where U+FFFD and line feeds that are put in
+/// have the plain style. No sequence of it is broken.
+pub fn resized_texts_show_resized_cells()
+    ensures shown { (resize : Resize) (text : List ℕ) → IsWholeText text →
+        styled (pieces (resized_text resize text)) ≡ resized character_of in_plain resize (styled (pieces text)) }
+    ensures whole { (resize : Resize) (text : List ℕ) → IsWholeText text → IsWholeText (resized_text resize text) }
+{}
+
+/// The texts that a table keeps once its cells are resized show the cells of the picture; and the table of
+/// these texts, in the widths that are kept, is what is printed.
+pub fn stored_table()
+    ensures cells { (style : Compact) (asked : Asked) (texts : List (List (List ℕ))) → AreWholeTexts texts →
+        styled_texts (kept_texts style asked texts) ≡ kept_cells character_of in_plain style asked (styled_texts texts) }
+    ensures whole { (style : Compact) (asked : Asked) (texts : List (List (List ℕ))) → AreWholeTexts texts → AreWholeTexts (kept_texts style asked texts) }
+    ensures printed { (style : Compact) (asked : Asked) (texts : List (List (List ℕ))) →
+        asked_text style asked texts ≡ ended line_feed (asked_frame style asked texts)
+        (table_text (compact_look style) (kept_texts style asked texts) (λ _. None) (asked_widths style asked texts) (heights_of style (kept_texts style asked texts))) }
+{}
+
+/// The text of a table in a width that is asked shows its picture: the characters that its cells show, in
+/// their styles, resized and drawn, with glyphs, fills and line feeds in the plain style. So no style is open
+/// where a line ends, nor at the end. The glyphs and fills of the style begin no sequence, and no colour is
+/// set.
+pub fn table_shown()
+    ensures shown { (style : Compact) (asked : Asked) (texts : List (List (List ℕ))) → IsBare (compact_look style) → AreWholeTexts texts →
+        Shows (asked_text style asked texts) (asked_picture style asked (styled_texts texts)) }
+    ensures line_feeds { (style : Compact) (asked : Asked) (rows : List (List (List Styled))) →
+        All (λ x. x.0 ≡ line_feed → x.1 ≡ plain_attributes) (asked_picture style asked rows) }
 {}
