@@ -1,3 +1,6 @@
 pub mod BridgeLemmas
 pub mod SizeLemmas
 pub mod TableLemmas
+pub mod CharacterLemmas
+pub mod StrippedLemmas
+pub mod PlainTextLemmas

@@ -1,16 +1,17 @@
 //! Laws of tables in a width that is asked, each the contract of a function that does nothing.
-ghost use Rattle.std.specs.Prelude.{◌≡◌, ◌∷◌, ℕ, All, List, None, [], codes, false, true};
+ghost use Rattle.std.specs.Prelude.{◌≡◌, ◌↔◌, ◌∷◌, ℕ, All, List, None, [], chars, codes, encode_utf8_all, false, map, true};
 ghost use Rattle.ansi_scan.specs.Attributes.{plain_attributes};
 ghost use Rattle.ansi_scan.specs.Pieces.{pieces};
-ghost use Rattle.ansi_str.specs.StyledText.{styled};
+ghost use Rattle.ansi_scan.specs.Sequences.{Piece, ArePiecesOf};
+ghost use Rattle.ansi_str.specs.StyledText.{strip, styled};
 ghost use Rattle.grid_config.specs.Compact.{Compact};
 ghost use Rattle.grid_config.specs.Looks.{compact_look};
 ghost use Rattle.grid_records_measure.specs.TextLines.{line_feed};
-ghost use Rattle.papergrid_picture.specs.Shown.{AreWholeTexts, IsBare, IsWholeText, Shows, Styled, character_of, in_plain, styled_texts};
+ghost use Rattle.papergrid_picture.specs.Shown.{ArePlainTexts, AreWholeTexts, IsBare, IsWholeText, Shows, Styled, character_of, characters_of, in_plain, stripped_texts, styled_texts};
 ghost use Rattle.papergrid_picture.specs.Tables.{table_text};
 ghost use Rattle.tabled_size_priority.specs.declared.choice.Choice.TheVariants.{None as InTurns, MaxLeft};
 ghost use Rattle.columns_asked.specs.Asked.{Asked, Resize};
-ghost use Rattle.columns_asked.specs.Layout.{asked_frame, asked_picture, asked_text, asked_widths, ended, heights_of, kept_cells, kept_texts};
+ghost use Rattle.columns_asked.specs.Layout.{AskedFits, asked_characters, asked_frame, asked_picture, asked_text, asked_widths, ended, heights_of, kept_cells, kept_texts, too_wide};
 ghost use Rattle.columns_asked.specs.Resizing.{resized, resized_text};
 ghost use Rattle.columns_asked.specs.Worked.{ascii_settings, cuts, no_width, one_row, wraps};
 
@@ -66,4 +67,32 @@ pub fn table_shown()
         Shows (asked_text style asked texts) (asked_picture style asked (styled_texts texts)) }
     ensures line_feeds { (style : Compact) (asked : Asked) (rows : List (List (List Styled))) →
         All (λ x. x.0 ≡ line_feed → x.1 ≡ plain_attributes) (asked_picture style asked rows) }
+{}
+
+/// Where a cell is broken or cut follows from its characters alone: without styles, and without sequences,
+/// a resized cell is the resized list of its characters.
+pub fn breaks_are_chosen_on_characters()
+    ensures cells { (resize : Resize) (cell : List Styled) →
+        map character_of (resized character_of in_plain resize cell) ≡ resized (λ c. c) (λ c. c) resize (map character_of cell) }
+    ensures texts { (resize : Resize) (text : List ℕ) → IsWholeText text →
+        strip (pieces (resized_text resize text)) ≡ encode_utf8_all (resized (λ c. c) (λ c. c) resize (chars (strip (pieces text)))) }
+{}
+
+/// Styles change nothing of a table but styles. The characters of its picture are those of the picture of
+/// the characters alone; of texts without sequences its text is these characters; and without its sequences
+/// its text is that of the table of the stripped texts, which has a table where the others have one, with the
+/// same cell too wide.
+pub fn without_styles()
+    ensures picture { (style : Compact) (asked : Asked) (rows : List (List (List Styled))) →
+        map character_of (asked_picture style asked rows) ≡ map character_of (asked_picture style asked (map (map (map in_plain)) (characters_of rows))) }
+    ensures characters { (style : Compact) (asked : Asked) (rows : List (List (List Styled))) →
+        map character_of (asked_picture style asked rows) ≡ asked_characters style asked (characters_of rows) }
+    ensures plain { (style : Compact) (asked : Asked) (texts : List (List (List ℕ))) → IsBare (compact_look style) → ArePlainTexts texts →
+        asked_text style asked texts ≡ encode_utf8_all (asked_characters style asked (map (map chars) texts)) }
+    ensures text { (style : Compact) (asked : Asked) (texts : List (List (List ℕ))) (ps : List Piece) → IsBare (compact_look style) → AreWholeTexts texts →
+        ArePiecesOf (asked_text style asked texts) ps → strip ps ≡ asked_text style asked (stripped_texts texts) }
+    ensures fits { (style : Compact) (asked : Asked) (texts : List (List (List ℕ))) → AreWholeTexts texts →
+        (AskedFits style asked (stripped_texts texts) ↔ AskedFits style asked texts) }
+    ensures too_wide { (style : Compact) (asked : Asked) (texts : List (List (List ℕ))) → AreWholeTexts texts →
+        too_wide style asked (stripped_texts texts) ≡ too_wide style asked texts }
 {}
