@@ -4,3 +4,5 @@ pub mod TableLemmas
 pub mod CharacterLemmas
 pub mod StrippedLemmas
 pub mod PlainTextLemmas
+pub mod ShrunkLemmas
+pub mod NarrowLemmas

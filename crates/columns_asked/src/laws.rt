@@ -9,10 +9,13 @@ ghost use Rattle.grid_config.specs.Looks.{compact_look};
 ghost use Rattle.grid_records_measure.specs.TextLines.{line_feed};
 ghost use Rattle.papergrid_picture.specs.Shown.{ArePlainTexts, AreWholeTexts, IsBare, IsWholeText, Shows, Styled, character_of, characters_of, in_plain, stripped_texts, styled_texts};
 ghost use Rattle.papergrid_picture.specs.Tables.{table_text};
+ghost use Rattle.tabled_size_priority.specs.Choices.{IsShrunkByChoice};
+ghost use Rattle.tabled_size_priority.specs.declared.choice.Choice.{Choice};
 ghost use Rattle.tabled_size_priority.specs.declared.choice.Choice.TheVariants.{None as InTurns, MaxLeft};
 ghost use Rattle.columns_asked.specs.Asked.{Asked, Resize};
 ghost use Rattle.columns_asked.specs.Layout.{AskedFits, asked_characters, asked_frame, asked_picture, asked_text, asked_widths, ended, heights_of, kept_cells, kept_texts, too_wide};
 ghost use Rattle.columns_asked.specs.Resizing.{resized, resized_text};
+ghost use Rattle.columns_asked.specs.Shrunk.{shrunk_list};
 ghost use Rattle.columns_asked.specs.Worked.{ascii_settings, cuts, no_width, one_row, wraps};
 
 /// Tables worked out by hand, by their bytes: a coloured text is wrapped, each line in its own colour, and
@@ -95,4 +98,11 @@ pub fn without_styles()
         (AskedFits style asked (stripped_texts texts) ↔ AskedFits style asked texts) }
     ensures too_wide { (style : Compact) (asked : Asked) (texts : List (List (List ℕ))) → AreWholeTexts texts →
         too_wide style asked (stripped_texts texts) ≡ too_wide style asked texts }
+{}
+
+/// The function `shrunk_list` gives the list that widths shrink to by a priority, and no other list is.
+pub fn the_shrunk_list()
+    ensures meets { (priority : Choice) (least : List ℕ) (by : ℕ) (widths : List ℕ) → IsShrunkByChoice priority least by widths (shrunk_list priority least by widths) }
+    ensures one { (priority : Choice) (least : List ℕ) (by : ℕ) (widths sizes : List ℕ) →
+        IsShrunkByChoice priority least by widths sizes → sizes ≡ shrunk_list priority least by widths }
 {}

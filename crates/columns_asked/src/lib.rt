@@ -2,4 +2,11 @@
 //! table then shows.
 #![tactic(auto)]
 
+mod asked;
+mod cells;
 pub mod laws;
+mod widths;
+
+pub use asked::Asked;
+pub use cells::resized_cell;
+pub use widths::narrowed;
