@@ -1,0 +1,8 @@
+pub mod BridgeLemmas
+pub mod SizeLemmas
+pub mod TableLemmas
+pub mod CharacterLemmas
+pub mod StrippedLemmas
+pub mod PlainTextLemmas
+pub mod ShrunkLemmas
+pub mod NarrowLemmas

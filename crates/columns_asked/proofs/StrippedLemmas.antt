@@ -1,0 +1,129 @@
+-- What a table is follows from its texts without their sequences.
+use Rattle.std.proofs.Common.{◌≡◌, ◌+◌, ℕ, Bool, List, [], ◌∷◌, map, refl, ap, sym, ◌∙◌}
+use Rattle.std.specs.Prelude.{chars, encode_utf8_all, nat_lt, ◌&&◌}
+use Rattle.std.specs.List.{AllByRecursion, find}
+use Rattle.std.proofs.lemmas.Simd.{map-map}
+use Rattle.std.proofs.lemmas.Str.{encodes-chars}
+use Rattle.ansi_scan.specs.Pieces.{pieces}
+use Rattle.ansi_str.specs.StyledText.{strip}
+use Rattle.ansi_scan.proofs.Existence.{ArePiecesOf-pieces}
+use Rattle.ansi_str.specs.StyledText.{has_escape}
+use Rattle.ansi_str_text.proofs.Stripping.{has_escape-strip}
+use Rattle.ansi_str_text.proofs.Utf8Pieces.{IsUtf8-shown_text}
+use Rattle.grid_config.specs.Compact.{Compact}
+use Rattle.grid_config.specs.Looks.{Look, compact_look}
+use Rattle.grid_config_spans.specs.Owners.{owner}
+use Rattle.grid_config_values.specs.Entities.{table_positions}
+use Rattle.grid_config_values.specs.Order.{same_place}
+use Rattle.grid_config_values.specs.declared.position.Position.{Position}
+use Rattle.grid_records_measure.specs.TextLines.{text_width}
+use Rattle.grid_records_traits.specs.Rows.{text_at}
+use Rattle.papergrid_picture.specs.Fitting.{InRange, first_too_wide, is_too_wide, need}
+use Rattle.papergrid_picture.specs.Frame.{Frame, block_width, column_count, frame_of, row_count}
+use Rattle.papergrid_picture.specs.Shown.{AreWholeTexts, IsWholeText, Styled, character_of, characters_of, in_plain, stripped_texts, styled_texts}
+use Rattle.papergrid_picture.proofs.ShownLemmas.{characters-styled, map-same, pieces-nothing, styled_of}
+use Rattle.papergrid_picture.proofs.StrippedLemmas.{none-broken}
+use Rattle.columns_asked.specs.Asked.{Asked, Resize}
+use Rattle.columns_asked.specs.Resizing.{resized, resized_text}
+use Rattle.columns_asked.proofs.BridgeLemmas.{resized-shows}
+use Rattle.columns_asked.specs.Layout.{AskedFits, asked_frame, asked_widths, frame_under, heights_of, kept_cells, kept_texts, texts_in, too_wide}
+use Rattle.columns_asked.proofs.CharacterLemmas.{kept-characters, resized-natural, same, texts-characters}
+use Rattle.columns_asked.proofs.SizeLemmas.{frame-stripped, heights-stripped, stripped, stripped-none, stripped-twice, stripped-width, text-map}
+use Rattle.columns_asked.proofs.TableLemmas.{asked_widths-stripped, kept-styled, kept-whole, texts-in}
+
+-- ---- the stripped texts are whole
+
+whole-stripped : (text : List ℕ) → IsWholeText text → IsWholeText (stripped text)
+whole-stripped text whole =
+    let left = stripped text in
+    let are = ArePiecesOf-pieces left in
+    record { utf8 = IsUtf8-shown_text text whole.utf8; whole = none-broken (pieces left) are.stand (ap has_escape are.joins ∙ has_escape-strip text (pieces text) (ArePiecesOf-pieces text)) }
+
+row-whole : (row : List (List ℕ)) → AllByRecursion IsWholeText row → AllByRecursion IsWholeText (map stripped row)
+row-whole [] all = tt
+row-whole (text ∷ row) all = (whole-stripped text all.0, row-whole row all.1)
+
+pub texts-whole : (texts : List (List (List ℕ))) → AreWholeTexts texts → AreWholeTexts (stripped_texts texts)
+texts-whole [] all = tt
+texts-whole (row ∷ texts) all = (row-whole row all.0, texts-whole texts all.1)
+
+-- ---- the characters that texts show
+
+pub characters-texts : (texts : List (List (List ℕ))) → AreWholeTexts texts → characters_of (styled_texts texts) ≡ map (map chars) (stripped_texts texts)
+characters-texts texts all =
+    map-map (map (map character_of)) (map styled_of) texts
+    ∙ map-same (AllByRecursion IsWholeText) (λ row. map (map character_of) (map styled_of row)) (λ row. map chars (map stripped row))
+    (λ row whole. map-map (map character_of) styled_of row
+    ∙ map-same IsWholeText (λ text. map character_of (styled_of text)) (λ text. chars (stripped text)) (λ text is. characters-styled text is.utf8) row whole
+    ∙ sym (map-map chars stripped row))
+    texts all
+    ∙ sym (map-map (map chars) (map stripped) texts)
+
+strip-twice : (texts : List (List (List ℕ))) → stripped_texts (stripped_texts texts) ≡ stripped_texts texts
+strip-twice texts =
+    map-map (map stripped) (map stripped) texts
+    ∙ (λ k. map (λ row. map-map stripped stripped row k) texts)
+    ∙ (λ k. map (map (λ text. stripped-twice text k)) texts)
+
+-- a resized text shows its resized characters
+pub resized-characters : (resize : Resize) (text : List ℕ) → IsWholeText text → stripped (resized_text resize text) ≡ encode_utf8_all (resized same same resize (chars (stripped text)))
+resized-characters resize text whole =
+    let out = resized_text resize text in
+    let shows = resized-shows resize text whole in
+    sym (encodes-chars (stripped out) (IsUtf8-shown_text out shows.whole.utf8))
+    ∙ ap encode_utf8_all
+    (sym (characters-styled out shows.whole.utf8) ∙ ap (map character_of) shows.shown ∙ resized-natural character_of same in_plain resize (styled_of text) ∙ ap (resized same same resize) (characters-styled text whole.utf8))
+
+module _ (style : Compact) (asked : Asked) where
+  -- the texts that are kept show the resized characters
+  pub kept-shown : (texts : List (List (List ℕ))) → AreWholeTexts texts → stripped_texts (kept_texts style asked texts) ≡ texts_in same same (kept_cells same same style asked (map (map chars) (stripped_texts texts)))
+  kept-shown texts all =
+      sym (texts-in (kept_texts style asked texts) (kept-whole style asked texts all))
+      ∙ ap (texts_in character_of in_plain) (kept-styled style asked texts all)
+      ∙ sym (texts-characters style asked (kept_cells character_of in_plain style asked (styled_texts texts)))
+      ∙ ap (texts_in same same) (kept-characters style asked (styled_texts texts) ∙ ap (kept_cells same same style asked) (characters-texts texts all))
+
+  module _ (texts : List (List (List ℕ))) (all : AreWholeTexts texts) where
+    -- they are those of the stripped texts
+    pub kept-stripped : stripped_texts (kept_texts style asked (stripped_texts texts)) ≡ stripped_texts (kept_texts style asked texts)
+    kept-stripped =
+        kept-shown (stripped_texts texts) (texts-whole texts all)
+        ∙ ap (λ (found : List (List (List ℕ))). texts_in same same (kept_cells same same style asked (map (map chars) found))) (strip-twice texts)
+        ∙ sym (kept-shown texts all)
+
+    pub heights-asked : heights_of style (kept_texts style asked (stripped_texts texts)) ≡ heights_of style (kept_texts style asked texts)
+    heights-asked =
+        sym (heights-stripped style (kept_texts style asked (stripped_texts texts))) ∙ ap (heights_of style) kept-stripped ∙ heights-stripped style (kept_texts style asked texts)
+
+    pub frame-asked : asked_frame style asked (stripped_texts texts) ≡ asked_frame style asked texts
+    frame-asked =
+        ap (λ (widths : List ℕ). frame_of (compact_look style) widths (heights_of style (kept_texts style asked (stripped_texts texts)))) (asked_widths-stripped style asked texts)
+        ∙ ap (frame_of (compact_look style) (asked_widths style asked texts)) heights-asked
+
+    pub fits-stripped : AskedFits style asked (stripped_texts texts) ≡ AskedFits style asked texts
+    unfolding AskedFits
+    fits-stripped =
+        ap (λ (frame : Frame). InRange frame × InRange (asked_frame style asked (stripped_texts texts))) (frame-stripped style texts)
+        ∙ ap (λ (frame : Frame). InRange (frame_under style texts) × InRange frame) frame-asked
+
+-- ---- the first cell that is too wide
+
+module _ (frame : Frame) (rows : List (List (List ℕ))) where
+  need-stripped : (cell : Position) → need frame.look (stripped_texts rows) cell ≡ need frame.look rows cell
+  need-stripped cell =
+      let padding = frame.look.padding cell in
+      ap (λ (n : ℕ). n + padding.left.size + padding.right.size) (ap text_width (text-map stripped stripped-none rows cell) ∙ stripped-width (text_at rows cell))
+
+  first-stripped : first_too_wide frame (stripped_texts rows) ≡ first_too_wide frame rows
+  first-stripped = λ k. find (λ cell. same_place (owner frame.look.extent cell) cell && nat_lt (block_width frame cell) (need-stripped cell k)) (table_positions (row_count frame) (column_count frame))
+
+module _ (style : Compact) (asked : Asked) (texts : List (List (List ℕ))) (all : AreWholeTexts texts) where
+  pub too_wide-stripped : too_wide style asked (stripped_texts texts) ≡ too_wide style asked texts
+  unfolding too_wide
+  too_wide-stripped =
+      let kept = kept_texts style asked texts in
+      let others = kept_texts style asked (stripped_texts texts) in
+      ap (λ (frame : Frame). first_too_wide frame others) (frame-asked style asked texts all)
+      ∙ sym (first-stripped (asked_frame style asked texts) others)
+      ∙ ap (first_too_wide (asked_frame style asked texts)) (kept-stripped style asked texts all)
+      ∙ first-stripped (asked_frame style asked texts) kept

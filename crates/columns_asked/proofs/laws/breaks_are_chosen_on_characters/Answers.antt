@@ -1,0 +1,10 @@
+use Rattle.columns_asked.proofs.CharacterLemmas.{resized-natural, same}
+use Rattle.columns_asked.proofs.StrippedLemmas.{resized-characters}
+use Rattle.papergrid_picture.specs.Shown.{character_of, in_plain}
+use Rattle.columns_asked.proofs.laws.breaks_are_chosen_on_characters.Goals as goal
+
+pub returns-clause-cells : goal.returns-clause-cells
+returns-clause-cells c = resized-natural character_of same in_plain
+
+pub returns-clause-texts : goal.returns-clause-texts
+returns-clause-texts c = resized-characters

@@ -1,0 +1,5 @@
+pub mod Asked
+pub mod Shrunk
+pub mod Resizing
+pub mod Layout
+pub mod Worked

@@ -1,0 +1,12 @@
+//! Tables of texts in a width that is asked: which columns give, what becomes of the cells, and what the
+//! table then shows.
+#![tactic(auto)]
+
+mod asked;
+mod cells;
+pub mod laws;
+mod widths;
+
+pub use asked::Asked;
+pub use cells::resized_cell;
+pub use widths::narrowed;

@@ -1,0 +1,34 @@
+//! The widths of a table that is asked to be narrower.
+ghost use Rattle.std.specs.Prelude.{◌≡◌, ◌<◌, ◌^◌, IfOk, sum};
+ghost use Rattle.std.specs.Option.{option_map};
+ghost use Rattle.grid_config.specs.Compact.{Compact};
+ghost use Rattle.columns_asked.specs.Layout.{narrow, paddings};
+
+use crate::asked::Asked;
+use std::alloc::{AllocError, Global};
+
+/// The widths that a table shrinks to which would take `total` columns with these widths, each not below
+/// the columns beside a text, `beside`; or none where it takes no more than it may. The only refusal is for
+/// memory.
+pub fn narrowed(
+    alloc: Global,
+    asked: &Asked,
+    widths: &[usize],
+    total: usize,
+    beside: usize,
+) -> Result<Option<Vec<usize>>, AllocError>
+    requires { sum widths.now < 2 ^ 64 }
+    ensures { IfOk result (λ answer. (style : Compact) → beside ≡ paddings style →
+        option_map (λ sizes. sizes.items) answer ≡ narrow style asked.now widths.now total asked.now.width) }
+{
+    let Some(width) = asked.width else {
+        return Ok(None);
+    };
+    if total <= width {
+        return Ok(None);
+    }
+    let mut sizes = widths.to_vec(alloc)?;
+    let least = vec![in alloc; beside; widths.len()]?;
+    asked.priority.shrink(&mut sizes, &least, total - width);
+    Ok(Some(sizes))
+}
