@@ -49,7 +49,7 @@ pub fn command<'a>(alloc: Global) -> Result<Command<'a>, AllocError>
         .arg(streamed(alloc))
 }
 
-// A number of columns.
+// How wide the table may be, in columns.
 fn width<'a>(alloc: Global) -> Arg<'a>
     ensures rule { rule_of result ≡ width_rule }
     ensures global { result.global ≡ false }
@@ -62,7 +62,7 @@ fn width<'a>(alloc: Global) -> Arg<'a>
         .help("Narrow the table to N columns, 0 to 4294967295 [default: as wide as its text]")
 }
 
-// A flag.
+// Whether to cut off what doesn't fit.
 fn truncate<'a>(alloc: Global) -> Arg<'a>
     ensures rule { rule_of result ≡ flag_rule (codes "truncate") }
     ensures global { result.global ≡ false }
@@ -73,7 +73,7 @@ fn truncate<'a>(alloc: Global) -> Arg<'a>
         .help("With --width: cut off what doesn't fit [default: break lines]")
 }
 
-// A flag.
+// Whether to break lines between words.
 fn keep_words<'a>(alloc: Global) -> Arg<'a>
     ensures rule { rule_of result ≡ flag_rule (codes "keep-words") }
     ensures global { result.global ≡ false }
@@ -84,7 +84,7 @@ fn keep_words<'a>(alloc: Global) -> Arg<'a>
         .help("With --width: break lines between words [default: anywhere]")
 }
 
-// One of the priorities.
+// Which column gives first.
 fn priority<'a>(alloc: Global) -> Arg<'a>
     ensures rule { IsOfNames (codes "priority") priority_names (rule_of result) }
     ensures global { result.global ≡ false }
@@ -98,7 +98,7 @@ fn priority<'a>(alloc: Global) -> Arg<'a>
         .help("With --width: which column gives first; none: each in turn")
 }
 
-// One of the styles.
+// The glyphs.
 fn style<'a>(alloc: Global) -> Arg<'a>
     ensures rule { IsOfNames (codes "style") style_names (rule_of result) }
     ensures global { result.global ≡ false }
@@ -112,7 +112,7 @@ fn style<'a>(alloc: Global) -> Arg<'a>
         .help("The table's lines: - | +, light, double, or none at all")
 }
 
-// A flag.
+// Whether to go row by row.
 fn streamed<'a>(alloc: Global) -> Arg<'a>
     ensures rule { rule_of result ≡ flag_rule (codes "streamed") }
     ensures global { result.global ≡ false }
