@@ -1,0 +1,2 @@
+pub mod ColumnsLemmas
+pub mod PassedLemmas

@@ -1,0 +1,81 @@
+-- What the words of the command line ask.
+use Rattle.std.specs.Prelude.{◌≡◌, ◌<◌, ◌^◌, ℕ, Bool, true, false, List, [], Option, Some, None, codes, ⊤}
+use Rattle.std.specs.Option.{option_map_or}
+use Rattle.std.specs.Str.{bytes_eq}
+use Rattle.std.specs.Str.Parse.{digits_value, without_leading_plus}
+use Rattle.clap.specs.Words.{Accepts, App, IsAmong, Text, fault_of, first_of, matches_of, takes}
+use Rattle.clap.specs.declared.builder.value_parser.ValueParser.TheVariants.{Unsigned}
+use Rattle.clap.specs.declared.error.kind.ErrorKind.{ErrorKind}
+use Rattle.clap.specs.declared.error.kind.ErrorKind.TheVariants.{DisplayHelp, DisplayVersion}
+use Rattle.columns_options.specs.declared.options.Options.{Options}
+use Rattle.columns_options.specs.Settings.{ascii, settings_with}
+use Rattle.columns_words.specs.Command.{IsColumns}
+use Rattle.columns_words.specs.Names.{named, priorities, styles}
+use Rattle.columns_words.specs.declared.words.Asked.{Asked}
+use Rattle.columns_words.specs.declared.words.Asked.TheVariants.{Run, Help, Faulty}
+use Rattle.grid_config.specs.Compact.{compact_of}
+use Rattle.tabled_size_priority.specs.declared.choice.Choice.TheVariants.{None as InTurns}
+
+-- ---- the fields, by the values that the command gives for the words
+
+-- decimal digits, where a plus may stand first
+abbrev pub number : Text → ℕ
+number text = digits_value 10 (without_leading_plus text)
+
+-- a text that the command takes as a width
+abbrev pub IsWidth : Text → Type 0
+IsWidth text = Accepts false (Unsigned 0 4294967295) text
+
+-- the flag's value is `true`
+abbrev pub is_set : Option Text → Bool
+is_set given = option_map_or (λ text. bytes_eq text (codes "true")) given false
+
+-- a width is the number that is given, at most 4294967295, and there is none where none is given
+abbrev pub IsWidthOf : Option Text → Option ℕ → Type 0
+IsWidthOf None width = width ≡ None
+IsWidthOf (Some text) width = (width ≡ Some (number text)) × (number text < 2 ^ 32)
+
+-- each field of a run, by the values that are given for the options
+pub record IsRead (given : Text → Option Text) (options : Options) (by_row : Bool) : Type 0 where
+  pub width : IsWidthOf (given (codes "width")) options.width
+  pub truncate : options.truncate ≡ is_set (given (codes "truncate"))
+  pub keep_words : options.keep_words ≡ is_set (given (codes "keep-words"))
+  pub priority : options.priority ≡ named priorities InTurns (given (codes "priority"))
+  pub style : compact_of options.style ≡ settings_with (named styles ascii (given (codes "style")))
+  pub streamed : by_row ≡ is_set (given (codes "streamed"))
+
+abbrev pub IsRunOf : (Text → Option Text) → Asked → Type 0
+IsRunOf given (Run options streamed) = IsRead given options streamed
+IsRunOf given _ = ⊥
+
+abbrev pub IsRun : Asked → Type 0
+IsRun (Run options streamed) = ⊤
+IsRun _ = ⊥
+
+-- ---- words that give no values
+
+-- a text that was asked for, and no fault
+abbrev pub is_wanted : ErrorKind → Bool
+is_wanted DisplayHelp = true
+is_wanted DisplayVersion = true
+is_wanted _ = false
+
+-- what the user is told where the command gives no values
+abbrev pub IsTold : ErrorKind → Asked → Type 0
+IsTold kind (Run options streamed) = ⊥
+IsTold kind (Help text) = is_wanted kind ≡ true
+IsTold kind (Faulty text) = is_wanted kind ≡ false
+
+-- ---- the answer
+
+-- a run where the command finds no fault; the help, the version or a fault by the kinds that it finds
+abbrev pub Answers : App → List Text → Asked → Type 0
+Answers command words (Run options streamed) = (fault_of command words ≡ []) × IsRead (λ id. first_of id (matches_of command words)) options streamed
+Answers command words asked = (kind : ErrorKind) × IsAmong kind (fault_of command words) × IsTold kind asked
+
+-- what the words ask of `columns`; words that it takes ask for a run
+pub record IsAnswer (words : List Text) (asked : Asked) : Type 0 where
+  pub command : App
+  pub columns : IsColumns command
+  pub answer : Answers command words asked
+  pub taken : takes command words ≡ true → IsRun asked

@@ -1,0 +1,124 @@
+//! The command, with its options and the texts of its help.
+ghost use Rattle.std.specs.Prelude.{◌≡◌, IfOk, codes, false};
+ghost use Rattle.clap.specs.Words.{app_of, rule_of};
+ghost use Rattle.columns_words.specs.Command.{IsColumns, IsOfNames, flag_rule, width_rule};
+ghost use Rattle.columns_words.specs.Names.{priority_names, style_names};
+
+use clap::builder::ValueParser;
+use clap::{Arg, ArgAction, Command};
+use std::alloc::{AllocError, Global};
+
+static PRIORITIES: [&str; 5] = ["none", "min", "max", "left", "right"];
+
+static STYLES: [&str; 4] = ["ascii", "modern", "extended", "empty"];
+
+const VERSION: &str = "0.1.0";
+
+const ABOUT: &str = "\
+Without words columns reads standard input, also from a terminal, to its end
+(Ctrl-D), and prints it as a table.
+
+Each line is a row, and a tab ends a cell. Colours and other escape sequences
+are kept.";
+
+const AFTER_HELP: &str = "\
+Examples:
+  printf 'name\\tsize\\nlog\\t42\\n' | columns
+          a table of two rows, with lines of -, | and +
+  columns --width 40 --keep-words --style modern < notes.tsv
+          a table narrowed to 40 columns, its lines broken between words
+
+Exit status:
+  0  the table, this help or the version was printed
+  1  reading, the text or printing is at fault: a line on standard error says how
+  2  the words are at fault: the text on standard error says how";
+
+/// The command: its options, and the values that each takes.
+pub fn command<'a>(alloc: Global) -> Result<Command<'a>, AllocError>
+    ensures { IfOk result (λ command. IsColumns (app_of command)) }
+{
+    Command::new(alloc, "columns")
+        .version(VERSION)
+        .about(ABOUT)
+        .after_help(AFTER_HELP)
+        .arg(width(alloc))?
+        .arg(truncate(alloc))?
+        .arg(keep_words(alloc))?
+        .arg(priority(alloc))?
+        .arg(style(alloc))?
+        .arg(streamed(alloc))
+}
+
+// How wide the table may be, in columns.
+fn width<'a>(alloc: Global) -> Arg<'a>
+    ensures rule { rule_of result ≡ width_rule }
+    ensures global { result.global ≡ false }
+{
+    Arg::new(alloc, "width")
+        .long("width")
+        .value_name("N")
+        .action(ArgAction::Set)
+        .value_parser(ValueParser::unsigned(0, 4294967295))
+        .help("Narrow the table to N columns, 0 to 4294967295 [default: as wide as its text]")
+}
+
+// Whether to cut off what doesn't fit.
+fn truncate<'a>(alloc: Global) -> Arg<'a>
+    ensures rule { rule_of result ≡ flag_rule (codes "truncate") }
+    ensures global { result.global ≡ false }
+{
+    Arg::new(alloc, "truncate")
+        .long("truncate")
+        .action(ArgAction::SetTrue)
+        .help("With --width: cut off what doesn't fit [default: break lines]")
+}
+
+// Whether to break lines between words.
+fn keep_words<'a>(alloc: Global) -> Arg<'a>
+    ensures rule { rule_of result ≡ flag_rule (codes "keep-words") }
+    ensures global { result.global ≡ false }
+{
+    Arg::new(alloc, "keep-words")
+        .long("keep-words")
+        .action(ArgAction::SetTrue)
+        .help("With --width: break lines between words [default: anywhere]")
+}
+
+// Which column gives first.
+fn priority<'a>(alloc: Global) -> Arg<'a>
+    ensures rule { IsOfNames (codes "priority") priority_names (rule_of result) }
+    ensures global { result.global ≡ false }
+{
+    Arg::new(alloc, "priority")
+        .long("priority")
+        .value_name("PRIORITY")
+        .action(ArgAction::Set)
+        .value_parser(PRIORITIES.as_slice())
+        .default_value("none")
+        .help("With --width: which column gives first; none: each in turn")
+}
+
+// The glyphs.
+fn style<'a>(alloc: Global) -> Arg<'a>
+    ensures rule { IsOfNames (codes "style") style_names (rule_of result) }
+    ensures global { result.global ≡ false }
+{
+    Arg::new(alloc, "style")
+        .long("style")
+        .value_name("STYLE")
+        .action(ArgAction::Set)
+        .value_parser(STYLES.as_slice())
+        .default_value("ascii")
+        .help("The table's lines: - | +, light, double, or none at all")
+}
+
+// Whether to go row by row.
+fn streamed<'a>(alloc: Global) -> Arg<'a>
+    ensures rule { rule_of result ≡ flag_rule (codes "streamed") }
+    ensures global { result.global ≡ false }
+{
+    Arg::new(alloc, "streamed")
+        .long("streamed")
+        .action(ArgAction::SetTrue)
+        .help("Print row by row, by --style alone [default: the whole table]")
+}

@@ -1,0 +1,53 @@
+//! Command lines worked by hand: what the command makes of their words. The functions do nothing.
+ghost use Rattle.std.specs.Prelude.{◌≡◌, ◌∷◌, [], Some, None, codes};
+ghost use Rattle.clap.specs.declared.error.kind.ErrorKind.TheVariants.{ArgumentConflict, DisplayHelp, DisplayVersion, InvalidValue, UnknownArgument, ValueValidation};
+ghost use Rattle.columns_options.specs.Settings.{ascii};
+ghost use Rattle.columns_words.specs.Asking.{number};
+ghost use Rattle.columns_words.specs.Command.{IsColumns};
+ghost use Rattle.columns_words.specs.Glyphs.{modern};
+ghost use Rattle.columns_words.specs.Names.{named, priorities, styles};
+ghost use Rattle.columns_words.specs.Worked.{Finds, Gives, columns_by_hand};
+ghost use Rattle.grid_config_values.specs.Glyphs.{no_borders};
+
+use tabled_size_priority::Choice;
+
+/// The command that the lines below are read by is the one that `read_words` reads by.
+pub fn the_command_is_columns()
+    ensures { IsColumns columns_by_hand }
+{}
+
+/// Lines that ask for a run, with the values that they give.
+pub fn words_are_taken()
+    ensures nothing { Gives [] (None ∷ Some (codes "false") ∷ Some (codes "false") ∷ Some (codes "none") ∷ Some (codes "ascii") ∷ Some (codes "false") ∷ []) }
+    ensures narrowed { Gives (codes "--width" ∷ codes "6" ∷ codes "--truncate" ∷ codes "--priority" ∷ codes "max" ∷ []) (Some (codes "6") ∷ Some (codes "true") ∷ Some (codes "false") ∷ Some (codes "max") ∷ Some (codes "ascii") ∷ Some (codes "false") ∷ []) }
+    ensures attached { Gives (codes "--keep-words" ∷ codes "--width=0" ∷ []) (Some (codes "0") ∷ Some (codes "false") ∷ Some (codes "true") ∷ Some (codes "none") ∷ Some (codes "ascii") ∷ Some (codes "false") ∷ []) }
+    ensures greatest { Gives (codes "--width" ∷ codes "4294967295" ∷ []) (Some (codes "4294967295") ∷ Some (codes "false") ∷ Some (codes "false") ∷ Some (codes "none") ∷ Some (codes "ascii") ∷ Some (codes "false") ∷ []) }
+    ensures streamed { Gives (codes "--streamed" ∷ codes "--style" ∷ codes "modern" ∷ []) (None ∷ Some (codes "false") ∷ Some (codes "false") ∷ Some (codes "none") ∷ Some (codes "modern") ∷ Some (codes "true") ∷ []) }
+{}
+
+/// Lines that the command does not take, with the kind of their fault.
+pub fn words_are_at_fault()
+    ensures too_wide { Finds (codes "--width" ∷ codes "4294967296" ∷ []) (ValueValidation ∷ []) }
+    ensures below_zero { Finds (codes "--width" ∷ codes "-1" ∷ []) (UnknownArgument ∷ []) }
+    ensures no_style { Finds (codes "--style" ∷ codes "none" ∷ []) (InvalidValue ∷ []) }
+    ensures stray { Finds (codes "x" ∷ []) (UnknownArgument ∷ []) }
+    ensures twice { Finds (codes "--truncate" ∷ codes "--truncate" ∷ []) (ArgumentConflict ∷ []) }
+    ensures no_value { Finds (codes "--width" ∷ []) (InvalidValue ∷ []) }
+{}
+
+/// Lines that ask for the help and for the version.
+pub fn texts_are_asked_for()
+    ensures help { Finds (codes "--help" ∷ []) (DisplayHelp ∷ []) }
+    ensures version { Finds (codes "--version" ∷ []) (DisplayVersion ∷ []) }
+{}
+
+/// What some values stand for.
+pub fn values_by_hand()
+    ensures greatest { number (codes "4294967295") ≡ 4294967295 }
+    ensures zeros { number (codes "+007") ≡ 7 }
+    ensures max { named priorities Choice.None (Some (codes "max")) ≡ Choice.MaxLeft }
+    ensures none { named priorities Choice.Left (Some (codes "none")) ≡ Choice.None }
+    ensures no_name { named priorities Choice.Left None ≡ Choice.Left }
+    ensures modern { named styles ascii (Some (codes "modern")) ≡ modern }
+    ensures empty { named styles ascii (Some (codes "empty")) ≡ no_borders }
+{}

@@ -1,0 +1,10 @@
+//! The words of the command line of `columns`, read.
+#![tactic(auto)]
+
+mod command;
+mod glyphs;
+pub mod laws;
+mod names;
+mod words;
+
+pub use words::{Asked, read_words};

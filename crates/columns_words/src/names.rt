@@ -1,0 +1,42 @@
+//! What the names of priorities and styles stand for.
+ghost use Rattle.std.specs.Prelude.{◌≡◌, option_map};
+ghost use Rattle.columns_words.specs.Names.{named, priorities, styles};
+ghost use Rattle.grid_config.specs.Compact.{compact_of};
+ghost use Rattle.columns_options.specs.Settings.{ascii, settings_with};
+
+use crate::glyphs::{extended, modern};
+use columns_options::Options;
+use grid_config::{Borders, CompactConfig};
+use tabled_size_priority::Choice;
+
+/// The priority of this name. Of equally wide columns the left one gives first.
+pub fn priority_named(name: Option<&str>) -> Choice
+    ensures { result ≡ named priorities Choice.None (option_map (λ text. text.now) name.entry) }
+{
+    match name {
+        Some("min") => Choice::MinLeft,
+        Some("max") => Choice::MaxLeft,
+        Some("left") => Choice::Left,
+        Some("right") => Choice::Right,
+        _ => Choice::None,
+    }
+}
+
+/// The settings of the style of this name: its glyphs, and a column of space at both sides of a text.
+pub fn style_named(name: Option<&str>) -> CompactConfig
+    ensures { compact_of result ≡ settings_with (named styles ascii (option_map (λ text. text.now) name.entry)) }
+{
+    Options::new().style.set_borders(glyphs_named(name))
+}
+
+// The glyphs of the style of this name.
+fn glyphs_named(name: Option<&str>) -> Borders<char>
+    ensures { result ≡ named styles ascii (option_map (λ text. text.now) name.entry) }
+{
+    match name {
+        Some("modern") => modern(),
+        Some("extended") => extended(),
+        Some("empty") => Borders::empty(),
+        _ => *Options::new().style.get_borders(),
+    }
+}
