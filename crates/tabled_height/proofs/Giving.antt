@@ -1,0 +1,58 @@
+-- What may be refused or worked out, by what it follows from.
+use Rattle.std.proofs.Common.{◌≡◌, ◌^◌, ◌<◌, ◌≤◌, ℕ, false, true, Result, Ok, Err, arith, nat_lt, refl, subst, sym}
+use Rattle.std.proofs.lemmas.Bool.Decides.{nat_tests}
+use Rattle.grid_config_values.specs.declared.fault.Fault.{Fault}
+use Rattle.grid_config_values.specs.declared.fault.Fault.TheVariants.{Memory, Range, Spans, Room}
+use Rattle.tabled_steps.specs.Outcomes.{Gives, MayRefuse, passes, sized}
+use Rattle.tabled_steps.specs.States.{Outcome, State, column_count}
+use Rattle.tabled_height.specs.Steps.{Measured, Measuring}
+
+pub not_less : (a b : ℕ) → b ≤ a → nat_lt a b ≡ false
+not_less a b low = grind (arith, nat_tests)
+
+pub less : (a b : ℕ) → a < b → nat_lt a b ≡ true
+less a b low = grind (arith, nat_tests)
+
+pub held : (n : ℕ) → n < 2 ^ 64 → passes n ≡ false
+held n low = grind (arith, nat_tests)
+
+pub passed : (n : ℕ) → 2 ^ 64 ≤ n → passes n ≡ true
+passed n high = grind (arith, nat_tests)
+
+pub sized_held : (n : ℕ) → n < 2 ^ 64 → sized n ≡ Ok n
+sized_held n low = rw (held n low) refl
+
+pub sized_passed : (n : ℕ) → 2 ^ 64 ≤ n → sized n ≡ Err Range
+sized_passed n high = rw (passed n high) refl
+
+-- ---- refusals
+
+pub memory_may : {Y : Type 0} (fault : Fault) (gives : Result Y Fault → Type 0) → fault ≡ Memory → MayRefuse fault gives
+memory_may fault gives is = subst (λ (fault : Fault). MayRefuse fault gives) (sym is) tt
+
+pub range_may : {Y : Type 0} (fault : Fault) (gives : Result Y Fault → Type 0) → fault ≡ Range → gives (Err Range) → MayRefuse fault gives
+range_may fault gives is given = subst (λ (fault : Fault). MayRefuse fault gives) (sym is) given
+
+-- what is refused as one is refused as another that follows from it
+pub may_follow : {Y Z : Type 0} (fault : Fault) (gives : Result Y Fault → Type 0) (others : Result Z Fault → Type 0) → ((f : Fault) → gives (Err f) → others (Err f)) → MayRefuse fault gives → MayRefuse fault others
+may_follow Memory gives others follows may = tt
+may_follow Range gives others follows may = follows Range may
+may_follow Spans gives others follows may = follows Spans may
+may_follow (Room row column) gives others follows may = follows (Room row column) may
+
+pub gives_follow : {X Y : Type 0} (view : X → Y) (result : Result X Fault) (gives others : Result Y Fault → Type 0) → ((outcome : Result Y Fault) → gives outcome → others outcome) → Gives view result gives → Gives view result others
+gives_follow view (Ok x) gives others follows given = follows (Ok (view x)) given
+gives_follow view (Err fault) gives others follows given = may_follow fault gives others (λ f. follows (Err f)) given
+
+-- ---- a height that is taken from the table
+
+module _ (measures : Measuring) (step : ℕ → State → Outcome → Type 0) (s : State) where
+  pub measured : (n : ℕ) (outcome : Outcome) → measures (column_count s.rows) s.rows s.look (Ok n) → step n s outcome → Measured measures step s outcome
+  measured n outcome measure done = (Ok n, measure, done)
+
+  pub measure_refused : (fault : Fault) → MayRefuse fault (measures (column_count s.rows) s.rows s.look) → MayRefuse fault (Measured measures step s)
+  measure_refused fault may = may_follow fault (measures (column_count s.rows) s.rows s.look) (Measured measures step s) (λ f measure. (Err f, measure, refl)) may
+
+  -- what the step by a height is refused as, so is the whole
+  pub step_refused : (n : ℕ) (fault : Fault) → measures (column_count s.rows) s.rows s.look (Ok n) → MayRefuse fault (step n s) → MayRefuse fault (Measured measures step s)
+  step_refused n fault measure may = may_follow fault (step n s) (Measured measures step s) (λ f done. (Ok n, measure, done)) may

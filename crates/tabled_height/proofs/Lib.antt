@@ -1,0 +1,5 @@
+pub mod Counting
+pub mod Estimating
+pub mod Giving
+pub mod Limiting
+pub mod Resizing

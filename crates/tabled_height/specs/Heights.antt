@@ -1,0 +1,62 @@
+-- How high the rows of a table are, and how high the table is with them.
+use Rattle.std.specs.Prelude.{ℕ, ◌*◌, ◌/◌, List, [], ◌∷◌, Result, Ok, length, map, min}
+use Rattle.std.specs.List.{range_with_len}
+use Rattle.grid_config_values.specs.Glyphs.{boundary_count, has_row_boundary}
+use Rattle.grid_config_values.specs.declared.fault.Fault.{Fault}
+use Rattle.grid_config.specs.Looks.{Look}
+use Rattle.grid_records_estimate.specs.Estimates.{greatest}
+use Rattle.grid_records_estimate.specs.Sizing.{place}
+use Rattle.grid_records_estimate.specs.Totals.{total}
+use Rattle.grid_records_measure.specs.TextLines.{text_height}
+use Rattle.grid_records_traits.specs.Rows.{text_at}
+use Rattle.tabled_steps.specs.Outcomes.{◌≫=◌, sized}
+use Rattle.tabled_steps.specs.Sizes.{natural_heights}
+
+-- ---- the whole table
+
+-- how many lines a table with rows of these heights has: with its boundaries and its margins
+abbrev pub height_total : Look → List ℕ → ℕ
+height_total look heights = total heights (boundary_count (has_row_boundary look.borders) (length heights)) look.margin.top.size look.margin.bottom.size
+
+-- heights of rows, and how many lines the table has with them
+pub record Estimate : Type 0 where
+  pub heights : List ℕ
+  pub lines : ℕ
+
+abbrev pub estimate_with : List ℕ → ℕ → Estimate
+estimate_with heights lines = record { heights = heights; lines = lines }
+
+-- the lines that there are with these heights
+abbrev pub counted : Look → List ℕ → Result Estimate Fault
+counted look heights = sized (height_total look heights) ≫= λ lines. Ok (estimate_with heights lines)
+
+-- the least heights that hold the texts of a table of so many columns, whatever heights it keeps
+abbrev pub estimated : Look → ℕ → List (List (List ℕ)) → Result Estimate Fault
+estimated look columns rows = counted look (natural_heights look columns rows)
+
+-- so many hundredths of the lines that it has, rounded down
+abbrev pub hundredths : ℕ → ℕ → Result ℕ Fault
+hundredths percent lines = sized (lines * percent) ≫= λ product. Ok (product / 100)
+
+abbrev pub percent_of_height : ℕ → ℕ → List (List (List ℕ)) → Look → Result ℕ Fault
+percent_of_height percent columns rows look = estimated look columns rows ≫= λ estimate. hundredths percent estimate.lines
+
+-- ---- its texts
+
+-- the greatest count of lines of a cell of a row
+abbrev pub row_lines : ℕ → List (List (List ℕ)) → ℕ → ℕ
+row_lines columns rows row = greatest (map (λ column. text_height (text_at rows (place row column))) (range_with_len 0 columns))
+
+-- the greatest of a cell
+abbrev pub most_lines : ℕ → List (List (List ℕ)) → ℕ
+most_lines columns rows = greatest (map (row_lines columns rows) (range_with_len 0 (length rows)))
+
+-- the least of the numbers, and 0 where there is none
+abbrev pub least : List ℕ → ℕ
+least [] = 0
+least (n ∷ []) = n
+least (n ∷ m ∷ ns) = min n (least (m ∷ ns))
+
+-- the least over the rows of a row's greatest
+abbrev pub fewest_lines : ℕ → List (List (List ℕ)) → ℕ
+fewest_lines columns rows = least (map (row_lines columns rows) (range_with_len 0 (length rows)))

@@ -1,0 +1,156 @@
+//! Heights that are at least so many lines.
+ghost use Rattle.std.specs.Prelude.{◌≡◌, None, Some};
+ghost use Rattle.grid_config_values.specs.declared.entity.Entity.TheVariants.{Global as EveryCell};
+ghost use Rattle.tabled_height.specs.Options.{increase_height, table_increase};
+ghost use Rattle.tabled_height.specs.Steps.{RaisesCells, RaisesTable};
+
+use crate::height::Height;
+use crate::lines::Raising;
+use crate::rows::RowHeights;
+use grid_config::{ColoredConfig, Entity, Fault};
+use grid_records_rows::{FromText, VecRecords};
+use grid_records_traits::records::{ExactRecords, RecordColumns};
+use std::alloc::Global;
+use tabled_size_dimension::CompleteDimension;
+use tabled_size_priority::{Peaker, PriorityNone};
+use tabled_steps::{CellOption, Measurement, TableOption, change_texts};
+
+/// At least so many lines: of cells each, or of a table, whose rows then get in turns what it lacks.
+#[derive(Clone, Copy, Debug, PartialEq, Eq, PartialOrd, Ord)]
+pub struct CellHeightIncrease<W = usize> {
+    height: W,
+}
+
+impl<W> CellHeightIncrease<W> {
+    /// At least this height, in lines.
+    pub fn new(height: W) -> CellHeightIncrease<W>
+        ensures { increase_height result ≡ height }
+    {
+        CellHeightIncrease { height }
+    }
+
+    /// The same height of a table, whose rows grow by this priority.
+    pub fn priority<P: Peaker>(self, priority: P) -> TableHeightIncrease<W, P>
+        ensures { table_increase result ≡ (increase_height self, priority) }
+    {
+        TableHeightIncrease {
+            height: self.height,
+            priority,
+        }
+    }
+}
+
+/// Texts of the cells with fewer lines get line feeds at their ends; cells outside the table are passed
+/// over. Refused as the height may be, and for memory.
+impl<T: FromText, W: Measurement<Height>> CellOption<VecRecords<T>, ColoredConfig>
+    for CellHeightIncrease<W> {
+    ghost step = { λ option at. RaisesCells (W.measures (increase_height option)) at };
+
+    ghost hint = { λ _. Some EveryCell };
+
+    fn change(
+        &self,
+        alloc: Global,
+        records: &mut VecRecords<T>,
+        cfg: &mut ColoredConfig,
+        entity: Entity,
+    ) -> Result<(), Fault> {
+        let height = self.height.measure(alloc, &*records, cfg.spanned())?;
+        change_texts(alloc, records, entity, &Raising { height })?;
+        Ok(())
+    }
+
+    fn hint_change(&self) -> Option<Entity> {
+        Some(Entity::Global)
+    }
+}
+
+/// The step of a `TableHeightIncrease` of this height, whose rows grow in turns.
+impl<T: FromText, W: Measurement<Height> + Drop> TableOption<
+    VecRecords<T>,
+    ColoredConfig,
+    CompleteDimension,
+> for CellHeightIncrease<W> {
+    ghost step = { λ option. RaisesTable (W.measures (increase_height option)) ⟦<PriorityNone as Peaker>⟧.grows 0 };
+
+    ghost hint = { λ _. None };
+
+    fn change(
+        self,
+        alloc: Global,
+        records: &mut VecRecords<T>,
+        cfg: &mut ColoredConfig,
+        dims: &mut CompleteDimension,
+    ) -> Result<(), Fault> {
+        TableHeightIncrease::new(self.height).change(alloc, records, cfg, dims)
+    }
+
+    fn hint_change(&self) -> Option<Entity> {
+        None
+    }
+}
+
+/// At least so many lines of a table.
+#[derive(Clone, Debug, Drop)]
+pub struct TableHeightIncrease<W = usize, P = PriorityNone> {
+    height: W,
+    priority: P,
+}
+
+impl<W> TableHeightIncrease<W, PriorityNone> {
+    /// At least this height, in lines. The rows grow in turns.
+    pub fn new(height: W) -> TableHeightIncrease<W, PriorityNone>
+        ensures { table_increase result ≡ (height, 0) }
+    {
+        TableHeightIncrease {
+            height,
+            priority: PriorityNone::new(),
+        }
+    }
+
+    /// The same height, and the rows grow by this priority.
+    pub fn priority<P: Peaker>(self, priority: P) -> TableHeightIncrease<W, P>
+        ensures { table_increase result ≡ ((table_increase self).0, priority) }
+    {
+        TableHeightIncrease {
+            height: self.height,
+            priority,
+        }
+    }
+}
+
+/// Where a new estimate of the table has fewer lines, its rows grow to so many, and these heights are kept.
+/// Nothing is done without rows or columns. Refused as the height may be, as `Range` where the lines of
+/// the estimate pass `usize::MAX`, and for memory.
+impl<T: FromText, W: Measurement<Height> + Drop, P: Peaker + Drop> TableOption<
+    VecRecords<T>,
+    ColoredConfig,
+    CompleteDimension,
+> for TableHeightIncrease<W, P> {
+    ghost step = { λ option. RaisesTable (W.measures (table_increase option).0) P.grows (table_increase option).1 };
+
+    ghost hint = { λ _. None };
+
+    fn change(
+        self,
+        alloc: Global,
+        records: &mut VecRecords<T>,
+        cfg: &mut ColoredConfig,
+        dims: &mut CompleteDimension,
+    ) -> Result<(), Fault> {
+        if records.count_rows() == 0 || records.count_columns() == 0 {
+            return Ok(());
+        }
+        let height = self.height.measure(alloc, &*records, cfg.spanned())?;
+        let rows = RowHeights::estimate(alloc, &*records, cfg.spanned())?;
+        match rows.grown(self.priority, height) {
+            Some(heights) => dims.set_heights(heights),
+            None => {}
+        }
+        Ok(())
+    }
+
+    fn hint_change(&self) -> Option<Entity> {
+        None
+    }
+}

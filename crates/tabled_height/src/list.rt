@@ -1,0 +1,82 @@
+//! Heights of rows that are given.
+ghost use Rattle.std.specs.Prelude.{◌≡◌, ℕ, List, IfOk, None};
+ghost use Rattle.std.specs.Iterator.{Drains, IsFinite};
+ghost use Rattle.tabled_height.specs.Steps.{listing_heights};
+
+use grid_config::{Entity, Fault};
+use grid_records_traits::records::ExactRecords;
+use std::alloc::{AllocError, Global};
+use std::marker::Model;
+use tabled_size_dimension::CompleteDimension;
+use tabled_steps::{Configuration, TableOption};
+
+/// The heights of a table's rows, in lines.
+#[derive(Debug, Drop)]
+pub struct HeightList {
+    heights: Vec<usize>,
+}
+
+impl Model for HeightList {
+    ghost Value = { List ℕ };
+
+    ghost view = { λ list. list.heights.items };
+}
+
+impl HeightList {
+    /// These heights. Takes no memory.
+    pub fn new(list: Vec<usize>) -> HeightList
+        ensures { result ≡ list.items }
+    {
+        HeightList { heights: list }
+    }
+
+    /// The items as heights, on condition that they end. The only refusal is for memory.
+    pub fn from_iter<I: IntoIterator<Item = usize>>(
+        alloc: Global,
+        items: I,
+    ) -> Result<HeightList, AllocError>
+    where
+        I::IntoIter: Drop,
+        requires { (s : I.IntoIter) → I.into_iter_gives items s → I.IntoIter.can_next s × IsFinite (I.IntoIter.remaining s) }
+        ensures { IfOk result (λ list. (s : I.IntoIter) × (taken : List ℕ) × I.into_iter_gives items s × Drains I.IntoIter.next_gives s taken × (list ≡ taken)) }
+    {
+        let mut heights = Vec::new(alloc);
+        for height in items {
+            heights.push(height)?;
+        }
+        Ok(HeightList { heights })
+    }
+}
+
+/// These heights. Takes no memory.
+impl From<Vec<usize>> for HeightList {
+    ghost from_gives = { λ heights list. list ≡ heights.items };
+
+    fn from(list: Vec<usize>) -> HeightList {
+        HeightList::new(list)
+    }
+}
+
+/// The rows keep these heights, where there is one for each; else nothing changes. Takes no memory.
+impl<R: ExactRecords, C: Configuration> TableOption<R, C, CompleteDimension> for HeightList {
+    ghost step = { λ heights state outcome. listing_heights heights state ≡ outcome };
+
+    ghost hint = { λ _. None };
+
+    fn change(
+        self,
+        _alloc: Global,
+        records: &mut R,
+        _cfg: &mut C,
+        dims: &mut CompleteDimension,
+    ) -> Result<(), Fault> {
+        if self.heights.len() >= records.count_rows() {
+            dims.set_heights(self.heights);
+        }
+        Ok(())
+    }
+
+    fn hint_change(&self) -> Option<Entity> {
+        None
+    }
+}
