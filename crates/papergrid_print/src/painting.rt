@@ -119,8 +119,12 @@ fn suffix_of<'a>(color: Option<ANSIStr<'a>>) -> &'a str
     }
 }
 
-// Appends a character so many times, with one growth.
-fn push_repeated(out: &mut String, character: char, width: usize) -> Result<(), AllocError>
+/// Appends a character so many times, with one growth. Refused for memory alone.
+pub(crate) fn push_repeated(
+    out: &mut String,
+    character: char,
+    width: usize,
+) -> Result<(), AllocError>
     ensures { OnOk result (string_bytes out.new ≡ string_bytes out.old ++ fill_bytes character width) }
 {
     if character == ' ' && width <= 64 {
