@@ -88,6 +88,7 @@ impl<'a> FlatRows<'a> {
     }
 
     // What stands behind the text in column `j` of so many.
+    #[inline(always)]
     fn behind(&self, j: usize, columns: usize) -> &Spaced
         requires { j < columns }
         ensures { spaced_text result.now ≡ behind_text self.now j columns }
@@ -101,6 +102,7 @@ impl<'a> FlatRows<'a> {
 
     /// Appends a line that measures so much to column `j` of so many, which is as wide as given, and what
     /// stands behind it; `widest` is what the widest line of its cell measures. Refused for memory alone.
+    #[inline(always)]
     pub(crate) fn push_line(
         &self,
         out: &mut String,
@@ -125,6 +127,7 @@ impl<'a> FlatRows<'a> {
     }
 
     // Appends what is free behind a text, and what stands behind that.
+    #[inline(always)]
     fn push_rest(&self, out: &mut String, rest: usize, behind: &Spaced) -> Result<(), AllocError>
         ensures { OnOk result (string_bytes out.new ≡ string_bytes out.old ++ (colored (option_map color_of self.now.fill_color) (fill_bytes self.now.fill rest) ++ spaced_text behind.now)) }
     {

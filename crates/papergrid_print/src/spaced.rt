@@ -35,6 +35,7 @@ impl Spaced {
     }
 
     /// Appends so many spaces and the text. Refused for memory alone.
+    #[inline(always)]
     pub(crate) fn push_behind(&self, out: &mut String, spaces: usize) -> Result<(), AllocError>
         ensures { OnOk result (string_bytes out.new ≡ string_bytes out.old ++ (fill_bytes 0x20 spaces ++ spaced_text self.now)) }
     {
