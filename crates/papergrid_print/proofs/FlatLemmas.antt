@@ -1,7 +1,6 @@
 -- Rows of one line show what the picture shows, where all cells of a table have the same settings.
-use Rattle.std.proofs.Common.{◌≡◌, ℕ, zero, suc, ◌+◌, ◌-◌, ◌<◌, ◌≤◌, Bool, true, false, cond, List, [], ◌∷◌, ◌++◌, Option, inl, inr, length, map, max, take, get_or, refl, ap, sym, ◌∙◌, arith, append_assoc, append-nil, flat_map, string_bytes}
+use Rattle.std.proofs.Common.{◌≡◌, ℕ, zero, suc, ◌+◌, ◌-◌, ◌<◌, ◌≤◌, true, false, cond, List, [], ◌∷◌, ◌++◌, Option, length, map, max, take, get_or, refl, ap, sym, ◌∙◌, arith, append_assoc, append-nil, string_bytes}
 use Rattle.std.specs.Prelude.{◌==◌, nat_lt, slice_index, unwrap_or}
-use Rattle.std.proofs.lemmas.Bool.{cases_lt}
 use Rattle.std.proofs.lemmas.Bool.Decides.{nat_tests}
 use Rattle.std.proofs.lemmas.List.Concat.{flat_map-append}
 use Rattle.std.proofs.lemmas.List.Splits.{length-slice_split}
@@ -23,7 +22,6 @@ use Rattle.grid_config_spans.specs.declared.extent.Extent.{Extent}
 use Rattle.grid_config_spans.specs.Owners.{owner}
 use Rattle.grid_config_spans.specs.Spans.{extent_at, single}
 use Rattle.grid_config_spans.proofs.Owners.{owner_without}
-use Rattle.grid_config_colors.specs.Colors.{Color}
 use Rattle.grid_config.specs.Looks.{Look, look_of}
 use Rattle.papergrid_picture.specs.Blocks.{Glyph, Part, free_above, free_left, greatest}
 use Rattle.papergrid_picture.specs.CellLines.{cell_lines, cell_measures}
@@ -33,10 +31,9 @@ use Rattle.papergrid_picture.specs.Reading.{line_items, painted, part_items}
 use Rattle.papergrid_picture.proofs.FrameLemmas.{boundary-behind, boundary-next}
 use Rattle.papergrid_print.specs.BlockLines.{kind_at, line_kind, line_parts}
 use Rattle.papergrid_print.specs.Boundaries.{upright_bytes}
-use Rattle.papergrid_print.specs.Flat.{AreFlat, AreFlatRows, Standing, behind_boundary, first_cell, first_placed, left_margin, left_padding, placed, right_margin, right_padding, spaced_text, standing, standing_of}
+use Rattle.papergrid_print.specs.Flat.{AreFlat, AreFlatRows, behind_boundary, first_cell, first_placed, left_margin, left_padding, placed, right_margin, right_padding, spaced_text, standing, standing_of}
 use Rattle.papergrid_print.specs.Painting.{colored, fill_bytes}
 use Rattle.papergrid_print.specs.Sheets.{GoesOn, Sheet, bytes_of, grid_of, line_at, plain_bytes, row_tracks}
-use Rattle.papergrid_print.specs.declared.block.BlockLine.{BlockLine}
 use Rattle.papergrid_print.specs.declared.block.BlockLine.TheVariants.{Text, Below, Outside}
 use Rattle.papergrid_print.specs.declared.block.OpenCell.{OpenCell}
 use Rattle.papergrid_print.specs.declared.flat.FlatRows.{FlatRows}

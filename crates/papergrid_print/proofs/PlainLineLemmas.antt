@@ -8,7 +8,7 @@ use Rattle.ansi_str.specs.StyledText.{has_escape, strip}
 use Rattle.ansi_str_search.proofs.AllParts.{styled_parts-without_escape}
 use Rattle.ansi_str_search.proofs.StdSplits.{split_at_one_byte}
 use Rattle.ansi_str_text.proofs.Stripping.{strip-without_escape}
-use Rattle.grid_records_measure.specs.TextLines.{AreLinesOf, is_line_feed, line_feed, shown_lines}
+use Rattle.grid_records_measure.specs.TextLines.{AreLinesOf, is_line_feed, line_feed}
 use Rattle.grid_records_traits.specs.Cells.{HasLineCount, IsLineAt}
 use Rattle.papergrid_print.proofs.CellLineLemmas.{one-element}
 

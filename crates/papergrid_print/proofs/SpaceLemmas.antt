@@ -1,9 +1,9 @@
 -- Spaces that are kept before a text.
-use Rattle.std.proofs.Common.{◌≡◌, ◌-◌, ◌<◌, ◌≤◌, ℕ, zero, suc, List, ◌++◌, drop, get_or, length, take, ap, subst, sym, ◌∙◌, arith, replicate}
+use Rattle.std.proofs.Common.{◌≡◌, ◌-◌, ◌≤◌, ℕ, List, ◌++◌, drop, length, take, ap, subst, sym, ◌∙◌, arith, replicate}
 use Rattle.std.specs.Str.{IsCharBoundary, IsUtf8}
-use Rattle.std.proofs.lemmas.List.{drop-append-le, drop-replicate, get_or-replicate, get_or-take, length-replicate, take-append-drop}
-use Rattle.std.proofs.Math.Seq.{drop-append_seam, take-append_seam}
-use Rattle.std.proofs.lemmas.Str.{IsCharBoundary-at_seam, IsCharBoundary-before_ascii}
+use Rattle.std.proofs.lemmas.List.{drop-append-le, drop-replicate, length-replicate, take-append-drop}
+use Rattle.std.proofs.Math.Seq.{take-append_seam}
+use Rattle.std.proofs.lemmas.Str.{IsCharBoundary-at_seam}
 use Rattle.papergrid_print.specs.Painting.{fill_bytes}
 use Rattle.papergrid_print.specs.Spaces.{IsSpaced}
 use Rattle.papergrid_print.proofs.PaintingLemmas.{spaces-filled}
@@ -25,9 +25,6 @@ module _ (n : ℕ) (text : List ℕ) {all : List ℕ} (are : all ≡ fill_bytes 
     behind = subst (IsCharBoundary all) (long n) (IsCharBoundary-at_seam all (spaces n) text same utf8);
   }
 
-  pub text-behind : drop n all ≡ text
-  text-behind = ap (drop n) same ∙ (ap (λ m. drop m (spaces n ++ text)) (sym (long n)) ∙ drop-append_seam (spaces n) text)
-
 module _ (n : ℕ) (bytes : List ℕ) (are : IsSpaced n bytes) where
   parts : bytes ≡ spaces n ++ drop n bytes
   parts = sym (take-append-drop n bytes) ∙ ap (λ l. l ++ drop n bytes) are.spaces
@@ -42,14 +39,3 @@ module _ (n : ℕ) (bytes : List ℕ) (are : IsSpaced n bytes) where
       ∙ (ap (λ l. l ++ drop n bytes) (drop-replicate (n - k) n 0x20)
       ∙ (ap (λ m. spaces m ++ drop n bytes) left
       ∙ ap (λ l. l ++ drop n bytes) (sym (spaces-filled k)))))
-
-  pub cut-before : (k : ℕ) → k ≤ n → IsCharBoundary bytes (n - k)
-  cut-before zero fits =
-      let all : n ≡ n - 0 = omega arith in
-      subst (IsCharBoundary bytes) all are.behind
-  cut-before (suc k) fits =
-      let inside : n - suc k < n = omega (arith, fits) in
-      let within : n - suc k < length bytes = omega (arith, fits, are.behind.0) in
-      let here : get_or bytes (n - suc k) 0 ≡ 0x20 =
-      sym (get_or-take n bytes (n - suc k) 0 inside) ∙ (ap (λ l. get_or l (n - suc k) 0) are.spaces ∙ get_or-replicate n (n - suc k) 0x20 0 inside) in
-      IsCharBoundary-before_ascii bytes (n - suc k) within (omega (arith, here))

@@ -1,6 +1,6 @@
 use Rattle.std.proofs.Common.{◌≡◌, ◌++◌, ap, string_bytes, ◌∙◌}
 use Rattle.papergrid_print.specs.Painting.{fill_bytes}
-use Rattle.papergrid_print.proofs.SpaceLemmas.{spaced-made, text-behind}
+use Rattle.papergrid_print.proofs.SpaceLemmas.{spaced-made}
 use Rattle.papergrid_print.proofs.spaced.Spaced.new.Goals as goal
 
 pub invariant_of-result : goal.invariant_of-result

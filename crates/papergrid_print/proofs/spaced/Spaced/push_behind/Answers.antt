@@ -1,4 +1,4 @@
-use Rattle.std.proofs.Common.{◌≡◌, ◌++◌, ◌-◌, ap, string_bytes, ◌∙◌, drop}
+use Rattle.std.proofs.Common.{◌++◌, ◌-◌, ap, string_bytes, ◌∙◌, drop}
 use Rattle.papergrid_print.proofs.SpaceLemmas.{last-spaces}
 use Rattle.papergrid_print.proofs.spaced.Spaced.push_behind.Goals as goal
 
