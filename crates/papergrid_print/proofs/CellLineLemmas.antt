@@ -126,7 +126,7 @@ pub map-same : {X : Type 0} (xs : List X) → map (λ x. x) xs ≡ xs
 map-same [] = refl
 map-same (x ∷ xs) = ap (λ ys. x ∷ ys) (map-same xs)
 
-one-element : {X : Type 0} (xs : List X) (d : X) → length xs ≡ 1 → xs ≡ get_or xs 0 d ∷ []
+pub one-element : {X : Type 0} (xs : List X) (d : X) → length xs ≡ 1 → xs ≡ get_or xs 0 d ∷ []
 one-element [] d one = absurd (omega (arith, one))
 one-element (x ∷ []) d one = refl
 one-element (x ∷ y ∷ xs) d one = absurd (omega (arith, one))

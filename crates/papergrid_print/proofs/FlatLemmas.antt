@@ -1,7 +1,6 @@
 -- Rows of one line show what the picture shows, where all cells of a table have the same settings.
-use Rattle.std.proofs.Common.{◌≡◌, ℕ, zero, suc, ◌+◌, ◌-◌, ◌<◌, ◌≤◌, Bool, true, false, cond, List, [], ◌∷◌, ◌++◌, Option, inl, inr, length, map, max, take, get_or, refl, ap, sym, ◌∙◌, arith, append_assoc, append-nil, flat_map, string_bytes}
+use Rattle.std.proofs.Common.{◌≡◌, ℕ, zero, suc, ◌+◌, ◌-◌, ◌<◌, ◌≤◌, true, false, cond, List, [], ◌∷◌, ◌++◌, Option, length, map, max, take, get_or, refl, ap, sym, ◌∙◌, arith, append_assoc, append-nil, string_bytes}
 use Rattle.std.specs.Prelude.{◌==◌, nat_lt, slice_index, unwrap_or}
-use Rattle.std.proofs.lemmas.Bool.{cases_lt}
 use Rattle.std.proofs.lemmas.Bool.Decides.{nat_tests}
 use Rattle.std.proofs.lemmas.List.Concat.{flat_map-append}
 use Rattle.std.proofs.lemmas.List.Splits.{length-slice_split}
@@ -23,7 +22,6 @@ use Rattle.grid_config_spans.specs.declared.extent.Extent.{Extent}
 use Rattle.grid_config_spans.specs.Owners.{owner}
 use Rattle.grid_config_spans.specs.Spans.{extent_at, single}
 use Rattle.grid_config_spans.proofs.Owners.{owner_without}
-use Rattle.grid_config_colors.specs.Colors.{Color}
 use Rattle.grid_config.specs.Looks.{Look, look_of}
 use Rattle.papergrid_picture.specs.Blocks.{Glyph, Part, free_above, free_left, greatest}
 use Rattle.papergrid_picture.specs.CellLines.{cell_lines, cell_measures}
@@ -33,10 +31,9 @@ use Rattle.papergrid_picture.specs.Reading.{line_items, painted, part_items}
 use Rattle.papergrid_picture.proofs.FrameLemmas.{boundary-behind, boundary-next}
 use Rattle.papergrid_print.specs.BlockLines.{kind_at, line_kind, line_parts}
 use Rattle.papergrid_print.specs.Boundaries.{upright_bytes}
-use Rattle.papergrid_print.specs.Flat.{AreFlat, AreFlatRows, Standing, behind_boundary, first_cell, first_placed, left_margin, left_padding, placed, right_margin, right_padding, standing, standing_of}
+use Rattle.papergrid_print.specs.Flat.{AreFlat, AreFlatRows, behind_boundary, first_cell, first_placed, left_margin, left_padding, placed, right_margin, right_padding, spaced_text, standing, standing_of}
 use Rattle.papergrid_print.specs.Painting.{colored, fill_bytes}
 use Rattle.papergrid_print.specs.Sheets.{GoesOn, Sheet, bytes_of, grid_of, line_at, plain_bytes, row_tracks}
-use Rattle.papergrid_print.specs.declared.block.BlockLine.{BlockLine}
 use Rattle.papergrid_print.specs.declared.block.BlockLine.TheVariants.{Text, Below, Outside}
 use Rattle.papergrid_print.specs.declared.block.OpenCell.{OpenCell}
 use Rattle.papergrid_print.specs.declared.flat.FlatRows.{FlatRows}
@@ -196,9 +193,9 @@ module _ (sheet : Sheet) where
 
   -- what stands behind the text in column j
   pub flat-behind : (j : ℕ) (rows : FlatRows) → j < length sheet.widths → AreFlatRows look (length sheet.widths) rows
-      → cond (j + 1 == length sheet.widths) (string_bytes rows.back) (string_bytes rows.between)
+      → cond (j + 1 == length sheet.widths) (spaced_text rows.back) (spaced_text rows.between)
       ≡ right_padding look first_cell ++ (upright_bytes look (j + 1) (length sheet.widths) ++ behind_boundary look (j + 1) (length sheet.widths))
-  flat-behind j rows below are = elim (j + 1 == length sheet.widths) as (λ b. (j + 1 == length sheet.widths) ≡ b → cond b (string_bytes rows.back) (string_bytes rows.between) ≡ right_padding look first_cell ++ (upright_bytes look (j + 1) (length sheet.widths) ++ cond b (right_margin look) (left_padding look first_cell))) [
+  flat-behind j rows below are = elim (j + 1 == length sheet.widths) as (λ b. (j + 1 == length sheet.widths) ≡ b → cond b (spaced_text rows.back) (spaced_text rows.between) ≡ right_padding look first_cell ++ (upright_bytes look (j + 1) (length sheet.widths) ++ cond b (right_margin look) (left_padding look first_cell))) [
     | true ↦ λ last.
         let end : length sheet.widths ≡ j + 1 = grind (arith, nat_tests, last) in
         are.back ∙ ap (λ n. right_padding look first_cell ++ (upright_bytes look n (length sheet.widths) ++ right_margin look)) end
@@ -349,7 +346,7 @@ module _ (sheet : Sheet) (flat : AreFlat sheet.settings) where
   -- one column more
   pub flat-more : (i j : ℕ) (rows : FlatRows) (begin : List ℕ) {out one new : List ℕ} → i < length sheet.heights → j < length sheet.widths → get_or sheet.heights i 0 ≡ 1 → AreFlatRows (look sheet) (length sheet.widths) rows
       → out ≡ begin ++ flat_start sheet i j → one ≡ out ++ first_placed sheet (standing_of rows) (at i j)
-      → new ≡ one ++ cond (j + 1 == length sheet.widths) (string_bytes rows.back) (string_bytes rows.between)
+      → new ≡ one ++ cond (j + 1 == length sheet.widths) (spaced_text rows.back) (spaced_text rows.between)
       → new ≡ begin ++ flat_start sheet i (j + 1)
   flat-more i j rows begin {out} {one} {new} row column high are before printed behind =
       let C = length sheet.widths in
@@ -366,7 +363,7 @@ module _ (sheet : Sheet) (flat : AreFlat sheet.settings) where
       let start : flat_start sheet i j ≡ M ++ (S ++ (U ++ L)) = ap (λ b. M ++ (S ++ (U ++ cond b (right_margin (look sheet)) L))) here in
       let next : row_start sheet i y (j + 1) ≡ S ++ (U ++ (L ++ (P ++ R))) = sym (row_start-more sheet i y j) ∙ ap (λ l. S ++ l) (flat-part i j row column high) in
       behind
-      ∙ (ap (λ l. l ++ cond (j + 1 == C) (string_bytes rows.back) (string_bytes rows.between)) (printed ∙ (ap (λ s. out ++ first_placed sheet s (at i j)) are.standing ∙ ap (λ l. l ++ P) (before ∙ ap (λ l. begin ++ l) start)))
+      ∙ (ap (λ l. l ++ cond (j + 1 == C) (spaced_text rows.back) (spaced_text rows.between)) (printed ∙ (ap (λ s. out ++ first_placed sheet s (at i j)) are.standing ∙ ap (λ l. l ++ P) (before ∙ ap (λ l. begin ++ l) start)))
       ∙ (ap (λ l. ((begin ++ (M ++ (S ++ (U ++ L)))) ++ P) ++ l) (flat-behind sheet j rows column are)
       ∙ (regrouped begin M S U L P R (V ++ B)
       ∙ ap (λ l. begin ++ (M ++ (l ++ (V ++ B)))) (sym next))))

@@ -7,3 +7,5 @@ mod PlaceLemmas
 mod OpenLemmas
 mod TableLemmas
 pub mod FlatLemmas
+mod PlainLineLemmas
+mod SpaceLemmas

@@ -70,7 +70,7 @@ appended3 old x y z {one} {two} {new} {all} first second third whole =
 
 -- ---- spaces
 
-spaces-filled : (k : ℕ) → fill_bytes 0x20 k ≡ replicate k 0x20
+pub spaces-filled : (k : ℕ) → fill_bytes 0x20 k ≡ replicate k 0x20
 unfolding lib.Utf8.encode
 spaces-filled zero = refl
 spaces-filled (suc k) = flat_map-cons encode_utf8 0x20 (replicate k 0x20) ∙ ap (λ l. 0x20 ∷ l) (spaces-filled k)

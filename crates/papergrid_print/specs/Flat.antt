@@ -1,5 +1,5 @@
 -- Rows of one line, where the cells of a table have the same settings: what stands between their texts is the same in each.
-use Rattle.std.specs.Prelude.{◌≡◌, ⊤, ◌<◌, ℕ, ◌-◌, ◌==◌, Bool, false, List, [], ◌++◌, Option, MatchOption, length, slice_index, string_bytes, if◌then◌else◌}
+use Rattle.std.specs.Prelude.{◌≡◌, ⊤, ◌<◌, ℕ, ◌+◌, ◌-◌, ◌==◌, Bool, false, List, [], ◌++◌, Option, MatchOption, drop, length, slice_index, string_bytes, if◌then◌else◌}
 use Rattle.std.specs.Option.{option_map}
 use Rattle.grid_config_values.specs.declared.alignment.AlignmentHorizontal.{AlignmentHorizontal}
 use Rattle.grid_config_values.specs.declared.position.Position.{Position}
@@ -14,6 +14,7 @@ use Rattle.papergrid_print.specs.Boundaries.{upright_bytes}
 use Rattle.papergrid_print.specs.Painting.{colored, fill_bytes}
 use Rattle.papergrid_print.specs.Sheets.{Sheet, bytes_of, grid_of, line_at}
 use Rattle.papergrid_print.specs.declared.flat.FlatRows.{FlatRows}
+use Rattle.papergrid_print.specs.declared.spaced.Spaced.{Spaced}
 
 -- the cell whose settings stand for those of all cells
 abbrev pub first_cell : Position
@@ -56,6 +57,10 @@ placed stands width measure widest color line =
     let free : ℕ → List ℕ = λ n. colored stands.fill_color (fill_bytes stands.fill n) in
     free indent ++ (colored color line ++ free (room - indent - measure))
 
+-- the text behind the spaces that are kept with it
+abbrev pub spaced_text : Spaced → List ℕ
+spaced_text spaced = drop spaced.spaces (string_bytes spaced.text)
+
 abbrev pub standing_of : FlatRows → Standing
 standing_of rows = record {
   left = rows.left;
@@ -83,8 +88,8 @@ module _ (look : Look) where
   -- what stands before the first line, between two, and behind the last, and how lines stand in their columns
   pub record AreFlatRows (columns : ℕ) (rows : FlatRows) : Type 0 where
     pub front : string_bytes rows.front ≡ left_margin ++ (upright_bytes look 0 columns ++ left_padding first_cell)
-    pub between : string_bytes rows.between ≡ right_padding first_cell ++ (upright_bytes look 1 columns ++ left_padding first_cell)
-    pub back : string_bytes rows.back ≡ right_padding first_cell ++ (upright_bytes look columns columns ++ right_margin)
+    pub between : spaced_text rows.between ≡ right_padding first_cell ++ (upright_bytes look 1 columns ++ left_padding first_cell)
+    pub back : spaced_text rows.back ≡ right_padding first_cell ++ (upright_bytes look columns columns ++ right_margin)
     pub standing : standing_of rows ≡ standing look first_cell
 
   -- what stands behind column boundary j of so many: the padding of the next cell, and behind the last one the margin
@@ -96,6 +101,10 @@ abbrev pub first_placed : Sheet → Standing → Position → List ℕ
 first_placed sheet stands cell =
     let measures = (grid_of sheet).measures cell in
     placed stands (slice_index sheet.widths cell.col) (slice_index measures 0) (greatest measures) (sheet.colors cell) ((bytes_of sheet).line cell 0)
+
+-- what stands behind the text in column j of so many
+abbrev pub behind_text : FlatRows → ℕ → ℕ → List ℕ
+behind_text rows j columns = if j + 1 == columns then spaced_text rows.back else spaced_text rows.between
 
 -- rows of one line that were made for a table with these settings and so many columns, where its settings allow it
 abbrev pub AreMadeFor : Settings → ℕ → Option FlatRows → Type 0

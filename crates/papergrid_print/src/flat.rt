@@ -1,16 +1,17 @@
 //! Rows of one line, where all cells of a table have the same settings: what stands between their texts
 //! is made once.
-ghost use Rattle.std.specs.Prelude.{◌≡◌, ◌+◌, ◌<◌, ◌==◌, ◌++◌, IfOk, IsTrue, OnOk, if◌then◌else◌, string_bytes};
+ghost use Rattle.std.specs.Prelude.{◌≡◌, ◌<◌, ◌++◌, IfOk, IsTrue, OnOk, string_bytes};
 ghost use Rattle.std.specs.Option.{option_map};
 ghost use Rattle.grid_config.specs.Looks.{look_of};
 ghost use Rattle.grid_config_colors.specs.Colors.{color_of};
 ghost use Rattle.papergrid_print.specs.Boundaries.{upright_bytes};
-ghost use Rattle.papergrid_print.specs.Flat.{AreFlat, AreFlatRows, placed, standing_of};
+ghost use Rattle.papergrid_print.specs.Flat.{AreFlat, AreFlatRows, behind_text, placed, spaced_text, standing_of};
 ghost use Rattle.papergrid_print.specs.Painting.{colored, fill_bytes};
 
 use crate::block::{borrowed, free_left, push_indent};
 use crate::glyphs::push_upright;
 use crate::painting::{push_fill, push_text};
+use crate::spaced::Spaced;
 use grid_config::SpannedConfig;
 use grid_config_colors::{ANSIBuf, ANSIStr};
 use grid_config_values::{AlignmentHorizontal, Indent, Position};
@@ -24,8 +25,8 @@ const FIRST: Position = Position { row: 0, col: 0 };
 #[derive(Drop)]
 pub(crate) struct FlatRows<'a> {
     front: String,
-    between: String,
-    back: String,
+    between: Spaced,
+    back: Spaced,
     left: usize,
     right: usize,
     fill: char,
@@ -64,8 +65,8 @@ impl<'a> FlatRows<'a> {
         let right = Blank::new(&padding.right, &padding_color.right);
         let behind = Blank::new(&margin.right, &margin_color.right);
         let front = joint(alloc, cfg, before, 0, columns, left)?;
-        let between = joint(alloc, cfg, right, 1, columns, left)?;
-        let back = joint(alloc, cfg, right, columns, columns, behind)?;
+        let between = spaced_joint(alloc, cfg, right, 1, columns, left)?;
+        let back = spaced_joint(alloc, cfg, right, columns, columns, behind)?;
         Ok(FlatRows {
             front,
             between,
@@ -86,10 +87,11 @@ impl<'a> FlatRows<'a> {
         &self.front
     }
 
-    /// What stands behind the text in column `j` of so many.
-    pub(crate) fn behind(&self, j: usize, columns: usize) -> &str
+    // What stands behind the text in column `j` of so many.
+    #[inline(always)]
+    fn behind(&self, j: usize, columns: usize) -> &Spaced
         requires { j < columns }
-        ensures { result.now ≡ (if j + 1 == columns then string_bytes self.now.back else string_bytes self.now.between) }
+        ensures { spaced_text result.now ≡ behind_text self.now j columns }
     {
         if j + 1 == columns {
             &self.back
@@ -98,18 +100,22 @@ impl<'a> FlatRows<'a> {
         }
     }
 
-    /// Appends a line that measures so much to a column of this width, between the paddings; `widest` is
-    /// what the widest line of its cell measures. Refused for memory alone.
+    /// Appends a line that measures so much to column `j` of so many, which is as wide as given, and what
+    /// stands behind it; `widest` is what the widest line of its cell measures. Refused for memory alone.
+    #[inline(always)]
     pub(crate) fn push_line(
         &self,
         out: &mut String,
+        j: usize,
+        columns: usize,
         width: usize,
         measure: usize,
         widest: usize,
         color: Option<ANSIStr<'_>>,
         line: &str,
     ) -> Result<(), AllocError>
-        ensures { OnOk result (string_bytes out.new ≡ string_bytes out.old ++ placed (standing_of self.now) width measure widest (option_map color_of color.entry) line.now) }
+        requires { j < columns }
+        ensures { OnOk result (string_bytes out.new ≡ string_bytes out.old ++ (placed (standing_of self.now) width measure widest (option_map color_of color.entry) line.now ++ behind_text self.now j columns)) }
     {
         let room = width.saturating_sub(self.left).saturating_sub(self.right);
         let aligned = if self.line_alignment { measure } else { widest };
@@ -117,7 +123,19 @@ impl<'a> FlatRows<'a> {
         let rest = room.saturating_sub(indent).saturating_sub(measure);
         push_fill(out, self.fill, indent, self.fill_color)?;
         push_text(out, line, color)?;
-        push_fill(out, self.fill, rest, self.fill_color)
+        self.push_rest(out, rest, self.behind(j, columns))
+    }
+
+    // Appends what is free behind a text, and what stands behind that.
+    #[inline(always)]
+    fn push_rest(&self, out: &mut String, rest: usize, behind: &Spaced) -> Result<(), AllocError>
+        ensures { OnOk result (string_bytes out.new ≡ string_bytes out.old ++ (colored (option_map color_of self.now.fill_color) (fill_bytes self.now.fill rest) ++ spaced_text behind.now)) }
+    {
+        if self.fill == ' ' && self.fill_color.is_none() {
+            return behind.push_behind(out, rest);
+        }
+        push_fill(out, self.fill, rest, self.fill_color)?;
+        behind.push_behind(out, 0)
     }
 }
 
@@ -154,4 +172,20 @@ fn joint(
     push_upright(&mut text, cfg, j, columns)?;
     push_indent(&mut text, behind.indent, behind.color)?;
     Ok(text)
+}
+
+// The same, to be appended behind spaces.
+fn spaced_joint(
+    alloc: Global,
+    cfg: &SpannedConfig,
+    before: Blank<'_>,
+    j: usize,
+    columns: usize,
+    behind: Blank<'_>,
+) -> Result<Spaced, AllocError>
+    ensures { IfOk result (λ made. spaced_text made ≡ colored before.entry.color.now (fill_bytes before.entry.indent.now.fill before.entry.indent.now.size)
+        ++ (upright_bytes (look_of cfg.now) j columns ++ colored behind.entry.color.now (fill_bytes behind.entry.indent.now.fill behind.entry.indent.now.size))) }
+{
+    let text = joint(alloc, cfg, before, j, columns, behind)?;
+    Spaced::new(alloc, &text)
 }

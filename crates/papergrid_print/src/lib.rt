@@ -9,6 +9,7 @@ mod flat;
 mod glyphs;
 mod painting;
 mod print;
+mod spaced;
 mod table;
 
 pub use colors::{Colors, NoColors};

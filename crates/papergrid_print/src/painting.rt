@@ -37,6 +37,7 @@ pub(crate) fn push_fill(
 }
 
 /// Appends a text in a colour. Refused for memory alone.
+#[inline(always)]
 pub(crate) fn push_text(
     out: &mut String,
     text: &str,
@@ -119,8 +120,13 @@ fn suffix_of<'a>(color: Option<ANSIStr<'a>>) -> &'a str
     }
 }
 
-// Appends a character so many times, with one growth.
-fn push_repeated(out: &mut String, character: char, width: usize) -> Result<(), AllocError>
+/// Appends a character so many times, with one growth. Refused for memory alone.
+#[inline(never)]
+pub(crate) fn push_repeated(
+    out: &mut String,
+    character: char,
+    width: usize,
+) -> Result<(), AllocError>
     ensures { OnOk result (string_bytes out.new ≡ string_bytes out.old ++ fill_bytes character width) }
 {
     if character == ' ' && width <= 64 {

@@ -1,14 +1,15 @@
 //! The lines of a table.
-ghost use Rattle.std.specs.Prelude.{◌≡◌, ◌++◌, ◌<◌, ◌≤◌, ◌+◌, ◌^◌, ⊤, IfOk, List, MatchOption, OnOk, ℕ, [], map, length, slice_index, string_bytes};
+ghost use Rattle.std.specs.Prelude.{◌≡◌, ◌++◌, ◌<◌, ◌≤◌, ◌+◌, ◌^◌, ⊤, IfOk, IfSome, List, MatchOption, OnOk, ℕ, [], false, map, length, slice_index, string_bytes};
 ghost use Rattle.grid_config_spans.specs.Spans.{AreGood, extent_at};
 ghost use Rattle.papergrid_picture.specs.Frame.{Boundary, Row, boundary_at, line_count, total_width, track_at};
 ghost use Rattle.papergrid_picture.specs.Picture.{boundary_part, parts_of, row_part};
 ghost use Rattle.papergrid_picture.specs.Blocks.{Part};
 ghost use Rattle.papergrid_picture.specs.Reading.{line_items};
 ghost use Rattle.grid_config.specs.Looks.{look_of};
-ghost use Rattle.grid_records_traits.specs.Cells.{HasLineWidth, HasWidth};
+ghost use Rattle.ansi_str.specs.StyledText.{has_escape};
+ghost use Rattle.grid_records_traits.specs.Cells.{HasLineCount, HasLineWidth, HasWidth};
 ghost use Rattle.grid_records_traits.specs.Rows.{text_at};
-ghost use Rattle.papergrid_print.specs.Flat.{AreFlat, AreFlatRows, AreMadeFor, IsBetween, first_placed, standing_of};
+ghost use Rattle.papergrid_print.specs.Flat.{AreFlat, AreFlatRows, AreMadeFor, IsBetween, behind_text, first_placed, standing_of};
 ghost use Rattle.papergrid_print.specs.Painting.{colored, fill_bytes, glyph_part};
 ghost use Rattle.papergrid_print.specs.Sheets.{GoesOn, IsOpen, IsPrintable, ShowsCell, bytes_of, grid_of, feed_before, line_at, lines_of, place_line, plain_bytes, row_tracks, sheet_of};
 
@@ -19,6 +20,7 @@ use crate::extents::{Axis, stretch, thickness};
 use crate::flat::{FlatRows, are_flat};
 use crate::glyphs::{push_along, push_behind, push_corner, push_upright};
 use crate::painting::{GlyphRun, push_glyphs};
+use ansi_str::AnsiStr;
 use grid_config::SpannedConfig;
 use grid_config_colors::ANSIBuf;
 use grid_config_values::{Indent, Position};
@@ -292,7 +294,7 @@ impl<'a, R: PeekableRecords, C: Colors> Table<'a, R, C> {
         Ok(Some(FlatRows::new(alloc, self.cfg, self.widths.len())?))
     }
 
-    // Appends the first line of the cell at this place, between its paddings.
+    // Appends the first line of the cell at this place, and what stands behind it.
     fn push_first_line(
         &self,
         alloc: Global,
@@ -302,13 +304,18 @@ impl<'a, R: PeekableRecords, C: Colors> Table<'a, R, C> {
     ) -> Result<(), AllocError>
         requires flat { AreFlat self.now.cfg.now }
         requires column { pos.col < length self.now.widths.now }
-        ensures { OnOk result (string_bytes out.new ≡ string_bytes out.old ++ first_placed (sheet_of self.now.cfg.now (R.rows self.now.records.now) (C.color self.now.colors.now) self.now.widths.now self.now.heights.now) (standing_of flat.now) pos) }
+        ensures { OnOk result (string_bytes out.new ≡ string_bytes out.old ++ (first_placed (sheet_of self.now.cfg.now (R.rows self.now.records.now) (C.color self.now.colors.now) self.now.widths.now self.now.heights.now) (standing_of flat.now) pos ++ behind_text flat.now pos.col (length self.now.widths.now))) }
     {
-        let widest = self.records.get_width(pos);
-        let measure = first_width(self.records, pos, widest);
-        let line = self.records.get_line(alloc, pos, 0)?;
+        let (records, j, columns) = (self.records, pos.col, self.widths.len());
+        let width = self.widths[j];
         let color = self.colors.get_color(pos);
-        flat.push_line(out, self.widths[pos.col], measure, widest, color, &line)
+        let widest = records.get_width(pos);
+        if let Some(text) = plain_line(records, pos) {
+            return flat.push_line(out, j, columns, width, widest, widest, color, text);
+        }
+        let measure = first_width(records, pos, widest);
+        let line = records.get_line(alloc, pos, 0)?;
+        flat.push_line(out, j, columns, width, measure, widest, color, &line)
     }
 
     // Appends the line of row `i`, which has but one.
@@ -330,7 +337,6 @@ impl<'a, R: PeekableRecords, C: Colors> Table<'a, R, C> {
         out.push_str(flat.front())?;
         for j in 0..columns {
             self.push_first_line(alloc, out, flat, Position::new(i, j))?;
-            out.push_str(flat.behind(j, columns))?;
         }
         Ok(())
     }
@@ -538,6 +544,22 @@ fn row_extent(cfg: &SpannedConfig, pos: Position) -> usize
     ensures some { 0 < result }
 {
     cfg.get_row_span(pos).unwrap_or(1)
+}
+
+// The text of the cell at this place, where it is one line without sequences.
+fn plain_line<R: PeekableRecords>(records: &R, pos: Position) -> Option<&str>
+    ensures text { IfSome result (λ text. text.now ≡ text_at (R.rows records.now) pos) }
+    ensures one { IfSome result (λ _. HasLineCount (text_at (R.rows records.now) pos) 1) }
+    ensures plain { IfSome result (λ text. has_escape text.now ≡ false) }
+{
+    if records.count_lines(pos) != 1 {
+        return None;
+    }
+    let text = records.get_text(pos);
+    if text.ansi_has_any() {
+        return None;
+    }
+    Some(text)
 }
 
 // How many columns the first line of the cell at this place takes, whose widest takes so many.

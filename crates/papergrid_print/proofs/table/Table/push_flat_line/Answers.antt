@@ -1,5 +1,6 @@
-use Rattle.std.proofs.Common.{◌≡◌, ◌≤◌, ◌++◌, length, string_bytes, ap, ◌∙◌, arith}
-use Rattle.papergrid_print.specs.Flat.{first_placed, standing_of}
+use Rattle.std.proofs.Common.{◌≡◌, ◌++◌, length, string_bytes, ap, refl, sym, ◌∙◌, arith, append_assoc}
+use Rattle.papergrid_print.specs.Flat.{behind_text, first_placed, standing_of}
+use Rattle.papergrid_picture.specs.Picture.{at}
 use Rattle.papergrid_print.specs.Sheets.{sheet_of}
 use Rattle.papergrid_print.proofs.FlatLemmas.{flat-begins, flat-ends, flat-more}
 use Rattle.papergrid_print.proofs.table.Table.push_flat_line.Goals as goal
@@ -12,8 +13,12 @@ loop-j-init g c =
 pub loop-j-preserved : goal.loop-j-preserved
 loop-j-preserved g c =
     let sheet = (sheet_of c.args.self.now.cfg.now (g.R.RecordTexts.rows c.args.self.now.records.now) (g.C.Colors.color c.args.self.now.colors.now) c.args.self.now.widths.now c.args.self.now.heights.now) in
+    let pos = at c.args.i c.loop-j.j in
     flat-more sheet c.requires.flat c.args.i c.loop-j.j c.args.flat.now (string_bytes c.args.out.now) c.requires.row c.loop-j-test.true c.requires.high c.requires.made
-    c.loop-j.invariant (c.in_ok-push_first_line.ensures ∙ ap (λ pos. string_bytes c.loop-j.out ++ first_placed sheet (standing_of c.args.flat.now) pos) c.new.ensures) (c.in_ok-push_str-2.ensures.bytes ∙ ap (λ l. string_bytes c.push_first_line.new.out ++ l) c.behind.ensures)
+    c.loop-j.invariant refl
+    (c.in_ok-push_first_line.ensures
+    ∙ (ap (λ pos. string_bytes c.loop-j.out ++ (first_placed sheet (standing_of c.args.flat.now) pos ++ behind_text c.args.flat.now pos.col (length c.args.self.now.widths.now))) c.new.ensures
+    ∙ sym (append_assoc (string_bytes c.loop-j.out) (first_placed sheet (standing_of c.args.flat.now) pos) (behind_text c.args.flat.now c.loop-j.j (length c.args.self.now.widths.now)))))
 
 pub returns : goal.returns
 returns g c =
