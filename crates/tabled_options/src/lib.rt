@@ -2,6 +2,7 @@
 #![tactic(auto)]
 
 mod alignment;
+mod compact;
 pub mod laws;
 mod margin;
 pub mod object;

@@ -1,6 +1,7 @@
 //! What a table is, and its options: each is one step of it.
 #![tactic(auto)]
 
+mod compact;
 mod configuration;
 mod configurations;
 pub mod laws;

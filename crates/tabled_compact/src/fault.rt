@@ -1,0 +1,61 @@
+//! Why a table was not written.
+use grid_config::Fault;
+use std::error::Error;
+use std::fmt;
+use tabled_output::WriteFault;
+
+/// Why a table was not written to its end.
+#[derive(Clone, Copy, Debug, PartialEq, Eq)]
+pub enum BuildFault {
+    /// The table has no text, or there was no memory for it. Nothing was written.
+    Table(Fault),
+    /// The writer failed in this call, by an error of any kind.
+    Write,
+    /// The writer took no byte of a piece that had some.
+    WriteZero,
+}
+
+/// The reason in a few words, with no line feed.
+impl fmt::Display for BuildFault {
+    ghost use Rattle.std.specs.Prelude.{Some};
+    ghost use Rattle.tabled_compact.specs.Building.{build_fault_text};
+
+    ghost output = { λ fault. Some (build_fault_text fault) };
+
+    fn fmt<W: fmt::Write>(&self, f: &mut fmt::Formatter<W>) -> fmt::Result {
+        match self {
+            BuildFault::Table(fault) => write!(f, "{fault}"),
+            BuildFault::Write => write!(f, "write failed"),
+            BuildFault::WriteZero => write!(f, "writer took nothing"),
+        }
+    }
+}
+
+impl Error for BuildFault {}
+
+/// Why the table has no text.
+impl From<Fault> for BuildFault {
+    ghost use Rattle.std.specs.Prelude.{◌≡◌};
+    ghost use Rattle.tabled_compact.specs.declared.fault.BuildFault.TheVariants.{Table};
+
+    ghost from_gives = { λ given fault. fault ≡ Table given };
+
+    fn from(fault: Fault) -> BuildFault {
+        BuildFault::Table(fault)
+    }
+}
+
+/// Why not all was written, by the same names.
+impl From<WriteFault> for BuildFault {
+    ghost use Rattle.std.specs.Prelude.{◌≡◌};
+    ghost use Rattle.tabled_compact.specs.Building.{writing_fault};
+
+    ghost from_gives = { λ given fault. fault ≡ writing_fault given };
+
+    fn from(fault: WriteFault) -> BuildFault {
+        match fault {
+            WriteFault::Write => BuildFault::Write,
+            WriteFault::WriteZero => BuildFault::WriteZero,
+        }
+    }
+}

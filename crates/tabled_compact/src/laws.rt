@@ -1,0 +1,50 @@
+//! Laws of the definitions that the contracts cite.
+ghost use Rattle.std.specs.Prelude.{◌≡◌, [], ◌∷◌, Some, codes};
+ghost use Rattle.grid_config.specs.Compact.{Compact, compact_of};
+ghost use Rattle.grid_config.specs.Looks.{compact_look};
+ghost use Rattle.grid_config.specs.declared.compact.CompactConfig.{CompactConfig as CompactSettings};
+ghost use Rattle.papergrid.specs.Grids.{flat};
+ghost use Rattle.tabled_options.specs.Options.{margin_sides, padding_sides};
+ghost use Rattle.tabled_options.specs.Styles.{style_borders};
+ghost use Rattle.tabled_options.specs.declared.margin.Margin.{Margin as OneMargin};
+ghost use Rattle.tabled_options.specs.declared.padding.Padding.{Padding as OnePadding};
+ghost use Rattle.tabled_options.specs.declared.style.Style.{Style as OneStyle};
+ghost use Rattle.grid_config_values.specs.declared.entity.Entity.TheVariants.{Global as EveryCell};
+ghost use Rattle.tabled_steps.specs.Looks.{with_borders, with_margin, with_padding};
+ghost use Rattle.tabled_steps.specs.States.{Outcome, State, looking};
+ghost use Rattle.tabled_compact.specs.Tables.{begun, flat_look, shown_rows};
+
+use grid_config::CompactConfig;
+use grid_records_traits::RecordTexts;
+use tabled_options::{Margin, Padding, Style};
+use tabled_steps::{KeptSizes, TableOption};
+
+/// Rows that a table shows, worked out by hand: those behind the ones that are passed over, of these as
+/// many as are kept, each with as many cells as there are columns.
+pub fn worked_rows()
+    ensures all { let rows = (codes "a" ∷ []) ∷ (codes "b" ∷ []) ∷ (codes "c" ∷ []) ∷ [] in
+        shown_rows (record (begun rows (λ _. 2)) { columns = 1 }) ≡ rows }
+    ensures skipped_first { shown_rows (record (begun ((codes "a" ∷ []) ∷ (codes "b" ∷ []) ∷ (codes "c" ∷ []) ∷ []) (λ _. 2)) { columns = 1; skipped = 1; kept = Some 1 }) ≡ (codes "b" ∷ []) ∷ [] }
+    ensures fewer { shown_rows (record (begun ((codes "a" ∷ []) ∷ []) (λ _. 2)) { columns = 1; skipped = 2; kept = Some 1 }) ≡ [] }
+    ensures empty_cells { shown_rows (record (begun ((codes "a" ∷ []) ∷ []) (λ _. 2)) { columns = 2 }) ≡ (codes "a" ∷ [] ∷ []) ∷ [] }
+    ensures left_out { shown_rows (record (begun ((codes "a" ∷ codes "b" ∷ []) ∷ []) (λ _. 2)) { columns = 1 }) ≡ (codes "a" ∷ []) ∷ [] }
+{}
+
+/// What a table prints of its settings is seen by its options: it has their look, without padding above
+/// and below texts.
+pub fn options_see_what_is_printed()
+    ensures { (compact : Compact) → compact_look (flat compact) ≡ flat_look (compact_look compact) }
+{}
+
+/// Each option of settings that are the same for all cells is the step that sets its own setting, and
+/// whole settings replace them.
+pub fn options_are_their_steps<R: RecordTexts, D: KeptSizes>()
+    ensures margin { (margin : OneMargin) (state : State) (outcome : Outcome) → ⟦<Margin as TableOption<R, CompactConfig, D>>⟧.step margin state outcome →
+        looking (with_margin (margin_sides margin)) state ≡ outcome }
+    ensures style { (style : OneStyle) (state : State) (outcome : Outcome) → ⟦<Style as TableOption<R, CompactConfig, D>>⟧.step style state outcome →
+        looking (with_borders (style_borders style)) state ≡ outcome }
+    ensures padding { (padding : OnePadding) (state : State) (outcome : Outcome) → ⟦<Padding as TableOption<R, CompactConfig, D>>⟧.step padding state outcome →
+        looking (with_padding EveryCell (padding_sides padding)) state ≡ outcome }
+    ensures whole { (settings : CompactSettings) (state : State) (outcome : Outcome) → ⟦<CompactConfig as TableOption<R, CompactConfig, D>>⟧.step settings state outcome →
+        looking (λ _. compact_look (compact_of settings)) state ≡ outcome }
+{}

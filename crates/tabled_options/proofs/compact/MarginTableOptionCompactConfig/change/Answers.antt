@@ -1,0 +1,10 @@
+use Rattle.std.proofs.Common.{Ok, None, ◌∙◌, ap, sym}
+use Rattle.grid_config.specs.Compact.{Compact, compact_of}
+use Rattle.grid_config.specs.Looks.{compact_look}
+use Rattle.tabled_steps.specs.States.{state_with}
+use Rattle.tabled_options.proofs.compact.MarginTableOptionCompactConfig.change.Goals as goal
+
+pub returns : goal.returns
+returns g c =
+    ap (λ (compact : Compact). Ok (state_with (g.R.RecordTexts.rows c.args._records.now) (compact_look compact) (λ _. None) (g.D.KeptSizes.sizes c.args._dims.now)))
+    (sym (c.set_margin.ensures ∙ ap (λ value. record (compact_of c.args.cfg.now) { margin = value }) c.from.ensures))

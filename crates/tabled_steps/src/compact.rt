@@ -1,0 +1,48 @@
+//! Settings that are the same for all cells, as options see them, and whole such settings as an option.
+ghost use Rattle.std.specs.Prelude.{◌≡◌, None, Some};
+ghost use Rattle.grid_config.specs.Compact.{compact_of};
+ghost use Rattle.grid_config.specs.Looks.{compact_look};
+ghost use Rattle.grid_config_values.specs.declared.entity.Entity.TheVariants.{Global as EveryCell};
+ghost use Rattle.tabled_size_dimension.specs.Stored.{none_stored};
+ghost use Rattle.tabled_steps.specs.States.{looking};
+
+use crate::configuration::{Configuration, KeptSizes};
+use crate::option::TableOption;
+use grid_config::{CompactConfig, Entity, Fault};
+use grid_records_traits::records::RecordTexts;
+use std::alloc::Global;
+use tabled_size_dimension::ZeroDimension;
+
+/// All cells have the same settings, and none a colour.
+impl Configuration for CompactConfig {
+    ghost look = { λ config. compact_look (compact_of config) };
+
+    ghost colors = { λ _ _. None };
+}
+
+/// No size is kept.
+impl KeptSizes for ZeroDimension {
+    ghost sizes = { λ _. none_stored };
+}
+
+/// Replaces all settings. Takes no memory.
+impl<R: RecordTexts, D: KeptSizes> TableOption<R, CompactConfig, D> for CompactConfig {
+    ghost step = { λ config state outcome. looking (λ _. compact_look (compact_of config)) state ≡ outcome };
+
+    ghost hint = { λ _. Some EveryCell };
+
+    fn change(
+        self,
+        _alloc: Global,
+        _records: &mut R,
+        cfg: &mut CompactConfig,
+        _dims: &mut D,
+    ) -> Result<(), Fault> {
+        *cfg = self;
+        Ok(())
+    }
+
+    fn hint_change(&self) -> Option<Entity> {
+        Some(Entity::Global)
+    }
+}
