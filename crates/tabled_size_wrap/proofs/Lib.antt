@@ -11,3 +11,4 @@ pub mod ShowLemmas
 pub mod PartLemmas
 pub mod AddedLemmas
 pub mod WrappedLemmas
+pub mod BytesLemmas

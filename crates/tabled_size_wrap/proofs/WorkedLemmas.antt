@@ -11,17 +11,18 @@ use Rattle.ansi_scan.proofs.Existence.{ArePiecesOf-pieces}
 use Rattle.ansi_str.specs.StyledText.{strip}
 use Rattle.ansi_str.specs.Matches.{split_bounds, styled_parts}
 use Rattle.ansi_str_search.proofs.MatchLists.{matches_from, AreMatches-worked}
-use Rattle.grid_records_measure.specs.Cutting.{cut_bytes}
+use Rattle.grid_records_measure.specs.Cutting.{IsCutAt, cut_bytes}
 use Rattle.grid_records_measure.specs.Filling.{front, behind_front, has_room, used_behind}
 use Rattle.grid_records_measure.specs.Measures.{cost, columns}
 use Rattle.grid_records_measure.specs.TextLines.{line_feed}
 use Rattle.grid_records_measure.proofs.FillingLemmas.{IsLongestFront-front}
 use Rattle.grid_records_measure.proofs.PlainLemmas.{two-columns}
 use Rattle.tabled_size_wrap.specs.Units.{LineUnit, character_unit, line_units, unit_len}
-use Rattle.tabled_size_wrap.specs.Wrapping.{line_part, replacement_bytes, shown_lines}
+use Rattle.tabled_size_wrap.specs.Wrapping.{IsWrapped, line_part, replacement_bytes, shown_lines}
 use Rattle.tabled_size_wrap.specs.Runs.{broken_lines, runs_of}
 use Rattle.tabled_size_wrap.specs.Worked.{WrapsTo, CutsTo}
 use Rattle.tabled_size_wrap.proofs.WrapLemmas.{is-wrapped}
+use Rattle.tabled_size_wrap.proofs.BytesLemmas.{cut_at-one, wrapped_text-one}
 
 -- U+1F633, which takes two columns
 abbrev pub wide : ℕ
@@ -65,13 +66,12 @@ line-worked width keep_words line ps cs us lines are spelled good units shown =
 pub wraps-worked : (width : ℕ) (keep_words : Bool) (text line wrapped : List ℕ) (ps : List Piece) (lines : List (List ℕ)) → 0 < width → pieces text ≡ ps
     → matches_from (suc (length (strip ps))) (line_feed ∷ []) (strip ps) 0 ≡ [] → styled_parts ps (split_bounds (line_feed ∷ []) (strip ps) []) ≡ line ∷ []
     → broken_lines width keep_words (pieces line) ≡ lines → join_with_byte line_feed (lines ++ []) ≡ wrapped → WrapsTo width keep_words text wrapped
-wraps-worked width keep_words text line wrapped ps lines some are found parts broken joined = record {
-  pieces = ps;
-  of_text = subst (ArePiecesOf text) are (ArePiecesOf-pieces text);
-  is_wrapped = is-wrapped width keep_words ps wrapped (line ∷ []) some
-      ([], AreMatches-worked (line_feed ∷ []) (strip ps) [] found, sym parts)
-      (sym (ap (λ (ls : List (List ℕ)). join_with_byte line_feed (ls ++ [])) broken ∙ joined));
-}
+wraps-worked width keep_words text line wrapped ps lines some are found parts broken joined =
+    let of_text : ArePiecesOf text ps = subst (ArePiecesOf text) are (ArePiecesOf-pieces text) in
+    let is : IsWrapped width keep_words ps wrapped = is-wrapped width keep_words ps wrapped (line ∷ []) some
+    ([], AreMatches-worked (line_feed ∷ []) (strip ps) [] found, sym parts)
+    (sym (ap (λ (ls : List (List ℕ)). join_with_byte line_feed (ls ++ [])) broken ∙ joined)) in
+    record { pieces = ps; of_text = of_text; is_wrapped = is; is_function = sym (wrapped_text-one width keep_words text wrapped ps of_text is) }
 
 -- a cut behind these characters
 pub cuts-worked : (width : ℕ) (text cut : List ℕ) (ps : List Piece) (cs kept left : List ℕ) → pieces text ≡ ps → strip ps ≡ encode_utf8_all cs → scalars cs ≡ true
@@ -79,14 +79,12 @@ pub cuts-worked : (width : ℕ) (text cut : List ℕ) (ps : List Piece) (cs kept
 cuts-worked width text cut ps cs kept left are spelled good kept_are left_are cut_is =
     let found : chars (strip ps) ≡ cs = ap chars spelled ∙ chars-encodes cs good in
     let longest = IsLongestFront-front width (chars (strip ps)) in
-    record {
-      pieces = ps;
-      of_text = subst (ArePiecesOf text) are (ArePiecesOf-pieces text);
-      is_cut = (
-        front width 0 (chars (strip ps)),
-        behind_front width 0 (chars (strip ps)),
-        longest,
-        sym (ap (λ (xs : List ℕ). cut_bytes width ps xs (behind_front width 0 (chars (strip ps)))) (ap (front width 0) found ∙ kept_are)
-            ∙ ap (λ (xs : List ℕ). cut_bytes width ps kept xs) (ap (behind_front width 0) found ∙ left_are) ∙ cut_is),
-      );
-    }
+    let of_text : ArePiecesOf text ps = subst (ArePiecesOf text) are (ArePiecesOf-pieces text) in
+    let is : IsCutAt width ps cut = (
+      front width 0 (chars (strip ps)),
+      behind_front width 0 (chars (strip ps)),
+      longest,
+      sym (ap (λ (xs : List ℕ). cut_bytes width ps xs (behind_front width 0 (chars (strip ps)))) (ap (front width 0) found ∙ kept_are)
+          ∙ ap (λ (xs : List ℕ). cut_bytes width ps kept xs) (ap (behind_front width 0) found ∙ left_are) ∙ cut_is),
+    ) in
+    record { pieces = ps; of_text = of_text; is_cut = is; is_function = sym (cut_at-one width text cut ps of_text is) }

@@ -6,3 +6,4 @@ pub mod Runs
 pub mod Standing
 pub mod Showing
 pub mod Worked
+pub mod Bytes

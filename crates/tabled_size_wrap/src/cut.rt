@@ -1,8 +1,9 @@
 //! The cut of a text at a width.
-ghost use Rattle.std.specs.Prelude.{List, IfOk, IsOk};
+ghost use Rattle.std.specs.Prelude.{◌≡◌, List, IfOk, IsOk};
 ghost use Rattle.std.specs.Cow.{IsOwnedStr, cow_str_bytes};
 ghost use Rattle.ansi_scan.specs.Sequences.{Piece, ArePiecesOf};
 ghost use Rattle.grid_records_measure.specs.Cutting.{IsCutAt, IsPlainCut};
+ghost use Rattle.tabled_size_wrap.specs.Bytes.{cut_at};
 
 use grid_records_measure::cut_width;
 use std::alloc::{AllocError, Global};
@@ -14,6 +15,7 @@ use std::borrow::CowStr;
 /// borrow, without memory; else the only refusal is for memory.
 pub fn cut_styled<'a>(alloc: Global, text: &'a str, width: usize) -> Result<CowStr<'a>, AllocError>
     ensures cut { IfOk result (λ out. (pieces : List Piece) → ArePiecesOf text.now pieces → IsCutAt width pieces (cow_str_bytes out)) }
+    ensures bytes { IfOk result (λ out. cow_str_bytes out ≡ cut_at width text.now) }
     ensures answers { IsPlainCut width text.now → IsOk result }
     ensures borrows { IfOk result (λ out. IsPlainCut width text.now → ¬ (IsOwnedStr out)) }
 {

@@ -9,7 +9,9 @@ ghost use Rattle.ansi_str.specs.Lines.{IsClosedLine};
 ghost use Rattle.grid_records_measure.specs.Measures.{own_width};
 ghost use Rattle.grid_records_measure.specs.PlainCharacters.{is_plain_character};
 ghost use Rattle.grid_records_measure.specs.TextLines.{AreLinesOf, is_line_feed, line_feed, shown_lines, widest};
+ghost use Rattle.grid_records_measure.specs.Cutting.{IsCutAt};
 ghost use Rattle.tabled_size_wrap.specs.Breaking.{AreRunsOf, IsBreaking};
+ghost use Rattle.tabled_size_wrap.specs.Bytes.{cut_at, wrapped_text};
 ghost use Rattle.tabled_size_wrap.specs.Showing.{AddsBreaks, ShowsWrapped};
 ghost use Rattle.tabled_size_wrap.specs.Runs.{runs_of};
 ghost use Rattle.tabled_size_wrap.specs.Units.{LineUnit, line_units};
@@ -29,6 +31,21 @@ pub fn one_wrapped_text()
     ensures there { (width : ℕ) (keep_words : Bool) (pieces : List Piece) → (bytes : List ℕ) × IsWrapped width keep_words pieces bytes }
     ensures one { (width : ℕ) (keep_words : Bool) (pieces : List Piece) (bytes others : List ℕ) →
         IsWrapped width keep_words pieces bytes → IsWrapped width keep_words pieces others → bytes ≡ others }
+{}
+
+/// The function `wrapped_text` gives the text that is wrapped, and no other text is.
+pub fn the_wrapped_text()
+    ensures meets { (width : ℕ) (keep_words : Bool) (text : List ℕ) (pieces : List Piece) → ArePiecesOf text pieces →
+        IsWrapped width keep_words pieces (wrapped_text width keep_words text) }
+    ensures one { (width : ℕ) (keep_words : Bool) (text bytes : List ℕ) (pieces : List Piece) → ArePiecesOf text pieces →
+        IsWrapped width keep_words pieces bytes → bytes ≡ wrapped_text width keep_words text }
+{}
+
+/// The function `cut_at` gives the cut of a text, and no other text is its cut.
+pub fn the_cut_text()
+    ensures meets { (width : ℕ) (text : List ℕ) (pieces : List Piece) → ArePiecesOf text pieces → IsCutAt width pieces (cut_at width text) }
+    ensures one { (width : ℕ) (text bytes : List ℕ) (pieces : List Piece) → ArePiecesOf text pieces →
+        IsCutAt width pieces bytes → bytes ≡ cut_at width text }
 {}
 
 /// The runs that units are broken into are a breaking of them, and no breaking of the same units has fewer

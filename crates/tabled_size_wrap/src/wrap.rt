@@ -1,6 +1,7 @@
 //! A text that is wrapped at a width.
-ghost use Rattle.std.specs.Prelude.{List, IfOk, string_bytes};
+ghost use Rattle.std.specs.Prelude.{◌≡◌, List, IfOk, string_bytes};
 ghost use Rattle.ansi_scan.specs.Sequences.{Piece, ArePiecesOf};
+ghost use Rattle.tabled_size_wrap.specs.Bytes.{wrapped_text};
 ghost use Rattle.tabled_size_wrap.specs.Wrapping.{IsWrapped};
 
 use crate::broken_lines::push_broken_lines;
@@ -19,7 +20,8 @@ pub fn wrap_styled(
     width: usize,
     keep_words: bool,
 ) -> Result<String, AllocError>
-    ensures { IfOk result (λ out. (pieces : List Piece) → ArePiecesOf text.now pieces → IsWrapped width keep_words pieces (string_bytes out)) }
+    ensures wrapped { IfOk result (λ out. (pieces : List Piece) → ArePiecesOf text.now pieces → IsWrapped width keep_words pieces (string_bytes out)) }
+    ensures bytes { IfOk result (λ out. string_bytes out ≡ wrapped_text width keep_words text.now) }
 {
     let mut out = String::new(alloc);
     if width == 0 {

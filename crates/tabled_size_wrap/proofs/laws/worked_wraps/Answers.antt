@@ -1,7 +1,7 @@
 -- Each step is computed, but for what a wide character costs.
 use Rattle.std.specs.Fmt.{digits}
 use Rattle.std.specs.Prelude.{codes, encode_utf8_all}
-use Rattle.std.proofs.Common.{[], ◌∷◌, List, ℕ, refl, ap, arith, true, false, ◌<◌}
+use Rattle.std.proofs.Common.{[], ◌∷◌, List, ℕ, refl, ap, sym, arith, true, false, ◌<◌}
 use Rattle.std.proofs.Math.Utf8.{encode}
 use Rattle.unicode_width.specs.Width.{alone, char_width, past_emoji, step, str_width}
 use Rattle.ansi_scan.specs.declared.items.Kind.TheVariants.{Text, Sgr}
@@ -14,6 +14,7 @@ use Rattle.ansi_str_search.specs.PartsLeft.{first_match}
 use Rattle.ansi_str_search.proofs.MatchLists.{matches_from}
 use Rattle.tabled_size_wrap.specs.Units.{LineUnit}
 use Rattle.tabled_size_wrap.proofs.WorkedLemmas.{wide, wide-unit, line-worked, wraps-worked}
+use Rattle.tabled_size_wrap.proofs.BytesLemmas.{wrapped_text-one}
 use Rattle.tabled_size_wrap.proofs.laws.worked_wraps.Goals as goal
 
 unit : List ℕ → ℕ → LineUnit
@@ -72,4 +73,9 @@ returns-clause-styles c =
     (line-worked 7 true text ps cs (unit (codes "Hello") 5 ∷ unit (codes " ") 1 ∷ unit (codes "World") 5 ∷ []) lines refl refl refl refl refl) refl
 
 pub returns-clause-nothing : goal.returns-clause-nothing
-returns-clause-nothing c = λ keep_words text. record { pieces = pieces text; of_text = ArePiecesOf-pieces text; is_wrapped = refl }
+returns-clause-nothing c = λ keep_words text. record {
+  pieces = pieces text;
+  of_text = ArePiecesOf-pieces text;
+  is_wrapped = refl;
+  is_function = sym (wrapped_text-one 0 keep_words text [] (pieces text) (ArePiecesOf-pieces text) refl);
+}

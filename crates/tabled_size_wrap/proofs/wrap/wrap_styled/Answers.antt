@@ -7,7 +7,9 @@ use Rattle.ansi_scan.specs.Pieces.{pieces}
 use Rattle.ansi_str.specs.Splitting.{PartsLeft}
 use Rattle.grid_records_measure.specs.TextLines.{line_feed}
 use Rattle.tabled_size_wrap.specs.Runs.{broken_lines}
-use Rattle.tabled_size_wrap.proofs.WrapLemmas.{lines_left, line-more, line-last, next-line, is-wrapped}
+use Rattle.ansi_scan.proofs.Existence.{ArePiecesOf-pieces}
+use Rattle.tabled_size_wrap.proofs.BytesLemmas.{wrapped_text-one}
+use Rattle.tabled_size_wrap.proofs.WrapLemmas.{lines_left, line-more, line-last, next-line, is-wrapped, wrapped-nothing}
 use Rattle.tabled_size_wrap.proofs.wrap.wrap_styled.Goals as goal
 use Rattle.tabled_size_wrap.proofs.wrap.wrap_styled.Goals.{then-begun+in_ok-push, else-begun}
 
@@ -51,8 +53,8 @@ loop-line-preserved c =
     (join_with_byte line_feed (flat_map (λ others. broken_lines c.args.width c.args.keep_words (pieces others)) c.into_iter-line-iterator.result.parts))
     fed written (ap (λ (lines : List (List ℕ)). string_bytes l.out ++ lines_left c.args.width c.args.keep_words l.begun lines) (sym come) ∙ l.invariant)
 
-pub returns : goal.returns
-returns c = λ ps of_text.
+pub returns-clause-wrapped : goal.returns-clause-wrapped
+returns-clause-wrapped c = λ ps of_text.
     let l = c.loop-line in
     let all : List (List ℕ) → List ℕ = λ lines. join_with_byte line_feed (flat_map (λ line. broken_lines c.args.width c.args.keep_words (pieces line)) lines) in
     let none : l.line-iterator.parts ≡ [] = c.in-None.ensures.steps.1.0 in
@@ -61,3 +63,14 @@ returns c = λ ps of_text.
     is-wrapped c.args.width c.args.keep_words ps (string_bytes l.out) c.get_lines-line-items.result.parts some (c.get_lines-line-items.ensures.lines ps of_text)
     (line-last c.args.width c.args.keep_words l.begun (string_bytes l.out) (all c.into_iter-line-iterator.result.parts) l.line-iterator.parts none l.invariant
     ∙ ap (λ (left : PartsLeft). all left.parts) same)
+
+pub returns-clause-bytes : goal.returns-clause-bytes
+returns-clause-bytes c =
+    let text = c.args.text.now in
+    wrapped_text-one c.args.width c.args.keep_words text (string_bytes c.loop-line.out) (pieces text) (ArePiecesOf-pieces text) (returns-clause-wrapped c (pieces text) (ArePiecesOf-pieces text))
+
+pub returns-then-width-eq0-clause-bytes : goal.returns-then-width-eq0-clause-bytes
+returns-then-width-eq0-clause-bytes c =
+    let text = c.args.text.now in
+    wrapped_text-one c.args.width c.args.keep_words text (string_bytes c.new-out.result) (pieces text) (ArePiecesOf-pieces text)
+    (wrapped-nothing c.args.width c.args.keep_words (pieces text) (string_bytes c.new-out.result) c.if-width-eq0.true c.new-out.ensures.bytes)

@@ -1,0 +1,9 @@
+-- The lemmas of `BytesLemmas`.
+use Rattle.tabled_size_wrap.proofs.BytesLemmas.{cut_at-meets, cut_at-one}
+use Rattle.tabled_size_wrap.proofs.laws.the_cut_text.Goals as goal
+
+pub returns-clause-meets : goal.returns-clause-meets
+returns-clause-meets c = cut_at-meets
+
+pub returns-clause-one : goal.returns-clause-one
+returns-clause-one c = cut_at-one
