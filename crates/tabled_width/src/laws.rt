@@ -1,24 +1,60 @@
-//! Laws: which step a list is, and which sizes it clears; what measurements give; and lists worked out by
-//! hand.
-ghost use Rattle.std.specs.Prelude.{◌≡◌, None, Ok, Some, [], ◌∷◌};
+//! Laws: which step each option is, and which sizes it clears; what measurements give; and lists worked
+//! out by hand.
+ghost use Rattle.std.specs.Prelude.{◌≡◌, ℕ, List, None, Ok, Result, Some, [], ◌∷◌};
+ghost use Rattle.grid_config.specs.Looks.{Look};
+ghost use Rattle.grid_config_values.specs.declared.entity.Entity.{Entity as Cells};
+ghost use Rattle.grid_config_values.specs.declared.entity.Entity.TheVariants.{Global as EveryCell};
+ghost use Rattle.grid_config_values.specs.declared.fault.Fault.{Fault as Refusal};
 ghost use Rattle.tabled_size_dimension.specs.Stored.{none_stored};
+ghost use Rattle.tabled_steps.specs.Changes.{changing};
 ghost use Rattle.tabled_steps.specs.States.{Outcome, State};
+ghost use Rattle.tabled_steps.specs.declared.measurement.Max.{Max as Greatest};
+ghost use Rattle.tabled_steps.specs.declared.measurement.Min.{Min as LeastThatHolds};
+ghost use Rattle.tabled_steps.specs.declared.measurement.Percent.{Percent as Hundredths};
 ghost use Rattle.tabled_steps.specs.Worked.{letters};
-ghost use Rattle.tabled_width.specs.Measures.{least};
-ghost use Rattle.tabled_width.specs.Steps.{with_width_list};
+ghost use Rattle.tabled_width.specs.Measures.{greatest_least_width, greatest_width, least, percent_of_width};
+ghost use Rattle.tabled_width.specs.Steps.{Measured, with_width_list};
+ghost use Rattle.tabled_width.specs.Breaking.{wrapping_wider};
+ghost use Rattle.tabled_width.specs.Filling.{filling};
+ghost use Rattle.tabled_width.specs.declared.min_width.MinWidth.{MinWidth as OneMinWidth};
+ghost use Rattle.tabled_width.specs.declared.wrap.Wrap.{Wrap as OneWrap};
 ghost use Rattle.tabled_width.specs.declared.list.WidthList.{WidthList as OneList};
 
 use crate::list::WidthList;
+use crate::min_width::MinWidth;
+use crate::width::Width;
+use crate::wrap::Wrap;
 use grid_config::ColoredConfig;
 use grid_records_rows::{FromText, VecRecords};
 use tabled_size_dimension::CompleteDimension;
-use tabled_steps::TableOption;
+use tabled_steps::{CellOption, Max, Measurement, Min, Percent, TableOption};
 
 /// A list is the step that keeps its widths, and clears nothing.
 pub fn lists_are_their_steps<T: FromText>()
     ensures step { (list : OneList) (state : State) (outcome : Outcome) → ⟦<WidthList as TableOption<VecRecords<T>, ColoredConfig, CompleteDimension>>⟧.step list state outcome →
         with_width_list list.list.items state ≡ outcome }
     ensures hint { (list : OneList) → ⟦<WidthList as TableOption<VecRecords<T>, ColoredConfig, CompleteDimension>>⟧.hint list ≡ None }
+{}
+
+/// An option of cells is the step that fills, or breaks, the texts of an entity at a width that its
+/// measurement gives, and clears all sizes.
+pub fn cell_options_are_their_steps<T: FromText, W: Measurement<Width>, P>()
+    ensures filling { (option : OneMinWidth W P) (at : Cells) (state : State) (outcome : Outcome) → ⟦<MinWidth<W, P> as CellOption<VecRecords<T>, ColoredConfig>>⟧.step option at state outcome →
+        Measured (W.measures option.width) (λ width state outcome. changing (λ _. filling option.fill width) at state ≡ outcome) state outcome }
+    ensures breaking { (option : OneWrap W P) (at : Cells) (state : State) (outcome : Outcome) → ⟦<Wrap<W, P> as CellOption<VecRecords<T>, ColoredConfig>>⟧.step option at state outcome →
+        Measured (W.measures option.width) (λ width state outcome. changing (λ _. wrapping_wider option.keep_words width) at state ≡ outcome) state outcome }
+    ensures filling_hint { (option : OneMinWidth W P) → ⟦<MinWidth<W, P> as CellOption<VecRecords<T>, ColoredConfig>>⟧.hint option ≡ Some EveryCell }
+    ensures breaking_hint { (option : OneWrap W P) → ⟦<Wrap<W, P> as CellOption<VecRecords<T>, ColoredConfig>>⟧.hint option ≡ Some EveryCell }
+{}
+
+/// What the three measurements give as a width: each gives one.
+pub fn measurements_give_their_widths()
+    ensures max { (it : Greatest) (columns : ℕ) (rows : List (List (List ℕ))) (look : Look) (outcome : Result ℕ Refusal) →
+        ⟦<Max as Measurement<Width>>⟧.measures it columns rows look outcome → Ok (greatest_width columns rows) ≡ outcome }
+    ensures min { (it : LeastThatHolds) (columns : ℕ) (rows : List (List (List ℕ))) (look : Look) (outcome : Result ℕ Refusal) →
+        ⟦<Min as Measurement<Width>>⟧.measures it columns rows look outcome → Ok (greatest_least_width columns rows) ≡ outcome }
+    ensures percent { (it : Hundredths) (columns : ℕ) (rows : List (List (List ℕ))) (look : Look) (outcome : Result ℕ Refusal) →
+        ⟦<Percent as Measurement<Width>>⟧.measures it columns rows look outcome → percent_of_width it.0 columns rows look ≡ outcome }
 {}
 
 /// The least of a list, by hand; and a list of widths that is as long as the table, and one that is
