@@ -1,6 +1,6 @@
 //! Laws: which step each option is, and which sizes it clears; what measurements give; and lists worked
 //! out by hand.
-ghost use Rattle.std.specs.Prelude.{◌≡◌, ℕ, List, None, Ok, Result, Some, [], ◌∷◌};
+ghost use Rattle.std.specs.Prelude.{◌≡◌, ℕ, List, None, Ok, Result, Some, [], ◌∷◌, ◌++◌, codes};
 ghost use Rattle.grid_config.specs.Looks.{Look};
 ghost use Rattle.grid_config_values.specs.declared.entity.Entity.{Entity as Cells};
 ghost use Rattle.grid_config_values.specs.declared.entity.Entity.TheVariants.{Global as EveryCell};
@@ -14,12 +14,14 @@ ghost use Rattle.tabled_steps.specs.declared.measurement.Percent.{Percent as Hun
 ghost use Rattle.tabled_steps.specs.Worked.{letters};
 ghost use Rattle.tabled_width.specs.Measures.{greatest_least_width, greatest_width, least, percent_of_width};
 ghost use Rattle.tabled_width.specs.Steps.{Measured, with_width_list};
-ghost use Rattle.tabled_width.specs.Breaking.{wrapping_wider};
+ghost use Rattle.tabled_width.specs.Breaking.{justifying, one_then_other, wrapping_wider};
 ghost use Rattle.tabled_width.specs.Filling.{filling};
 ghost use Rattle.tabled_width.specs.declared.min_width.MinWidth.{MinWidth as OneMinWidth};
 ghost use Rattle.tabled_width.specs.declared.wrap.Wrap.{Wrap as OneWrap};
+ghost use Rattle.tabled_width.specs.declared.justify.Justify.{Justify as OneJustify};
 ghost use Rattle.tabled_width.specs.declared.list.WidthList.{WidthList as OneList};
 
+use crate::justify::Justify;
 use crate::list::WidthList;
 use crate::min_width::MinWidth;
 use crate::width::Width;
@@ -45,6 +47,22 @@ pub fn cell_options_are_their_steps<T: FromText, W: Measurement<Width>, P>()
         Measured (W.measures option.width) (λ width state outcome. changing (λ _. wrapping_wider option.keep_words width) at state ≡ outcome) state outcome }
     ensures filling_hint { (option : OneMinWidth W P) → ⟦<MinWidth<W, P> as CellOption<VecRecords<T>, ColoredConfig>>⟧.hint option ≡ Some EveryCell }
     ensures breaking_hint { (option : OneWrap W P) → ⟦<Wrap<W, P> as CellOption<VecRecords<T>, ColoredConfig>>⟧.hint option ≡ Some EveryCell }
+{}
+
+/// A table whose cells are justified: each text is filled and then cut at a width that the measurement
+/// gives, and no size is kept.
+pub fn justifying_is_its_step<T: FromText, W: Measurement<Width> + Drop>()
+    ensures step { (option : OneJustify W) (state : State) (outcome : Outcome) → ⟦<Justify<W> as TableOption<VecRecords<T>, ColoredConfig, CompleteDimension>>⟧.step option state outcome →
+        Measured (W.measures option.width) (λ width state outcome. changing (λ _. justifying width) EveryCell state ≡ outcome) state outcome }
+    ensures hint { (option : OneJustify W) → ⟦<Justify<W> as TableOption<VecRecords<T>, ColoredConfig, CompleteDimension>>⟧.hint option ≡ Some EveryCell }
+{}
+
+/// One change and then another, by hand: both, the first alone, the second alone, and none.
+pub fn worked_changes()
+    ensures both { one_then_other (λ _. Some (codes "ab")) (λ _. Some (codes "a")) (codes "b") ≡ Some (codes "a") }
+    ensures first { one_then_other (λ _. Some (codes "ab")) (λ _. None) (codes "b") ≡ Some (codes "ab") }
+    ensures second { one_then_other (λ _. None) (λ text. Some (text ++ codes "!")) (codes "b") ≡ Some (codes "b!") }
+    ensures none { one_then_other (λ _. None) (λ _. None) (codes "b") ≡ None }
 {}
 
 /// What the three measurements give as a width: each gives one.

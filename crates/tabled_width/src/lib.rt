@@ -4,6 +4,7 @@
 mod cells;
 mod columns;
 mod filling;
+mod justify;
 pub mod laws;
 mod lines;
 mod list;
@@ -13,6 +14,7 @@ mod room;
 mod width;
 mod wrap;
 
+pub use justify::Justify;
 pub use list::WidthList;
 pub use min_width::MinWidth;
 pub use width::Width;

@@ -2,6 +2,7 @@
 ghost use Rattle.std.specs.Prelude.{◌≡◌, IfOk, false};
 ghost use Rattle.std.specs.Iterator.{Drains, IsFinite};
 
+use crate::justify::Justify;
 use crate::list::WidthList;
 use crate::min_width::MinWidth;
 use crate::wrap::Wrap;
@@ -25,6 +26,13 @@ impl Width {
         ensures { result ≡ record { width = width; fill = 0x20; priority = 0 } }
     {
         MinWidth::new(width)
+    }
+
+    /// Makes each cell as wide: `Justify::new`.
+    pub fn justify<W: Measurement<Width>>(width: W) -> Justify<W>
+        ensures { result ≡ record { width = width } }
+    {
+        Justify::new(width)
     }
 
     /// A list of the items in their order, on condition that they end: `WidthList::from_iter`. The only
