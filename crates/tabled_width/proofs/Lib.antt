@@ -1,0 +1,4 @@
+pub mod Measuring
+pub mod Lining
+pub mod Totalling
+pub mod Stepping

@@ -1,0 +1,15 @@
+use Rattle.std.proofs.Common.{Some, ap, ◌∙◌}
+use Rattle.tabled_size_wrap.specs.Bytes.{wrapped_text}
+use Rattle.tabled_width.proofs.Measuring.{wide_changes, wide_stays}
+use Rattle.tabled_width.proofs.wrap.WrappingWiderRoomChange.fit.Goals as goal
+
+pub returns-then-get_text_width-room : goal.returns-then-get_text_width-room
+returns-then-get_text_width-room c =
+    let text = c.args.text.now in
+    wide_stays text c.get_text_width.result c.args.room c.get_text_width.ensures (wrapped_text c.args.room c.args.self.now.keep_words text) c.if-get_text_width-room.true
+
+pub returns : goal.returns
+returns c =
+    let text = c.args.text.now in
+    ap Some c.in_ok-wrap_styled.ensures.bytes
+    ∙ wide_changes text c.get_text_width.result c.args.room c.get_text_width.ensures (wrapped_text c.args.room c.args.self.now.keep_words text) c.if-get_text_width-room.false

@@ -1,0 +1,5 @@
+pub mod Widths
+pub mod Measures
+pub mod Filling
+pub mod Breaking
+pub mod Steps

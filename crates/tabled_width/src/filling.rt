@@ -1,0 +1,58 @@
+//! Texts whose lines are filled up to a width.
+ghost use Rattle.std.specs.Prelude.{◌≡◌, ◌++◌, [], ◌∷◌, encode_utf8_all, OnOk, string_bytes};
+ghost use Rattle.std.specs.List.{repeat};
+ghost use Rattle.tabled_width.specs.Filling.{filled_line, filling};
+
+use crate::lines::{LineChange, change_lines};
+use crate::room::RoomChange;
+use grid_records_measure::{get_line_width, get_text_width};
+use std::alloc::{AllocError, Global};
+
+/// Fills the lines of a text that measures less than its room with this character.
+#[derive(Drop)]
+pub(crate) struct Filling {
+    pub(crate) fill: char,
+}
+
+impl RoomChange for Filling {
+    ghost fitted = { λ change width text. filling change.fill width text };
+
+    fn fit(&self, alloc: Global, text: &str, room: usize) -> Result<Option<String>, AllocError> {
+        if get_text_width(text) >= room {
+            return Ok(None);
+        }
+        let line = FilledLine {
+            width: room,
+            fill: self.fill,
+        };
+        Ok(Some(change_lines(alloc, text, &line)?))
+    }
+}
+
+// A line, filled up to a width.
+#[derive(Drop)]
+struct FilledLine {
+    width: usize,
+    fill: char,
+}
+
+impl LineChange for FilledLine {
+    ghost becomes = { λ change line. filled_line change.width change.fill line };
+
+    fn push_line(&self, _alloc: Global, out: &mut String, line: &str) -> Result<(), AllocError> {
+        out.push_str(line)?;
+        let count = self.width.saturating_sub(get_line_width(line));
+        push_repeated(out, self.fill, count)?;
+        Ok(())
+    }
+}
+
+/// Appends a character so many times.
+pub(crate) fn push_repeated(out: &mut String, c: char, count: usize) -> Result<(), AllocError>
+    ensures { OnOk result (string_bytes out.new ≡ string_bytes out.old ++ repeat count (encode_utf8_all (c ∷ []))) }
+{
+    for _ in 0..count {
+        out.push(c)?;
+    }
+    Ok(())
+}

@@ -1,0 +1,109 @@
+//! Cells that are all as wide.
+ghost use Rattle.std.specs.Prelude.{◌≡◌, IfOk, Some, string_bytes, unwrap_or};
+ghost use Rattle.std.specs.Option.{option_map};
+ghost use Rattle.grid_config_values.specs.declared.entity.Entity.TheVariants.{Global as EveryCell};
+ghost use Rattle.tabled_steps.specs.Changes.{changing};
+ghost use Rattle.tabled_width.specs.Breaking.{cutting_wider, justifying};
+ghost use Rattle.tabled_width.specs.Steps.{Measured};
+
+use crate::cells::change_cells;
+use crate::filling::Filling;
+use crate::room::RoomChange;
+use crate::width::Width;
+use grid_config::{ColoredConfig, Entity, Fault};
+use grid_records_measure::get_text_width;
+use grid_records_rows::{FromText, VecRecords};
+use std::alloc::{AllocError, Global};
+use tabled_size_dimension::CompleteDimension;
+use tabled_size_wrap::cut_styled;
+use tabled_steps::{Max, Measurement, Min, TableOption};
+
+/// Makes each cell of a table as wide: what is narrower is filled with spaces, and what is wider then is
+/// cut.
+#[derive(Clone, Copy, Debug, PartialEq, Eq, PartialOrd, Ord)]
+pub struct Justify<W> {
+    width: W,
+}
+
+impl<W> Justify<W> {
+    /// To this width.
+    pub fn new(width: W) -> Justify<W>
+        ensures { result ≡ record { width = width } }
+    {
+        Justify { width }
+    }
+}
+
+impl Justify<Max> {
+    /// To the greatest measure of a cell.
+    pub fn max() -> Justify<Max> {
+        Justify::new(Max)
+    }
+}
+
+impl Justify<Min> {
+    /// To the greatest over the rows of a row's least measure.
+    pub fn min() -> Justify<Min> {
+        Justify::new(Min)
+    }
+}
+
+/// Fills, and then cuts, each cell. Refused as the measurement is, and for memory.
+impl<T: FromText, W: Measurement<Width> + Drop> TableOption<
+    VecRecords<T>,
+    ColoredConfig,
+    CompleteDimension,
+> for Justify<W> {
+    ghost step = { λ option. Measured (W.measures option.width) (λ width state outcome. changing (λ _. justifying width) EveryCell state ≡ outcome) };
+
+    ghost hint = { λ _. Some EveryCell };
+
+    fn change(
+        self,
+        alloc: Global,
+        records: &mut VecRecords<T>,
+        cfg: &mut ColoredConfig,
+        _dims: &mut CompleteDimension,
+    ) -> Result<(), Fault> {
+        let width = self.width.measure(alloc, records, cfg.spanned())?;
+        change_cells(alloc, records, Entity::Global, width, &Justifying)
+    }
+
+    fn hint_change(&self) -> Option<Entity> {
+        Some(Entity::Global)
+    }
+}
+
+// Fills a text with spaces, and then cuts it.
+#[derive(Drop)]
+struct Justifying;
+
+impl RoomChange for Justifying {
+    ghost fitted = { λ _. justifying };
+
+    fn fit(&self, alloc: Global, text: &str, room: usize) -> Result<Option<String>, AllocError> {
+        let filled = Filling { fill: ' ' }.fit(alloc, text, room)?;
+        let cut = cut_wider(alloc, text_or(&filled, text), room)?;
+        Ok(cut.or(filled))
+    }
+}
+
+// The first text, where there is one, and else the other.
+fn text_or<'a>(first: &'a Option<String>, other: &'a str) -> &'a str
+    ensures { result.now ≡ unwrap_or (option_map string_bytes first.now) other.now }
+{
+    match first {
+        Some(first) => first.as_str(),
+        None => other,
+    }
+}
+
+// The cut of a text that measures more than the width.
+fn cut_wider(alloc: Global, text: &str, width: usize) -> Result<Option<String>, AllocError>
+    ensures { IfOk result (λ out. option_map string_bytes out ≡ cutting_wider width text.now) }
+{
+    if get_text_width(text) <= width {
+        return Ok(None);
+    }
+    Ok(Some(cut_styled(alloc, text, width)?.into_owned(alloc)?))
+}

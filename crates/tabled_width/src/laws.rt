@@ -1,0 +1,86 @@
+//! Laws: which step each option is, and which sizes it clears; what measurements give; and lists worked
+//! out by hand.
+ghost use Rattle.std.specs.Prelude.{◌≡◌, ℕ, List, None, Ok, Result, Some, [], ◌∷◌, ◌++◌, codes};
+ghost use Rattle.grid_config.specs.Looks.{Look};
+ghost use Rattle.grid_config_values.specs.declared.entity.Entity.{Entity as Cells};
+ghost use Rattle.grid_config_values.specs.declared.entity.Entity.TheVariants.{Global as EveryCell};
+ghost use Rattle.grid_config_values.specs.declared.fault.Fault.{Fault as Refusal};
+ghost use Rattle.tabled_size_dimension.specs.Stored.{none_stored};
+ghost use Rattle.tabled_steps.specs.Changes.{changing};
+ghost use Rattle.tabled_steps.specs.States.{Outcome, State};
+ghost use Rattle.tabled_steps.specs.declared.measurement.Max.{Max as Greatest};
+ghost use Rattle.tabled_steps.specs.declared.measurement.Min.{Min as LeastThatHolds};
+ghost use Rattle.tabled_steps.specs.declared.measurement.Percent.{Percent as Hundredths};
+ghost use Rattle.tabled_steps.specs.Worked.{letters};
+ghost use Rattle.tabled_width.specs.Measures.{greatest_least_width, greatest_width, least, percent_of_width};
+ghost use Rattle.tabled_width.specs.Steps.{Measured, with_width_list};
+ghost use Rattle.tabled_width.specs.Breaking.{justifying, one_then_other, wrapping_wider};
+ghost use Rattle.tabled_width.specs.Filling.{filling};
+ghost use Rattle.tabled_width.specs.declared.min_width.MinWidth.{MinWidth as OneMinWidth};
+ghost use Rattle.tabled_width.specs.declared.wrap.Wrap.{Wrap as OneWrap};
+ghost use Rattle.tabled_width.specs.declared.justify.Justify.{Justify as OneJustify};
+ghost use Rattle.tabled_width.specs.declared.list.WidthList.{WidthList as OneList};
+
+use crate::justify::Justify;
+use crate::list::WidthList;
+use crate::min_width::MinWidth;
+use crate::width::Width;
+use crate::wrap::Wrap;
+use grid_config::ColoredConfig;
+use grid_records_rows::{FromText, VecRecords};
+use tabled_size_dimension::CompleteDimension;
+use tabled_steps::{CellOption, Max, Measurement, Min, Percent, TableOption};
+
+/// A list is the step that keeps its widths, and clears nothing.
+pub fn lists_are_their_steps<T: FromText>()
+    ensures step { (list : OneList) (state : State) (outcome : Outcome) → ⟦<WidthList as TableOption<VecRecords<T>, ColoredConfig, CompleteDimension>>⟧.step list state outcome →
+        with_width_list list.list.items state ≡ outcome }
+    ensures hint { (list : OneList) → ⟦<WidthList as TableOption<VecRecords<T>, ColoredConfig, CompleteDimension>>⟧.hint list ≡ None }
+{}
+
+/// An option of cells is the step that fills, or breaks, the texts of an entity at a width that its
+/// measurement gives, and clears all sizes.
+pub fn cell_options_are_their_steps<T: FromText, W: Measurement<Width>, P>()
+    ensures filling { (option : OneMinWidth W P) (at : Cells) (state : State) (outcome : Outcome) → ⟦<MinWidth<W, P> as CellOption<VecRecords<T>, ColoredConfig>>⟧.step option at state outcome →
+        Measured (W.measures option.width) (λ width state outcome. changing (λ _. filling option.fill width) at state ≡ outcome) state outcome }
+    ensures breaking { (option : OneWrap W P) (at : Cells) (state : State) (outcome : Outcome) → ⟦<Wrap<W, P> as CellOption<VecRecords<T>, ColoredConfig>>⟧.step option at state outcome →
+        Measured (W.measures option.width) (λ width state outcome. changing (λ _. wrapping_wider option.keep_words width) at state ≡ outcome) state outcome }
+    ensures filling_hint { (option : OneMinWidth W P) → ⟦<MinWidth<W, P> as CellOption<VecRecords<T>, ColoredConfig>>⟧.hint option ≡ Some EveryCell }
+    ensures breaking_hint { (option : OneWrap W P) → ⟦<Wrap<W, P> as CellOption<VecRecords<T>, ColoredConfig>>⟧.hint option ≡ Some EveryCell }
+{}
+
+/// A table whose cells are justified: each text is filled and then cut at a width that the measurement
+/// gives, and no size is kept.
+pub fn justifying_is_its_step<T: FromText, W: Measurement<Width> + Drop>()
+    ensures step { (option : OneJustify W) (state : State) (outcome : Outcome) → ⟦<Justify<W> as TableOption<VecRecords<T>, ColoredConfig, CompleteDimension>>⟧.step option state outcome →
+        Measured (W.measures option.width) (λ width state outcome. changing (λ _. justifying width) EveryCell state ≡ outcome) state outcome }
+    ensures hint { (option : OneJustify W) → ⟦<Justify<W> as TableOption<VecRecords<T>, ColoredConfig, CompleteDimension>>⟧.hint option ≡ Some EveryCell }
+{}
+
+/// One change and then another, by hand: both, the first alone, the second alone, and none.
+pub fn worked_changes()
+    ensures both { one_then_other (λ _. Some (codes "ab")) (λ _. Some (codes "a")) (codes "b") ≡ Some (codes "a") }
+    ensures first { one_then_other (λ _. Some (codes "ab")) (λ _. None) (codes "b") ≡ Some (codes "ab") }
+    ensures second { one_then_other (λ _. None) (λ text. Some (text ++ codes "!")) (codes "b") ≡ Some (codes "b!") }
+    ensures none { one_then_other (λ _. None) (λ _. None) (codes "b") ≡ None }
+{}
+
+/// What the three measurements give as a width: each gives one.
+pub fn measurements_give_their_widths()
+    ensures max { (it : Greatest) (columns : ℕ) (rows : List (List (List ℕ))) (look : Look) (outcome : Result ℕ Refusal) →
+        ⟦<Max as Measurement<Width>>⟧.measures it columns rows look outcome → Ok (greatest_width columns rows) ≡ outcome }
+    ensures min { (it : LeastThatHolds) (columns : ℕ) (rows : List (List (List ℕ))) (look : Look) (outcome : Result ℕ Refusal) →
+        ⟦<Min as Measurement<Width>>⟧.measures it columns rows look outcome → Ok (greatest_least_width columns rows) ≡ outcome }
+    ensures percent { (it : Hundredths) (columns : ℕ) (rows : List (List (List ℕ))) (look : Look) (outcome : Result ℕ Refusal) →
+        ⟦<Percent as Measurement<Width>>⟧.measures it columns rows look outcome → percent_of_width it.0 columns rows look ≡ outcome }
+{}
+
+/// The least of a list, by hand; and a list of widths that is as long as the table, and one that is
+/// shorter.
+pub fn worked_lists()
+    ensures none { least [] ≡ 0 }
+    ensures first { least (2 ∷ 3 ∷ []) ≡ 2 }
+    ensures last { least (3 ∷ 5 ∷ 1 ∷ []) ≡ 1 }
+    ensures kept { (s : State) → with_width_list (3 ∷ 4 ∷ []) (record s { rows = letters; sizes = none_stored }) ≡ Ok (record s { rows = letters; sizes = record { widths = Some (3 ∷ 4 ∷ []); heights = None } }) }
+    ensures shorter { (s : State) → with_width_list (3 ∷ []) (record s { rows = letters }) ≡ Ok (record s { rows = letters }) }
+{}

@@ -1,0 +1,21 @@
+//! Options of a table's widths: each is one step of it.
+#![tactic(auto)]
+
+mod cells;
+mod columns;
+mod filling;
+mod justify;
+pub mod laws;
+mod lines;
+mod list;
+mod measures;
+mod min_width;
+mod room;
+mod width;
+mod wrap;
+
+pub use justify::Justify;
+pub use list::WidthList;
+pub use min_width::MinWidth;
+pub use width::Width;
+pub use wrap::Wrap;

@@ -1,0 +1,77 @@
+//! Lists of widths.
+ghost use Rattle.std.specs.Prelude.{◌≡◌, ℕ, IfOk, List, None, Option};
+ghost use Rattle.std.specs.Iterator.{Drains, IsFinite};
+ghost use Rattle.tabled_width.specs.Steps.{with_width_list};
+
+use grid_config::{ColoredConfig, Entity, Fault};
+use grid_records_rows::{FromText, VecRecords};
+use grid_records_traits::records::RecordColumns;
+use std::alloc::{AllocError, Global};
+use tabled_size_dimension::CompleteDimension;
+use tabled_steps::{KeptSizes, TableOption};
+
+/// A width for each column, in columns of the terminal. A list that is shorter than the table has no
+/// effect.
+#[derive(Debug, Drop)]
+pub struct WidthList {
+    list: Vec<usize>,
+}
+
+impl WidthList {
+    /// These widths. Takes no memory.
+    pub fn new(list: Vec<usize>) -> WidthList
+        ensures { result.list.items ≡ list.items }
+    {
+        WidthList { list }
+    }
+
+    /// The items in their order, on condition that they end. The only refusal is for memory.
+    pub fn from_iter<I: IntoIterator<Item = usize>>(
+        alloc: Global,
+        items: I,
+    ) -> Result<WidthList, AllocError>
+    where
+        I::IntoIter: Drop,
+        requires { (s : I.IntoIter) → I.into_iter_gives items s → I.IntoIter.can_next s × IsFinite (I.IntoIter.remaining s) }
+        ensures { IfOk result (λ list. (s : I.IntoIter) × I.into_iter_gives items s × Drains I.IntoIter.next_gives s list.list.items) }
+    {
+        let mut list = Vec::new(alloc);
+        for item in items {
+            list.push(item)?;
+        }
+        Ok(WidthList { list })
+    }
+}
+
+/// These widths. Takes no memory.
+impl From<Vec<usize>> for WidthList {
+    ghost from_gives = { λ list widths. widths.list.items ≡ list.items };
+
+    fn from(list: Vec<usize>) -> WidthList {
+        WidthList::new(list)
+    }
+}
+
+/// Keeps these widths, where there are as many as columns. Takes no memory.
+impl<T: FromText> TableOption<VecRecords<T>, ColoredConfig, CompleteDimension> for WidthList {
+    ghost step = { λ widths state outcome. with_width_list widths.list.items state ≡ outcome };
+
+    ghost hint = { λ _. None };
+
+    fn change(
+        self,
+        _alloc: Global,
+        records: &mut VecRecords<T>,
+        _cfg: &mut ColoredConfig,
+        dims: &mut CompleteDimension,
+    ) -> Result<(), Fault> {
+        if self.list.len() >= records.count_columns() {
+            dims.set_widths(self.list);
+        }
+        Ok(())
+    }
+
+    fn hint_change(&self) -> Option<Entity> {
+        None
+    }
+}

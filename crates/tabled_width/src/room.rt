@@ -1,0 +1,15 @@
+//! Texts that change in so many columns.
+ghost use Rattle.std.specs.Prelude.{◌≡◌, ℕ, IfOk, List, Option, string_bytes};
+ghost use Rattle.std.specs.Option.{option_map};
+
+use std::alloc::{AllocError, Global};
+
+/// What becomes of a text that has so many columns.
+pub(crate) trait RoomChange {
+    /// What a text becomes; nothing where it stays.
+    ghost fitted: { Self → ℕ → List ℕ → Option (List ℕ) };
+
+    /// What the text becomes in so many columns, and `None` where it stays. Refused for memory alone.
+    fn fit(&self, alloc: Global, text: &str, room: usize) -> Result<Option<String>, AllocError>
+        ensures { IfOk result (λ out. option_map string_bytes out ≡ fitted self.now room text.now) };
+}

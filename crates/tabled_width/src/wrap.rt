@@ -1,0 +1,122 @@
+//! Texts that are broken at a width.
+ghost use Rattle.std.specs.Prelude.{◌≡◌, IfOk, Some, false, string_bytes};
+ghost use Rattle.grid_config_values.specs.declared.entity.Entity.TheVariants.{Global as EveryCell};
+ghost use Rattle.tabled_size_wrap.specs.Bytes.{wrapped_text};
+ghost use Rattle.tabled_steps.specs.Changes.{changing};
+ghost use Rattle.tabled_width.specs.Breaking.{wrapping_wider};
+ghost use Rattle.tabled_width.specs.Steps.{Measured};
+
+use crate::cells::change_cells;
+use crate::room::RoomChange;
+use crate::width::Width;
+use grid_config::{ColoredConfig, Entity, Fault};
+use grid_records_measure::get_text_width;
+use grid_records_rows::{FromText, VecRecords};
+use std::alloc::{AllocError, Global};
+use tabled_size_priority::{Peaker, PriorityNone};
+use tabled_size_wrap::wrap_styled;
+use tabled_steps::{CellOption, Measurement};
+
+/// Breaks the texts of cells at a width, in columns of the terminal.
+#[derive(Clone, Debug, Drop)]
+pub struct Wrap<W = usize, P = PriorityNone> {
+    width: W,
+    keep_words: bool,
+    priority: P,
+}
+
+impl Wrap<(), ()> {
+    /// The text with its lines broken at the width: `wrap_styled`. The only refusal is for memory.
+    pub fn wrap(
+        alloc: Global,
+        text: &str,
+        width: usize,
+        keep_words: bool,
+    ) -> Result<String, AllocError>
+        ensures { IfOk result (λ out. string_bytes out ≡ wrapped_text width keep_words text.now) }
+    {
+        wrap_styled(alloc, text, width, keep_words)
+    }
+}
+
+impl<W> Wrap<W> {
+    /// At this width: words are broken, and columns are shrunk one after the other.
+    pub fn new(width: W) -> Wrap<W>
+        ensures { result ≡ record { width = width; keep_words = false; priority = 0 } }
+    {
+        Wrap {
+            width,
+            keep_words: false,
+            priority: PriorityNone::new(),
+        }
+    }
+}
+
+impl<W, P> Wrap<W, P> {
+    /// The same with words kept whole that fit, or not.
+    pub fn keep_words(self, on: bool) -> Wrap<W, P>
+        ensures { result ≡ record self { keep_words = on } }
+    {
+        Wrap {
+            width: self.width,
+            keep_words: on,
+            priority: self.priority,
+        }
+    }
+
+    /// The same with this priority of the columns of a table.
+    pub fn priority<PP: Peaker>(self, priority: PP) -> Wrap<W, PP>
+    where
+        P: Drop,
+        ensures { result ≡ record { width = self.width; keep_words = self.keep_words; priority = priority } }
+    {
+        Wrap {
+            width: self.width,
+            keep_words: self.keep_words,
+            priority,
+        }
+    }
+}
+
+/// Breaks each cell that measures more than the width. Refused as the measurement is, and for memory.
+impl<T: FromText, W: Measurement<Width>, P> CellOption<VecRecords<T>, ColoredConfig>
+    for Wrap<W, P> {
+    ghost step = { λ option at. Measured (W.measures option.width) (λ width state outcome. changing (λ _. wrapping_wider option.keep_words width) at state ≡ outcome) };
+
+    ghost hint = { λ _. Some EveryCell };
+
+    fn change(
+        &self,
+        alloc: Global,
+        records: &mut VecRecords<T>,
+        cfg: &mut ColoredConfig,
+        entity: Entity,
+    ) -> Result<(), Fault> {
+        let width = self.width.measure(alloc, records, cfg.spanned())?;
+        let change = WrappingWider {
+            keep_words: self.keep_words,
+        };
+        change_cells(alloc, records, entity, width, &change)
+    }
+
+    fn hint_change(&self) -> Option<Entity> {
+        Some(Entity::Global)
+    }
+}
+
+// Breaks a text that measures more than the width.
+#[derive(Drop)]
+struct WrappingWider {
+    keep_words: bool,
+}
+
+impl RoomChange for WrappingWider {
+    ghost fitted = { λ change. wrapping_wider change.keep_words };
+
+    fn fit(&self, alloc: Global, text: &str, room: usize) -> Result<Option<String>, AllocError> {
+        if get_text_width(text) <= room {
+            return Ok(None);
+        }
+        Ok(Some(wrap_styled(alloc, text, room, self.keep_words)?))
+    }
+}
