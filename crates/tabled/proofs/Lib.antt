@@ -3,3 +3,4 @@ pub mod Assembled
 pub mod Even
 pub mod Values
 pub mod Fitting
+pub mod Batches

@@ -1,3 +1,4 @@
 pub mod Tables
 pub mod Lending
 pub mod Printing
+pub mod Layout

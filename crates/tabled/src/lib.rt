@@ -1,11 +1,18 @@
 //! Tables: rows of texts under settings, changed step by step.
 #![tactic(auto)]
 
+mod building;
 mod cells;
+pub mod laws;
+mod layout;
 mod makers;
 mod table;
 
+pub use building::BuildTable;
+pub use layout::LayoutIterator;
 pub use table::Table;
-pub use tabled_options::{Alignment, Margin, Padding, PaddingExpand, Style, object};
+pub use tabled_options::object::{Columns, Rows, Segment};
+pub use tabled_options::{Alignment, Margin, Padding, PaddingExpand, Span, Style, object};
+pub use tabled_output::Counted;
 pub use tabled_steps::{CellOption, Max, Measurement, Min, Percent, TableOption};
 pub use tabled_text::{Builder, CellText, Tabled};

@@ -1,12 +1,15 @@
 //! Laws: which step each option is, and which sizes it clears.
-ghost use Rattle.std.specs.Prelude.{◌≡◌, ◌↔◌, Some, true};
+ghost use Rattle.std.specs.Prelude.{◌≡◌, Err, Some, true};
 ghost use Rattle.std.specs.declared.cmp.Ordering.TheVariants.{Equal};
 ghost use Rattle.grid_config_values.specs.declared.entity.Entity.{Entity as Cells};
 ghost use Rattle.grid_config_values.specs.declared.entity.Entity.TheVariants.{Global as EveryCell};
 ghost use Rattle.grid_config_values.specs.declared.sides.Indent.{Indent as OneIndent};
 ghost use Rattle.grid_config_values.specs.declared.sides.Sides.{Sides as FourSides};
 ghost use Rattle.tabled_options.specs.Options.{margin_sides, padding_sides, with_alignment};
+ghost use Rattle.tabled_options.specs.Spanning.{span_size, spanning};
 ghost use Rattle.tabled_options.specs.Styles.{style_borders};
+ghost use Rattle.grid_config_values.specs.declared.fault.Fault.TheVariants.{Spans as BadSpan};
+ghost use Rattle.tabled_options.specs.declared.span.Span.{Span as OneSpan};
 ghost use Rattle.tabled_options.specs.declared.alignment.Alignment.{Alignment as OneAlignment};
 ghost use Rattle.tabled_options.specs.declared.margin.Margin.{Margin as OneMargin};
 ghost use Rattle.tabled_options.specs.declared.padding.Padding.{Padding as OnePadding};
@@ -17,8 +20,10 @@ ghost use Rattle.tabled_steps.specs.States.{Outcome, State, looking};
 use crate::alignment::Alignment;
 use crate::margin::Margin;
 use crate::padding::Padding;
+use crate::span::Span;
 use crate::style::Style;
 use grid_config::{ColoredConfig, Indent, Sides};
+use grid_records_rows::{FromText, VecRecords};
 use grid_records_traits::records::RecordTexts;
 use tabled_steps::{CellOption, KeptSizes, TableOption};
 
@@ -40,6 +45,15 @@ pub fn cell_options_are_their_steps<R: RecordTexts>()
         looking (with_padding at (padding_sides padding)) state ≡ outcome }
     ensures alignment { (alignment : OneAlignment) (at : Cells) (state : State) (outcome : Outcome) → ⟦<Alignment as CellOption<R, ColoredConfig>>⟧.step alignment at state outcome →
         looking (with_alignment alignment at) state ≡ outcome }
+{}
+
+/// A span of cells is the step that sets how many columns, or rows, each cell of the table takes that the
+/// entity covers; it is refused for 0, and clears all sizes.
+pub fn spans_are_their_steps<T: FromText>()
+    ensures step { (span : OneSpan) (at : Cells) (state : State) (outcome : Outcome) → ⟦<Span as CellOption<VecRecords<T>, ColoredConfig>>⟧.step span at state outcome →
+        spanning span at state ≡ outcome }
+    ensures zero { (span : OneSpan) (at : Cells) (state : State) → span_size span ≡ 0 → spanning span at state ≡ Err BadSpan }
+    ensures hint { (span : OneSpan) → ⟦<Span as CellOption<VecRecords<T>, ColoredConfig>>⟧.hint span ≡ Some EveryCell }
 {}
 
 /// After each of these options no size is kept.

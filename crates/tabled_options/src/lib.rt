@@ -1,4 +1,5 @@
-//! Options that set what a table looks like: margin, padding, borders, alignment; and selections of cells.
+//! Options that set what a table looks like: margin, padding, borders, alignment, spans; and selections of
+//! cells.
 #![tactic(auto)]
 
 mod alignment;
@@ -7,9 +8,11 @@ pub mod laws;
 mod margin;
 pub mod object;
 mod padding;
+mod span;
 mod style;
 
 pub use alignment::Alignment;
 pub use margin::Margin;
 pub use padding::{Padding, PaddingExpand};
+pub use span::Span;
 pub use style::Style;

@@ -61,6 +61,29 @@ impl<R: RecordTexts, D: KeptSizes> TableOption<R, ColoredConfig, D> for SpannedC
     }
 }
 
+/// The same by a clone. Refused for memory alone.
+impl<'a, R: RecordTexts, D: KeptSizes> TableOption<R, ColoredConfig, D> for &'a SpannedConfig {
+    ghost step = { λ settings state outcome. looking (λ _. look_of settings.now) state ≡ outcome };
+
+    ghost hint = { λ _. Some EveryCell };
+
+    fn change(
+        self,
+        alloc: Global,
+        _records: &mut R,
+        cfg: &mut ColoredConfig,
+        _dims: &mut D,
+    ) -> Result<(), Fault> {
+        let config = self.clone(alloc)?;
+        let_go(mem::replace(cfg.spanned_mut(), config));
+        Ok(())
+    }
+
+    fn hint_change(&self) -> Option<Entity> {
+        Some(Entity::Global)
+    }
+}
+
 /// Replaces all settings and the colours of the cells. Takes no memory.
 impl<R: RecordTexts, D: KeptSizes> TableOption<R, ColoredConfig, D> for ColoredConfig {
     ghost step = { λ config state outcome. Ok (record state { look = look_of config.settings; colors = value_at config.colors }) ≡ outcome };

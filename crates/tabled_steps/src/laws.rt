@@ -1,4 +1,5 @@
 //! Laws of the definitions that the contracts cite.
+ghost use Rattle.std.specs.Borrow.{Bor};
 ghost use Rattle.std.specs.Prelude.{◌≡◌, ◌+◌, ◌-◌, ◌^◌, ℕ, List, Result, ◌==◌, ◌++◌, if◌then◌else◌, [], ◌∷◌, Err, None, Ok, Option, Some, codes};
 ghost use Rattle.grid_config_colors.specs.Colors.{Color};
 ghost use Rattle.grid_config_spans.specs.Spans.{single};
@@ -81,15 +82,18 @@ pub fn one_outcome_settles_to_one()
 {}
 
 /// Whole settings as an option replace the settings, and none but `ColoredConfig` the colours of cells.
-pub fn settings_are_their_steps<R: RecordTexts, D: KeptSizes>()
+pub fn settings_are_their_steps<'a, R: RecordTexts, D: KeptSizes>()
     ensures compact { (settings : CompactSettings) (s : State) (outcome : Outcome) → ⟦<CompactConfig as TableOption<R, ColoredConfig, D>>⟧.step settings s outcome →
         looking (λ _. compact_look (compact_of settings)) s ≡ outcome }
     ensures spanned { (settings : Settings) (s : State) (outcome : Outcome) → ⟦<SpannedConfig as TableOption<R, ColoredConfig, D>>⟧.step settings s outcome →
         looking (λ _. look_of settings) s ≡ outcome }
+    ensures lent { (settings : Bor Settings) (s : State) (outcome : Outcome) → ⟦<&'a SpannedConfig as TableOption<R, ColoredConfig, D>>⟧.step settings s outcome →
+        looking (λ _. look_of settings.now) s ≡ outcome }
     ensures colored { (settings : Coloring) (s : State) (outcome : Outcome) → ⟦<ColoredConfig as TableOption<R, ColoredConfig, D>>⟧.step settings s outcome →
         Ok (record s { look = look_of settings.settings; colors = value_at settings.colors }) ≡ outcome }
     ensures compact_hint { (settings : CompactSettings) → ⟦<CompactConfig as TableOption<R, ColoredConfig, D>>⟧.hint settings ≡ Some EveryCell }
     ensures spanned_hint { (settings : Settings) → ⟦<SpannedConfig as TableOption<R, ColoredConfig, D>>⟧.hint settings ≡ Some EveryCell }
+    ensures lent_hint { (settings : Bor Settings) → ⟦<&'a SpannedConfig as TableOption<R, ColoredConfig, D>>⟧.hint settings ≡ Some EveryCell }
     ensures colored_hint { (settings : Coloring) → ⟦<ColoredConfig as TableOption<R, ColoredConfig, D>>⟧.hint settings ≡ Some EveryCell }
 {}
 
