@@ -58,14 +58,11 @@ fn rows_table(alloc: Global, style: &CompactConfig, rows: Rows<'_>) -> Result<St
     ensures fits { OnOk result (InRange (frame_under (compact_of style.now) (texts_of_lines (rows_shown rows.entry)))) }
     ensures refused { IfErr result (λ fault. IsRefusal fault (¬ (InRange (frame_under (compact_of style.now) (texts_of_lines (rows_shown rows.entry)))))) }
 {
-    let sizes = match sizes_of(alloc, &rows, style) {
-        Ok(sizes) => sizes,
-        Err(fault) => return Err(fault),
-    };
+    let sizes = sizes_of(alloc, &rows, style)?;
     if sizes.lines == 0 {
         return Ok(String::new(alloc));
     }
-    Ok(printed(alloc, style, rows, sizes)?)
+    printed(alloc, style, rows, sizes)
 }
 
 // The table of these rows in sizes that fit it and have a line.

@@ -53,10 +53,8 @@ pub fn sizes_of(alloc: Global, rows: &Rows<'_>, style: &CompactConfig) -> Result
     ensures fits { OnOk result (InRange (frame_under (compact_of style.now) (texts_of_lines (rows_shown rows.now)))) }
     ensures refused { IfErr result (λ fault. IsRefusal fault (¬ (InRange (frame_under (compact_of style.now) (texts_of_lines (rows_shown rows.now)))))) }
 {
-    match CompactGridDimension::dimension(alloc, MeasuredRows::new(rows), style) {
-        Ok((widths, heights)) => totalled(widths, heights, style),
-        Err(fault) => Err(fault),
-    }
+    let (widths, heights) = CompactGridDimension::dimension(alloc, MeasuredRows::new(rows), style)?;
+    totalled(widths, heights, style)
 }
 
 /// The sizes with the lines that they take together. Refused as `Range` where the columns of a line or
@@ -88,15 +86,10 @@ fn lines_of(widths: &[usize], heights: &[usize], style: &CompactConfig) -> Resul
     let borders = style.get_borders();
     let margin = style.get_margin();
     let boundaries = borders.count_vertical(widths.len());
-    match total(widths, boundaries, margin.left.size, margin.right.size) {
-        Ok(_columns) => {}
-        Err(fault) => return Err(fault),
-    }
+    let _columns = total(widths, boundaries, margin.left.size, margin.right.size)?;
     let boundaries = borders.count_horizontal(heights.len());
-    match total(heights, boundaries, margin.top.size, margin.bottom.size) {
-        Ok(lines) => Ok(lines),
-        Err(fault) => Err(fault),
-    }
+    let lines = total(heights, boundaries, margin.top.size, margin.bottom.size)?;
+    Ok(lines)
 }
 
 /// The greatest of the numbers, and 0 where there is none.

@@ -110,3 +110,55 @@ impl Write for StepWriter {
         self.call()
     }
 }
+
+/// Keeps which calls came, and answers each in its own way: a read gives `!`, a write takes one byte less
+/// than it is given, and a flush fails at an even number.
+#[derive(Drop)]
+pub struct Recorder {
+    pub room: usize,
+    pub reads: usize,
+    pub written: Vec<u8>,
+    pub writes: usize,
+    pub flushes: usize,
+}
+
+impl Recorder {
+    /// To which no call came.
+    pub fn new(alloc: Global) -> Recorder {
+        Recorder {
+            room: 0,
+            reads: 0,
+            written: Vec::new(alloc),
+            writes: 0,
+            flushes: 0,
+        }
+    }
+}
+
+impl Read for Recorder {
+    fn read(&mut self, buf: &mut [u8]) -> io::Result<usize> {
+        self.reads = self.reads.wrapping_add(1);
+        self.room = buf.len();
+        if buf.is_empty() {
+            return Ok(0);
+        }
+        buf[0] = b'!';
+        Ok(1)
+    }
+}
+
+impl Write for Recorder {
+    fn write(&mut self, buf: &[u8]) -> io::Result<usize> {
+        self.writes = self.writes.wrapping_add(1);
+        self.written.extend_from_slice(buf)?;
+        Ok(buf.len().saturating_sub(1))
+    }
+
+    fn flush(&mut self) -> io::Result<()> {
+        self.flushes = self.flushes.wrapping_add(1);
+        if self.flushes % 2 == 0 {
+            return Err(io::Error::from(ErrorKind::Other));
+        }
+        Ok(())
+    }
+}

@@ -2,3 +2,4 @@ mod counted;
 mod fault;
 mod input;
 mod run;
+mod styles;

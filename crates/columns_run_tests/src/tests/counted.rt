@@ -1,4 +1,4 @@
-use crate::fakes::{ByteReader, StepWriter};
+use crate::fakes::{ByteReader, Recorder, StepWriter};
 use columns_run::Counted;
 use std::io::{ErrorKind, Read, Write};
 use std::process::Abort;
@@ -73,5 +73,26 @@ fn hands_a_flush_through(rt: HostRuntime) -> Result<(), Fail> {
     expect_counts(&rt, &writer, 1, 0);
     writer.flush()?;
     expect_counts(&rt, &writer, 1, 0);
+    Ok(())
+}
+
+// Each call comes to the inner stream once, with what it was given, and its answer comes back.
+#[test]
+fn hands_each_call_on_as_it_is(rt: HostRuntime) -> Result<(), Fail> {
+    let mut stream = Counted::new(Recorder::new(rt.alloc()));
+    let mut buf = [0u8; 7];
+    assert_eq!(rt; stream.read(&mut buf).ok(), Some(1));
+    assert_eq!(rt; buf[0], b'!');
+    assert_eq!(rt; stream.write(b"abc").ok(), Some(2));
+    assert_eq!(rt; stream.write(b"").ok(), Some(0));
+    assert_eq!(rt; stream.write(b"de").ok(), Some(1));
+    stream.flush()?;
+    assert!(rt; stream.flush().is_err());
+    stream.flush()?;
+    expect_counts(&rt, &stream, 1, 0);
+    let inner = stream.into_inner();
+    assert_eq!(rt; (inner.reads, inner.room), (1, 7));
+    assert_eq!(rt; (inner.writes, inner.flushes), (3, 3));
+    assert_eq!(rt; inner.written.as_slice(), b"abcde".as_slice());
     Ok(())
 }

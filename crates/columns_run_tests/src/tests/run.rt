@@ -15,6 +15,46 @@ const INPUT: &[u8] = b"a\tb\n1\t2\n";
 // The table of `INPUT`.
 const TABLE: &[u8] = b"+---+---+\n| a | b |\n+---+---+\n| 1 | 2 |\n+---+---+\n";
 
+// Inputs, and their tables worked out by hand.
+const TABLES: &[(&str, &str)] = &[
+    ("", ""),
+    (
+        "a\tb\n1\t2\n",
+        "+---+---+\n| a | b |\n+---+---+\n| 1 | 2 |\n+---+---+\n",
+    ),
+    (
+        "\u{1b}[31mab\tc\n",
+        "+----+---+\n| \u{1b}[31mab\u{1b}[39m | \u{1b}[31mc\u{1b}[39m |\n+----+---+\n",
+    ),
+    (
+        "\u{1b}[1ma\nb\u{1b}[0m\n",
+        "+---+\n| \u{1b}[1ma\u{1b}[22m |\n+---+\n| \u{1b}[1mb\u{1b}[0m |\n+---+\n",
+    ),
+    (
+        "a\tb\nc\n",
+        "+---+---+\n| a | b |\n+---+---+\n| c |   |\n+---+---+\n",
+    ),
+    ("\n", "+--+\n|  |\n+--+\n"),
+    ("\u{1b}[31m", ""),
+    (
+        "\u{1b}]0;a\tb\u{7}x\n",
+        "+---+\n| \u{1b}]0;a\tb\u{7}x |\n+---+\n",
+    ),
+    (
+        "\u{1b}[31ma\u{1b}[31mb\n",
+        "+----+\n| \u{1b}[31ma\u{1b}[31mb\u{1b}[39m |\n+----+\n",
+    ),
+];
+
+// Inputs that have no table, and why.
+const FAULTS: &[(&[u8], RunFault)] = &[
+    (b"\x1b", RunFault::Escape { at: 0 }),
+    (b"a\xff", RunFault::NotUtf8 { at: 1 }),
+    (b"\x1b\xff", RunFault::NotUtf8 { at: 1 }),
+    (b"\x1b[31m\x1b[1", RunFault::Escape { at: 5 }),
+    (b"\x1b]0;a", RunFault::Escape { at: 0 }),
+];
+
 // The contract of `run` tells its caller which bytes these are.
 fn table_bytes(alloc: Global, options: &Options, input: &[u8]) -> Result<Vec<u8>, RunFault>
     requires { IsPlain (compact_of options.now.style) }
@@ -25,6 +65,7 @@ fn table_bytes(alloc: Global, options: &Options, input: &[u8]) -> Result<Vec<u8>
     Ok(writer.into_inner())
 }
 
+// The table, whole and by pieces, to any reader and writer.
 fn expect_table(
     rt: &impl Abort,
     alloc: Global,
@@ -46,8 +87,31 @@ fn expect_table(
 
 #[test]
 fn writes_the_table(rt: HostRuntime) -> Result<(), RunFault> {
-    expect_table(&rt, rt.alloc(), b"", b"")?;
-    expect_table(&rt, rt.alloc(), INPUT, TABLE)
+    for (input, table) in TABLES {
+        expect_table(&rt, rt.alloc(), input.as_bytes(), table.as_bytes())?;
+    }
+    Ok(())
+}
+
+// The fault of an input, and that nothing is written before it.
+fn expect_input_fault(rt: &impl Abort, alloc: Global, input: &[u8], fault: RunFault) {
+    let mut writer = Counted::new(StepWriter::new(alloc, 1));
+    let result = run(
+        alloc,
+        &Options::new(),
+        &mut Counted::new(input),
+        &mut writer,
+    );
+    assert_eq!(rt; result, Err(fault), "{input:?}");
+    expect_counts(rt, &writer, 0, 0);
+    assert!(rt; writer.into_inner().taken.is_empty());
+}
+
+#[test]
+fn refuses_what_is_no_whole_text(rt: HostRuntime) {
+    for (input, fault) in FAULTS {
+        expect_input_fault(&rt, rt.alloc(), input, *fault);
+    }
 }
 
 fn expect_read_fault(rt: &impl Abort, alloc: Global, kind: ErrorKind) {

@@ -6,6 +6,7 @@ use Rattle.grid_config.specs.Looks.{compact_look}
 use Rattle.grid_records_estimate.specs.Collecting.{PassesMax}
 use Rattle.grid_records_estimate.specs.Sizes.{IsRefusal, table_heights, table_widths}
 use Rattle.grid_records_estimate.specs.Sizing.{compact_sizing}
+use Rattle.grid_records_estimate.proofs.MeetLemmas.{IfErr-told}
 use Rattle.grid_records_estimate.proofs.SizeLemmas.{IsRefusal-implies}
 use Rattle.papergrid_picture.specs.Fitting.{InRange}
 use Rattle.papergrid_picture.specs.Frame.{Frame, frame_of, line_count}
@@ -35,35 +36,36 @@ module _ (style : Compact) (texts : List (List (List ℕ))) (w h : List ℕ) (ew
   passing (inl high) = inl (subst PassesMax ew high)
   passing (inr high) = inr (subst PassesMax eh high)
 
-pub returns-in-Ok-clause-widths : goal.returns-in-Ok-clause-widths
-returns-in-Ok-clause-widths c =
-    IfOk-weaker c.totalled.result _ _ (λ sizes told. told.0 ∙ c.in-Ok.ensures.widths ∙ found_widths (goal.at.returns-in-Ok-clause-widths c).After-dimension) c.totalled.ensures.sizes
+pub returns-clause-widths : goal.returns-clause-widths
+returns-clause-widths c =
+    IfOk-weaker c.totalled.result _ _ (λ sizes told. told.0 ∙ c.in_ok-widths.ensures.widths ∙ found_widths (goal.at.returns-clause-widths c).After-dimension) c.totalled.ensures.sizes
 
-pub returns-in-Ok-clause-heights : goal.returns-in-Ok-clause-heights
-returns-in-Ok-clause-heights c =
-    IfOk-weaker c.totalled.result _ _ (λ sizes told. told.1 ∙ c.in-Ok.ensures.heights ∙ found_heights (goal.at.returns-in-Ok-clause-heights c).After-dimension) c.totalled.ensures.sizes
+pub returns-clause-heights : goal.returns-clause-heights
+returns-clause-heights c =
+    IfOk-weaker c.totalled.result _ _ (λ sizes told. told.1 ∙ c.in_ok-widths.ensures.heights ∙ found_heights (goal.at.returns-clause-heights c).After-dimension) c.totalled.ensures.sizes
 
-pub returns-in-Ok-clause-lines : goal.returns-in-Ok-clause-lines
-returns-in-Ok-clause-lines c =
-    let at = (goal.at.returns-in-Ok-clause-lines c).After-dimension in
-    moved (compact_of c.args.style.now) _ c.in-Ok.widths.items c.in-Ok.heights.items (c.in-Ok.ensures.widths ∙ found_widths at) (c.in-Ok.ensures.heights ∙ found_heights at)
+pub returns-clause-lines : goal.returns-clause-lines
+returns-clause-lines c =
+    let at = (goal.at.returns-clause-lines c).After-dimension in
+    moved (compact_of c.args.style.now) _ c.in_ok-widths.widths.items c.in_ok-widths.heights.items (c.in_ok-widths.ensures.widths ∙ found_widths at) (c.in_ok-widths.ensures.heights ∙ found_heights at)
     (λ frame. IfOk c.totalled.result (λ sizes. sizes.lines ≡ line_count frame)) c.totalled.ensures.lines
 
-pub returns-in-Ok-clause-fits : goal.returns-in-Ok-clause-fits
-returns-in-Ok-clause-fits c =
-    let at = (goal.at.returns-in-Ok-clause-fits c).After-dimension in
-    moved (compact_of c.args.style.now) _ c.in-Ok.widths.items c.in-Ok.heights.items (c.in-Ok.ensures.widths ∙ found_widths at) (c.in-Ok.ensures.heights ∙ found_heights at)
+pub returns-clause-fits : goal.returns-clause-fits
+returns-clause-fits c =
+    let at = (goal.at.returns-clause-fits c).After-dimension in
+    moved (compact_of c.args.style.now) _ c.in_ok-widths.widths.items c.in_ok-widths.heights.items (c.in_ok-widths.ensures.widths ∙ found_widths at) (c.in_ok-widths.ensures.heights ∙ found_heights at)
     (λ frame. OnOk c.totalled.result (InRange frame)) c.totalled.ensures.fits
 
-pub returns-in-Ok-clause-refused : goal.returns-in-Ok-clause-refused
-returns-in-Ok-clause-refused c =
-    let at = (goal.at.returns-in-Ok-clause-refused c).After-dimension in
-    moved (compact_of c.args.style.now) _ c.in-Ok.widths.items c.in-Ok.heights.items (c.in-Ok.ensures.widths ∙ found_widths at) (c.in-Ok.ensures.heights ∙ found_heights at)
+pub returns-clause-refused : goal.returns-clause-refused
+returns-clause-refused c =
+    let at = (goal.at.returns-clause-refused c).After-dimension in
+    moved (compact_of c.args.style.now) _ c.in_ok-widths.widths.items c.in_ok-widths.heights.items (c.in_ok-widths.ensures.widths ∙ found_widths at) (c.in_ok-widths.ensures.heights ∙ found_heights at)
     (λ frame. IfErr c.totalled.result (λ fault. IsRefusal fault (¬ (InRange frame)))) (IfErr-weaker c.totalled.result _ _ (λ fault known. inr known) c.totalled.ensures.refused)
 
-pub returns-in-Err-clause-refused : goal.returns-in-Err-clause-refused
-returns-in-Err-clause-refused c =
-    let at = (goal.at.returns-in-Err-clause-refused c).After-dimension in
-    IsRefusal-implies c.in-Err.fault _ _
+pub returns-in_err-widths-clause-refused : goal.returns-in_err-widths-clause-refused
+returns-in_err-widths-clause-refused c =
+    let at = (goal.at.returns-in_err-widths-clause-refused c).After-dimension in
+    IfErr-told c.from_residual.result c.in_err-widths.field-0.0 _ c.from_residual.ensures.1
+    (IsRefusal-implies c.in_err-widths.field-0.0 _ _
     (λ high. one-too_great (compact_of c.args.style.now) _ (passing (compact_of c.args.style.now) _ _ _ (found_widths at) (found_heights at) high))
-    c.in-Err.ensures.refused
+    c.in_err-widths.ensures.refused)

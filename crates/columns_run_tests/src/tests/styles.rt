@@ -1,0 +1,267 @@
+//! Tables in other styles than the default one, worked out by hand.
+use super::counted::expect_counts;
+use crate::fakes::StepWriter;
+use columns_run::{Counted, Options, RunFault, run, style_is_plain};
+use grid_config::{AlignmentHorizontal, Borders, CompactConfig, Indent, Sides};
+use std::alloc::Global;
+use std::process::Abort;
+
+const NONE: Indent = Indent { size: 0, fill: ' ' };
+
+const SPACE: Indent = Indent { size: 1, fill: ' ' };
+
+const NO_SIDES: Sides<Indent> = Sides {
+    left: NONE,
+    right: NONE,
+    top: NONE,
+    bottom: NONE,
+};
+
+// A space at the left and the right.
+const SPACES: Sides<Indent> = Sides {
+    left: SPACE,
+    right: SPACE,
+    top: NONE,
+    bottom: NONE,
+};
+
+// More than any table may have at one side.
+const ENDLESS: Indent = Indent {
+    size: usize::MAX,
+    fill: ' ',
+};
+
+const NO_BORDERS: Borders<char> = Borders {
+    top: None,
+    top_left: None,
+    top_right: None,
+    top_intersection: None,
+    bottom: None,
+    bottom_left: None,
+    bottom_right: None,
+    bottom_intersection: None,
+    horizontal: None,
+    left_intersection: None,
+    right_intersection: None,
+    intersection: None,
+    vertical: None,
+    left: None,
+    right: None,
+};
+
+const ASCII: Borders<char> = Borders {
+    top: Some('-'),
+    top_left: Some('+'),
+    top_right: Some('+'),
+    top_intersection: Some('+'),
+    bottom: Some('-'),
+    bottom_left: Some('+'),
+    bottom_right: Some('+'),
+    bottom_intersection: Some('+'),
+    horizontal: Some('-'),
+    left_intersection: Some('+'),
+    right_intersection: Some('+'),
+    intersection: Some('+'),
+    vertical: Some('|'),
+    left: Some('|'),
+    right: Some('|'),
+};
+
+// A style, an input, and its table.
+struct Case {
+    borders: Borders<char>,
+    padding: Sides<Indent>,
+    margin: Sides<Indent>,
+    alignment: AlignmentHorizontal,
+    input: &'static str,
+    table: &'static str,
+}
+
+const CASES: &[Case] = &[
+    // Margins at all sides; those above and below are as wide as the whole.
+    Case {
+        borders: ASCII,
+        padding: SPACES,
+        margin: Sides {
+            left: Indent { size: 1, fill: '<' },
+            right: Indent { size: 2, fill: '>' },
+            top: Indent { size: 1, fill: '^' },
+            bottom: Indent { size: 2, fill: '_' },
+        },
+        alignment: AlignmentHorizontal::Left,
+        input: "a\n",
+        table: "^^^^^^^^\n<+---+>>\n<| a |>>\n<+---+>>\n________\n________\n",
+    },
+    // A boundary of which no glyph is set is none.
+    Case {
+        borders: Borders {
+            vertical: Some('|'),
+            ..NO_BORDERS
+        },
+        padding: SPACES,
+        margin: NO_SIDES,
+        alignment: AlignmentHorizontal::Left,
+        input: "a\tb\nc\n",
+        table: " a | b \n c |   \n",
+    },
+    // A glyph that is not set is a space, where another one of its boundary is.
+    Case {
+        borders: Borders {
+            top: Some('-'),
+            top_left: Some('+'),
+            vertical: Some('|'),
+            ..NO_BORDERS
+        },
+        padding: SPACES,
+        margin: NO_SIDES,
+        alignment: AlignmentHorizontal::Left,
+        input: "a\tb\n",
+        table: "+--- ---\n  a | b \n",
+    },
+    // Nothing stands round the texts.
+    Case {
+        borders: NO_BORDERS,
+        padding: NO_SIDES,
+        margin: NO_SIDES,
+        alignment: AlignmentHorizontal::Left,
+        input: "a\n\nb",
+        table: "a\n \nb\n",
+    },
+    // Padding above and below takes lines of its own, also in a row without texts.
+    Case {
+        borders: ASCII,
+        padding: Sides {
+            left: NONE,
+            right: NONE,
+            top: Indent { size: 1, fill: '^' },
+            bottom: Indent { size: 2, fill: '_' },
+        },
+        margin: NO_SIDES,
+        alignment: AlignmentHorizontal::Left,
+        input: "ab\tc\n\n",
+        table: "+--+-+\n|^^|^|\n|ab|c|\n|__|_|\n|__|_|\n+--+-+\n|^^|^|\n|  | |\n|__|_|\n|__|_|\n+--+-+\n",
+    },
+    Case {
+        borders: ASCII,
+        padding: SPACES,
+        margin: NO_SIDES,
+        alignment: AlignmentHorizontal::Right,
+        input: "a\nabcd\n",
+        table: "+------+\n|    a |\n+------+\n| abcd |\n+------+\n",
+    },
+    // The smaller half of what is free stands before the text.
+    Case {
+        borders: ASCII,
+        padding: SPACES,
+        margin: NO_SIDES,
+        alignment: AlignmentHorizontal::Center,
+        input: "a\nabcd\n",
+        table: "+------+\n|  a   |\n+------+\n| abcd |\n+------+\n",
+    },
+    // A text keeps its own sequences, and what stands round it has none.
+    Case {
+        borders: ASCII,
+        padding: Sides {
+            left: Indent { size: 1, fill: '<' },
+            right: Indent { size: 1, fill: '>' },
+            top: NONE,
+            bottom: NONE,
+        },
+        margin: NO_SIDES,
+        alignment: AlignmentHorizontal::Right,
+        input: "\u{1b}[31ma\nbc\n",
+        table: "+----+\n|< \u{1b}[31ma\u{1b}[39m>|\n+----+\n|<\u{1b}[31mbc\u{1b}[39m>|\n+----+\n",
+    },
+];
+
+// Paddings and margins of which one passes the greatest width or height.
+const TOO_GREAT: &[(Sides<Indent>, Sides<Indent>)] = &[
+    (
+        Sides {
+            left: ENDLESS,
+            ..NO_SIDES
+        },
+        NO_SIDES,
+    ),
+    (
+        Sides {
+            bottom: ENDLESS,
+            ..NO_SIDES
+        },
+        NO_SIDES,
+    ),
+    (
+        NO_SIDES,
+        Sides {
+            right: ENDLESS,
+            ..NO_SIDES
+        },
+    ),
+    (
+        NO_SIDES,
+        Sides {
+            top: ENDLESS,
+            ..NO_SIDES
+        },
+    ),
+];
+
+fn style(borders: Borders<char>, padding: Sides<Indent>, margin: Sides<Indent>) -> CompactConfig {
+    CompactConfig::new()
+        .set_borders(borders)
+        .set_padding(padding)
+        .set_margin(margin)
+}
+
+// The answer for an input in a plain style, and the writer then.
+fn answer(
+    rt: &impl Abort,
+    alloc: Global,
+    style: CompactConfig,
+    input: &str,
+) -> (Result<(), RunFault>, Counted<StepWriter>) {
+    assert!(rt; style_is_plain(&style));
+    let mut writer = Counted::new(StepWriter::new(alloc, 3));
+    let mut reader = Counted::new(input.as_bytes());
+    let result = run(alloc, &Options { style }, &mut reader, &mut writer);
+    (result, writer)
+}
+
+fn expect_case(rt: &impl Abort, alloc: Global, case: &Case) {
+    let style = style(case.borders, case.padding, case.margin).set_alignment_horizontal(
+        case.alignment,
+    );
+    let (result, writer) = answer(rt, alloc, style, case.input);
+    assert_eq!(rt; result, Ok(()), "{}", case.input);
+    assert_eq!(rt; writer.into_inner().taken.as_slice(), case.table.as_bytes());
+}
+
+#[test]
+fn draws_in_the_style_that_is_asked_for(rt: HostRuntime) {
+    for case in CASES {
+        expect_case(&rt, rt.alloc(), case);
+    }
+}
+
+// A table past the greatest width or height is refused by that name, and not for want of memory.
+fn expect_range(rt: &impl Abort, alloc: Global, style: CompactConfig) {
+    let (result, writer) = answer(rt, alloc, style, "a\n");
+    assert_eq!(rt; result, Err(RunFault::Range));
+    expect_counts(rt, &writer, 0, 0);
+    assert!(rt; writer.into_inner().taken.is_empty());
+}
+
+#[test]
+fn refuses_a_table_that_is_too_great(rt: HostRuntime) {
+    for (padding, margin) in TOO_GREAT {
+        expect_range(&rt, rt.alloc(), style(ASCII, *padding, *margin));
+    }
+}
+
+#[test]
+fn without_rows_no_style_is_too_great(rt: HostRuntime) {
+    for (padding, margin) in TOO_GREAT {
+        let (result, _writer) = answer(&rt, rt.alloc(), style(ASCII, *padding, *margin), "");
+        assert_eq!(rt; result, Ok(()));
+    }
+}
