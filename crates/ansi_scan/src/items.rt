@@ -34,7 +34,7 @@ pub struct Item {
     pub kind: Kind,
     /// The byte at which the item begins.
     pub start: usize,
-    /// The byte behind the item.
+    /// The byte after the item.
     pub end: usize,
 }
 

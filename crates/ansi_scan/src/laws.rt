@@ -39,7 +39,7 @@ pub fn read_at_places()
         ArePiecesOf text ps → map (piece_at text) (placed 0 ps) ≡ ps }
 {}
 
-/// The pieces of a whole text and of any text behind it are the pieces of both together, where
+/// The pieces of a whole text and of any text after it are the pieces of both together, where
 /// neighbouring Text pieces are made one. So two whole texts make a whole text.
 pub fn whole_texts_join()
     ensures joins { (text other : List ℕ) (ps qs : List Piece) →

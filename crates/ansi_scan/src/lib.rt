@@ -16,7 +16,7 @@ pub use ansi_scan_style::{AnsiColor, AnsiSequenceEnd, AnsiSequenceStart, Color, 
 pub use items::{Item, Kind, Scan};
 
 /// The items of a text in order, each with the bytes at which it begins and ends.
-/// Together they cover the text, and a text can be cut at each place. Takes no memory.
+/// Together they cover the text, and a text can be cut at each place. Does not allocate.
 /// The forms are those of ECMA-48 where a code has seven bits.
 pub fn scan(text: &str) -> Scan<'_>
     ensures items { AreItemsOf text.now (items_left result) }
@@ -26,7 +26,7 @@ pub fn scan(text: &str) -> Scan<'_>
     Scan::new(text.as_bytes())
 }
 
-/// Whether no item of the text is `Kind::Broken`. Takes no memory.
+/// Whether no item of the text is `Kind::Broken`. Does not allocate.
 pub fn is_whole(text: &str) -> bool
     ensures { IsTrue result ↔ IsWhole text.now }
 {
@@ -34,7 +34,7 @@ pub fn is_whole(text: &str) -> bool
 }
 
 /// The byte at which the first `Kind::Broken` item of the text begins, or `None` where the text is
-/// whole. Takes no memory.
+/// whole. Does not allocate.
 pub fn first_broken(text: &str) -> Option<usize>
     ensures broken { IfSome result (IsFirstBroken text.now) }
     ensures whole { IsNone result ↔ IsWhole text.now }

@@ -1,8 +1,8 @@
 //! What stands at the front of a text, byte by byte.
 //!
-//! A look is a read of one byte. Of a text item each byte is looked at once, and the ESC behind it
+//! A look is a read of one byte. Of a text item each byte is looked at once, and the ESC after it
 //! once more; of a sequence each byte is looked at once. An ESC by which no sequence begins has been
-//! tried: that looks at the bytes behind it up to the next ESC, at that ESC and at the byte behind
+//! tried: that looks at the bytes after it up to the next ESC, at that ESC and at the byte after
 //! it, at each once at most. So there are at most three looks at each byte of a text.
 
 ghost use Rattle.std.specs.Prelude.{◌≡◌, ◌≤◌, ◌<◌, ◌+◌, IfSome, length, true};
@@ -57,7 +57,7 @@ fn sequence(bytes: &[u8]) -> Option<(Kind, usize)>
     ensures in_range { IfSome result (λ found. found.1 ≤ length bytes.now) }
     ensures some { IfSome result (λ found. 0 < found.1) }
 {
-    // `text_len` has looked at the ESC; this is the look at the byte behind it
+    // `text_len` has looked at the ESC; this is the look at the byte after it
     let [_, opener, rest @ ..] = bytes else {
         return None;
     };
@@ -74,7 +74,7 @@ fn sequence(bytes: &[u8]) -> Option<(Kind, usize)>
     }
 }
 
-/// The kind and the length of a control sequence behind ESC and `[` (ECMA-48, 5.4).
+/// The kind and the length of a control sequence after ESC and `[` (ECMA-48, 5.4).
 #[tactic(auto, unfolding(crate::specs::Pieces::control_from))]
 fn control_sequence(bytes: &[u8]) -> Option<(Kind, usize)>
     ensures value { result ≡ control_from 0 true true bytes.now }
@@ -109,7 +109,7 @@ fn string_len(bytes: &[u8], bell_ends: bool) -> Option<usize>
         // the look at each byte up to the first that is not of the string
         match *byte {
             BEL if bell_ends => return Some(i + 1),
-            // and at the byte behind an ESC
+            // and at the byte after an ESC
             ESC if bytes.get(i + 1) == Some(&b'\\') => return Some(i + 2),
             ESC | CAN | SUB => return None,
             _ => {}

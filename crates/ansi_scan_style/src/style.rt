@@ -137,7 +137,7 @@ impl Style {
     }
 
     /// What writes the start of this style: a sequence for each attribute that is set, in ascending
-    /// order of their codes. At most 163 bytes; takes no memory.
+    /// order of their codes. At most 163 bytes; does not allocate.
     pub fn start(&self) -> AnsiSequenceStart
         ensures style { result ≡ self.now }
         ensures rendition { IsRendition self.now }
@@ -146,7 +146,7 @@ impl Style {
     }
 
     /// What writes the end of this style: a sequence for each code that clears what is set, ascending
-    /// and each once. At most 80 bytes; takes no memory.
+    /// and each once. At most 80 bytes; does not allocate.
     pub fn end(&self) -> AnsiSequenceEnd
         ensures { result ≡ self.now }
     {

@@ -10,9 +10,9 @@ use std::alloc::{AllocError, Global};
 use std::borrow::CowStr;
 
 /// The parts of a text between places of the text without its sequences, one more than there are
-/// places, of which `are_places` is true. A part has the sequences that stand behind its first place, up
+/// places, of which `are_places` is true. A part has the sequences that stand after its first place, up
 /// to its last place: the first part those at its first place too. It begins with the start of the style
-/// known behind the parts before it, and ends with the end of the style then open. The only refusal is
+/// known after the parts before it, and ends with the end of the style then open. The only refusal is
 /// for memory.
 pub fn split_places<'a>(
     alloc: Global,
@@ -38,7 +38,7 @@ pub fn split_places<'a>(
 }
 
 /// Whether a text can be split at these places: each is a character boundary of the text without its
-/// sequences, and behind the one before it. Takes no memory.
+/// sequences, and after the one before it. Does not allocate.
 pub fn are_places(text: &str, places: &[usize]) -> bool
     ensures { (pieces : List Piece) → ArePiecesOf text.now pieces → (IsTrue result ↔ AreBreaks (strip pieces) places.now) }
 {

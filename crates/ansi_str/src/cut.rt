@@ -97,7 +97,7 @@ fn sequences_before(alloc: Global, text: &str, n: usize) -> Result<String, Alloc
 
 /// Whether a range has good bounds in the text without its sequences, as `ansi_cut` asks for: its end is
 /// not below its start, and each that is below the length is a character boundary. Of a range that has
-/// no end it tells what `ansi_split_at` asks for of its start. Takes no memory.
+/// no end it tells what `ansi_split_at` asks for of its start. Does not allocate.
 pub fn is_good_range<R: AnsiRange>(text: &str, range: &R) -> bool
     ensures { (pieces : List Piece) → ArePiecesOf text.now pieces →
         (IsTrue result ↔ AreGoodBounds (strip pieces) (R.start range.now) (R.end range.now)) }

@@ -13,7 +13,7 @@ use std::alloc::{AllocError, Global};
 use std::borrow::CowStr;
 
 /// What the edits leave of a text, each of what the one before it left; none exactly where one of them
-/// fails at its turn. The only refusal is for memory.
+/// fails at its turn. It fails only where allocation fails.
 pub fn edit(alloc: Global, text: &str, edits: &[Edit<'_>]) -> Result<Option<String>, AllocError>
     ensures left { IfOk result (λ found. IfSome found (λ left. TakeInTurn edits.now text.now (string_bytes left))) }
     ensures none { IfOk result (λ found. IsNone found ↔ OneFails edits.now text.now) }
@@ -60,7 +60,7 @@ fn left_side(alloc: Global, text: &str, mid: usize) -> Result<Option<CowStr<'_>>
     Ok(Some(left))
 }
 
-// The part behind a place.
+// The part after a place.
 fn right_side(alloc: Global, text: &str, mid: usize) -> Result<Option<CowStr<'_>>, AllocError>
     ensures { IfOk result (λ found. MatchOption found (FailsOf (Edit.Right mid) (pieces text.now))
         (λ left. LeavesOf (Edit.Right mid) (pieces text.now) (cow_str_bytes left))) }

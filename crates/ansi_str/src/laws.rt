@@ -76,7 +76,7 @@ pub fn cuts_are_slices()
 {}
 
 /// The parts of a split at places are slices of the text: the first one from its front, and a later one
-/// from behind the sequences that stand at the place before it, which begins with the start of the style
+/// from after the sequences that stand at the place before it, which begins with the start of the style
 /// known there.
 pub fn breaks_are_slices()
     ensures first { (b : ℕ) (pieces : List Piece) →
@@ -124,7 +124,7 @@ pub fn breaks_show_their_slices()
         (length (chars (take a (strip pieces)))) (length (chars (take b (strip pieces)))) }
 {}
 
-/// The two sides of a whole text that is split at a place, one behind the other, show what the text
+/// The two sides of a whole text that is split at a place, one after the other, show what the text
 /// shows, each character in its style.
 pub fn sides_show_the_text()
     ensures { (text : List ℕ) (pieces first second : List Piece) (mid : ℕ) → IsUtf8 text → ArePiecesOf text pieces →
@@ -152,7 +152,7 @@ pub fn cuts_show_their_slices()
         (length (chars (take a (strip pieces)))) (length (chars (take b (strip pieces)))) }
 {}
 
-/// The edits of a list that stands behind another are done behind them; what edits leave of a text is one
+/// The edits of a list that stands after another are done after them; what edits leave of a text is one
 /// text, and where they leave one none of them fails. Of a whole text they leave a whole text.
 pub fn edits_in_turn()
     ensures leave { (first second : List OneEdit) (text left : List ℕ) →

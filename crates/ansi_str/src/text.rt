@@ -25,9 +25,9 @@ pub trait AnsiStr {
 
     /// The parts of the text between the matches of a pattern, which are those of `str::split` in the
     /// text without its sequences, also where the pattern is empty. Each part has the sequences that
-    /// stand from its first to its last place, both included, in their order. A part behind a match
+    /// stand from its first to its last place, both included, in their order. A part after a match
     /// begins with the start of the style after the sequences before it, and each part ends with the
-    /// end of the style then open. A text without ESC is answered by borrows, without memory; else the
+    /// end of the style then open. A text without ESC is returned as borrows, without allocating; else the
     /// only refusal is for memory, and no part comes after it. Places are bytes of the stripped text.
     fn ansi_split<'a>(&'a self, alloc: Global, pattern: &'a str) -> AnsiSplit<'a>
         ensures parts { (pieces : List Piece) (matches : List ℕ) → ArePiecesOf (text self.now) pieces →
@@ -38,8 +38,8 @@ pub trait AnsiStr {
 
     /// What `ansi_cut` answers where the bounds are good, else none. Bounds are places in the text without
     /// its sequences: an end is not below the start, and each that is below the length is a character
-    /// boundary. A text without ESC is answered by a borrow. Neither that nor bounds that are not good take
-    /// memory; else the only refusal is for memory.
+    /// boundary. A text without ESC is returned as a borrow. Neither that nor bounds that are not good take
+    /// memory; else it fails only where allocation fails.
     fn ansi_get<R: AnsiRange>(
         &self,
         alloc: Global,
@@ -56,7 +56,7 @@ pub trait AnsiStr {
 
     /// The text between good bounds, as `is_good_range` tells them, with all sequences that stand at or
     /// before its end, and the end of the style then open. A bound past the end counts as the end. A text
-    /// without ESC is answered by a borrow, without memory; else the only refusal is for memory.
+    /// without ESC is returned as a borrow, without allocating; else it fails only where allocation fails.
     fn ansi_cut<R: AnsiRange>(&self, alloc: Global, range: R) -> Result<CowStr<'_>, AllocError>
         requires { (pieces : List Piece) → ArePiecesOf (text self.now) pieces →
             AreGoodBounds (strip pieces) (R.start range) (R.end range) }
@@ -67,7 +67,7 @@ pub trait AnsiStr {
 
     /// The two parts of `split_places` at one place, which is a character boundary of the text without its
     /// sequences, or past its end and counts as the end (`is_good_range` tells it of `mid..`). A text
-    /// without ESC is answered by borrows, without memory; else the only refusal is for memory.
+    /// without ESC is returned as borrows, without allocating; else it fails only where allocation fails.
     fn ansi_split_at(
         &self,
         alloc: Global,
@@ -81,32 +81,32 @@ pub trait AnsiStr {
             (¬ (IsOwnedStr parts.0)) × (¬ (IsOwnedStr parts.1))) };
 
     /// The text without its sequences: its items of text, joined. A text without ESC is answered by a
-    /// borrow, without memory; else the only refusal is for memory.
+    /// borrow, without allocating; else it fails only where allocation fails.
     fn ansi_strip(&self, alloc: Global) -> Result<CowStr<'_>, AllocError>
         ensures strips { IfOk result (λ out. (pieces : List Piece) → ArePiecesOf (text self.now) pieces → cow_str_bytes out ≡ strip pieces) }
         ensures answers { has_escape (text self.now) ≡ false → IsOk result }
         ensures borrows { IfOk result (λ out. IsOwnedStr out → IsTrue (has_escape (text self.now))) };
 
     /// Whether a character of the text without its sequences begins at this byte, or that text ends
-    /// there. Takes no memory.
+    /// there. Does not allocate.
     fn ansi_is_char_boundary(&self, index: usize) -> bool
         ensures { (pieces : List Piece) → ArePiecesOf (text self.now) pieces → (IsTrue result ↔ IsCharBoundary (strip pieces) index) };
 
-    /// Whether the text without its sequences begins with the pattern. Takes no memory.
+    /// Whether the text without its sequences begins with the pattern. Does not allocate.
     fn ansi_starts_with(&self, pattern: &str) -> bool
         ensures { (pieces : List Piece) → ArePiecesOf (text self.now) pieces → (IsTrue result ↔ BeginsWith pattern.now (strip pieces)) };
 
-    /// Whether the text without its sequences ends with the pattern. Takes no memory.
+    /// Whether the text without its sequences ends with the pattern. Does not allocate.
     fn ansi_ends_with(&self, pattern: &str) -> bool
         ensures { (pieces : List Piece) → ArePiecesOf (text self.now) pieces → (IsTrue result ↔ EndsWith pattern.now (strip pieces)) };
 
-    /// The first byte of the text without its sequences at which the pattern stands. Takes no memory.
+    /// The first byte of the text without its sequences at which the pattern stands. Does not allocate.
     fn ansi_find(&self, pattern: &str) -> Option<usize>
         ensures { (pieces : List Piece) → ArePiecesOf (text self.now) pieces → IsFound pattern.now (strip pieces) result };
 
     /// The text without the prefix, where it begins with that once its sequences are left out, else none.
-    /// Every sequence is kept, and none is added. A text without ESC is answered by a borrow. Neither that
-    /// nor a text without the prefix takes memory; else the only refusal is for memory.
+    /// Every sequence is kept, and none is added. A text without ESC is returned as a borrow. Neither that
+    /// nor a text without the prefix allocates; else it fails only where allocation fails.
     fn ansi_strip_prefix(
         &self,
         alloc: Global,
@@ -135,18 +135,18 @@ pub trait AnsiStr {
             EndsWith suffix.now (strip pieces)) };
 
     /// The text without the white space that `str::trim` takes from it once its sequences are left out.
-    /// Every sequence is kept, and none is added. A text without ESC is answered by a borrow, without
-    /// memory; else the only refusal is for memory.
+    /// Every sequence is kept, and none is added. A text without ESC is returned as a borrow, without
+    /// memory; else it fails only where allocation fails.
     fn ansi_trim(&self, alloc: Global) -> Result<CowStr<'_>, AllocError>
         ensures trims { IfOk result (λ left. (pieces : List Piece) → ArePiecesOf (text self.now) pieces → IsTrimmed pieces (cow_str_bytes left)) }
         ensures answers { has_escape (text self.now) ≡ false → IsOk result }
         ensures borrows { IfOk result (λ left. IsOwnedStr left → IsTrue (has_escape (text self.now))) };
 
-    /// Whether the text holds an ESC. Takes no memory.
+    /// Whether the text holds an ESC. Does not allocate.
     fn ansi_has_any(&self) -> bool
         ensures { result ≡ has_escape (text self.now) };
 
-    /// Whether each ESC of the text begins a whole sequence. Takes no memory.
+    /// Whether each ESC of the text begins a whole sequence. Does not allocate.
     fn ansi_is_whole(&self) -> bool
         ensures { IsTrue result ↔ IsWhole (text self.now) };
 }

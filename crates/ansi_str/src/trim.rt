@@ -77,7 +77,7 @@ fn trimmed_bounds(text: &str) -> (usize, usize)
     (from, from + left.trim_end().len())
 }
 
-// The text from one byte of what it shows to another, with every sequence. A text that takes memory
+// The text from one byte of what it shows to another, with every sequence. A text that allocates
 // gets this much.
 fn keep<'a>(
     alloc: Global,
@@ -129,7 +129,7 @@ fn kept_text(
     Ok(out)
 }
 
-// The text from one byte to another, where those behind the end are the end.
+// The text from one byte to another, where those after the end are the end.
 fn within(text: &str, from: usize, to: usize) -> &str
     requires from { from < length text.now → IsCharBoundary text.now from }
     requires to { to < length text.now → IsCharBoundary text.now to }

@@ -48,7 +48,7 @@ pub fn nothing_to_strip()
         styled_parts pieces (split_bounds pattern text matches) ≡ text_parts text (split_bounds pattern text matches) }
 {}
 
-/// A text is cut at a place into two: joined they are the text, what is behind the place are pieces
+/// A text is cut at a place into two: joined they are the text, what is after the place are pieces
 /// of a text, and it shows what the text shows from there on.
 pub fn cut_at_places()
     ensures joined { (n : ℕ) (pieces : List Piece) →
@@ -59,7 +59,7 @@ pub fn cut_at_places()
         strip (from_place n pieces) ≡ drop n (strip pieces) }
 {}
 
-/// The parts of a text lie within it: no part ends before it begins, or behind the end of the text.
+/// The parts of a text lie within it: no part ends before it begins, or after the end of the text.
 pub fn parts_in_order()
     ensures { (pattern text matches : List ℕ) → AreMatches pattern text matches →
         All (λ bound. (bound.0 ≤ bound.1) × (bound.1 ≤ length text)) (split_bounds pattern text matches) }

@@ -36,7 +36,7 @@ pub(crate) fn first_character(text: &str) -> Option<usize>
     Some(text.ceil_char_boundary(1))
 }
 
-/// The text behind the sequences that stand first.
+/// The text after the sequences that stand first.
 pub(crate) fn behind_sequences(text: &str) -> &str
     ensures shown { strip (pieces result.now) ≡ strip (pieces text.now) }
     ensures behind { begins_with_escape result.now ≡ false }

@@ -1,4 +1,4 @@
-//! Places in a text: what stands behind them, and the style known there.
+//! Places in a text: what stands after them, and the style known there.
 ghost use Rattle.std.specs.Prelude.{slice_index, drop, ◌≡◌, ◌≤◌, ◌<◌, ◌-◌, false, ℕ, List, [], ◌∷◌, ◌++◌, take, length, MatchOption, IfOk, IsOk};
 ghost use Rattle.std.specs.Cow.{IsOwnedStr, cow_str_bytes};
 ghost use Rattle.std.specs.List.{prefix_len};
@@ -19,11 +19,11 @@ use std::borrow::CowStr;
 /// ESCAPE (ECMA-48, 8.3.48).
 pub(crate) const ESC: u8 = 0x1b;
 
-/// A place in a text: what stands behind it, and the style known there. A walk from place to place
-/// takes no memory.
+/// A place in a text: what stands after it, and the style known there. A walk from place to place
+/// does not allocate.
 #[derive(Debug, Drop)]
 pub struct Place<'a> {
-    /// What stands behind it.
+    /// What stands after it.
     pub rest: &'a str,
     /// The style known there.
     pub style: Style,
@@ -41,7 +41,7 @@ impl<'a> Place<'a> {
         }
     }
 
-    /// Behind so many bytes of stripped text and the sequences among and before them, or at the end. No
+    /// After so many bytes of stripped text and the sequences among and before them, or at the end. No
     /// character of the stripped text is parted there (`is_char_boundary`).
     pub fn after(&self, n: usize) -> Place<'a>
         requires { n < length (strip (pieces self.now.rest.now)) → IsCharBoundary (strip (pieces self.now.rest.now)) n }
@@ -62,7 +62,7 @@ impl<'a> Place<'a> {
         place
     }
 
-    /// Before the next such byte, an ASCII character, of what the text shows, or at the end: behind the
+    /// Before the next such byte, an ASCII character, of what the text shows, or at the end: after the
     /// sequences there.
     pub(crate) fn to_byte(&self, byte: u8) -> Place<'a>
         requires { byte < 128 }
@@ -77,7 +77,7 @@ impl<'a> Place<'a> {
         place
     }
 
-    /// Behind so many bytes of stripped text and the sequences among, before and behind them, or at the
+    /// After so many bytes of stripped text and the sequences among, before and after them, or at the
     /// end. No character of the stripped text is parted there (`is_char_boundary`).
     pub fn through(&self, n: usize) -> Place<'a>
         requires { n < length (strip (pieces self.now.rest.now)) → IsCharBoundary (strip (pieces self.now.rest.now)) n }
@@ -88,7 +88,7 @@ impl<'a> Place<'a> {
         self.after(n).past_sequences()
     }
 
-    // Behind the sequences that stand here.
+    // After the sequences that stand here.
     fn past_sequences(&self) -> Place<'a>
         ensures rest { pieces result.rest.now ≡ from_text (pieces self.now.rest.now) }
         ensures style { result.style ≡ style_after_all self.now.style (through_place 0 (pieces self.now.rest.now)) }
@@ -101,7 +101,7 @@ impl<'a> Place<'a> {
     }
 
     /// The part of so many bytes of stripped text from here on, and the place where it ends, before
-    /// the sequences there: a borrow where the style is plain and no ESC stands behind.
+    /// the sequences there: a borrow where the style is plain and no ESC stands after.
     pub(crate) fn part(
         &self,
         alloc: Global,
@@ -122,7 +122,7 @@ impl<'a> Place<'a> {
 
     /// What stands from here to the end of a slice, between the start of the style known here and the
     /// end of the style known there. The end is a place in the same text, not before this one. Where both
-    /// styles are plain it is a borrow, without memory; else the only refusal is for memory.
+    /// styles are plain it is a borrow, without allocating; else it fails only where allocation fails.
     pub fn part_to(&self, alloc: Global, end: &Place<'a>) -> Result<CowStr<'a>, AllocError>
         requires { (slice : List ℕ) × (self.now.rest.now ≡ slice ++ end.now.rest.now) }
         ensures part { IfOk result (λ part. cow_str_bytes part ≡ start_bytes self.now.style
@@ -150,7 +150,7 @@ impl<'a> Place<'a> {
         }
     }
 
-    // Behind the first item.
+    // After the first item.
     fn past_item(&self) -> Place<'a>
         requires { 0 < length self.now.rest.now }
         ensures first { AreFirstAndRest self.now.style (pieces self.now.rest.now) result.style (pieces result.rest.now) }
@@ -175,7 +175,7 @@ pub fn front<'a>(text: &'a str, end: &str) -> &'a str
     &text[..text.len() - end.len()]
 }
 
-/// The first item of a text, as its kind and its bytes, and the text behind it; none of an empty text.
+/// The first item of a text, as its kind and its bytes, and the text after it; none of an empty text.
 pub fn split_item(text: &str) -> Option<(Kind, &str, &str)>
     ensures { MatchOption result (pieces text.now ≡ []) (λ found.
         pieces text.now ≡ record { kind = found.0; bytes = found.1.now } ∷ pieces found.2.now) }
@@ -184,7 +184,7 @@ pub fn split_item(text: &str) -> Option<(Kind, &str, &str)>
     Some((item.kind, &text[..item.end], &text[item.end..]))
 }
 
-/// The text behind its first byte, an ASCII character.
+/// The text after its first byte, an ASCII character.
 pub(crate) fn behind_byte(text: &str) -> &str
     requires { (0 < length text.now) × (slice_index text.now 0 < 128) }
     ensures { result.now ≡ drop 1 text.now }
@@ -192,7 +192,7 @@ pub(crate) fn behind_byte(text: &str) -> &str
     &text[1..]
 }
 
-/// The text behind the first item of a text that isn't empty.
+/// The text after the first item of a text that isn't empty.
 pub fn behind_item(text: &str) -> &str
     requires { 0 < length text.now }
     ensures parted { IsBehindFirst (pieces text.now) (pieces result.now) }

@@ -16,7 +16,7 @@ use std::borrow::CowStr;
 pub(crate) struct Rest<'a> {
     pub(crate) alloc: Global,
     pub(crate) pattern: &'a str,
-    // where the next part begins, and whether it begins behind a match
+    // where the next part begins, and whether it begins after a match
     pub(crate) place: Place<'a>,
     pub(crate) begun: bool,
     // whether the text holds an ESC
@@ -53,7 +53,7 @@ impl<'a> Rest<'a> {
         }
     }
 
-    /// The next part, and what is left behind the match that ends it.
+    /// The next part, and what is left after the match that ends it.
     pub(crate) fn split_first(self) -> Result<(CowStr<'a>, Option<Rest<'a>>), AllocError>
         ensures part { IfOk result (λ found. rest_parts self.entry ≡ cow_str_bytes found.0 ∷ parts_of found.1) }
         ensures styled { IfOk result (λ found. IfSome found.1 (λ rest. rest.styled ≡ self.entry.styled)) }

@@ -1,4 +1,4 @@
-//! Searches in what a text shows, which is not built for them: none takes memory.
+//! Searches in what a text shows, which is not built for them: none allocates.
 ghost use Rattle.std.specs.Prelude.{◌≡◌, ◌≤◌, ◌+◌, ◌↔◌, List, IsTrue, MatchOption, drop, length};
 ghost use Rattle.std.specs.Str.{IsCharBoundary};
 ghost use Rattle.ansi_scan.specs.Pieces.{pieces as pieces_of};
@@ -99,7 +99,7 @@ fn find_at_characters(text: &str, pattern: &str) -> Option<usize>
     Some(passed)
 }
 
-/// What stands behind so many bytes of what the text shows, and none where no character begins there.
+/// What stands after so many bytes of what the text shows, and none where no character begins there.
 pub fn behind_place(text: &str, n: usize) -> Option<&str>
     ensures { MatchOption result (¬ (IsCharBoundary (strip (pieces_of text.now)) n)) (λ rest.
         IsCharBoundary (strip (pieces_of text.now)) n × (pieces_of rest.now ≡ from_place n (pieces_of text.now))) }

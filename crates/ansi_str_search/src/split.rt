@@ -10,8 +10,8 @@ use std::borrow::CowStr;
 use std::marker::Model;
 
 /// The parts of a text that are still to come, made by `ansi_split`. After the last, and after a
-/// refusal for memory, it gives `None` for ever. In a contract it is the list of these parts, and
-/// whether they may take memory.
+/// refusal for memory, it gives `None` forever. In a contract it is the list of these parts, and
+/// whether they may allocate.
 #[derive(Debug, Drop)]
 pub struct AnsiSplit<'a> {
     rest: Option<Rest<'a>>,
@@ -28,7 +28,7 @@ impl<'a> Model for AnsiSplit<'a> {
 
 impl<'a> AnsiSplit<'a> {
     /// The parts of the text between the matches of the pattern, as `ansi_split` gives them; they borrow
-    /// the text itself, and not a variable that holds it. Takes no memory itself: a part may, of a text
+    /// the text itself, and not a variable that holds it. Does not allocate itself: a part may, of a text
     /// with an ESC.
     pub fn new(alloc: Global, text: &'a str, pattern: &'a str) -> AnsiSplit<'a>
         ensures parts { (pieces : List Piece) (matches : List ℕ) → ArePiecesOf text.now pieces →

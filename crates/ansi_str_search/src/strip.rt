@@ -10,7 +10,7 @@ use std::alloc::{AllocError, Global};
 use std::borrow::CowStr;
 
 /// The text without its sequences: its items of text, joined. A text without ESC is answered by a
-/// borrow, without memory; else the only refusal is for memory.
+/// borrow, without allocating; else it fails only where allocation fails.
 pub fn strip_text<'a>(alloc: Global, text: &'a str) -> Result<CowStr<'a>, AllocError>
     ensures strips { IfOk result (λ out. (pieces : List Piece) → ArePiecesOf text.now pieces → cow_str_bytes out ≡ strip pieces) }
     ensures answers { has_escape text.now ≡ false → IsOk result }
@@ -35,7 +35,7 @@ fn joined_texts(alloc: Global, text: &str) -> Result<String, AllocError>
     Ok(out)
 }
 
-/// Whether the text holds an ESC. Takes no memory.
+/// Whether the text holds an ESC. Does not allocate.
 pub fn has_escape(text: &str) -> bool
     ensures { result ≡ has_escape text.now }
 {

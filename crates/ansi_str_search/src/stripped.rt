@@ -55,7 +55,7 @@ impl<'a> Stripped<'a> {
     }
 }
 
-/// What is shown behind so many bytes.
+/// What is shown after so many bytes.
 pub(crate) fn behind<'a>(stripped: Option<Stripped<'a>>, n: usize) -> Option<Stripped<'a>>
     requires { IfSome stripped (λ bytes. IsCharBoundary bytes n) }
     ensures { result ≡ option_map (drop n) stripped.entry }

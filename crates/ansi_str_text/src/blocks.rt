@@ -46,7 +46,7 @@ impl<'a> AnsiBlock<'a> {
 }
 
 /// The blocks of a text that are still to come, made by `get_blocks`. After the last it gives
-/// `None` for ever. In a contract it is the list of these blocks.
+/// `None` forever. In a contract it is the list of these blocks.
 #[derive(Debug, Drop)]
 pub struct AnsiBlockIter<'a> {
     rest: &'a str,

@@ -9,7 +9,7 @@ use ansi_scan::{Kind, scan};
 use std::marker::Model;
 
 /// The characters of a text without its sequences that are still to come, made by `stripped_chars`.
-/// Each is given once, from whichever end, and behind the last there is `None` for ever. In a contract
+/// Each is given once, from whichever end, and after the last there is `None` forever. In a contract
 /// it is the list of these characters.
 #[derive(Debug, Drop)]
 pub struct StrippedChars<'a> {
@@ -92,7 +92,7 @@ impl DoubleEndedIterator for StrippedChars<'_> {
     }
 }
 
-/// The first character, and the text behind it.
+/// The first character, and the text after it.
 fn split_first(text: &str) -> Option<(char, &str)>
     ensures { MatchOption result (text.now ≡ []) (λ found. chars text.now ≡ found.0 ∷ chars found.1.now) }
 {
@@ -110,7 +110,7 @@ fn split_last(text: &str) -> Option<(&str, char)>
     Some((characters.as_str(), last))
 }
 
-/// The first item of text, and the text behind it. The item is empty where the text shows nothing.
+/// The first item of text, and the text after it. The item is empty where the text shows nothing.
 fn split_first_text(text: &str) -> (&str, &str)
     ensures shown { shown_chars text.now ≡ chars result.0.now ++ shown_chars result.1.now }
     ensures empty { result.0.now ≡ [] → shown_chars result.1.now ≡ [] }

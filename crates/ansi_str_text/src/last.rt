@@ -1,6 +1,6 @@
 //! The last sequence of a text, found from the end.
 //!
-//! A look is a read of one byte. To find the last ESC each byte behind it is looked at once, and to
+//! A look is a read of one byte. To find the last ESC each byte after it is looked at once, and to
 //! find the end of what begins there once more. Where that ESC may end a string, each byte before it
 //! is looked at once up to the next ESC, and once more to see how far the item there goes; none of
 //! them is looked at again so. With the look at a character that is given, that makes five at most.
@@ -32,7 +32,7 @@ pub(crate) fn split_last_text(text: &str) -> (&str, &str)
     ("", "")
 }
 
-/// The text before its last sequence, and the text behind that.
+/// The text before its last sequence, and the text after that.
 fn split_last(text: &str) -> (&str, &str)
     requires { 0 < length text.now }
     ensures shown { shown_chars text.now ≡ shown_chars result.0.now ++ chars result.1.now }

@@ -9,7 +9,7 @@ ghost use Rattle.ansi_str_text.specs.Blocks.{Block, blocks_from, text_of_block, 
 
 use crate::blocks::AnsiBlock;
 
-/// The blocks of a text, one behind the other, are the text without its sequences, and their
+/// The blocks of a text, one after the other, are the text without its sequences, and their
 /// characters are those that the text shows, in the same styles.
 pub fn blocks_in_order()
     ensures text { (pieces : List Piece) →
@@ -18,7 +18,7 @@ pub fn blocks_in_order()
         flat_map styled_of_block (blocks_from plain_attributes pieces) ≡ styled pieces }
 {}
 
-/// A text and a text behind it that begins with ESC keep their pieces where they are put together,
+/// A text and a text after it that begins with ESC keep their pieces where they are put together,
 /// but where a string is open at the end of the first and the ESC begins its end: ESC and `\`. There
 /// the string is one piece from the ESC that opens it on.
 pub fn parted_at_an_escape()

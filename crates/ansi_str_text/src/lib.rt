@@ -1,4 +1,4 @@
-//! The text of a text with escape sequences (ECMA-48), item by item, without memory.
+//! The text of a text with escape sequences (ECMA-48), item by item, without allocating.
 #![tactic(auto)]
 
 ghost use Rattle.std.specs.Prelude.{◌≡◌, ◌≤◌, List, chars, length};
@@ -25,7 +25,7 @@ pub fn get_blocks(text: &str) -> AnsiBlockIter<'_>
     AnsiBlockIter::new(text)
 }
 
-/// The characters of a text without its sequences, from either end. Takes no memory.
+/// The characters of a text without its sequences, from either end. Does not allocate.
 pub fn stripped_chars(text: &str) -> StrippedChars<'_>
     ensures characters { (pieces : List Piece) → ArePiecesOf text.now pieces → result ≡ chars (strip pieces) }
     ensures count { length result ≤ length text.now }

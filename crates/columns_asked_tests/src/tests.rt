@@ -1,3 +1,4 @@
+//! Widths that are narrowed, with ample memory.
 use columns_asked::{Asked, narrowed};
 use std::alloc::AllocError;
 use tabled_size_priority::Choice;

@@ -24,7 +24,7 @@ pub struct Options {
 
 impl Options {
     /// The defaults: no width, lines broken anywhere, one column after the other, boundaries of `-`,
-    /// `|` and `+`, and a column of space at both sides of a text. Takes no memory.
+    /// `|` and `+`, and a column of space at both sides of a text. Does not allocate.
     pub fn new() -> Options
         ensures width { result.width ≡ None }
         ensures truncate { result.truncate ≡ false }

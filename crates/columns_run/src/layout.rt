@@ -90,7 +90,7 @@ fn printed(
     text
 }
 
-// The text of these records with a line feed behind its last line, where they fit the sizes.
+// The text of these records with a line feed after its last line, where they fit the sizes.
 fn text_of_grid(
     alloc: Global,
     records: PlacedRows<'_>,

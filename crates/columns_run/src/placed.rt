@@ -19,7 +19,7 @@ pub struct PlacedRows<'a> {
 }
 
 impl<'a> PlacedRows<'a> {
-    /// Rows of so many columns with these counts of cells. Takes no memory.
+    /// Rows of so many columns with these counts of cells. Does not allocate.
     pub fn new(cells: Vec<Cell<'a>>, counts: Vec<usize>, columns: usize) -> PlacedRows<'a>
         requires measured { All IsMeasured cells.items }
         requires range { sum counts.items < 2 ^ 64 }
@@ -58,7 +58,7 @@ fn empty<'a>() -> Cell<'a>
     Cell { text: "", width: 0 }
 }
 
-// The cell with this number, and behind the last an empty one.
+// The cell with this number, and after the last an empty one.
 fn cell_at<'a>(cells: &[Cell<'a>], index: usize) -> Cell<'a>
     requires { All IsMeasured cells.now }
     ensures text { result.text.now ≡ slice_index_or (map (λ cell. cell.text.now) cells.now) index [] }
@@ -71,7 +71,7 @@ fn cell_at<'a>(cells: &[Cell<'a>], index: usize) -> Cell<'a>
     }
 }
 
-// The number at this place, and behind the last the other one.
+// The number at this place, and after the last the other one.
 fn number_at(numbers: &[usize], index: usize, other: usize) -> usize
     ensures { result ≡ slice_index_or numbers.now index other }
 {

@@ -22,7 +22,7 @@ pub struct Rows<'a> {
     pub counts: Vec<usize>,
 }
 
-/// The rows of a text, each cell measured once. They borrow the text, and the only refusal is for memory.
+/// The rows of a text, each cell measured once. They borrow the text, and it fails only where allocation fails.
 pub fn rows_of<'a>(alloc: Global, text: &'a str) -> Result<Rows<'a>, AllocError>
     ensures whole { IfOk result (λ rows. sum rows.counts.items ≡ vec_len rows.cells) }
     ensures rows { IfOk result (λ rows. rows_shown rows ≡ map (map byte_line) (rows_of (λ b. b) text.now)) }

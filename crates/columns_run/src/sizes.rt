@@ -27,7 +27,7 @@ pub struct Sizes {
     pub lines: usize,
 }
 
-/// Behind the last column or row every size is 0.
+/// After the last column or row every size is 0.
 impl Dimension for Sizes {
     ghost width = { λ sizes column. slice_index sizes.widths.items column };
 
@@ -58,7 +58,7 @@ pub fn sizes_of(alloc: Global, rows: &Rows<'_>, style: &CompactConfig) -> Result
 }
 
 /// The sizes with the lines that they take together. Refused as `Range` where the columns of a line or
-/// the lines pass `usize::MAX`. Takes no memory.
+/// the lines pass `usize::MAX`. Does not allocate.
 fn totalled(widths: Vec<usize>, heights: Vec<usize>, style: &CompactConfig) -> Result<Sizes, Fault>
     ensures sizes { IfOk result (λ sizes. (sizes.widths.items ≡ widths.items) × (sizes.heights.items ≡ heights.items)) }
     ensures lines { IfOk result (λ sizes. sizes.lines ≡ line_count (frame_of (compact_look (compact_of style.now)) widths.items heights.items)) }
@@ -74,7 +74,7 @@ fn totalled(widths: Vec<usize>, heights: Vec<usize>, style: &CompactConfig) -> R
 }
 
 /// How many lines these sizes take together. Refused as `Range` where the columns of a line or the
-/// lines pass `usize::MAX`. Takes no memory.
+/// lines pass `usize::MAX`. Does not allocate.
 fn lines_of(widths: &[usize], heights: &[usize], style: &CompactConfig) -> Result<usize, Fault>
     ensures lines { IfOk result (λ lines. lines ≡ line_count (frame_of (compact_look (compact_of style.now)) widths.now heights.now)) }
     ensures fits { OnOk result (InRange (frame_of (compact_look (compact_of style.now)) widths.now heights.now)) }

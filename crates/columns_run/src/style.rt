@@ -11,7 +11,7 @@ use grid_config_colors::ANSIStr;
 use grid_records_measure::get_char_width;
 
 /// Whether each glyph and each fill of the style takes one column and is no control character, and no
-/// colour is set: a colour with empty texts is none. Takes no memory.
+/// colour is set: a colour with empty texts is none. Does not allocate.
 pub fn style_is_plain(style: &CompactConfig) -> bool
     ensures { IsTrue result ↔ IsPlain (compact_of style.now) }
 {

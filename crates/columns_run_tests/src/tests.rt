@@ -1,3 +1,4 @@
+//! What the tests share.
 mod counted;
 mod fault;
 mod input;

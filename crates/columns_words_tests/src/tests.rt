@@ -1,3 +1,4 @@
+//! Command lines and their answers.
 use columns_options::Options;
 use columns_words::{Asked, read_words};
 use grid_config::{Borders, CompactConfig, Indent, Sides};
@@ -159,7 +160,7 @@ const RUNS: &[(&[&str], Option<usize>, bool, bool, Choice, bool)] = &[
         Choice::Left,
         true,
     ),
-    // nothing stands behind the end of the options
+    // nothing stands after the end of the options
     (&["columns", "--"], None, false, false, Choice::None, false),
     (
         &["columns", "--width", "5", "--"],
@@ -345,7 +346,7 @@ const TEXTS: &[(&[&str], &str, &str)] = &[
         "Without words columns reads standard input, also from a terminal, ",
         "the text on standard error says how\n",
     ),
-    // what stands behind it isn't read
+    // what stands after it isn't read
     (
         &["columns", "--width", "6", "--help", "x"],
         "Without words columns reads standard input, also from a terminal, ",

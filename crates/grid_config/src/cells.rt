@@ -25,7 +25,7 @@ impl CellSettings {
     ghost use Rattle.grid_config.specs.Copies.{HasSameCells};
 
     /// These settings for every cell; texts at the top, each as a block and untrimmed, spaces for
-    /// justification. Takes no memory.
+    /// justification. Does not allocate.
     pub(crate) fn new(
         alloc: Global,
         padding: Sides<Indent>,
@@ -55,7 +55,7 @@ impl CellSettings {
         }
     }
 
-    /// The same settings again. Refused for memory alone.
+    /// The same settings again. Fails only where allocation fails.
     pub(crate) fn clone(&self, alloc: Global) -> Result<CellSettings, AllocError>
         ensures { IfOk result (HasSameCells self.now) }
     {

@@ -27,7 +27,7 @@ impl ColorMap {
     ghost use Rattle.grid_config_values.specs.Settings.{IsUnchanged, value_at};
     ghost use Rattle.grid_config.specs.Settings.{IsEverywhere};
 
-    // No cell has a colour. Takes no memory.
+    // No cell has a colour. Does not allocate.
     pub(crate) fn new(alloc: Global) -> ColorMap
         ensures { IsEverywhere result None }
     {
@@ -36,7 +36,7 @@ impl ColorMap {
         }
     }
 
-    // The same colours again. Refused for memory alone.
+    // The same colours again. Fails only where allocation fails.
     pub(crate) fn clone(&self, alloc: Global) -> Result<ColorMap, AllocError>
         ensures { IfOk result (IsUnchanged self.now) }
     {
@@ -45,7 +45,7 @@ impl ColorMap {
         })
     }
 
-    /// The colour of the cell at this place, where it has one. Takes no memory.
+    /// The colour of the cell at this place, where it has one. Does not allocate.
     pub fn get_color(&self, pos: Position) -> Option<&ANSIBuf>
         ensures { MatchOption result (value_at self.now pos ≡ None) (λ color. value_at self.now pos ≡ Some color.now) }
     {
@@ -78,7 +78,7 @@ impl ColoredConfig {
     ghost use Rattle.grid_config.specs.Lending.{LendsSettings};
     ghost use Rattle.grid_config.specs.Looks.{look_of};
 
-    /// These settings, and no cell has a colour. Takes no memory.
+    /// These settings, and no cell has a colour. Does not allocate.
     pub fn new(config: SpannedConfig) -> ColoredConfig
         ensures settings { result.settings ≡ config }
         ensures colors { IsEverywhere result.colors None }
@@ -87,7 +87,7 @@ impl ColoredConfig {
         ColoredConfig { config, colors }
     }
 
-    /// The same settings and colours again, in memory of their own. Refused for memory alone.
+    /// The same settings and colours again, in memory of their own. Fails only where allocation fails.
     pub fn clone(&self, alloc: Global) -> Result<ColoredConfig, AllocError>
         ensures look { IfOk result (λ copy. look_of copy.settings ≡ look_of self.now.settings) }
         ensures spans { IfOk result (λ copy. copy.settings.spans ≡ self.now.settings.spans) }
@@ -114,7 +114,7 @@ impl ColoredConfig {
         &mut self.config
     }
 
-    /// Sets the colour of cells, for the cells of the entity. Refused for memory alone, and then nothing
+    /// Sets the colour of cells, for the cells of the entity. Fails only where allocation fails, and then nothing
     /// has changed; for all cells never.
     pub fn set_color(&mut self, entity: Entity, color: ANSIBuf) -> Result<(), Fault>
         ensures set { OnOk result (SetsCovered self.old.colors self.new.colors entity (Some color)) }

@@ -3,7 +3,7 @@ use grid_config_colors::ANSIStr;
 use grid_config_values::{AlignmentHorizontal, Borders, Indent, Sides};
 
 /// The settings of a table whose cells are all alike. They are a value: a call that sets one gives
-/// the settings with it. No call takes memory.
+/// the settings with it. No call allocates.
 #[derive(Clone, Copy, Debug, PartialEq, Eq, PartialOrd, Ord, Hash)]
 pub struct CompactConfig {
     margin: Sides<Indent>,

@@ -58,7 +58,7 @@ impl Model for SpannedConfig {
 
 impl SpannedConfig {
     /// No glyph, margin and padding 0, texts at the left and top, no line alignment, no trims, spaces
-    /// for justification, no colour, no span. Takes no memory.
+    /// for justification, no colour, no span. Does not allocate.
     pub fn new(alloc: Global) -> SpannedConfig
         ensures { StartsWith new_start result }
     {
@@ -73,7 +73,7 @@ impl SpannedConfig {
     }
 
     /// The settings of a compact table, for the whole table, and else those of `new`. A colour whose
-    /// texts are empty is none, but on a border. Refused for memory alone, and never where no colour is
+    /// texts are empty is none, but on a border. Fails only where allocation fails, and never where no colour is
     /// set: none that has a text.
     pub fn from_compact_config(alloc: Global, c: CompactConfig) -> Result<SpannedConfig, AllocError>
         ensures settings { IfOk result (StartsWith (compact_start (compact_of c))) }
@@ -98,7 +98,7 @@ impl SpannedConfig {
         })
     }
 
-    /// The same settings again, in memory of their own. Refused for memory alone.
+    /// The same settings again, in memory of their own. Fails only where allocation fails.
     pub fn clone(&self, alloc: Global) -> Result<SpannedConfig, AllocError>
         ensures look { IfOk result (λ copy. look_of copy ≡ look_of self.now) }
         ensures spans { IfOk result (λ copy. copy.spans ≡ self.now.spans) }
@@ -119,7 +119,7 @@ impl SpannedConfig {
         self.alloc
     }
 
-    /// Sets the margin round the table. Takes no memory.
+    /// Sets the margin round the table. Does not allocate.
     pub fn set_margin(&mut self, value: Sides<Indent>)
         ensures set { self.new.margin ≡ value }
         ensures others { KeepsOthers Margin self.old self.new }
@@ -134,7 +134,7 @@ impl SpannedConfig {
         &self.whole.margin
     }
 
-    /// Sets the colours of the margin. Takes no memory.
+    /// Sets the colours of the margin. Does not allocate.
     pub fn set_margin_color(&mut self, value: Sides<Option<ANSIBuf>>)
         ensures set { self.new.margin_color ≡ value }
         ensures others { KeepsOthers MarginColor self.old self.new }
@@ -149,7 +149,7 @@ impl SpannedConfig {
         &self.whole.margin_color
     }
 
-    /// Sets the glyphs of the table's boundaries. Takes no memory.
+    /// Sets the glyphs of the table's boundaries. Does not allocate.
     pub fn set_borders(&mut self, value: Borders<char>)
         ensures set { self.new.borders ≡ value }
         ensures others { KeepsOthers BorderGlyphs self.old self.new }
@@ -164,7 +164,7 @@ impl SpannedConfig {
         &self.whole.borders
     }
 
-    /// Sets the colours of these glyphs. Takes no memory.
+    /// Sets the colours of these glyphs. Does not allocate.
     pub fn set_borders_color(&mut self, value: Borders<ANSIBuf>)
         ensures set { self.new.borders_color ≡ value }
         ensures others { KeepsOthers BorderColors self.old self.new }
@@ -179,7 +179,7 @@ impl SpannedConfig {
         &self.whole.borders_color
     }
 
-    /// Sets the padding of cells, for the cells of the entity. Refused for memory alone, and then
+    /// Sets the padding of cells, for the cells of the entity. Fails only where allocation fails, and then
     /// nothing has changed; for all cells never.
     pub fn set_padding(&mut self, entity: Entity, value: Sides<Indent>) -> Result<(), Fault>
         ensures set { OnOk result (SetsCovered self.old.padding self.new.padding entity value) }
@@ -199,7 +199,7 @@ impl SpannedConfig {
         self.cells.padding.get(pos)
     }
 
-    /// Sets the colours of cells' paddings, for the cells of the entity. Refused for memory alone, and
+    /// Sets the colours of cells' paddings, for the cells of the entity. Fails only where allocation fails, and
     /// then nothing has changed; for all cells never.
     pub fn set_padding_color(
         &mut self,
@@ -224,7 +224,7 @@ impl SpannedConfig {
     }
 
     /// Sets where cells' texts stand between their left and right padding, for the cells of the entity.
-    /// Refused for memory alone, and then nothing has changed; for all cells never.
+    /// Fails only where allocation fails, and then nothing has changed; for all cells never.
     pub fn set_alignment_horizontal(
         &mut self,
         entity: Entity,
@@ -248,7 +248,7 @@ impl SpannedConfig {
     }
 
     /// Sets where cells' texts stand between their top and bottom padding, for the cells of the entity.
-    /// Refused for memory alone, and then nothing has changed; for all cells never.
+    /// Fails only where allocation fails, and then nothing has changed; for all cells never.
     pub fn set_alignment_vertical(
         &mut self,
         entity: Entity,
@@ -292,7 +292,7 @@ impl SpannedConfig {
     }
 
     /// Sets whether white space at the ends of cells' lines is left out, for the cells of the entity.
-    /// Refused for memory alone, and then nothing has changed; for all cells never.
+    /// Fails only where allocation fails, and then nothing has changed; for all cells never.
     pub fn set_trim_horizontal(&mut self, entity: Entity, value: bool) -> Result<(), Fault>
         ensures set { OnOk result (SetsCovered self.old.trim_horizontal self.new.trim_horizontal entity value) }
         ensures refused { OnErr result (IsUnchanged self.old.trim_horizontal self.new.trim_horizontal) }
@@ -312,7 +312,7 @@ impl SpannedConfig {
     }
 
     /// Sets whether blank lines at the ends of cells' texts are left out, for the cells of the entity.
-    /// Refused for memory alone, and then nothing has changed; for all cells never.
+    /// Fails only where allocation fails, and then nothing has changed; for all cells never.
     pub fn set_trim_vertical(&mut self, entity: Entity, value: bool) -> Result<(), Fault>
         ensures set { OnOk result (SetsCovered self.old.trim_vertical self.new.trim_vertical entity value) }
         ensures refused { OnErr result (IsUnchanged self.old.trim_vertical self.new.trim_vertical) }
@@ -351,7 +351,7 @@ impl SpannedConfig {
         *self.cells.justification.get(pos)
     }
 
-    /// Sets the colour of that fill, for the cells of the entity. Refused for memory alone, and then
+    /// Sets the colour of that fill, for the cells of the entity. Fails only where allocation fails, and then
     /// nothing has changed; for all cells never.
     pub fn set_justification_color(
         &mut self,

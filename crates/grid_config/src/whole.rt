@@ -32,7 +32,7 @@ impl WholeSettings {
         }
     }
 
-    /// The same settings again. Refused for memory alone.
+    /// The same settings again. Fails only where allocation fails.
     pub(crate) fn clone(&self, alloc: Global) -> Result<WholeSettings, AllocError>
         ensures { IfOk result (λ copy. copy ≡ self.now) }
     {

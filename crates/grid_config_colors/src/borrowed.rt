@@ -1,7 +1,7 @@
 //! A colour that borrows its texts.
 use crate::closing::closes;
 
-/// A colour: a text that is written before what it colours, and one that is written behind it.
+/// A colour: a text that is written before what it colours, and one that is written after it.
 #[derive(Clone, Copy, Debug, PartialEq, Eq, PartialOrd, Ord, Hash)]
 pub struct ANSIStr<'a> {
     prefix: &'a str,
@@ -44,7 +44,7 @@ impl<'a> ANSIStr<'a> {
         self.prefix
     }
 
-    /// What is written behind.
+    /// What is written after.
     pub const fn get_suffix(&self) -> &'a str
         ensures { result.now ≡ (color_of self.now).suffix }
     {
@@ -52,7 +52,7 @@ impl<'a> ANSIStr<'a> {
     }
 
     /// Whether the colour is closed: both texts are whole sequences without text, and the suffix, read
-    /// from plain and read from the style that the prefix leaves, ends plain. Takes no memory.
+    /// from plain and read from the style that the prefix leaves, ends plain. Does not allocate.
     pub fn closes(&self) -> bool
         ensures { IsTrue result ↔ Closes (color_of self.now) }
     {

@@ -30,7 +30,7 @@ fn clears(style: Style, text: &str) -> bool
     style_behind(Style::plain(), text).is_plain() && style_behind(style, text).is_plain()
 }
 
-// The style behind a text, where this one stands before it.
+// The style after a text, where this one stands before it.
 fn style_behind(before: Style, text: &str) -> Style
     ensures { (pieces : List Piece) → ArePiecesOf text.now pieces → result ≡ style_after_all before pieces }
 {

@@ -1,4 +1,4 @@
-//! Colours of a table: what is written before and behind what they colour (ECMA-48).
+//! Colours of a table: what is written before and after what they colour (ECMA-48).
 #![tactic(auto)]
 
 mod borrowed;

@@ -7,7 +7,7 @@ use grid_config_values::CloneIn;
 use std::alloc::{AllocError, Global};
 use std::marker::Model;
 
-/// A colour: a text that is written before what it colours, and one that is written behind it.
+/// A colour: a text that is written before what it colours, and one that is written after it.
 #[derive(Debug, Drop)]
 pub struct ANSIBuf {
     prefix: String,
@@ -33,7 +33,7 @@ impl ANSIBuf {
     ghost use Rattle.grid_config_colors.specs.FirstColor.{first_color};
     ghost use Rattle.grid_config_colors.specs.declared.fault.BufFault.TheVariants.{NoBlock};
 
-    /// The colour with these texts, which may be any. Refused for memory alone.
+    /// The colour with these texts, which may be any. Fails only where allocation fails.
     pub fn new(alloc: Global, prefix: &str, suffix: &str) -> Result<ANSIBuf, AllocError>
         ensures { IfOk result (λ color. color ≡ record { prefix = prefix.now; suffix = suffix.now }) }
     {
@@ -43,7 +43,7 @@ impl ANSIBuf {
         })
     }
 
-    /// No colour: both texts are empty. Takes no memory.
+    /// No colour: both texts are empty. Does not allocate.
     pub fn empty(alloc: Global) -> ANSIBuf
         ensures { result ≡ no_color }
     {
@@ -53,7 +53,7 @@ impl ANSIBuf {
         }
     }
 
-    /// The same colour with texts of its own. Refused for memory alone, and never where both are empty.
+    /// The same colour with texts of its own. Fails only where allocation fails, and never where both are empty.
     pub fn from_ansi_str(alloc: Global, color: ANSIStr<'_>) -> Result<ANSIBuf, AllocError>
         ensures color { IfOk result (λ owned. owned ≡ color_of color.entry) }
         ensures none { is_no_color (color_of color.entry) ≡ true → IsOk result }
@@ -81,7 +81,7 @@ impl ANSIBuf {
         })
     }
 
-    /// The same colour again. Refused for memory alone, and never where both texts are empty.
+    /// The same colour again. Fails only where allocation fails, and never where both texts are empty.
     pub fn clone(&self, alloc: Global) -> Result<ANSIBuf, AllocError>
         ensures color { IfOk result (λ copy. copy ≡ self.now) }
         ensures none { is_no_color self.now ≡ true → IsOk result }
@@ -89,7 +89,7 @@ impl ANSIBuf {
         ANSIBuf::from_ansi_str(alloc, self.as_ref())
     }
 
-    /// The same colour, borrowed: it can be compared. Takes no memory.
+    /// The same colour, borrowed: it can be compared. Does not allocate.
     pub fn as_ref(&self) -> ANSIStr<'_>
         ensures { color_of result ≡ self.now }
     {
@@ -110,14 +110,14 @@ impl ANSIBuf {
         self.prefix.as_str()
     }
 
-    /// What is written behind.
+    /// What is written after.
     pub fn get_suffix(&self) -> &str
         ensures { result.now ≡ self.now.suffix }
     {
         self.suffix.as_str()
     }
 
-    /// Whether the colour is closed, as for `ANSIStr`. Takes no memory.
+    /// Whether the colour is closed, as for `ANSIStr`. Does not allocate.
     pub fn closes(&self) -> bool
         ensures { IsTrue result ↔ Closes self.now }
     {

@@ -51,7 +51,7 @@ impl Extent {
         self.holds(anchor, corner) && extent.holds(other, corner)
     }
 
-    // No rectangle that begins here or behind it meets this one, where it begins behind it too.
+    // No rectangle that begins here or after it meets this one, where it begins after it too.
     pub(crate) fn search_end(self, anchor: Position) -> Position
         requires rows { anchor.row + self.rows ≤ usize.MAX }
         requires columns { anchor.col + self.columns ≤ usize.MAX }

@@ -45,7 +45,7 @@ impl Model for Spans {
 }
 
 impl Spans {
-    /// No cell spans several columns or rows. Takes no memory.
+    /// No cell spans several columns or rows. Does not allocate.
     pub fn new(alloc: Global) -> Spans
         ensures { result ≡ [] }
     {
@@ -63,7 +63,7 @@ impl Spans {
         self.extents.len() == 0
     }
 
-    /// The same spans again. Refused for memory alone, and never where no cell spans several.
+    /// The same spans again. Fails only where allocation fails, and never where no cell spans several.
     pub fn clone(&self, alloc: Global) -> Result<Spans, AllocError>
         ensures spans { IfOk result (λ copy. copy ≡ self.now) }
         ensures none { self.now ≡ [] → IsOk result }
@@ -95,7 +95,7 @@ impl Spans {
     }
 
     /// Sets how many columns the cell at this place takes; 1 takes its span away. Refused as `Spans` for
-    /// 0, and for want of memory, and then nothing has changed. What it takes away takes no memory, nor
+    /// 0, and for want of memory, and then nothing has changed. What it takes away does not allocate, nor
     /// does another span for a cell that has one.
     pub fn set_column_span(&mut self, pos: Position, n: usize) -> Result<(), Fault>
         ensures zero { result ≡ Err BadSpan ↔ (n ≡ 0) }
@@ -111,7 +111,7 @@ impl Spans {
     }
 
     /// Sets how many rows the cell at this place takes; 1 takes its span away. Refused as `Spans` for 0,
-    /// and for want of memory, and then nothing has changed. What it takes away takes no memory, nor does
+    /// and for want of memory, and then nothing has changed. What it takes away does not allocate, nor does
     /// another span for a cell that has one.
     pub fn set_row_span(&mut self, pos: Position, n: usize) -> Result<(), Fault>
         ensures zero { result ≡ Err BadSpan ↔ (n ≡ 0) }
@@ -192,7 +192,7 @@ impl Spans {
         ))
     }
 
-    // Whether this one is not in the table, or inside it and meets none that begins behind it.
+    // Whether this one is not in the table, or inside it and meets none that begins after it.
     fn is_good_span(&self, anchor: Position, extent: Extent, rows: usize, columns: usize) -> bool
         ensures { result ≡ is_good_span self.now rows columns (anchor, extent) }
     {
@@ -205,7 +205,7 @@ impl Spans {
         !self.is_met(anchor, extent, rows, columns)
     }
 
-    // Whether another one in the table, which begins behind this one, meets it.
+    // Whether another one in the table, which begins after this one, meets it.
     fn is_met(&self, anchor: Position, extent: Extent, rows: usize, columns: usize) -> bool
         requires rows { anchor.row + extent.rows ≤ usize.MAX }
         requires columns { anchor.col + extent.columns ≤ usize.MAX }

@@ -25,7 +25,7 @@ pub struct Border<T> {
     pub right_bottom_corner: Option<T>,
 }
 
-/// A copy, without memory.
+/// A copy, without allocating.
 impl<T: Copy> Clone for Border<T> {
     ghost is_clone = { λ source copy. copy ≡ source };
 
@@ -37,7 +37,7 @@ impl<T: Copy> Clone for Border<T> {
 }
 
 /// What may stand on the boundaries of a table: before its first row or column, between two of
-/// them, and behind its last.
+/// them, and after its last.
 #[derive(Copy, Debug, PartialEq, Eq, PartialOrd, Ord, Hash, Drop)]
 pub struct Borders<T> {
     /// Along the columns, above the first row.
@@ -62,7 +62,7 @@ pub struct Borders<T> {
     pub horizontal: Option<T>,
     /// Before the first column, between two rows.
     pub left_intersection: Option<T>,
-    /// Behind the last column, between two rows.
+    /// After the last column, between two rows.
     pub right_intersection: Option<T>,
 
     /// Between two columns, between two rows.
@@ -72,11 +72,11 @@ pub struct Borders<T> {
     pub vertical: Option<T>,
     /// In a row, before the first column.
     pub left: Option<T>,
-    /// In a row, behind the last column.
+    /// In a row, after the last column.
     pub right: Option<T>,
 }
 
-/// A copy, without memory.
+/// A copy, without allocating.
 impl<T: Copy> Clone for Borders<T> {
     ghost is_clone = { λ source copy. copy ≡ source };
 

@@ -8,7 +8,7 @@ use std::alloc::{AllocError, Global};
 
 /// Values of which there can be another one, in memory of its own.
 pub trait CloneIn: Drop {
-    /// The same value again. Refused for memory alone.
+    /// The same value again. Fails only where allocation fails.
     fn clone_in(&self, alloc: Global) -> Result<Self, AllocError>
         ensures { IfOk result (λ copy. copy ≡ self.now) };
 }

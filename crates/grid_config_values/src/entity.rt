@@ -23,7 +23,7 @@ pub enum Entity {
 
 impl Entity {
     /// The cells of a table of so many rows and columns that are in the set, by rows and in a row by
-    /// columns, each once. Takes no memory.
+    /// columns, each once. Does not allocate.
     pub fn iter(&self, rows: usize, cols: usize) -> EntityIterator
         ensures { result ≡ covered_positions self.now rows cols }
     {

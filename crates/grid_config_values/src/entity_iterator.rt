@@ -7,7 +7,7 @@ use std::marker::Model;
 use std::ops::Range;
 
 /// The cells of an entity that are still to come, made by `Entity::iter`. After the last it gives
-/// `None` for ever. In a contract it is the list of their positions.
+/// `None` forever. In a contract it is the list of their positions.
 #[derive(Debug, Drop)]
 pub struct EntityIterator {
     // where the next one stands

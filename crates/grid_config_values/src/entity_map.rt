@@ -19,7 +19,7 @@ pub struct EntityMap<T> {
 }
 
 impl<T: Drop> EntityMap<T> {
-    /// The map that has this value at every cell. Takes no memory.
+    /// The map that has this value at every cell. Does not allocate.
     #[tactic(auto, unfolding(crate::specs::Settings::value_at))]
     pub fn new(alloc: Global, global: T) -> EntityMap<T>
         ensures { (p : Place) → value_at result p ≡ global }
@@ -46,7 +46,7 @@ impl<T: Drop> EntityMap<T> {
     }
 
     /// Whether the map has one value for all cells: no call named fewer since the last that named all.
-    /// Takes no memory.
+    /// Does not allocate.
     #[tactic(auto, unfolding(crate::specs::Settings::value_at))]
     pub fn is_uniform(&self) -> bool
         ensures { IsTrue result → IsUniform self.now }
@@ -75,7 +75,7 @@ impl<T: Drop> EntityMap<T> {
 }
 
 impl<T: CloneIn> EntityMap<T> {
-    /// The same value at every cell again. Refused for memory alone.
+    /// The same value at every cell again. Fails only where allocation fails.
     #[tactic(auto, unfolding(crate::specs::Settings::value_at))]
     pub fn clone(&self, alloc: Global) -> Result<EntityMap<T>, AllocError>
         ensures { IfOk result (IsUnchanged self.now) }

@@ -32,7 +32,7 @@ impl Model for Collector {
 impl Collector {
     ghost use Rattle.grid_records_estimate.specs.declared.need.Need.{Need as OneNeed};
 
-    /// Nothing is needed yet. Takes no memory.
+    /// Nothing is needed yet. Does not allocate.
     pub(crate) fn new(alloc: Global) -> Collector
         ensures { HasCollected result [] }
     {
@@ -42,7 +42,7 @@ impl Collector {
         }
     }
 
-    /// Adds what one cell needs. Refused for memory alone, and then nothing has changed.
+    /// Adds what one cell needs. Fails only where allocation fails, and then nothing has changed.
     #[inline(always)]
     pub(crate) fn add(&mut self, need: Need) -> Result<(), AllocError>
         requires some { 0 < need.length }

@@ -40,7 +40,7 @@ impl<C> Model for GridDimension<C> {
 }
 
 impl<C: Sizing> GridDimension<C> {
-    /// No sizes: each is 0. Takes no memory.
+    /// No sizes: each is 0. Does not allocate.
     pub fn default(alloc: Global) -> GridDimension<C>
         ensures { result ≡ none_kept }
     {
@@ -130,7 +130,7 @@ impl<C: Sizing> GridDimension<C> {
     }
 }
 
-/// The sizes of the last estimate, by their numbers; behind the last every size is 0.
+/// The sizes of the last estimate, by their numbers; after the last every size is 0.
 impl<C> Dimension for GridDimension<C> {
     ghost width = { λ sizes column. slice_index sizes.widths column };
 

@@ -21,7 +21,7 @@ pub(crate) struct Reading {
     pub(crate) heights: Collector,
 }
 
-/// Reads a table. Refused for memory alone.
+/// Reads a table. Fails only where allocation fails.
 pub(crate) fn read<R: Records, S: Sizing>(
     alloc: Global,
     records: R,

@@ -7,8 +7,8 @@ use crate::shares::sum;
 use grid_config::Fault;
 
 /// The sizes of a table's columns or rows together with the boundaries that are there and the margins
-/// before and behind, 0 where there are no sizes. Refused as `Range` exactly where they pass
-/// `usize::MAX`. Takes no memory.
+/// before and after, 0 where there are no sizes. Refused as `Range` exactly where they pass
+/// `usize::MAX`. Does not allocate.
 pub fn total(
     sizes: &[usize],
     boundaries: usize,

@@ -4,7 +4,7 @@ ghost use Rattle.grid_records_measure.specs.Measures.{cost, measure, own_width};
 
 use unicode_width::{UnicodeWidthChar, UnicodeWidthStr};
 
-/// The columns that a character takes by itself; none counts as 0. Takes no memory. (Unicode Standard
+/// The columns that a character takes by itself; none counts as 0. Does not allocate. (Unicode Standard
 /// Annex 11, by the rules of `unicode_width`.)
 pub fn get_char_width(c: char) -> usize
     ensures { result ≡ own_width c }
@@ -12,7 +12,7 @@ pub fn get_char_width(c: char) -> usize
     c.width().unwrap_or(0)
 }
 
-/// The columns that a text takes as it stands, its sequences read as text. Takes no memory.
+/// The columns that a text takes as it stands, its sequences read as text. Does not allocate.
 pub fn get_string_width(text: &str) -> usize
     ensures { result ≡ measure (chars text.now) }
 {

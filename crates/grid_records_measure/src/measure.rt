@@ -1,4 +1,4 @@
-//! The measures of texts and their lines, without memory.
+//! The measures of texts and their lines, without allocating.
 ghost use Rattle.std.specs.Prelude.{◌≡◌, List, chars, length};
 ghost use Rattle.ansi_scan.specs.Sequences.{Piece, ArePiecesOf};
 ghost use Rattle.ansi_str.specs.StyledText.{strip};
@@ -11,7 +11,7 @@ use ansi_str::AnsiStr;
 use ansi_str_text::stripped_chars;
 use unicode_width::{UnicodeWidthStr, char_iter_width};
 
-/// The columns that a text takes without its sequences, as one line. Takes no memory. (Unicode Standard
+/// The columns that a text takes without its sequences, as one line. Does not allocate. (Unicode Standard
 /// Annex 11, by the rules of `unicode_width`.)
 pub fn get_line_width(text: &str) -> usize
     ensures { (pieces : List Piece) → ArePiecesOf text.now pieces → result ≡ measure (chars (strip pieces)) }
@@ -25,7 +25,7 @@ pub fn get_line_width(text: &str) -> usize
     }
 }
 
-/// The columns of the widest line of a text. Takes no memory.
+/// The columns of the widest line of a text. Does not allocate.
 pub fn get_text_width(text: &str) -> usize
     ensures { (pieces : List Piece) → ArePiecesOf text.now pieces → result ≡ widest (shown_lines pieces) }
 {
@@ -33,7 +33,7 @@ pub fn get_text_width(text: &str) -> usize
     width
 }
 
-/// How many lines a text has, and the columns of the widest. Takes no memory.
+/// How many lines a text has, and the columns of the widest. Does not allocate.
 pub fn get_text_dimension(text: &str) -> (usize, usize)
     ensures lines { (pieces : List Piece) → ArePiecesOf text.now pieces → result.0 ≡ length (shown_lines pieces) }
     ensures width { (pieces : List Piece) → ArePiecesOf text.now pieces → result.1 ≡ widest (shown_lines pieces) }

@@ -7,8 +7,8 @@ ghost use Rattle.grid_records_measure.specs.RawLines.{IsFromLineFeed, IsLineAndR
 
 use ansi_str_search::{begins_with_escape, behind_item, run_len};
 
-/// The first line of a text as it stands there, byte for byte, and what stands behind its line feed; the
-/// whole text where it shows none. Takes no memory.
+/// The first line of a text as it stands there, byte for byte, and what stands after its line feed; the
+/// whole text where it shows none. Does not allocate.
 pub fn split_line(text: &str) -> (&str, Option<&str>)
     ensures parted { IsLineAndRest text.now result.0.now result.1 }
     ensures lines { shown_lines (pieces text.now) ≡ strip (pieces result.0.now) ∷ lines_behind result.1 }

@@ -12,7 +12,7 @@ use std::alloc::{AllocError, Global};
 use std::borrow::CowStr;
 
 /// The text with so many spaces in the place of each tab that it shows; its sequences stay as they are.
-/// Where it shows no tab it is answered by a borrow, without memory; else the only refusal is for memory.
+/// Where it shows no tab it is returned as a borrow, without allocating; else it fails only where allocation fails.
 pub fn replace_tab<'a>(alloc: Global, text: &'a str, n: usize) -> Result<CowStr<'a>, AllocError>
     ensures replaces { IfOk result (λ out. (pieces : List Piece) → ArePiecesOf text.now pieces → cow_str_bytes out ≡ tabs_replaced n pieces) }
     ensures answers { (pieces : List Piece) → ArePiecesOf text.now pieces → has_tab (strip pieces) ≡ false → IsOk result }

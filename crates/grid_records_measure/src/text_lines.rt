@@ -10,7 +10,7 @@ use std::alloc::{AllocError, Global};
 use std::borrow::CowStr;
 use std::marker::Model;
 
-/// How many lines a text has: one more than it shows line feeds. Takes no memory.
+/// How many lines a text has: one more than it shows line feeds. Does not allocate.
 pub fn count_lines(text: &str) -> usize
     ensures { (pieces : List Piece) → ArePiecesOf text.now pieces → result ≡ length (shown_lines pieces) }
 {
@@ -32,7 +32,7 @@ fn line_feeds(text: &str) -> usize
 }
 
 /// The lines of a text: its parts when it is split at line feeds, each with the styles that it shows
-/// opened and ended within. A text without ESC is answered by borrows, without memory; else the only
+/// opened and ended within. A text without ESC is returned as borrows, without allocating; else the only
 /// refusal is for memory, and no line comes after it.
 pub fn get_lines<'a>(alloc: Global, text: &'a str) -> Lines<'a>
     ensures lines { (pieces : List Piece) → ArePiecesOf text.now pieces → AreLinesOf pieces result.parts }
@@ -45,8 +45,8 @@ pub fn get_lines<'a>(alloc: Global, text: &'a str) -> Lines<'a>
 }
 
 /// The lines of a text that are still to come, made by `get_lines`. After the last, and after a refusal
-/// for memory, it gives `None` for ever. In a contract it is the list of these lines, and whether they
-/// may take memory.
+/// for memory, it gives `None` forever. In a contract it is the list of these lines, and whether they
+/// may allocate.
 #[derive(Debug, Drop)]
 pub struct Lines<'a> {
     parts: AnsiSplit<'a>,

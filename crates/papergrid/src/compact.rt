@@ -40,7 +40,7 @@ impl<R, D, G, C> Model for CompactGrid<R, D, G, C> {
 }
 
 impl<R, D, G, C> CompactGrid<R, D, G, C> {
-    /// The grid of these four. Takes no memory.
+    /// The grid of these four. Does not allocate.
     pub fn new(records: R, cfg: G, dims: D, colors: C) -> CompactGrid<R, D, G, C>
         ensures { result ≡ record { records = records; settings = cfg; sizes = dims; colors = colors } }
     {

@@ -33,7 +33,7 @@ impl<R, D, G, C> Model for IterGrid<R, D, G, C> {
 impl<R, D, G, C> IterGrid<R, D, G, C> {
     ghost use Rattle.std.specs.Prelude.{◌≡◌};
 
-    /// The grid of these four. Takes no memory.
+    /// The grid of these four. Does not allocate.
     pub fn new(records: R, cfg: G, dims: D, colors: C) -> IterGrid<R, D, G, C>
         ensures { result ≡ record { records = records; settings = cfg; sizes = dims; colors = colors } }
     {

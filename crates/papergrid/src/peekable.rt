@@ -31,7 +31,7 @@ impl<R, G, D, C> Model for PeekableGrid<R, G, D, C> {
 impl<R, G, D, C> PeekableGrid<R, G, D, C> {
     ghost use Rattle.std.specs.Prelude.{◌≡◌};
 
-    /// The grid of these four. Takes no memory.
+    /// The grid of these four. Does not allocate.
     pub fn new(records: R, cfg: G, dims: D, colors: C) -> PeekableGrid<R, G, D, C>
         ensures { result ≡ record { records = records; settings = cfg; sizes = dims; colors = colors } }
     {
@@ -57,7 +57,7 @@ impl<'a, R: ExactRecords + PeekableRecords, D: Dimension, C: Colors> PeekableGri
     ghost use Rattle.papergrid.specs.Grids.{grid_text};
 
     /// Appends the text of the grid, on condition that `fits` answers that the table fits its sizes: its
-    /// lines, a line feed between each two. Refused for memory alone, and then the text is as it was.
+    /// lines, a line feed between each two. Fails only where allocation fails, and then the text is as it was.
     pub fn build(&self, alloc: Global, out: &mut String) -> Result<(), Fault>
         requires { Fits self.now.settings.now (D.width self.now.sizes) (D.height self.now.sizes) (R.columns self.now.records) (R.rows self.now.records) }
         ensures text { OnOk result (string_bytes out.new ≡ string_bytes out.old
@@ -79,7 +79,7 @@ impl<'a, R: ExactRecords + PeekableRecords, D: Dimension, C: Colors> PeekableGri
         Ok(())
     }
 
-    /// The text that `build` appends to an empty one, on its condition. Refused for memory alone.
+    /// The text that `build` appends to an empty one, on its condition. Fails only where allocation fails.
     pub fn to_string(&self, alloc: Global) -> Result<String, Fault>
         requires { Fits self.now.settings.now (D.width self.now.sizes) (D.height self.now.sizes) (R.columns self.now.records) (R.rows self.now.records) }
         ensures text { IfOk result (λ text. string_bytes text

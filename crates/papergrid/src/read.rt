@@ -15,7 +15,7 @@ pub(crate) struct ReadRows<T> {
     pub(crate) rows: Vec<Vec<T>>,
 }
 
-/// Reads all rows, each of as many cells as there are columns. Refused for memory alone.
+/// Reads all rows, each of as many cells as there are columns. Fails only where allocation fails.
 pub(crate) fn read<R: Records>(
     alloc: Global,
     records: R,

@@ -5,7 +5,7 @@ ghost use Rattle.papergrid_picture.specs.Tables.{sizes_of};
 use grid_records_traits::Dimension;
 use std::alloc::{AllocError, Global};
 
-/// The widths of the first columns. Refused for memory alone.
+/// The widths of the first columns. Fails only where allocation fails.
 pub(crate) fn widths<D: Dimension>(
     alloc: Global,
     dims: &D,
@@ -20,7 +20,7 @@ pub(crate) fn widths<D: Dimension>(
     Ok(sizes)
 }
 
-/// The heights of the first rows. Refused for memory alone.
+/// The heights of the first rows. Fails only where allocation fails.
 pub(crate) fn heights<D: Dimension>(
     alloc: Global,
     dims: &D,

@@ -16,7 +16,7 @@ use grid_records_traits::{Dimension, ExactRecords, PeekableRecords};
 /// Whether a table fits these sizes. Refused as `Spans` where its spans are not good; else as `Range`
 /// where the columns of a line, or the lines, pass `usize::MAX`, margins too; else as `Room` of the first
 /// visible cell, by row, then by column, whose widest line with the paddings at its sides is wider than
-/// the columns that it takes and the boundaries between them. Takes no memory.
+/// the columns that it takes and the boundaries between them. Does not allocate.
 pub fn fits<R: ExactRecords + PeekableRecords, D: Dimension>(
     records: &R,
     cfg: &SpannedConfig,
@@ -34,7 +34,7 @@ pub fn fits<R: ExactRecords + PeekableRecords, D: Dimension>(
 }
 
 /// Whether the first rows and columns of records fit these sizes, as many of both as are given. The
-/// answers are those of `fits`. Takes no memory.
+/// answers are those of `fits`. Does not allocate.
 pub fn fits_counted<R: PeekableRecords, D: Dimension>(
     records: &R,
     cfg: &SpannedConfig,

@@ -17,7 +17,7 @@ ghost use Rattle.papergrid_picture.specs.Tiling.{HasGoodSpans, HasRoom};
 ghost use Rattle.papergrid_fits.specs.Tables.{Fits, sized};
 
 /// The least widths of a table, as an estimate keeps them, leave room for each of its visible cells,
-/// whatever its heights: `fits` never answers `Room` for them.
+/// whatever its heights: `fits` never returns `Room` for them.
 pub fn estimated_sizes_leave_room()
     ensures { (settings : Settings) (columns : ℕ) (rows : List (List (List ℕ))) (height : ℕ → ℕ) →
         ArePositive settings.spans → AreGood settings.spans (length rows) columns →

@@ -41,7 +41,7 @@ pub(crate) fn total_height<D: Dimension>(
     past(total, cfg.has_horizontal(rows, rows), margin.bottom.size)
 }
 
-// Where the track ends that stands behind so much and behind a boundary, which may be there.
+// Where the track ends that stands after so much and after a boundary, which may be there.
 fn past(start: usize, has_boundary: bool, size: usize) -> Option<usize>
     ensures { let end = start + thickness has_boundary + size in SomeIff result (end < 2 ^ 64) end }
 {

@@ -172,8 +172,8 @@ pub fn character_reading()
         table_text look rows (λ _. None) widths heights ≡ encode_utf8_all (character_picture look (map (map chars) rows) widths heights) }
 {}
 
-/// Each line of a picture shows what the sizes put there: boundary i, where it is there, its one line behind
-/// the sizes and boundaries before it; row i the lines behind that; a margin the others.
+/// Each line of a picture shows what the sizes put there: boundary i, where it is there, its one line after
+/// the sizes and boundaries before it; row i the lines after that; a margin the others.
 pub fn lines_in_order()
     ensures each { (rows : Tracks) (y : ℕ) → ShowsPlace rows y (place rows y) }
     ensures boundaries { (rows : Tracks) (i : ℕ) → i ≤ length rows.sizes → rows.has_boundary i ≡ true →

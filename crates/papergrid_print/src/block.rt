@@ -115,7 +115,7 @@ pub(crate) fn free_left(alignment: AlignmentHorizontal, free: usize) -> usize
     }
 }
 
-/// Appends a line of the cell's rectangle. Refused for memory alone.
+/// Appends a line of the cell's rectangle. Fails only where allocation fails.
 pub(crate) fn push_block_line(
     out: &mut String,
     cfg: &SpannedConfig,
@@ -190,7 +190,7 @@ fn indent_of(cfg: &SpannedConfig, cell: &OpenCell<'_>, room: usize, k: usize) ->
     )
 }
 
-/// Appends a padding or a margin at the left or right. Refused for memory alone.
+/// Appends a padding or a margin at the left or right. Fails only where allocation fails.
 pub(crate) fn push_indent(
     out: &mut String,
     indent: &Indent,
@@ -201,7 +201,7 @@ pub(crate) fn push_indent(
     push_blank(out, indent.fill, indent.size, color)
 }
 
-/// Appends a character so many times, in a colour if there is one. Refused for memory alone.
+/// Appends a character so many times, in a colour if there is one. Fails only where allocation fails.
 pub(crate) fn push_blank(
     out: &mut String,
     character: char,

@@ -14,7 +14,7 @@ pub trait Colors {
     /// The colour of each cell, where it has one.
     ghost color: { Self → Place → Option Color };
 
-    /// The colour of the cell at this place, where it has one. Takes no memory.
+    /// The colour of the cell at this place, where it has one. Does not allocate.
     fn get_color(&self, pos: Position) -> Option<ANSIStr<'_>>
         ensures { option_map color_of result ≡ color self.now pos };
 }

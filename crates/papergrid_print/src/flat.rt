@@ -20,7 +20,7 @@ use std::alloc::{AllocError, Global};
 // The cell whose settings stand for those of all cells.
 const FIRST: Position = Position { row: 0, col: 0 };
 
-/// What rows of one line have in common: what stands before the first text, between two, and behind the
+/// What rows of one line have in common: what stands before the first text, between two, and after the
 /// last, and how texts stand in their columns.
 #[derive(Drop)]
 pub(crate) struct FlatRows<'a> {
@@ -50,7 +50,7 @@ pub(crate) fn are_flat(cfg: &SpannedConfig) -> bool
 }
 
 impl<'a> FlatRows<'a> {
-    /// That of a table of so many columns. Refused for memory alone.
+    /// That of a table of so many columns. Fails only where allocation fails.
     pub(crate) fn new(
         alloc: Global,
         cfg: &'a SpannedConfig,
@@ -87,7 +87,7 @@ impl<'a> FlatRows<'a> {
         &self.front
     }
 
-    // What stands behind the text in column `j` of so many.
+    // What stands after the text in column `j` of so many.
     #[inline(always)]
     fn behind(&self, j: usize, columns: usize) -> &Spaced
         requires { j < columns }
@@ -101,7 +101,7 @@ impl<'a> FlatRows<'a> {
     }
 
     /// Appends a line that measures so much to column `j` of so many, which is as wide as given, and what
-    /// stands behind it; `widest` is what the widest line of its cell measures. Refused for memory alone.
+    /// stands after it; `widest` is what the widest line of its cell measures. Fails only where allocation fails.
     #[inline(always)]
     pub(crate) fn push_line(
         &self,
@@ -126,7 +126,7 @@ impl<'a> FlatRows<'a> {
         self.push_rest(out, rest, self.behind(j, columns))
     }
 
-    // Appends what is free behind a text, and what stands behind that.
+    // Appends what is free after a text, and what stands after that.
     #[inline(always)]
     fn push_rest(&self, out: &mut String, rest: usize, behind: &Spaced) -> Result<(), AllocError>
         ensures { OnOk result (string_bytes out.new ≡ string_bytes out.old ++ (colored (option_map color_of self.now.fill_color) (fill_bytes self.now.fill rest) ++ spaced_text behind.now)) }
@@ -174,7 +174,7 @@ fn joint(
     Ok(text)
 }
 
-// The same, to be appended behind spaces.
+// The same, to be appended after spaces.
 fn spaced_joint(
     alloc: Global,
     cfg: &SpannedConfig,

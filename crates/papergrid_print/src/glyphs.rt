@@ -70,7 +70,7 @@ fn crossing<T>(borders: &Borders<T>, i: usize, rows: usize, j: usize, columns: u
 }
 
 /// Appends what stands in a row on column boundary `j`, where that is there: a space where no glyph is
-/// set. Refused for memory alone.
+/// set. Fails only where allocation fails.
 pub(crate) fn push_upright(
     out: &mut String,
     cfg: &SpannedConfig,
@@ -88,7 +88,7 @@ pub(crate) fn push_upright(
 }
 
 /// Adds what stands where row boundary `i` meets column boundary `j`, where that is there: a space where
-/// no glyph is set. Refused for memory alone.
+/// no glyph is set. Fails only where allocation fails.
 pub(crate) fn push_corner<'a>(
     runs: &mut Vec<GlyphRun<'a>>,
     cfg: &'a SpannedConfig,
@@ -112,7 +112,7 @@ pub(crate) fn push_corner<'a>(
 }
 
 /// Adds what stands on row boundary `i` along a column of this width: spaces where no glyph is set.
-/// Refused for memory alone.
+/// Fails only where allocation fails.
 pub(crate) fn push_along<'a>(
     runs: &mut Vec<GlyphRun<'a>>,
     cfg: &'a SpannedConfig,
@@ -131,8 +131,8 @@ pub(crate) fn push_along<'a>(
     Ok(())
 }
 
-/// Appends a line of a cell's rectangle behind the glyphs that were collected, which it takes out; where
-/// it shows nothing they stay. Refused for memory alone.
+/// Appends a line of a cell's rectangle after the glyphs that were collected, which it takes out; where
+/// it shows nothing they stay. Fails only where allocation fails.
 pub(crate) fn push_behind(
     out: &mut String,
     runs: &mut Vec<GlyphRun<'_>>,

@@ -16,7 +16,7 @@ pub(crate) struct GlyphRun<'a> {
     pub(crate) color: Option<ANSIStr<'a>>,
 }
 
-/// Appends a character so many times, in its colour. Refused for memory alone.
+/// Appends a character so many times, in its colour. Fails only where allocation fails.
 pub(crate) fn push_fill(
     out: &mut String,
     character: char,
@@ -36,7 +36,7 @@ pub(crate) fn push_fill(
     change_color(out, color, None)
 }
 
-/// Appends a text in a colour. Refused for memory alone.
+/// Appends a text in a colour. Fails only where allocation fails.
 #[inline(always)]
 pub(crate) fn push_text(
     out: &mut String,
@@ -110,7 +110,7 @@ fn prefix_of<'a>(color: Option<ANSIStr<'a>>) -> &'a str
     }
 }
 
-// What a colour writes behind what it colours.
+// What a colour writes after what it colours.
 fn suffix_of<'a>(color: Option<ANSIStr<'a>>) -> &'a str
     ensures { result.now ≡ suffix_of (option_map color_of color.entry) }
 {
@@ -120,7 +120,7 @@ fn suffix_of<'a>(color: Option<ANSIStr<'a>>) -> &'a str
     }
 }
 
-/// Appends a character so many times, with one growth. Refused for memory alone.
+/// Appends a character so many times, with one growth. Fails only where allocation fails.
 #[inline(never)]
 pub(crate) fn push_repeated(
     out: &mut String,

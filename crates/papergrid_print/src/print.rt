@@ -13,8 +13,8 @@ use grid_records_traits::PeekableRecords;
 use std::alloc::{AllocError, Global};
 
 /// Appends the text of a table of these sizes: the lines of its picture, a line feed between each two,
-/// and nothing where it has no rows or no columns. Refused for memory alone, and then the text is as it
-/// was. Behind another text it is made apart and then appended at once.
+/// and nothing where it has no rows or no columns. Fails only where allocation fails, and then the text is as it
+/// was. After another text it is made apart and then appended at once.
 pub fn print_table<R: PeekableRecords, C: Colors>(
     alloc: Global,
     records: &R,

@@ -8,7 +8,7 @@ use std::alloc::{AllocError, Global};
 // How many spaces are kept before a text.
 const SPACES: usize = 64;
 
-/// A text behind spaces that are kept with it: few spaces and the text are appended as one.
+/// A text after spaces that are kept with it: few spaces and the text are appended as one.
 #[derive(Drop)]
 pub(crate) struct Spaced {
     text: String,
@@ -21,7 +21,7 @@ impl Spaced {
     ghost use Rattle.papergrid_print.specs.Flat.{spaced_text};
     ghost use Rattle.papergrid_print.specs.Painting.{fill_bytes};
 
-    /// This text. Refused for memory alone.
+    /// This text. Fails only where allocation fails.
     pub(crate) fn new(alloc: Global, text: &str) -> Result<Spaced, AllocError>
         ensures { IfOk result (λ made. spaced_text made ≡ text.now) }
     {
@@ -34,7 +34,7 @@ impl Spaced {
         })
     }
 
-    /// Appends so many spaces and the text. Refused for memory alone.
+    /// Appends so many spaces and the text. Fails only where allocation fails.
     #[inline(always)]
     pub(crate) fn push_behind(&self, out: &mut String, spaces: usize) -> Result<(), AllocError>
         ensures { OnOk result (string_bytes out.new ≡ string_bytes out.old ++ (fill_bytes 0x20 spaces ++ spaced_text self.now)) }

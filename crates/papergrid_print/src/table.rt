@@ -175,7 +175,7 @@ impl<'a, R: PeekableRecords, C: Colors> Table<'a, R, C> {
     }
 
     // Appends the lines of row `i`, of which the first is line `y` of the table. The answer is the line
-    // behind them.
+    // after them.
     fn push_row(
         &self,
         out: &mut String,
@@ -201,7 +201,7 @@ impl<'a, R: PeekableRecords, C: Colors> Table<'a, R, C> {
     }
 
     // Appends the line of row boundary `i`, line `y` of the table, where that boundary is there. The answer
-    // is the line behind it.
+    // is the line after it.
     fn push_boundary(
         &self,
         out: &mut String,
@@ -294,7 +294,7 @@ impl<'a, R: PeekableRecords, C: Colors> Table<'a, R, C> {
         Ok(Some(FlatRows::new(alloc, self.cfg, self.widths.len())?))
     }
 
-    // Appends the first line of the cell at this place, and what stands behind it.
+    // Appends the first line of the cell at this place, and what stands after it.
     fn push_first_line(
         &self,
         alloc: Global,
@@ -432,7 +432,7 @@ impl<'a, R: PeekableRecords, C: Colors> Table<'a, R, C> {
     }
 
     // Appends all lines between the margins, by what was made once for all of them. The answer is the line
-    // behind them.
+    // after them.
     fn push_all_rows(
         &self,
         alloc: Global,

@@ -12,7 +12,7 @@ use tabled_text::Builder;
 pub trait BuildTable: Sized {
     ghost rows: { Self → List (List (List ℕ)) };
 
-    /// The table of the rows, the short ones filled with empty texts. Refused for memory alone.
+    /// The table of the rows, the short ones filled with empty texts. Fails only where allocation fails.
     fn build(self) -> Result<Table, Fault>
         ensures table { IfOk result (λ table. state_of (λ text. text) table ≡ new_state (filled (rows self))) }
         ensures refused { IfErr result (λ fault. fault ≡ Memory) };

@@ -6,7 +6,7 @@ ghost use Rattle.tabled_text.specs.Rows.{text_rows};
 use grid_records_rows::Text;
 use std::alloc::{AllocError, Global};
 
-/// Cells with the texts of these rows. Refused for memory alone.
+/// Cells with the texts of these rows. Fails only where allocation fails.
 pub(crate) fn cells_of(alloc: Global, rows: Vec<Vec<String>>) -> Result<Vec<Vec<Text>>, AllocError>
     ensures { IfOk result (λ cells. texts_of_rows (λ text. text) cells.items ≡ text_rows rows.items) }
 {

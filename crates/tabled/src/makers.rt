@@ -17,7 +17,7 @@ use tabled_text::{Builder, Tabled};
 
 impl Table<Text> {
     /// A row of the names of the values' fields, and then a row of the fields of each, on condition that the
-    /// values end. Refused for memory alone.
+    /// values end. Fails only where allocation fails.
     pub fn new<T: Tabled + Drop, I: IntoIterator<Item = T> + Drop>(
         alloc: Global,
         items: I,
@@ -68,7 +68,7 @@ impl Table<Text> {
         Ok(Table::of_cells(alloc, cells))
     }
 
-    /// A builder of the rows of `new`, on condition that the values end. Refused for memory alone.
+    /// A builder of the rows of `new`, on condition that the values end. Fails only where allocation fails.
     pub fn builder<T: Tabled + Drop, I: IntoIterator<Item = T> + Drop>(
         alloc: Global,
         items: I,
@@ -102,7 +102,7 @@ where
     value_rows::<T, I>(alloc, rows, items)
 }
 
-// The fields of each value, behind the rows that are there.
+// The fields of each value, after the rows that are there.
 fn value_rows<T: Tabled + Drop, I: IntoIterator<Item = T> + Drop>(
     alloc: Global,
     before: Vec<Vec<String>>,

@@ -34,14 +34,14 @@ pub struct Table<T = Text> {
 }
 
 impl Table<Text> {
-    /// A table without rows. Takes no memory.
+    /// A table without rows. Does not allocate.
     pub fn default(alloc: Global) -> Table<Text>
         ensures { state_of (λ text. text) result ≡ new_state [] }
     {
         Table::of_cells(alloc, Vec::new(alloc))
     }
 
-    /// The table of a builder's rows, the short ones filled with empty texts. Refused for memory alone.
+    /// The table of a builder's rows, the short ones filled with empty texts. Fails only where allocation fails.
     pub fn from_builder(builder: Builder) -> Result<Table<Text>, Fault>
         ensures table { IfOk result (λ table. state_of (λ text. text) table ≡ new_state (filled builder)) }
         ensures refused { IfErr result (λ fault. fault ≡ Memory) }
@@ -79,7 +79,7 @@ fn new_config(alloc: Global) -> ColoredConfig
 }
 
 impl<T: FromText> Table<T> {
-    /// Changes the table by an option: one step, and behind it the sizes that it leaves as they are stay
+    /// Changes the table by an option: one step, and after it the sizes that it leaves as they are stay
     /// kept, and no others. Refused as the step is, and for memory, and then nothing has changed.
     pub fn set<O: TableOption<VecRecords<T>, ColoredConfig, CompleteDimension>>(
         &mut self,

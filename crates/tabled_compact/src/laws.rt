@@ -19,7 +19,7 @@ use grid_records_traits::RecordTexts;
 use tabled_options::{Margin, Padding, Style};
 use tabled_steps::{KeptSizes, TableOption};
 
-/// Rows that a table shows, worked out by hand: those behind the ones that are passed over, of these as
+/// Rows that a table shows, worked out by hand: those after the ones that are passed over, of these as
 /// many as are kept, each with as many cells as there are columns.
 pub fn worked_rows()
     ensures all { let rows = (codes "a" ∷ []) ∷ (codes "b" ∷ []) ∷ (codes "c" ∷ []) ∷ [] in

@@ -57,7 +57,7 @@ const fn begun_config() -> CompactConfig
 
 impl<I: RecordTexts> CompactTable<I, ConstDimension<0, 0>> {
     /// A table of the rows of this source without columns, each column 2 wide, in lines of ASCII, with a
-    /// column of spaces at the left and right of each text. Takes no memory.
+    /// column of spaces at the left and right of each text. Does not allocate.
     pub const fn new(records: I) -> CompactTable<I, ConstDimension<0, 0>>
         ensures { compacted I.rows ⟦<ConstDimension<0, 0> as Dimension>⟧.width result ≡ begun (I.rows records) (λ _. 2) }
     {
@@ -67,7 +67,7 @@ impl<I: RecordTexts> CompactTable<I, ConstDimension<0, 0>> {
 }
 
 impl<I: RecordTexts, D: Dimension> CompactTable<I, D> {
-    /// The same as `new` with these widths. Heights are not looked at. Takes no memory.
+    /// The same as `new` with these widths. Heights are not looked at. Does not allocate.
     pub const fn with_dimension(records: I, dimension: D) -> CompactTable<I, D>
         ensures { compacted I.rows D.width result ≡ begun (I.rows records) (D.width dimension) }
     {
@@ -92,7 +92,7 @@ impl<I: RecordTexts, D: Dimension> CompactTable<I, D> {
         }
     }
 
-    /// The table of so many rows at most, counted behind those that `skip` passes over.
+    /// The table of so many rows at most, counted after those that `skip` passes over.
     pub const fn rows(self, count: usize) -> CompactTable<I, D>
         ensures { compacted I.rows D.width result ≡ record (compacted I.rows D.width self) { kept = Some count } }
     {
@@ -241,7 +241,7 @@ impl<I: IntoRecords, D: Dimension + Drop> CompactTable<I, D> {
         Ok(text)
     }
 
-    /// Makes the whole text, as `to_string`, and then writes it. A table without a text, or without memory
+    /// Makes the whole text, as `to_string`, and then writes it. A table without a text, or without allocating
     /// for it, leaves the writer alone. It gives up with `Write` at the first error of any kind, and with
     /// `WriteZero` where the writer takes nothing; a front of the text is then written, and the writer isn't
     /// called again. Nothing is flushed.

@@ -35,7 +35,7 @@ impl TextChange for Raising {
     }
 }
 
-// The text, and so many line feeds behind it. Room for them is taken at once.
+// The text, and so many line feeds after it. Room for them is taken at once.
 fn with_line_feeds(alloc: Global, text: &str, count: usize) -> Result<String, AllocError>
     ensures { IfOk result (λ out. string_bytes out ≡ text.now ++ replicate count line_feed) }
 {
@@ -92,7 +92,7 @@ impl<'a> TextChange for LimitingRows<'a> {
     }
 }
 
-// The height of the row with this number, and behind the last 0.
+// The height of the row with this number, and after the last 0.
 fn height_at(heights: &[usize], row: usize) -> usize
     ensures { result ≡ slice_index heights.now row }
 {
@@ -125,7 +125,7 @@ fn first_lines(alloc: Global, text: &str, count: usize) -> Result<String, AllocE
     Ok(out)
 }
 
-// Appends a line that came, behind a line feed where others came before it.
+// Appends a line that came, after a line feed where others came before it.
 fn push_line(
     out: &mut String,
     line: Result<CowStr<'_>, AllocError>,

@@ -23,14 +23,14 @@ impl Model for HeightList {
 }
 
 impl HeightList {
-    /// These heights. Takes no memory.
+    /// These heights. Does not allocate.
     pub fn new(list: Vec<usize>) -> HeightList
         ensures { result ≡ list.items }
     {
         HeightList { heights: list }
     }
 
-    /// The items as heights, on condition that they end. The only refusal is for memory.
+    /// The items as heights, on condition that they end. It fails only where allocation fails.
     pub fn from_iter<I: IntoIterator<Item = usize>>(
         alloc: Global,
         items: I,
@@ -48,7 +48,7 @@ impl HeightList {
     }
 }
 
-/// These heights. Takes no memory.
+/// These heights. Does not allocate.
 impl From<Vec<usize>> for HeightList {
     ghost from_gives = { λ heights list. list ≡ heights.items };
 
@@ -57,7 +57,7 @@ impl From<Vec<usize>> for HeightList {
     }
 }
 
-/// The rows keep these heights, where there is one for each; else nothing changes. Takes no memory.
+/// The rows keep these heights, where there is one for each; else nothing changes. Does not allocate.
 impl<R: ExactRecords, C: Configuration> TableOption<R, C, CompleteDimension> for HeightList {
     ghost step = { λ heights state outcome. listing_heights heights state ≡ outcome };
 

@@ -57,7 +57,7 @@ impl RowHeights {
     }
 
     /// The heights that are left to the rows where the table has more lines than so many, and else none.
-    /// The only refusal is for memory.
+    /// It fails only where allocation fails.
     pub(crate) fn shrunk<P: Peaker + Drop>(
         self,
         alloc: Global,

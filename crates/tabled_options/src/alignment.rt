@@ -85,7 +85,7 @@ impl Alignment {
     }
 }
 
-/// Sets the alignment of the cells. Refused for memory alone, and for all cells never.
+/// Sets the alignment of the cells. Fails only where allocation fails, and for all cells never.
 impl<R: RecordTexts> CellOption<R, ColoredConfig> for Alignment {
     ghost step = { λ alignment at state outcome. looking (with_alignment alignment at) state ≡ outcome };
 
@@ -111,7 +111,7 @@ impl<R: RecordTexts> CellOption<R, ColoredConfig> for Alignment {
     }
 }
 
-/// Sets the alignment of all cells. Takes no memory.
+/// Sets the alignment of all cells. Does not allocate.
 impl<R: RecordTexts, D: KeptSizes> TableOption<R, ColoredConfig, D> for Alignment {
     ghost step = { λ alignment state outcome. looking (with_alignment alignment EveryCell) state ≡ outcome };
 

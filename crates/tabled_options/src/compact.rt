@@ -14,7 +14,7 @@ use grid_records_traits::records::RecordTexts;
 use std::alloc::Global;
 use tabled_steps::{KeptSizes, TableOption};
 
-/// Sets the margin. Takes no memory.
+/// Sets the margin. Does not allocate.
 impl<R: RecordTexts, D: KeptSizes> TableOption<R, CompactConfig, D> for Margin {
     ghost step = { λ margin state outcome. looking (with_margin (margin_sides margin)) state ≡ outcome };
 
@@ -36,7 +36,7 @@ impl<R: RecordTexts, D: KeptSizes> TableOption<R, CompactConfig, D> for Margin {
     }
 }
 
-/// Sets the padding of all cells. Takes no memory.
+/// Sets the padding of all cells. Does not allocate.
 impl<R: RecordTexts, D: KeptSizes> TableOption<R, CompactConfig, D> for Padding {
     ghost step = { λ padding state outcome. looking (with_padding EveryCell (padding_sides padding)) state ≡ outcome };
 
@@ -58,7 +58,7 @@ impl<R: RecordTexts, D: KeptSizes> TableOption<R, CompactConfig, D> for Padding 
     }
 }
 
-/// Sets the glyphs of the boundaries. Takes no memory.
+/// Sets the glyphs of the boundaries. Does not allocate.
 impl<R: RecordTexts, D: KeptSizes> TableOption<R, CompactConfig, D> for Style {
     ghost step = { λ style state outcome. looking (with_borders (style_borders style)) state ≡ outcome };
 

@@ -65,7 +65,7 @@ impl From<Sides<Indent>> for Margin {
     }
 }
 
-/// Sets the margin. Takes no memory.
+/// Sets the margin. Does not allocate.
 impl<R: RecordTexts, D: KeptSizes> TableOption<R, ColoredConfig, D> for Margin {
     ghost step = { λ margin state outcome. looking (with_margin (margin_sides margin)) state ≡ outcome };
 

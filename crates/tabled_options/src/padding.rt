@@ -93,7 +93,7 @@ impl From<Sides<Indent>> for Padding {
     }
 }
 
-/// Sets the padding of the cells. Refused for memory alone, and for all cells never.
+/// Sets the padding of the cells. Fails only where allocation fails, and for all cells never.
 impl<R: RecordTexts> CellOption<R, ColoredConfig> for Padding {
     ghost step = { λ padding at state outcome. looking (with_padding at (padding_sides padding)) state ≡ outcome };
 
@@ -114,7 +114,7 @@ impl<R: RecordTexts> CellOption<R, ColoredConfig> for Padding {
     }
 }
 
-/// Sets the padding of all cells. Takes no memory.
+/// Sets the padding of all cells. Does not allocate.
 impl<R: RecordTexts, D: KeptSizes> TableOption<R, ColoredConfig, D> for Padding {
     ghost step = { λ padding state outcome. looking (with_padding EveryCell (padding_sides padding)) state ≡ outcome };
 

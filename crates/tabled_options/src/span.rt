@@ -50,7 +50,7 @@ impl Span {
         }
     }
 
-    // Sets it at this place. Refused for memory alone, and then nothing has changed.
+    // Sets it at this place. Fails only where allocation fails, and then nothing has changed.
     fn set(self, config: &mut SpannedConfig, pos: Position) -> Result<(), Fault>
         requires { 0 < span_size self }
         ensures set { OnOk result (look_of config.new ≡ spanned_at self (pos ∷ []) (look_of config.old)) }
@@ -63,7 +63,7 @@ impl Span {
         }
     }
 
-    // Sets it at this place, where a table of so many rows and columns has it. Refused for memory alone,
+    // Sets it at this place, where a table of so many rows and columns has it. Fails only where allocation fails,
     // and then nothing has changed.
     fn set_inside(
         self,
@@ -84,7 +84,7 @@ impl Span {
         }
     }
 
-    // Sets it at each of these places. Refused for memory alone, and then perhaps at some.
+    // Sets it at each of these places. Fails only where allocation fails, and then perhaps at some.
     fn set_all(self, config: &mut SpannedConfig, places: EntityIterator) -> Result<(), Fault>
         requires { 0 < span_size self }
         ensures set { OnOk result (look_of config.new ≡ spanned_at self places (look_of config.old)) }
@@ -96,7 +96,7 @@ impl Span {
         Ok(())
     }
 
-    // A copy of the settings, with it at each of these places. Refused for memory alone.
+    // A copy of the settings, with it at each of these places. Fails only where allocation fails.
     fn copied(
         self,
         alloc: Global,

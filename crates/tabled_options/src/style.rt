@@ -116,7 +116,7 @@ impl Style {
     }
 }
 
-/// Sets the glyphs of the boundaries. Takes no memory.
+/// Sets the glyphs of the boundaries. Does not allocate.
 impl<R: RecordTexts, D: KeptSizes> TableOption<R, ColoredConfig, D> for Style {
     ghost step = { λ style state outcome. looking (with_borders (style_borders style)) state ≡ outcome };
 

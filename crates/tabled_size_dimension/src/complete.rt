@@ -51,14 +51,14 @@ impl CompleteDimension {
         self.widths.is_none() && self.heights.is_none()
     }
 
-    /// Sets the widths, in columns of the terminal. Takes no memory.
+    /// Sets the widths, in columns of the terminal. Does not allocate.
     pub fn set_widths(&mut self, widths: Vec<usize>)
         ensures { self.new ≡ record self.old { widths = Some widths.items } }
     {
         self.widths = Some(widths);
     }
 
-    /// Sets the heights, in lines. Takes no memory.
+    /// Sets the heights, in lines. Does not allocate.
     pub fn set_heights(&mut self, heights: Vec<usize>)
         ensures { self.new ≡ record self.old { heights = Some heights.items } }
     {
@@ -121,7 +121,7 @@ impl CompleteDimension {
         covers(self.get_widths(), columns) && covers(self.get_heights(), rows)
     }
 
-    /// The same sizes again. Refused for memory alone, and never where nothing is set.
+    /// The same sizes again. Fails only where allocation fails, and never where nothing is set.
     pub fn clone(&self, alloc: Global) -> Result<CompleteDimension, AllocError>
         ensures sizes { IfOk result (λ copy. copy ≡ self.now) }
         ensures none { self.now ≡ none_stored → IsOk result }
@@ -209,7 +209,7 @@ fn copied(alloc: Global, sizes: Option<&[usize]>) -> Result<Option<Vec<usize>>, 
     }
 }
 
-/// Nothing is set. Takes no memory.
+/// Nothing is set. Does not allocate.
 impl Default for CompleteDimension {
     ghost use Rattle.std.specs.Prelude.{◌≡◌};
     ghost use Rattle.tabled_size_dimension.specs.Stored.{none_stored};

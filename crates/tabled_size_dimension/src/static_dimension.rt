@@ -41,7 +41,7 @@ impl StaticDimension {
         self.width.covers(columns) && self.height.covers(rows)
     }
 
-    /// The same sizes again. Refused for memory alone, and never where there are no lists.
+    /// The same sizes again. Fails only where allocation fails, and never where there are no lists.
     pub fn clone(&self, alloc: Global) -> Result<StaticDimension, AllocError>
         ensures sizes { IfOk result (λ copy. copy ≡ self.now) }
         ensures none { (width height : _) → self.now ≡ (Alike width, Alike height) → IsOk result }

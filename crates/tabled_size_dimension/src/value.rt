@@ -29,7 +29,7 @@ impl DimensionValue {
         }
     }
 
-    /// The same sizes again. Refused for memory alone, and never where there is no list.
+    /// The same sizes again. Fails only where allocation fails, and never where there is no list.
     pub fn clone(&self, alloc: Global) -> Result<DimensionValue, AllocError>
         ensures sizes { IfOk result (λ copy. value_sizes copy ≡ value_sizes self.now) }
         ensures none { (size : _) → value_sizes self.now ≡ Alike size → IsOk result }

@@ -70,7 +70,7 @@ impl PriorityNone {
         if self.next < count { self.next } else { 0 }
     }
 
-    // Goes on behind a column, or stays.
+    // Goes on after a column, or stays.
     fn go_behind(&mut self, last: Option<usize>)
         requires { IfSome last (λ column. column + 1 < 2 ^ 64) }
         ensures { MatchOption last (self.new ≡ self.old) (λ column. self.new ≡ column + 1) }

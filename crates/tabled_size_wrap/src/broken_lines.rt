@@ -53,7 +53,7 @@ fn push_runs(
     ensures { OnOk result (string_bytes out.new ≡ string_bytes out.old ++ join_with_byte line_feed (broken_lines width keep_words (pieces line.now))) }
 {
     let mut place = Place::start_of(line);
-    // the bytes behind the place that this line of the answer keeps, and the columns that it has taken
+    // the bytes after the place that this line of the answer keeps, and the columns that it has taken
     let mut kept = 0;
     let mut used = 0;
     for unit in LineUnits::new(stripped, width, keep_words) {
@@ -125,7 +125,7 @@ fn push_nothing(alloc: Global, out: &mut String, line: &str) -> Result<(), Alloc
     push_slice(alloc, out, &mut place, 0)
 }
 
-// Appends the part of a line from a place on, and goes to the place behind it. Of a line that shows some
+// Appends the part of a line from a place on, and goes to the place after it. Of a line that shows some
 // text no bytes are no part.
 fn push_part<'a>(
     alloc: Global,
@@ -145,8 +145,8 @@ fn push_part<'a>(
     push_slice(alloc, out, place, len)
 }
 
-// Appends so many bytes of a line from a place on, with the sequences among and behind them, and goes to
-// the place behind them.
+// Appends so many bytes of a line from a place on, with the sequences among and after them, and goes to
+// the place after them.
 fn push_slice<'a>(
     alloc: Global,
     out: &mut String,

@@ -105,7 +105,7 @@ pub fn worked_wraps()
     ensures nothing { (keep_words : Bool) (text : List ℕ) → WrapsTo 0 keep_words text [] }
 {}
 
-/// Cuts worked out by hand: sequences stay, also those behind the cut that end the style; a line feed ends
+/// Cuts worked out by hand: sequences stay, also those after the cut that end the style; a line feed ends
 /// a line; a column that a wide character can't fill is marked.
 pub fn worked_cuts()
     ensures all_sequences { CutsTo 0 (codes "\u{1b}[31;100m123456\u{1b}[39m\u{1b}[49m") (codes "\u{1b}[31;100m\u{1b}[39m\u{1b}[49m") }

@@ -15,7 +15,7 @@ use std::marker::Model;
 pub struct Unit {
     /// The byte at which it begins.
     pub start: usize,
-    /// The byte behind it.
+    /// The byte after it.
     pub end: usize,
     /// The columns that it costs.
     pub cost: usize,
@@ -24,7 +24,7 @@ pub struct Unit {
 /// The units of a line in their order: its characters, each of which costs the larger of 1 and its own
 /// width; or, where words are kept, its spaces, each of which costs 1, the words between them that
 /// measure at most the width, which cost what they measure, and the characters of longer words. Joined
-/// they are the line without its sequences. The only refusal is for memory. (Unicode Standard Annex 11,
+/// they are the line without its sequences. It fails only where allocation fails. (Unicode Standard Annex 11,
 /// by the rules of `unicode_width`.)
 pub fn units(
     alloc: Global,
@@ -49,7 +49,7 @@ pub fn units(
 pub(crate) struct LineUnits<'a> {
     // characters that are units
     characters: &'a str,
-    // what stands behind them, of which the words are kept
+    // what stands after them, of which the words are kept
     words: &'a str,
     // where the characters begin
     place: usize,

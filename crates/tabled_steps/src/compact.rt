@@ -25,7 +25,7 @@ impl KeptSizes for ZeroDimension {
     ghost sizes = { λ _. none_stored };
 }
 
-/// Replaces all settings. Takes no memory.
+/// Replaces all settings. Does not allocate.
 impl<R: RecordTexts, D: KeptSizes> TableOption<R, CompactConfig, D> for CompactConfig {
     ghost step = { λ config state outcome. looking (λ _. compact_look (compact_of config)) state ≡ outcome };
 

@@ -16,7 +16,7 @@ use std::mem;
 // Lets a value go that has many parts: dropping it in place would be proved part by part.
 fn let_go<T: Drop>(_value: T) {}
 
-/// Replaces all settings but the colours of the cells. Refused for memory alone.
+/// Replaces all settings but the colours of the cells. Fails only where allocation fails.
 impl<R: RecordTexts, D: KeptSizes> TableOption<R, ColoredConfig, D> for CompactConfig {
     ghost step = { λ config state outcome. looking (λ _. compact_look (compact_of config)) state ≡ outcome };
 
@@ -39,7 +39,7 @@ impl<R: RecordTexts, D: KeptSizes> TableOption<R, ColoredConfig, D> for CompactC
     }
 }
 
-/// Replaces all settings but the colours of the cells. Takes no memory.
+/// Replaces all settings but the colours of the cells. Does not allocate.
 impl<R: RecordTexts, D: KeptSizes> TableOption<R, ColoredConfig, D> for SpannedConfig {
     ghost step = { λ settings state outcome. looking (λ _. look_of settings) state ≡ outcome };
 
@@ -61,7 +61,7 @@ impl<R: RecordTexts, D: KeptSizes> TableOption<R, ColoredConfig, D> for SpannedC
     }
 }
 
-/// The same by a clone. Refused for memory alone.
+/// The same by a clone. Fails only where allocation fails.
 impl<'a, R: RecordTexts, D: KeptSizes> TableOption<R, ColoredConfig, D> for &'a SpannedConfig {
     ghost step = { λ settings state outcome. looking (λ _. look_of settings.now) state ≡ outcome };
 
@@ -84,7 +84,7 @@ impl<'a, R: RecordTexts, D: KeptSizes> TableOption<R, ColoredConfig, D> for &'a 
     }
 }
 
-/// Replaces all settings and the colours of the cells. Takes no memory.
+/// Replaces all settings and the colours of the cells. Does not allocate.
 impl<R: RecordTexts, D: KeptSizes> TableOption<R, ColoredConfig, D> for ColoredConfig {
     ghost step = { λ config state outcome. Ok (record state { look = look_of config.settings; colors = value_at config.colors }) ≡ outcome };
 

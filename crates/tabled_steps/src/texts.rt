@@ -16,13 +16,13 @@ pub trait TextChange {
     /// What a text at a place becomes; nothing where it stays.
     ghost changed: { Self → Place → List ℕ → Option (List ℕ) };
 
-    /// What the text at this place becomes, and `None` where it stays. Refused for memory alone.
+    /// What the text at this place becomes, and `None` where it stays. Fails only where allocation fails.
     fn change(&self, alloc: Global, pos: Position, text: &str) -> Result<Option<String>, AllocError>
         ensures { IfOk result (λ out. option_map string_bytes out ≡ changed self.now pos text.now) };
 }
 
 /// Changes the texts of the cells that the entity covers. All are worked out before the first is set:
-/// refused for memory alone, and then none has changed.
+/// failing only where allocation fails, and then none has changed.
 pub fn change_texts<T: FromText, X: TextChange>(
     alloc: Global,
     records: &mut VecRecords<T>,

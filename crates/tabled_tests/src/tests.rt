@@ -1,3 +1,4 @@
+//! Tables as their makers and options leave them.
 use grid_config::{
     AlignmentHorizontal, AlignmentVertical, ColoredConfig, CompactConfig, Entity, Fault, Indent,
     Position, Sides, SpannedConfig,
@@ -22,7 +23,7 @@ fn at(row: usize, column: usize) -> Position {
     Position::new(row, column)
 }
 
-// The texts of a table, each behind a `|`, and each row ended by a `;`.
+// The texts of a table, each after a `|`, and each row ended by a `;`.
 fn texts(alloc: Global, table: &Table) -> Result<String, AllocError> {
     let mut all = String::new(alloc);
     for row in 0..table.count_rows() {

@@ -25,7 +25,7 @@ impl Builder {
     ghost use Rattle.std.specs.Iterator.{Drains, IsFinite};
     ghost use Rattle.tabled_text.specs.Rows.{filled, longest, text_rows};
 
-    /// No rows. Takes no memory.
+    /// No rows. Does not allocate.
     pub fn new(alloc: Global) -> Builder
         ensures { result ≡ [] }
     {
@@ -41,14 +41,14 @@ impl Builder {
         Ok(Builder { rows, columns })
     }
 
-    /// These rows. Takes no memory.
+    /// These rows. Does not allocate.
     pub fn from_vec(rows: Vec<Vec<String>>) -> Builder
         ensures { result ≡ text_rows rows.items }
     {
         Builder { rows, columns: 0 }
     }
 
-    /// One more row, of these texts, on condition that they end. The only refusal is for memory, and then
+    /// One more row, of these texts, on condition that they end. It fails only where allocation fails, and then
     /// the rows are what they were.
     pub fn push_record<I: IntoIterator>(&mut self, texts: I) -> Result<(), AllocError>
     where
@@ -77,7 +77,7 @@ impl Builder {
         longest_row(&self.rows)
     }
 
-    /// The rows, each with as many texts as the longest: behind a short one stand empty texts. The only
+    /// The rows, each with as many texts as the longest: after a short one stand empty texts. The only
     /// refusal is for memory.
     pub fn into_rows(self) -> Result<Vec<Vec<String>>, AllocError>
         ensures { IfOk result (λ rows. text_rows rows.items ≡ filled self) }
@@ -137,7 +137,7 @@ fn empty_row(alloc: Global, columns: usize) -> Vec<String>
     }
 }
 
-/// The row, and behind it an empty text for each that it lacks of so many.
+/// The row, and after it an empty text for each that it lacks of so many.
 fn filled_row(row: Vec<String>, columns: usize) -> Result<Vec<String>, AllocError>
     ensures { IfOk result (λ filled. map string_bytes filled.items ≡ filled_texts columns (map string_bytes row.items)) }
 {

@@ -16,7 +16,7 @@ pub trait CellText {
     ghost is_there: { Bool };
 
     /// The text that `Display` prints for the value. Where it stands in memory already it is a borrow,
-    /// without memory; else the only refusal is for memory.
+    /// without allocating; else it fails only where allocation fails.
     fn cell_text(&self, alloc: Global) -> Result<CowStr<'_>, AllocError>
         ensures text { IfOk result (λ out. cow_str_bytes out ≡ text self.now) }
         ensures answers { is_there ≡ true → IsOk result }

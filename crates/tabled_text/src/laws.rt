@@ -20,7 +20,7 @@ pub fn headers_have_length<T: Tabled>(alloc: Global) -> Result<bool, AllocError>
     Ok(T::headers(alloc)?.len() == T::length())
 }
 
-/// Rows of two texts and of one are two texts long, and an empty text stands behind the one.
+/// Rows of two texts and of one are two texts long, and an empty text stands after the one.
 pub fn rows_are_filled()
     ensures longest { longest ((codes "a" ∷ codes "b" ∷ []) ∷ (codes "c" ∷ []) ∷ []) ≡ 2 }
     ensures filled { filled ((codes "a" ∷ codes "b" ∷ []) ∷ (codes "c" ∷ []) ∷ []) ≡ (codes "a" ∷ codes "b" ∷ []) ∷ (codes "c" ∷ [] ∷ []) ∷ [] }

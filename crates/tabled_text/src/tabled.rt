@@ -19,12 +19,12 @@ pub trait Tabled {
     fn length() -> usize
         ensures { result ≡ saturated (length names) };
 
-    /// The texts of the fields, `length()` of them. The only refusal is for memory.
+    /// The texts of the fields, `length()` of them. It fails only where allocation fails.
     fn fields(&self, alloc: Global) -> Result<Vec<CowStr<'_>>, AllocError>
         ensures texts { IfOk result (λ out. texts_of out.items ≡ texts self.now) }
         ensures count { IfOk result (λ out. vec_len out ≡ length names) };
 
-    /// The names of the fields, `length()` of them. The only refusal is for memory.
+    /// The names of the fields, `length()` of them. It fails only where allocation fails.
     fn headers(alloc: Global) -> Result<Vec<CowStr<'static>>, AllocError>
         ensures names { IfOk result (λ out. texts_of out.items ≡ names) }
         ensures count { IfOk result (λ out. vec_len out ≡ length names) };

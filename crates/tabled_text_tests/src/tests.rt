@@ -5,7 +5,7 @@ use std::process::Abort;
 use std::test::Fail;
 use tabled_text::{Builder, CellText, Tabled, laws};
 
-// The texts, each behind a `|`.
+// The texts, each after a `|`.
 fn joined(alloc: Global, texts: Vec<CowStr<'_>>) -> Result<String, AllocError> {
     let mut all = String::new(alloc);
     for text in texts {
@@ -15,7 +15,7 @@ fn joined(alloc: Global, texts: Vec<CowStr<'_>>) -> Result<String, AllocError> {
     Ok(all)
 }
 
-// A value has these names and these fields, each behind a `|`, and both are `length()` texts.
+// A value has these names and these fields, each after a `|`, and both are `length()` texts.
 fn has<T: Tabled>(alloc: Global, value: &T, names: &str, fields: &str) -> Result<bool, AllocError> {
     let counted = laws::fields_have_length(alloc, value)? && laws::headers_have_length::<T>(alloc)?;
     let named = joined(alloc, T::headers(alloc)?)?.as_str() == names;
@@ -27,7 +27,7 @@ fn shows<T: CellText>(alloc: Global, value: &T, text: &str) -> Result<bool, Allo
     Ok(value.cell_text(alloc)?.as_str() == text)
 }
 
-// The rows of a builder, the texts of each behind a `|`, and each row ended by a `;`.
+// The rows of a builder, the texts of each after a `|`, and each row ended by a `;`.
 fn table(alloc: Global, builder: Builder) -> Result<String, AllocError> {
     let mut all = String::new(alloc);
     for row in builder.into_rows()? {
@@ -143,7 +143,7 @@ fn short_rows_are_filled(rt: HostRuntime) -> Result<(), Fail> {
     room.push_record("x".fields(a)?)?;
     room.push_record([""; 0])?;
     assert_eq!(rt; table(a, room)?.as_str(), "|&str;|x;|;");
-    // rows at hand, and a longer one behind them
+    // rows at hand, and a longer one after them
     let mut given = Builder::from_vec(vec![in a; vec![in a; "a".to_string(a)?]?]?);
     given.push_record(["b", "c", "d"])?;
     assert_eq!(rt; given.count_columns(), 3);

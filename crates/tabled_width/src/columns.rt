@@ -8,7 +8,7 @@ use grid_config::{Fault, SpannedConfig};
 use grid_records_estimate::total;
 
 /// What columns of these widths take, with the boundaries that are there and the margins; nothing where
-/// there are none. Refused as `Range` exactly where it passes `usize::MAX`. Takes no memory.
+/// there are none. Refused as `Range` exactly where it passes `usize::MAX`. Does not allocate.
 pub(crate) fn table_width(cfg: &SpannedConfig, widths: &[usize]) -> Result<usize, Fault>
     ensures whole { result ≡ sized (width_of (look_of cfg.now) widths.now) }
     ensures held { all_sized widths.now ≡ Ok widths.now }

@@ -12,7 +12,7 @@ pub(crate) trait LineChange {
     /// What a line becomes.
     ghost becomes: { Self → List ℕ → List ℕ };
 
-    /// Appends what the line becomes. Refused for memory alone.
+    /// Appends what the line becomes. Fails only where allocation fails.
     fn push_line(&self, alloc: Global, out: &mut String, line: &str) -> Result<(), AllocError>
         ensures { OnOk result (string_bytes out.new ≡ string_bytes out.old ++ becomes self.now line.now) };
 }
@@ -36,7 +36,7 @@ pub(crate) fn change_lines<L: LineChange>(
     Ok(out)
 }
 
-// Appends what a line becomes, behind a line feed where others came before it.
+// Appends what a line becomes, after a line feed where others came before it.
 fn push_behind<L: LineChange>(
     alloc: Global,
     out: &mut String,

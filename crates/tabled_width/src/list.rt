@@ -18,14 +18,14 @@ pub struct WidthList {
 }
 
 impl WidthList {
-    /// These widths. Takes no memory.
+    /// These widths. Does not allocate.
     pub fn new(list: Vec<usize>) -> WidthList
         ensures { result.list.items ≡ list.items }
     {
         WidthList { list }
     }
 
-    /// The items in their order, on condition that they end. The only refusal is for memory.
+    /// The items in their order, on condition that they end. It fails only where allocation fails.
     pub fn from_iter<I: IntoIterator<Item = usize>>(
         alloc: Global,
         items: I,
@@ -43,7 +43,7 @@ impl WidthList {
     }
 }
 
-/// These widths. Takes no memory.
+/// These widths. Does not allocate.
 impl From<Vec<usize>> for WidthList {
     ghost from_gives = { λ list widths. widths.list.items ≡ list.items };
 
@@ -52,7 +52,7 @@ impl From<Vec<usize>> for WidthList {
     }
 }
 
-/// Keeps these widths, where there are as many as columns. Takes no memory.
+/// Keeps these widths, where there are as many as columns. Does not allocate.
 impl<T: FromText> TableOption<VecRecords<T>, ColoredConfig, CompleteDimension> for WidthList {
     ghost step = { λ widths state outcome. with_width_list widths.list.items state ≡ outcome };
 

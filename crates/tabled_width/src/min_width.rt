@@ -14,7 +14,7 @@ use std::alloc::Global;
 use tabled_size_priority::{Peaker, PriorityNone};
 use tabled_steps::{CellOption, Measurement};
 
-/// Makes the lines of cells at least so wide, by a character behind them.
+/// Makes the lines of cells at least so wide, by a character after them.
 #[derive(Clone, Copy, Debug, PartialEq, Eq, PartialOrd, Ord)]
 pub struct MinWidth<W = usize, P = PriorityNone> {
     width: W,
@@ -36,7 +36,7 @@ impl<W> MinWidth<W> {
 }
 
 impl<W, P> MinWidth<W, P> {
-    /// The same with this character behind the lines of cells.
+    /// The same with this character after the lines of cells.
     pub fn fill_with(self, c: char) -> MinWidth<W, P>
         ensures { result ≡ record self { fill = c } }
     {

@@ -9,7 +9,7 @@ pub(crate) trait RoomChange {
     /// What a text becomes; nothing where it stays.
     ghost fitted: { Self → ℕ → List ℕ → Option (List ℕ) };
 
-    /// What the text becomes in so many columns, and `None` where it stays. Refused for memory alone.
+    /// What the text becomes in so many columns, and `None` where it stays. Fails only where allocation fails.
     fn fit(&self, alloc: Global, text: &str, room: usize) -> Result<Option<String>, AllocError>
         ensures { IfOk result (λ out. option_map string_bytes out ≡ fitted self.now room text.now) };
 }

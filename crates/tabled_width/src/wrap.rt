@@ -26,7 +26,7 @@ pub struct Wrap<W = usize, P = PriorityNone> {
 }
 
 impl Wrap<(), ()> {
-    /// The text with its lines broken at the width: `wrap_styled`. The only refusal is for memory.
+    /// The text with its lines broken at the width: `wrap_styled`. It fails only where allocation fails.
     pub fn wrap(
         alloc: Global,
         text: &str,

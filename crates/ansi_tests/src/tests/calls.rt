@@ -1,4 +1,4 @@
-//! Calls that take memory, each with ample memory; `tests/memory` refuses it.
+//! Calls that allocate, each with ample memory; `tests/memory` refuses it.
 use super::search::expect_parts;
 use super::{expect, expect_found};
 use Call::*;
@@ -77,7 +77,7 @@ const MIXED: &str = "a\x1b[2Jb\x1b[31mc\x1b[1é\x1b[0md";
 // are not good.
 const LEFT: &[(&str, Call, Option<&str>)] = &[
     ("\x1b[31mab\n\x1b]0;t\x07c", Strip, Some("ab\nc")),
-    // a broken ESC counts as a sequence, and what stands behind it is text
+    // a broken ESC counts as a sequence, and what stands after it is text
     ("a\x1b[1é\x1b[0m\x1b", Strip, Some("a[1é")),
     ("\x1b[2J\x1b(B\x1bPq\x1b\\", Strip, Some("")),
     (" \x1b[1m a ", Strip, Some("  a ")),
@@ -157,7 +157,7 @@ const LEFT: &[(&str, Call, Option<&str>)] = &[
         Between(0, 2),
         Some("\x1b[1mé\x1b[3m\x1b[22m\x1b[23m"),
     ),
-    // every sequence before the end is kept, also one that sets nothing, and a broken one; none behind it
+    // every sequence before the end is kept, also one that sets nothing, and a broken one; none after it
     (MIXED, Between(2, 3), Some("\x1b[2J\x1b[31mc\x1b\x1b[39m")),
     (MIXED, Between(0, 1), Some("a\x1b[2J")),
     (MIXED, From(8), Some("\x1b[2J\x1b[31m\x1b\x1b[0m")),
@@ -273,7 +273,7 @@ const BOUNDARIES: &[(&str, &[usize])] = &[
     ("aéb", &[0, 1, 3, 4]),
     ("\x1b[31ma\x1b[1mé\x1b[0m漢\x1b[0m", &[0, 1, 3, 6]),
     ("\x1b]0;é\x07é", &[0, 2]),
-    // a broken ESC counts as a sequence, and what stands behind it is text
+    // a broken ESC counts as a sequence, and what stands after it is text
     ("a\x1b[1é\x1b", &[0, 1, 2, 3, 5]),
 ];
 
@@ -317,7 +317,7 @@ const SEARCHES: &[(&str, &str, Search)] = &[
     ("é\x1b[1mè", "é", (true, false, Some(0))),
     ("é\x1b[1mè", "è", (false, true, Some(2))),
     ("漢\x1b[1mé\x1b[0m漢", "é漢", (false, true, Some(3))),
-    // a broken ESC shows nothing, and what stands behind it is text
+    // a broken ESC shows nothing, and what stands after it is text
     ("a\x1b[1é", "a[1é", (true, true, Some(0))),
     ("a\x1b[1é", "1é", (false, true, Some(2))),
     ("a\x1b[1é", "\x1b", (false, false, None)),

@@ -40,7 +40,7 @@ const CUTS: &[(&str, Bounds, Option<&str>)] = &[
     (BOLD, Between(3, 1), None),
 ];
 
-// What a range cuts of a text, behind the test of its bounds.
+// What a range cuts of a text, after the test of its bounds.
 fn expect_cut<R: AnsiRange>(
     rt: &impl Abort,
     alloc: Global,
@@ -209,7 +209,7 @@ const PARTS: &[(&str, &[usize], &[&str])] = &[
             "",
         ],
     ),
-    // a broken ESC is a sequence, and what stands behind it is text
+    // a broken ESC is a sequence, and what stands after it is text
     ("a\x1b\nb\x1b[1", &[1, 5], &["a\x1b", "\nb\x1b[1", ""]),
     ("aéb", &[1, 3], &["a", "é", "b"]),
     ("", &[], &[""]),

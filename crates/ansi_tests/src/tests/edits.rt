@@ -31,7 +31,7 @@ const EDITS: &[(&str, &[Edit<'static>], Option<&str>)] = &[
         Some("\x1b[1m \x1b[0m"),
     ),
     (SPACED, &[Edit::Prefix("a"), Edit::Trim], None),
-    // nothing comes behind an edit that fails
+    // nothing comes after an edit that fails
     (BOLD, &[Edit::Left(1), Edit::Prefix("b"), Edit::Trim], None),
     (BOLD, &[Edit::Prefix("a"), Edit::Prefix("a")], None),
     // cuts; past the end is the end

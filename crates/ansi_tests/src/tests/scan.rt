@@ -41,7 +41,7 @@ fn expect_slices(rt: &impl Abort, text: &str) {
 // A text, its items, and where the first broken one stands.
 const ITEMS: &[(&str, &[(Kind, usize, usize)], Option<usize>)] = &[
     ("", &[], None),
-    // an ESC alone, one behind text, two of them
+    // an ESC alone, one after text, two of them
     ("\x1b", &[(Kind::Broken, 0, 1)], Some(0)),
     (
         "ab\x1b",
@@ -74,7 +74,7 @@ const ITEMS: &[(&str, &[(Kind, usize, usize)], Option<usize>)] = &[
         &[(Kind::Broken, 0, 1), (Kind::Text, 1, 3), (Kind::Esc, 3, 5)],
         Some(0),
     ),
-    // one behind the other
+    // one after the other
     (
         "\x1b[31ma\x1b[1",
         &[

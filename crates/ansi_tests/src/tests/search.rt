@@ -9,7 +9,7 @@ use std::test::Fail;
 // A text, and what it shows.
 const SHOWN: &[(&str, &str)] = &[
     ("\x1b[31mab\n\x1b]0;t\x07c", "ab\nc"),
-    // a broken ESC counts as a sequence, and what stands behind it is text
+    // a broken ESC counts as a sequence, and what stands after it is text
     ("a\x1b[1é\x1b", "a[1é"),
     ("é漢\u{9b}31m\n", "é漢\u{9b}31m\n"),
     ("", ""),
@@ -36,7 +36,7 @@ fn strips(rt: HostRuntime) -> Result<(), Fail> {
     Ok(())
 }
 
-// The next part. Behind a refusal, which `tests/memory` makes, none comes any more.
+// The next part. After a refusal, which `tests/memory` makes, none comes any more.
 fn next_part<'a>(
     rt: &impl Abort,
     parts: &mut AnsiSplit<'a>,
@@ -115,7 +115,7 @@ const AT_THE_EMPTY_PATTERN: &[Row] = &[
 ];
 
 const AT_ONE_BYTE: &[Row] = &[
-    // a sequence right before a match, and one right behind it
+    // a sequence right before a match, and one right after it
     (
         "\x1b[31ma\x1b[1m:\x1b[4mb",
         ":",

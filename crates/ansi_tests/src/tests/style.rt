@@ -211,7 +211,7 @@ const START: &str =
 const END: &str =
     "\x1b[10m\x1b[22m\x1b[23m\x1b[24m\x1b[25m\x1b[27m\x1b[28m\x1b[29m\x1b[39m\x1b[49m\x1b[50m\x1b[54m\x1b[55m\x1b[59m\x1b[65m\x1b[75m";
 
-// What is left to clear behind a code is all but its own.
+// What is left to clear after a code is all but its own.
 fn expect_cleared(
     rt: &impl Abort,
     alloc: Global,
@@ -307,7 +307,7 @@ fn named_colors(rt: HostRuntime) {
     );
 }
 
-// A sequence, and the colours of the style behind it.
+// A sequence, and the colours of the style after it.
 const COLORS: &[(&str, Option<Color>, Option<Color>)] = &[
     ("", None, None),
     ("\x1b[31;44m", Some(Color::Red), Some(Color::Blue)),

@@ -1,3 +1,4 @@
+//! Readers and writers that are counted.
 use crate::fakes::{ByteReader, Recorder, StepWriter};
 use columns_run::Counted;
 use std::io::{ErrorKind, Read, Write};

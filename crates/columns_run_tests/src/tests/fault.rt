@@ -1,3 +1,4 @@
+//! The lines of the faults.
 use columns_run::RunFault;
 use std::alloc::{AllocError, Global};
 use std::process::Abort;

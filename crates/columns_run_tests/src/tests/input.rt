@@ -1,3 +1,4 @@
+//! All bytes of a reader, and how reading ends.
 use super::counted::expect_counts;
 use crate::fakes::{ByteReader, EndlessReader};
 use columns_run::{Counted, RunFault, read_all};

@@ -1,3 +1,4 @@
+//! What a run writes, and when it gives up.
 ghost use Rattle.std.specs.Prelude.{◌≡◌, IfOk};
 ghost use Rattle.grid_config.specs.Compact.{compact_of};
 ghost use Rattle.columns_run.specs.Layout.{output_of};

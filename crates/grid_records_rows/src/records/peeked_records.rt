@@ -15,7 +15,7 @@ use std::alloc::{AllocError, Global};
 use std::borrow::CowStr;
 
 /// Records that are looked up by place, as records to read: as many rows as they count, each of as many
-/// cells as they count columns. A cell answers what the records answer of its place, so that what they
+/// cells as they count columns. A cell returns what the records answer of its place, so that what they
 /// know of their texts is not measured again.
 #[derive(Drop)]
 pub struct PeekedRecords<'a, R> {
@@ -23,7 +23,7 @@ pub struct PeekedRecords<'a, R> {
 }
 
 impl<'a, R: ExactRecords + PeekableRecords> PeekedRecords<'a, R> {
-    /// These records. Takes no memory.
+    /// These records. Does not allocate.
     pub fn new(records: &'a R) -> PeekedRecords<'a, R>
         ensures rows { ⟦<PeekedRecords<'a, R> as RecordTexts>⟧.rows result ≡ fitted (R.columns records.now) (R.rows records.now) }
         ensures columns { ⟦<PeekedRecords<'a, R> as RecordColumns>⟧.columns result ≡ R.columns records.now }

@@ -26,7 +26,7 @@ pub struct VecRecords<T> {
     ghost equally_long: { AreEquallyLong rows.items },
 }
 
-/// Whether all rows have as many cells. Takes no memory.
+/// Whether all rows have as many cells. Does not allocate.
 pub fn are_equally_long<T>(rows: &[Vec<T>]) -> bool
     ensures { IsTrue result ↔ AreEquallyLong rows.now }
 {
@@ -37,7 +37,7 @@ pub fn are_equally_long<T>(rows: &[Vec<T>]) -> bool
 }
 
 impl<T: Cell> VecRecords<T> {
-    /// These rows, on condition that each has as many cells. Takes no memory.
+    /// These rows, on condition that each has as many cells. Does not allocate.
     pub fn new(rows: Vec<Vec<T>>) -> VecRecords<T>
         requires { AreEquallyLong rows.items }
         ensures { ⟦<VecRecords<T> as RecordTexts>⟧.rows result ≡ texts_of_rows T.text rows.items }

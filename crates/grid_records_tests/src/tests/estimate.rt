@@ -248,7 +248,7 @@ const SPANS: &[(&[&str], Spanning, [usize; 3])] = &[
         &[(0, 0, 2), (1, 1, 2)],
         [3, 3, 2],
     ),
-    // a span that has one column in the table, and one behind the last row
+    // a span that has one column in the table, and one after the last row
     (
         &["x", "", "zzz", "", "yy", ""],
         &[(0, 2, 5), (2, 0, 3)],

@@ -58,7 +58,7 @@ const LINE_WIDTHS: &[(&str, usize)] = &[
     ("🇯\x1b[1m🇵", 2),
     ("e\x1b[1m\u{301}", 1),
     ("\x1b[1m👩\u{200d}\x1b[0m🔬", 2),
-    // a broken ESC measures nothing, and what stands behind it is text
+    // a broken ESC measures nothing, and what stands after it is text
     ("\x1b[1é", 3),
     ("a\x1b]t\x18\x1b\\b", 5),
 ];
@@ -78,7 +78,7 @@ const DIMENSIONS: &[(&str, usize, usize)] = &[
     ("\x1b]0;wide\ntitle\x07ab\nc", 2, 2),
     ("a\n\x1b[31m", 2, 1),
     ("\x1b[31m\n\x1b[0m表", 2, 2),
-    // behind a broken ESC stands text, its line feeds too
+    // after a broken ESC stands text, its line feeds too
     ("a\x1b]0;b\nc", 2, 5),
     ("\x1b\n\x1b[1", 2, 2),
 ];
@@ -96,7 +96,7 @@ fn measures_lines(rt: HostRuntime) {
 
 // ---- lines
 
-// The next line, which is a borrow where the text has no ESC. Behind a refusal, which `tests/memory`
+// The next line, which is a borrow where the text has no ESC. After a refusal, which `tests/memory`
 // makes, none comes any more.
 fn expect_line(
     rt: &impl Abort,
@@ -168,7 +168,7 @@ const TABS: &[(&str, usize, &str)] = &[
     ("\x1b]0;a\tb\x07\t", 1, "\x1b]0;a\tb\x07 "),
     ("\t\x1b[1m\t\t漢\t", 3, "   \x1b[1m      漢   "),
     ("\ta\t", 0, "a"),
-    // behind a broken escape stands text
+    // after a broken escape stands text
     ("\x1b]0;\ta", 1, "\x1b]0; a"),
     ("", 4, ""),
     // no room is asked for

@@ -13,7 +13,7 @@ use std::borrow::CowStr;
 use std::process::Abort;
 use std::test::Fail;
 
-// The cells of a source, each with a bar behind it and a row to a line.
+// The cells of a source, each with a bar after it and a row to a line.
 fn text_of_source<R: IntoRecords>(alloc: Global, records: R) -> Result<String, AllocError> {
     let mut out = String::new(alloc);
     for cells in records.iter_rows() {

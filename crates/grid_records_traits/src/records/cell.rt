@@ -17,8 +17,8 @@ pub trait Cell: Drop {
     fn text(&self) -> &str
         ensures { result.now ≡ text self.now };
 
-    /// The line with this number, with its styles opened and ended within, and behind the last the empty
-    /// text. Without ESC it is a borrow, without memory; else the only refusal is for memory.
+    /// The line with this number, with its styles opened and ended within, and after the last the empty
+    /// text. Without ESC it is a borrow, without allocating; else it fails only where allocation fails.
     fn line(&self, alloc: Global, index: usize) -> Result<CowStr<'_>, AllocError>
         ensures line { IfOk result (λ out. IsLineAt (text self.now) index (cow_str_bytes out)) }
         ensures answers { has_escape (text self.now) ≡ false → IsOk result }
@@ -27,21 +27,21 @@ pub trait Cell: Drop {
         line_of(alloc, self.text(), index)
     }
 
-    /// How many lines the text has. Takes no memory.
+    /// How many lines the text has. Does not allocate.
     fn count_lines(&self) -> usize
         ensures { HasLineCount (text self.now) result }
     {
         count_lines(self.text())
     }
 
-    /// The columns of its widest line. Takes no memory.
+    /// The columns of its widest line. Does not allocate.
     fn width(&self) -> usize
         ensures { HasWidth (text self.now) result }
     {
         get_text_width(self.text())
     }
 
-    /// How many lines the text has, and the columns of the widest, of one reading. Takes no memory.
+    /// How many lines the text has, and the columns of the widest, of one reading. Does not allocate.
     fn dimension(&self) -> (usize, usize)
         ensures lines { HasLineCount (text self.now) result.0 }
         ensures width { HasWidth (text self.now) result.1 }
@@ -49,7 +49,7 @@ pub trait Cell: Drop {
         get_text_dimension(self.text())
     }
 
-    /// The columns of the line with this number, and behind the last 0. Takes no memory.
+    /// The columns of the line with this number, and after the last 0. Does not allocate.
     fn line_width(&self, index: usize) -> usize
         ensures { HasLineWidth (text self.now) index result }
     {

@@ -11,7 +11,7 @@ pub use given::{GivenCells, GivenRows};
 use std::alloc::AllocError;
 
 /// A source of rows of cells. An iterator over its rows gives iterators over their cells, and each of
-/// these answers a cell or a refusal for memory, behind which it gives `None`.
+/// these returns a cell or a refusal for memory, after which it gives `None`.
 pub trait IntoRecords: RecordTexts {
     type Cell: Cell;
 

@@ -18,8 +18,8 @@ pub trait PeekableRecords: RecordTexts {
     fn get_text(&self, pos: Position) -> &str
         ensures { result.now ≡ text_at (Self.rows self.now) pos };
 
-    /// The line with this number, with its styles opened and ended within, and behind the last the empty
-    /// text. Without ESC it is a borrow, without memory; else the only refusal is for memory.
+    /// The line with this number, with its styles opened and ended within, and after the last the empty
+    /// text. Without ESC it is a borrow, without allocating; else it fails only where allocation fails.
     fn get_line(&self, alloc: Global, pos: Position, line: usize) -> Result<CowStr<'_>, AllocError>
         ensures line { IfOk result (λ out. IsLineAt (text_at (Self.rows self.now) pos) line (cow_str_bytes out)) }
         ensures answers { has_escape (text_at (Self.rows self.now) pos) ≡ false → IsOk result }
@@ -28,21 +28,21 @@ pub trait PeekableRecords: RecordTexts {
         line_of(alloc, self.get_text(pos), line)
     }
 
-    /// How many lines this text has. Takes no memory.
+    /// How many lines this text has. Does not allocate.
     fn count_lines(&self, pos: Position) -> usize
         ensures { HasLineCount (text_at (Self.rows self.now) pos) result }
     {
         count_lines(self.get_text(pos))
     }
 
-    /// The columns of its widest line. Takes no memory.
+    /// The columns of its widest line. Does not allocate.
     fn get_width(&self, pos: Position) -> usize
         ensures { HasWidth (text_at (Self.rows self.now) pos) result }
     {
         get_text_width(self.get_text(pos))
     }
 
-    /// The columns of the line with this number, and behind the last 0. Takes no memory.
+    /// The columns of the line with this number, and after the last 0. Does not allocate.
     fn get_line_width(&self, pos: Position, line: usize) -> usize
         ensures { HasLineWidth (text_at (Self.rows self.now) pos) line result }
     {

@@ -25,7 +25,7 @@ struct ShownLine {
 }
 
 /// Reads the lines of the cell at this place: with a vertical trim no blank lines at both ends, and with
-/// a horizontal trim no white space at both ends of each. Refused for memory alone.
+/// a horizontal trim no white space at both ends of each. Fails only where allocation fails.
 pub(crate) fn read_cell<'a, R: PeekableRecords>(
     alloc: Global,
     records: &'a R,
@@ -115,7 +115,7 @@ fn blank_front(lines: &[ShownLine]) -> usize
     lines.len()
 }
 
-// How many lines there are without the blank ones behind the others.
+// How many lines there are without the blank ones after the others.
 fn len_without_blank_end(lines: &[ShownLine]) -> usize
     ensures trimmed { result ≡ length lines.now - suffix_len (λ line. line.is_blank) lines.now }
     ensures within { result ≤ length lines.now }
@@ -159,7 +159,7 @@ fn take_lines<'a>(
     Ok(cell)
 }
 
-// The next line, and behind the last the empty text.
+// The next line, and after the last the empty text.
 fn next_line<'a>(lines: &mut Lines<'a>) -> Result<CowStr<'a>, AllocError>
     ensures line { IfOk result (λ line. cow_str_bytes line ≡ slice_index_or lines.old.parts 0 []) }
     ensures rest { OnOk result (lines.new.parts ≡ drop 1 lines.old.parts) }

@@ -30,7 +30,7 @@ pub struct BufRecords<I: IntoRecords> {
 
 impl<I: IntoRecords> BufRecords<I> {
     /// The rows of the source, the first of which are read and kept: so many, or all where it has fewer.
-    /// The only refusal is for memory, of a cell that is read or of room to keep it.
+    /// It fails only where allocation fails, of a cell that is read or of room to keep it.
     pub fn new(alloc: Global, records: I, count: usize) -> Result<BufRecords<I>, AllocError>
         ensures rows { IfOk result (λ out. ⟦<BufRecords<I> as RecordTexts>⟧.rows out ≡ I.RecordTexts.rows records) }
         ensures kept { IfOk result (λ out. ⟦<BufRecords<I> as KeptTexts>⟧.kept out ≡ take count (I.RecordTexts.rows records)) }
@@ -50,7 +50,7 @@ impl<I: IntoRecords> BufRecords<I> {
         })
     }
 
-    /// The rows that are kept. Takes no memory.
+    /// The rows that are kept. Does not allocate.
     pub fn as_slice(&self) -> &[Vec<I::Cell>]
         ensures { texts_of_rows I.Cell.text result.now ≡ ⟦<BufRecords<I> as KeptTexts>⟧.kept self.now }
     {

@@ -20,7 +20,7 @@ pub struct Fitted<I> {
 }
 
 impl<I: IntoRecords> Fitted<I> {
-    /// So many cells of each row. Takes no memory.
+    /// So many cells of each row. Does not allocate.
     pub fn new(records: I, columns: usize) -> Fitted<I>
         ensures rows { ⟦<Fitted<I> as RecordTexts>⟧.rows result ≡ fitted columns (I.RecordTexts.rows records) }
         ensures refuses { ⟦<Fitted<I> as RecordTexts>⟧.may_refuse result ≡ I.RecordTexts.may_refuse records }
@@ -86,7 +86,7 @@ where
     }
 }
 
-/// As many cells of a row, `None` for each that it lacks. Behind a refusal no further one comes.
+/// As many cells of a row, `None` for each that it lacks. After a refusal no further one comes.
 #[derive(Debug, Drop)]
 pub struct FittedCells<I> {
     cells: Option<I>,

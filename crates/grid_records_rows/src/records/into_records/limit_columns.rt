@@ -17,7 +17,7 @@ pub struct LimitColumns<I> {
 }
 
 impl<I: IntoRecords> LimitColumns<I> {
-    /// As many cells of each row of the source, or all where it has fewer. Takes no memory.
+    /// As many cells of each row of the source, or all where it has fewer. Does not allocate.
     pub fn new(records: I, limit: usize) -> LimitColumns<I>
         ensures rows { ⟦<LimitColumns<I> as RecordTexts>⟧.rows result ≡ map (take limit) (I.RecordTexts.rows records) }
         ensures refuses { ⟦<LimitColumns<I> as RecordTexts>⟧.may_refuse result ≡ I.RecordTexts.may_refuse records }

@@ -1,4 +1,4 @@
-//! The rows of a source behind its first.
+//! The rows of a source after its first.
 ghost use Rattle.std.specs.Iterator.Adapters.{skip_count, skip_source};
 ghost use Rattle.std.specs.Prelude.{◌≡◌, drop, refl};
 ghost use Rattle.grid_records_rows.specs.Laws.Adapters.{gives_skipped};
@@ -8,7 +8,7 @@ use crate::records::RecordTexts;
 use crate::records::into_records::IntoRecords;
 use std::iter::Skip;
 
-/// The rows of a source behind its first.
+/// The rows of a source after its first.
 #[derive(Debug, Drop)]
 pub struct SkipRows<I> {
     records: I,
@@ -16,7 +16,7 @@ pub struct SkipRows<I> {
 }
 
 impl<I: IntoRecords> SkipRows<I> {
-    /// The rows behind so many, or none where it has no more. Takes no memory.
+    /// The rows after so many, or none where it has no more. Does not allocate.
     pub fn new(records: I, count: usize) -> SkipRows<I>
         ensures rows { ⟦<SkipRows<I> as RecordTexts>⟧.rows result ≡ drop count (I.RecordTexts.rows records) }
         ensures refuses { ⟦<SkipRows<I> as RecordTexts>⟧.may_refuse result ≡ I.RecordTexts.may_refuse records }

@@ -24,7 +24,7 @@ pub struct TruncateContent<I, D> {
 }
 
 impl<I: IntoRecords, D: Dimension + Copy> TruncateContent<I, D> {
-    /// The cells of the source, cut at these widths. Takes no memory itself.
+    /// The cells of the source, cut at these widths. Does not allocate itself.
     pub fn new(alloc: Global, records: I, dimension: D) -> TruncateContent<I, D>
         ensures { ⟦<TruncateContent<I, D> as RecordTexts>⟧.rows result ≡ truncated_rows (D.width dimension) (I.RecordTexts.rows records) }
     {
@@ -129,7 +129,7 @@ where
     }
 }
 
-/// The cells of a row, cut; none behind a refusal.
+/// The cells of a row, cut; none after a refusal.
 #[derive(Debug, Drop)]
 pub struct TruncatedCells<I, D> {
     alloc: Global,

@@ -20,7 +20,7 @@ impl Model for Text {
 }
 
 impl Text {
-    /// A cell with this text. The only refusal is for memory.
+    /// A cell with this text. It fails only where allocation fails.
     pub fn new(_alloc: Global, text: String) -> Result<Text, AllocError>
         ensures { IfOk result (λ cell. cell ≡ string_bytes text) }
     {
@@ -36,9 +36,9 @@ impl Cell for Text {
     }
 }
 
-/// A cell that can be made of a text, without memory.
+/// A cell that can be made of a text, without allocating.
 pub trait FromText: Cell {
-    /// A cell with this text. Takes no memory.
+    /// A cell with this text. Does not allocate.
     fn from_text(given: Text) -> Self
         ensures { Self.text result ≡ given };
 }
