@@ -11,7 +11,8 @@ use std::borrow::CowStr;
 use tabled_size_wrap::{cut_styled, wrap_styled};
 
 /// A text that takes so many columns, resized to the room that its column leaves: wrapped there, or cut
-/// where it takes more. A text that is not cut is borrowed. It fails only where allocation fails.
+/// where it takes more. Where cells are cut, one that fits is borrowed. It
+/// fails only where allocation fails.
 pub fn resized_cell<'a>(
     alloc: Global,
     asked: &Asked,

@@ -30,7 +30,7 @@ impl LayoutIterator {
         }
     }
 
-    /// One for each value of which a table made by `Table::kv` has rows.
+    /// One for each batch of as many rows of the table as the type has fields.
     pub fn kv_batches<T: Tabled>(table: &Table) -> LayoutIterator
         ensures { let batch = saturated (length T.names) in values_left result ≡ multiples (batches (length (state_of (λ text. text) table.now).rows) batch) batch }
     {

@@ -241,8 +241,8 @@ impl<I: IntoRecords, D: Dimension + Drop> CompactTable<I, D> {
         Ok(text)
     }
 
-    /// Makes the whole text, as `to_string`, and then writes it. A table without a text, or without allocating
-    /// for it, leaves the writer alone. It gives up with `Write` at the first error of any kind, and with
+    /// Makes the whole text, as `to_string`, and then writes it. A table that has no text,
+    /// or none for want of memory, leaves the writer alone. It gives up with `Write` at the first error of any kind, and with
     /// `WriteZero` where the writer takes nothing; a front of the text is then written, and the writer isn't
     /// called again. Nothing is flushed.
     pub fn build<W: Write>(self, alloc: Global, writer: &mut Counted<W>) -> Result<(), BuildFault>

@@ -23,7 +23,7 @@ pub struct MinWidth<W = usize, P = PriorityNone> {
 }
 
 impl<W> MinWidth<W> {
-    /// At least this width: cells are filled with spaces, and columns grow one after the other.
+    /// At least this width, filled with spaces, and the priority that takes columns one after the other.
     pub const fn new(width: W) -> MinWidth<W>
         ensures { result ≡ record { width = width; fill = 0x20; priority = 0 } }
     {
@@ -47,7 +47,7 @@ impl<W, P> MinWidth<W, P> {
         }
     }
 
-    /// The same with this priority of the columns of a table.
+    /// The same with this priority of the columns of a table, which the option of cells doesn't look at.
     pub fn priority<PP: Peaker>(self, priority: PP) -> MinWidth<W, PP>
     where
         P: Drop,

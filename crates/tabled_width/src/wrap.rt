@@ -40,7 +40,7 @@ impl Wrap<(), ()> {
 }
 
 impl<W> Wrap<W> {
-    /// At this width: words are broken, and columns are shrunk one after the other.
+    /// At this width, with words broken, and the priority that takes columns one after the other.
     pub fn new(width: W) -> Wrap<W>
         ensures { result ≡ record { width = width; keep_words = false; priority = 0 } }
     {
@@ -64,7 +64,7 @@ impl<W, P> Wrap<W, P> {
         }
     }
 
-    /// The same with this priority of the columns of a table.
+    /// The same with this priority of the columns of a table, which the option of cells doesn't look at.
     pub fn priority<PP: Peaker>(self, priority: PP) -> Wrap<W, PP>
     where
         P: Drop,
