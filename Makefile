@@ -8,14 +8,16 @@ PREFIX ?= /usr/local
 # Folders count too, so that a file that went away is noticed.
 SOURCES := crates.txt HANDLES $(shell find crates -name out -prune -o \
 	\( -path '*/src*' -o -path '*/specs*' -o -path '*/proofs*' \) -print)
+# The words of the program: `make run WORDS='--width 60'`.
+WORDS ?=
 # Standard input is taken as it comes and not opened anew.
 FROM = $(if $(filter /dev/stdin -,$(INPUT)),,< '$(INPUT)')
 
 .NOTPARALLEL:
 .PHONY: run test check fmt bench attack install clean help
 
-run: $(PROGRAM)     ## print the table of INPUT (INPUT=/dev/stdin reads standard input)
-	@$(PROGRAM) $(FROM)
+run: $(PROGRAM)     ## print the table of INPUT (INPUT=/dev/stdin reads standard input) as WORDS ask
+	@$(PROGRAM) $(WORDS) $(FROM)
 
 test:               ## the gate: every proof, every test, then the built program from outside
 	@tests/run
@@ -32,9 +34,14 @@ bench: $(PROGRAM)   ## instructions and memory per input byte (BENCH='--kinds wi
 attack:             ## try the wrong bodies of attacks/ (ATTACK='CRATE' or 'CRATE/NAME' for some)
 	@attacks/run $(ATTACK)
 
-install: $(PROGRAM) ## put the program into PREFIX/bin
-	install -d '$(DESTDIR)$(PREFIX)/bin'
+install: $(PROGRAM) ## put the program, its manual page and completions into PREFIX
+	install -d '$(DESTDIR)$(PREFIX)/bin' '$(DESTDIR)$(PREFIX)/share/man/man1'
 	install -m 755 $(PROGRAM) '$(DESTDIR)$(PREFIX)/bin/columns'
+	install -m 644 docs/columns.1 '$(DESTDIR)$(PREFIX)/share/man/man1/columns.1'
+	install -d '$(DESTDIR)$(PREFIX)/share/bash-completion/completions' '$(DESTDIR)$(PREFIX)/share/zsh/site-functions' '$(DESTDIR)$(PREFIX)/share/fish/vendor_completions.d'
+	install -m 644 completions/columns.bash '$(DESTDIR)$(PREFIX)/share/bash-completion/completions/columns'
+	install -m 644 completions/_columns '$(DESTDIR)$(PREFIX)/share/zsh/site-functions/_columns'
+	install -m 644 completions/columns.fish '$(DESTDIR)$(PREFIX)/share/fish/vendor_completions.d/columns.fish'
 
 clean:              ## remove everything that was built or generated
 	rm -rf crates/*/out bench/data

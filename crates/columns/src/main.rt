@@ -1,25 +1,77 @@
-//! Prints tab-separated text as a table with borders.
+//! Prints tab-separated text as a table with borders, as the words of the command line ask.
 #![tactic(auto)]
+ghost use Rattle.columns_run.specs.Plain.{IsPlain};
+ghost use Rattle.grid_config.specs.Compact.{compact_of};
 
-pub use columns_run::{Counted, Options, RunFault, laws, run, style_is_plain};
-use std::io::Eprint;
+pub use columns_run::{Counted, Options, RunFault, laws, run, run_streamed, style_is_plain};
+pub use columns_words::{Asked, read_words};
+use std::env;
+use std::io::{self, ErrorKind};
 use std::process::ExitCode;
+use tabled_output::write_all;
 
-/// Standard input to standard output. Its status is 0, or 1 with one line on standard error.
+/// Standard input to standard output. Its status is 0; or 1 with one line on standard error; or 2, where
+/// the words are at fault, with a text on standard error.
 fn main(rt: HostRuntime) -> ExitCode {
-    // Neither stream has a buffer of this program's, so there is nothing to flush at the end.
+    let words = match words(&rt) {
+        Ok(words) => words,
+        Err(error) => return unread(&rt, &error),
+    };
+    match read_words(rt.alloc(), &words) {
+        Ok(Asked::Run { options, streamed }) => ended(&rt, print(&rt, &options, streamed)),
+        Ok(Asked::Help(text)) => ended(&rt, tell(&rt, &text)),
+        Ok(Asked::Faulty(text)) => faulty(&rt, &text),
+        Err(error) => ended(&rt, Err(error.into())),
+    }
+}
+
+// The words of the command line, of which the first is the program's name.
+fn words(rt: &HostRuntime) -> io::Result<Vec<String>> {
+    let words = env::args(rt)?.collect(rt.alloc())?;
+    Ok(words)
+}
+
+// Prints the table. Neither stream has a buffer of this program's, so there is nothing to flush.
+fn print(rt: &HostRuntime, options: &Options, streamed: bool) -> Result<(), RunFault>
+    requires { IsPlain (compact_of options.now.style) }
+{
     let mut reader = Counted::new(rt.stdin());
     let mut writer = Counted::new(rt.stdout());
-    match run(rt.alloc(), &Options::new(), &mut reader, &mut writer) {
+    if streamed {
+        run_streamed(rt.alloc(), &options.style, &mut reader, &mut writer)
+    } else {
+        run(rt.alloc(), options, &mut reader, &mut writer)
+    }
+}
+
+// Prints a text that was asked for.
+fn tell(rt: &HostRuntime, text: &str) -> Result<(), RunFault> {
+    let mut writer = Counted::new(rt.stdout());
+    Ok(write_all(&mut writer, text.as_bytes())?)
+}
+
+// The status of a call, with a line on standard error where it failed. Where standard error takes
+// nothing, the status alone tells.
+fn ended(rt: &HostRuntime, outcome: Result<(), RunFault>) -> ExitCode {
+    match outcome {
         Ok(()) => ExitCode::SUCCESS,
         Err(fault) => {
-            report(&rt, fault);
+            let _ = eprintln!(rt; "columns: {fault}");
             ExitCode::FAILURE
         }
     }
 }
 
-// Where standard error takes nothing, the status alone tells.
-fn report(rt: &impl Eprint, fault: RunFault) {
-    let _ = eprintln!(rt; "columns: {fault}");
+// Words that the command doesn't take.
+fn faulty(rt: &HostRuntime, text: &str) -> ExitCode {
+    let _ = eprint!(rt; "{text}");
+    ExitCode::from(2)
+}
+
+// Words that could not be read: memory was refused, or one is not UTF-8.
+fn unread(rt: &HostRuntime, error: &io::Error) -> ExitCode {
+    match error.kind() {
+        ErrorKind::OutOfMemory => ended(rt, Err(RunFault::Memory)),
+        _ => faulty(rt, "columns: an argument is not UTF-8\n"),
+    }
 }

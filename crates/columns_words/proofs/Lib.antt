@@ -1,2 +1,3 @@
 pub mod ColumnsLemmas
 pub mod PassedLemmas
+pub mod StyleLemmas

@@ -112,7 +112,7 @@ fn style<'a>(alloc: Global) -> Arg<'a>
         .help("The table's lines: - | +, light, double, or none at all")
 }
 
-// Whether to go row by row.
+// Whether to print a streamed table.
 fn streamed<'a>(alloc: Global) -> Arg<'a>
     ensures rule { rule_of result ≡ flag_rule (codes "streamed") }
     ensures global { result.global ≡ false }
@@ -120,5 +120,5 @@ fn streamed<'a>(alloc: Global) -> Arg<'a>
     Arg::new(alloc, "streamed")
         .long("streamed")
         .action(ArgAction::SetTrue)
-        .help("Print row by row, by --style alone [default: the whole table]")
+        .help("Print a streamed table: as wide as its text, by --style alone")
 }

@@ -14,7 +14,7 @@ use std::convert::AsStr;
 /// What the words of a command line ask.
 #[derive(Debug, Drop)]
 pub enum Asked {
-    /// A table, with these options; row by row where `streamed` is set, and then by their style alone.
+    /// A table, with these options; where `streamed` is set a streamed one, by their style alone.
     Run { options: Options, streamed: bool },
     /// This text, the help or the version, which is for standard output.
     Help(String),

@@ -1,0 +1,7 @@
+use Rattle.std.proofs.Common.{subst}
+use Rattle.columns_words.specs.Asking.{IsAnswer}
+use Rattle.columns.proofs.StyleLemmas.{asked-plain}
+use Rattle.columns.proofs.main.Goals as goal
+
+pub print-requires : goal.print-requires
+print-requires c = asked-plain _ c.in-Ok-Run.options c.in-Ok-Run.streamed (subst (IsAnswer _) c.in-Ok-Run.field-0-is c.in-Ok-Run.ensures)
