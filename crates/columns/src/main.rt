@@ -25,9 +25,13 @@ fn main(rt: HostRuntime) -> ExitCode {
     }
 }
 
-// The words of the command line, of which the first is the program's name.
+// The words of the command line, of which the first is the program's name. They are pushed one by one,
+// since `collect` goes on where the memory that it asks for early is refused.
 fn words(rt: &HostRuntime) -> io::Result<Vec<String>> {
-    let words = env::args(rt)?.collect(rt.alloc())?;
+    let mut words = Vec::new(rt.alloc());
+    for word in env::args(rt)? {
+        words.push(word)?;
+    }
     Ok(words)
 }
 
