@@ -60,8 +60,7 @@ plain-ascii =
 plain-modern : plain-glyphs modern
 plain-modern =
     let across = plain 0x2500 refl refl refl in
-    let down = plain 0x2502 refl refl refl in
-    (
+    let down = plain 0x2502 refl refl refl in (
       (plain 0x250c refl refl refl, plain 0x252c refl refl refl, plain 0x2510 refl refl refl),
       (plain 0x251c refl refl refl, plain 0x253c refl refl refl, plain 0x2524 refl refl refl),
       (plain 0x2514 refl refl refl, plain 0x2534 refl refl refl, plain 0x2518 refl refl refl),
@@ -72,8 +71,7 @@ plain-modern =
 plain-extended : plain-glyphs extended
 plain-extended =
     let across = plain 0x2550 refl refl refl in
-    let down = plain 0x2551 refl refl refl in
-    (
+    let down = plain 0x2551 refl refl refl in (
       (plain 0x2554 refl refl refl, plain 0x2566 refl refl refl, plain 0x2557 refl refl refl),
       (plain 0x2560 refl refl refl, plain 0x256c refl refl refl, plain 0x2563 refl refl refl),
       (plain 0x255a refl refl refl, plain 0x2569 refl refl refl, plain 0x255d refl refl refl),

@@ -1,5 +1,6 @@
 //! Prints tab-separated text as a table with borders, as the words of the command line ask.
 #![tactic(auto)]
+
 ghost use Rattle.columns_run.specs.Plain.{IsPlain};
 ghost use Rattle.grid_config.specs.Compact.{compact_of};
 
