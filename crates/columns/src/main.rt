@@ -1,7 +1,7 @@
 //! Prints tab-separated text as a table with borders.
 #![tactic(auto)]
 
-pub use columns_run::{Counted, Options, RunFault, laws, run, style_is_plain};
+pub use columns_run::{Counted, Options, RunFault, laws, run, run_streamed, style_is_plain};
 use std::io::Eprint;
 use std::process::ExitCode;
 
