@@ -1,5 +1,5 @@
 -- A text that has a table has one without its sequences.
-use Rattle.std.proofs.Common.{◌≡◌, ◌≢◌, ℕ, true, false, List, [], ◌∷◌, ◌++◌, refl, ap, sym, subst, ◌∙◌}
+use Rattle.std.proofs.Common.{◌≡◌, ◌≢◌, ◌↔◌, ℕ, true, false, List, [], ◌∷◌, ◌++◌, refl, ap, sym, subst, ◌∙◌}
 use Rattle.std.specs.Prelude.{chars}
 use Rattle.ansi_scan.specs.declared.items.Kind.{Kind}
 use Rattle.ansi_scan.specs.declared.items.Kind.TheVariants.{Text, Sgr, Csi, Osc, Esc, Str, Broken}
@@ -47,12 +47,14 @@ stripped-strip : (input : List ℕ) (ps : List Piece) → ArePiecesOf input ps �
 stripped-strip input ps of_input =
     ap strip (pieces-ArePiecesOf input ps of_input) ∙ sym (strip-without_escape (strip ps) (pieces (strip ps)) (ArePiecesOf-pieces (strip ps)) (has_escape-strip input ps of_input))
 
-TableFits-strip : (options : Options) (input : List ℕ) (ps : List Piece) → ArePiecesOf input ps → TableFits options input → TableFits options (strip ps)
+pub fits-strip : (options : Options) (input : List ℕ) (ps : List Piece) → ArePiecesOf input ps → (TableFits options (strip ps) ↔ TableFits options input)
 unfolding TableFits
-TableFits-strip options input ps of_input fits =
-    subst (λ bytes. AskedFits (compact_of options.style) (asked_of options) (texts_of (chars bytes))) (stripped-strip input ps of_input) fits
+fits-strip options input ps of_input =
+    let Fits : List ℕ → Type 0 = λ bytes. AskedFits (compact_of options.style) (asked_of options) (texts_of (chars bytes)) in
+    let same = stripped-strip input ps of_input in
+    (λ fits. subst Fits (sym same) fits, λ fits. subst Fits same fits)
 
-wide_cell-strip : (options : Options) (input : List ℕ) (ps : List Piece) → ArePiecesOf input ps → wide_cell options (strip ps) ≡ wide_cell options input
+pub wide_cell-strip : (options : Options) (input : List ℕ) (ps : List Piece) → ArePiecesOf input ps → wide_cell options (strip ps) ≡ wide_cell options input
 unfolding wide_cell
 wide_cell-strip options input ps of_input =
     ap (λ bytes. too_wide (compact_of options.style) (asked_of options) (texts_of (chars bytes))) (sym (stripped-strip input ps of_input))
@@ -61,6 +63,6 @@ pub HasTable-strip : (options : Options) (input : List ℕ) (ps : List Piece) �
 HasTable-strip options input ps of_input has = (
   IsUtf8-strip ps (TextsAreUtf8-pieces input ps of_input has.0),
   IsWhole-plain (strip ps) (has_escape-strip input ps of_input),
-  TableFits-strip options input ps of_input has.2,
+  (fits-strip options input ps of_input).1 has.2,
   wide_cell-strip options input ps of_input ∙ has.3,
 )

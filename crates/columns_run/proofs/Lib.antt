@@ -7,6 +7,7 @@ pub mod PassLemmas
 pub mod PictureLemmas
 pub mod PlaceLemmas
 pub mod PlainLemmas
+pub mod RefusalLemmas
 pub mod RowLemmas
 pub mod ServeLemmas
 pub mod ShowLemmas

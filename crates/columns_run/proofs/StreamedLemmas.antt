@@ -12,7 +12,7 @@ use Rattle.tabled_size_priority.specs.declared.choice.Choice.{Choice}
 use Rattle.tabled_size_priority.specs.declared.choice.Choice.TheVariants.{None as InTurns}
 use Rattle.columns_run.specs.Layout.{TableFits, asked_of, output_of, picture, texts_of, wide_cell, without_width}
 use Rattle.columns_run.specs.Rows.{cell_parts, rows_of, stripped}
-use Rattle.columns_run.specs.Run.{HasTable, MayAnswer, Serves, Writes}
+use Rattle.columns_run.specs.Run.{HasTable, MayAnswer, MayRefuse, Serves, Writes}
 use Rattle.columns_run.specs.TableShown.{ShowsTableOf}
 use Rattle.columns_run.specs.declared.fault.RunFault.{RunFault}
 use Rattle.columns_run.specs.declared.fault.RunFault.TheVariants.{Escape, LineTooWide, Memory, NotUtf8, Range, Read, ReadTooLong, Write, WriteZero}
@@ -98,17 +98,20 @@ module _ (first second : Options) (alike : AreAlike first second) (input : List 
   has : HasTable first input → HasTable second input
   has table = (table.0, table.1, alike.fits input table.2, sym (alike.wide input) ∙ table.3)
 
+  refuse : (fault : RunFault) → MayRefuse first input fault → MayRefuse second input fault
+  refuse Read may = tt
+  refuse ReadTooLong may = may
+  refuse (NotUtf8 at) may = may
+  refuse (Escape at) may = may
+  refuse Range may = (may.0, may.1, λ good. may.2 (alike.fits_back input good))
+  refuse (LineTooWide row column) may = (may.0, may.1, alike.fits input may.2, sym (alike.wide input) ∙ may.3)
+  refuse Write may = has may
+  refuse WriteZero may = has may
+  refuse Memory may = tt
+
   answer : {T : Type 0} (result : Result T RunFault) → MayAnswer first input result → MayAnswer second input result
   answer (Ok value) may = has may
-  answer (Err Read) may = tt
-  answer (Err ReadTooLong) may = may
-  answer (Err (NotUtf8 at)) may = may
-  answer (Err (Escape at)) may = may
-  answer (Err Range) may = (may.0, may.1, λ good. may.2 (alike.fits_back input good))
-  answer (Err (LineTooWide row column)) may = (may.0, may.1, alike.fits input may.2, sym (alike.wide input) ∙ may.3)
-  answer (Err Write) may = has may
-  answer (Err WriteZero) may = has may
-  answer (Err Memory) may = tt
+  answer (Err fault) may = refuse fault may
 
   shows : HasTable second input → ShowsTableOf first input (output_of first input) → ShowsTableOf second input (output_of second input)
   shows table shown =
@@ -139,6 +142,12 @@ module _ (options : Options) (input : List ℕ) (none : options.width ≡ None) 
 
   pub accepted-streamed : HasTable (without_width options.style) input ↔ HasTable options input
   accepted-streamed = (has (without_width options.style) options alike input, has options (without_width options.style) back input)
+
+pub refuses-streamed : (options : Options) (input : List ℕ) (fault : RunFault) → options.width ≡ None → (MayRefuse (without_width options.style) input fault ↔ MayRefuse options input fault)
+refuses-streamed options input fault none = (
+  refuse (without_width options.style) options (alike options input none) input fault,
+  refuse options (without_width options.style) (back options input none) input fault,
+)
 
 pub serves-streamed : (options : Options) (input : List ℕ) (result : Result ⊤ RunFault) (old new : Option (List ℕ)) → options.width ≡ None
     → (Serves (without_width options.style) input result old new ↔ Serves options input result old new)

@@ -46,6 +46,14 @@ IsOfInput (LineTooWide row column) = ⊤
 IsOfInput Memory = ⊤
 IsOfInput _ = ⊥
 
+-- a fault that tells why an input has no table
+abbrev pub TellsOfInput : RunFault → Type 0
+TellsOfInput (NotUtf8 at) = ⊤
+TellsOfInput (Escape at) = ⊤
+TellsOfInput Range = ⊤
+TellsOfInput (LineTooWide row column) = ⊤
+TellsOfInput _ = ⊥
+
 -- a fault that writing may give
 abbrev pub IsOfWriting : RunFault → Type 0
 IsOfWriting Write = ⊤

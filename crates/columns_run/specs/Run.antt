@@ -19,20 +19,24 @@ read_limit = 2 ^ 40
 abbrev pub HasTable : Options → List ℕ → Type 0
 HasTable options input = IsUtf8 input × IsWhole input × TableFits options input × (wide_cell options input ≡ None)
 
--- an input may be answered so. The cases exclude one another, but for the faults of reading, writing
--- and memory, which the counts of the reader and the writer tell
+-- a run of an input may give up so. The cases exclude one another, but for the faults of reading, writing and memory, which
+-- the counts of the reader and the writer tell
+abbrev pub MayRefuse : Options → List ℕ → RunFault → Type 0
+MayRefuse options input Read = ⊤
+MayRefuse options input ReadTooLong = read_limit ≤ length input
+MayRefuse options input (NotUtf8 at) = ¬ (IsUtf8 input) × (at ≡ utf8_valid_len input)
+MayRefuse options input (Escape at) = IsUtf8 input × IsFirstBroken input at
+MayRefuse options input Range = IsUtf8 input × IsWhole input × ¬ (TableFits options input)
+MayRefuse options input (LineTooWide row column) =
+    IsUtf8 input × IsWhole input × TableFits options input × (wide_cell options input ≡ Some (record { row = row; col = column }))
+MayRefuse options input Write = HasTable options input
+MayRefuse options input WriteZero = HasTable options input
+MayRefuse options input Memory = ⊤
+
+-- an input may be answered so
 abbrev pub MayAnswer : {T : Type 0} → Options → List ℕ → Result T RunFault → Type 0
 MayAnswer options input (Ok _) = HasTable options input
-MayAnswer options input (Err Read) = ⊤
-MayAnswer options input (Err ReadTooLong) = read_limit ≤ length input
-MayAnswer options input (Err (NotUtf8 at)) = ¬ (IsUtf8 input) × (at ≡ utf8_valid_len input)
-MayAnswer options input (Err (Escape at)) = IsUtf8 input × IsFirstBroken input at
-MayAnswer options input (Err Range) = IsUtf8 input × IsWhole input × ¬ (TableFits options input)
-MayAnswer options input (Err (LineTooWide row column)) =
-    IsUtf8 input × IsWhole input × TableFits options input × (wide_cell options input ≡ Some (record { row = row; col = column }))
-MayAnswer options input (Err Write) = HasTable options input
-MayAnswer options input (Err WriteZero) = HasTable options input
-MayAnswer options input (Err Memory) = ⊤
+MayAnswer options input (Err fault) = MayRefuse options input fault
 
 -- what is written of the text with an answer: all of it, or a front of it where writing was cut
 -- short, or nothing

@@ -10,10 +10,11 @@ ghost use Rattle.columns_options.specs.declared.options.Options.{Options};
 ghost use Rattle.grid_config.specs.Compact.{compact_of};
 ghost use Rattle.papergrid_picture.specs.Shown.{Styled, in_plain};
 ghost use Rattle.columns_run.specs.Rows.{places};
-ghost use Rattle.columns_run.specs.Layout.{asked_of, characters_of, output_of, picture, table_characters, without_width};
+ghost use Rattle.columns_run.specs.Layout.{TableFits, asked_of, characters_of, output_of, picture, table_characters, wide_cell, without_width};
 ghost use Rattle.columns_run.specs.Plain.{IsPlain};
 ghost use Rattle.columns_run.specs.TableShown.{ShowsTableOf};
-ghost use Rattle.columns_run.specs.Run.{HasTable, Serves};
+ghost use Rattle.columns_run.specs.Run.{HasTable, MayRefuse, Serves};
+ghost use Rattle.columns_run.specs.Fault.{TellsOfInput};
 ghost use Rattle.tabled_size_priority.specs.declared.choice.Choice.TheVariants.{None as InTurns, MaxLeft};
 ghost use Rattle.columns_run.specs.declared.fault.RunFault.{RunFault};
 
@@ -69,7 +70,8 @@ pub fn places_match()
 {}
 
 /// Styles change no character of the picture, which is that of the characters alone. A text without its sequences has
-/// a table where the text has one, and it is, byte for byte, the output without its sequences.
+/// a table where the text has one, and it is, byte for byte, the output without its sequences; it is in range where the
+/// text is, and the same cell of it is too wide.
 pub fn without_styles()
     ensures picture { (options : Options) (characters : List Styled) →
         characters_of (picture options characters) ≡ characters_of (picture options (map in_plain (characters_of characters))) }
@@ -79,8 +81,18 @@ pub fn without_styles()
         output_of options text ≡ encode_utf8_all (table_characters options (chars text)) }
     ensures accepted { (options : Options) (input : List ℕ) (ps : List Piece) →
         ArePiecesOf input ps → HasTable options input → HasTable options (strip ps) }
+    ensures fits { (options : Options) (input : List ℕ) (ps : List Piece) → ArePiecesOf input ps → (TableFits options (strip ps) ↔ TableFits options input) }
+    ensures too_wide { (options : Options) (input : List ℕ) (ps : List Piece) → ArePiecesOf input ps → wide_cell options (strip ps) ≡ wide_cell options input }
     ensures output { (options : Options) (input : List ℕ) (ps qs : List Piece) → IsPlain (compact_of options.style) →
         IsUtf8 input → ArePiecesOf input ps → NoneBroken ps → ArePiecesOf (output_of options input) qs → strip qs ≡ output_of options (strip ps) }
+{}
+
+/// An input that has no table is refused by one name and place alone, memory and the reader aside; one that has
+/// a table is never refused by such a name.
+pub fn one_refusal()
+    ensures one { (options : Options) (input : List ℕ) (fault other : RunFault) → TellsOfInput fault → TellsOfInput other →
+        MayRefuse options input fault → MayRefuse options input other → fault ≡ other }
+    ensures no_table { (options : Options) (input : List ℕ) (fault : RunFault) → TellsOfInput fault → MayRefuse options input fault → ¬ (HasTable options input) }
 {}
 
 /// The style of `Options::new` is plain, so that `run` takes it.
@@ -94,6 +106,7 @@ pub fn default_style_is_plain()
 pub fn streamed_tables_are_tables()
     ensures bytes { (options : Options) (input : List ℕ) → options.width ≡ None → output_of (without_width options.style) input ≡ output_of options input }
     ensures accepted { (options : Options) (input : List ℕ) → options.width ≡ None → (HasTable (without_width options.style) input ↔ HasTable options input) }
+    ensures refuses { (options : Options) (input : List ℕ) (fault : RunFault) → options.width ≡ None → (MayRefuse (without_width options.style) input fault ↔ MayRefuse options input fault) }
     ensures serves { (options : Options) (input : List ℕ) (result : Result ⊤ RunFault) (old new : Option (List ℕ)) → options.width ≡ None →
         (Serves (without_width options.style) input result old new ↔ Serves options input result old new) }
 {}
