@@ -1,5 +1,5 @@
 -- A text that has a table has one without its sequences.
-use Rattle.std.proofs.Common.{◌≡◌, ◌≢◌, ℕ, true, false, List, [], ◌∷◌, ◌++◌, refl, ap, sym, subst, ◌∙◌}
+use Rattle.std.proofs.Common.{◌≡◌, ◌≢◌, ◌↔◌, ℕ, true, false, List, [], ◌∷◌, ◌++◌, refl, ap, sym, subst, ◌∙◌}
 use Rattle.std.specs.Prelude.{chars}
 use Rattle.ansi_scan.specs.declared.items.Kind.{Kind}
 use Rattle.ansi_scan.specs.declared.items.Kind.TheVariants.{Text, Sgr, Csi, Osc, Esc, Str, Broken}
@@ -11,9 +11,9 @@ use Rattle.ansi_str.specs.StyledText.{has_escape, strip}
 use Rattle.ansi_str_text.proofs.Stripping.{has_escape-strip, strip-without_escape}
 use Rattle.ansi_str_search.proofs.RestLemmas.{no_escape-behind}
 use Rattle.grid_config.specs.Compact.{compact_of}
-use Rattle.papergrid_picture.specs.Fitting.{InRange}
-use Rattle.columns_run.specs.Layout.{frame_under, TableFits, texts_of}
-use Rattle.columns_run.specs.declared.options.Options.{Options}
+use Rattle.columns_asked.specs.Layout.{AskedFits, too_wide}
+use Rattle.columns_run.specs.Layout.{TableFits, asked_of, texts_of, wide_cell}
+use Rattle.columns_options.specs.declared.options.Options.{Options}
 use Rattle.columns_run.specs.Rows.{stripped}
 use Rattle.columns_run.specs.Run.{HasTable}
 use Rattle.columns_run.proofs.ShowLemmas.{TextsAreUtf8-pieces, IsUtf8-strip}
@@ -42,17 +42,27 @@ IsWhole-plain text gone =
     let are = ArePiecesOf-pieces text in
     record { pieces = pieces text; of_text = are; none_broken = none_broken (pieces text) are.stand (ap has_escape are.joins ∙ gone) }
 
--- what is stripped twice fits where what is stripped once does
-TableFits-strip : (options : Options) (input : List ℕ) (ps : List Piece) → ArePiecesOf input ps → TableFits options input → TableFits options (strip ps)
+-- what is stripped twice is what is stripped once
+stripped-strip : (input : List ℕ) (ps : List Piece) → ArePiecesOf input ps → stripped input ≡ stripped (strip ps)
+stripped-strip input ps of_input =
+    ap strip (pieces-ArePiecesOf input ps of_input) ∙ sym (strip-without_escape (strip ps) (pieces (strip ps)) (ArePiecesOf-pieces (strip ps)) (has_escape-strip input ps of_input))
+
+pub fits-strip : (options : Options) (input : List ℕ) (ps : List Piece) → ArePiecesOf input ps → (TableFits options (strip ps) ↔ TableFits options input)
 unfolding TableFits
-TableFits-strip options input ps of_input fits =
-    let gone = has_escape-strip input ps of_input in
-    let same : stripped input ≡ stripped (strip ps) = ap strip (pieces-ArePiecesOf input ps of_input) ∙ sym (strip-without_escape (strip ps) (pieces (strip ps)) (ArePiecesOf-pieces (strip ps)) gone) in
-    subst (λ bytes. InRange (frame_under (compact_of options.style) (texts_of (chars bytes)))) same fits
+fits-strip options input ps of_input =
+    let Fits : List ℕ → Type 0 = λ bytes. AskedFits (compact_of options.style) (asked_of options) (texts_of (chars bytes)) in
+    let same = stripped-strip input ps of_input in
+    (λ fits. subst Fits (sym same) fits, λ fits. subst Fits same fits)
+
+pub wide_cell-strip : (options : Options) (input : List ℕ) (ps : List Piece) → ArePiecesOf input ps → wide_cell options (strip ps) ≡ wide_cell options input
+unfolding wide_cell
+wide_cell-strip options input ps of_input =
+    ap (λ bytes. too_wide (compact_of options.style) (asked_of options) (texts_of (chars bytes))) (sym (stripped-strip input ps of_input))
 
 pub HasTable-strip : (options : Options) (input : List ℕ) (ps : List Piece) → ArePiecesOf input ps → HasTable options input → HasTable options (strip ps)
 HasTable-strip options input ps of_input has = (
   IsUtf8-strip ps (TextsAreUtf8-pieces input ps of_input has.0),
   IsWhole-plain (strip ps) (has_escape-strip input ps of_input),
-  TableFits-strip options input ps of_input has.2,
+  (fits-strip options input ps of_input).1 has.2,
+  wide_cell-strip options input ps of_input ∙ has.3,
 )

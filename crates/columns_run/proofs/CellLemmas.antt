@@ -7,12 +7,12 @@ use Rattle.std.proofs.lemmas.Simd.{map-map}
 use Rattle.std.proofs.lemmas.Str.{chars-nil, encodes-chars}
 use Rattle.ansi_scan.specs.Sequences.{NoneBroken, IsWhole}
 use Rattle.ansi_scan.proofs.Uniqueness.{pieces-ArePiecesOf}
-use Rattle.papergrid_picture.specs.Shown.{Styled}
+use Rattle.papergrid_picture.specs.Shown.{AreWholeTexts, IsWholeText as IsWholeCell, Styled}
 use Rattle.columns_run.specs.Rows.{line_feed, tab, stripped, without_empty_last, rows_of, row_texts, parts_at, without_bare_last, row_parts, cell_parts}
 use Rattle.columns_run.specs.Layout.{characters_of, texts_of}
 use Rattle.columns_run.proofs.ShowLemmas.{IsUtf8-stripped, characters_of-styled}
 use Rattle.columns_run.proofs.SplitLemmas.{styled_characters, IsWholeText, IsClosedPart, whole-closed, styled-parts_at, closed-parts_at}
-use Rattle.columns_run.proofs.ItemLemmas.{AllByRecursion-map_of, map-same}
+use Rattle.columns_run.proofs.ItemLemmas.{AllByRecursion-keeps, AllByRecursion-map_of, map-same}
 
 pub whole_text : (text : List ℕ) → IsUtf8 text → IsWhole text → IsWholeText text
 whole_text text utf8 whole = record { utf8 = utf8; none_broken = subst NoneBroken (sym (pieces-ArePiecesOf text whole.pieces whole.of_text)) whole.none_broken }
@@ -73,6 +73,12 @@ module _ (text : List ℕ) (whole : IsWholeText text) where
   pub closed_cells : AllByRecursion (AllByRecursion IsClosedPart) (cell_parts text)
   closed_cells =
       AllByRecursion-map_of IsClosedPart (AllByRecursion IsClosedPart) (parts_at tab) (λ row closed. closed-parts_at tab row (lit< tt) (whole-closed row closed)) (row_parts text) closed_rows
+
+  pub whole_cells : AreWholeTexts (cell_parts text)
+  whole_cells =
+      AllByRecursion-keeps (AllByRecursion IsClosedPart) (AllByRecursion IsWholeCell)
+      (λ row closed. AllByRecursion-keeps IsClosedPart IsWholeCell (λ part good. record { utf8 = good.utf8; whole = good.closed.none_broken }) row closed)
+      (cell_parts text) closed_cells
 
   styled-row_parts : map styled_characters (row_parts text) ≡ row_texts (λ x. x.0) (styled_characters text)
   styled-row_parts =

@@ -6,15 +6,13 @@ pub mod PartLemmas
 pub mod PassLemmas
 pub mod PictureLemmas
 pub mod PlaceLemmas
-pub mod PrintedLemmas
-pub mod PlacedLemmas
 pub mod PlainLemmas
-pub mod RecordLemmas
+pub mod RefusalLemmas
 pub mod RowLemmas
 pub mod ServeLemmas
 pub mod ShowLemmas
-pub mod SizeLemmas
 pub mod SplitLemmas
+pub mod StreamedLemmas
 pub mod TableLemmas
 pub mod TextLemmas
 pub mod WorkedLemmas

@@ -14,7 +14,8 @@ use Rattle.ansi_str.specs.StyledText.{style_after}
 use Rattle.ansi_str.specs.Blocks.{Block, block_if, blocks_from, text_of_block}
 use Rattle.ansi_str_text.proofs.Shown.{text_of_block-blocks_from}
 use Rattle.columns_run.specs.Rows.{stripped, without_bare_last}
-use Rattle.columns_run.specs.Cells.{cut, last_is_bare}
+use Rattle.columns_run.specs.Cells.{last_is_bare}
+use Rattle.columns_table.specs.Rows.{cut}
 use Rattle.columns_run.proofs.RowLemmas.{cut-append, cut-more}
 
 -- ---- a text that shows nothing

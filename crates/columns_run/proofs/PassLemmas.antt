@@ -8,7 +8,8 @@ use Rattle.std.proofs.lemmas.Bool.Decides.{nat_tests}
 use Rattle.std.proofs.lemmas.List.Folds.{list_all-append}
 use Rattle.std.proofs.lemmas.List.{drop_more, drop_all, take_all, take_more, get_or-drop}
 use Rattle.columns_run.specs.Rows.{line_feed, tab, rows_of}
-use Rattle.columns_run.specs.Cells.{Line, byte_line, cut}
+use Rattle.columns_run.specs.Cells.{Line, byte_line}
+use Rattle.columns_table.specs.Rows.{cut}
 use Rattle.grid_records_measure.specs.Measures.{are_printable}
 use Rattle.columns_run.proofs.RowLemmas.{rows_from-start, rows_with, rows_with-tab, rows_with-line_feed, rows_with-other, rows_with-last, rows_with-none, sum-more}
 

@@ -1,25 +1,23 @@
 -- What a plain style is, by the tests of it.
-use Rattle.std.proofs.Common.{◌≡◌, ◌≢◌, ℕ, ◌==◌, ◌&&◌, ◌||◌, Bool, true, false, if◌then◌else◌, List, [], ◌∷◌, Option, None, Some, eqb-true, length, refl, ap, sym, ◌∙◌, arith}
+use Rattle.std.proofs.Common.{◌≡◌, ℕ, ◌==◌, ◌&&◌, Bool, true, false, if◌then◌else◌, [], Option, None, Some, eqb-true, length, refl, ap, sym, ◌∙◌}
 use Rattle.std.proofs.lemmas.Bool.{and_from, and_parts}
 use Rattle.std.proofs.lemmas.List.{nil_from_length}
 use Rattle.std.specs.Prelude.{IfSome}
 use Rattle.std.specs.Char.{IsScalar, is_control}
-use Rattle.ansi_scan.specs.Sequences.{escape}
 use Rattle.grid_config.specs.Compact.{Compact, each_side, map_borders}
 use Rattle.grid_config.specs.Looks.{compact_look}
-use Rattle.grid_config.specs.Settings.{IsUncolored, color_if, color_if_set, side_colors_if}
+use Rattle.grid_config.specs.Settings.{color_if, color_if_set, side_colors_if}
 use Rattle.grid_config_colors.specs.Colors.{Color, is_no_color, no_color}
 use Rattle.grid_config_values.specs.Glyphs.{BoundaryKind, First, Between, Last, along_column, crossing, in_row, no_borders}
 use Rattle.grid_config_values.specs.declared.borders.Borders.{Borders}
 use Rattle.grid_config_values.specs.declared.sides.Indent.{Indent}
 use Rattle.grid_config_values.specs.declared.sides.Sides.{Sides}
-use Rattle.grid_records_measure.specs.Measures.{own_width}
 use Rattle.grid_records_measure.specs.PlainCharacters.{is_one_column}
 use Rattle.grid_records_measure.proofs.PlainLemmas.{one-column}
-use Rattle.papergrid_picture.specs.Shown.{IsBare, IsShown, IsColoredBy, OnEachSide, ShowsOnly, WritesNothing}
+use Rattle.papergrid_picture.specs.Shown.{IsBare, IsShown, OnEachSide, WritesNothing}
 use Rattle.papergrid_picture.proofs.ShownLemmas.{IsShown-space}
 use Rattle.columns_run.specs.Plain.{ArePlain, GlyphsAre, IsPlain, IsPlainCharacter, are_borders_uncolored, are_sides_uncolored, are_three_uncolored, is_uncolored}
-use Rattle.columns_run.specs.Settings.{ascii_settings}
+use Rattle.columns_options.specs.Settings.{default_settings}
 
 -- a plain character is shown
 shown-plain : (c : ℕ) → IsPlainCharacter c → IsShown c
@@ -269,7 +267,7 @@ settings-plain style plain = (
 plain-ascii : (c : ℕ) → is_one_column c ≡ true → IsScalar c → is_control c ≡ false → IsPlainCharacter c
 plain-ascii c one scalar no_control = record { scalar = scalar; one_column = one-column c one; no_control = no_control }
 
-pub default-plain : IsPlain ascii_settings
+pub default-plain : IsPlain default_settings
 unfolding IsPlain
 default-plain =
     let dash = plain-ascii 0x2d refl refl refl in

@@ -5,7 +5,7 @@ use Rattle.std.proofs.lemmas.List.{take-append-le, drop-append-le, drop-drop, ta
 use Rattle.std.proofs.lemmas.List.Sums.{sum_by-cons, sum_by-append}
 use Rattle.std.specs.List.{slice_split, onto_first}
 use Rattle.columns_run.specs.Rows.{line_feed, tab, without_empty_last, rows_of}
-use Rattle.columns_run.specs.Cells.{cut}
+use Rattle.columns_table.specs.Rows.{cut}
 
 abbrev feeds : List ℕ → List (List ℕ)
 feeds bytes = slice_split (λ b. b == line_feed) bytes

@@ -1,11 +1,14 @@
 -- An answer that the input calls for serves it.
-use Rattle.std.proofs.Common.{ℕ, List, Option, Result, IfSome}
+use Rattle.std.proofs.Common.{◌≡◌, ℕ, List, [], Option, Some, None, Result, Err, IfSome, append-nil, refl, sym, subst}
+use Rattle.std.specs.Io.KnownBytes.{Appends, Keeps}
 use Rattle.std.proofs.lemmas.Option.{IfSome_then}
 use Rattle.columns_run.specs.declared.fault.RunFault.{RunFault}
 use Rattle.grid_config.specs.Compact.{compact_of}
+use Rattle.columns_run.specs.Fault.{IsOfInput}
+use Rattle.columns_run.specs.declared.fault.RunFault.TheVariants.{Escape, LineTooWide, Memory, NotUtf8, Range, Read, ReadTooLong, Write, WriteZero}
 use Rattle.columns_run.specs.Layout.{output_of}
 use Rattle.columns_run.specs.Plain.{IsPlain}
-use Rattle.columns_run.specs.declared.options.Options.{Options}
+use Rattle.columns_options.specs.declared.options.Options.{Options}
 use Rattle.tabled_output.specs.Streams.{ConsumesSome}
 use Rattle.columns_run.specs.Run.{MayAnswer, Writes, Serves, LeavesAlone}
 use Rattle.columns_run.proofs.PictureLemmas.{output-shows_table}
@@ -25,3 +28,35 @@ module _ (options : Options) (plain : IsPlain (compact_of options.style)) {T : T
 
   pub some : (before after : Option (List ℕ)) → ConsumesSome before after Answers → ConsumesSome before after Serving
   some before after (bytes, consumes, answers) = (bytes, consumes, serves bytes answers)
+
+-- ---- a fault of the input
+
+kept : (old : Option (List ℕ)) → Keeps old old
+kept None = tt
+kept (Some xs) = refl
+
+nothing_more : (old : Option (List ℕ)) → Appends old old []
+nothing_more None = tt
+nothing_more (Some xs) = sym (append-nil xs)
+
+-- nothing is written before it
+module _ (T : Type 0) (text : List ℕ) (old : Option (List ℕ)) where
+  abbrev given : RunFault → Result T RunFault
+  given fault = Err fault
+
+  writes-nothing : (fault : RunFault) → IsOfInput fault → Writes text (given fault) old old
+  writes-nothing (NotUtf8 at) is = kept old
+  writes-nothing (Escape at) is = kept old
+  writes-nothing Range is = kept old
+  writes-nothing (LineTooWide row column) is = kept old
+  writes-nothing Memory is = (0, nothing_more old)
+  writes-nothing Read is = absurd is
+  writes-nothing ReadTooLong is = absurd is
+  writes-nothing Write is = absurd is
+  writes-nothing WriteZero is = absurd is
+
+  pub writes-none : (fault : RunFault) (result : Result T RunFault) → result ≡ Err fault → IsOfInput fault → Writes text result old old
+  writes-none fault result is of_input = subst (λ r. Writes text r old old) (sym is) (writes-nothing fault of_input)
+
+pub left_alone : {W : Type 0} (options : Options) (input : List ℕ) (writer : W) → LeavesAlone options input writer writer
+left_alone options input writer = record { no_table = λ _. refl; empty = λ _. refl }

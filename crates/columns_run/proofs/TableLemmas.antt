@@ -1,18 +1,31 @@
 -- The table of a text's cells is the table of the text.
-use Rattle.std.proofs.Common.{◌≡◌, ℕ, false, List, [], ◌∷◌, map, refl, ap, sym, subst, ◌∙◌}
-use Rattle.std.specs.Prelude.{chars}
+use Rattle.std.proofs.Common.{◌≡◌, ℕ, false, List, [], ◌∷◌, Result, Err, map, refl, ap, sym, subst, ◌∙◌, vec_items}
+use Rattle.std.specs.Prelude.{chars, IsUtf8}
 use Rattle.std.specs.List.{AllByRecursion}
 use Rattle.std.proofs.lemmas.Simd.{map-map}
+use Rattle.ansi_scan.specs.Sequences.{IsWhole}
 use Rattle.ansi_str.specs.StyledText.{has_escape}
-use Rattle.grid_config.specs.Compact.{compact_of}
+use Rattle.columns_asked.specs.Layout.{AskedFits, asked_text, too_wide}
+use Rattle.columns_asked.proofs.StrippedLemmas.{fits-stripped, too_wide-stripped}
+use Rattle.columns_asked.specs.declared.asked.Asked.{Asked}
+use Rattle.columns_options.specs.declared.options.Options.{Options}
+use Rattle.columns_run.proofs.PartLemmas.{cut-map}
+use Rattle.columns_table.specs.Answers.{HasTable as TextsHaveTable, MayRefuse}
+use Rattle.columns_table.specs.Rows.{cut, row_texts_of}
+use Rattle.columns_table.specs.declared.fault.TableFault.{TableFault}
+use Rattle.columns_table.specs.declared.fault.TableFault.TheVariants.{LineTooWide, Memory, Range}
+use Rattle.columns_table.specs.declared.rows.Cell.{Cell}
+use Rattle.columns_table.specs.declared.rows.Rows.{Rows}
+use Rattle.grid_config.specs.Compact.{Compact, compact_of}
 use Rattle.grid_records_measure.specs.Measures.{measure}
-use Rattle.papergrid_picture.specs.Fitting.{InRange}
-use Rattle.columns_run.specs.Cells.{Line, byte_line, line_rows, part_line, texts_of_lines}
-use Rattle.columns_run.specs.Layout.{frame_under, output_of, rows_text, TableFits}
+use Rattle.columns_run.specs.Cells.{Line, byte_line, line_rows, part_line, rows_shown, shown, texts_of_lines}
+use Rattle.columns_run.specs.Fault.{IsOfInput, run_fault}
+use Rattle.columns_run.specs.Layout.{TableFits, asked_of, output_of, wide_cell}
 use Rattle.columns_run.specs.Rows.{cell_parts, rows_of}
-use Rattle.columns_run.specs.declared.options.Options.{Options}
+use Rattle.columns_run.specs.Run.{HasTable, MayAnswer}
+use Rattle.columns_run.specs.declared.fault.RunFault.{RunFault}
+use Rattle.columns_run.proofs.CellLemmas.{texts-stripped, whole_cells, whole_text}
 use Rattle.columns_run.proofs.ItemLemmas.{map-same}
-use Rattle.columns_run.proofs.PictureLemmas.{frame-stripped}
 use Rattle.columns_run.proofs.PlaceLemmas.{cell_parts-plain, plain_cells, stripped-without_escape}
 use Rattle.columns_run.proofs.SplitLemmas.{IsWholeText}
 
@@ -34,18 +47,58 @@ line_rows-plain text none =
     (λ row plain. map-same (λ part. has_escape part ≡ false) part_line byte_line (λ cell plain. ap (λ shown. record { measure = measure (chars shown); items = cell }) (stripped-without_escape cell plain)) row plain)
     (rows_of (λ b. b) text) (plain_cells text none))
 
-module _ (options : Options) (text : List ℕ) (whole : IsWholeText text) (rows : List (List Line)) (are : rows ≡ line_rows text) where
-  texts-are : texts_of_lines rows ≡ cell_parts text
-  texts-are = ap texts_of_lines are ∙ texts-lines text
+-- the texts of measured rows
+texts-cut : (counts : List ℕ) (cells : List Cell) → texts_of_lines (cut counts (map shown cells)) ≡ map (map (λ cell. cell.text.now)) (cut counts cells)
+texts-cut counts cells =
+    ap (map (map (λ (line : Line). line.items))) (cut-map shown counts cells)
+    ∙ map-map (map (λ (line : Line). line.items)) (map shown) (cut counts cells)
+    ∙ (λ k. map (λ row. map-map (λ (line : Line). line.items) shown row k) (cut counts cells))
 
-  pub output-is : rows_text (compact_of options.style) (texts_of_lines rows) ≡ output_of options text
+pub texts-are : (rows : Rows) (text : List ℕ) → rows_shown rows ≡ line_rows text → row_texts_of rows ≡ cell_parts text
+texts-are rows text are = sym (texts-cut (vec_items rows.counts) (vec_items rows.cells)) ∙ ap texts_of_lines are ∙ texts-lines text
+
+module _ (options : Options) (text : List ℕ) (whole : IsWholeText text) where
+  pub fits-same : AskedFits (compact_of options.style) (asked_of options) (cell_parts text) ≡ TableFits options text
+  unfolding TableFits
+  fits-same =
+      let style = compact_of options.style in
+      sym (ap (AskedFits style (asked_of options)) (texts-stripped text whole) ∙ fits-stripped style (asked_of options) (cell_parts text) (whole_cells text whole))
+
+  pub wide-same : too_wide (compact_of options.style) (asked_of options) (cell_parts text) ≡ wide_cell options text
+  unfolding wide_cell
+  wide-same =
+      let style = compact_of options.style in
+      sym (ap (too_wide style (asked_of options)) (texts-stripped text whole) ∙ too_wide-stripped style (asked_of options) (cell_parts text) (whole_cells text whole))
+
+-- what is known of the texts of a text's cells is known of the text
+module _ (options : Options) (text : List ℕ) (utf8 : IsUtf8 text) (whole : IsWhole text) (rows : Rows) (are : rows_shown rows ≡ line_rows text) (asked : Asked) (same : asked ≡ asked_of options) where
+  abbrev style : Compact
+  style = compact_of options.style
+
+  abbrev texts : List (List (List ℕ))
+  texts = row_texts_of rows
+
+  fits : AskedFits style asked texts ≡ TableFits options text
+  fits = ap (AskedFits style asked) (texts-are rows text are) ∙ ap (λ asked. AskedFits style asked (cell_parts text)) same ∙ fits-same options text (whole_text text utf8 whole)
+
+  wide : too_wide style asked texts ≡ wide_cell options text
+  wide = ap (too_wide style asked) (texts-are rows text are) ∙ ap (λ asked. too_wide style asked (cell_parts text)) same ∙ wide-same options text (whole_text text utf8 whole)
+
+  pub output-is : asked_text style asked texts ≡ output_of options text
   unfolding output_of
-  output-is = ap (rows_text (compact_of options.style)) texts-are
+  output-is = ap (asked_text style asked) (texts-are rows text are) ∙ ap (λ asked. asked_text style asked (cell_parts text)) same
 
-  pub fits-to : InRange (frame_under (compact_of options.style) (texts_of_lines rows)) → TableFits options text
-  unfolding TableFits
-  fits-to range = subst InRange (ap (frame_under (compact_of options.style)) texts-are ∙ sym (frame-stripped (compact_of options.style) text whole)) range
+  pub has-table : TextsHaveTable style asked texts → HasTable options text
+  has-table good = (utf8, whole, subst (λ (T : Type 0). T) fits good.fits, sym wide ∙ good.room)
 
-  pub fits-from : TableFits options text → InRange (frame_under (compact_of options.style) (texts_of_lines rows))
-  unfolding TableFits
-  fits-from range = subst InRange (frame-stripped (compact_of options.style) text whole ∙ sym (ap (frame_under (compact_of options.style)) texts-are)) range
+  -- a text has no table for the reason that its texts have none
+  pub refused : {T : Type 0} (given : TableFault) (result : Result T RunFault) → result ≡ Err (run_fault given) → MayRefuse style asked texts given → MayAnswer options text result
+  refused Range result is told = subst (MayAnswer options text) (sym is) (utf8, whole, λ good. told (subst (λ (T : Type 0). T) (sym fits) good))
+  refused (LineTooWide row column) result is told = subst (MayAnswer options text) (sym is) (utf8, whole, subst (λ (T : Type 0). T) fits told.0, sym wide ∙ told.1)
+  refused Memory result is told = subst (MayAnswer options text) (sym is) tt
+
+-- and it is a fault of the input
+pub of_input : (given : TableFault) → IsOfInput (run_fault given)
+of_input Range = tt
+of_input (LineTooWide row column) = tt
+of_input Memory = tt

@@ -1,10 +1,10 @@
 -- Cutting the bytes of a text at ASCII characters is cutting its characters.
-use Rattle.std.proofs.Common.{◌≡◌, ℕ, suc, ◌<◌, ◌==◌, ◌&&◌, Bool, true, false, cond, List, [], ◌∷◌, ◌++◌, map, flat_map, length, get_or, refl, ap, sym, ◌∙◌, arith, append-nil, eqb-true, ne_eqb, eq-eqb, lit<}
-use Rattle.std.specs.Prelude.{encode_utf8, encode_utf8_all, chars, IsUtf8}
+use Rattle.std.proofs.Common.{◌≡◌, ℕ, suc, ◌<◌, ◌==◌, ◌&&◌, Bool, true, false, cond, List, [], ◌∷◌, ◌++◌, map, length, get_or, refl, ap, sym, ◌∙◌, arith, append-nil, eqb-true, ne_eqb, eq-eqb, lit<}
+use Rattle.std.specs.Prelude.{encode_utf8, encode_utf8_all}
 use Rattle.std.specs.List.{slice_split, onto_first, AllByRecursion}
 use Rattle.std.proofs.Math.Utf8.{scalar, scalars}
 use Rattle.std.proofs.lemmas.Bool.{and_parts}
-use Rattle.std.proofs.lemmas.Str.{inside_one, encode_ascii, length-encode, len_utf8_bounds, chars-encodes, encodes-chars, scalars-chars}
+use Rattle.std.proofs.lemmas.Str.{inside_one, encode_ascii, length-encode, len_utf8_bounds}
 use Rattle.std.proofs.lemmas.List.Splits.{slice_split-cons_yes, slice_split-cons_no}
 use Rattle.std.proofs.lemmas.Simd.{map-map}
 use Rattle.columns_run.specs.Rows.{line_feed, tab, without_empty_last, row_texts, rows_of}

@@ -1,6 +1,6 @@
 -- Tables in the style that `Options::new` has, worked out by hand.
-use Rattle.std.proofs.Common.{◌≡◌, ℕ, List, [], refl, ap, ◌∙◌}
-use Rattle.std.specs.Prelude.{codes}
+use Rattle.std.proofs.Common.{◌≡◌, ℕ, List, [], Bool, true, false, refl, ap, ◌∙◌}
+use Rattle.std.specs.Prelude.{codes, None}
 use Rattle.std.specs.Fmt.{digits}
 use Rattle.std.specs.Str.{chars}
 use Rattle.std.proofs.Math.Utf8.{encode}
@@ -8,97 +8,160 @@ use Rattle.ansi_scan.specs.Attributes.{plain_attributes}
 use Rattle.ansi_scan.specs.Pieces.{pieces, first_pieces, front, at_escape, sequence_front, opened, control_from, string_from, escape_from}
 use Rattle.ansi_scan.specs.Rendition.{applied, after_parameters}
 use Rattle.ansi_scan.specs.StartsAndEnds.{start_bytes, start_sequences, end_bytes, end_sequences}
+use Rattle.columns_asked.specs.Layout.{asked_characters, asked_items, asked_text, asked_widths, kept_cells, kept_texts}
+use Rattle.columns_asked.specs.Shrunk.{shrunk_list}
+use Rattle.columns_asked.specs.Worked.{cuts, wraps}
+use Rattle.columns_asked.specs.declared.asked.Asked.{Asked}
+use Rattle.columns_options.specs.Settings.{default_settings}
+use Rattle.columns_options.specs.declared.options.Options.{Options}
 use Rattle.grid_config.specs.Compact.{Compact, compact_of}
-use Rattle.grid_config.specs.Looks.{compact_look}
 use Rattle.grid_config_spans.specs.Spans.{extent_at}
 use Rattle.grid_records_estimate.specs.Estimates.{track_sizes}
 use Rattle.grid_records_estimate.specs.Sizes.{table_heights, table_widths}
 use Rattle.grid_records_measure.specs.TextLines.{text_height, text_lines, text_width}
-use Rattle.papergrid_picture.specs.Shown.{character_picture}
-use Rattle.unicode_width.specs.Width.{past_emoji, step, str_width}
-use Rattle.columns_run.specs.Rows.{cell_parts, line_feed, rows_of}
-use Rattle.columns_run.specs.Layout.{ended, frame_under, heights_of, output_of, rows_text, table_characters, texts_of, widths_of}
-use Rattle.columns_run.specs.Settings.{ascii_settings}
-use Rattle.columns_run.specs.declared.options.Options.{Options}
+use Rattle.tabled_size_priority.specs.declared.choice.Choice.{Choice}
+use Rattle.tabled_size_priority.specs.declared.choice.Choice.TheVariants.{None as InTurns, MaxLeft}
+use Rattle.tabled_size_wrap.specs.Bytes.{cut_at, wrapped_text}
+use Rattle.unicode_width.specs.Width.{alone, char_width, past_emoji, step, str_width}
+use Rattle.columns_run.specs.Rows.{cell_parts, rows_of}
+use Rattle.columns_run.specs.Layout.{asked_of, output_of, table_characters}
 
-abbrev pub characters_under : List ℕ → Compact → List ℕ
-characters_under characters style =
-    let texts = texts_of characters in
-    ended line_feed (frame_under style texts) (character_picture (compact_look style) (rows_of (λ c. c) characters) (widths_of style texts) (heights_of style texts))
+-- no width, whatever else is asked
+abbrev pub natural : Bool → Bool → Choice → Asked
+natural truncate keep_words priority = record { width = None; truncate = truncate; keep_words = keep_words; priority = priority }
 
-module _ (options : Options) (is : compact_of options.style ≡ ascii_settings) where
-  pub table_is : (characters out : List ℕ) → characters_under characters ascii_settings ≡ out → table_characters options characters ≡ out
-  unfolding table_characters
-  table_is characters out e = ap (characters_under characters) is ∙ e
+abbrev pub characters_under : List ℕ → Compact → Asked → List ℕ
+characters_under characters style asked = asked_characters style asked (rows_of (λ c. c) characters)
 
-  pub output_is : (input out : List ℕ) → rows_text ascii_settings (cell_parts input) ≡ out → output_of options input ≡ out
+abbrev pub output_under : List ℕ → Compact → Asked → List ℕ
+output_under input style asked = asked_text style asked (cell_parts input)
+
+-- a table of these characters, and of these bytes
+abbrev pub HasCharacters : List ℕ → List ℕ → Type 0
+HasCharacters characters out = (truncate keep_words : Bool) (priority : Choice) → characters_under characters default_settings (natural truncate keep_words priority) ≡ out
+
+abbrev pub HasOutput : List ℕ → List ℕ → Type 0
+HasOutput input out = (truncate keep_words : Bool) (priority : Choice) → output_under input default_settings (natural truncate keep_words priority) ≡ out
+
+module _ (options : Options) (is : compact_of options.style ≡ default_settings) where
+  module _ (none : options.width ≡ None) where
+    natural_is : asked_of options ≡ natural options.truncate options.keep_words options.priority
+    natural_is = ap (λ width. record (asked_of options) { width = width }) none
+
+    pub table_is : (characters out : List ℕ) → HasCharacters characters out → table_characters options characters ≡ out
+    unfolding table_characters
+    table_is characters out e =
+        ap (λ style. characters_under characters style (asked_of options)) is ∙ ap (characters_under characters default_settings) natural_is ∙ e options.truncate options.keep_words options.priority
+
+    pub output_is : (input out : List ℕ) → HasOutput input out → output_of options input ≡ out
+    unfolding output_of
+    output_is input out e =
+        ap (λ style. output_under input style (asked_of options)) is ∙ ap (output_under input default_settings) natural_is ∙ e options.truncate options.keep_words options.priority
+
+  pub asked_is : (asked : Asked) (input out : List ℕ) → output_under input default_settings asked ≡ out → asked_of options ≡ asked → output_of options input ≡ out
   unfolding output_of
-  output_is input out e = ap (λ style. rows_text style (cell_parts input)) is ∙ e
+  asked_is asked input out e same = ap (λ style. output_under input style (asked_of options)) is ∙ ap (output_under input default_settings) same ∙ e
 
-pub empty : characters_under [] ascii_settings ≡ []
-unfolding table_widths table_heights track_sizes text_width text_height extent_at str_width step past_emoji pieces first_pieces front chars encode
-empty = refl
+pub empty : HasCharacters [] ([])
+unfolding asked_items kept_cells asked_widths table_widths table_heights track_sizes text_width text_height extent_at str_width step past_emoji pieces first_pieces front chars encode
+empty truncate keep_words priority = refl
 
-pub two_by_two : characters_under (codes "a\tb\n1\t2\n") ascii_settings ≡ codes "+---+---+\n| a | b |\n+---+---+\n| 1 | 2 |\n+---+---+\n"
-unfolding table_widths table_heights track_sizes text_width text_height extent_at str_width step past_emoji pieces first_pieces front chars encode
-two_by_two = refl
+pub two_by_two : HasCharacters (codes "a\tb\n1\t2\n") (codes "+---+---+\n| a | b |\n+---+---+\n| 1 | 2 |\n+---+---+\n")
+unfolding asked_items kept_cells asked_widths table_widths table_heights track_sizes text_width text_height extent_at str_width step past_emoji pieces first_pieces front chars encode
+two_by_two truncate keep_words priority = refl
 
-pub short_row : characters_under (codes "a\tb\nc\n") ascii_settings ≡ codes "+---+---+\n| a | b |\n+---+---+\n| c |   |\n+---+---+\n"
-unfolding table_widths table_heights track_sizes text_width text_height extent_at str_width step past_emoji pieces first_pieces front chars encode
-short_row = refl
+pub short_row : HasCharacters (codes "a\tb\nc\n") (codes "+---+---+\n| a | b |\n+---+---+\n| c |   |\n+---+---+\n")
+unfolding asked_items kept_cells asked_widths table_widths table_heights track_sizes text_width text_height extent_at str_width step past_emoji pieces first_pieces front chars encode
+short_row truncate keep_words priority = refl
 
-pub longer_row : characters_under (codes "a\nbcd\te\tf\n") ascii_settings ≡ codes "+-----+---+---+\n| a   |   |   |\n+-----+---+---+\n| bcd | e | f |\n+-----+---+---+\n"
-unfolding table_widths table_heights track_sizes text_width text_height extent_at str_width step past_emoji pieces first_pieces front chars encode
-longer_row = refl
+pub longer_row : HasCharacters (codes "a\nbcd\te\tf\n") (codes "+-----+---+---+\n| a   |   |   |\n+-----+---+---+\n| bcd | e | f |\n+-----+---+---+\n")
+unfolding asked_items kept_cells asked_widths table_widths table_heights track_sizes text_width text_height extent_at str_width step past_emoji pieces first_pieces front chars encode
+longer_row truncate keep_words priority = refl
 
-pub empty_row : characters_under (codes "\n") ascii_settings ≡ codes "+--+\n|  |\n+--+\n"
-unfolding table_widths table_heights track_sizes text_width text_height extent_at str_width step past_emoji pieces first_pieces front chars encode
-empty_row = refl
+pub empty_row : HasCharacters (codes "\n") (codes "+--+\n|  |\n+--+\n")
+unfolding asked_items kept_cells asked_widths table_widths table_heights track_sizes text_width text_height extent_at str_width step past_emoji pieces first_pieces front chars encode
+empty_row truncate keep_words priority = refl
 
-pub two_empty_rows : characters_under (codes "\n\n") ascii_settings ≡ codes "+--+\n|  |\n+--+\n|  |\n+--+\n"
-unfolding table_widths table_heights track_sizes text_width text_height extent_at str_width step past_emoji pieces first_pieces front chars encode
-two_empty_rows = refl
+pub two_empty_rows : HasCharacters (codes "\n\n") (codes "+--+\n|  |\n+--+\n|  |\n+--+\n")
+unfolding asked_items kept_cells asked_widths table_widths table_heights track_sizes text_width text_height extent_at str_width step past_emoji pieces first_pieces front chars encode
+two_empty_rows truncate keep_words priority = refl
 
-pub empty_last_row : characters_under (codes "a\n\n") ascii_settings ≡ codes "+---+\n| a |\n+---+\n|   |\n+---+\n"
-unfolding table_widths table_heights track_sizes text_width text_height extent_at str_width step past_emoji pieces first_pieces front chars encode
-empty_last_row = refl
+pub empty_last_row : HasCharacters (codes "a\n\n") (codes "+---+\n| a |\n+---+\n|   |\n+---+\n")
+unfolding asked_items kept_cells asked_widths table_widths table_heights track_sizes text_width text_height extent_at str_width step past_emoji pieces first_pieces front chars encode
+empty_last_row truncate keep_words priority = refl
 
-pub empty_middle_row : characters_under (codes "a\n\nb") ascii_settings ≡ codes "+---+\n| a |\n+---+\n|   |\n+---+\n| b |\n+---+\n"
-unfolding table_widths table_heights track_sizes text_width text_height extent_at str_width step past_emoji pieces first_pieces front chars encode
-empty_middle_row = refl
+pub empty_middle_row : HasCharacters (codes "a\n\nb") (codes "+---+\n| a |\n+---+\n|   |\n+---+\n| b |\n+---+\n")
+unfolding asked_items kept_cells asked_widths table_widths table_heights track_sizes text_width text_height extent_at str_width step past_emoji pieces first_pieces front chars encode
+empty_middle_row truncate keep_words priority = refl
 
-pub lone_tab : characters_under (codes "\t") ascii_settings ≡ codes "+--+--+\n|  |  |\n+--+--+\n"
-unfolding table_widths table_heights track_sizes text_width text_height extent_at str_width step past_emoji pieces first_pieces front chars encode
-lone_tab = refl
+pub lone_tab : HasCharacters (codes "\t") (codes "+--+--+\n|  |  |\n+--+--+\n")
+unfolding asked_items kept_cells asked_widths table_widths table_heights track_sizes text_width text_height extent_at str_width step past_emoji pieces first_pieces front chars encode
+lone_tab truncate keep_words priority = refl
 
-pub tab_at_end : characters_under (codes "a\t\n") ascii_settings ≡ codes "+---+--+\n| a |  |\n+---+--+\n"
-unfolding table_widths table_heights track_sizes text_width text_height extent_at str_width step past_emoji pieces first_pieces front chars encode
-tab_at_end = refl
+pub tab_at_end : HasCharacters (codes "a\t\n") (codes "+---+--+\n| a |  |\n+---+--+\n")
+unfolding asked_items kept_cells asked_widths table_widths table_heights track_sizes text_width text_height extent_at str_width step past_emoji pieces first_pieces front chars encode
+tab_at_end truncate keep_words priority = refl
 
-pub no_final_line_feed : characters_under (codes "a\tb") ascii_settings ≡ codes "+---+---+\n| a | b |\n+---+---+\n"
-unfolding table_widths table_heights track_sizes text_width text_height extent_at str_width step past_emoji pieces first_pieces front chars encode
-no_final_line_feed = refl
+pub no_final_line_feed : HasCharacters (codes "a\tb") (codes "+---+---+\n| a | b |\n+---+---+\n")
+unfolding asked_items kept_cells asked_widths table_widths table_heights track_sizes text_width text_height extent_at str_width step past_emoji pieces first_pieces front chars encode
+no_final_line_feed truncate keep_words priority = refl
 
-pub carriage_return : characters_under (codes "a\r\n") ascii_settings ≡ codes "+----+\n| a\r |\n+----+\n"
-unfolding table_widths table_heights track_sizes text_width text_height extent_at str_width step past_emoji pieces first_pieces front chars encode
-carriage_return = refl
+pub carriage_return : HasCharacters (codes "a\r\n") (codes "+----+\n| a\r |\n+----+\n")
+unfolding asked_items kept_cells asked_widths table_widths table_heights track_sizes text_width text_height extent_at str_width step past_emoji pieces first_pieces front chars encode
+carriage_return truncate keep_words priority = refl
 
-pub two_cells : rows_text ascii_settings (cell_parts (codes "\u{1b}[31mab\tc\n")) ≡ codes "+----+---+\n| \u{1b}[31mab\u{1b}[39m | \u{1b}[31mc\u{1b}[39m |\n+----+---+\n"
-unfolding table_widths table_heights track_sizes text_width text_height extent_at str_width step past_emoji pieces first_pieces front chars encode text_lines at_escape sequence_front opened control_from string_from escape_from applied after_parameters plain_attributes start_bytes start_sequences end_bytes end_sequences digits
-two_cells = refl
+pub two_cells : HasOutput (codes "\u{1b}[31mab\tc\n") (codes "+----+---+\n| \u{1b}[31mab\u{1b}[39m | \u{1b}[31mc\u{1b}[39m |\n+----+---+\n")
+unfolding asked_text kept_texts asked_widths table_widths table_heights track_sizes text_width text_height extent_at str_width step past_emoji pieces first_pieces front chars encode text_lines at_escape sequence_front opened control_from string_from escape_from applied after_parameters plain_attributes start_bytes start_sequences end_bytes end_sequences digits
+two_cells truncate keep_words priority = refl
 
-pub two_lines : rows_text ascii_settings (cell_parts (codes "\u{1b}[1ma\nb\u{1b}[0m\n")) ≡ codes "+---+\n| \u{1b}[1ma\u{1b}[22m |\n+---+\n| \u{1b}[1mb\u{1b}[0m |\n+---+\n"
-unfolding table_widths table_heights track_sizes text_width text_height extent_at str_width step past_emoji pieces first_pieces front chars encode text_lines at_escape sequence_front opened control_from string_from escape_from applied after_parameters plain_attributes start_bytes start_sequences end_bytes end_sequences digits
-two_lines = refl
+pub two_lines : HasOutput (codes "\u{1b}[1ma\nb\u{1b}[0m\n") (codes "+---+\n| \u{1b}[1ma\u{1b}[22m |\n+---+\n| \u{1b}[1mb\u{1b}[0m |\n+---+\n")
+unfolding asked_text kept_texts asked_widths table_widths table_heights track_sizes text_width text_height extent_at str_width step past_emoji pieces first_pieces front chars encode text_lines at_escape sequence_front opened control_from string_from escape_from applied after_parameters plain_attributes start_bytes start_sequences end_bytes end_sequences digits
+two_lines truncate keep_words priority = refl
 
-pub lone_sequence : rows_text ascii_settings (cell_parts (codes "\u{1b}[31m")) ≡ []
-unfolding table_widths table_heights track_sizes text_width text_height extent_at str_width step past_emoji pieces first_pieces front chars encode text_lines at_escape sequence_front opened control_from string_from escape_from applied after_parameters plain_attributes start_bytes start_sequences end_bytes end_sequences digits
-lone_sequence = refl
+pub lone_sequence : HasOutput (codes "\u{1b}[31m") ([])
+unfolding asked_text kept_texts asked_widths table_widths table_heights track_sizes text_width text_height extent_at str_width step past_emoji pieces first_pieces front chars encode text_lines at_escape sequence_front opened control_from string_from escape_from applied after_parameters plain_attributes start_bytes start_sequences end_bytes end_sequences digits
+lone_sequence truncate keep_words priority = refl
 
-pub tab_in_a_string : rows_text ascii_settings (cell_parts (codes "\u{1b}]0;a\tb\u{7}x\n")) ≡ codes "+---+\n| \u{1b}]0;a\tb\u{7}x |\n+---+\n"
-unfolding table_widths table_heights track_sizes text_width text_height extent_at str_width step past_emoji pieces first_pieces front chars encode text_lines at_escape sequence_front opened control_from string_from escape_from applied after_parameters plain_attributes start_bytes start_sequences end_bytes end_sequences digits
-tab_in_a_string = refl
+pub tab_in_a_string : HasOutput (codes "\u{1b}]0;a\tb\u{7}x\n") (codes "+---+\n| \u{1b}]0;a\tb\u{7}x |\n+---+\n")
+unfolding asked_text kept_texts asked_widths table_widths table_heights track_sizes text_width text_height extent_at str_width step past_emoji pieces first_pieces front chars encode text_lines at_escape sequence_front opened control_from string_from escape_from applied after_parameters plain_attributes start_bytes start_sequences end_bytes end_sequences digits
+tab_in_a_string truncate keep_words priority = refl
 
-pub same_color_twice : rows_text ascii_settings (cell_parts (codes "\u{1b}[31ma\u{1b}[31mb\n")) ≡ codes "+----+\n| \u{1b}[31ma\u{1b}[31mb\u{1b}[39m |\n+----+\n"
-unfolding table_widths table_heights track_sizes text_width text_height extent_at str_width step past_emoji pieces first_pieces front chars encode text_lines at_escape sequence_front opened control_from string_from escape_from applied after_parameters plain_attributes start_bytes start_sequences end_bytes end_sequences digits
-same_color_twice = refl
+pub same_color_twice : HasOutput (codes "\u{1b}[31ma\u{1b}[31mb\n") (codes "+----+\n| \u{1b}[31ma\u{1b}[31mb\u{1b}[39m |\n+----+\n")
+unfolding asked_text kept_texts asked_widths table_widths table_heights track_sizes text_width text_height extent_at str_width step past_emoji pieces first_pieces front chars encode text_lines at_escape sequence_front opened control_from string_from escape_from applied after_parameters plain_attributes start_bytes start_sequences end_bytes end_sequences digits
+same_color_twice truncate keep_words priority = refl
+
+pub out_wrapped : output_under (codes "\u{1b}[31m123456\u{1b}[0m\n") default_settings (wraps 6 false InTurns) ≡ codes "+----+\n| \u{1b}[31m12\u{1b}[39m |\n| \u{1b}[31m34\u{1b}[39m |\n| \u{1b}[31m56\u{1b}[0m |\n+----+\n"
+unfolding asked_text kept_texts asked_widths shrunk_list wrapped_text cut_at table_widths table_heights track_sizes text_width text_height extent_at str_width char_width alone step past_emoji pieces first_pieces front at_escape sequence_front opened control_from string_from escape_from text_lines applied after_parameters plain_attributes start_bytes start_sequences end_bytes end_sequences digits chars encode
+out_wrapped = refl
+
+pub out_wrapped_behind : output_under (codes "\u{1b}[31m12\u{1b}[0m34\n") default_settings (wraps 6 false InTurns) ≡ codes "+----+\n| \u{1b}[31m12\u{1b}[0m |\n| 34 |\n+----+\n"
+unfolding asked_text kept_texts asked_widths shrunk_list wrapped_text cut_at table_widths table_heights track_sizes text_width text_height extent_at str_width char_width alone step past_emoji pieces first_pieces front at_escape sequence_front opened control_from string_from escape_from text_lines applied after_parameters plain_attributes start_bytes start_sequences end_bytes end_sequences digits chars encode
+out_wrapped_behind = refl
+
+pub out_cut : output_under (codes "\u{1b}[31m123456\u{1b}[0m\n") default_settings (cuts 6) ≡ codes "+----+\n| \u{1b}[31m12\u{1b}[39m |\n+----+\n"
+unfolding asked_text kept_texts asked_widths shrunk_list wrapped_text cut_at table_widths table_heights track_sizes text_width text_height extent_at str_width char_width alone step past_emoji pieces first_pieces front at_escape sequence_front opened control_from string_from escape_from text_lines applied after_parameters plain_attributes start_bytes start_sequences end_bytes end_sequences digits chars encode
+out_cut = refl
+
+pub out_words : output_under (codes "111 234 1\n") default_settings (wraps 8 true InTurns) ≡ codes "+------+\n| 111  |\n| 234  |\n| 1    |\n+------+\n"
+unfolding asked_text kept_texts asked_widths shrunk_list wrapped_text cut_at table_widths table_heights track_sizes text_width text_height extent_at str_width char_width alone step past_emoji pieces first_pieces front at_escape sequence_front opened control_from string_from escape_from text_lines applied after_parameters plain_attributes start_bytes start_sequences end_bytes end_sequences digits chars encode
+out_words = refl
+
+pub out_nothing : output_under (codes "ab\tc\n") default_settings (wraps 0 false InTurns) ≡ codes "+--+--+\n|  |  |\n+--+--+\n"
+unfolding asked_text kept_texts asked_widths shrunk_list wrapped_text cut_at table_widths table_heights track_sizes text_width text_height extent_at str_width char_width alone step past_emoji pieces first_pieces front at_escape sequence_front opened control_from string_from escape_from text_lines applied after_parameters plain_attributes start_bytes start_sequences end_bytes end_sequences digits chars encode
+out_nothing = refl
+
+pub out_in_turns : output_under (codes "aaaa\tbb\n") default_settings (wraps 11 false InTurns) ≡ codes "+-----+---+\n| aaa | b |\n| a   | b |\n+-----+---+\n"
+unfolding asked_text kept_texts asked_widths shrunk_list wrapped_text cut_at table_widths table_heights track_sizes text_width text_height extent_at str_width char_width alone step past_emoji pieces first_pieces front at_escape sequence_front opened control_from string_from escape_from text_lines applied after_parameters plain_attributes start_bytes start_sequences end_bytes end_sequences digits chars encode
+out_in_turns = refl
+
+pub out_widest : output_under (codes "aaaa\tbb\n") default_settings (wraps 11 false MaxLeft) ≡ codes "+----+----+\n| aa | bb |\n| aa |    |\n+----+----+\n"
+unfolding asked_text kept_texts asked_widths shrunk_list wrapped_text cut_at table_widths table_heights track_sizes text_width text_height extent_at str_width char_width alone step past_emoji pieces first_pieces front at_escape sequence_front opened control_from string_from escape_from text_lines applied after_parameters plain_attributes start_bytes start_sequences end_bytes end_sequences digits chars encode
+out_widest = refl
+
+pub out_natural : output_under (codes "ab\n") default_settings (wraps 6 false InTurns) ≡ codes "+----+\n| ab |\n+----+\n"
+unfolding asked_text kept_texts asked_widths shrunk_list wrapped_text cut_at table_widths table_heights track_sizes text_width text_height extent_at str_width char_width alone step past_emoji pieces first_pieces front at_escape sequence_front opened control_from string_from escape_from text_lines applied after_parameters plain_attributes start_bytes start_sequences end_bytes end_sequences digits chars encode
+out_natural = refl
+
+pub out_wide : output_under (codes "ab\n") default_settings (wraps 100 false InTurns) ≡ codes "+----+\n| ab |\n+----+\n"
+unfolding asked_text kept_texts asked_widths shrunk_list wrapped_text cut_at table_widths table_heights track_sizes text_width text_height extent_at str_width char_width alone step past_emoji pieces first_pieces front at_escape sequence_front opened control_from string_from escape_from text_lines applied after_parameters plain_attributes start_bytes start_sequences end_bytes end_sequences digits chars encode
+out_wide = refl

@@ -1,10 +1,11 @@
 -- The cells of a text as the code holds them: measured parts of the text, one row after the other.
-use Rattle.std.specs.Prelude.{ℕ, ◌==◌, Bool, false, List, [], ◌∷◌, chars, drop, length, map, slice_index_or, take, vec_items}
+use Rattle.std.specs.Prelude.{ℕ, ◌==◌, Bool, false, List, [], ◌∷◌, chars, length, map, vec_items}
 use Rattle.std.specs.Borrow.{Bor}
 use Rattle.grid_records_measure.specs.Measures.{measure}
 use Rattle.columns_run.specs.Rows.{cell_parts, stripped}
-use Rattle.columns_run.specs.declared.rows.Cell.{Cell}
-use Rattle.columns_run.specs.declared.rows.Rows.{Rows}
+use Rattle.columns_table.specs.Rows.{cut}
+use Rattle.columns_table.specs.declared.rows.Cell.{Cell}
+use Rattle.columns_table.specs.declared.rows.Rows.{Rows}
 
 -- a line: the columns that it measures, and its bytes
 pub record Line : Type 0 where
@@ -40,11 +41,6 @@ abbrev pub last_is_bare : List (List ℕ) → Bool
 last_is_bare [] = false
 last_is_bare (part ∷ []) = length (stripped part) == 0
 last_is_bare (part ∷ next ∷ parts) = last_is_bare (next ∷ parts)
-
--- a list in pieces of these lengths
-abbrev pub cut : {X : Type 0} → List ℕ → List X → List (List X)
-cut [] xs = []
-cut (n ∷ ns) xs = take n xs ∷ cut ns (drop n xs)
 
 -- the rows of cells, each of one line
 abbrev pub rows_shown : Rows → List (List Line)

@@ -4,8 +4,8 @@ use Rattle.columns_run.specs.declared.fault.RunFault.{RunFault}
 use Rattle.columns_run.specs.declared.fault.RunFault.TheVariants.{Read, ReadTooLong, NotUtf8, Escape, Range, LineTooWide, Write, WriteZero, Memory}
 use Rattle.tabled_output.specs.declared.writing.WriteFault.{WriteFault}
 use Rattle.tabled_output.specs.declared.writing.WriteFault.TheVariants.{Write as Failed, WriteZero as TookNothing}
-use Rattle.grid_config_values.specs.declared.fault.Fault.{Fault}
-use Rattle.grid_config_values.specs.declared.fault.Fault.TheVariants.{Memory as NoMemory, Range as PassesMax, Room, Spans}
+use Rattle.columns_table.specs.declared.fault.TableFault.{TableFault}
+use Rattle.columns_table.specs.declared.fault.TableFault.TheVariants.{LineTooWide as TooWide, Memory as NoMemory, Range as PassesMax}
 
 -- the bytes that a fault prints
 abbrev pub fault_text : RunFault → List ℕ
@@ -25,11 +25,10 @@ write_fault Failed = Write
 write_fault TookNothing = WriteZero
 
 -- what a run calls it where a text has no table
-abbrev pub run_fault : Fault → RunFault
+abbrev pub run_fault : TableFault → RunFault
 run_fault NoMemory = Memory
 run_fault PassesMax = Range
-run_fault Spans = Range
-run_fault (Room row column) = LineTooWide row column
+run_fault (TooWide row column) = LineTooWide row column
 
 -- a fault that reading may give
 abbrev pub IsOfReading : RunFault → Type 0
@@ -43,8 +42,17 @@ abbrev pub IsOfInput : RunFault → Type 0
 IsOfInput (NotUtf8 at) = ⊤
 IsOfInput (Escape at) = ⊤
 IsOfInput Range = ⊤
+IsOfInput (LineTooWide row column) = ⊤
 IsOfInput Memory = ⊤
 IsOfInput _ = ⊥
+
+-- a fault that tells why an input has no table
+abbrev pub TellsOfInput : RunFault → Type 0
+TellsOfInput (NotUtf8 at) = ⊤
+TellsOfInput (Escape at) = ⊤
+TellsOfInput Range = ⊤
+TellsOfInput (LineTooWide row column) = ⊤
+TellsOfInput _ = ⊥
 
 -- a fault that writing may give
 abbrev pub IsOfWriting : RunFault → Type 0

@@ -1,47 +1,28 @@
 -- The table of a text: what the program writes for it, and what that shows.
-use Rattle.std.specs.Prelude.{ℕ, ◌==◌, List, [], ◌∷◌, ◌++◌, Option, None, map, length, chars, encode_utf8_all, if◌then◌else◌}
-use Rattle.ansi_scan.specs.Attributes.{plain_attributes}
-use Rattle.grid_config.specs.Compact.{Compact, compact_of}
-use Rattle.grid_config.specs.Looks.{compact_look}
-use Rattle.grid_records_estimate.specs.Estimates.{greatest}
-use Rattle.grid_records_estimate.specs.Sizes.{table_heights, table_widths}
-use Rattle.grid_records_estimate.specs.Sizing.{compact_sizing}
-use Rattle.papergrid_picture.specs.Fitting.{InRange}
-use Rattle.papergrid_picture.specs.Frame.{Frame, frame_of, line_count}
-use Rattle.papergrid_picture.specs.Shown.{Styled, character_of, character_picture, in_plain, styled_picture}
-use Rattle.papergrid_picture.specs.Tables.{table_text}
-use Rattle.columns_run.specs.Rows.{cell_parts, line_feed, rows_of, stripped}
-use Rattle.columns_run.specs.declared.options.Options.{Options}
+use Rattle.std.specs.Prelude.{ℕ, List, Option, None, false, map, chars, encode_utf8_all}
+use Rattle.columns_asked.specs.declared.asked.Asked.{Asked}
+use Rattle.columns_asked.specs.Layout.{AskedFits, asked_characters, asked_picture, asked_text, too_wide}
+use Rattle.columns_options.specs.declared.options.Options.{Options}
+use Rattle.grid_config.specs.Compact.{compact_of}
+use Rattle.grid_config.specs.declared.compact.CompactConfig.{CompactConfig}
+use Rattle.grid_config_values.specs.declared.position.Position.{Position}
+use Rattle.papergrid_picture.specs.Shown.{Styled, character_of}
+use Rattle.tabled_size_priority.specs.declared.choice.Choice.TheVariants.{None as InTurns}
+use Rattle.columns_run.specs.Rows.{cell_parts, rows_of, stripped}
 
--- the items of a picture with a line feed behind its last line too
-abbrev pub ended : {X : Type 0} → X → Frame → List X → List X
-ended feed frame items = if line_count frame == 0 then [] else items ++ feed ∷ []
+-- the width that is asked of the table, and how it gets narrower
+abbrev pub asked_of : Options → Asked
+asked_of options = record { width = options.width; truncate = options.truncate; keep_words = options.keep_words; priority = options.priority }
 
--- as many columns as the longest row has cells; a cell that a row lacks is empty
-abbrev pub column_count : {X : Type 0} → List (List X) → ℕ
-column_count rows = greatest (map (λ row. length row) rows)
-
-module _ (style : Compact) (texts : List (List (List ℕ))) where
-  -- the least sizes of a table of these texts
-  abbrev pub widths_of : List ℕ
-  widths_of = table_widths (compact_sizing style) (column_count texts) texts
-
-  abbrev pub heights_of : List ℕ
-  heights_of = table_heights (compact_sizing style) (column_count texts) texts
-
-  -- where its rows and columns stand
-  abbrev pub frame_under : Frame
-  frame_under = frame_of (compact_look style) widths_of heights_of
-
-  -- the bytes of the table of these texts
-  abbrev pub rows_text : List ℕ
-  rows_text = ended line_feed frame_under (table_text (compact_look style) texts (λ _. None) widths_of heights_of)
+-- a table in this style, as wide as its text
+abbrev pub without_width : CompactConfig → Options
+without_width style = record { width = None; truncate = false; keep_words = false; priority = InTurns; style = style }
 
 -- ---- by bytes
 
 -- the bytes of the table of a text, of which each cell is a part with its own bytes
 unfoldable pub output_of : Options → List ℕ → List ℕ
-output_of options input = rows_text (compact_of options.style) (cell_parts input)
+output_of options input = asked_text (compact_of options.style) (asked_of options) (cell_parts input)
 
 -- ---- with styles
 
@@ -53,22 +34,22 @@ characters_of styled = map character_of styled
 abbrev pub texts_of : List ℕ → List (List (List ℕ))
 texts_of characters = map (map encode_utf8_all) (rows_of (λ c. c) characters)
 
--- the picture of a text of these characters: its boundaries, fills and line feeds are in the plain style
+-- the picture of a text of these characters: its boundaries, fills, line feeds and each U+FFFD that is put in are in the
+-- plain style
 unfoldable pub picture : Options → List Styled → List Styled
-picture options styled =
-    let style = compact_of options.style in
-    let texts = texts_of (characters_of styled) in
-    ended (in_plain line_feed) (frame_under style texts) (styled_picture (compact_look style) (rows_of character_of styled) (widths_of style texts) (heights_of style texts))
+picture options styled = asked_picture (compact_of options.style) (asked_of options) (rows_of character_of styled)
 
 -- ---- without styles
 
 -- the characters of the table of a text of these characters
 unfoldable pub table_characters : Options → List ℕ → List ℕ
-table_characters options characters =
-    let style = compact_of options.style in
-    let texts = texts_of characters in
-    ended line_feed (frame_under style texts) (character_picture (compact_look style) (rows_of (λ c. c) characters) (widths_of style texts) (heights_of style texts))
+table_characters options characters = asked_characters (compact_of options.style) (asked_of options) (rows_of (λ c. c) characters)
 
--- the table's width and height fit a `usize`, and so does each size, since no size passes its total
+-- the table's width and height fit a `usize`, before its cells are resized and after it, and so does each size, since no
+-- size passes its total
 unfoldable pub TableFits : Options → List ℕ → Type 0
-TableFits options text = InRange (frame_under (compact_of options.style) (texts_of (chars (stripped text))))
+TableFits options text = AskedFits (compact_of options.style) (asked_of options) (texts_of (chars (stripped text)))
+
+-- the first cell by row, then column, of which a line takes more columns than its column has
+unfoldable pub wide_cell : Options → List ℕ → Option Position
+wide_cell options text = too_wide (compact_of options.style) (asked_of options) (texts_of (chars (stripped text)))

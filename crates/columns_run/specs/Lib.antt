@@ -3,7 +3,5 @@ pub mod Fault
 pub mod TableShown
 pub mod Layout
 pub mod Plain
-pub mod Records
 pub mod Rows
 pub mod Run
-pub mod Settings

@@ -1,12 +1,12 @@
 -- What one run promises, of an input: which answer it calls for, and what is written.
-use Rattle.std.specs.Prelude.{◌≡◌, ℕ, ◌^◌, ◌≤◌, List, length, ⊤, Option, Result, Ok, Err, IsUtf8}
+use Rattle.std.specs.Prelude.{◌≡◌, ℕ, ◌^◌, ◌≤◌, List, length, ⊤, Option, None, Some, Result, Ok, Err, IsUtf8}
 use Rattle.std.specs.Str.Lossy.{utf8_valid_len}
 use Rattle.std.specs.Io.KnownBytes.{Appends, Keeps}
 use Rattle.columns_run.specs.declared.fault.RunFault.{RunFault}
 use Rattle.columns_run.specs.declared.fault.RunFault.TheVariants.{Read, ReadTooLong, NotUtf8, Escape, Range, LineTooWide, Write, WriteZero, Memory}
 use Rattle.ansi_scan.specs.Sequences.{IsWhole, IsFirstBroken}
-use Rattle.columns_run.specs.Layout.{output_of, TableFits}
-use Rattle.columns_run.specs.declared.options.Options.{Options}
+use Rattle.columns_options.specs.declared.options.Options.{Options}
+use Rattle.columns_run.specs.Layout.{output_of, TableFits, wide_cell}
 use Rattle.columns_run.specs.TableShown.{ShowsTableOf}
 use Rattle.tabled_output.specs.Streams.{AppendsFront}
 
@@ -14,23 +14,29 @@ use Rattle.tabled_output.specs.Streams.{AppendsFront}
 abbrev pub read_limit : ℕ
 read_limit = 2 ^ 40
 
--- the input has a table: it is text, each ESC of it begins a whole sequence, and width and height of the table are in range
+-- the input has a table: it is text, each ESC of it begins a whole sequence, width and height of the table are in range,
+-- and no line of a cell takes more columns than its column has
 abbrev pub HasTable : Options → List ℕ → Type 0
-HasTable options input = IsUtf8 input × IsWhole input × TableFits options input
+HasTable options input = IsUtf8 input × IsWhole input × TableFits options input × (wide_cell options input ≡ None)
 
--- an input may be answered so. The cases exclude one another, but for the faults of reading, writing
--- and memory, which the counts of the reader and the writer tell
+-- a run of an input may give up so. The cases exclude one another, but for the faults of reading, writing and memory, which
+-- the counts of the reader and the writer tell
+abbrev pub MayRefuse : Options → List ℕ → RunFault → Type 0
+MayRefuse options input Read = ⊤
+MayRefuse options input ReadTooLong = read_limit ≤ length input
+MayRefuse options input (NotUtf8 at) = ¬ (IsUtf8 input) × (at ≡ utf8_valid_len input)
+MayRefuse options input (Escape at) = IsUtf8 input × IsFirstBroken input at
+MayRefuse options input Range = IsUtf8 input × IsWhole input × ¬ (TableFits options input)
+MayRefuse options input (LineTooWide row column) =
+    IsUtf8 input × IsWhole input × TableFits options input × (wide_cell options input ≡ Some (record { row = row; col = column }))
+MayRefuse options input Write = HasTable options input
+MayRefuse options input WriteZero = HasTable options input
+MayRefuse options input Memory = ⊤
+
+-- an input may be answered so
 abbrev pub MayAnswer : {T : Type 0} → Options → List ℕ → Result T RunFault → Type 0
 MayAnswer options input (Ok _) = HasTable options input
-MayAnswer options input (Err Read) = ⊤
-MayAnswer options input (Err ReadTooLong) = read_limit ≤ length input
-MayAnswer options input (Err (NotUtf8 at)) = ¬ (IsUtf8 input) × (at ≡ utf8_valid_len input)
-MayAnswer options input (Err (Escape at)) = IsUtf8 input × IsFirstBroken input at
-MayAnswer options input (Err Range) = IsUtf8 input × IsWhole input × ¬ (TableFits options input)
-MayAnswer options input (Err (LineTooWide row column)) = ⊥
-MayAnswer options input (Err Write) = HasTable options input
-MayAnswer options input (Err WriteZero) = HasTable options input
-MayAnswer options input (Err Memory) = ⊤
+MayAnswer options input (Err fault) = MayRefuse options input fault
 
 -- what is written of the text with an answer: all of it, or a front of it where writing was cut
 -- short, or nothing

@@ -5,7 +5,7 @@ use Rattle.ansi_scan.specs.Attributes.{plain_attributes}
 use Rattle.ansi_str.specs.StyledText.{styled, IsClosed}
 use Rattle.columns_run.specs.Rows.{line_feed}
 use Rattle.columns_run.specs.Layout.{picture}
-use Rattle.columns_run.specs.declared.options.Options.{Options}
+use Rattle.columns_options.specs.declared.options.Options.{Options}
 
 -- no sequence is broken, and no style is open where a line ends, nor at the end
 pub record LinesEndPlain (pieces : List Piece) : Type 0 where

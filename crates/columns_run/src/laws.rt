@@ -1,48 +1,67 @@
 //! Laws over the definitions, each the contract of a function that does nothing.
-ghost use Rattle.std.specs.Prelude.{◌≡◌, ℕ, ◌<◌, chars, false, codes, List, ◌∷◌, [], map, IsUtf8};
+ghost use Rattle.std.specs.Prelude.{◌≡◌, ◌↔◌, ℕ, ◌<◌, chars, false, true, codes, List, ◌∷◌, [], map, IsUtf8, None, Option, Result, ⊤};
 ghost use Rattle.std.specs.Str.{encode_utf8_all};
 ghost use Rattle.ansi_scan.specs.Sequences.{Piece, ArePiecesOf, NoneBroken, IsWhole};
 ghost use Rattle.ansi_str.specs.StyledText.{has_escape, strip};
 ghost use Rattle.ansi_str.specs.Matches.{AreMatches};
+ghost use Rattle.columns_asked.specs.Worked.{cuts, wraps};
+ghost use Rattle.columns_options.specs.Settings.{default_settings};
+ghost use Rattle.columns_options.specs.declared.options.Options.{Options};
 ghost use Rattle.grid_config.specs.Compact.{compact_of};
 ghost use Rattle.papergrid_picture.specs.Shown.{Styled, in_plain};
 ghost use Rattle.columns_run.specs.Rows.{places};
-ghost use Rattle.columns_run.specs.Layout.{characters_of, output_of, picture, table_characters};
+ghost use Rattle.columns_run.specs.Layout.{TableFits, asked_of, characters_of, output_of, picture, table_characters, wide_cell, without_width};
 ghost use Rattle.columns_run.specs.Plain.{IsPlain};
 ghost use Rattle.columns_run.specs.TableShown.{ShowsTableOf};
-ghost use Rattle.columns_run.specs.Run.{HasTable};
-ghost use Rattle.columns_run.specs.Settings.{ascii_settings};
-ghost use Rattle.columns_run.specs.declared.options.Options.{Options as Asked};
+ghost use Rattle.columns_run.specs.Run.{HasTable, MayRefuse, Serves};
+ghost use Rattle.columns_run.specs.Fault.{TellsOfInput};
+ghost use Rattle.tabled_size_priority.specs.declared.choice.Choice.TheVariants.{None as InTurns, MaxLeft};
+ghost use Rattle.columns_run.specs.declared.fault.RunFault.{RunFault};
 
-/// Tables worked out by hand, in the style that `Options::new` has.
+/// Tables worked out by hand, in the style that `Options::new` has, without a width.
 pub fn worked_tables()
-    ensures empty { (options : Asked) → compact_of options.style ≡ ascii_settings → table_characters options [] ≡ [] }
-    ensures two_by_two { (options : Asked) → compact_of options.style ≡ ascii_settings → table_characters options (codes "a\tb\n1\t2\n") ≡ codes "+---+---+\n| a | b |\n+---+---+\n| 1 | 2 |\n+---+---+\n" }
-    ensures short_row { (options : Asked) → compact_of options.style ≡ ascii_settings → table_characters options (codes "a\tb\nc\n") ≡ codes "+---+---+\n| a | b |\n+---+---+\n| c |   |\n+---+---+\n" }
-    ensures longer_row { (options : Asked) → compact_of options.style ≡ ascii_settings → table_characters options (codes "a\nbcd\te\tf\n") ≡ codes "+-----+---+---+\n| a   |   |   |\n+-----+---+---+\n| bcd | e | f |\n+-----+---+---+\n" }
-    ensures empty_row { (options : Asked) → compact_of options.style ≡ ascii_settings → table_characters options (codes "\n") ≡ codes "+--+\n|  |\n+--+\n" }
-    ensures two_empty_rows { (options : Asked) → compact_of options.style ≡ ascii_settings → table_characters options (codes "\n\n") ≡ codes "+--+\n|  |\n+--+\n|  |\n+--+\n" }
-    ensures empty_last_row { (options : Asked) → compact_of options.style ≡ ascii_settings → table_characters options (codes "a\n\n") ≡ codes "+---+\n| a |\n+---+\n|   |\n+---+\n" }
-    ensures empty_middle_row { (options : Asked) → compact_of options.style ≡ ascii_settings → table_characters options (codes "a\n\nb") ≡ codes "+---+\n| a |\n+---+\n|   |\n+---+\n| b |\n+---+\n" }
-    ensures lone_tab { (options : Asked) → compact_of options.style ≡ ascii_settings → table_characters options (codes "\t") ≡ codes "+--+--+\n|  |  |\n+--+--+\n" }
-    ensures tab_at_end { (options : Asked) → compact_of options.style ≡ ascii_settings → table_characters options (codes "a\t\n") ≡ codes "+---+--+\n| a |  |\n+---+--+\n" }
-    ensures no_final_line_feed { (options : Asked) → compact_of options.style ≡ ascii_settings → table_characters options (codes "a\tb") ≡ codes "+---+---+\n| a | b |\n+---+---+\n" }
-    ensures carriage_return { (options : Asked) → compact_of options.style ≡ ascii_settings → table_characters options (codes "a\r\n") ≡ codes "+----+\n| a\r |\n+----+\n" }
+    ensures empty { (options : Options) → options.width ≡ None → compact_of options.style ≡ default_settings → table_characters options [] ≡ [] }
+    ensures two_by_two { (options : Options) → options.width ≡ None → compact_of options.style ≡ default_settings → table_characters options (codes "a\tb\n1\t2\n") ≡ codes "+---+---+\n| a | b |\n+---+---+\n| 1 | 2 |\n+---+---+\n" }
+    ensures short_row { (options : Options) → options.width ≡ None → compact_of options.style ≡ default_settings → table_characters options (codes "a\tb\nc\n") ≡ codes "+---+---+\n| a | b |\n+---+---+\n| c |   |\n+---+---+\n" }
+    ensures longer_row { (options : Options) → options.width ≡ None → compact_of options.style ≡ default_settings → table_characters options (codes "a\nbcd\te\tf\n") ≡ codes "+-----+---+---+\n| a   |   |   |\n+-----+---+---+\n| bcd | e | f |\n+-----+---+---+\n" }
+    ensures empty_row { (options : Options) → options.width ≡ None → compact_of options.style ≡ default_settings → table_characters options (codes "\n") ≡ codes "+--+\n|  |\n+--+\n" }
+    ensures two_empty_rows { (options : Options) → options.width ≡ None → compact_of options.style ≡ default_settings → table_characters options (codes "\n\n") ≡ codes "+--+\n|  |\n+--+\n|  |\n+--+\n" }
+    ensures empty_last_row { (options : Options) → options.width ≡ None → compact_of options.style ≡ default_settings → table_characters options (codes "a\n\n") ≡ codes "+---+\n| a |\n+---+\n|   |\n+---+\n" }
+    ensures empty_middle_row { (options : Options) → options.width ≡ None → compact_of options.style ≡ default_settings → table_characters options (codes "a\n\nb") ≡ codes "+---+\n| a |\n+---+\n|   |\n+---+\n| b |\n+---+\n" }
+    ensures lone_tab { (options : Options) → options.width ≡ None → compact_of options.style ≡ default_settings → table_characters options (codes "\t") ≡ codes "+--+--+\n|  |  |\n+--+--+\n" }
+    ensures tab_at_end { (options : Options) → options.width ≡ None → compact_of options.style ≡ default_settings → table_characters options (codes "a\t\n") ≡ codes "+---+--+\n| a |  |\n+---+--+\n" }
+    ensures no_final_line_feed { (options : Options) → options.width ≡ None → compact_of options.style ≡ default_settings → table_characters options (codes "a\tb") ≡ codes "+---+---+\n| a | b |\n+---+---+\n" }
+    ensures carriage_return { (options : Options) → options.width ≡ None → compact_of options.style ≡ default_settings → table_characters options (codes "a\r\n") ≡ codes "+----+\n| a\r |\n+----+\n" }
 {}
 
-/// Tables of styled texts, worked out by hand: their bytes.
+/// Tables of styled texts, worked out by hand, without a width: their bytes.
 pub fn worked_outputs()
-    ensures two_cells { (options : Asked) → compact_of options.style ≡ ascii_settings → output_of options (codes "\u{1b}[31mab\tc\n") ≡ codes "+----+---+\n| \u{1b}[31mab\u{1b}[39m | \u{1b}[31mc\u{1b}[39m |\n+----+---+\n" }
-    ensures two_lines { (options : Asked) → compact_of options.style ≡ ascii_settings → output_of options (codes "\u{1b}[1ma\nb\u{1b}[0m\n") ≡ codes "+---+\n| \u{1b}[1ma\u{1b}[22m |\n+---+\n| \u{1b}[1mb\u{1b}[0m |\n+---+\n" }
-    ensures lone_sequence { (options : Asked) → compact_of options.style ≡ ascii_settings → output_of options (codes "\u{1b}[31m") ≡ [] }
-    ensures tab_in_a_string { (options : Asked) → compact_of options.style ≡ ascii_settings → output_of options (codes "\u{1b}]0;a\tb\u{7}x\n") ≡ codes "+---+\n| \u{1b}]0;a\tb\u{7}x |\n+---+\n" }
-    ensures same_color_twice { (options : Asked) → compact_of options.style ≡ ascii_settings → output_of options (codes "\u{1b}[31ma\u{1b}[31mb\n") ≡ codes "+----+\n| \u{1b}[31ma\u{1b}[31mb\u{1b}[39m |\n+----+\n" }
+    ensures two_cells { (options : Options) → options.width ≡ None → compact_of options.style ≡ default_settings → output_of options (codes "\u{1b}[31mab\tc\n") ≡ codes "+----+---+\n| \u{1b}[31mab\u{1b}[39m | \u{1b}[31mc\u{1b}[39m |\n+----+---+\n" }
+    ensures two_lines { (options : Options) → options.width ≡ None → compact_of options.style ≡ default_settings → output_of options (codes "\u{1b}[1ma\nb\u{1b}[0m\n") ≡ codes "+---+\n| \u{1b}[1ma\u{1b}[22m |\n+---+\n| \u{1b}[1mb\u{1b}[0m |\n+---+\n" }
+    ensures lone_sequence { (options : Options) → options.width ≡ None → compact_of options.style ≡ default_settings → output_of options (codes "\u{1b}[31m") ≡ [] }
+    ensures tab_in_a_string { (options : Options) → options.width ≡ None → compact_of options.style ≡ default_settings → output_of options (codes "\u{1b}]0;a\tb\u{7}x\n") ≡ codes "+---+\n| \u{1b}]0;a\tb\u{7}x |\n+---+\n" }
+    ensures same_color_twice { (options : Options) → options.width ≡ None → compact_of options.style ≡ default_settings → output_of options (codes "\u{1b}[31ma\u{1b}[31mb\n") ≡ codes "+----+\n| \u{1b}[31ma\u{1b}[31mb\u{1b}[39m |\n+----+\n" }
+{}
+
+/// Tables in a width, worked out by hand: their bytes. A coloured text is wrapped, each line in its own
+/// colour, and a style that ended before a break stays ended; it is cut; words are kept; at width 0 only the
+/// paddings stay; columns give in turns, or the widest first; a width that the table doesn't pass changes nothing.
+pub fn worked_widths()
+    ensures wrapped { (options : Options) → asked_of options ≡ wraps 6 false InTurns → compact_of options.style ≡ default_settings → output_of options (codes "\u{1b}[31m123456\u{1b}[0m\n") ≡ codes "+----+\n| \u{1b}[31m12\u{1b}[39m |\n| \u{1b}[31m34\u{1b}[39m |\n| \u{1b}[31m56\u{1b}[0m |\n+----+\n" }
+    ensures wrapped_behind { (options : Options) → asked_of options ≡ wraps 6 false InTurns → compact_of options.style ≡ default_settings → output_of options (codes "\u{1b}[31m12\u{1b}[0m34\n") ≡ codes "+----+\n| \u{1b}[31m12\u{1b}[0m |\n| 34 |\n+----+\n" }
+    ensures cut { (options : Options) → asked_of options ≡ cuts 6 → compact_of options.style ≡ default_settings → output_of options (codes "\u{1b}[31m123456\u{1b}[0m\n") ≡ codes "+----+\n| \u{1b}[31m12\u{1b}[39m |\n+----+\n" }
+    ensures words { (options : Options) → asked_of options ≡ wraps 8 true InTurns → compact_of options.style ≡ default_settings → output_of options (codes "111 234 1\n") ≡ codes "+------+\n| 111  |\n| 234  |\n| 1    |\n+------+\n" }
+    ensures nothing { (options : Options) → asked_of options ≡ wraps 0 false InTurns → compact_of options.style ≡ default_settings → output_of options (codes "ab\tc\n") ≡ codes "+--+--+\n|  |  |\n+--+--+\n" }
+    ensures in_turns { (options : Options) → asked_of options ≡ wraps 11 false InTurns → compact_of options.style ≡ default_settings → output_of options (codes "aaaa\tbb\n") ≡ codes "+-----+---+\n| aaa | b |\n| a   | b |\n+-----+---+\n" }
+    ensures widest { (options : Options) → asked_of options ≡ wraps 11 false MaxLeft → compact_of options.style ≡ default_settings → output_of options (codes "aaaa\tbb\n") ≡ codes "+----+----+\n| aa | bb |\n| aa |    |\n+----+----+\n" }
+    ensures natural { (options : Options) → asked_of options ≡ wraps 6 false InTurns → compact_of options.style ≡ default_settings → output_of options (codes "ab\n") ≡ codes "+----+\n| ab |\n+----+\n" }
+    ensures wide { (options : Options) → asked_of options ≡ wraps 100 false InTurns → compact_of options.style ≡ default_settings → output_of options (codes "ab\n") ≡ codes "+----+\n| ab |\n+----+\n" }
 {}
 
 /// The table of a whole text shows the picture of the characters that the text shows, in their styles, and no style is
 /// open where a line of it ends. The style of the table is plain.
 pub fn table_shown()
-    ensures { (options : Asked) (input : List ℕ) → IsPlain (compact_of options.style) → IsUtf8 input → IsWhole input → ShowsTableOf options input (output_of options input) }
+    ensures { (options : Options) (input : List ℕ) → IsPlain (compact_of options.style) → IsUtf8 input → IsWhole input → ShowsTableOf options input (output_of options input) }
 {}
 
 /// The places of an ASCII character in a text are those at which it matches.
@@ -51,16 +70,43 @@ pub fn places_match()
 {}
 
 /// Styles change no character of the picture, which is that of the characters alone. A text without its sequences has
-/// a table where the text has one, and it is, byte for byte, the output without its sequences.
+/// a table where the text has one, and it is, byte for byte, the output without its sequences; it is in range where the
+/// text is, and the same cell of it is too wide.
 pub fn without_styles()
-    ensures picture { (options : Asked) (characters : List Styled) →
+    ensures picture { (options : Options) (characters : List Styled) →
         characters_of (picture options characters) ≡ characters_of (picture options (map in_plain (characters_of characters))) }
-    ensures characters { (options : Asked) (characters : List Styled) →
+    ensures characters { (options : Options) (characters : List Styled) →
         characters_of (picture options characters) ≡ table_characters options (characters_of characters) }
-    ensures plain { (options : Asked) (text : List ℕ) → IsPlain (compact_of options.style) → IsUtf8 text → has_escape text ≡ false →
+    ensures plain { (options : Options) (text : List ℕ) → IsPlain (compact_of options.style) → IsUtf8 text → has_escape text ≡ false →
         output_of options text ≡ encode_utf8_all (table_characters options (chars text)) }
-    ensures accepted { (options : Asked) (input : List ℕ) (ps : List Piece) →
+    ensures accepted { (options : Options) (input : List ℕ) (ps : List Piece) →
         ArePiecesOf input ps → HasTable options input → HasTable options (strip ps) }
-    ensures output { (options : Asked) (input : List ℕ) (ps qs : List Piece) → IsPlain (compact_of options.style) →
+    ensures fits { (options : Options) (input : List ℕ) (ps : List Piece) → ArePiecesOf input ps → (TableFits options (strip ps) ↔ TableFits options input) }
+    ensures too_wide { (options : Options) (input : List ℕ) (ps : List Piece) → ArePiecesOf input ps → wide_cell options (strip ps) ≡ wide_cell options input }
+    ensures output { (options : Options) (input : List ℕ) (ps qs : List Piece) → IsPlain (compact_of options.style) →
         IsUtf8 input → ArePiecesOf input ps → NoneBroken ps → ArePiecesOf (output_of options input) qs → strip qs ≡ output_of options (strip ps) }
+{}
+
+/// An input that has no table is refused by one name and place alone, memory and the reader aside; one that has
+/// a table is never refused by such a name.
+pub fn one_refusal()
+    ensures one { (options : Options) (input : List ℕ) (fault other : RunFault) → TellsOfInput fault → TellsOfInput other →
+        MayRefuse options input fault → MayRefuse options input other → fault ≡ other }
+    ensures no_table { (options : Options) (input : List ℕ) (fault : RunFault) → TellsOfInput fault → MayRefuse options input fault → ¬ (HasTable options input) }
+{}
+
+/// The style of `Options::new` is plain, so that `run` takes it.
+pub fn default_style_is_plain()
+    ensures { IsPlain default_settings }
+{}
+
+/// A streamed table is the table: of each input, `run_streamed` promises for a style what `run` promises for
+/// options of that style without a width, whatever else they have. They refuse the same inputs by the same
+/// names, memory aside, and write the same bytes.
+pub fn streamed_tables_are_tables()
+    ensures bytes { (options : Options) (input : List ℕ) → options.width ≡ None → output_of (without_width options.style) input ≡ output_of options input }
+    ensures accepted { (options : Options) (input : List ℕ) → options.width ≡ None → (HasTable (without_width options.style) input ↔ HasTable options input) }
+    ensures refuses { (options : Options) (input : List ℕ) (fault : RunFault) → options.width ≡ None → (MayRefuse (without_width options.style) input fault ↔ MayRefuse options input fault) }
+    ensures serves { (options : Options) (input : List ℕ) (result : Result ⊤ RunFault) (old new : Option (List ℕ)) → options.width ≡ None →
+        (Serves (without_width options.style) input result old new ↔ Serves options input result old new) }
 {}

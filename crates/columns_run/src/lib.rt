@@ -1,4 +1,4 @@
-//! From tab-separated text to a table with borders: all that the program `columns` does between its
+//! From tab-separated text to a table with borders, in a width that may be asked: all that the program `columns` does between its
 //! standard streams.
 #![tactic(auto)]
 
@@ -6,18 +6,14 @@ mod fault;
 mod input;
 pub mod laws;
 mod layout;
-mod options;
 mod parts;
-mod placed;
-mod records;
 mod rows;
 mod running;
-mod sizes;
 mod style;
 
+pub use columns_options::Options;
 pub use fault::RunFault;
 pub use input::read_all;
-pub use options::Options;
-pub use running::run;
+pub use running::{run, run_streamed};
 pub use style::style_is_plain;
 pub use tabled_output::Counted;

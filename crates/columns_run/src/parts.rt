@@ -3,10 +3,11 @@
 ghost use Rattle.std.specs.Prelude.{◌≡◌, ℕ, ◌==◌, ◌<◌, ◌≤◌, [], ◌∷◌, ◌++◌, map, length, sum, vec_len, IfOk, OnOk};
 ghost use Rattle.std.specs.Cow.{cow_str_bytes};
 ghost use Rattle.columns_run.specs.Rows.{stripped, tab, parts_at, row_parts};
-ghost use Rattle.columns_run.specs.Cells.{bytes, shown, cut, last_is_bare, part_line};
+ghost use Rattle.columns_run.specs.Cells.{bytes, shown, last_is_bare, part_line};
+ghost use Rattle.columns_table.specs.Rows.{cut};
 
-use crate::rows::Cell;
 use ansi_str::{AnsiSplit, get_blocks};
+use columns_table::Cell;
 use grid_records_measure::get_line_width;
 use std::alloc::{AllocError, Global};
 use std::borrow::CowStr;

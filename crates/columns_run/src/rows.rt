@@ -5,22 +5,9 @@ ghost use Rattle.columns_run.specs.Rows.{rows_of};
 ghost use Rattle.columns_run.specs.Cells.{shown, byte_line, rows_shown};
 ghost use Rattle.grid_records_measure.specs.Measures.{are_printable};
 
+use columns_table::{Cell, Rows};
 use grid_records_measure::get_string_width;
 use std::alloc::{AllocError, Global};
-
-/// A cell: its text, and the columns that the text takes.
-#[derive(Clone, Copy)]
-pub struct Cell<'a> {
-    pub text: &'a str,
-    pub width: usize,
-}
-
-/// The cells of all rows, one row after the other, and how many each row has.
-#[derive(Drop)]
-pub struct Rows<'a> {
-    pub cells: Vec<Cell<'a>>,
-    pub counts: Vec<usize>,
-}
 
 /// The rows of a text, each cell measured once. They borrow the text, and it fails only where allocation fails.
 pub fn rows_of<'a>(alloc: Global, text: &'a str) -> Result<Rows<'a>, AllocError>

@@ -4,7 +4,7 @@ ghost use Rattle.std.specs.Io.KnownBytes.{IsAtEnd};
 ghost use Rattle.tabled_output.specs.Counts.{inner_of, empty_writes_of, pieces_read_of, flushes_of, FailsIff, TakesNothingIff, HasGivenPieces};
 ghost use Rattle.columns_run.specs.Fault.{IsOfInput, MayFollowWrites};
 ghost use Rattle.grid_config.specs.Compact.{compact_of};
-ghost use Rattle.columns_run.specs.Layout.{output_of};
+ghost use Rattle.columns_run.specs.Layout.{output_of, without_width};
 ghost use Rattle.columns_run.specs.Plain.{IsPlain};
 ghost use Rattle.tabled_output.specs.Streams.{ConsumesSome};
 ghost use Rattle.columns_run.specs.Run.{MayAnswer, Serves, LeavesAlone, HasReadAll, read_limit};
@@ -12,19 +12,23 @@ ghost use Rattle.columns_run.specs.Run.{MayAnswer, Serves, LeavesAlone, HasReadA
 use crate::fault::RunFault;
 use crate::input::{read_all, text_of};
 use crate::layout::{plain_table, styled_table};
-use crate::options::Options;
 use ansi_scan::first_broken;
 use ansi_str::AnsiStr;
+use columns_options::Options;
+use grid_config::CompactConfig;
 use std::alloc::Global;
 use std::io::{Read, Write};
 use tabled_output::{Counted, write_all};
+use tabled_size_priority::Choice;
 
 // How many reads without an end are too many.
 const READ_LIMIT: u64 = 1 << 40;
 
 /// Reads all text, cells between tabs and rows between line feeds, and writes it as a table with
-/// borders. `RunFault` says when it gives up. Before a fault of the reader or the input nothing is
-/// written; before one of the writer, or `Memory`, a front of the table may be.
+/// borders. Where it would pass the width that is asked, its columns give, and its cells are wrapped or
+/// cut to the room that is left; it never gets wider. `RunFault` says when it gives up. Before a fault of
+/// the reader or the input nothing is written; before one of the writer, or `Memory`, a front of the table
+/// may be.
 pub fn run<R: Read, W: Write>(
     alloc: Global,
     options: &Options,
@@ -65,6 +69,59 @@ pub fn run<R: Read, W: Write>(
     Ok(write_all(writer, table.as_bytes())?)
 }
 
+/// The same in this style, as wide as the text: what `run` does with options of this style and without a
+/// width. The whole table is made before any of it is written.
+pub fn run_streamed<R: Read, W: Write>(
+    alloc: Global,
+    style: &CompactConfig,
+    reader: &mut Counted<R>,
+    writer: &mut Counted<W>,
+) -> Result<(), RunFault>
+    requires { IsPlain (compact_of style.now) }
+
+    // Where the reader's bytes are known, they decide the answer and what is written.
+    ensures known_input { IfSome (R.remaining (inner_of reader.old)) (λ input.
+        Serves (without_width style.now) input result (W.contents (inner_of writer.old)) (W.contents (inner_of writer.new))
+        × LeavesAlone (without_width style.now) input writer.old writer.new) }
+
+    // Where they are not, the same holds of some bytes that the reader gave.
+    ensures some_input { ConsumesSome (R.remaining (inner_of reader.old))
+        (R.remaining (inner_of reader.new)) (λ input.
+        Serves (without_width style.now) input result (W.contents (inner_of writer.old)) (W.contents (inner_of writer.new))
+        × LeavesAlone (without_width style.now) input writer.old writer.new) }
+    ensures at_end { HasReadAll result → IsAtEnd (R.remaining (inner_of reader.new)) }
+
+    // The counts say exactly when a fault of the reader or the writer comes.
+    ensures read { FailsIff (IsErrOf result RunFault.Read) reader.old reader.new }
+    ensures read_too_long { result ≢ Err RunFault.Memory →
+        (IsErrOf result RunFault.ReadTooLong ↔ HasGivenPieces reader.old reader.new read_limit) }
+    ensures write { FailsIff (IsErrOf result RunFault.Write) writer.old writer.new }
+    ensures write_zero { TakesNothingIff (IsErrOf result RunFault.WriteZero) writer.old writer.new }
+
+    // A reader is only read, and a writer only written: nothing is flushed.
+    ensures only_reads { (empty_writes_of reader.new ≡ empty_writes_of reader.old) × (flushes_of reader.new ≡ flushes_of reader.old) }
+    ensures only_writes { (pieces_read_of writer.new ≡ pieces_read_of writer.old) × (flushes_of writer.new ≡ flushes_of writer.old) }
+
+    // A fault of the reader or the input comes before the writer is touched.
+    ensures untouched { IfErr result (λ fault.
+        ¬ (MayFollowWrites fault) → writer.new ≡ writer.old) }
+{
+    run(alloc, &without_width(style), reader, writer)
+}
+
+// The options of a table in this style that is as wide as its text.
+fn without_width(style: &CompactConfig) -> Options
+    ensures { result ≡ without_width style.now }
+{
+    Options {
+        width: None,
+        truncate: false,
+        keep_words: false,
+        priority: Choice::None,
+        style: *style,
+    }
+}
+
 // The table of an input, or why it has none.
 fn table_of(alloc: Global, options: &Options, bytes: &[u8]) -> Result<String, RunFault>
     ensures answers { MayAnswer options.now bytes.now result }
@@ -72,13 +129,11 @@ fn table_of(alloc: Global, options: &Options, bytes: &[u8]) -> Result<String, Ru
     ensures faults { IfErr result IsOfInput }
 {
     let text = text_of(bytes)?;
-    let table = if text.ansi_has_any() {
-        if let Some(at) = first_broken(text) {
-            return Err(RunFault::Escape { at });
-        }
-        styled_table(alloc, options, text)
-    } else {
-        plain_table(alloc, options, text)
-    };
-    Ok(table?)
+    if !text.ansi_has_any() {
+        return plain_table(alloc, options, text);
+    }
+    if let Some(at) = first_broken(text) {
+        return Err(RunFault::Escape { at });
+    }
+    styled_table(alloc, options, text)
 }

@@ -3,4 +3,6 @@ mod counted;
 mod fault;
 mod input;
 mod run;
+mod streamed;
 mod styles;
+mod widths;

@@ -6,18 +6,18 @@ ghost use Rattle.columns_run.specs.Plain.{IsPlain};
 
 use super::counted::expect_counts;
 use crate::fakes::{ByteReader, StepWriter};
-use columns_run::{Counted, Options, RunFault, run};
+use columns_run::{Counted, Options, RunFault, run, style_is_plain};
 use std::alloc::Global;
 use std::io::ErrorKind;
 use std::process::Abort;
 
-const INPUT: &[u8] = b"a\tb\n1\t2\n";
+pub const INPUT: &[u8] = b"a\tb\n1\t2\n";
 
 // The table of `INPUT`.
-const TABLE: &[u8] = b"+---+---+\n| a | b |\n+---+---+\n| 1 | 2 |\n+---+---+\n";
+pub const TABLE: &[u8] = b"+---+---+\n| a | b |\n+---+---+\n| 1 | 2 |\n+---+---+\n";
 
 // Inputs, and their tables worked out by hand.
-const TABLES: &[(&str, &str)] = &[
+pub const TABLES: &[(&str, &str)] = &[
     ("", ""),
     (
         "a\tb\n1\t2\n",
@@ -48,13 +48,22 @@ const TABLES: &[(&str, &str)] = &[
 ];
 
 // Inputs that have no table, and why.
-const FAULTS: &[(&[u8], RunFault)] = &[
+pub const FAULTS: &[(&[u8], RunFault)] = &[
     (b"\x1b", RunFault::Escape { at: 0 }),
     (b"a\xff", RunFault::NotUtf8 { at: 1 }),
     (b"\x1b\xff", RunFault::NotUtf8 { at: 1 }),
     (b"\x1b[31m\x1b[1", RunFault::Escape { at: 5 }),
     (b"\x1b]0;a", RunFault::Escape { at: 0 }),
 ];
+
+/// The defaults, of which the style is plain.
+pub fn defaults(rt: &impl Abort) -> Options
+    ensures { IsPlain (compact_of result.style) }
+{
+    let options = Options::new();
+    assert!(rt; style_is_plain(&options.style));
+    options
+}
 
 // The contract of `run` tells its caller which bytes these are.
 fn table_bytes(alloc: Global, options: &Options, input: &[u8]) -> Result<Vec<u8>, RunFault>
@@ -73,14 +82,12 @@ fn expect_table(
     input: &[u8],
     table: &[u8],
 ) -> Result<(), RunFault> {
-    assert_eq!(rt;
-        table_bytes(alloc, &Options::new(), input)?.as_slice(),
-        table
-    );
+    let options = defaults(rt);
+    assert_eq!(rt; table_bytes(alloc, &options, input)?.as_slice(), table);
     for step in 1..7 {
         let mut reader = Counted::new(ByteReader::new(input));
         let mut writer = Counted::new(StepWriter::new(alloc, step));
-        run(alloc, &Options::new(), &mut reader, &mut writer)?;
+        run(alloc, &options, &mut reader, &mut writer)?;
         assert_eq!(rt; writer.into_inner().taken.as_slice(), table, "by {step}");
     }
     Ok(())
@@ -97,12 +104,8 @@ fn writes_the_table(rt: HostRuntime) -> Result<(), RunFault> {
 // The fault of an input, and that nothing is written before it.
 fn expect_input_fault(rt: &impl Abort, alloc: Global, input: &[u8], fault: RunFault) {
     let mut writer = Counted::new(StepWriter::new(alloc, 1));
-    let result = run(
-        alloc,
-        &Options::new(),
-        &mut Counted::new(input),
-        &mut writer,
-    );
+    let mut reader = Counted::new(input);
+    let result = run(alloc, &defaults(rt), &mut reader, &mut writer);
     assert_eq!(rt; result, Err(fault), "{input:?}");
     expect_counts(rt, &writer, 0, 0);
     assert!(rt; writer.into_inner().taken.is_empty());
@@ -119,7 +122,7 @@ fn expect_read_fault(rt: &impl Abort, alloc: Global, kind: ErrorKind) {
     for bad_call in 1..4 {
         let mut reader = Counted::new(ByteReader::failing(b"\x1b\xff", bad_call, kind));
         let mut writer = Counted::new(StepWriter::new(alloc, 1));
-        let result = run(alloc, &Options::new(), &mut reader, &mut writer);
+        let result = run(alloc, &defaults(rt), &mut reader, &mut writer);
         assert_eq!(rt; result, Err(RunFault::Read), "at call {bad_call}");
         expect_counts(rt, &reader, 1, 0);
         expect_counts(rt, &writer, 0, 0);
@@ -144,7 +147,7 @@ fn expect_write_fault(
     taken: &[u8],
 ) {
     let mut reader = Counted::new(input);
-    let result = run(alloc, &Options::new(), &mut reader, &mut writer);
+    let result = run(alloc, &defaults(rt), &mut reader, &mut writer);
     assert_eq!(rt; result, answer, "{taken:?}");
     expect_counts(rt, &writer, counts.0, counts.1);
     assert_eq!(rt; writer.into_inner().taken.as_slice(), taken);

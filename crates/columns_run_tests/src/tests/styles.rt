@@ -223,7 +223,11 @@ fn answer(
     assert!(rt; style_is_plain(&style));
     let mut writer = Counted::new(StepWriter::new(alloc, 3));
     let mut reader = Counted::new(input.as_bytes());
-    let result = run(alloc, &Options { style }, &mut reader, &mut writer);
+    let options = Options {
+        style,
+        ..Options::new()
+    };
+    let result = run(alloc, &options, &mut reader, &mut writer);
     (result, writer)
 }
 

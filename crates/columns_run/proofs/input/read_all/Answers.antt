@@ -1,4 +1,4 @@
-use Rattle.std.proofs.Common.{rules, ◌≡◌, ◌+◌, ◌%◌, ◌^◌, ◌≤◌, refl, arith}
+use Rattle.std.proofs.Common.{rules, ◌≡◌, ◌+◌, ◌%◌, ◌^◌, refl, arith}
 use Rattle.std.proofs.KnownBytes.{Consumes-trans}
 use Rattle.tabled_output.specs.Counts.{pieces_read_of}
 use Rattle.columns_run.proofs.input.read_all.Goals as goal

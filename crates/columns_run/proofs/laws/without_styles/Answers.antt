@@ -1,4 +1,4 @@
-use Rattle.columns_run.proofs.AcceptedLemmas.{HasTable-strip}
+use Rattle.columns_run.proofs.AcceptedLemmas.{HasTable-strip, fits-strip, wide_cell-strip}
 use Rattle.columns_run.proofs.PictureLemmas.{output-plain, picture-alone, picture-plain, strip-output}
 use Rattle.columns_run.proofs.laws.without_styles.Goals as goal
 
@@ -8,5 +8,7 @@ returns c = record {
   characters = picture-alone;
   plain = λ options text plain utf8 none. output-plain text utf8 none options plain;
   accepted = HasTable-strip;
+  fits = fits-strip;
+  too_wide = wide_cell-strip;
   output = strip-output;
 }

@@ -4,7 +4,8 @@ use Rattle.std.specs.Cow.{cow_str_bytes}
 use Rattle.std.specs.declared.borrow.CowStr.{CowStr}
 use Rattle.std.proofs.lemmas.List.{length-map, map_push, take_more}
 use Rattle.columns_run.specs.Rows.{tab, parts_at}
-use Rattle.columns_run.specs.Cells.{bytes, cut}
+use Rattle.columns_run.specs.Cells.{bytes}
+use Rattle.columns_table.specs.Rows.{cut}
 use Rattle.columns_run.proofs.RowLemmas.{sum-more}
 use Rattle.columns_run.proofs.PartLemmas.{cut-row}
 use Rattle.columns_run.proofs.parts.cell_parts.Goals as goal

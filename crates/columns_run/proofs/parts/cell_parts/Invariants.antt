@@ -1,7 +1,8 @@
 use Rattle.std.proofs.Common.{◌≡◌, map, take, sum, vec_len}
 use Rattle.std.specs.Cow.{cow_str_bytes}
 use Rattle.columns_run.specs.Rows.{tab, parts_at}
-use Rattle.columns_run.specs.Cells.{bytes, cut}
+use Rattle.columns_run.specs.Cells.{bytes}
+use Rattle.columns_table.specs.Rows.{cut}
 use Rattle.columns_run.proofs.parts.cell_parts.Given as goal
 
 abbrev pub invariant-loop-row : goal.invariant-loop-row

@@ -4,7 +4,7 @@ use Rattle.std.proofs.lemmas.List.{length-map}
 use Rattle.columns_run.specs.Rows.{line_feed, tab}
 use Rattle.columns_run.specs.Cells.{Line, shown, byte_line}
 use Rattle.grid_records_measure.specs.Measures.{are_printable}
-use Rattle.columns_run.specs.declared.rows.Cell.{Cell}
+use Rattle.columns_table.specs.declared.rows.Cell.{Cell}
 use Rattle.columns_run.proofs.PassLemmas.{Pass, AreRows, cell-last, Pass-start, Pass-tab, Pass-line_feed, Pass-printable, Pass-other, Pass-last, Pass-none}
 use Rattle.columns_run.proofs.rows.rows_of.Goals as goal
 use Rattle.columns_run.proofs.rows.rows_of.Goals.{then-is_printable, else-is_printable+in-9+in_ok-push_cell-in-9+then-byte-eq10+in_ok-push-in-9, else-is_printable+in-9+in_ok-push_cell-in-9+else-byte-eq10, else-is_printable+in_default-2, else-is_printable+in_default-2-2}

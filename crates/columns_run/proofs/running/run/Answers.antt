@@ -1,7 +1,8 @@
 use Rattle.std.proofs.Common.{rules, arith, Ok}
 use Rattle.std.proofs.lemmas.Grind.{common_steps}
 use Rattle.tabled_output.specs.Counts.{inner_of}
-use Rattle.columns_run.proofs.ServeLemmas.{known, some}
+use Rattle.columns_run.specs.Layout.{output_of}
+use Rattle.columns_run.proofs.ServeLemmas.{known, left_alone, some, writes-none}
 use Rattle.columns_run.proofs.running.run.Goals as goal
 
 pub returns-in_err-bytes-clause-known_input : goal.returns-in_err-bytes-clause-known_input
@@ -22,7 +23,7 @@ returns-in_err-table-clause-known_input g c =
 pub returns-in_err-table-clause-some_input : goal.returns-in_err-table-clause-some_input
 returns-in_err-table-clause-some_input g c =
     let written = g.W.Write.contents (inner_of c.args.writer.now) in
-    some c.args.options.now c.requires c.from_residual-in_err-table.result written written c.args.writer.now c.args.writer.now (g.R.Read.remaining (inner_of c.args.reader.now)) (g.R.Read.remaining (inner_of c.read_all.new.reader)) (c.in_ok-bytes.bytes.items, c.in_ok-bytes.ensures.bytes, search rules)
+    some c.args.options.now c.requires c.from_residual-in_err-table.result written written c.args.writer.now c.args.writer.now (g.R.Read.remaining (inner_of c.args.reader.now)) (g.R.Read.remaining (inner_of c.read_all.new.reader)) (c.in_ok-bytes.bytes.items, c.in_ok-bytes.ensures.bytes, (search rules, writes-none _ (output_of c.args.options.now c.in_ok-bytes.bytes.items) written c.in_err-table.field-0.0 c.from_residual-in_err-table.result (search rules) c.in_err-table.ensures.faults, left_alone c.args.options.now c.in_ok-bytes.bytes.items c.args.writer.now))
 
 pub returns-in_err-write_all-clause-known_input : goal.returns-in_err-write_all-clause-known_input
 returns-in_err-write_all-clause-known_input g c =

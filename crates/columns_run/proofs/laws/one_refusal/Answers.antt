@@ -1,0 +1,5 @@
+use Rattle.columns_run.proofs.RefusalLemmas.{no-table, one-refusal}
+use Rattle.columns_run.proofs.laws.one_refusal.Goals as goal
+
+pub returns : goal.returns
+returns c = record { one = one-refusal; no_table = no-table }

@@ -1,8 +1,0 @@
-use Rattle.columns_run.proofs.PlacedLemmas.{one_line_each}
-use Rattle.columns_run.proofs.placed.PlacedRowsPeekableRecords.count_lines.Goals as goal
-
-pub returns : goal.returns
-returns c =
-    let rows = c.args.self.now in
-    let one = one_line_each rows.starts.items rows.cells.items c.args._pos rows.measured in
-    one.1.0
