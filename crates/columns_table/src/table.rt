@@ -8,14 +8,14 @@ ghost use Rattle.grid_records_measure.specs.TextLines.{line_feed};
 ghost use Rattle.papergrid_picture.specs.Fitting.{FitsAnswer, InRange, first_too_wide};
 ghost use Rattle.papergrid_picture.specs.Frame.{line_count};
 ghost use Rattle.papergrid.specs.Grids.{grid_text};
-ghost use Rattle.papergrid_fits.specs.Tables.{Fits};
+ghost use Rattle.papergrid_fits.specs.Tables.{Fits, IsFitsAnswer};
 ghost use Rattle.columns_asked.specs.Layout.{asked_frame, asked_text, frame_under, heights_of, kept_texts, narrow, narrowed, paddings, too_wide, widths_of};
 ghost use Rattle.columns_table.specs.Answers.{HasTable, MayRefuse, natural_text};
 ghost use Rattle.columns_table.specs.Records.{IsMeasured};
 ghost use Rattle.columns_table.specs.Rows.{row_texts_of};
 
 use crate::fault::TableFault;
-use crate::kept::{KeptCell, kept_rows};
+use crate::kept::kept_rows;
 use crate::placed::PlacedRows;
 use crate::rows::Rows;
 use crate::sizes::{Sizes, greatest, sizes_of, totalled};
@@ -68,13 +68,7 @@ fn narrower(
     if sizes.widths.is_empty() {
         return Ok(None);
     }
-    narrowed(
-        alloc,
-        asked,
-        &sizes.widths,
-        sizes.columns,
-        beside(style),
-    )
+    narrowed(alloc, asked, &sizes.widths, sizes.columns, beside(style))
 }
 
 // The columns beside the text of a cell.
@@ -131,6 +125,7 @@ fn narrowed_table(
         ⊎ FitsAnswer (asked_frame (compact_of style.now) asked.now (row_texts_of rows.entry)) (kept_texts (compact_of style.now) asked.now (row_texts_of rows.entry)) (Unit {0}) (Err fault)) }
 {
     let kept = kept_rows(alloc, asked, &rows, &widths, beside(style))?;
+    drop(rows);
     let records = VecRecords::new(kept);
     let heights = CompactGridDimension::height(alloc, &records, style)?;
     let sizes = totalled(widths, heights, style)?;
@@ -140,13 +135,18 @@ fn narrowed_table(
     text
 }
 
-// The text of these records with a line feed after its last line. Refused as `fits` refuses them.
-fn text_where_fits(
+// The text of these records with a line feed after its last line. Refused as `fits` refuses them, and for
+// memory.
+fn text_where_fits<R: ExactRecords + PeekableRecords>(
     alloc: Global,
-    records: &VecRecords<KeptCell<'_>>,
+    records: &R,
     settings: &SpannedConfig,
     sizes: Sizes,
 ) -> Result<String, Fault>
+    ensures text { IfOk result (λ text. string_bytes text ≡ (if sizes.lines == 0 then [] else grid_text (look_of settings.now) (slice_index sizes.widths.items) (slice_index sizes.heights.items) (λ _. None) (R.columns records.now) (R.rows records.now) ++ line_feed ∷ [])) }
+    ensures fits { OnOk result (Fits settings.now (slice_index sizes.widths.items) (slice_index sizes.heights.items) (R.columns records.now) (R.rows records.now)) }
+    ensures refused { IfErr result (λ fault. (fault ≡ Memory)
+        ⊎ IsFitsAnswer settings.now (slice_index sizes.widths.items) (slice_index sizes.heights.items) (R.columns records.now) (R.rows records.now) (Err fault)) }
 {
     fits(records, settings, &sizes)?;
     text_of_grid(alloc, records, settings, sizes)
