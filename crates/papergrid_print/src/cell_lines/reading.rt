@@ -2,7 +2,7 @@
 ghost use Rattle.std.specs.Prelude.{◌≡◌, ◌+◌, ◌-◌, ◌≤◌, IfOk, OnOk, [], drop, length, map, slice_index_or, take};
 ghost use Rattle.std.specs.Cow.{cow_str_bytes};
 ghost use Rattle.std.specs.List.{prefix_len, slice_split, suffix_len};
-ghost use Rattle.grid_records_measure.specs.TextLines.{is_line_feed};
+ghost use Rattle.grid_records_measure.specs.TextLines.{is_line_feed, line_measure};
 ghost use Rattle.grid_records_measure.specs.Trimming.{trimmed};
 ghost use Rattle.grid_records_traits.specs.Rows.{text_at};
 ghost use Rattle.papergrid_picture.specs.CellLines.{cell_lines, cell_measures};
@@ -56,6 +56,22 @@ fn read_text<'a>(
     ensures lines { IfOk result (λ cell. texts_of cell ≡ cell_lines trim_horizontal trim_vertical text.now) }
     ensures measures { IfOk result (λ cell. measures_of cell ≡ cell_measures trim_horizontal trim_vertical text.now) }
 {
+    if trim_horizontal || trim_vertical || text.ansi_has_any() {
+        return read_shown(alloc, text, trim_horizontal, trim_vertical);
+    }
+    Ok(CellLines::new(plain_lines(alloc, text)?))
+}
+
+// The same by what the lines show, whether there are sequences and trims or not.
+fn read_shown<'a>(
+    alloc: Global,
+    text: &'a str,
+    trim_horizontal: bool,
+    trim_vertical: bool,
+) -> Result<CellLines<'a>, AllocError>
+    ensures lines { IfOk result (λ cell. texts_of cell ≡ cell_lines trim_horizontal trim_vertical text.now) }
+    ensures measures { IfOk result (λ cell. measures_of cell ≡ cell_measures trim_horizontal trim_vertical text.now) }
+{
     let stripped = text.ansi_strip(alloc)?;
     let shown = shown_lines(alloc, &stripped, trim_horizontal)?;
     let (first, count) = kept_lines(&shown, trim_vertical);
@@ -63,6 +79,21 @@ fn read_text<'a>(
     pass_lines(&mut lines, first)?;
     let kept = &shown[first..first + count];
     Ok(CellLines::new(take_lines(alloc, &mut lines, kept, trim_horizontal)?))
+}
+
+// The lines of a text without ESC, as they stand.
+fn plain_lines<'a>(alloc: Global, text: &'a str) -> Result<Vec<CellLine<'a>>, AllocError>
+    ensures texts { IfOk result (λ lines. line_texts lines.items ≡ slice_split is_line_feed text.now) }
+    ensures measures { IfOk result (λ lines. line_measures lines.items ≡ map line_measure (slice_split is_line_feed text.now)) }
+{
+    let mut lines = Vec::new(alloc);
+    for line in text.split('\n') {
+        lines.push(CellLine {
+            text: CowStr::Borrowed(line),
+            width: get_string_width(line),
+        })?;
+    }
+    Ok(lines)
 }
 
 // The lines of a text without sequences.
@@ -73,9 +104,11 @@ fn shown_lines(
 ) -> Result<Vec<ShownLine>, AllocError>
     ensures { IfOk result (λ lines. lines.items ≡ map (shown_line trim_horizontal) (slice_split is_line_feed text.now)) }
 {
-    text.split('\n')
-        .map(|line| shown_line(line, trim_horizontal))
-        .collect(alloc)
+    let mut lines = Vec::new(alloc);
+    for line in text.split('\n') {
+        lines.push(shown_line(line, trim_horizontal))?;
+    }
+    Ok(lines)
 }
 
 // A line without sequences.
