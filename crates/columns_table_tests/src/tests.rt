@@ -1,0 +1,232 @@
+//! Tables worked out by hand, and rows that have none.
+use crate::cells::{cells_of, lines_of, total};
+use ansi_scan::is_whole;
+use columns_asked::Asked;
+use columns_table::{Rows, TableFault, rows_table};
+use grid_config::{Borders, CompactConfig, Indent, Sides};
+use std::alloc::Global;
+use tabled_size_priority::Choice;
+
+const NONE: Indent = Indent { size: 0, fill: ' ' };
+
+const SPACE: Indent = Indent { size: 1, fill: ' ' };
+
+// More than any table may have at one side.
+const ENDLESS: Indent = Indent {
+    size: usize::MAX,
+    fill: ' ',
+};
+
+const ASCII: Borders<char> = Borders {
+    top: Some('-'),
+    top_left: Some('+'),
+    top_right: Some('+'),
+    top_intersection: Some('+'),
+    bottom: Some('-'),
+    bottom_left: Some('+'),
+    bottom_right: Some('+'),
+    bottom_intersection: Some('+'),
+    horizontal: Some('-'),
+    left_intersection: Some('+'),
+    right_intersection: Some('+'),
+    intersection: Some('+'),
+    vertical: Some('|'),
+    left: Some('|'),
+    right: Some('|'),
+};
+
+// Boundaries of `-`, `|` and `+`, and a column of space at both sides of a text.
+fn ascii() -> CompactConfig {
+    CompactConfig::new()
+        .set_borders(ASCII)
+        .set_padding(Sides::new(SPACE, SPACE, NONE, NONE))
+}
+
+// A table as wide as it is.
+const NATURAL: Asked = Asked {
+    width: None,
+    truncate: false,
+    keep_words: false,
+    priority: Choice::None,
+};
+
+// A width to wrap at.
+fn wrapped(width: usize) -> Asked {
+    Asked {
+        width: Some(width),
+        ..NATURAL
+    }
+}
+
+// A width to cut at.
+fn cut(width: usize) -> Asked {
+    Asked {
+        truncate: true,
+        ..wrapped(width)
+    }
+}
+
+// What is done with cells that pass a width.
+#[derive(Clone, Copy)]
+enum Way {
+    Natural,
+    Wrap(usize),
+    Cut(usize),
+    KeepWords(usize),
+    WidestFirst(usize),
+}
+
+// The same as it is asked.
+fn asked_by(way: Way) -> Asked {
+    match way {
+        Way::Natural => NATURAL,
+        Way::Wrap(width) => wrapped(width),
+        Way::Cut(width) => cut(width),
+        Way::KeepWords(width) => Asked {
+            keep_words: true,
+            ..wrapped(width)
+        },
+        Way::WidestFirst(width) => Asked {
+            priority: Choice::MaxLeft,
+            ..wrapped(width)
+        },
+    }
+}
+
+// What is done at a width, a cell in each line, how many of them each row has, and the table.
+const TABLES: &[(Way, &str, &[usize], &str)] = &[
+    (
+        Way::Natural,
+        "a\nb\n1\n2",
+        &[2, 2],
+        "+---+---+\n| a | b |\n+---+---+\n| 1 | 2 |\n+---+---+\n",
+    ),
+    (
+        Way::Natural,
+        "a\nb\nc",
+        &[2, 1],
+        "+---+---+\n| a | b |\n+---+---+\n| c |   |\n+---+---+\n",
+    ),
+    (
+        Way::Wrap(6),
+        "\u{1b}[31m123456\u{1b}[0m",
+        &[1],
+        "+----+\n| \u{1b}[31m12\u{1b}[39m |\n| \u{1b}[31m34\u{1b}[39m |\n| \u{1b}[31m56\u{1b}[0m |\n+----+\n",
+    ),
+    (
+        Way::Wrap(5),
+        "\u{1b}[31m\u{1f633}1\u{1b}[0m",
+        &[1],
+        "+---+\n| \u{fffd} |\n| \u{1b}[31m1\u{1b}[0m |\n+---+\n",
+    ),
+    (
+        Way::Cut(6),
+        "\u{1b}[31m123456\u{1b}[0m",
+        &[1],
+        "+----+\n| \u{1b}[31m12\u{1b}[39m |\n+----+\n",
+    ),
+    (
+        Way::Cut(7),
+        "\u{1b}[31m\u{1f633}\u{1f633}\u{1b}[39m",
+        &[1],
+        "+-----+\n| \u{1b}[31m\u{1f633}\u{1b}[39m\u{fffd} |\n+-----+\n",
+    ),
+    (
+        Way::KeepWords(8),
+        "111 234 1",
+        &[1],
+        "+------+\n| 111  |\n| 234  |\n| 1    |\n+------+\n",
+    ),
+    (Way::Wrap(0), "ab\nc", &[2], "+--+--+\n|  |  |\n+--+--+\n"),
+    (
+        Way::Wrap(11),
+        "aaaa\nbb\ncc",
+        &[2, 1],
+        "+-----+---+\n| aaa | b |\n| a   | b |\n+-----+---+\n| cc  |   |\n+-----+---+\n",
+    ),
+    (
+        Way::WidestFirst(11),
+        "aaaa\nbb",
+        &[2],
+        "+----+----+\n| aa | bb |\n| aa |    |\n+----+----+\n",
+    ),
+    (
+        Way::Wrap(6),
+        "\u{1b}[31m12\u{1b}[0m34",
+        &[1],
+        "+----+\n| \u{1b}[31m12\u{1b}[0m |\n| 34 |\n+----+\n",
+    ),
+    (Way::Wrap(6), "ab", &[1], "+----+\n| ab |\n+----+\n"),
+    (Way::Wrap(100), "ab", &[1], "+----+\n| ab |\n+----+\n"),
+];
+
+// The table of cells in lines, so many in each row.
+fn table_of(
+    alloc: Global,
+    style: &CompactConfig,
+    asked: &Asked,
+    text: &str,
+    counts: &[usize],
+) -> Result<String, TableFault> {
+    if !is_whole(text) {
+        return Err(TableFault::Memory);
+    }
+    let lines = lines_of(alloc, text)?;
+    let cells = cells_of(alloc, &lines)?;
+    let counts = counts.to_vec(alloc)?;
+    if total(&counts) != Some(cells.len()) {
+        return Err(TableFault::Memory);
+    }
+    rows_table(alloc, style, asked, Rows { cells, counts })
+}
+
+#[test]
+fn rows_have_their_table(rt: HostRuntime) -> Result<(), TableFault> {
+    for case in TABLES {
+        let (way, text, counts, wanted) = *case;
+        let table = table_of(rt.alloc(), &ascii(), &asked_by(way), text, counts)?;
+        assert_eq!(rt; table.as_str(), wanted);
+    }
+    Ok(())
+}
+
+#[test]
+fn no_rows_have_no_table(rt: HostRuntime) -> Result<(), TableFault> {
+    let style = ascii().set_padding(Sides::new(ENDLESS, ENDLESS, ENDLESS, ENDLESS));
+    for asked in [NATURAL, wrapped(0), cut(0)] {
+        let rows = Rows {
+            cells: Vec::new(rt.alloc()),
+            counts: Vec::new(rt.alloc()),
+        };
+        let table = rows_table(rt.alloc(), &style, &asked, rows)?;
+        assert_eq!(rt; table.as_str(), "");
+    }
+    Ok(())
+}
+
+// A margin above the table of so many lines.
+fn with_margin(lines: usize) -> CompactConfig {
+    let margin = Indent {
+        size: lines,
+        fill: ' ',
+    };
+    ascii().set_margin(Sides::new(NONE, NONE, margin, NONE))
+}
+
+#[test]
+fn sizes_out_of_range_are_refused(rt: HostRuntime) -> Result<(), TableFault> {
+    let padded = ascii().set_padding(Sides::new(ENDLESS, NONE, NONE, NONE));
+    // a table of three lines is in range, and one of four is not
+    let high = with_margin(usize::MAX - 3);
+    let cases = [
+        (padded, NATURAL),
+        (padded, wrapped(3)),
+        (with_margin(usize::MAX - 2), NATURAL),
+        (high, wrapped(5)),
+    ];
+    for (style, asked) in cases {
+        let found = table_of(rt.alloc(), &style, &asked, "ab", &[1]);
+        assert!(rt; matches!(found, Err(TableFault::Range)));
+    }
+    Ok(())
+}
