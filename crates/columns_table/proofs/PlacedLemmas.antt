@@ -1,0 +1,145 @@
+-- Rows by where they begin: their cells, looked up.
+use Rattle.std.proofs.Common.{◌≡◌, ℕ, zero, suc, ◌+◌, ◌-◌, ◌<◌, ◌≤◌, All, List, [], ◌∷◌, map, length, sum, take, drop, get_or, refl, ap, sym, subst, ◌∙◌, arith}
+use Rattle.std.specs.Prelude.{slice_range}
+use Rattle.std.specs.List.{drop-map, take-map}
+use Rattle.std.proofs.lemmas.List.{drop-drop, ext_get_or, get_or-drop, get_or-take}
+use Rattle.std.proofs.lemmas.List.Elements.{All-drop, All-head, All-tail, All-take}
+use Rattle.std.proofs.lemmas.List.Sums.{sum_by-cons}
+use Rattle.grid_config_values.specs.declared.position.Position.{Position}
+use Rattle.grid_records_traits.specs.Cells.{IsLineAt}
+use Rattle.grid_records_traits.specs.Rows.{text_at}
+use Rattle.papergrid_picture.proofs.ShownLemmas.{get_or-map}
+use Rattle.columns_table.specs.Rows.{cut}
+use Rattle.columns_table.specs.Records.{IsMeasured, IsOneLine, IsOnlyLine, placed, placed_texts, starts_from}
+use Rattle.columns_table.specs.declared.rows.Cell.{Cell}
+use Rattle.columns_table.proofs.RecordLemmas.{empty_one_line}
+
+abbrev text_of : Cell → List ℕ
+text_of cell = cell.text.now
+
+-- ---- one row
+
+placed-row : {X : Type 0} (starts : List ℕ) (xs : List X) (i : ℕ) → i < length starts
+    → get_or (placed starts xs) i [] ≡ slice_range xs (get_or starts i 0) (get_or starts (i + 1) (length xs))
+placed-row [] xs i below = absurd (omega arith)
+placed-row (start ∷ starts) xs zero below = refl
+placed-row (start ∷ starts) xs (suc i) below =
+    let next : suc (i + 1) ≡ suc i + 1 = omega arith in
+    placed-row starts xs i (omega arith) ∙ ap (λ k. slice_range xs (get_or starts i 0) (get_or (start ∷ starts) k (length xs))) next
+
+placed-none : {X : Type 0} (starts : List ℕ) (xs : List X) (i : ℕ) → length starts ≤ i → get_or (placed starts xs) i [] ≡ []
+placed-none {X} [] xs i past = none i where
+  none : (i : ℕ) → get_or {A = List X} [] i [] ≡ []
+  none zero = refl
+  none (suc i) = refl
+placed-none (start ∷ starts) xs zero past = absurd (omega arith)
+placed-none (start ∷ starts) xs (suc i) past = placed-none starts xs i (omega arith)
+
+-- ---- one cell
+
+past-end : {A : Type 0} (xs : List A) (i : ℕ) (d : A) → length xs ≤ i → get_or xs i d ≡ d
+past-end [] zero d past = refl
+past-end [] (suc i) d past = refl
+past-end (x ∷ xs) zero d past = absurd (omega arith)
+past-end (x ∷ xs) (suc i) d past = past-end xs i d (omega arith)
+
+length-take : {A : Type 0} (n : ℕ) (xs : List A) → length (take n xs) ≤ n
+length-take zero xs = omega arith
+length-take (suc n) [] = omega arith
+length-take (suc n) (x ∷ xs) = omega (arith, length-take n xs)
+
+module _ (starts : List ℕ) (cells : List Cell) (pos : Position) where
+  row-text : text_at (placed_texts starts cells) pos ≡ get_or (map text_of (get_or (placed starts cells) pos.row [])) pos.col []
+  row-text = ap (λ row. get_or row pos.col []) (get_or-map (map text_of) (placed starts cells) pos.row [])
+
+  pub text-no_row : length starts ≤ pos.row → text_at (placed_texts starts cells) pos ≡ []
+  text-no_row past =
+      row-text ∙ ap (λ row. get_or (map text_of row) pos.col []) (placed-none starts cells pos.row past) ∙ past-end [] pos.col [] (omega arith)
+
+  module _ (start end : ℕ) (inside : pos.row < length starts) (begins : start ≡ get_or starts pos.row 0) (ends : end ≡ get_or starts (pos.row + 1) (length cells)) where
+    row-is : get_or (placed starts cells) pos.row [] ≡ slice_range cells start end
+    row-is =
+        placed-row starts cells pos.row inside
+        ∙ ap (λ from. slice_range cells from (get_or starts (pos.row + 1) (length cells))) (sym begins)
+        ∙ ap (slice_range cells start) (sym ends)
+
+    texts-are : map text_of (slice_range cells start end) ≡ take (end - start) (drop start (map text_of cells))
+    texts-are = sym (ap (take (end - start)) (drop-map text_of start cells) ∙ take-map text_of (end - start) (drop start cells))
+
+    pub text-no_cell : end - start ≤ pos.col → text_at (placed_texts starts cells) pos ≡ []
+    text-no_cell past =
+        row-text ∙ ap (λ row. get_or (map text_of row) pos.col []) row-is ∙ ap (λ texts. get_or texts pos.col []) texts-are
+        ∙ past-end (take (end - start) (drop start (map text_of cells))) pos.col [] (omega (arith, past, length-take (end - start) (drop start (map text_of cells))))
+
+    pub text-cell : pos.col < end - start → text_at (placed_texts starts cells) pos ≡ get_or (map text_of cells) (start + pos.col) []
+    text-cell within =
+        row-text ∙ ap (λ row. get_or (map text_of row) pos.col []) row-is ∙ ap (λ texts. get_or texts pos.col []) texts-are
+        ∙ get_or-take (end - start) (drop start (map text_of cells)) pos.col [] within
+        ∙ get_or-drop start (map text_of cells) pos.col []
+
+-- each of them is one line
+row-measured : (starts : List ℕ) (cells : List Cell) (i : ℕ) → All IsMeasured cells → All IsMeasured (get_or (placed starts cells) i [])
+row-measured [] cells i all = none i where
+  none : (i : ℕ) → All IsMeasured (get_or {A = List Cell} [] i [])
+  none zero = λ k d below. absurd (omega arith)
+  none (suc i) = λ k d below. absurd (omega arith)
+row-measured (start ∷ starts) cells zero all = All-take IsMeasured (get_or starts 0 (length cells) - start) (drop start cells) (All-drop IsMeasured start cells all)
+row-measured (start ∷ starts) cells (suc i) all = row-measured starts cells i all
+
+one_in_row : (row : List Cell) (j : ℕ) → All IsMeasured row → (width : ℕ) × IsOneLine (get_or (map text_of row) j []) width
+one_in_row [] zero all = (0, empty_one_line)
+one_in_row [] (suc j) all = (0, empty_one_line)
+one_in_row (cell ∷ row) zero all = (cell.width, All-head IsMeasured cell row all)
+one_in_row (cell ∷ row) (suc j) all = one_in_row row j (All-tail IsMeasured cell row all)
+
+pub one_line_each : (starts : List ℕ) (cells : List Cell) (pos : Position) → All IsMeasured cells → (width : ℕ) × IsOneLine (text_at (placed_texts starts cells) pos) width
+one_line_each starts cells pos all =
+    subst (λ text. (width : ℕ) × IsOneLine text width) (sym (row-text starts cells pos)) (one_in_row (get_or (placed starts cells) pos.row []) pos.col (row-measured starts cells pos.row all))
+
+-- a text that is its only line has no other
+pub no-line : (text : List ℕ) (index : ℕ) → 0 < index → IsOnlyLine text → IsLineAt text index []
+no-line text index behind only = λ ps lines of_text are.
+    sym (ap (λ found. get_or found index []) (only ps lines of_text are) ∙ past-end (text ∷ []) index [] (omega (arith, behind)))
+
+pub first-line : (text bytes : List ℕ) (index : ℕ) → index ≡ 0 → bytes ≡ text → IsOnlyLine text → IsLineAt text index bytes
+first-line text bytes index first same only = λ ps lines of_text are.
+    same ∙ sym (ap (λ found. get_or found index []) (only ps lines of_text are) ∙ ap (λ k. get_or (text ∷ []) k []) first)
+
+-- ---- rows by their counts
+
+length-starts : (at : ℕ) (counts : List ℕ) → length (starts_from at counts) ≡ length counts
+length-starts at [] = refl
+length-starts at (n ∷ ns) = ap suc (length-starts (at + n) ns)
+
+pub length-placed : (starts : List ℕ) (cells : List Cell) → length (placed_texts starts cells) ≡ length starts
+length-placed [] cells = refl
+length-placed (start ∷ starts) cells = ap suc (length-placed starts cells)
+
+pub placed-cut : {X : Type 0} (at : ℕ) (counts : List ℕ) (xs : List X) → at + sum counts ≡ length xs → placed (starts_from at counts) xs ≡ cut counts (drop at xs)
+placed-cut at [] xs whole = refl
+placed-cut at (n ∷ []) xs whole =
+    let size : length xs - at ≡ n = omega (arith, whole, sum_by-cons (λ k. k) n []) in
+    ap (λ m. take m (drop at xs) ∷ []) size
+placed-cut at (n ∷ m ∷ ns) xs whole =
+    let size : at + n - at ≡ n = omega arith in
+    let rest : at + n + sum (m ∷ ns) ≡ length xs = omega (arith, whole, sum_by-cons (λ k. k) n (m ∷ ns)) in
+    ap (λ k. take k (drop at xs) ∷ placed (starts_from (at + n) (m ∷ ns)) xs) size
+    ∙ ap (λ rows. take n (drop at xs) ∷ rows) (placed-cut (at + n) (m ∷ ns) xs rest ∙ ap (cut (m ∷ ns)) (sym (drop-drop n at xs)))
+
+-- ---- counts put into starts
+
+pub start-at : (at : ℕ) (counts : List ℕ) (k : ℕ) → k < length counts → get_or (starts_from at counts) k 0 ≡ at + sum (take k counts)
+start-at at [] k below = absurd (omega arith)
+start-at at (n ∷ ns) zero below = omega arith
+start-at at (n ∷ ns) (suc k) below =
+    let rest = start-at (at + n) ns k (omega arith) in
+    let sums : sum (n ∷ take k ns) ≡ n + sum (take k ns) = sum_by-cons (λ m. m) n (take k ns) in
+    omega (arith, rest, sums)
+
+pub starts-are : (counts starts : List ℕ) → length starts ≡ length counts → ((k : ℕ) → k < length counts → get_or starts k 0 ≡ sum (take k counts)) → starts ≡ starts_from 0 counts
+starts-are counts starts long each =
+    ext_get_or 0 starts (starts_from 0 counts) (long ∙ sym (length-starts 0 counts))
+    (λ k below. let inside : k < length counts = omega (arith, below, long) in each k inside ∙ sum_from (sum (take k counts)) ∙ sym (start-at 0 counts k inside))
+  where
+    sum_from : (n : ℕ) → n ≡ 0 + n
+    sum_from n = omega arith

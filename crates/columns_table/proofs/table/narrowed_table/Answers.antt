@@ -1,0 +1,130 @@
+use Rattle.std.proofs.Common.{◌≡◌, ◌⊎◌, inl, inr, ℕ, List, Some, Err, Global, Vec, length, ap, sym, subst, ◌∙◌}
+use Rattle.std.specs.Cow.{cow_str_bytes}
+use Rattle.std.proofs.lemmas.Result.{IfErr-weaker, IfOk-weaker}
+use Rattle.grid_config.specs.Compact.{Compact, compact_of}
+use Rattle.grid_config.specs.Settings.{Settings, StartsWith, compact_start}
+use Rattle.grid_config.specs.Looks.{compact_look}
+use Rattle.grid_config_values.specs.declared.fault.Fault.{Fault}
+use Rattle.grid_config_values.specs.declared.fault.Fault.TheVariants.{Memory}
+use Rattle.grid_records_estimate.proofs.MeetLemmas.{IfErr-told, OnOk-implies}
+use Rattle.grid_records_rows.specs.Sources.{columns_of}
+use Rattle.grid_records_traits.specs.Rows.{fitted}
+use Rattle.grid_records_traits.specs.Sources.{texts_of_rows}
+use Rattle.grid_records_estimate.specs.Sizes.{table_heights}
+use Rattle.grid_records_estimate.specs.Sizing.{compact_sizing}
+use Rattle.columns_asked.specs.declared.asked.Asked.{Asked}
+use Rattle.papergrid_picture.specs.Fitting.{InRange}
+use Rattle.papergrid_picture.specs.Frame.{Frame, frame_of, line_count}
+use Rattle.columns_asked.specs.Layout.{asked_frame, kept_texts, narrowed, too_wide}
+use Rattle.columns_table.specs.Rows.{row_texts_of}
+use Rattle.columns_table.specs.declared.kept.KeptCell.{KeptCell}
+use Rattle.columns_table.proofs.NarrowedLemmas.{answer-is, counted, fits-is, frame-is, heights-are, heights-pass, made, refusal-is, text-is}
+use Rattle.columns_table.specs.declared.sizes.Sizes.{Sizes}
+use Rattle.columns_table.proofs.table.narrowed_table.Goals as goal
+use Rattle.columns_table.proofs.table.narrowed_table.Goals.{After-text_where_fits-text}
+
+abbrev text_of : KeptCell → List ℕ
+text_of cell = cow_str_bytes cell.text
+
+pub returns-in_err-heights-clause-refused : goal.returns-in_err-heights-clause-refused
+returns-in_err-heights-clause-refused c =
+    let style = compact_of c.args.style.now in
+    let asked = c.args.asked.now in
+    let texts = row_texts_of c.args.rows in
+    let widths = c.args.widths.items in
+    let rows = c.new-records.result.rows.items in
+    let are = c.new-records.ensures ∙ c.in_ok-kept.ensures.texts in
+    IfErr-told c.from_residual-in_err-heights.result c.in_err-heights.field-0.0 _ c.from_residual-in_err-heights.ensures.1
+    (refusal-is (asked_frame style asked texts) (kept_texts style asked texts) c.in_err-heights.field-0.0 _
+    (heights-pass style asked texts widths c.requires.narrowed (columns_of rows) (texts_of_rows text_of rows)
+    (counted style asked c.beside.result c.beside.ensures texts widths c.requires.narrowed text_of rows c.deref.result.now c.deref.ensures.value are)
+    (made style asked c.beside.result c.beside.ensures texts widths c.requires.narrowed text_of rows c.deref.result.now c.deref.ensures.value are))
+    c.in_err-heights.ensures.refused)
+
+pub returns-in_err-sizes-clause-refused : goal.returns-in_err-sizes-clause-refused
+returns-in_err-sizes-clause-refused c =
+    let style = compact_of c.args.style.now in
+    let asked = c.args.asked.now in
+    let texts = row_texts_of c.args.rows in
+    let widths = c.args.widths.items in
+    let rows = c.new-records.result.rows.items in
+    let are = c.new-records.ensures ∙ c.in_ok-kept.ensures.texts in
+    let high = c.in_ok-heights.ensures.ok
+    ∙ heights-are style asked texts widths c.requires.narrowed (columns_of rows) (texts_of_rows text_of rows)
+    (counted style asked c.beside.result c.beside.ensures texts widths c.requires.narrowed text_of rows c.deref.result.now c.deref.ensures.value are)
+    (made style asked c.beside.result c.beside.ensures texts widths c.requires.narrowed text_of rows c.deref.result.now c.deref.ensures.value are) in
+    IfErr-told c.from_residual-in_err-sizes.result c.in_err-sizes.field-0.0 _ c.from_residual-in_err-sizes.ensures.1
+    (refusal-is (asked_frame style asked texts) (kept_texts style asked texts) c.in_err-sizes.field-0.0 _
+    (λ out. subst (λ (frame : Frame). ¬ (InRange frame)) (frame-is style asked texts widths c.requires.narrowed c.in_ok-heights.heights.items high) out)
+    (inr c.in_err-sizes.ensures.refused))
+
+-- what is known of the rows that are printed
+abbrev Printed : Compact → Asked → List (List (List ℕ)) → Settings → Sizes → List (Vec KeptCell Global) → Type 0
+Printed style asked texts settings sizes rows =
+    (narrowed style asked texts ≡ Some sizes.widths.items) × (columns_of rows ≡ length sizes.widths.items) × (texts_of_rows text_of rows ≡ fitted (length sizes.widths.items) (kept_texts style asked texts))
+    × StartsWith (compact_start style) settings × (sizes.heights.items ≡ table_heights (compact_sizing style) (columns_of rows) (texts_of_rows text_of rows))
+    × (sizes.lines ≡ line_count (frame_of (compact_look style) sizes.widths.items sizes.heights.items))
+
+printed : (c : After-text_where_fits-text) → Printed (compact_of c.args.style.now) c.args.asked.now (row_texts_of c.args.rows) c.in_ok-settings.settings c.in_ok-sizes.sizes c.new-records.result.rows.items
+printed c =
+    let style = compact_of c.args.style.now in
+    let asked = c.args.asked.now in
+    let texts = row_texts_of c.args.rows in
+    let sizes = c.in_ok-sizes.sizes in
+    let rows = c.new-records.result.rows.items in
+    let are = c.new-records.ensures ∙ c.in_ok-kept.ensures.texts in
+    let told : narrowed style asked texts ≡ Some sizes.widths.items = c.requires.narrowed ∙ ap (λ (ws : List ℕ). Some ws) (sym c.in_ok-sizes.ensures.sizes.0) in
+    let same : c.deref.result.now ≡ sizes.widths.items = c.deref.ensures.value ∙ sym c.in_ok-sizes.ensures.sizes.0 in (
+      told,
+      counted style asked c.beside.result c.beside.ensures texts sizes.widths.items told text_of rows c.deref.result.now same are,
+      made style asked c.beside.result c.beside.ensures texts sizes.widths.items told text_of rows c.deref.result.now same are,
+      c.in_ok-settings.ensures.settings,
+      c.in_ok-sizes.ensures.sizes.1 ∙ c.in_ok-heights.ensures.ok,
+      c.in_ok-sizes.ensures.lines
+          ∙ ap (λ (ws : List ℕ). line_count (frame_of (compact_look style) ws c.in_ok-heights.heights.items)) (sym c.in_ok-sizes.ensures.sizes.0)
+          ∙ ap (λ (hs : List ℕ). line_count (frame_of (compact_look style) sizes.widths.items hs)) (sym c.in_ok-sizes.ensures.sizes.1),
+    )
+
+pub returns-clause-table : goal.returns-clause-table
+returns-clause-table c =
+    let known = printed (goal.at.returns-clause-table c).After-text_where_fits-text in
+    let rows = c.new-records.result.rows.items in
+    let sizes = c.in_ok-sizes.sizes in
+    IfOk-weaker c.text_where_fits-text.result _ _
+    (λ table is. is
+    ∙ text-is (compact_of c.args.style.now) c.args.asked.now (row_texts_of c.args.rows) sizes.widths.items known.0 (columns_of rows) (texts_of_rows text_of rows) known.1 known.2 c.in_ok-settings.settings known.3 sizes.heights.items known.4 sizes.lines known.5)
+    c.text_where_fits-text.ensures.text
+
+pub returns-clause-range : goal.returns-clause-range
+returns-clause-range c =
+    let known = printed (goal.at.returns-clause-range c).After-text_where_fits-text in
+    let rows = c.new-records.result.rows.items in
+    let sizes = c.in_ok-sizes.sizes in
+    OnOk-implies c.text_where_fits-text.result
+    (λ fits. let is = fits-is (compact_of c.args.style.now) c.args.asked.now (row_texts_of c.args.rows) sizes.widths.items known.0 (columns_of rows) (texts_of_rows text_of rows) known.1 known.2 c.in_ok-settings.settings known.3 sizes.heights.items known.4 fits in is.1)
+    c.text_where_fits-text.ensures.fits
+
+pub returns-clause-room : goal.returns-clause-room
+unfolding too_wide
+returns-clause-room c =
+    let known = printed (goal.at.returns-clause-room c).After-text_where_fits-text in
+    let rows = c.new-records.result.rows.items in
+    let sizes = c.in_ok-sizes.sizes in
+    OnOk-implies c.text_where_fits-text.result
+    (λ fits. let is = fits-is (compact_of c.args.style.now) c.args.asked.now (row_texts_of c.args.rows) sizes.widths.items known.0 (columns_of rows) (texts_of_rows text_of rows) known.1 known.2 c.in_ok-settings.settings known.3 sizes.heights.items known.4 fits in is.2)
+    c.text_where_fits-text.ensures.fits
+
+-- a refusal by another name
+told_of : (fault : Fault) (P Q : Type 0) → (P → Q) → (fault ≡ Memory) ⊎ P → (fault ≡ Memory) ⊎ Q
+told_of fault P Q f (inl memory) = inl memory
+told_of fault P Q f (inr is) = inr (f is)
+
+pub returns-clause-refused : goal.returns-clause-refused
+returns-clause-refused c =
+    let known = printed (goal.at.returns-clause-refused c).After-text_where_fits-text in
+    let rows = c.new-records.result.rows.items in
+    let sizes = c.in_ok-sizes.sizes in
+    IfErr-weaker c.text_where_fits-text.result _ _
+    (λ fault. told_of fault _ _
+    (answer-is (compact_of c.args.style.now) c.args.asked.now (row_texts_of c.args.rows) sizes.widths.items known.0 (columns_of rows) (texts_of_rows text_of rows) known.1 known.2 c.in_ok-settings.settings known.3 sizes.heights.items known.4 (Err fault)))
+    c.text_where_fits-text.ensures.refused

@@ -1,0 +1,4 @@
+pub mod Answers
+pub mod Kept
+pub mod Records
+pub mod Rows

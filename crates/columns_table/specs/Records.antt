@@ -1,0 +1,43 @@
+-- The rows of a text as records: each cell is one line, and known is what it measures.
+use Rattle.ansi_scan.specs.Sequences.{Piece, ArePiecesOf}
+use Rattle.grid_records_measure.specs.TextLines.{AreLinesOf}
+use Rattle.std.specs.Prelude.{◌≡◌, ℕ, ◌+◌, List, [], ◌∷◌, length, map, slice_index_or, slice_range}
+use Rattle.grid_records_traits.specs.Cells.{HasLineCount, HasWidth}
+use Rattle.grid_records_traits.specs.Rows.{fitted_row}
+use Rattle.columns_table.specs.Rows.{cut}
+use Rattle.columns_table.specs.declared.rows.Cell.{Cell}
+
+-- the text is its only line
+abbrev pub IsOnlyLine : List ℕ → Type 0
+IsOnlyLine text = (pieces : List Piece) (lines : List (List ℕ)) → ArePiecesOf text pieces → AreLinesOf pieces lines → lines ≡ text ∷ []
+
+-- the text is one line, and measures so many columns
+abbrev pub IsOneLine : List ℕ → ℕ → Type 0
+IsOneLine text width = HasLineCount text 1 × HasWidth text width × IsOnlyLine text
+
+abbrev pub IsMeasured : Cell → Type 0
+IsMeasured cell = IsOneLine cell.text.now cell.width
+
+-- the texts of a row in so many columns
+abbrev pub row_texts : ℕ → List Cell → List (List ℕ)
+row_texts columns cells = fitted_row columns (map (λ cell. cell.text.now) cells)
+
+-- the texts of rows of these counts of cells
+abbrev pub table_texts : ℕ → List ℕ → List Cell → List (List (List ℕ))
+table_texts columns counts cells = map (row_texts columns) (cut counts cells)
+
+-- ---- rows by where they begin
+
+-- where the pieces of these lengths begin, the first of them at `at`
+abbrev pub starts_from : ℕ → List ℕ → List ℕ
+starts_from at [] = []
+starts_from at (n ∷ ns) = at ∷ starts_from (at + n) ns
+
+-- the pieces of a list that begin at these places, each up to the next
+abbrev pub placed : {X : Type 0} → List ℕ → List X → List (List X)
+placed [] xs = []
+placed (start ∷ starts) xs = slice_range xs start (slice_index_or starts 0 (length xs)) ∷ placed starts xs
+
+-- their texts
+abbrev pub placed_texts : List ℕ → List Cell → List (List (List ℕ))
+placed_texts starts cells = map (map (λ cell. cell.text.now)) (placed starts cells)

@@ -1,0 +1,123 @@
+//! Rows of a text in narrower columns.
+ghost use Rattle.std.specs.Prelude.{◌≡◌, All, IfOk, drop, length, map, sum, vec_len};
+ghost use Rattle.std.specs.Cow.{cow_str_bytes};
+ghost use Rattle.grid_records_traits.specs.Cells.{HasLineCount, HasWidth};
+ghost use Rattle.grid_records_rows.specs.Sources.{AreEquallyLong};
+ghost use Rattle.columns_table.specs.Kept.{first_kept, kept_row, resize_to};
+ghost use Rattle.columns_table.specs.Records.{IsMeasured};
+ghost use Rattle.columns_table.specs.Rows.{cell_texts, row_texts_of};
+
+use crate::rows::{Cell, Rows};
+use columns_asked::{Asked, resized_cell};
+use grid_records_measure::get_text_dimension;
+use grid_records_traits::Cell as Record;
+use std::alloc::{AllocError, Global};
+use std::borrow::CowStr;
+
+/// A text of any lines, which keeps what they measure.
+#[derive(Drop)]
+pub struct KeptCell<'a> {
+    text: CowStr<'a>,
+    lines: usize,
+    width: usize,
+    ghost measured: { HasLineCount (cow_str_bytes text) lines × HasWidth (cow_str_bytes text) width },
+}
+
+impl<'a> KeptCell<'a> {
+    /// A cell with this text, which is measured once. Does not allocate.
+    fn new(text: CowStr<'a>) -> KeptCell<'a>
+        ensures { cow_str_bytes result.text ≡ cow_str_bytes text.entry }
+    {
+        let (lines, width) = get_text_dimension(&text);
+        KeptCell { text, lines, width }
+    }
+}
+
+impl<'a> Record for KeptCell<'a> {
+    ghost text = { λ cell. cow_str_bytes cell.text };
+
+    fn text(&self) -> &str {
+        &self.text
+    }
+
+    fn count_lines(&self) -> usize {
+        self.lines
+    }
+
+    fn width(&self) -> usize {
+        self.width
+    }
+
+    fn dimension(&self) -> (usize, usize) {
+        (self.lines, self.width)
+    }
+}
+
+/// The rows in columns of these widths, of which so many columns stand beside a text: each text resized
+/// to the room that it has, and an empty one for each that a row lacks. Fails only where allocation fails.
+pub fn kept_rows<'a>(
+    alloc: Global,
+    asked: &Asked,
+    rows: &Rows<'a>,
+    widths: &[usize],
+    beside: usize,
+) -> Result<Vec<Vec<KeptCell<'a>>>, AllocError>
+    requires whole { sum rows.now.counts.items ≡ vec_len rows.now.cells }
+    requires measured { All IsMeasured rows.now.cells.items }
+    ensures texts { IfOk result (λ kept. map (λ row. map (λ cell. cow_str_bytes cell.text) row.items) kept.items ≡ map (kept_row asked.now beside widths.now) (row_texts_of rows.now)) }
+    ensures long { IfOk result (λ kept. AreEquallyLong kept.items) }
+{
+    let mut kept = Vec::with_capacity(alloc, rows.counts.len())?;
+    let mut start = 0;
+    for count in &rows.counts {
+        let end = start + *count;
+        let row = &rows.cells[start..end];
+        kept.push(kept_cells(alloc, asked, row, widths, beside)?)?;
+        start = end;
+    }
+    Ok(kept)
+}
+
+// The cells of a row, one for each width.
+fn kept_cells<'a>(
+    alloc: Global,
+    asked: &Asked,
+    cells: &[Cell<'a>],
+    widths: &[usize],
+    beside: usize,
+) -> Result<Vec<KeptCell<'a>>, AllocError>
+    requires { All IsMeasured cells.now }
+    ensures texts { IfOk result (λ kept. map (λ cell. cow_str_bytes cell.text) kept.items ≡ kept_row asked.now beside widths.now (cell_texts cells.now)) }
+    ensures long { IfOk result (λ kept. vec_len kept ≡ length widths.now) }
+{
+    let mut kept = Vec::with_capacity(alloc, widths.len())?;
+    for (column, width) in widths.iter().enumerate() {
+        let room = width.saturating_sub(beside);
+        kept.push(first_kept(alloc, asked, cells_from(cells, column), room)?)?;
+    }
+    Ok(kept)
+}
+
+// The first cell, resized to its room, and an empty one where there is none.
+fn first_kept<'a>(
+    alloc: Global,
+    asked: &Asked,
+    cells: &[Cell<'a>],
+    room: usize,
+) -> Result<KeptCell<'a>, AllocError>
+    requires { All IsMeasured cells.now }
+    ensures { IfOk result (λ kept. cow_str_bytes kept.text ≡ first_kept (resize_to asked.now room) (cell_texts cells.now)) }
+{
+    let text = match cells.first() {
+        Some(cell) => resized_cell(alloc, asked, cell.text, cell.width, room)?,
+        None => CowStr::Borrowed(""),
+    };
+    Ok(KeptCell::new(text))
+}
+
+// The cells from this column on.
+fn cells_from<'b, 'a>(cells: &'b [Cell<'a>], column: usize) -> &'b [Cell<'a>]
+    ensures { result.now ≡ drop column cells.now }
+{
+    &cells[column.min(cells.len())..]
+}

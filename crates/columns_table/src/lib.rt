@@ -1,0 +1,14 @@
+//! The rows of a text as a table, in the width that is asked.
+#![tactic(auto)]
+
+mod fault;
+mod kept;
+mod placed;
+mod records;
+mod rows;
+mod sizes;
+mod table;
+
+pub use fault::TableFault;
+pub use rows::{Cell, Rows};
+pub use table::rows_table;
