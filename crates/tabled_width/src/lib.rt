@@ -3,6 +3,7 @@
 
 mod cells;
 mod columns;
+mod drawn;
 mod filling;
 mod justify;
 pub mod laws;
@@ -11,6 +12,8 @@ mod list;
 mod measures;
 mod min_width;
 mod room;
+mod rooms;
+mod table;
 mod width;
 mod wrap;
 

@@ -1,6 +1,7 @@
 //! Makers of options of widths.
 ghost use Rattle.std.specs.Prelude.{◌≡◌, IfOk, false};
 ghost use Rattle.std.specs.Iterator.{Drains, IsFinite};
+ghost use Rattle.tabled_width.specs.Options.{justified_width, widening, wrapping};
 
 use crate::justify::Justify;
 use crate::list::WidthList;
@@ -16,21 +17,21 @@ pub struct Width;
 impl Width {
     /// Breaks the texts of a table, or of cells, so that they are at most as wide: `Wrap::new`.
     pub fn wrap<W: Measurement<Width>>(width: W) -> Wrap<W>
-        ensures { result ≡ record { width = width; keep_words = false; priority = 0 } }
+        ensures { wrapping result ≡ record { width = width; keep_words = false; priority = 0 } }
     {
         Wrap::new(width)
     }
 
     /// Makes a table, or the lines of cells, at least as wide: `MinWidth::new`.
     pub fn increase<W: Measurement<Width>>(width: W) -> MinWidth<W>
-        ensures { result ≡ record { width = width; fill = 0x20; priority = 0 } }
+        ensures { widening result ≡ record { width = width; fill = 0x20; priority = 0 } }
     {
         MinWidth::new(width)
     }
 
     /// Makes each cell as wide: `Justify::new`.
     pub fn justify<W: Measurement<Width>>(width: W) -> Justify<W>
-        ensures { result ≡ record { width = width } }
+        ensures { justified_width result ≡ width }
     {
         Justify::new(width)
     }
