@@ -5,3 +5,4 @@ pub mod Stepping
 pub mod Rooming
 pub mod Drawing
 pub mod Tabling
+pub mod Keeping
