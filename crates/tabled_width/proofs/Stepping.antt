@@ -1,11 +1,11 @@
 -- Steps one after the other.
-use Rattle.std.proofs.Common.{◌≡◌, ℕ, List, Result, Ok, Err, refl, ap, sym, subst, ◌∙◌}
+use Rattle.std.proofs.Common.{◌≡◌, ℕ, List, Result, Ok, Err, refl, subst}
 use Rattle.grid_config_values.specs.declared.fault.Fault.{Fault}
 use Rattle.grid_config_values.specs.declared.fault.Fault.TheVariants.{Memory, Range, Spans, Room}
 use Rattle.grid_config.specs.Looks.{Look}
 use Rattle.tabled_steps.specs.Outcomes.{MayRefuse}
 use Rattle.tabled_steps.specs.States.{Outcome, State, Steps, column_count}
-use Rattle.tabled_width.specs.Steps.{Measured, Then}
+use Rattle.tabled_width.specs.Steps.{Measured}
 
 may_be : {Y : Type 0} (fault : Fault) (P Q : Result Y Fault → Type 0) → ((answer : Result Y Fault) → P answer → Q answer) → MayRefuse fault P → MayRefuse fault Q
 may_be Memory P Q leads may = tt

@@ -5,6 +5,10 @@ use Rattle.grid_records_measure.specs.TextLines.{text_width}
 use Rattle.tabled_size_wrap.specs.Bytes.{cut_at, wrapped_text}
 use Rattle.tabled_width.specs.Filling.{filling}
 
+-- a text is broken
+abbrev pub breaking : Bool → ℕ → List ℕ → Option (List ℕ)
+breaking keep_words width text = Some (wrapped_text width keep_words text)
+
 -- a text that measures more than the width is broken
 abbrev pub wrapping_wider : Bool → ℕ → List ℕ → Option (List ℕ)
 wrapping_wider keep_words width text = if nat_lt width (text_width text) then Some (wrapped_text width keep_words text) else None

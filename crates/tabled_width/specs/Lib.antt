@@ -2,4 +2,9 @@ pub mod Widths
 pub mod Measures
 pub mod Filling
 pub mod Breaking
+pub mod Cutting
+pub mod Keeping
+pub mod Rooms
 pub mod Steps
+pub mod Tables
+pub mod Options

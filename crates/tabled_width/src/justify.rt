@@ -4,6 +4,7 @@ ghost use Rattle.std.specs.Option.{option_map};
 ghost use Rattle.grid_config_values.specs.declared.entity.Entity.TheVariants.{Global as EveryCell};
 ghost use Rattle.tabled_steps.specs.Changes.{changing};
 ghost use Rattle.tabled_width.specs.Breaking.{cutting_wider, justifying};
+ghost use Rattle.tabled_width.specs.Options.{justified_width};
 ghost use Rattle.tabled_width.specs.Steps.{Measured};
 
 use crate::cells::change_cells;
@@ -28,7 +29,7 @@ pub struct Justify<W> {
 impl<W> Justify<W> {
     /// To this width.
     pub fn new(width: W) -> Justify<W>
-        ensures { result ≡ record { width = width } }
+        ensures { justified_width result ≡ width }
     {
         Justify { width }
     }
@@ -54,7 +55,7 @@ impl<T: FromText, W: Measurement<Width> + Drop> TableOption<
     ColoredConfig,
     CompleteDimension,
 > for Justify<W> {
-    ghost step = { λ option. Measured (W.measures option.width) (λ width state outcome. changing (λ _. justifying width) EveryCell state ≡ outcome) };
+    ghost step = { λ option. Measured (W.measures (justified_width option)) (λ width state outcome. changing (λ _. justifying width) EveryCell state ≡ outcome) };
 
     ghost hint = { λ _. Some EveryCell };
 

@@ -1,9 +1,9 @@
 //! Laws: which step each option is, and which sizes it clears; what measurements give; and lists worked
 //! out by hand.
-ghost use Rattle.std.specs.Prelude.{◌≡◌, ℕ, List, None, Ok, Result, Some, [], ◌∷◌, ◌++◌, codes};
+ghost use Rattle.std.specs.Prelude.{◌≡◌, false, ℕ, List, None, Ok, Result, Some, [], ◌∷◌, ◌++◌, codes};
 ghost use Rattle.grid_config.specs.Looks.{Look};
 ghost use Rattle.grid_config_values.specs.declared.entity.Entity.{Entity as Cells};
-ghost use Rattle.grid_config_values.specs.declared.entity.Entity.TheVariants.{Global as EveryCell};
+ghost use Rattle.grid_config_values.specs.declared.entity.Entity.TheVariants.{Global as EveryCell, Row as OneRow};
 ghost use Rattle.grid_config_values.specs.declared.fault.Fault.{Fault as Refusal};
 ghost use Rattle.tabled_size_dimension.specs.Stored.{none_stored};
 ghost use Rattle.tabled_steps.specs.Changes.{changing};
@@ -14,9 +14,14 @@ ghost use Rattle.tabled_steps.specs.declared.measurement.Percent.{Percent as Hun
 ghost use Rattle.tabled_steps.specs.Worked.{letters};
 ghost use Rattle.tabled_width.specs.Measures.{greatest_least_width, greatest_width, least, percent_of_width};
 ghost use Rattle.tabled_width.specs.Steps.{Measured, with_width_list};
-ghost use Rattle.tabled_width.specs.Breaking.{justifying, one_then_other, wrapping_wider};
+ghost use Rattle.tabled_width.specs.Options.{justified_width, truncation, widening, wrapping};
+ghost use Rattle.tabled_width.specs.Tables.{NarrowsTable, WidensTable};
+ghost use Rattle.tabled_width.specs.Cutting.{Cutting, truncating};
+ghost use Rattle.tabled_width.specs.Rooms.{column_widths, in_room};
+ghost use Rattle.tabled_width.specs.Breaking.{breaking, cutting_wider, justifying, one_then_other, wrapping_wider};
 ghost use Rattle.tabled_width.specs.Filling.{filling};
 ghost use Rattle.tabled_width.specs.declared.min_width.MinWidth.{MinWidth as OneMinWidth};
+ghost use Rattle.tabled_width.specs.declared.truncate.Truncate.{Truncate as OneTruncate};
 ghost use Rattle.tabled_width.specs.declared.wrap.Wrap.{Wrap as OneWrap};
 ghost use Rattle.tabled_width.specs.declared.justify.Justify.{Justify as OneJustify};
 ghost use Rattle.tabled_width.specs.declared.list.WidthList.{WidthList as OneList};
@@ -24,11 +29,13 @@ ghost use Rattle.tabled_width.specs.declared.list.WidthList.{WidthList as OneLis
 use crate::justify::Justify;
 use crate::list::WidthList;
 use crate::min_width::MinWidth;
+use crate::truncate::Truncate;
 use crate::width::Width;
 use crate::wrap::Wrap;
 use grid_config::ColoredConfig;
 use grid_records_rows::{FromText, VecRecords};
 use tabled_size_dimension::CompleteDimension;
+use tabled_size_priority::Peaker;
 use tabled_steps::{CellOption, Max, Measurement, Min, Percent, TableOption};
 
 /// A list is the step that keeps its widths, and clears nothing.
@@ -38,22 +45,45 @@ pub fn lists_are_their_steps<T: FromText>()
     ensures hint { (list : OneList) → ⟦<WidthList as TableOption<VecRecords<T>, ColoredConfig, CompleteDimension>>⟧.hint list ≡ None }
 {}
 
-/// An option of cells is the step that fills, or breaks, the texts of an entity at a width that its
+/// An option of cells is the step that fills, breaks or cuts the texts of an entity at a width that its
 /// measurement gives, and clears all sizes.
-pub fn cell_options_are_their_steps<T: FromText, W: Measurement<Width>, P>()
+pub fn cell_options_are_their_steps<'a, T: FromText, W: Measurement<Width>, P>()
     ensures filling { (option : OneMinWidth W P) (at : Cells) (state : State) (outcome : Outcome) → ⟦<MinWidth<W, P> as CellOption<VecRecords<T>, ColoredConfig>>⟧.step option at state outcome →
-        Measured (W.measures option.width) (λ width state outcome. changing (λ _. filling option.fill width) at state ≡ outcome) state outcome }
+        Measured (W.measures (widening option).width) (λ width state outcome. changing (λ _. filling (widening option).fill width) at state ≡ outcome) state outcome }
     ensures breaking { (option : OneWrap W P) (at : Cells) (state : State) (outcome : Outcome) → ⟦<Wrap<W, P> as CellOption<VecRecords<T>, ColoredConfig>>⟧.step option at state outcome →
-        Measured (W.measures option.width) (λ width state outcome. changing (λ _. wrapping_wider option.keep_words width) at state ≡ outcome) state outcome }
+        Measured (W.measures (wrapping option).width) (λ width state outcome. changing (λ _. wrapping_wider (wrapping option).keep_words width) at state ≡ outcome) state outcome }
+    ensures cutting { (option : OneTruncate W P) (at : Cells) (state : State) (outcome : Outcome) → ⟦<Truncate<'a, W, P> as CellOption<VecRecords<T>, ColoredConfig>>⟧.step option at state outcome →
+        Measured (W.measures (truncation option).width) (λ width state outcome. changing (λ _. truncating (truncation option).cutting width) at state ≡ outcome) state outcome }
+    ensures cutting_hint { (option : OneTruncate W P) → ⟦<Truncate<'a, W, P> as CellOption<VecRecords<T>, ColoredConfig>>⟧.hint option ≡ Some EveryCell }
     ensures filling_hint { (option : OneMinWidth W P) → ⟦<MinWidth<W, P> as CellOption<VecRecords<T>, ColoredConfig>>⟧.hint option ≡ Some EveryCell }
     ensures breaking_hint { (option : OneWrap W P) → ⟦<Wrap<W, P> as CellOption<VecRecords<T>, ColoredConfig>>⟧.hint option ≡ Some EveryCell }
+{}
+
+/// An option of a table is the step that makes it narrower, where it takes more than a width that its
+/// measurement gives, by the priority and by broken or cut texts; or wider, where it takes less, by the
+/// priority alone. Broken texts clear the heights after it, the others nothing.
+pub fn table_options_are_their_steps<
+    'a,
+    T: FromText,
+    W: Measurement<Width> + Drop,
+    P: Peaker + Drop,
+>()
+    ensures breaking { (option : OneWrap W P) (state : State) (outcome : Outcome) → ⟦<Wrap<W, P> as TableOption<VecRecords<T>, ColoredConfig, CompleteDimension>>⟧.step option state outcome →
+        NarrowsTable P.shrinks (wrapping option).priority (breaking (wrapping option).keep_words) (W.measures (wrapping option).width) state outcome }
+    ensures widening { (option : OneMinWidth W P) (state : State) (outcome : Outcome) → ⟦<MinWidth<W, P> as TableOption<VecRecords<T>, ColoredConfig, CompleteDimension>>⟧.step option state outcome →
+        WidensTable P.grows (widening option).priority (W.measures (widening option).width) state outcome }
+    ensures cutting { (option : OneTruncate W P) (state : State) (outcome : Outcome) → ⟦<Truncate<'a, W, P> as TableOption<VecRecords<T>, ColoredConfig, CompleteDimension>>⟧.step option state outcome →
+        NarrowsTable P.shrinks (truncation option).priority (truncating (truncation option).cutting) (W.measures (truncation option).width) state outcome }
+    ensures cutting_hint { (option : OneTruncate W P) → ⟦<Truncate<'a, W, P> as TableOption<VecRecords<T>, ColoredConfig, CompleteDimension>>⟧.hint option ≡ None }
+    ensures breaking_hint { (option : OneWrap W P) → ⟦<Wrap<W, P> as TableOption<VecRecords<T>, ColoredConfig, CompleteDimension>>⟧.hint option ≡ Some (OneRow 0) }
+    ensures widening_hint { (option : OneMinWidth W P) → ⟦<MinWidth<W, P> as TableOption<VecRecords<T>, ColoredConfig, CompleteDimension>>⟧.hint option ≡ None }
 {}
 
 /// A table whose cells are justified: each text is filled and then cut at a width that the measurement
 /// gives, and no size is kept.
 pub fn justifying_is_its_step<T: FromText, W: Measurement<Width> + Drop>()
     ensures step { (option : OneJustify W) (state : State) (outcome : Outcome) → ⟦<Justify<W> as TableOption<VecRecords<T>, ColoredConfig, CompleteDimension>>⟧.step option state outcome →
-        Measured (W.measures option.width) (λ width state outcome. changing (λ _. justifying width) EveryCell state ≡ outcome) state outcome }
+        Measured (W.measures (justified_width option)) (λ width state outcome. changing (λ _. justifying width) EveryCell state ≡ outcome) state outcome }
     ensures hint { (option : OneJustify W) → ⟦<Justify<W> as TableOption<VecRecords<T>, ColoredConfig, CompleteDimension>>⟧.hint option ≡ Some EveryCell }
 {}
 
@@ -63,6 +93,20 @@ pub fn worked_changes()
     ensures first { one_then_other (λ _. Some (codes "ab")) (λ _. None) (codes "b") ≡ Some (codes "ab") }
     ensures second { one_then_other (λ _. None) (λ text. Some (text ++ codes "!")) (codes "b") ≡ Some (codes "b!") }
     ensures none { one_then_other (λ _. None) (λ _. None) (codes "b") ≡ None }
+{}
+
+/// Without a suffix, and as one text, a text that measures more than its room is its cut there, whatever
+/// else was asked for.
+pub fn without_suffix_texts_are_cut()
+    ensures { (cutting : Cutting) (room : ℕ) (text : List ℕ) → truncating (record cutting { suffix = []; multiline = false }) room text ≡ cutting_wider room text }
+{}
+
+/// By hand: the widths of three columns where two are kept, and of one where two are; and a text without a
+/// room.
+pub fn worked_rooms()
+    ensures more { column_widths 3 (2 ∷ 4 ∷ []) ≡ 2 ∷ 4 ∷ 0 ∷ [] }
+    ensures fewer { column_widths 1 (2 ∷ 4 ∷ []) ≡ 2 ∷ [] }
+    ensures stays { in_room (λ _ text. Some text) (codes "a") None ≡ None }
 {}
 
 /// What the three measurements give as a width: each gives one.

@@ -3,19 +3,26 @@
 
 mod cells;
 mod columns;
+mod cutting;
+mod drawn;
 mod filling;
 mod justify;
+mod last;
 pub mod laws;
 mod lines;
 mod list;
 mod measures;
 mod min_width;
 mod room;
+mod rooms;
+mod table;
+mod truncate;
 mod width;
 mod wrap;
 
 pub use justify::Justify;
 pub use list::WidthList;
 pub use min_width::MinWidth;
+pub use truncate::Truncate;
 pub use width::Width;
 pub use wrap::Wrap;

@@ -1,20 +1,24 @@
-//! Cells that are at least so wide.
-ghost use Rattle.std.specs.Prelude.{◌≡◌, Some};
+//! Tables, and cells, that are at least so wide.
+ghost use Rattle.std.specs.Prelude.{◌≡◌, None, Some};
 ghost use Rattle.grid_config_values.specs.declared.entity.Entity.TheVariants.{Global as EveryCell};
 ghost use Rattle.tabled_steps.specs.Changes.{changing};
 ghost use Rattle.tabled_width.specs.Filling.{filling};
+ghost use Rattle.tabled_width.specs.Options.{widening};
 ghost use Rattle.tabled_width.specs.Steps.{Measured};
+ghost use Rattle.tabled_width.specs.Tables.{WidensTable};
 
 use crate::cells::change_cells;
 use crate::filling::Filling;
+use crate::table::widen_table;
 use crate::width::Width;
 use grid_config::{ColoredConfig, Entity, Fault};
 use grid_records_rows::{FromText, VecRecords};
 use std::alloc::Global;
+use tabled_size_dimension::CompleteDimension;
 use tabled_size_priority::{Peaker, PriorityNone};
-use tabled_steps::{CellOption, Measurement};
+use tabled_steps::{CellOption, Measurement, TableOption};
 
-/// Makes the lines of cells at least so wide, by a character after them.
+/// Makes a table at least so wide, by wider columns, or the lines of cells, by a character after them.
 #[derive(Clone, Copy, Debug, PartialEq, Eq, PartialOrd, Ord)]
 pub struct MinWidth<W = usize, P = PriorityNone> {
     width: W,
@@ -25,7 +29,7 @@ pub struct MinWidth<W = usize, P = PriorityNone> {
 impl<W> MinWidth<W> {
     /// At least this width, filled with spaces, and the priority that takes columns one after the other.
     pub const fn new(width: W) -> MinWidth<W>
-        ensures { result ≡ record { width = width; fill = 0x20; priority = 0 } }
+        ensures { widening result ≡ record { width = width; fill = 0x20; priority = 0 } }
     {
         MinWidth {
             width,
@@ -36,9 +40,9 @@ impl<W> MinWidth<W> {
 }
 
 impl<W, P> MinWidth<W, P> {
-    /// The same with this character after the lines of cells.
+    /// The same with this character after the lines of cells, which an option of a table doesn't look at.
     pub fn fill_with(self, c: char) -> MinWidth<W, P>
-        ensures { result ≡ record self { fill = c } }
+        ensures { widening result ≡ record (widening self) { fill = c } }
     {
         MinWidth {
             width: self.width,
@@ -47,11 +51,11 @@ impl<W, P> MinWidth<W, P> {
         }
     }
 
-    /// The same with this priority of the columns of a table, which the option of cells doesn't look at.
+    /// The same with this priority of the columns of a table, which an option of cells doesn't look at.
     pub fn priority<PP: Peaker>(self, priority: PP) -> MinWidth<W, PP>
     where
         P: Drop,
-        ensures { result ≡ record { width = self.width; fill = self.fill; priority = priority } }
+        ensures { widening result ≡ record { width = (widening self).width; fill = (widening self).fill; priority = priority } }
     {
         MinWidth {
             width: self.width,
@@ -65,7 +69,7 @@ impl<W, P> MinWidth<W, P> {
 /// memory.
 impl<T: FromText, W: Measurement<Width>, P> CellOption<VecRecords<T>, ColoredConfig>
     for MinWidth<W, P> {
-    ghost step = { λ option at. Measured (W.measures option.width) (λ width state outcome. changing (λ _. filling option.fill width) at state ≡ outcome) };
+    ghost step = { λ option at. Measured (W.measures (widening option).width) (λ width state outcome. changing (λ _. filling (widening option).fill width) at state ≡ outcome) };
 
     ghost hint = { λ _. Some EveryCell };
 
@@ -82,5 +86,34 @@ impl<T: FromText, W: Measurement<Width>, P> CellOption<VecRecords<T>, ColoredCon
 
     fn hint_change(&self) -> Option<Entity> {
         Some(Entity::Global)
+    }
+}
+
+/// Where the table takes fewer columns than the width, with its margins, its columns grow by the priority.
+/// The sizes that are not kept are estimated and kept. Nothing is done without rows or columns. Refused as
+/// the measurement is, as `Range` where a size or the total passes `usize::MAX`, and for memory.
+impl<T: FromText, W: Measurement<Width> + Drop, P: Peaker + Drop> TableOption<
+    VecRecords<T>,
+    ColoredConfig,
+    CompleteDimension,
+> for MinWidth<W, P> {
+    ghost step = { λ option. WidensTable P.grows (widening option).priority (W.measures (widening option).width) };
+
+    ghost hint = { λ _. None };
+
+    fn change(
+        self,
+        alloc: Global,
+        records: &mut VecRecords<T>,
+        cfg: &mut ColoredConfig,
+        dims: &mut CompleteDimension,
+    ) -> Result<(), Fault> {
+        let width = self.width;
+        let priority = self.priority;
+        widen_table(alloc, &*records, cfg.spanned(), dims, &width, priority)
+    }
+
+    fn hint_change(&self) -> Option<Entity> {
+        None
     }
 }

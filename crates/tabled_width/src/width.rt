@@ -1,10 +1,13 @@
 //! Makers of options of widths.
-ghost use Rattle.std.specs.Prelude.{◌≡◌, IfOk, false};
+ghost use Rattle.std.specs.Prelude.{◌≡◌, [], IfOk, false};
+ghost use Rattle.tabled_size_dimension.specs.declared.suffix.SuffixLimit.TheVariants.{Cut as CutSuffix};
 ghost use Rattle.std.specs.Iterator.{Drains, IsFinite};
+ghost use Rattle.tabled_width.specs.Options.{justified_width, truncation, widening, wrapping};
 
 use crate::justify::Justify;
 use crate::list::WidthList;
 use crate::min_width::MinWidth;
+use crate::truncate::Truncate;
 use crate::wrap::Wrap;
 use std::alloc::{AllocError, Global};
 use tabled_steps::Measurement;
@@ -16,21 +19,28 @@ pub struct Width;
 impl Width {
     /// Breaks the texts of a table, or of cells, so that they are at most as wide: `Wrap::new`.
     pub fn wrap<W: Measurement<Width>>(width: W) -> Wrap<W>
-        ensures { result ≡ record { width = width; keep_words = false; priority = 0 } }
+        ensures { wrapping result ≡ record { width = width; keep_words = false; priority = 0 } }
     {
         Wrap::new(width)
     }
 
+    /// Cuts the texts of a table, or of cells, so that they are at most as wide: `Truncate::new`.
+    pub fn truncate<W: Measurement<Width>>(width: W) -> Truncate<'static, W>
+        ensures { truncation result ≡ record { width = width; cutting = record { suffix = []; limit = CutSuffix; multiline = false; try_color = false }; priority = 0 } }
+    {
+        Truncate::new(width)
+    }
+
     /// Makes a table, or the lines of cells, at least as wide: `MinWidth::new`.
     pub fn increase<W: Measurement<Width>>(width: W) -> MinWidth<W>
-        ensures { result ≡ record { width = width; fill = 0x20; priority = 0 } }
+        ensures { widening result ≡ record { width = width; fill = 0x20; priority = 0 } }
     {
         MinWidth::new(width)
     }
 
     /// Makes each cell as wide: `Justify::new`.
     pub fn justify<W: Measurement<Width>>(width: W) -> Justify<W>
-        ensures { result ≡ record { width = width } }
+        ensures { justified_width result ≡ width }
     {
         Justify::new(width)
     }

@@ -1,23 +1,28 @@
 //! Texts that are broken at a width.
 ghost use Rattle.std.specs.Prelude.{◌≡◌, IfOk, Some, false, string_bytes};
-ghost use Rattle.grid_config_values.specs.declared.entity.Entity.TheVariants.{Global as EveryCell};
+ghost use Rattle.grid_config_values.specs.declared.entity.Entity.TheVariants.{Global as EveryCell, Row as OneRow};
 ghost use Rattle.tabled_size_wrap.specs.Bytes.{wrapped_text};
 ghost use Rattle.tabled_steps.specs.Changes.{changing};
-ghost use Rattle.tabled_width.specs.Breaking.{wrapping_wider};
+ghost use Rattle.tabled_width.specs.Breaking.{breaking, wrapping_wider};
+ghost use Rattle.tabled_width.specs.Options.{wrapping};
 ghost use Rattle.tabled_width.specs.Steps.{Measured};
+ghost use Rattle.tabled_width.specs.Tables.{NarrowsTable};
 
 use crate::cells::change_cells;
 use crate::room::RoomChange;
+use crate::table::narrow_table;
 use crate::width::Width;
 use grid_config::{ColoredConfig, Entity, Fault};
 use grid_records_measure::get_text_width;
 use grid_records_rows::{FromText, VecRecords};
 use std::alloc::{AllocError, Global};
+use tabled_size_dimension::CompleteDimension;
 use tabled_size_priority::{Peaker, PriorityNone};
 use tabled_size_wrap::wrap_styled;
-use tabled_steps::{CellOption, Measurement};
+use tabled_steps::{CellOption, Measurement, TableOption};
 
-/// Breaks the texts of cells at a width, in columns of the terminal.
+/// Breaks the texts of a table, or of cells, so that it is, or they are, at most so wide, in columns of the
+/// terminal.
 #[derive(Clone, Debug, Drop)]
 pub struct Wrap<W = usize, P = PriorityNone> {
     width: W,
@@ -42,7 +47,7 @@ impl Wrap<(), ()> {
 impl<W> Wrap<W> {
     /// At this width, with words broken, and the priority that takes columns one after the other.
     pub fn new(width: W) -> Wrap<W>
-        ensures { result ≡ record { width = width; keep_words = false; priority = 0 } }
+        ensures { wrapping result ≡ record { width = width; keep_words = false; priority = 0 } }
     {
         Wrap {
             width,
@@ -55,7 +60,7 @@ impl<W> Wrap<W> {
 impl<W, P> Wrap<W, P> {
     /// The same with words kept whole that fit, or not.
     pub fn keep_words(self, on: bool) -> Wrap<W, P>
-        ensures { result ≡ record self { keep_words = on } }
+        ensures { wrapping result ≡ record (wrapping self) { keep_words = on } }
     {
         Wrap {
             width: self.width,
@@ -64,11 +69,11 @@ impl<W, P> Wrap<W, P> {
         }
     }
 
-    /// The same with this priority of the columns of a table, which the option of cells doesn't look at.
+    /// The same with this priority of the columns of a table, which an option of cells doesn't look at.
     pub fn priority<PP: Peaker>(self, priority: PP) -> Wrap<W, PP>
     where
         P: Drop,
-        ensures { result ≡ record { width = self.width; keep_words = self.keep_words; priority = priority } }
+        ensures { wrapping result ≡ record { width = (wrapping self).width; keep_words = (wrapping self).keep_words; priority = priority } }
     {
         Wrap {
             width: self.width,
@@ -81,7 +86,7 @@ impl<W, P> Wrap<W, P> {
 /// Breaks each cell that measures more than the width. Refused as the measurement is, and for memory.
 impl<T: FromText, W: Measurement<Width>, P> CellOption<VecRecords<T>, ColoredConfig>
     for Wrap<W, P> {
-    ghost step = { λ option at. Measured (W.measures option.width) (λ width state outcome. changing (λ _. wrapping_wider option.keep_words width) at state ≡ outcome) };
+    ghost step = { λ option at. Measured (W.measures (wrapping option).width) (λ width state outcome. changing (λ _. wrapping_wider (wrapping option).keep_words width) at state ≡ outcome) };
 
     ghost hint = { λ _. Some EveryCell };
 
@@ -101,6 +106,62 @@ impl<T: FromText, W: Measurement<Width>, P> CellOption<VecRecords<T>, ColoredCon
 
     fn hint_change(&self) -> Option<Entity> {
         Some(Entity::Global)
+    }
+}
+
+/// Where the table takes more columns than the width, with its margins, its columns shrink by the
+/// priority, and each text is broken in its room: what its column, or its span, has beside its paddings. A
+/// hidden cell stays, and one that is narrower than its least. The sizes that are not kept are estimated
+/// and kept, the heights as long as the texts stay. Nothing is done without rows or columns. Refused as the
+/// measurement is, as `Range` where a size or the total passes `usize::MAX`, and for memory.
+impl<T: FromText, W: Measurement<Width> + Drop, P: Peaker + Drop> TableOption<
+    VecRecords<T>,
+    ColoredConfig,
+    CompleteDimension,
+> for Wrap<W, P> {
+    ghost step = { λ option. NarrowsTable P.shrinks (wrapping option).priority (breaking (wrapping option).keep_words) (W.measures (wrapping option).width) };
+
+    ghost hint = { λ _. Some (OneRow 0) };
+
+    fn change(
+        self,
+        alloc: Global,
+        records: &mut VecRecords<T>,
+        cfg: &mut ColoredConfig,
+        dims: &mut CompleteDimension,
+    ) -> Result<(), Fault> {
+        let change = Breaking {
+            keep_words: self.keep_words,
+        };
+        let width = self.width;
+        let priority = self.priority;
+        narrow_table(
+            alloc,
+            records,
+            cfg.spanned(),
+            dims,
+            &width,
+            priority,
+            &change,
+        )
+    }
+
+    fn hint_change(&self) -> Option<Entity> {
+        Some(Entity::Row(0))
+    }
+}
+
+// Breaks a text.
+#[derive(Drop)]
+struct Breaking {
+    keep_words: bool,
+}
+
+impl RoomChange for Breaking {
+    ghost fitted = { λ change. breaking change.keep_words };
+
+    fn fit(&self, alloc: Global, text: &str, room: usize) -> Result<Option<String>, AllocError> {
+        Ok(Some(wrap_styled(alloc, text, room, self.keep_words)?))
     }
 }
 

@@ -1,4 +1,4 @@
-use Rattle.std.proofs.Common.{◌≡◌, ◌++◌, ◌-◌, ◌∷◌, [], List, ℕ, ap, ◌∙◌, append_assoc, encode_utf8_all, string_bytes}
+use Rattle.std.proofs.Common.{◌++◌, ◌-◌, ◌∷◌, [], List, ℕ, ap, ◌∙◌, append_assoc, encode_utf8_all, string_bytes}
 use Rattle.std.specs.List.{repeat}
 use Rattle.ansi_scan.specs.Pieces.{pieces}
 use Rattle.ansi_scan.proofs.Existence.{ArePiecesOf-pieces}

@@ -1,4 +1,4 @@
-use Rattle.std.proofs.Common.{◌≡◌, ℕ, List, Option, None, Some, String, refl, ap, ◌∙◌, sym, string_bytes, unwrap_or}
+use Rattle.std.proofs.Common.{◌≡◌, Option, None, Some, refl, ap, ◌∙◌, string_bytes, unwrap_or}
 use Rattle.std.specs.Option.{option_map, option_or}
 use Rattle.tabled_width.specs.Breaking.{cutting_wider}
 use Rattle.tabled_width.specs.Filling.{filling}

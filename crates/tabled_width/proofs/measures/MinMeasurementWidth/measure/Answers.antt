@@ -1,4 +1,4 @@
-use Rattle.std.proofs.Common.{◌≡◌, ℕ, ap, sym, ◌∙◌, map, max}
+use Rattle.std.proofs.Common.{ℕ, ap, sym, ◌∙◌, map, max}
 use Rattle.std.specs.List.{range_with_len}
 use Rattle.grid_records_estimate.specs.Estimates.{greatest}
 use Rattle.tabled_width.specs.Measures.{least, row_widths}

@@ -1,0 +1,44 @@
+-- The rooms of a table's cells.
+use Rattle.std.specs.Prelude.{ℕ, ◌+◌, ◌-◌, ◌&&◌, if◌then◌else◌, List, [], Option, None, Some, drop, length, map, min, nat_le, replicate, slice_index, sum, take}
+use Rattle.std.specs.List.{filter, range_with_len}
+use Rattle.grid_config_values.specs.Glyphs.{boundary_kind, has_column_boundary}
+use Rattle.grid_config_values.specs.declared.position.Position.{Position}
+use Rattle.grid_config.specs.Looks.{Look}
+use Rattle.tabled_steps.specs.Sizes.{is_seen, natural_widths}
+
+-- the widths of so many columns; behind the end of the list each is 0
+abbrev pub column_widths : ℕ → List ℕ → List ℕ
+column_widths columns widths = map (λ column. slice_index widths column) (range_with_len 0 columns)
+
+module _ (look : Look) where
+  -- the least widths of a table of so many columns and rows: those of empty texts
+  abbrev pub least_widths : ℕ → ℕ → List ℕ
+  least_widths columns rows = natural_widths look columns (replicate rows (replicate columns []))
+
+  -- how many of so many columns a cell takes: its span counts only inside the table
+  abbrev pub cell_columns : ℕ → Position → ℕ
+  cell_columns columns place = min (look.extent place).columns (columns - place.col)
+
+  -- how many of the boundaries between so many columns from one on are there
+  abbrev pub boundaries_between : ℕ → ℕ → ℕ → ℕ
+  boundaries_between columns first count =
+      length (filter (λ j. has_column_boundary look.borders (boundary_kind j columns)) (range_with_len (first + 1) (count - 1)))
+
+  -- the columns of a cell, with the boundaries between them that are there
+  abbrev pub cell_width : List ℕ → Position → ℕ
+  cell_width widths place =
+      let taken = cell_columns (length widths) place in
+      sum (take taken (drop place.col widths)) + boundaries_between (length widths) place.col taken
+
+  -- what its paddings leave to its text. A hidden cell has no room, nor has one that is narrower than its least
+  abbrev pub room : List ℕ → List ℕ → Position → Option ℕ
+  room least widths place =
+      let padding = look.padding place in
+      if is_seen look.extent place && nat_le (cell_width least place) (cell_width widths place)
+      then Some (cell_width widths place - (padding.left.size + padding.right.size))
+      else None
+
+-- what becomes of a text in its room; without one it stays
+abbrev pub in_room : (ℕ → List ℕ → Option (List ℕ)) → List ℕ → Option ℕ → Option (List ℕ)
+in_room change text None = None
+in_room change text (Some width) = change width text
