@@ -8,6 +8,7 @@ pub mod PictureLemmas
 pub mod PlaceLemmas
 pub mod PlainLemmas
 pub mod RefusalLemmas
+pub mod RoomLemmas
 pub mod RowLemmas
 pub mod ServeLemmas
 pub mod ShowLemmas

@@ -95,6 +95,11 @@ pub fn one_refusal()
     ensures no_table { (options : Options) (input : List ℕ) (fault : RunFault) → TellsOfInput fault → MayRefuse options input fault → ¬ (HasTable options input) }
 {}
 
+/// Without a width no line takes more columns than its column has.
+pub fn no_cell_is_too_wide()
+    ensures { (options : Options) (input : List ℕ) → options.width ≡ None → wide_cell options input ≡ None }
+{}
+
 /// The style of `Options::new` is plain, so that `run` takes it.
 pub fn default_style_is_plain()
     ensures { IsPlain default_settings }
