@@ -1,4 +1,4 @@
-use Rattle.std.proofs.Common.{◌≡◌, ◌++◌, All, List, ℕ, map, ap, sym, subst, ◌∙◌, append-nil}
+use Rattle.std.proofs.Common.{◌++◌, All, map, ap, sym, subst, ◌∙◌, append-nil}
 use Rattle.std.specs.Cow.{cow_str_bytes}
 use Rattle.ansi_str_search.specs.Lines.{IsClosedLine}
 use Rattle.grid_records_measure.proofs.LineLemmas.{lines-closed}
