@@ -1,11 +1,11 @@
 //! How a table is written.
 use super::{small_of, table};
-use crate::fakes::StepWriter;
 use grid_config::Fault;
 use std::alloc::Global;
 use std::process::Abort;
 use std::test::Fail;
 use tabled_compact::BuildFault;
+use tabled_fakes::StepWriter;
 use tabled_output::Counted;
 
 const TEXT: &[u8] = b"+---+\n| a |\n+---+";

@@ -1,4 +1,6 @@
-//! A writer for tests.
+//! A writer for tests of tables that are written.
+#![tactic(auto)]
+
 use std::alloc::Global;
 use std::io;
 use std::io::{ErrorKind, Write};
