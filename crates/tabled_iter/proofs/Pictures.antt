@@ -1,12 +1,11 @@
 -- What a table prints, by what is read ahead of its rows.
-use Rattle.std.proofs.Common.{◌≡◌, ◌<◌, ◌≤◌, ◌+◌, ◌^◌, ◌⊎◌, ◌||◌, ◌==◌, ◌++◌, inl, inr, ℕ, zero, suc, Bool, true, false, List, [], ◌∷◌, Option, None, Some, Result, Ok, Err, IfErr, IfOk, OnOk, if◌then◌else◌, flat_map, length, map, max, slice_index, slice_index_or, take, vec_items, Vec, ap, sym, subst, refl, ◌∙◌, arith}
+use Rattle.std.proofs.Common.{◌≡◌, ◌<◌, ◌≤◌, ◌+◌, ◌⊎◌, ◌||◌, ◌==◌, inl, inr, ℕ, zero, suc, Bool, true, false, List, [], ◌∷◌, Option, None, Some, Result, Ok, Err, IfErr, IfOk, OnOk, if◌then◌else◌, flat_map, length, map, slice_index_or, take, vec_items, Vec, ap, sym, subst, refl, ◌∙◌, arith}
 use Rattle.std.proofs.Math.Path.{fun_ext}
 use Rattle.std.proofs.lemmas.List.{length-map, take-map}
 use Rattle.std.proofs.lemmas.List.FromFn.{length-map-range_with_len}
 use Rattle.std.specs.List.{find, range_with_len}
 use Rattle.grid_config.specs.Looks.{Look, compact_look}
 use Rattle.grid_config_colors.specs.Colors.{Color}
-use Rattle.grid_config_values.specs.Entities.{table_positions}
 use Rattle.grid_config_values.specs.declared.fault.Fault.{Fault}
 use Rattle.grid_config_values.specs.declared.fault.Fault.TheVariants.{Memory, Range as PassesMax}
 use Rattle.grid_config_values.specs.declared.position.Position.{Position}
@@ -16,8 +15,8 @@ use Rattle.grid_records_rows.specs.Truncating.{truncated_row, truncated_rows}
 use Rattle.grid_records_traits.specs.Rows.{fitted, fitted_row}
 use Rattle.grid_records_traits.specs.Sources.{texts_of_rows}
 use Rattle.papergrid.specs.Grids.{grid_text}
-use Rattle.papergrid_picture.specs.Fitting.{FitsAnswer, InRange, first_too_wide, is_too_wide, table_width}
-use Rattle.papergrid_picture.specs.Frame.{Frame, frame_of, line_count, row_count, total_width, track_at}
+use Rattle.papergrid_picture.specs.Fitting.{FitsAnswer, InRange, is_too_wide, table_width}
+use Rattle.papergrid_picture.specs.Frame.{Frame, frame_of, line_count, row_count, track_at}
 use Rattle.papergrid_picture.specs.Tables.{sizes_of, table_lines, table_text}
 use Rattle.tabled_compact.specs.Tables.{kept_of, no_colors}
 use Rattle.tabled_size_dimension.specs.Sizes.{Sizes, size_at}

@@ -1,9 +1,9 @@
 -- What stands in a table that is printed, and when its sizes pass the range.
-use Rattle.std.proofs.Common.{◌≡◌, ◌<◌, ◌≤◌, ◌+◌, ◌^◌, ◌==◌, ◌||◌, ◌⊎◌, inl, inr, ℕ, zero, suc, Bool, true, false, List, [], ◌∷◌, Option, None, Some, Ok, if◌then◌else◌, length, map, max, get_or, slice_index, slice_index_or, ap, sym, subst, refl, ◌∙◌, arith}
+use Rattle.std.proofs.Common.{◌≡◌, ◌<◌, ◌≤◌, ◌+◌, ◌^◌, ◌==◌, ◌||◌, ◌⊎◌, inl, inr, ℕ, zero, suc, false, List, Option, None, Some, if◌then◌else◌, length, map, get_or, ap, subst, refl, ◌∙◌, arith}
 use Rattle.std.proofs.lemmas.Bool.Decides.{nat_tests}
 use Rattle.std.proofs.lemmas.List.{take-map}
 use Rattle.std.proofs.lemmas.List.FromFn.{get_or-map-range_with_len, length-map-range_with_len}
-use Rattle.grid_config.specs.Looks.{Look, compact_look}
+use Rattle.grid_config.specs.Looks.{Look}
 use Rattle.papergrid_picture.proofs.FrameLemmas.{boundary-bounded, boundary-next}
 use Rattle.papergrid_picture.specs.Fitting.{InRange, table_width}
 use Rattle.papergrid_picture.specs.Frame.{Frame, Tracks, column_count as columns_in, frame_of, line_count, row_count, total_width, track_at}

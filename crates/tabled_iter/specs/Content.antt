@@ -1,6 +1,6 @@
 -- The sizes of a table's content, by the rows that are read ahead, which are called sniffed; as numbers that are set, or else
 -- as those rows need them.
-use Rattle.std.specs.Prelude.{ℕ, List, [], ◌∷◌, Option, None, Some, length, map, max, slice_index_or, take}
+use Rattle.std.specs.Prelude.{ℕ, List, [], Option, None, Some, length, map, max, slice_index_or, take}
 use Rattle.std.specs.List.{range_with_len}
 use Rattle.grid_records_estimate.specs.Estimates.{greatest}
 use Rattle.grid_records_measure.specs.TextLines.{text_height, text_width}

@@ -1,4 +1,4 @@
-use Rattle.std.proofs.Common.{◌≡◌, ◌∙◌, ap, map, max, sym, take}
+use Rattle.std.proofs.Common.{◌∙◌, ap, map, max, sym}
 use Rattle.std.proofs.lemmas.List.{take-map}
 use Rattle.grid_records_estimate.specs.Estimates.{greatest}
 use Rattle.grid_records_measure.specs.TextLines.{text_height}
