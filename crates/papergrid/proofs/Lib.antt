@@ -1,3 +1,3 @@
 -- Why grids print their text.
-mod Flat
+pub mod Flat
 pub mod SameTexts

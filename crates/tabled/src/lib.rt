@@ -11,9 +11,11 @@ mod table;
 pub use building::BuildTable;
 pub use layout::LayoutIterator;
 pub use table::Table;
+pub use tabled_compact::{BuildFault, CompactTable};
 pub use tabled_height::{
     CellHeightIncrease, CellHeightLimit, Height, HeightList, TableHeightIncrease, TableHeightLimit,
 };
+pub use tabled_iter::IterTable;
 pub use tabled_options::object::{Columns, Rows, Segment};
 pub use tabled_options::{Alignment, Margin, Padding, PaddingExpand, Span, Style, object};
 pub use tabled_output::Counted;

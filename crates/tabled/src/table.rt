@@ -216,3 +216,4 @@ impl<T: FromText> Table<T> {
 }
 
 mod printing;
+mod writing;

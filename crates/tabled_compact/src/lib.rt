@@ -6,4 +6,4 @@ pub mod laws;
 mod table;
 
 pub use fault::BuildFault;
-pub use table::CompactTable;
+pub use table::{CompactTable, begun_config};

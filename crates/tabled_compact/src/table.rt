@@ -40,8 +40,9 @@ pub struct CompactTable<I, D> {
     kept: Option<usize>,
 }
 
-// The settings of a table that no call has changed yet.
-const fn begun_config() -> CompactConfig
+/// The settings of a table that no call has changed yet: lines of ASCII, and a column of spaces at the left and
+/// right of each text. Does not allocate.
+pub const fn begun_config() -> CompactConfig
     ensures { compact_of result ≡ begun_settings }
 {
     let padding = Sides::new(

@@ -13,6 +13,7 @@ use tabled::{Alignment, Builder, Margin, Padding, Style, Table, TableOption};
 use tabled_size_dimension::CompleteDimension;
 
 mod foreign;
+mod writing;
 
 use foreign::{Keeping, Refusing};
 

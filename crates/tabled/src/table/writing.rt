@@ -1,0 +1,34 @@
+//! A table that is written.
+ghost use Rattle.std.specs.Io.KnownBytes.{Appends};
+ghost use Rattle.std.specs.Prelude.{◌≡◌, IfErr, IsErrOf, Ok, OnOk};
+ghost use Rattle.tabled.specs.Printing.{IsFit, printed};
+ghost use Rattle.tabled.specs.Tables.{state_of};
+ghost use Rattle.tabled_compact.specs.Building.{BuildRefusal, NoTable};
+ghost use Rattle.tabled_output.specs.Counts.{FailsIff, TakesNothingIff, flushes_of, inner_of, pieces_read_of};
+ghost use Rattle.tabled_output.specs.Streams.{AppendsFront};
+
+use crate::table::Table;
+use grid_records_rows::FromText;
+use std::io::Write;
+use tabled_compact::BuildFault;
+use tabled_output::{Counted, write_all};
+
+impl<T: FromText> Table<T> {
+    /// Makes the whole text, as `to_string`, and then writes it. A table that has no text, or none for
+    /// want of memory, leaves the writer alone. It gives up with `Write` at the first error of any kind,
+    /// and with `WriteZero` where the writer takes nothing; a front of the text is then written, and the
+    /// writer isn't called again. Nothing is flushed.
+    pub fn build<W: Write>(&self, writer: &mut Counted<W>) -> Result<(), BuildFault>
+        ensures whole { OnOk result (Appends (W.contents (inner_of writer.old)) (W.contents (inner_of writer.new)) (printed (state_of T.text self.now))) }
+        ensures front { IfErr result (λ fault. ¬ (NoTable fault) → AppendsFront (W.contents (inner_of writer.old)) (W.contents (inner_of writer.new)) (printed (state_of T.text self.now))) }
+        ensures untouched { IfErr result (λ fault. NoTable fault → writer.new ≡ writer.old) }
+        ensures fits { OnOk result (IsFit (state_of T.text self.now) (Ok tt)) }
+        ensures table { IfErr result (BuildRefusal (IsFit (state_of T.text self.now) (Ok tt)) (IsFit (state_of T.text self.now))) }
+        ensures write { FailsIff (IsErrOf result BuildFault.Write) writer.old writer.new }
+        ensures write_zero { TakesNothingIff (IsErrOf result BuildFault.WriteZero) writer.old writer.new }
+        ensures only_writes { (pieces_read_of writer.new ≡ pieces_read_of writer.old) × (flushes_of writer.new ≡ flushes_of writer.old) }
+    {
+        let text = self.to_string()?;
+        Ok(write_all(writer, text.as_bytes())?)
+    }
+}

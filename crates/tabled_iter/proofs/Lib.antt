@@ -1,0 +1,3 @@
+mod Measures
+mod Pictures
+mod Shapes

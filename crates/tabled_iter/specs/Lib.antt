@@ -1,0 +1,4 @@
+pub mod Content
+pub mod Drawing
+pub mod Padded
+pub mod Tables

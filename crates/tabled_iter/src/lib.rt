@@ -1,0 +1,10 @@
+//! Tables over a source of rows, of which the first are read ahead to know the sizes of columns and rows.
+#![tactic(auto)]
+
+mod content;
+mod layout;
+mod padded;
+mod printing;
+mod table;
+
+pub use table::IterTable;

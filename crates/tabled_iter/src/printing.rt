@@ -1,0 +1,92 @@
+//! Rows printed in a grid.
+ghost use Rattle.std.specs.Prelude.{◌≡◌, ◌++◌, ◌⊎◌, Err, IfErr, IfOk, Ok, OnErr, OnOk, string_bytes};
+ghost use Rattle.grid_config.specs.Compact.{compact_of};
+ghost use Rattle.grid_config.specs.Looks.{compact_look, look_of};
+ghost use Rattle.grid_config_values.specs.declared.fault.Fault.TheVariants.{Memory};
+ghost use Rattle.grid_records_rows.specs.Truncating.{truncated_rows};
+ghost use Rattle.grid_records_traits.specs.Rows.{fitted};
+ghost use Rattle.papergrid.specs.Grids.{grid_text};
+ghost use Rattle.papergrid_fits.specs.Tables.{Fits, IsFitsAnswer};
+ghost use Rattle.tabled_compact.specs.Tables.{kept_of, no_colors};
+ghost use Rattle.tabled_iter.specs.Drawing.{IsDrawn};
+ghost use Rattle.tabled_size_dimension.specs.Sizes.{size_at};
+
+use crate::layout::Layout;
+use grid_config::{CompactConfig, Fault, SpannedConfig};
+use grid_records_rows::{IterRecords, LimitRows, TruncateContent};
+use grid_records_traits::IntoRecords;
+use papergrid::{IterGrid, NoColors};
+use std::alloc::Global;
+use tabled_size_dimension::StaticDimension;
+
+/// Appends the rows that are kept, their cells cut at the widths of the content. Refused as `Range`, then
+/// as `Room`, or for memory, and then the text is as it was.
+pub(crate) fn draw<I: IntoRecords + Drop>(
+    alloc: Global,
+    rows: I,
+    kept: Option<usize>,
+    columns: usize,
+    config: &CompactConfig,
+    layout: Layout,
+    out: &mut String,
+) -> Result<(), Fault>
+    ensures text { let shown = fitted columns (truncated_rows (size_at layout.content.0) (kept_of kept (I.RecordTexts.rows rows))) in OnOk result (string_bytes out.new ≡ string_bytes out.old
+        ++ grid_text (compact_look (compact_of config.now)) (size_at layout.sizes.0) (size_at layout.sizes.1) no_colors columns shown) }
+    ensures fits { let shown = fitted columns (truncated_rows (size_at layout.content.0) (kept_of kept (I.RecordTexts.rows rows))) in IfOk result (λ done. IsDrawn (compact_look (compact_of config.now)) layout.sizes columns shown (Ok done)) }
+    ensures refused { OnErr result (string_bytes out.new ≡ string_bytes out.old) }
+    ensures fault { let shown = fitted columns (truncated_rows (size_at layout.content.0) (kept_of kept (I.RecordTexts.rows rows))) in IfErr result (λ fault. (fault ≡ Memory) ⊎ IsDrawn (compact_look (compact_of config.now)) layout.sizes columns shown (Err fault)) }
+{
+    let settings = SpannedConfig::from_compact_config(alloc, *config)?;
+    let outcome = draw_kept(alloc, rows, kept, columns, &settings, layout, out);
+    drop(settings);
+    outcome
+}
+
+// The same by all settings.
+fn draw_kept<I: IntoRecords + Drop>(
+    alloc: Global,
+    rows: I,
+    kept: Option<usize>,
+    columns: usize,
+    settings: &SpannedConfig,
+    layout: Layout,
+    out: &mut String,
+) -> Result<(), Fault>
+    ensures text { let shown = fitted columns (truncated_rows (size_at layout.content.0) (kept_of kept (I.RecordTexts.rows rows))) in OnOk result (string_bytes out.new ≡ string_bytes out.old
+        ++ grid_text (look_of settings.now) (size_at layout.sizes.0) (size_at layout.sizes.1) no_colors columns shown) }
+    ensures fits { let shown = fitted columns (truncated_rows (size_at layout.content.0) (kept_of kept (I.RecordTexts.rows rows))) in OnOk result (Fits settings.now (size_at layout.sizes.0) (size_at layout.sizes.1) columns shown) }
+    ensures refused { OnErr result (string_bytes out.new ≡ string_bytes out.old) }
+    ensures fault { let shown = fitted columns (truncated_rows (size_at layout.content.0) (kept_of kept (I.RecordTexts.rows rows))) in IfErr result (λ fault. (fault ≡ Memory) ⊎ IsFitsAnswer settings.now (size_at layout.sizes.0) (size_at layout.sizes.1) columns shown (Err fault)) }
+{
+    let Layout { content, sizes } = layout;
+    match kept {
+        Some(count) => {
+            let first = LimitRows::new(rows, count);
+            let cut = TruncateContent::new(alloc, first, &content);
+            print(alloc, cut, columns, settings, sizes, out)
+        }
+        None => {
+            let cut = TruncateContent::new(alloc, rows, &content);
+            print(alloc, cut, columns, settings, sizes, out)
+        }
+    }
+}
+
+// Appends so many columns of these rows.
+fn print<I: IntoRecords>(
+    alloc: Global,
+    rows: I,
+    columns: usize,
+    settings: &SpannedConfig,
+    sizes: StaticDimension,
+    out: &mut String,
+) -> Result<(), Fault>
+    ensures text { OnOk result (string_bytes out.new ≡ string_bytes out.old
+        ++ grid_text (look_of settings.now) (size_at sizes.0) (size_at sizes.1) no_colors columns (fitted columns (I.RecordTexts.rows rows))) }
+    ensures fits { OnOk result (Fits settings.now (size_at sizes.0) (size_at sizes.1) columns (fitted columns (I.RecordTexts.rows rows))) }
+    ensures refused { OnErr result (string_bytes out.new ≡ string_bytes out.old) }
+    ensures fault { IfErr result (λ fault. (fault ≡ Memory) ⊎ IsFitsAnswer settings.now (size_at sizes.0) (size_at sizes.1) columns (fitted columns (I.RecordTexts.rows rows)) (Err fault)) }
+{
+    let records = IterRecords::new(rows, columns, None);
+    IterGrid::new(records, settings, sizes, NoColors).build(alloc, out)
+}

@@ -1,0 +1,188 @@
+//! A table over a source of rows that is read once.
+ghost use Rattle.std.specs.Io.KnownBytes.{Appends};
+ghost use Rattle.std.specs.Prelude.{◌≡◌, ◌++◌, ◌⊎◌, Err, IfErr, IfOk, IsErrOf, Ok, OnErr, OnOk, Some, string_bytes};
+ghost use Rattle.grid_config_values.specs.declared.fault.Fault.TheVariants.{Memory};
+ghost use Rattle.tabled_compact.specs.Building.{BuildRefusal, NoTable};
+ghost use Rattle.tabled_iter.specs.Tables.{IsFit, KeepsShape, begun, printed, seen, streamed};
+ghost use Rattle.tabled_output.specs.Counts.{FailsIff, TakesNothingIff, flushes_of, inner_of, pieces_read_of};
+ghost use Rattle.tabled_output.specs.Streams.{AppendsFront};
+ghost use Rattle.tabled_steps.specs.Outcomes.{MayRefuse};
+ghost use Rattle.tabled_steps.specs.States.{Steps};
+
+use crate::content::{columns_or, first};
+use crate::layout::{Shape, first_kept, layout_of};
+use crate::printing::draw;
+use grid_config::{CompactConfig, Fault};
+use grid_records_rows::BufRecords;
+use grid_records_traits::{IntoRecords, RecordTexts};
+use std::alloc::Global;
+use std::io::Write;
+use tabled_compact::{BuildFault, begun_config};
+use tabled_output::{Counted, write_all};
+use tabled_size_dimension::ZeroDimension;
+use tabled_steps::TableOption;
+
+/// A table over a source of rows that is read once, when it is printed. The first rows are read ahead, or
+/// sniffed: the columns are as many and as wide as these rows need, where nothing else is set, and cells of
+/// other rows are cut where they are wider.
+#[derive(Clone, Debug, PartialEq, Eq, PartialOrd, Ord, Hash, Drop)]
+pub struct IterTable<I> {
+    records: I,
+    config: CompactConfig,
+    shape: Shape,
+}
+
+impl<I: RecordTexts> IterTable<I> {
+    /// A table of the rows of this source, in lines of ASCII, with a column of spaces at the left and right
+    /// of each text; a thousand rows are sniffed. Does not allocate.
+    pub fn new(records: I) -> IterTable<I>
+        ensures { streamed I.rows result ≡ begun (I.rows records) }
+    {
+        let shape = Shape {
+            columns: None,
+            sniff: 1000,
+            kept: None,
+            width: None,
+            height: None,
+        };
+        IterTable {
+            records,
+            config: begun_config(),
+            shape,
+        }
+    }
+
+    /// Gives the table so many columns, in place of as many as the longest sniffed row has: a row that has
+    /// fewer cells gets empty ones, and further ones are left out.
+    pub fn columns(&mut self, count: usize) -> &mut Self
+        ensures lends { result.ghost_name ≡ self.entry.ghost_name }
+        ensures set { streamed I.rows result.now ≡ record (streamed I.rows self.old) { columns = Some count } }
+    {
+        self.shape.columns = Some(count);
+        self
+    }
+
+    /// Keeps so many rows at most. Which rows are sniffed stays the same.
+    pub fn rows(&mut self, count: usize) -> &mut Self
+        ensures lends { result.ghost_name ≡ self.entry.ghost_name }
+        ensures set { streamed I.rows result.now ≡ record (streamed I.rows self.old) { kept = Some count } }
+    {
+        self.shape.kept = Some(count);
+        self
+    }
+
+    /// Sniffs so many rows, in place of a thousand.
+    pub fn sniff(&mut self, count: usize) -> &mut Self
+        ensures lends { result.ghost_name ≡ self.entry.ghost_name }
+        ensures set { streamed I.rows result.now ≡ record (streamed I.rows self.old) { sniff = count } }
+    {
+        self.shape.sniff = count;
+        self
+    }
+
+    /// Makes the content of each row so many lines high.
+    pub fn height(&mut self, size: usize) -> &mut Self
+        ensures lends { result.ghost_name ≡ self.entry.ghost_name }
+        ensures set { streamed I.rows result.now ≡ record (streamed I.rows self.old) { height = Some size } }
+    {
+        self.shape.height = Some(size);
+        self
+    }
+
+    /// Makes the content of each column so many columns of the terminal wide. Where no height is set, each
+    /// row then has one line.
+    pub fn width(&mut self, size: usize) -> &mut Self
+        ensures lends { result.ghost_name ≡ self.entry.ghost_name }
+        ensures set { streamed I.rows result.now ≡ record (streamed I.rows self.old) { width = Some size } }
+    {
+        self.shape.width = Some(size);
+        self
+    }
+
+    /// Changes the table by an option: one step of its rows and settings. Refused as the step is, and for
+    /// memory, and then nothing has changed.
+    pub fn set<O: TableOption<I, CompactConfig, ZeroDimension>>(
+        &mut self,
+        alloc: Global,
+        option: O,
+    ) -> Result<(), Fault>
+        ensures step { Steps (O.step option) result (seen (streamed I.rows self.old)) (seen (streamed I.rows self.new)) }
+        ensures others { KeepsShape (streamed I.rows self.old) (streamed I.rows self.new) }
+    {
+        let mut sizes = ZeroDimension::new();
+        option.change(alloc, &mut self.records, &mut self.config, &mut sizes)
+    }
+
+    /// The table, changed by an option as `set` changes it.
+    pub fn with<O: TableOption<I, CompactConfig, ZeroDimension>>(
+        &mut self,
+        alloc: Global,
+        option: O,
+    ) -> Result<&mut Self, Fault>
+        ensures lends { IfOk result (λ table. table.ghost_name ≡ self.entry.ghost_name) }
+        ensures step { IfOk result (λ table. O.step option (seen (streamed I.rows self.old)) (Ok (seen (streamed I.rows table.now)))) }
+        ensures others { IfOk result (λ table. KeepsShape (streamed I.rows self.old) (streamed I.rows table.now)) }
+        ensures refused { IfErr result (λ fault. MayRefuse fault (O.step option (seen (streamed I.rows self.old)))) }
+    {
+        self.set(alloc, option)?;
+        Ok(self)
+    }
+}
+
+impl<I: IntoRecords> IterTable<I> {
+    /// Appends the text of the table: its lines, a line feed between each two; nothing without columns or
+    /// rows. Reads the source once. Refused as `Range` where the columns of a line, or the lines, pass
+    /// `usize::MAX`, margins too; else as `Room` of the first cell, by row, then by column, whose widest
+    /// line with the paddings at its sides is wider than its column; or for memory. A refusal leaves the
+    /// text as it was.
+    pub fn fmt(self, alloc: Global, out: &mut String) -> Result<(), Fault>
+        ensures text { OnOk result (string_bytes out.new ≡ string_bytes out.old ++ printed (streamed I.RecordTexts.rows self)) }
+        ensures fits { OnOk result (IsFit (streamed I.RecordTexts.rows self) (Ok tt)) }
+        ensures refused { OnErr result (string_bytes out.new ≡ string_bytes out.old) }
+        ensures fault { IfErr result (λ fault. (fault ≡ Memory) ⊎ IsFit (streamed I.RecordTexts.rows self) (Err fault)) }
+    {
+        let IterTable {
+            records,
+            config,
+            shape,
+        } = self;
+        // one row is read at least, to know whether there is one
+        let rows = BufRecords::new(alloc, records, shape.sniff.max(1))?;
+        let sniffed = first(rows.as_slice(), shape.sniff);
+        let columns = columns_or(shape.columns, sniffed);
+        if columns == 0 || first_kept(rows.as_slice(), shape.kept).is_empty() {
+            return Ok(());
+        }
+        let layout = layout_of(alloc, sniffed, shape, columns, *config.get_padding())?;
+        draw(alloc, rows, shape.kept, columns, &config, layout, out)
+    }
+
+    /// The text that `fmt` appends to an empty one, or its refusal.
+    pub fn to_string(self, alloc: Global) -> Result<String, Fault>
+        ensures text { IfOk result (λ text. string_bytes text ≡ printed (streamed I.RecordTexts.rows self)) }
+        ensures fits { OnOk result (IsFit (streamed I.RecordTexts.rows self) (Ok tt)) }
+        ensures fault { IfErr result (λ fault. (fault ≡ Memory) ⊎ IsFit (streamed I.RecordTexts.rows self) (Err fault)) }
+    {
+        let mut text = String::new(alloc);
+        self.fmt(alloc, &mut text)?;
+        Ok(text)
+    }
+
+    /// Makes the whole text, as `to_string`, and then writes it. A table that has no text, or none for
+    /// want of memory, leaves the writer alone. It gives up with `Write` at the first error of any kind,
+    /// and with `WriteZero` where the writer takes nothing; a front of the text is then written, and the
+    /// writer isn't called again. Nothing is flushed.
+    pub fn build<W: Write>(self, alloc: Global, writer: &mut Counted<W>) -> Result<(), BuildFault>
+        ensures whole { OnOk result (Appends (W.contents (inner_of writer.old)) (W.contents (inner_of writer.new)) (printed (streamed I.RecordTexts.rows self))) }
+        ensures front { IfErr result (λ fault. ¬ (NoTable fault) → AppendsFront (W.contents (inner_of writer.old)) (W.contents (inner_of writer.new)) (printed (streamed I.RecordTexts.rows self))) }
+        ensures untouched { IfErr result (λ fault. NoTable fault → writer.new ≡ writer.old) }
+        ensures fits { OnOk result (IsFit (streamed I.RecordTexts.rows self) (Ok tt)) }
+        ensures table { IfErr result (BuildRefusal (IsFit (streamed I.RecordTexts.rows self) (Ok tt)) (IsFit (streamed I.RecordTexts.rows self))) }
+        ensures write { FailsIff (IsErrOf result BuildFault.Write) writer.old writer.new }
+        ensures write_zero { TakesNothingIff (IsErrOf result BuildFault.WriteZero) writer.old writer.new }
+        ensures only_writes { (pieces_read_of writer.new ≡ pieces_read_of writer.old) × (flushes_of writer.new ≡ flushes_of writer.old) }
+    {
+        let text = self.to_string(alloc)?;
+        Ok(write_all(writer, text.as_bytes())?)
+    }
+}
