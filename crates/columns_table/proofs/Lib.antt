@@ -1,5 +1,6 @@
 pub mod AnswerLemmas
 pub mod KeptLemmas
+pub mod LeastLemmas
 pub mod NarrowedLemmas
 pub mod NaturalLemmas
 pub mod PlacedLemmas

@@ -1,6 +1,6 @@
 -- The texts of a row, in so many columns, and an empty cell.
 use Rattle.std.proofs.Common.{◌≡◌, ℕ, zero, suc, ◌-◌, ◌<◌, List, [], ◌∷◌, ◌++◌, length, map, take, replicate, get_or, refl, ap, sym, ◌∙◌, arith}
-use Rattle.std.proofs.lemmas.List.{get_or-map, get_or-replicate, length-map}
+use Rattle.std.proofs.lemmas.List.{get_or-replicate}
 use Rattle.std.specs.Str.{chars}
 use Rattle.unicode_width.specs.Width.{str_width}
 use Rattle.ansi_scan.specs.Sequences.{Piece, ArePiecesOf}
@@ -10,11 +10,8 @@ use Rattle.std.proofs.lemmas.List.Elements.{All-from_recursion}
 use Rattle.ansi_str.specs.Lines.{IsClosedLine}
 use Rattle.grid_records_measure.proofs.LineLemmas.{lines-joined}
 use Rattle.grid_records_traits.specs.Cells.{HasLineCount, HasWidth}
-use Rattle.grid_records_traits.specs.Rows.{fitted, fitted_row}
-use Rattle.grid_records_traits.proofs.FittedRows.{fitted-same, length-fitted_row}
-use Rattle.columns_table.specs.Rows.{cut}
-use Rattle.columns_table.specs.Records.{IsOneLine, IsOnlyLine, row_texts, table_texts}
-use Rattle.columns_table.specs.declared.rows.Cell.{Cell}
+use Rattle.grid_records_traits.specs.Rows.{fitted_row}
+use Rattle.columns_table.specs.Records.{IsOneLine, IsOnlyLine}
 use Rattle.papergrid_picture.proofs.ShownLemmas.{pieces-nothing}
 
 -- ---- an empty cell
@@ -47,18 +44,6 @@ empty_one_line = (
 )
 
 -- ---- rows of as many texts
-
-length-row_texts : (columns : ℕ) (row : List Cell) → length (row_texts columns row) ≡ columns
-length-row_texts columns row = length-fitted_row (map (λ (cell : Cell). cell.text.now) row) columns
-
--- rows in so many columns have as many texts already
-pub fitted-table_texts : (columns : ℕ) (counts : List ℕ) (cells : List Cell) → fitted columns (table_texts columns counts cells) ≡ table_texts columns counts cells
-fitted-table_texts columns counts cells =
-    let rows = cut counts cells in
-    fitted-same (map (row_texts columns) rows) columns
-    (λ k d below.
-    let inside : k < length rows = omega (arith, length-map rows (row_texts columns)) in
-    ap length (get_or-map (row_texts columns) rows k [] d inside) ∙ length-row_texts columns (get_or rows k []))
 
 -- what a row lacks is empty
 pub get_or-fitted_row : (n : ℕ) (texts : List (List ℕ)) (j : ℕ) → j < n → get_or (fitted_row n texts) j [] ≡ get_or texts j []

@@ -25,7 +25,6 @@ use Rattle.papergrid_picture.specs.Frame.{Tracks, frame_of, line_count, thicknes
 use Rattle.papergrid_picture.proofs.FrameLemmas.{range_with_len-more}
 use Rattle.columns_asked.specs.Layout.{column_count, frame_under, heights_of, widths_of}
 use Rattle.columns_table.specs.Rows.{cell_texts, cut}
-use Rattle.columns_table.specs.Records.{table_texts}
 use Rattle.columns_table.specs.declared.rows.Cell.{Cell}
 
 -- ---- rows cut from a list
@@ -44,30 +43,11 @@ module _ (counts : List ℕ) (cells : List Cell) where
   abbrev pub cut_texts : List (List (List ℕ))
   cut_texts = map cell_texts (cut counts cells)
 
-  texts-fitted : (columns : ℕ) → table_texts columns counts cells ≡ fitted columns cut_texts
-  texts-fitted columns = sym (map-map (fitted_row columns) cell_texts (cut counts cells))
-
   pub columns-cut : sum counts ≡ length cells → column_count cut_texts ≡ greatest counts
   columns-cut whole =
       ap greatest (map-map (λ (row : List (List ℕ)). length row) cell_texts (cut counts cells))
       ∙ ap greatest (λ k. map (λ row. length-map row (λ (cell : Cell). cell.text.now) k) (cut counts cells))
       ∙ ap greatest (length-cut counts cells whole)
-
-  -- what is estimated of records are their sizes
-  module _ (style : Compact) (whole : sum counts ≡ length cells) (n : ℕ) (read : List (List (List ℕ))) (wide : n ≡ greatest counts) (same : read ≡ table_texts (greatest counts) counts cells) where
-    pub estimated-widths : table_widths (compact_sizing style) n read ≡ widths_of style cut_texts
-    unfolding table_widths
-    estimated-widths =
-        ap (λ m. table_widths (compact_sizing style) m read) (wide ∙ sym (columns-cut whole))
-        ∙ ap (table_widths (compact_sizing style) (column_count cut_texts)) (same ∙ ap (λ m. table_texts m counts cells) (sym (columns-cut whole)) ∙ texts-fitted (column_count cut_texts))
-        ∙ ap (λ rows. track_sizes (column_axis (compact_sizing style) (column_count cut_texts) rows)) (fitted-twice cut_texts (column_count cut_texts))
-
-    pub estimated-heights : table_heights (compact_sizing style) n read ≡ heights_of style cut_texts
-    unfolding table_heights
-    estimated-heights =
-        ap (λ m. table_heights (compact_sizing style) m read) (wide ∙ sym (columns-cut whole))
-        ∙ ap (table_heights (compact_sizing style) (column_count cut_texts)) (same ∙ ap (λ m. table_texts m counts cells) (sym (columns-cut whole)) ∙ texts-fitted (column_count cut_texts))
-        ∙ ap (λ rows. track_sizes (row_axis (compact_sizing style) (column_count cut_texts) rows)) (fitted-twice cut_texts (column_count cut_texts))
 
 -- ---- totals
 

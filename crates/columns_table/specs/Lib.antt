@@ -1,4 +1,5 @@
 pub mod Answers
 pub mod Kept
+pub mod Least
 pub mod Records
 pub mod Rows

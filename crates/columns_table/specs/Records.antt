@@ -3,8 +3,6 @@ use Rattle.ansi_scan.specs.Sequences.{Piece, ArePiecesOf}
 use Rattle.grid_records_measure.specs.TextLines.{AreLinesOf}
 use Rattle.std.specs.Prelude.{◌≡◌, ℕ, ◌+◌, List, [], ◌∷◌, length, map, slice_index_or, slice_range}
 use Rattle.grid_records_traits.specs.Cells.{HasLineCount, HasWidth}
-use Rattle.grid_records_traits.specs.Rows.{fitted_row}
-use Rattle.columns_table.specs.Rows.{cut}
 use Rattle.columns_table.specs.declared.rows.Cell.{Cell}
 
 -- the text is its only line
@@ -17,14 +15,6 @@ IsOneLine text width = HasLineCount text 1 × HasWidth text width × IsOnlyLine 
 
 abbrev pub IsMeasured : Cell → Type 0
 IsMeasured cell = IsOneLine cell.text.now cell.width
-
--- the texts of a row in so many columns
-abbrev pub row_texts : ℕ → List Cell → List (List ℕ)
-row_texts columns cells = fitted_row columns (map (λ cell. cell.text.now) cells)
-
--- the texts of rows of these counts of cells
-abbrev pub table_texts : ℕ → List ℕ → List Cell → List (List (List ℕ))
-table_texts columns counts cells = map (row_texts columns) (cut counts cells)
 
 -- ---- rows by where they begin
 

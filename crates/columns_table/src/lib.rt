@@ -3,8 +3,8 @@
 
 mod fault;
 mod kept;
+mod least;
 mod placed;
-mod records;
 mod rows;
 mod sizes;
 mod table;

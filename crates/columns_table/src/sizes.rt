@@ -1,20 +1,19 @@
-//! How wide and how high a table is, by the estimates of records.
+//! How wide and how high a table is.
 ghost use Rattle.std.specs.Prelude.{◌≡◌, All, IfErr, IfOk, OnOk, slice_index, sum, vec_len};
 ghost use Rattle.grid_config.specs.Compact.{compact_of};
 ghost use Rattle.grid_config.specs.Looks.{compact_look};
 ghost use Rattle.grid_config_values.specs.declared.fault.Fault.TheVariants.{Range};
 ghost use Rattle.grid_records_estimate.specs.Sizes.{IsRefusal};
-ghost use Rattle.grid_records_estimate.specs.Estimates.{greatest};
 ghost use Rattle.papergrid_picture.specs.Fitting.{InRange, table_width};
 ghost use Rattle.papergrid_picture.specs.Frame.{frame_of, line_count};
 ghost use Rattle.columns_asked.specs.Layout.{frame_under, heights_of, widths_of};
 ghost use Rattle.columns_table.specs.Records.{IsMeasured};
 ghost use Rattle.columns_table.specs.Rows.{row_texts_of};
 
-use crate::records::MeasuredRows;
+use crate::least::least_sizes;
 use crate::rows::Rows;
 use grid_config::{CompactConfig, Fault};
-use grid_records_estimate::{CompactGridDimension, total};
+use grid_records_estimate::total;
 use grid_records_traits::Dimension;
 use std::alloc::Global;
 
@@ -55,7 +54,7 @@ pub fn sizes_of(alloc: Global, rows: &Rows<'_>, style: &CompactConfig) -> Result
     ensures fits { OnOk result (InRange (frame_under (compact_of style.now) (row_texts_of rows.now))) }
     ensures refused { IfErr result (λ fault. IsRefusal fault (¬ (InRange (frame_under (compact_of style.now) (row_texts_of rows.now))))) }
 {
-    let (widths, heights) = CompactGridDimension::dimension(alloc, MeasuredRows::new(rows), style)?;
+    let (widths, heights) = least_sizes(alloc, rows, style)?;
     totalled(widths, heights, style)
 }
 
@@ -103,15 +102,4 @@ fn totals_of(
     let boundaries = borders.count_horizontal(heights.len());
     let lines = total(heights, boundaries, margin.top.size, margin.bottom.size)?;
     Ok((columns, lines))
-}
-
-/// The greatest of the numbers, and 0 where there is none.
-pub fn greatest(numbers: &[usize]) -> usize
-    ensures { result ≡ greatest numbers.now }
-{
-    let mut most = 0;
-    for number in numbers {
-        most = most.max(*number);
-    }
-    most
 }

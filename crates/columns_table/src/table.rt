@@ -16,9 +16,10 @@ ghost use Rattle.columns_table.specs.Rows.{row_texts_of};
 
 use crate::fault::TableFault;
 use crate::kept::kept_rows;
+use crate::least::greatest;
 use crate::placed::PlacedRows;
 use crate::rows::Rows;
-use crate::sizes::{Sizes, greatest, sizes_of, totalled};
+use crate::sizes::{Sizes, sizes_of, totalled};
 use columns_asked::{Asked, narrowed};
 use grid_config::{CompactConfig, Fault, SpannedConfig};
 use grid_records_estimate::CompactGridDimension;
