@@ -9,3 +9,4 @@ mod TableLemmas
 pub mod FlatLemmas
 mod PlainLineLemmas
 mod SpaceLemmas
+mod SingleLemmas

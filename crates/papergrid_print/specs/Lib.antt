@@ -7,3 +7,4 @@ pub mod Boundaries
 pub mod Sheets
 pub mod Axes
 pub mod Flat
+pub mod Single

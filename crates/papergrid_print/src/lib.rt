@@ -9,8 +9,10 @@ mod flat;
 mod glyphs;
 mod painting;
 mod print;
+mod single;
 mod spaced;
 mod table;
 
 pub use colors::{Colors, NoColors};
 pub use print::print_table;
+pub use single::print_line;

@@ -1,4 +1,6 @@
 //! The lines of a table.
+mod line;
+
 ghost use Rattle.std.specs.Prelude.{◌≡◌, ◌++◌, ◌<◌, ◌≤◌, ◌+◌, ◌^◌, ⊤, IfOk, IfSome, List, MatchOption, OnOk, ℕ, [], false, map, length, slice_index, string_bytes};
 ghost use Rattle.grid_config_spans.specs.Spans.{AreGood, extent_at};
 ghost use Rattle.papergrid_picture.specs.Frame.{Boundary, Row, boundary_at, line_count, total_width, track_at};
