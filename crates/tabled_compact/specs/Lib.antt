@@ -1,3 +1,4 @@
 pub mod Building
+pub mod Columns
 pub mod Lending
 pub mod Tables

@@ -1,9 +1,11 @@
 //! Tables over a source of rows that is read once, each row printed in one line.
 #![tactic(auto)]
 
+mod columns;
 mod fault;
 pub mod laws;
 mod table;
 
+pub use columns::{RowArray, width_in};
 pub use fault::BuildFault;
 pub use table::{CompactTable, begun_config};

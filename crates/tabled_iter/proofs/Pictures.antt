@@ -20,7 +20,8 @@ use Rattle.papergrid_picture.specs.Frame.{Frame, frame_of, line_count, row_count
 use Rattle.papergrid_picture.specs.Tables.{sizes_of, table_lines, table_text}
 use Rattle.tabled_compact.specs.Tables.{kept_of, no_colors}
 use Rattle.tabled_size_dimension.specs.Sizes.{Sizes, size_at}
-use Rattle.tabled_iter.specs.Content.{column_width, heights_or, row_height, widths_or}
+use Rattle.tabled_compact.specs.Columns.{column_width}
+use Rattle.tabled_iter.specs.Content.{heights_or, row_height, widths_or}
 use Rattle.tabled_iter.specs.Drawing.{IsDrawn}
 use Rattle.tabled_iter.specs.Padded.{AreGreater, Passes, listed}
 use Rattle.tabled_iter.specs.Tables.{IsFit, Streamed, column_count, content_heights, content_widths, frame, height_at, printed, shown_rows, sniffed, width_at}

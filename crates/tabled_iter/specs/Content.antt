@@ -1,23 +1,16 @@
 -- The sizes of a table's content, by the rows that are read ahead, which are called sniffed; as numbers that are set, or else
 -- as those rows need them.
-use Rattle.std.specs.Prelude.{ℕ, List, [], Option, None, Some, length, map, max, slice_index_or, take}
+use Rattle.std.specs.Prelude.{ℕ, List, Option, None, Some, length, map, max, take}
 use Rattle.std.specs.List.{range_with_len}
 use Rattle.grid_records_estimate.specs.Estimates.{greatest}
-use Rattle.grid_records_measure.specs.TextLines.{text_height, text_width}
+use Rattle.grid_records_measure.specs.TextLines.{text_height}
+use Rattle.tabled_compact.specs.Columns.{column_width}
 use Rattle.tabled_size_dimension.specs.Sizes.{Sizes, Alike, Listed, ListedBefore}
 
 -- as many columns as are set, or as the longest sniffed row has cells
 abbrev pub columns_or : Option ℕ → List (List (List ℕ)) → ℕ
 columns_or (Some count) sniffed = count
 columns_or None sniffed = greatest (map length sniffed)
-
--- the text of a row in a column, and behind its last cell the empty one
-abbrev pub text_in : List (List ℕ) → ℕ → List ℕ
-text_in row column = slice_index_or row column []
-
--- a column is as wide as the widest text that sniffed rows have in it
-abbrev pub column_width : List (List (List ℕ)) → ℕ → ℕ
-column_width sniffed column = greatest (map (λ row. text_width (text_in row column)) sniffed)
 
 -- every column has the width that is set
 abbrev pub widths_or : Option ℕ → ℕ → List (List (List ℕ)) → Sizes

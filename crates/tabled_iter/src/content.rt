@@ -2,14 +2,15 @@
 ghost use Rattle.std.specs.List.{range_with_len};
 ghost use Rattle.std.specs.Prelude.{◌≡◌, IfOk, length, map, max, take};
 ghost use Rattle.grid_records_estimate.specs.Estimates.{greatest};
-ghost use Rattle.grid_records_measure.specs.TextLines.{text_height, text_width};
+ghost use Rattle.grid_records_measure.specs.TextLines.{text_height};
 ghost use Rattle.grid_records_traits.specs.Sources.{texts_of_rows};
-ghost use Rattle.tabled_iter.specs.Content.{column_width, columns_or, heights_or, row_height, text_in, widths_or};
+ghost use Rattle.tabled_compact.specs.Columns.{column_width};
+ghost use Rattle.tabled_iter.specs.Content.{columns_or, heights_or, row_height, widths_or};
 ghost use Rattle.tabled_size_dimension.specs.Values.{value_sizes};
 
-use grid_records_measure::get_text_width;
 use grid_records_traits::Cell;
 use std::alloc::{AllocError, Global};
+use tabled_compact::width_in;
 use tabled_size_dimension::DimensionValue;
 
 /// The first so many, or all where there are fewer.
@@ -77,16 +78,6 @@ fn column_width<C: Cell>(sniffed: &[Vec<C>], column: usize) -> usize
         widest = widest.max(width_in(row, column));
     }
     widest
-}
-
-// The columns of a row's text in a column, where it has none those of the empty text.
-fn width_in<C: Cell>(row: &[C], column: usize) -> usize
-    ensures { result ≡ text_width (text_in (map C.text row.now) column) }
-{
-    match row.get(column) {
-        Some(cell) => cell.width(),
-        None => get_text_width(""),
-    }
 }
 
 /// The heights of the rows' content. Fails only where allocation fails.

@@ -5,6 +5,7 @@ mod content;
 mod layout;
 mod padded;
 mod printing;
+mod reading;
 mod table;
 
 pub use table::IterTable;

@@ -12,10 +12,11 @@ ghost use Rattle.tabled_steps.specs.States.{Steps};
 use crate::content::{columns_or, first};
 use crate::layout::{Shape, first_kept, layout_of};
 use crate::printing::draw;
+use crate::reading::read;
 use grid_config::{CompactConfig, Fault};
 use grid_records_rows::BufRecords;
-use grid_records_traits::{IntoRecords, RecordTexts};
-use std::alloc::Global;
+use grid_records_traits::{Cell, IntoRecords, RecordTexts};
+use std::alloc::{AllocError, Global};
 use std::io::Write;
 use tabled_compact::{BuildFault, begun_config};
 use tabled_output::{Counted, write_all};
@@ -126,6 +127,19 @@ impl<I: RecordTexts> IterTable<I> {
     {
         self.set(alloc, option)?;
         Ok(self)
+    }
+}
+
+impl<C: Cell> IterTable<Vec<Vec<C>>> {
+    /// The same as `new` of the rows of this source, which are read at once and kept. Fails only where
+    /// allocation fails, of a cell that is read or of room to keep it.
+    pub fn from_rows<R: IntoRecords<Cell = C>>(
+        alloc: Global,
+        rows: R,
+    ) -> Result<IterTable<Vec<Vec<C>>>, AllocError>
+        ensures { IfOk result (λ table. streamed ⟦<Vec<Vec<C>> as RecordTexts>⟧.rows table ≡ begun (R.RecordTexts.rows rows)) }
+    {
+        Ok(IterTable::new(read(alloc, rows)?))
     }
 }
 

@@ -1,6 +1,6 @@
 use Rattle.std.proofs.Common.{◌≡◌, drop, max}
 use Rattle.grid_records_traits.specs.Sources.{texts_of_rows}
-use Rattle.tabled_iter.specs.Content.{column_width}
+use Rattle.tabled_compact.specs.Columns.{column_width}
 use Rattle.tabled_iter.proofs.content.column_width.Given as goal
 
 abbrev pub invariant-loop-row : goal.invariant-loop-row

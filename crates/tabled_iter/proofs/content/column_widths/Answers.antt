@@ -2,7 +2,7 @@ use Rattle.std.proofs.Common.{◌≡◌, ◌+◌, ℕ, ◌++◌, [], ◌∷◌, 
 use Rattle.std.proofs.lemmas.List.FromFn.{map-range_with_len_more}
 use Rattle.std.specs.List.{range_with_len}
 use Rattle.grid_records_traits.specs.Sources.{texts_of_rows}
-use Rattle.tabled_iter.specs.Content.{column_width}
+use Rattle.tabled_compact.specs.Columns.{column_width}
 use Rattle.tabled_iter.proofs.content.column_widths.Goals as goal
 
 pub loop-column-preserved : goal.loop-column-preserved

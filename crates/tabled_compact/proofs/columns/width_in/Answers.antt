@@ -2,8 +2,8 @@ use Rattle.std.proofs.Common.{arith, ◌≡◌, ◌∙◌, [], ap, map, sym}
 use Rattle.std.proofs.lemmas.Grind.{common_steps}
 use Rattle.grid_records_measure.specs.TextLines.{text_width}
 use Rattle.grid_records_traits.proofs.TextAnswers.{width_of_text}
-use Rattle.tabled_iter.specs.Content.{text_in}
-use Rattle.tabled_iter.proofs.content.width_in.Goals as goal
+use Rattle.tabled_compact.specs.Columns.{text_in}
+use Rattle.tabled_compact.proofs.columns.width_in.Goals as goal
 
 pub returns-in-Some : goal.returns-in-Some
 returns-in-Some g c =
