@@ -1,5 +1,5 @@
 -- Tables of rows that are equally long.
-use Rattle.std.proofs.Common.{arith, ◌≡◌, ℕ, zero, suc, List, [], ◌∷◌, ap, map, refl, vec_len, length, get_or, sym, ◌∙◌, replicate, Vec, vec_items, slice_set}
+use Rattle.std.proofs.Common.{arith, ◌≡◌, ◌<◌, ℕ, zero, suc, List, [], ◌∷◌, ap, map, refl, vec_len, length, get_or, sym, ◌∙◌, replicate, Vec, vec_items, slice_set}
 use Rattle.std.proofs.lemmas.List.{get_or-map, get_or-replicate, length-map, length-replicate, map-set}
 use Rattle.std.proofs.lemmas.List.Elements.{All-map}
 use Rattle.std.specs.Vec.{with_item}
@@ -38,3 +38,17 @@ pub fitted_empty : (rows columns : ℕ) → fitted columns (replicate rows (repl
 fitted_empty rows columns =
     fitted-same (replicate rows (replicate columns [])) columns
     (λ k d lt. ap length (get_or-replicate rows k (replicate columns []) d (simp length-replicate at lt)) ∙ length-replicate columns [])
+
+-- the texts of the same rows are equally many
+columns_by_texts : {T Z : Type 0} (text : T → List ℕ) (rows : List (Vec T Z)) → columns_of rows ≡ length (row_at (texts_of_rows text rows) 0)
+columns_by_texts text [] = refl
+columns_by_texts text (row ∷ rows) = row.ok.0 ∙ sym (length-map (vec_items row) text)
+
+pub even_again : {T Z : Type 0} (text : T → List ℕ) (rows again : List (Vec T Z)) → texts_of_rows text again ≡ texts_of_rows text rows → AreEquallyLong rows → AreEquallyLong again
+even_again {T} {Z} text rows again same long = λ k d lt.
+    let texts = λ (row : Vec T Z). map text (vec_items row) in
+    let by_texts : (all : List (Vec T Z)) → k < length all → vec_len (get_or all k d) ≡ length (row_at (texts_of_rows text all) k) =
+    λ all less. let row = get_or all k d in row.ok.0 ∙ sym (length-map (vec_items row) text) ∙ sym (ap length (get_or-map texts all k d [] less)) in
+    let below : k < length rows = omega (arith, lt, length-map again texts, length-map rows texts, ap length same) in
+    by_texts again lt ∙ ap (λ all. length (row_at all k)) same ∙ sym (by_texts rows below) ∙ long k d below
+    ∙ columns_by_texts text rows ∙ sym (ap (λ all. length (row_at all 0)) same) ∙ sym (columns_by_texts text again)

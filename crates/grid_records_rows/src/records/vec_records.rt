@@ -1,5 +1,5 @@
 //! Rows in vectors.
-ghost use Rattle.std.specs.Prelude.{◌≡◌, ◌↔◌, [], IsTrue, MatchOption, Some, false, vec_len};
+ghost use Rattle.std.specs.Prelude.{◌≡◌, ◌↔◌, [], IfOk, IsTrue, MatchOption, Some, false, vec_len};
 ghost use Rattle.grid_records_traits.specs.Rows.{text_at};
 ghost use Rattle.grid_records_traits.specs.Sources.{texts_of_rows};
 ghost use Rattle.grid_records_rows.specs.Sources.{AreEquallyLong, columns_of};
@@ -45,12 +45,52 @@ impl<T: Cell> VecRecords<T> {
         VecRecords { rows }
     }
 
+    /// The rows themselves, each with as many cells. Does not allocate.
+    pub fn into_rows(self) -> Vec<Vec<T>>
+        ensures rows { texts_of_rows T.text result.items ≡ ⟦<VecRecords<T> as RecordTexts>⟧.rows self }
+        ensures equally_long { AreEquallyLong result.items }
+    {
+        self.rows
+    }
+
     // The cell at this place, where there is one.
     fn cell(&self, pos: Position) -> Option<&T>
         ensures { MatchOption result (text_at (⟦<VecRecords<T> as RecordTexts>⟧.rows self.now) pos ≡ []) (λ cell. text_at (⟦<VecRecords<T> as RecordTexts>⟧.rows self.now) pos ≡ T.text cell.now) }
     {
         self.rows.get(pos.row)?.get(pos.col)
     }
+}
+
+impl VecRecords<Text> {
+    /// The same rows again. Fails only where allocation fails.
+    pub fn clone(&self, alloc: Global) -> Result<VecRecords<Text>, AllocError>
+        ensures { IfOk result (λ copy. ⟦<VecRecords<Text> as RecordTexts>⟧.rows copy ≡ ⟦<VecRecords<Text> as RecordTexts>⟧.rows self.now) }
+    {
+        let rows = rows_again(alloc, &self.rows)?;
+        Ok(VecRecords::new(rows))
+    }
+}
+
+// The same rows again.
+fn rows_again(alloc: Global, rows: &[Vec<Text>]) -> Result<Vec<Vec<Text>>, AllocError>
+    ensures { IfOk result (λ copy. texts_of_rows (λ text. text) copy.items ≡ texts_of_rows (λ text. text) rows.now) }
+{
+    let mut copy = Vec::new(alloc);
+    for row in rows {
+        copy.push(cells_again(alloc, row)?)?;
+    }
+    Ok(copy)
+}
+
+// The same cells again.
+fn cells_again(alloc: Global, cells: &[Text]) -> Result<Vec<Text>, AllocError>
+    ensures { IfOk result (λ copy. copy.items ≡ cells.now) }
+{
+    let mut copy = Vec::new(alloc);
+    for cell in cells {
+        copy.push(cell.clone(alloc)?)?;
+    }
+    Ok(copy)
 }
 
 impl<T: Cell> RecordTexts for VecRecords<T> {

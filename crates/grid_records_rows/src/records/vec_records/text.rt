@@ -26,6 +26,22 @@ impl Text {
     {
         Ok(Text { text })
     }
+
+    /// The same text again. Fails only where allocation fails.
+    pub fn clone(&self, alloc: Global) -> Result<Text, AllocError>
+        ensures { IfOk result (λ copy. copy ≡ self.now) }
+    {
+        Ok(Text {
+            text: self.text.as_str().to_string(alloc)?,
+        })
+    }
+
+    /// The text alone. Does not allocate.
+    pub fn into_string(self) -> String
+        ensures { string_bytes result ≡ self }
+    {
+        self.text
+    }
 }
 
 impl Cell for Text {
