@@ -1,12 +1,10 @@
 -- `==` of styles, as it is derived, is equality of all attributes.
 use Rattle.std.proofs.Common.{◌≡◌, ℕ, Bool, true, false, ◌&&◌, Option, None, Some, List, [], ◌∷◌, ◌==◌, refl, ap, ◌∙◌, sym, subst}
-use Rattle.std.specs.Bool.{beq}
 use Rattle.std.proofs.lemmas.Bool.{and_parts, eqb-true}
 use Rattle.std.specs.contracts.prelude.OptionPartialEq.TheImpl.{ghosts as option_ghosts}
 use Rattle.std.specs.contracts.prelude.U8PartialEq.TheImpl.{ghosts as u8_ghosts, dict as u8_dict}
 use Rattle.ansi_scan_style.specs.declared.color.AnsiColor.{AnsiColor}
 use Rattle.ansi_scan_style.specs.declared.color.AnsiColor.TheVariants.{Bit4, Bit8, Bit24}
-use Rattle.ansi_scan_style.specs.declared.flags.Flags.{Flags}
 use Rattle.ansi_scan_style.specs.contracts.style.StylePartialEq.TheImpl.{ghosts}
 use Rattle.ansi_scan_style.specs.contracts.flags.FlagsPartialEq.TheImpl.{ghosts as flags_ghosts}
 use Rattle.ansi_scan_style.specs.contracts.color.AnsiColorPartialEq.TheImpl.{ghosts as color_ghosts, dict as color_dict}
@@ -18,7 +16,9 @@ use Rattle.ansi_scan_style.specs.contracts.style.StyleEq.TheImpl.Laws.{laws-law}
 use Rattle.ansi_scan_style.specs.contracts.style.StyleOrd.TheImpl.{ghosts as order_ghosts}
 use Rattle.ansi_scan_style.specs.contracts.style.StyleOrd.TheImpl.Laws.{matches_eq-law}
 use Rattle.ansi_scan_style.specs.Attributes.{Attributes}
-use Rattle.ansi_scan_style.specs.Flags.{flags_of}
+use Rattle.ansi_scan_style.specs.FlagSet.{FlagSet}
+use Rattle.ansi_scan_style.specs.Flags.{flags_of, word_of}
+use Rattle.ansi_scan_style.proofs.Bits.{same_flags}
 
 -- the tests, joined by `&&`
 abbrev all_pass : Bool → List Bool → Bool
@@ -33,40 +33,8 @@ each_passes : (t : Bool) (others : List Bool) → all_pass t others ≡ true →
 each_passes t [] e = e
 each_passes t (u ∷ others) e = ((and_parts t (all_pass u others) e).0, each_passes u others (and_parts t (all_pass u others) e).1)
 
-same_flag : (x y : Bool) → beq x y ≡ true → x ≡ y
-same_flag true true e = refl
-same_flag true false e = cc
-same_flag false true e = cc
-same_flag false false e = refl
-
-flags_equal : (a b : Flags) → flags_ghosts.eq a b ≡ true → a ≡ b
-flags_equal a b e =
-    let each = each_passes (beq a.bold b.bold)
-    (beq a.faint b.faint ∷ beq a.italic b.italic ∷ beq a.underline b.underline ∷ beq a.slow_blink b.slow_blink ∷ beq a.rapid_blink b.rapid_blink ∷ beq a.inverted b.inverted ∷ beq a.hidden b.hidden ∷ beq a.crossed_out b.crossed_out ∷ beq a.fraktur b.fraktur ∷ beq a.double_underline b.double_underline ∷ beq a.proportional_spacing b.proportional_spacing ∷ beq a.framed b.framed ∷ beq a.encircled b.encircled ∷ beq a.overlined b.overlined ∷ beq a.ideogram_underline b.ideogram_underline ∷ beq a.ideogram_double_underline b.ideogram_double_underline ∷ beq a.ideogram_overline b.ideogram_overline ∷ beq a.ideogram_double_overline b.ideogram_double_overline ∷ beq a.ideogram_stress b.ideogram_stress ∷ beq a.superscript b.superscript ∷ beq a.subscript b.subscript ∷ []) e in
-    λ i. record {
-      bold = same_flag a.bold b.bold each.0 i;
-      faint = same_flag a.faint b.faint each.1.0 i;
-      italic = same_flag a.italic b.italic each.1.1.0 i;
-      underline = same_flag a.underline b.underline each.1.1.1.0 i;
-      slow_blink = same_flag a.slow_blink b.slow_blink each.1.1.1.1.0 i;
-      rapid_blink = same_flag a.rapid_blink b.rapid_blink each.1.1.1.1.1.0 i;
-      inverted = same_flag a.inverted b.inverted each.1.1.1.1.1.1.0 i;
-      hidden = same_flag a.hidden b.hidden each.1.1.1.1.1.1.1.0 i;
-      crossed_out = same_flag a.crossed_out b.crossed_out each.1.1.1.1.1.1.1.1.0 i;
-      fraktur = same_flag a.fraktur b.fraktur each.1.1.1.1.1.1.1.1.1.0 i;
-      double_underline = same_flag a.double_underline b.double_underline each.1.1.1.1.1.1.1.1.1.1.0 i;
-      proportional_spacing = same_flag a.proportional_spacing b.proportional_spacing each.1.1.1.1.1.1.1.1.1.1.1.0 i;
-      framed = same_flag a.framed b.framed each.1.1.1.1.1.1.1.1.1.1.1.1.0 i;
-      encircled = same_flag a.encircled b.encircled each.1.1.1.1.1.1.1.1.1.1.1.1.1.0 i;
-      overlined = same_flag a.overlined b.overlined each.1.1.1.1.1.1.1.1.1.1.1.1.1.1.0 i;
-      ideogram_underline = same_flag a.ideogram_underline b.ideogram_underline each.1.1.1.1.1.1.1.1.1.1.1.1.1.1.1.0 i;
-      ideogram_double_underline = same_flag a.ideogram_double_underline b.ideogram_double_underline each.1.1.1.1.1.1.1.1.1.1.1.1.1.1.1.1.0 i;
-      ideogram_overline = same_flag a.ideogram_overline b.ideogram_overline each.1.1.1.1.1.1.1.1.1.1.1.1.1.1.1.1.1.0 i;
-      ideogram_double_overline = same_flag a.ideogram_double_overline b.ideogram_double_overline each.1.1.1.1.1.1.1.1.1.1.1.1.1.1.1.1.1.1.0 i;
-      ideogram_stress = same_flag a.ideogram_stress b.ideogram_stress each.1.1.1.1.1.1.1.1.1.1.1.1.1.1.1.1.1.1.1.0 i;
-      superscript = same_flag a.superscript b.superscript each.1.1.1.1.1.1.1.1.1.1.1.1.1.1.1.1.1.1.1.1.0 i;
-      subscript = same_flag a.subscript b.subscript each.1.1.1.1.1.1.1.1.1.1.1.1.1.1.1.1.1.1.1.1.1 i;
-    }
+flags_equal : (a b : FlagSet) → flags_ghosts.eq a b ≡ true → a ≡ b
+flags_equal a b e = same_flags a b (eqb-true (word_of a) (word_of b) e)
 
 font_equal : (a b : Option ℕ) → (option_ghosts denote.Builtin.u8 u8_ghosts u8_dict).eq a b ≡ true → a ≡ b
 font_equal None None e = refl

@@ -2,6 +2,7 @@ pub mod Writing
 pub mod Numbers
 pub mod Reading
 pub mod Ranges
+pub mod Bits
 pub mod Merging
 pub mod Kept
 pub mod Lengths

@@ -8,7 +8,7 @@ ghost use Rattle.ansi_scan_style.specs.Sequences.{end_parameters, has_ideogram_m
 
 use crate::codes::{background_after, font_after, foreground_after, underline_color_after};
 use crate::color::{AnsiColor, Color};
-use crate::flags::Flags;
+use crate::flags::{Flag, Flags};
 use crate::next::{Layer, Next};
 use crate::parameters::{is_reset, number, sgr_parameters};
 use crate::sequences::{
@@ -48,7 +48,7 @@ impl Style {
         ensures { result ≡ plain_attributes }
     {
         Style {
-            flags: Flags::NONE,
+            flags: Flags::none(),
             font: None,
             foreground: None,
             background: None,
@@ -171,70 +171,70 @@ impl Style {
     pub fn is_bold(&self) -> bool
         ensures { result ≡ self.now.bold }
     {
-        self.flags.bold
+        self.flags.has(Flag::Bold)
     }
 
     /// Whether faint (code 2) is set.
     pub fn is_faint(&self) -> bool
         ensures { result ≡ self.now.faint }
     {
-        self.flags.faint
+        self.flags.has(Flag::Faint)
     }
 
     /// Whether italic (code 3) is set.
     pub fn is_italic(&self) -> bool
         ensures { result ≡ self.now.italic }
     {
-        self.flags.italic
+        self.flags.has(Flag::Italic)
     }
 
     /// Whether underline (code 4, and not the double underline of 21) is set.
     pub fn is_underline(&self) -> bool
         ensures { result ≡ self.now.underline }
     {
-        self.flags.underline
+        self.flags.has(Flag::Underline)
     }
 
     /// Whether slow blink (code 5) is set.
     pub fn is_slow_blink(&self) -> bool
         ensures { result ≡ self.now.slow_blink }
     {
-        self.flags.slow_blink
+        self.flags.has(Flag::SlowBlink)
     }
 
     /// Whether rapid blink (code 6) is set.
     pub fn is_rapid_blink(&self) -> bool
         ensures { result ≡ self.now.rapid_blink }
     {
-        self.flags.rapid_blink
+        self.flags.has(Flag::RapidBlink)
     }
 
     /// Whether inverse (code 7) is set.
     pub fn is_inverse(&self) -> bool
         ensures { result ≡ self.now.inverted }
     {
-        self.flags.inverted
+        self.flags.has(Flag::Inverted)
     }
 
     /// Whether hidden (code 8) is set.
     pub fn is_hide(&self) -> bool
         ensures { result ≡ self.now.hidden }
     {
-        self.flags.hidden
+        self.flags.has(Flag::Hidden)
     }
 
     /// Whether crossed out (code 9) is set.
     pub fn is_crossedout(&self) -> bool
         ensures { result ≡ self.now.crossed_out }
     {
-        self.flags.crossed_out
+        self.flags.has(Flag::CrossedOut)
     }
 
     /// Whether fraktur (code 20) is set.
     pub fn is_fraktur(&self) -> bool
         ensures { result ≡ self.now.fraktur }
     {
-        self.flags.fraktur
+        self.flags.has(Flag::Fraktur)
     }
 
     /// What sets each attribute that is set, in ascending order of the codes.
@@ -242,32 +242,32 @@ impl Style {
         ensures { result ≡ start_parameters self.now }
     {
         [
-            code_if(self.flags.bold, 1),
-            code_if(self.flags.faint, 2),
-            code_if(self.flags.italic, 3),
-            code_if(self.flags.underline, 4),
-            code_if(self.flags.slow_blink, 5),
-            code_if(self.flags.rapid_blink, 6),
-            code_if(self.flags.inverted, 7),
-            code_if(self.flags.hidden, 8),
-            code_if(self.flags.crossed_out, 9),
+            code_if(self.flags.has(Flag::Bold), 1),
+            code_if(self.flags.has(Flag::Faint), 2),
+            code_if(self.flags.has(Flag::Italic), 3),
+            code_if(self.flags.has(Flag::Underline), 4),
+            code_if(self.flags.has(Flag::SlowBlink), 5),
+            code_if(self.flags.has(Flag::RapidBlink), 6),
+            code_if(self.flags.has(Flag::Inverted), 7),
+            code_if(self.flags.has(Flag::Hidden), 8),
+            code_if(self.flags.has(Flag::CrossedOut), 9),
             font_parameters(self.font),
-            code_if(self.flags.fraktur, 20),
-            code_if(self.flags.double_underline, 21),
-            code_if(self.flags.proportional_spacing, 26),
+            code_if(self.flags.has(Flag::Fraktur), 20),
+            code_if(self.flags.has(Flag::DoubleUnderline), 21),
+            code_if(self.flags.has(Flag::ProportionalSpacing), 26),
             color_parameters(Layer::Foreground, self.foreground),
             color_parameters(Layer::Background, self.background),
-            code_if(self.flags.framed, 51),
-            code_if(self.flags.encircled, 52),
-            code_if(self.flags.overlined, 53),
+            code_if(self.flags.has(Flag::Framed), 51),
+            code_if(self.flags.has(Flag::Encircled), 52),
+            code_if(self.flags.has(Flag::Overlined), 53),
             color_parameters(Layer::Underline, self.underline_color),
-            code_if(self.flags.ideogram_underline, 60),
-            code_if(self.flags.ideogram_double_underline, 61),
-            code_if(self.flags.ideogram_overline, 62),
-            code_if(self.flags.ideogram_double_overline, 63),
-            code_if(self.flags.ideogram_stress, 64),
-            code_if(self.flags.superscript, 73),
-            code_if(self.flags.subscript, 74),
+            code_if(self.flags.has(Flag::IdeogramUnderline), 60),
+            code_if(self.flags.has(Flag::IdeogramDoubleUnderline), 61),
+            code_if(self.flags.has(Flag::IdeogramOverline), 62),
+            code_if(self.flags.has(Flag::IdeogramDoubleOverline), 63),
+            code_if(self.flags.has(Flag::IdeogramStress), 64),
+            code_if(self.flags.has(Flag::Superscript), 73),
+            code_if(self.flags.has(Flag::Subscript), 74),
         ]
     }
 
@@ -277,21 +277,39 @@ impl Style {
     {
         [
             code_if(self.font.is_some(), 10),
-            code_if(self.flags.bold || self.flags.faint, 22),
-            code_if(self.flags.italic || self.flags.fraktur, 23),
-            code_if(self.flags.underline || self.flags.double_underline, 24),
-            code_if(self.flags.slow_blink || self.flags.rapid_blink, 25),
-            code_if(self.flags.inverted, 27),
-            code_if(self.flags.hidden, 28),
-            code_if(self.flags.crossed_out, 29),
+            code_if(
+                self.flags.has(Flag::Bold) || self.flags.has(Flag::Faint),
+                22,
+            ),
+            code_if(
+                self.flags.has(Flag::Italic) || self.flags.has(Flag::Fraktur),
+                23,
+            ),
+            code_if(
+                self.flags.has(Flag::Underline) || self.flags.has(Flag::DoubleUnderline),
+                24,
+            ),
+            code_if(
+                self.flags.has(Flag::SlowBlink) || self.flags.has(Flag::RapidBlink),
+                25,
+            ),
+            code_if(self.flags.has(Flag::Inverted), 27),
+            code_if(self.flags.has(Flag::Hidden), 28),
+            code_if(self.flags.has(Flag::CrossedOut), 29),
             code_if(self.foreground.is_some(), 39),
             code_if(self.background.is_some(), 49),
-            code_if(self.flags.proportional_spacing, 50),
-            code_if(self.flags.framed || self.flags.encircled, 54),
-            code_if(self.flags.overlined, 55),
+            code_if(self.flags.has(Flag::ProportionalSpacing), 50),
+            code_if(
+                self.flags.has(Flag::Framed) || self.flags.has(Flag::Encircled),
+                54,
+            ),
+            code_if(self.flags.has(Flag::Overlined), 55),
             code_if(self.underline_color.is_some(), 59),
             code_if(self.has_ideogram_mark(), 65),
-            code_if(self.flags.superscript || self.flags.subscript, 75),
+            code_if(
+                self.flags.has(Flag::Superscript) || self.flags.has(Flag::Subscript),
+                75,
+            ),
         ]
     }
 
@@ -299,10 +317,10 @@ impl Style {
     fn has_ideogram_mark(&self) -> bool
         ensures { result ≡ has_ideogram_mark self.now }
     {
-        self.flags.ideogram_underline
-            || self.flags.ideogram_double_underline
-            || self.flags.ideogram_overline
-            || self.flags.ideogram_double_overline
-            || self.flags.ideogram_stress
+        self.flags.has(Flag::IdeogramUnderline)
+            || self.flags.has(Flag::IdeogramDoubleUnderline)
+            || self.flags.has(Flag::IdeogramOverline)
+            || self.flags.has(Flag::IdeogramDoubleOverline)
+            || self.flags.has(Flag::IdeogramStress)
     }
 }
