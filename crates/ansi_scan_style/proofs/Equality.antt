@@ -1,5 +1,5 @@
 -- `==` of styles, as it is derived, is equality of all attributes.
-use Rattle.std.proofs.Common.{◌≡◌, ℕ, Bool, true, false, ◌&&◌, Option, None, Some, List, [], ◌∷◌, ◌==◌, refl, ap, ◌∙◌, sym, subst}
+use Rattle.std.proofs.Common.{◌≡◌, ℕ, Bool, true, false, not, ◌&&◌, Option, None, Some, List, [], ◌∷◌, ◌==◌, refl, ap, ◌∙◌, sym, subst}
 use Rattle.std.proofs.lemmas.Bool.{and_parts, eqb-true}
 use Rattle.std.specs.contracts.prelude.OptionPartialEq.TheImpl.{ghosts as option_ghosts}
 use Rattle.std.specs.contracts.prelude.U8PartialEq.TheImpl.{ghosts as u8_ghosts, dict as u8_dict}
@@ -7,15 +7,16 @@ use Rattle.ansi_scan_style.specs.declared.color.AnsiColor.{AnsiColor}
 use Rattle.ansi_scan_style.specs.declared.color.AnsiColor.TheVariants.{Bit4, Bit8, Bit24}
 use Rattle.ansi_scan_style.specs.contracts.style.StylePartialEq.TheImpl.{ghosts}
 use Rattle.ansi_scan_style.specs.contracts.flags.FlagsPartialEq.TheImpl.{ghosts as flags_ghosts}
-use Rattle.ansi_scan_style.specs.contracts.color.AnsiColorPartialEq.TheImpl.{ghosts as color_ghosts, dict as color_dict}
-use Rattle.ansi_scan_style.specs.contracts.color.AnsiColor.{the_row as color_row}
+use Rattle.ansi_scan_style.specs.contracts.packed.PackedColorPartialEq.TheImpl.{ghosts as packed_ghosts}
 use Rattle.std.specs.declared.cmp.Ordering.{Ordering}
 use Rattle.std.specs.declared.cmp.Ordering.TheVariants.{Less, Equal, Greater}
 use Rattle.std.specs.Ordering.{is_eq}
 use Rattle.ansi_scan_style.specs.contracts.style.StyleEq.TheImpl.Laws.{laws-law}
 use Rattle.ansi_scan_style.specs.contracts.style.StyleOrd.TheImpl.{ghosts as order_ghosts}
 use Rattle.ansi_scan_style.specs.contracts.style.StyleOrd.TheImpl.Laws.{matches_eq-law}
-use Rattle.ansi_scan_style.specs.Attributes.{Attributes}
+use Rattle.ansi_scan_style.specs.Attributes.{Attributes, plain_attributes}
+use Rattle.std.specs.Prelude.{is_none, is_some}
+use Rattle.ansi_scan_style.specs.Plain.{sets_nothing}
 use Rattle.ansi_scan_style.specs.FlagSet.{FlagSet}
 use Rattle.ansi_scan_style.specs.Flags.{flags_of, word_of}
 use Rattle.ansi_scan_style.proofs.Bits.{same_flags}
@@ -42,27 +43,36 @@ font_equal None (Some n) e = cc
 font_equal (Some m) None e = cc
 font_equal (Some m) (Some n) e = ap Some (eqb-true m n e)
 
-color_equal : (a b : AnsiColor) → color_ghosts.eq a b ≡ true → a ≡ b
-color_equal (Bit4 m) (Bit4 n) e = ap Bit4 (eqb-true m n e)
-color_equal (Bit8 m) (Bit8 n) e = ap Bit8 (eqb-true m n e)
-color_equal (Bit24 r g b) (Bit24 u v w) e =
-    let each = each_passes (r == u) ((g == v) ∷ (b == w) ∷ []) e in
-    λ i. Bit24 (eqb-true r u each.0 i) (eqb-true g v each.1.0 i) (eqb-true b w each.1.1 i)
-color_equal a b e = cc
-
-color_if_set_equal : (a b : Option AnsiColor) → (option_ghosts color_row color_ghosts color_dict).eq a b ≡ true → a ≡ b
+-- the four bytes of a colour that may be set
+color_if_set_equal : (a b : Option AnsiColor) → packed_ghosts.eq a b ≡ true → a ≡ b
 color_if_set_equal None None e = refl
-color_if_set_equal None (Some c) e = cc
-color_if_set_equal (Some c) None e = cc
-color_if_set_equal (Some c) (Some d) e = ap Some (color_equal c d e)
+color_if_set_equal (Some (Bit4 m)) (Some (Bit4 n)) e =
+    let each = each_passes (m == n) (true ∷ true ∷ []) e in ap (λ k. Some (Bit4 k)) (eqb-true m n each.0)
+color_if_set_equal (Some (Bit8 m)) (Some (Bit8 n)) e =
+    let each = each_passes (m == n) (true ∷ true ∷ []) e in ap (λ k. Some (Bit8 k)) (eqb-true m n each.0)
+color_if_set_equal (Some (Bit24 r g b)) (Some (Bit24 u v w)) e =
+    let each = each_passes (r == u) ((g == v) ∷ (b == w) ∷ []) e in
+    λ i. Some (Bit24 (eqb-true r u each.0 i) (eqb-true g v each.1.0 i) (eqb-true b w each.1.1 i))
+color_if_set_equal None (Some (Bit4 r)) e = cc
+color_if_set_equal None (Some (Bit8 r)) e = cc
+color_if_set_equal None (Some (Bit24 r g b)) e = cc
+color_if_set_equal (Some (Bit4 k)) None e = cc
+color_if_set_equal (Some (Bit4 k)) (Some (Bit8 r)) e = cc
+color_if_set_equal (Some (Bit4 k)) (Some (Bit24 r g b)) e = cc
+color_if_set_equal (Some (Bit8 k)) None e = cc
+color_if_set_equal (Some (Bit8 k)) (Some (Bit4 r)) e = cc
+color_if_set_equal (Some (Bit8 k)) (Some (Bit24 r g b)) e = cc
+color_if_set_equal (Some (Bit24 k l m)) None e = cc
+color_if_set_equal (Some (Bit24 k l m)) (Some (Bit4 r)) e = cc
+color_if_set_equal (Some (Bit24 k l m)) (Some (Bit8 r)) e = cc
 
 pub equal_attributes : (a b : Attributes) → ghosts.eq a b ≡ true → a ≡ b
 equal_attributes a b e =
     let each = each_passes (flags_ghosts.eq (flags_of a) (flags_of b))
     ((option_ghosts denote.Builtin.u8 u8_ghosts u8_dict).eq a.font b.font
-    ∷ (option_ghosts color_row color_ghosts color_dict).eq a.foreground b.foreground
-    ∷ (option_ghosts color_row color_ghosts color_dict).eq a.background b.background
-    ∷ (option_ghosts color_row color_ghosts color_dict).eq a.underline_color b.underline_color ∷ []) e in
+    ∷ packed_ghosts.eq a.foreground b.foreground
+    ∷ packed_ghosts.eq a.background b.background
+    ∷ packed_ghosts.eq a.underline_color b.underline_color ∷ []) e in
     let flags = flags_equal (flags_of a) (flags_of b) each.0 in
     λ i. record {
       bold = (flags i).bold;
@@ -107,3 +117,51 @@ compared_equal a b e = equal_attributes a b (matches_eq-law a b ∙ ap is_eq e)
 
 pub compared_to_itself : (a b : Attributes) → a ≡ b → order_ghosts.cmp a b ≡ Equal
 compared_to_itself a b e = equal_shows (order_ghosts.cmp a b) (sym (matches_eq-law a b) ∙ equal_to_itself a b e)
+
+none_from_test : {V : Type 0} (o : Option V) → is_none o ≡ true → o ≡ None
+none_from_test None e = refl
+none_from_test (Some v) e = cc
+
+none_from_refusal : {V : Type 0} (o : Option V) → not (is_some o) ≡ true → o ≡ None
+none_from_refusal None e = refl
+none_from_refusal (Some v) e = cc
+
+-- attributes set nothing where the test says so
+pub plain_from_test : (a : Attributes) → sets_nothing a ≡ true → a ≡ plain_attributes
+unfolding plain_attributes
+plain_from_test a e =
+    let each = each_passes (word_of (flags_of a) == 0)
+    (is_none a.font ∷ not (is_some a.foreground) ∷ not (is_some a.background) ∷ not (is_some a.underline_color) ∷ []) e in
+    let flags = same_flags (flags_of a) (flags_of plain_attributes) (eqb-true (word_of (flags_of a)) 0 each.0) in
+    λ i. record {
+      bold = (flags i).bold;
+      faint = (flags i).faint;
+      italic = (flags i).italic;
+      underline = (flags i).underline;
+      slow_blink = (flags i).slow_blink;
+      rapid_blink = (flags i).rapid_blink;
+      inverted = (flags i).inverted;
+      hidden = (flags i).hidden;
+      crossed_out = (flags i).crossed_out;
+      font = none_from_test a.font each.1.0 i;
+      fraktur = (flags i).fraktur;
+      double_underline = (flags i).double_underline;
+      proportional_spacing = (flags i).proportional_spacing;
+      foreground = none_from_refusal a.foreground each.1.1.0 i;
+      background = none_from_refusal a.background each.1.1.1.0 i;
+      framed = (flags i).framed;
+      encircled = (flags i).encircled;
+      overlined = (flags i).overlined;
+      underline_color = none_from_refusal a.underline_color each.1.1.1.1 i;
+      ideogram_underline = (flags i).ideogram_underline;
+      ideogram_double_underline = (flags i).ideogram_double_underline;
+      ideogram_overline = (flags i).ideogram_overline;
+      ideogram_double_overline = (flags i).ideogram_double_overline;
+      ideogram_stress = (flags i).ideogram_stress;
+      superscript = (flags i).superscript;
+      subscript = (flags i).subscript;
+    }
+
+pub test_from_plain : (a : Attributes) → a ≡ plain_attributes → sets_nothing a ≡ true
+unfolding plain_attributes
+test_from_plain a e = ap sets_nothing e

@@ -4,6 +4,8 @@ pub mod Digits
 pub mod Sequences
 pub mod FlagSet
 pub mod Flags
+pub mod Packed
+pub mod Plain
 pub mod Style
 pub mod ColorForms
 pub mod Color

@@ -1,5 +1,5 @@
 //! The attributes of a style that are set or not.
-ghost use Rattle.std.specs.Prelude.{◌≡◌, ◌^◌, IsTrue, ◌↔◌, ◌<◌};
+ghost use Rattle.std.specs.Prelude.{◌≡◌, ◌==◌, ◌^◌};
 ghost use Rattle.std.specs.Simd.Lanes.{mask_l};
 ghost use Rattle.ansi_scan_style.specs.Attributes.{after_code};
 ghost use Rattle.ansi_scan_style.specs.Flags.{bits_kept_by, bits_set_by, flags_of, is_set, only_flags, place, word_of};
@@ -140,6 +140,13 @@ impl Flags {
         ensures { word_of result ≡ 0 }
     {
         Flags { word: 0 }
+    }
+
+    /// Whether no attribute is set.
+    pub fn is_none(self) -> bool
+        ensures { result ≡ (word_of self == 0) }
+    {
+        self.word == 0
     }
 
     /// Whether the attribute is set.

@@ -4,12 +4,14 @@ ghost use Rattle.std.specs.Option.{option_map};
 ghost use Rattle.ansi_scan_style.specs.Attributes.{IsColor, IsRendition, after_code, is_no_code, plain_attributes};
 ghost use Rattle.ansi_scan_style.specs.Color.{color_of};
 ghost use Rattle.ansi_scan_style.specs.Rendition.{after_parameter, after_parameter_bytes, applied, with_color};
+ghost use Rattle.ansi_scan_style.specs.Plain.{sets_nothing};
 ghost use Rattle.ansi_scan_style.specs.Sequences.{end_parameters, has_ideogram_mark, start_parameters};
 
 use crate::codes::{background_after, font_after, foreground_after, underline_color_after};
 use crate::color::{AnsiColor, Color};
 use crate::flags::{Flag, Flags};
 use crate::next::{Layer, Next};
+use crate::packed::PackedColor;
 use crate::parameters::{is_reset, number, sgr_parameters};
 use crate::sequences::{
     AnsiSequenceEnd, AnsiSequenceStart, Parameters, code_if, color_parameters, font_parameters,
@@ -22,9 +24,9 @@ use std::marker::Model;
 pub struct Style {
     flags: Flags,
     font: Option<u8>,
-    foreground: Option<AnsiColor>,
-    background: Option<AnsiColor>,
-    underline_color: Option<AnsiColor>,
+    foreground: PackedColor,
+    background: PackedColor,
+    underline_color: PackedColor,
 }
 
 impl Model for Style {
@@ -50,9 +52,9 @@ impl Style {
         Style {
             flags: Flags::none(),
             font: None,
-            foreground: None,
-            background: None,
-            underline_color: None,
+            foreground: PackedColor::none(),
+            background: PackedColor::none(),
+            underline_color: PackedColor::none(),
         }
     }
 
@@ -60,7 +62,17 @@ impl Style {
     pub fn is_plain(&self) -> bool
         ensures { IsTrue result ↔ (self.now ≡ plain_attributes) }
     {
-        *self == Style::plain()
+        self.sets_nothing()
+    }
+
+    fn sets_nothing(&self) -> bool
+        ensures { result ≡ sets_nothing self.now }
+    {
+        self.flags.is_none()
+            && self.font.is_none()
+            && !self.foreground.is_set()
+            && !self.background.is_set()
+            && !self.underline_color.is_set()
     }
 
     /// The style after one sequence `ESC [ .. m`.
@@ -116,15 +128,32 @@ impl Style {
         ensures { result ≡ with_color self layer color }
     {
         match layer {
-            Layer::Foreground => self.foreground = Some(color),
-            Layer::Background => self.background = Some(color),
-            Layer::Underline => self.underline_color = Some(color),
+            Layer::Foreground => self.foreground = PackedColor::new(color),
+            Layer::Background => self.background = PackedColor::new(color),
+            Layer::Underline => self.underline_color = PackedColor::new(color),
         }
         self
     }
 
     // The style after one code of the table.
-    fn after_code(self, code: u8) -> Style
+    fn after_code(mut self, code: u8) -> Style
+        ensures { result ≡ after_code self code }
+    {
+        match code {
+            30..=39 | 90..=97 => {
+                self.foreground = foreground_after(code, self.foreground);
+                self
+            }
+            40..=49 | 100..=107 => {
+                self.background = background_after(code, self.background);
+                self
+            }
+            _ => self.after_other_code(code),
+        }
+    }
+
+    // The style after one code of the table, mostly none of a colour.
+    fn after_other_code(self, code: u8) -> Style
         ensures { result ≡ after_code self code }
     {
         Style {
@@ -157,14 +186,14 @@ impl Style {
     pub fn foreground(&self) -> Option<Color>
         ensures { result ≡ option_map color_of self.now.foreground }
     {
-        self.foreground.map(Color::from)
+        self.foreground.color().map(Color::from)
     }
 
     /// The background, where one is set.
     pub fn background(&self) -> Option<Color>
         ensures { result ≡ option_map color_of self.now.background }
     {
-        self.background.map(Color::from)
+        self.background.color().map(Color::from)
     }
 
     /// Whether bold (code 1) is set.
@@ -255,12 +284,12 @@ impl Style {
             code_if(self.flags.has(Flag::Fraktur), 20),
             code_if(self.flags.has(Flag::DoubleUnderline), 21),
             code_if(self.flags.has(Flag::ProportionalSpacing), 26),
-            color_parameters(Layer::Foreground, self.foreground),
-            color_parameters(Layer::Background, self.background),
+            color_parameters(Layer::Foreground, self.foreground.color()),
+            color_parameters(Layer::Background, self.background.color()),
             code_if(self.flags.has(Flag::Framed), 51),
             code_if(self.flags.has(Flag::Encircled), 52),
             code_if(self.flags.has(Flag::Overlined), 53),
-            color_parameters(Layer::Underline, self.underline_color),
+            color_parameters(Layer::Underline, self.underline_color.color()),
             code_if(self.flags.has(Flag::IdeogramUnderline), 60),
             code_if(self.flags.has(Flag::IdeogramDoubleUnderline), 61),
             code_if(self.flags.has(Flag::IdeogramOverline), 62),
@@ -296,15 +325,15 @@ impl Style {
             code_if(self.flags.has(Flag::Inverted), 27),
             code_if(self.flags.has(Flag::Hidden), 28),
             code_if(self.flags.has(Flag::CrossedOut), 29),
-            code_if(self.foreground.is_some(), 39),
-            code_if(self.background.is_some(), 49),
+            code_if(self.foreground.is_set(), 39),
+            code_if(self.background.is_set(), 49),
             code_if(self.flags.has(Flag::ProportionalSpacing), 50),
             code_if(
                 self.flags.has(Flag::Framed) || self.flags.has(Flag::Encircled),
                 54,
             ),
             code_if(self.flags.has(Flag::Overlined), 55),
-            code_if(self.underline_color.is_some(), 59),
+            code_if(self.underline_color.is_set(), 59),
             code_if(self.has_ideogram_mark(), 65),
             code_if(
                 self.flags.has(Flag::Superscript) || self.flags.has(Flag::Subscript),
