@@ -11,6 +11,6 @@ returns g c =
     let rows = g.I.RecordTexts.rows c.args.rows in
     c.columns.ensures
     ∙ ap (λ (table : Compacted). record table { columns = g.row.COLUMNS }) (
-      c.with_dimension.ensures
-      ∙ ap (λ (sizes : ConstSize _ × ConstSize _). begun rows (size_at (const_sizes sizes.0))) c.new-dimension.ensures
-      ∙ ap (λ (widths : List ℕ). begun rows (slice_index widths)) c.spaced_widths.ensures)
+    c.with_dimension.ensures
+    ∙ ap (λ (sizes : ConstSize _ × ConstSize _). begun rows (size_at (const_sizes sizes.0))) c.new-dimension.ensures
+    ∙ ap (λ (widths : List ℕ). begun rows (slice_index widths)) c.spaced_widths.ensures)
