@@ -16,10 +16,10 @@ use Rattle.grid_records_estimate.specs.Sizes.{IsRefusal, table_heights, table_wi
 use Rattle.grid_records_estimate.specs.Sizing.{Sizing, sizing_of}
 use Rattle.papergrid.specs.Grids.{grid_text}
 use Rattle.papergrid_fits.proofs.Ranges.{line_count-is, table_width-is}
-use Rattle.papergrid_fits.specs.Tables.{Fits, IsFitsAnswer, column_tracks, row_tracks}
+use Rattle.papergrid_fits.specs.Tables.{Fits, IsFitsAnswer, column_tracks, row_tracks, sized}
 use Rattle.papergrid_picture.proofs.FrameLemmas.{boundary-bounded, boundary-next}
-use Rattle.papergrid_picture.specs.Fitting.{FitsAnswer, InRange}
-use Rattle.papergrid_picture.specs.Frame.{Frame, Tracks, track_at}
+use Rattle.papergrid_picture.specs.Fitting.{FitsAnswer, InRange, table_width}
+use Rattle.papergrid_picture.specs.Frame.{Frame, Tracks, line_count, track_at}
 use Rattle.tabled_size_dimension.specs.Sizes.{size_at}
 use Rattle.tabled_size_dimension.specs.Stored.{FilledPass, Stored, filled, stored_sizes}
 use Rattle.tabled_steps.proofs.Estimating.{heights_by_look, widths_by_look}
@@ -87,8 +87,9 @@ module _ (settings : Settings) (rows : List (List (List ℕ))) (colors : Positio
       ap (λ widths. filled (record { widths = widths; heights = table_heights (sizing_of settings) columns rows }) stored) (widths_by_look settings columns rows)
       ∙ ap (λ heights. filled (record { widths = natural_widths (look_of settings) columns rows; heights = heights }) stored) (heights_by_look settings columns rows)
 
-  widths_pass : stored.widths ≡ None → (t : ℕ) → 2 ^ 64 ≤ slice_index (table_widths (sizing_of settings) columns rows) t → ¬ (InRange (drawn_frame state))
-  widths_pass none t passes range =
+  -- a width that passes the range takes the total past it, whatever the heights
+  pub widths_total : (other : ℕ → ℕ) → stored.widths ≡ None → (t : ℕ) → 2 ^ 64 ≤ slice_index (table_widths (sizing_of settings) columns rows) t → 2 ^ 64 ≤ table_width (sized settings width other columns (length rows))
+  widths_total other none t passes =
       let least : List ℕ = table_widths (sizing_of settings) columns rows in
       let inside : t < length least = inside_of least t passes in
       let some : 0 < length least = omega arith in
@@ -102,12 +103,12 @@ module _ (settings : Settings) (rows : List (List (List ℕ))) (colors : Positio
       let size : get_or tracks.sizes t 0 ≡ width t = get_or-map-range_with_len width 0 columns t t 0 below (omega arith) in
       let passed : 2 ^ 64 ≤ track_at tracks (length tracks.sizes) = track_passes tracks t (omega (arith, many, below)) (omega (arith, size, drawn, passes)) in
       let some_columns : 0 < columns = omega arith in
-      let total = table_width-is settings width height columns (length rows) there some_columns in
+      let total = table_width-is settings width other columns (length rows) there some_columns in
       let end : track_at tracks (length tracks.sizes) ≡ track_at tracks columns = ap (track_at tracks) many in
-      omega (arith, range.0, total, passed, end)
+      omega (arith, total, passed, end)
 
-  heights_pass : stored.heights ≡ None → (t : ℕ) → 2 ^ 64 ≤ slice_index (table_heights (sizing_of settings) columns rows) t → ¬ (InRange (drawn_frame state))
-  heights_pass none t passes range =
+  pub heights_total : (other : ℕ → ℕ) → stored.heights ≡ None → (t : ℕ) → 2 ^ 64 ≤ slice_index (table_heights (sizing_of settings) columns rows) t → 2 ^ 64 ≤ line_count (sized settings other height columns (length rows))
+  heights_total other none t passes =
       let least : List ℕ = table_heights (sizing_of settings) columns rows in
       let inside : t < length least = inside_of least t passes in
       let some : 0 < length least = omega arith in
@@ -121,9 +122,15 @@ module _ (settings : Settings) (rows : List (List (List ℕ))) (colors : Positio
       let size : get_or tracks.sizes t 0 ≡ height t = get_or-map-range_with_len height 0 (length rows) t t 0 below (omega arith) in
       let passed : 2 ^ 64 ≤ track_at tracks (length tracks.sizes) = track_passes tracks t (omega (arith, many, below)) (omega (arith, size, drawn, passes)) in
       let some_rows : 0 < length rows = omega arith in
-      let total = line_count-is settings width height columns (length rows) some_rows there in
+      let total = line_count-is settings other height columns (length rows) some_rows there in
       let end : track_at tracks (length tracks.sizes) ≡ track_at tracks (length rows) = ap (track_at tracks) many in
-      omega (arith, range.1, total, passed, end)
+      omega (arith, total, passed, end)
+
+  widths_pass : stored.widths ≡ None → (t : ℕ) → 2 ^ 64 ≤ slice_index (table_widths (sizing_of settings) columns rows) t → ¬ (InRange (drawn_frame state))
+  widths_pass none t passes range = omega (arith, range.0, widths_total height none t passes)
+
+  heights_pass : stored.heights ≡ None → (t : ℕ) → 2 ^ 64 ≤ slice_index (table_heights (sizing_of settings) columns rows) t → ¬ (InRange (drawn_frame state))
+  heights_pass none t passes range = omega (arith, range.1, heights_total width none t passes)
 
   -- an estimate is refused where a size passes, and then a total does
   pub estimate_refused : (fault : Fault) → IsRefusal fault (FilledPass (least_sizes (sizing_of settings) columns rows) stored) → (fault ≡ Memory) ⊎ ((fault ≡ Range) × ¬ (InRange (drawn_frame state)))

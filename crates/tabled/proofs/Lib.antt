@@ -4,3 +4,7 @@ pub mod Even
 pub mod Values
 pub mod Fitting
 pub mod Batches
+pub mod Again
+pub mod TotalWidths
+pub mod ShownIn
+pub mod Rowing

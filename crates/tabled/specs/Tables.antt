@@ -3,6 +3,7 @@ use Rattle.std.specs.Prelude.{ℕ, List, None}
 use Rattle.grid_config_values.specs.Settings.{value_at}
 use Rattle.grid_config.specs.Compact.{new_compact}
 use Rattle.grid_config.specs.Looks.{Look, compact_look, look_of}
+use Rattle.grid_config.specs.Settings.{Settings}
 use Rattle.grid_records_traits.specs.Sources.{texts_of_rows}
 use Rattle.tabled_options.specs.Options.{spaced_sides}
 use Rattle.tabled_options.specs.Styles.{ascii_borders}
@@ -13,6 +14,10 @@ use Rattle.tabled.specs.declared.table.Table.{Table}
 -- what a table is, by the texts of its cells
 abbrev pub state_of : {T : Type 0} → (T → List ℕ) → Table T → State
 state_of text table = state_with (texts_of_rows text table.records.rows.items) (look_of table.config.settings) (value_at table.config.colors) table.dimension
+
+-- what it would be under other settings; the colours of its cells stay
+abbrev pub state_under : {T : Type 0} → (T → List ℕ) → Table T → Settings → State
+state_under text table settings = state_with (texts_of_rows text table.records.rows.items) (look_of settings) (value_at table.config.colors) table.dimension
 
 -- what a table looks like at first: lines of ASCII, and a column of spaces at the left and right of each text
 abbrev pub new_look : Look

@@ -27,3 +27,25 @@ fn row_of(alloc: Global, texts: Vec<String>) -> Result<Vec<Text>, AllocError>
     }
     Ok(cells)
 }
+
+/// The texts of these cells. Fails only where allocation fails.
+pub(crate) fn texts_of(alloc: Global, cells: Vec<Vec<Text>>) -> Result<Vec<Vec<String>>, AllocError>
+    ensures { IfOk result (λ rows. text_rows rows.items ≡ texts_of_rows (λ text. text) cells.items) }
+{
+    let mut rows = Vec::with_capacity(alloc, cells.len())?;
+    for row in cells {
+        rows.push(texts_of_row(alloc, row)?)?;
+    }
+    Ok(rows)
+}
+
+// The texts of these cells.
+fn texts_of_row(alloc: Global, cells: Vec<Text>) -> Result<Vec<String>, AllocError>
+    ensures { IfOk result (λ texts. map string_bytes texts.items ≡ map (λ text. text) cells.items) }
+{
+    let mut texts = Vec::with_capacity(alloc, cells.len())?;
+    for cell in cells {
+        texts.push(cell.into_string())?;
+    }
+    Ok(texts)
+}

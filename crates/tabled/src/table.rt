@@ -215,5 +215,8 @@ impl<T: FromText> Table<T> {
     }
 }
 
+mod copying;
 mod printing;
+mod shown;
+mod totals;
 mod writing;

@@ -3,10 +3,10 @@ ghost use Rattle.std.specs.Prelude.{◌≡◌, ◌⊎◌, Err, IfErr, IfOk, Ok, 
 ghost use Rattle.grid_config_values.specs.declared.fault.Fault.TheVariants.{Memory, Range as PassesMax};
 ghost use Rattle.papergrid_picture.specs.Fitting.{InRange};
 ghost use Rattle.tabled.specs.Printing.{IsFit, drawn_frame, drawn_sizes, printed};
-ghost use Rattle.tabled.specs.Tables.{state_of};
+ghost use Rattle.tabled.specs.Tables.{state_of, state_under};
 
 use crate::table::Table;
-use grid_config::Fault;
+use grid_config::{Fault, SpannedConfig};
 use grid_records_estimate::Estimate;
 use grid_records_rows::FromText;
 use papergrid::{PeekableGrid, fits};
@@ -21,7 +21,7 @@ impl<T: FromText> Table<T> {
         ensures fits { OnOk result (IsFit (state_of T.text self.now) (Ok tt)) }
         ensures refused { IfErr result (λ fault. (fault ≡ Memory) ⊎ IsFit (state_of T.text self.now) (Err fault)) }
     {
-        self.fitting_sizes()?;
+        self.fitting_sizes(self.config.spanned())?;
         Ok(())
     }
 
@@ -31,38 +31,42 @@ impl<T: FromText> Table<T> {
         ensures fits { OnOk result (IsFit (state_of T.text self.now) (Ok tt)) }
         ensures refused { IfErr result (λ fault. (fault ≡ Memory) ⊎ IsFit (state_of T.text self.now) (Err fault)) }
     {
-        let sizes = self.fitting_sizes()?;
-        PeekableGrid::new(
-            &self.records,
-            self.config.spanned(),
-            sizes,
-            self.config.get_colors(),
-        )
-        .to_string(self.alloc)
+        self.text_under(self.config.spanned())
     }
 
-    // The sizes that are drawn, where the table fits them.
-    fn fitting_sizes(&self) -> Result<CompleteDimension, Fault>
-        ensures sizes { IfOk result (λ sizes. sizes ≡ drawn_sizes (state_of T.text self.now)) }
-        ensures fits { OnOk result (IsFit (state_of T.text self.now) (Ok tt)) }
-        ensures refused { IfErr result (λ fault. (fault ≡ Memory) ⊎ IsFit (state_of T.text self.now) (Err fault)) }
+    // Its text under these settings in place of its own; the colours of its cells stay.
+    pub(crate) fn text_under(&self, config: &SpannedConfig) -> Result<String, Fault>
+        ensures text { IfOk result (λ text. string_bytes text ≡ printed (state_under T.text self.now config.now)) }
+        ensures fits { OnOk result (IsFit (state_under T.text self.now config.now) (Ok tt)) }
+        ensures refused { IfErr result (λ fault. (fault ≡ Memory) ⊎ IsFit (state_under T.text self.now config.now) (Err fault)) }
     {
-        let config = self.config.spanned();
+        let sizes = self.fitting_sizes(config)?;
+        PeekableGrid::new(&self.records, config, sizes, self.config.get_colors()).to_string(
+            self.alloc,
+        )
+    }
+
+    // The sizes that are drawn under these settings, where the table fits them.
+    fn fitting_sizes(&self, config: &SpannedConfig) -> Result<CompleteDimension, Fault>
+        ensures sizes { IfOk result (λ sizes. sizes ≡ drawn_sizes (state_under T.text self.now config.now)) }
+        ensures fits { OnOk result (IsFit (state_under T.text self.now config.now) (Ok tt)) }
+        ensures refused { IfErr result (λ fault. (fault ≡ Memory) ⊎ IsFit (state_under T.text self.now config.now) (Err fault)) }
+    {
         if !config.spans_are_good(self.count_rows(), self.count_columns()) {
             return Err(Fault::Spans);
         }
-        let sizes = self.drawn_sizes()?;
+        let sizes = self.drawn_sizes(config)?;
         fits(&self.records, config, &sizes)?;
         Ok(sizes)
     }
 
     // The sizes that are kept, and the least in place of the others.
-    fn drawn_sizes(&self) -> Result<CompleteDimension, Fault>
-        ensures sizes { IfOk result (λ sizes. sizes ≡ drawn_sizes (state_of T.text self.now)) }
-        ensures refused { IfErr result (λ fault. (fault ≡ Memory) ⊎ ((fault ≡ PassesMax) × ¬ (InRange (drawn_frame (state_of T.text self.now))))) }
+    fn drawn_sizes(&self, config: &SpannedConfig) -> Result<CompleteDimension, Fault>
+        ensures sizes { IfOk result (λ sizes. sizes ≡ drawn_sizes (state_under T.text self.now config.now)) }
+        ensures refused { IfErr result (λ fault. (fault ≡ Memory) ⊎ ((fault ≡ PassesMax) × ¬ (InRange (drawn_frame (state_under T.text self.now config.now))))) }
     {
         let mut sizes = self.dimension.clone(self.alloc)?;
-        sizes.estimate(self.alloc, &self.records, self.config.spanned())?;
+        sizes.estimate(self.alloc, &self.records, config)?;
         Ok(sizes)
     }
 }

@@ -1,4 +1,4 @@
-use Rattle.std.proofs.Common.{◌≡◌, true, inr, sym, Ok, Err, arith, length}
+use Rattle.std.proofs.Common.{◌≡◌, refl, true, inr, sym, Ok, Err, arith, length}
 use Rattle.std.proofs.lemmas.Result.{err_from_is_err_and}
 use Rattle.grid_config_values.specs.Settings.{value_at}
 use Rattle.grid_records_rows.specs.Sources.{columns_of}
@@ -11,31 +11,35 @@ use Rattle.tabled.proofs.table.Table.fitting_sizes.Goals as goal
 pub returns-then-not-spans_are_good-clause-refused : goal.returns-then-not-spans_are_good-clause-refused
 returns-then-not-spans_are_good-clause-refused g c =
     let table = c.args.self.now in
+    let config = c.args.config.now in
     let texts = texts_of_rows g.T.Cell.text table.records.rows.items in
-    let told = spans_told table.config.settings texts (value_at table.config.colors) table.dimension c.spanned-config.result.now c.count_columns.result c.spanned-config.ensures c.count_columns.ensures c.spans_are_good.result c.count_rows.result c.count_rows.ensures c.spans_are_good.ensures.good in
-    inr (λ good. let shown : c.spans_are_good.result ≡ true = told.1 (by_spans table.config.settings.spans (length texts) (column_count texts) good) in grind (arith, shown, c.if-not-spans_are_good.true))
+    let told = spans_told config texts (value_at table.config.colors) table.dimension config c.count_columns.result refl c.count_columns.ensures c.spans_are_good.result c.count_rows.result c.count_rows.ensures c.spans_are_good.ensures.good in
+    inr (λ good. let shown : c.spans_are_good.result ≡ true = told.1 (by_spans config.spans (length texts) (column_count texts) good) in grind (arith, shown, c.if-not-spans_are_good.true))
 
 pub returns-in_err-sizes-clause-refused : goal.returns-in_err-sizes-clause-refused
 returns-in_err-sizes-clause-refused g c =
     let table = c.args.self.now in
+    let config = c.args.config.now in
     let texts = texts_of_rows g.T.Cell.text table.records.rows.items in
-    let told = spans_told table.config.settings texts (value_at table.config.colors) table.dimension c.spanned-config.result.now c.count_columns.result c.spanned-config.ensures c.count_columns.ensures c.spans_are_good.result c.count_rows.result c.count_rows.ensures c.spans_are_good.ensures.good in
+    let told = spans_told config texts (value_at table.config.colors) table.dimension config c.count_columns.result refl c.count_columns.ensures c.spans_are_good.result c.count_rows.result c.count_rows.ensures c.spans_are_good.ensures.good in
     let shown : c.spans_are_good.result ≡ true = grind (arith, c.if-not-spans_are_good.false) in
     let p = err_from_is_err_and c.from_residual.result c.from_residual.ensures.1 in
-    rw (p.1, p.2) (refused_unfit table.config.settings texts (value_at table.config.colors) table.dimension c.in_err-sizes.field-0.0 (told.0 shown) c.in_err-sizes.ensures.refused)
+    rw (p.1, p.2) (refused_unfit config texts (value_at table.config.colors) table.dimension c.in_err-sizes.field-0.0 (told.0 shown) c.in_err-sizes.ensures.refused)
 
 pub returns-in_err-fits-clause-refused : goal.returns-in_err-fits-clause-refused
 returns-in_err-fits-clause-refused g c =
     let table = c.args.self.now in
+    let config = c.args.config.now in
     let rows = table.records.rows.items in
     let p = err_from_is_err_and c.from_residual-in_err-fits.result c.from_residual-in_err-fits.ensures.1 in
     rw (p.1, p.2)
-    (inr (is_fit table.config.settings (texts_of_rows g.T.Cell.text rows) (value_at table.config.colors) table.dimension c.spanned-config.result.now c.in_ok-sizes.sizes (columns_of rows)
-    c.spanned-config.ensures c.in_ok-sizes.ensures.sizes (sym (count_texts g.T.Cell.text rows)) (Err c.in_err-fits.field-0.0) c.in_err-fits.ensures))
+    (inr (is_fit config (texts_of_rows g.T.Cell.text rows) (value_at table.config.colors) table.dimension config c.in_ok-sizes.sizes (columns_of rows)
+    refl c.in_ok-sizes.ensures.sizes (sym (count_texts g.T.Cell.text rows)) (Err c.in_err-fits.field-0.0) c.in_err-fits.ensures))
 
 pub returns-clause-fits : goal.returns-clause-fits
 returns-clause-fits g c =
     let table = c.args.self.now in
+    let config = c.args.config.now in
     let rows = table.records.rows.items in
-    is_fit table.config.settings (texts_of_rows g.T.Cell.text rows) (value_at table.config.colors) table.dimension c.spanned-config.result.now c.in_ok-sizes.sizes (columns_of rows)
-    c.spanned-config.ensures c.in_ok-sizes.ensures.sizes (sym (count_texts g.T.Cell.text rows)) (Ok c.in_ok-fits.field-0) c.in_ok-fits.ensures
+    is_fit config (texts_of_rows g.T.Cell.text rows) (value_at table.config.colors) table.dimension config c.in_ok-sizes.sizes (columns_of rows)
+    refl c.in_ok-sizes.ensures.sizes (sym (count_texts g.T.Cell.text rows)) (Ok c.in_ok-fits.field-0) c.in_ok-fits.ensures

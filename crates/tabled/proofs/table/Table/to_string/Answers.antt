@@ -1,33 +1,19 @@
-use Rattle.std.proofs.Common.{◌≡◌, sym, ◌∙◌}
-use Rattle.std.proofs.lemmas.Result.{IfOk-weaker}
-use Rattle.grid_config_values.specs.Settings.{value_at}
-use Rattle.grid_config.specs.Looks.{look_of}
-use Rattle.grid_records_rows.specs.Sources.{columns_of}
-use Rattle.grid_records_traits.specs.Sources.{texts_of_rows}
-use Rattle.papergrid.specs.Grids.{grid_text}
-use Rattle.tabled_size_dimension.specs.Sizes.{size_at}
-use Rattle.tabled_size_dimension.specs.Stored.{stored_sizes}
-use Rattle.tabled_steps.proofs.Changing.{count_texts}
-use Rattle.tabled.specs.Printing.{printed}
-use Rattle.tabled.specs.Tables.{state_of}
-use Rattle.tabled.proofs.Fitting.{fits_given, is_printed}
+use Rattle.std.proofs.Common.{◌≡◌, ◌⊎◌, Err, Ok, subst}
+use Rattle.std.specs.Prelude.{IfErr, IfOk, OnOk, string_bytes}
+use Rattle.grid_config.specs.Settings.{Settings}
+use Rattle.grid_config_values.specs.declared.fault.Fault.TheVariants.{Memory}
+use Rattle.tabled.specs.Printing.{IsFit, printed}
+use Rattle.tabled.specs.Tables.{state_under}
 use Rattle.tabled.proofs.table.Table.to_string.Goals as goal
-
-pub to_string-requires : goal.to_string-requires
-to_string-requires g c =
-    let table = c.args.self.now in
-    let rows = table.records.rows.items in
-    rw c.new.ensures
-    (fits_given table.config.settings (texts_of_rows g.T.Cell.text rows) (value_at table.config.colors) table.dimension c.spanned.result.now c.in_ok-sizes.sizes (columns_of rows)
-    c.spanned.ensures c.in_ok-sizes.ensures.sizes (sym (count_texts g.T.Cell.text rows)) c.in_ok-sizes.ensures.fits)
 
 pub returns-clause-text : goal.returns-clause-text
 returns-clause-text g c =
-    let table = c.args.self.now in
-    let rows = table.records.rows.items in
-    let same : grid_text (look_of c.new.result.settings.now) (size_at (stored_sizes c.new.result.sizes.widths)) (size_at (stored_sizes c.new.result.sizes.heights)) (value_at c.new.result.colors.now)
-    (columns_of c.new.result.records.now.rows.items) (texts_of_rows g.T.Cell.text c.new.result.records.now.rows.items) ≡ printed (state_of g.T.Cell.text table) =
-    rw (c.new.ensures, c.get_colors.ensures)
-    (is_printed table.config.settings (texts_of_rows g.T.Cell.text rows) (value_at table.config.colors) table.dimension c.spanned.result.now c.in_ok-sizes.sizes (columns_of rows)
-    c.spanned.ensures c.in_ok-sizes.ensures.sizes (sym (count_texts g.T.Cell.text rows))) in
-    IfOk-weaker c.to_string-2.result _ _ (λ text e. e ∙ same) c.to_string-2.ensures.text
+    subst (λ (settings : Settings). IfOk c.text_under.result (λ text. string_bytes text ≡ printed (state_under g.T.Cell.text c.args.self.now settings))) c.spanned.ensures c.text_under.ensures.text
+
+pub returns-clause-fits : goal.returns-clause-fits
+returns-clause-fits g c =
+    subst (λ (settings : Settings). OnOk c.text_under.result (IsFit (state_under g.T.Cell.text c.args.self.now settings) (Ok tt))) c.spanned.ensures c.text_under.ensures.fits
+
+pub returns-clause-refused : goal.returns-clause-refused
+returns-clause-refused g c =
+    subst (λ (settings : Settings). IfErr c.text_under.result (λ fault. (fault ≡ Memory) ⊎ IsFit (state_under g.T.Cell.text c.args.self.now settings) (Err fault))) c.spanned.ensures c.text_under.ensures.refused

@@ -1,0 +1,31 @@
+use Rattle.std.proofs.Common.{◌≡◌, ◌<◌, ◌≤◌, ◌^◌, ap, arith, inr, refl, sym, subst, ◌∙◌, length}
+use Rattle.std.proofs.lemmas.Bool.Decides.{nat_tests}
+use Rattle.std.proofs.lemmas.Result.{err_from_is_err_and}
+use Rattle.grid_config_values.specs.Settings.{value_at}
+use Rattle.grid_records_traits.specs.Sources.{texts_of_rows}
+use Rattle.tabled_steps.specs.States.{column_count}
+use Rattle.tabled.proofs.TotalWidths.{no_width, none_total, some_cells, some_total, width_here}
+use Rattle.tabled.proofs.table.Table.total_width.Goals as goal
+
+pub returns-then-is_empty-clause-total : goal.returns-then-is_empty-clause-total
+returns-then-is_empty-clause-total g c =
+    let table = c.args.self.now in
+    sym (no_width table.config.settings (texts_of_rows g.T.Cell.text table.records.rows.items) (value_at table.config.colors) table.dimension (sym c.is_empty.ensures ∙ c.if-is_empty.true))
+
+pub returns-in-Some-clause-total : goal.returns-in-Some-clause-total
+returns-in-Some-clause-total g c =
+    let table = c.args.self.now in
+    let texts = texts_of_rows g.T.Cell.text table.records.rows.items in
+    let cells = some_cells (length texts) (column_count texts) (sym c.is_empty.ensures ∙ c.if-is_empty.false) in
+    some_total _ _ c.total_width.result c.in-Some.total c.in-Some.is c.total_width.ensures
+    ∙ width_here table.config.settings texts (value_at table.config.colors) table.dimension c.spanned.result.now c.count_columns.result c.spanned.ensures c.count_columns.ensures c.in_ok-sizes.sizes.widths c.in_ok-sizes.ensures.widths cells.0
+    (omega (arith, cells.1, c.count_columns.ensures))
+
+pub returns-clause-refused : goal.returns-clause-refused
+returns-clause-refused g c =
+    let table = c.args.self.now in
+    let texts = texts_of_rows g.T.Cell.text table.records.rows.items in
+    let cells = some_cells (length texts) (column_count texts) (sym c.is_empty.ensures ∙ c.if-is_empty.false) in
+    let total = width_here table.config.settings texts (value_at table.config.colors) table.dimension c.spanned.result.now c.count_columns.result c.spanned.ensures c.count_columns.ensures c.in_ok-sizes.sizes.widths c.in_ok-sizes.ensures.widths cells.0
+    (omega (arith, cells.1, c.count_columns.ensures)) in
+    inr (refl, omega (arith, total, none_total _ c.total_width.result c.in-None.is c.total_width.ensures))

@@ -1,0 +1,71 @@
+//! How much a table takes as a whole.
+ghost use Rattle.std.specs.Prelude.{◌≡◌, ◌≤◌, ◌^◌, IfErr, IfOk};
+ghost use Rattle.grid_records_estimate.specs.Sizes.{IsRefusal};
+ghost use Rattle.tabled.specs.Printing.{drawn_sizes};
+ghost use Rattle.tabled.specs.Tables.{state_of};
+ghost use Rattle.tabled.specs.Totals.{drawn_height, drawn_width};
+
+use crate::table::Table;
+use grid_config::Fault;
+use grid_records_estimate::Estimate;
+use grid_records_rows::FromText;
+use papergrid_fits::{total_height, total_width};
+use tabled_size_dimension::CompleteDimension;
+
+impl<T: FromText> Table<T> {
+    /// How many columns a line of the table takes, in the widths that it keeps and else in the least, margins
+    /// too; 0 without rows or columns. Refused as `Range` where that passes `usize::MAX`, and for memory.
+    pub fn total_width(&self) -> Result<usize, Fault>
+        ensures total { IfOk result (λ total. total ≡ drawn_width (state_of T.text self.now)) }
+        ensures refused { IfErr result (λ fault. IsRefusal fault (2 ^ 64 ≤ drawn_width (state_of T.text self.now))) }
+    {
+        if self.is_empty() {
+            return Ok(0);
+        }
+        let sizes = self.sized_widths()?;
+        match total_width(self.config.spanned(), &sizes, self.count_columns()) {
+            Some(total) => Ok(total),
+            None => Err(Fault::Range),
+        }
+    }
+
+    /// How many lines the table takes, in the heights that it keeps and else in the least, margins too; 0
+    /// without rows or columns. Refused as `Range` where that passes `usize::MAX`, and for memory.
+    pub fn total_height(&self) -> Result<usize, Fault>
+        ensures total { IfOk result (λ total. total ≡ drawn_height (state_of T.text self.now)) }
+        ensures refused { IfErr result (λ fault. IsRefusal fault (2 ^ 64 ≤ drawn_height (state_of T.text self.now))) }
+    {
+        if self.is_empty() {
+            return Ok(0);
+        }
+        let sizes = self.sized_heights()?;
+        match total_height(self.config.spanned(), &sizes, self.count_rows()) {
+            Some(total) => Ok(total),
+            None => Err(Fault::Range),
+        }
+    }
+
+    // The widths that are kept, and else the least; no heights.
+    fn sized_widths(&self) -> Result<CompleteDimension, Fault>
+        ensures widths { IfOk result (λ sizes. sizes.widths ≡ (drawn_sizes (state_of T.text self.now)).widths) }
+        ensures refused { IfErr result (λ fault. IsRefusal fault (2 ^ 64 ≤ drawn_width (state_of T.text self.now))) }
+    {
+        let mut sizes = self.dimension.clone(self.alloc)?;
+        // what is set is not estimated, so that no height refuses
+        sizes.set_heights(Vec::new(self.alloc));
+        sizes.estimate(self.alloc, &self.records, self.config.spanned())?;
+        Ok(sizes)
+    }
+
+    // The heights that are kept, and else the least; no widths.
+    fn sized_heights(&self) -> Result<CompleteDimension, Fault>
+        ensures heights { IfOk result (λ sizes. sizes.heights ≡ (drawn_sizes (state_of T.text self.now)).heights) }
+        ensures refused { IfErr result (λ fault. IsRefusal fault (2 ^ 64 ≤ drawn_height (state_of T.text self.now))) }
+    {
+        let mut sizes = self.dimension.clone(self.alloc)?;
+        // what is set is not estimated, so that no width refuses
+        sizes.set_widths(Vec::new(self.alloc));
+        sizes.estimate(self.alloc, &self.records, self.config.spanned())?;
+        Ok(sizes)
+    }
+}
