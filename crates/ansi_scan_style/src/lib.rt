@@ -6,7 +6,6 @@ mod color;
 mod flags;
 pub mod laws;
 mod next;
-mod packed;
 mod parameters;
 mod sequences;
 mod style;
