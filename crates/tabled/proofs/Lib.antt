@@ -4,6 +4,7 @@ pub mod Even
 pub mod Values
 pub mod Fitting
 pub mod Batches
+pub mod Naming
 pub mod Again
 pub mod TotalWidths
 pub mod ShownIn

@@ -7,6 +7,7 @@ ghost use Rattle.tabled.specs.Tables.{new_state, state_of};
 ghost use Rattle.tabled_text.specs.Fields.{texts_of};
 ghost use Rattle.tabled_text.specs.Rows.{text_rows};
 
+mod named;
 mod of_texts;
 
 use crate::cells::cells_of;
