@@ -1,0 +1,5 @@
+pub mod Weaker
+pub mod Adjusting
+pub mod Choosing
+pub mod Running
+pub mod Naming

@@ -1,0 +1,5 @@
+pub mod Amounts
+pub mod Looks
+pub mod Priorities
+pub mod Settings
+pub mod Lists
