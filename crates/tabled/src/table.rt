@@ -216,6 +216,7 @@ impl<T: FromText> Table<T> {
 }
 
 mod copying;
+mod list;
 mod printing;
 mod shown;
 mod totals;
