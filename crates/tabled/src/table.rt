@@ -215,5 +215,6 @@ impl<T: FromText> Table<T> {
     }
 }
 
+mod list;
 mod printing;
 mod writing;

@@ -1,0 +1,43 @@
+//! A table after a list of settings.
+ghost use Rattle.std.specs.Prelude.{IfErr, OnOk};
+ghost use Rattle.tabled.specs.Tables.{state_of};
+ghost use Rattle.tabled_list.specs.Lists.{RefusedAt, Runs};
+
+use crate::table::Table;
+use grid_config::{ColoredConfig, Entity, Fault};
+use grid_records_rows::{FromText, VecRecords};
+use tabled_list::{Adjustable, Setting, apply_list};
+use tabled_size_dimension::CompleteDimension;
+use tabled_steps::{CellOption, TableOption};
+
+impl<T: FromText> Table<T> {
+    /// Changes the table by the settings, one after the other, up to the first that is refused: that one
+    /// changes nothing, and those before it stand. Returns its index and why it is refused, which may be
+    /// for memory.
+    pub fn with_list(&mut self, settings: &[Setting]) -> Result<(), (usize, Fault)>
+        ensures run { OnOk result (Runs settings.now (state_of T.text self.old) (state_of T.text self.new)) }
+        ensures refused { IfErr result (λ refusal. RefusedAt settings.now (state_of T.text self.old) (state_of T.text self.new) refusal.0 refusal.1) }
+    {
+        apply_list(self.alloc, self, settings)
+    }
+}
+
+/// Each option changes the table as `set` and `set_cells` do.
+impl<T: FromText> Adjustable<T> for Table<T> {
+    ghost state = { state_of T.text };
+
+    fn adjust<O: TableOption<VecRecords<T>, ColoredConfig, CompleteDimension>>(
+        &mut self,
+        option: O,
+    ) -> Result<(), Fault> {
+        self.set(option)
+    }
+
+    fn adjust_cells<O: CellOption<VecRecords<T>, ColoredConfig>>(
+        &mut self,
+        target: Entity,
+        option: &O,
+    ) -> Result<(), Fault> {
+        self.set_cells(target, option)
+    }
+}

@@ -1,0 +1,3 @@
+pub mod Adjusting
+pub mod Choosing
+pub mod Running

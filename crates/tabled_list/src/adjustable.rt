@@ -1,0 +1,29 @@
+//! Tables that settings change.
+ghost use Rattle.tabled_steps.specs.States.{Settles, State, Steps};
+
+use grid_config::{ColoredConfig, Entity, Fault};
+use grid_records_rows::{FromText, VecRecords};
+use tabled_size_dimension::CompleteDimension;
+use tabled_steps::{CellOption, TableOption};
+
+/// A table, as a list of settings changes it: by one option after the other.
+pub trait Adjustable<T: FromText> {
+    /// What the table is.
+    ghost state: { Self → State };
+
+    /// Changes the table by an option: one step, and after it the sizes that it leaves as they are stay
+    /// kept, and no others. Refused as the step is, and for memory, and then nothing has changed.
+    fn adjust<O: TableOption<VecRecords<T>, ColoredConfig, CompleteDimension>>(
+        &mut self,
+        option: O,
+    ) -> Result<(), Fault>
+        ensures { Steps (Settles (O.hint option) (O.step option)) result (state self.old) (state self.new) };
+
+    /// Changes the cells of the target by an option, as `adjust` does the table.
+    fn adjust_cells<O: CellOption<VecRecords<T>, ColoredConfig>>(
+        &mut self,
+        target: Entity,
+        option: &O,
+    ) -> Result<(), Fault>
+        ensures { Steps (Settles (O.hint option.now) (O.step option.now target)) result (state self.old) (state self.new) };
+}

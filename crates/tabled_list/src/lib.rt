@@ -1,0 +1,16 @@
+//! Lists of settings: each setting is one option of a table, or one setter of its configuration, with its
+//! values.
+#![tactic(auto)]
+
+mod adjustable;
+mod amount;
+mod by_choice;
+mod cells;
+mod list;
+mod setting;
+mod whole;
+
+pub use adjustable::Adjustable;
+pub use amount::Amount;
+pub use list::apply_list;
+pub use setting::Setting;

@@ -1,0 +1,210 @@
+//! One setting of a table.
+ghost use Rattle.std.specs.Prelude.{◌≡◌, IfErr, IfOk};
+ghost use Rattle.grid_config_values.specs.declared.fault.Fault.TheVariants.{Memory};
+ghost use Rattle.tabled_list.specs.Settings.{setting_step};
+ghost use Rattle.tabled_steps.specs.States.{Steps};
+
+use crate::adjustable::Adjustable;
+use crate::amount::Amount;
+use crate::by_choice::{TextCutting, by_choice, cutting};
+use crate::cells::CellSetting;
+use crate::whole::{Bordered, ColumnsAt, RowsAt};
+use grid_config::{
+    AlignmentHorizontal, AlignmentVertical, Borders, Entity, Fault, Indent, Position, Sides,
+};
+use grid_records_rows::FromText;
+use std::alloc::Global;
+use tabled_height::{
+    CellHeightIncrease, CellHeightLimit, HeightList, TableHeightIncrease, TableHeightLimit,
+};
+use tabled_options::{Margin, Padding};
+use tabled_size_dimension::SuffixLimit;
+use tabled_size_priority::Choice;
+use tabled_width::{Justify, MinWidth, WidthList, Wrap};
+
+/// One setting of a table: the option, or the setter of the configuration, of its name with these values.
+/// `at` names the cells; widths are in columns and heights in lines.
+#[derive(Debug, Drop)]
+pub enum Setting {
+    /// `Wrap` on the table.
+    Wrap {
+        width: Amount,
+        keep_words: bool,
+        priority: Choice,
+    },
+    /// `Wrap` on cells.
+    CellWrap {
+        at: Entity,
+        width: Amount,
+        keep_words: bool,
+    },
+    /// `Truncate` on the table.
+    Truncate {
+        width: Amount,
+        suffix: String,
+        limit: SuffixLimit,
+        multiline: bool,
+        try_color: bool,
+        priority: Choice,
+    },
+    /// `Truncate` on cells.
+    CellTruncate {
+        at: Entity,
+        width: Amount,
+        suffix: String,
+        limit: SuffixLimit,
+        multiline: bool,
+        try_color: bool,
+    },
+    /// `MinWidth` on the table.
+    MinWidth { width: Amount, priority: Choice },
+    /// `MinWidth` on cells.
+    CellMinWidth {
+        at: Entity,
+        width: Amount,
+        fill: char,
+    },
+    /// `Justify`.
+    Justify { width: Amount },
+    /// `WidthList`.
+    WidthList(Vec<usize>),
+    /// `HeightList`.
+    HeightList(Vec<usize>),
+    /// `TableHeightIncrease`.
+    HeightIncrease { height: Amount, priority: Choice },
+    /// `TableHeightLimit`.
+    HeightLimit { height: Amount, priority: Choice },
+    /// `CellHeightIncrease` on cells.
+    CellHeightIncrease { at: Entity, height: Amount },
+    /// `CellHeightLimit` on cells.
+    CellHeightLimit { at: Entity, height: Amount },
+    /// `set_column_span`: how many columns the cell at this place takes.
+    ColumnSpan(Position, usize),
+    /// `set_row_span`: how many rows the cell at this place takes.
+    RowSpan(Position, usize),
+    /// `set_alignment_horizontal`.
+    AlignHorizontal(Entity, AlignmentHorizontal),
+    /// `set_alignment_vertical`.
+    AlignVertical(Entity, AlignmentVertical),
+    /// `set_line_alignment`.
+    LineAlignment(Entity, bool),
+    /// `set_trim_horizontal`.
+    TrimHorizontal(Entity, bool),
+    /// `set_trim_vertical`.
+    TrimVertical(Entity, bool),
+    /// `set_justification`.
+    Justification(Entity, char),
+    /// `set_padding`.
+    Padding(Entity, Sides<Indent>),
+    /// `set_margin`.
+    Margin(Sides<Indent>),
+    /// `set_borders`.
+    Borders(Borders<char>),
+}
+
+impl Setting {
+    /// Changes the table by this setting: one step, and after it the sizes that it leaves as they are stay
+    /// kept, and no others. Refused as the option or the setter of its name is, and for memory, and then
+    /// nothing has changed.
+    pub fn apply<T: FromText, S: Adjustable<T>>(
+        &self,
+        alloc: Global,
+        table: &mut S,
+    ) -> Result<(), Fault>
+        ensures { Steps (setting_step self.now) result (S.state table.old) (S.state table.new) }
+    {
+        match self {
+            Setting::Wrap {
+                width,
+                keep_words,
+                priority,
+            } => by_choice(table, Wrap::new(*width).keep_words(*keep_words), *priority),
+            Setting::CellWrap {
+                at,
+                width,
+                keep_words,
+            } => table.adjust_cells(*at, &Wrap::new(*width).keep_words(*keep_words)),
+            Setting::Truncate {
+                width,
+                suffix,
+                limit,
+                multiline,
+                try_color,
+                priority,
+            } => by_choice(
+                table,
+                TextCutting {
+                    width: *width,
+                    suffix: suffix.as_str(),
+                    limit: *limit,
+                    multiline: *multiline,
+                    try_color: *try_color,
+                },
+                *priority,
+            ),
+            Setting::CellTruncate {
+                at,
+                width,
+                suffix,
+                limit,
+                multiline,
+                try_color,
+            } => table.adjust_cells(
+                *at,
+                &cutting(*width, suffix, *limit, *multiline, *try_color),
+            ),
+            Setting::MinWidth { width, priority } => {
+                by_choice(table, MinWidth::new(*width), *priority)
+            }
+            Setting::CellMinWidth { at, width, fill } => {
+                table.adjust_cells(*at, &MinWidth::new(*width).fill_with(*fill))
+            }
+            Setting::Justify { width } => table.adjust(Justify::new(*width)),
+            Setting::WidthList(list) => table.adjust(WidthList::new(copied(alloc, list)?)),
+            Setting::HeightList(list) => table.adjust(HeightList::new(copied(alloc, list)?)),
+            Setting::HeightIncrease { height, priority } => {
+                by_choice(table, TableHeightIncrease::new(*height), *priority)
+            }
+            Setting::HeightLimit { height, priority } => {
+                by_choice(table, TableHeightLimit::new(*height), *priority)
+            }
+            Setting::CellHeightIncrease { at, height } => {
+                table.adjust_cells(*at, &CellHeightIncrease::new(*height))
+            }
+            Setting::CellHeightLimit { at, height } => {
+                table.adjust_cells(*at, &CellHeightLimit::new(*height))
+            }
+            Setting::ColumnSpan(pos, n) => table.adjust(ColumnsAt { pos: *pos, size: *n }),
+            Setting::RowSpan(pos, n) => table.adjust(RowsAt { pos: *pos, size: *n }),
+            Setting::AlignHorizontal(at, value) => {
+                table.adjust_cells(*at, &CellSetting::AlignHorizontal(*value))
+            }
+            Setting::AlignVertical(at, value) => {
+                table.adjust_cells(*at, &CellSetting::AlignVertical(*value))
+            }
+            Setting::LineAlignment(at, on) => {
+                table.adjust_cells(*at, &CellSetting::LineAlignment(*on))
+            }
+            Setting::TrimHorizontal(at, on) => {
+                table.adjust_cells(*at, &CellSetting::TrimHorizontal(*on))
+            }
+            Setting::TrimVertical(at, on) => {
+                table.adjust_cells(*at, &CellSetting::TrimVertical(*on))
+            }
+            Setting::Justification(at, fill) => {
+                table.adjust_cells(*at, &CellSetting::Justification(*fill))
+            }
+            Setting::Padding(at, sides) => table.adjust_cells(*at, &Padding::from(*sides)),
+            Setting::Margin(sides) => table.adjust(Margin::from(*sides)),
+            Setting::Borders(borders) => table.adjust(Bordered { borders: *borders }),
+        }
+    }
+}
+
+// The same sizes. Fails only where allocation fails.
+fn copied(alloc: Global, list: &[usize]) -> Result<Vec<usize>, Fault>
+    ensures items { IfOk result (λ copy. copy.items ≡ list.now) }
+    ensures fault { IfErr result (λ fault. fault ≡ Memory) }
+{
+    Ok(Vec::from_slice(alloc, list)?)
+}
