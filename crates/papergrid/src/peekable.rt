@@ -2,7 +2,8 @@
 use crate::sizes::{heights, widths};
 use grid_config::{Fault, SpannedConfig};
 use grid_records_traits::{Dimension, ExactRecords, PeekableRecords};
-use papergrid_print::{Colors, print_table};
+use papergrid_fits::total_height;
+use papergrid_print::{Colors, print_line, print_table};
 use std::alloc::{AllocError, Global};
 use std::marker::Model;
 
@@ -50,11 +51,12 @@ impl<'a, R: ExactRecords + PeekableRecords, D: Dimension, C: Colors> PeekableGri
     D,
     C,
 > {
-    ghost use Rattle.std.specs.Prelude.{◌≡◌, ◌++◌, IfErr, IfOk, OnErr, OnOk, length, string_bytes};
+    ghost use Rattle.std.specs.Prelude.{◌≡◌, ◌<◌, ◌++◌, IfErr, IfOk, OnErr, OnOk, length, string_bytes};
     ghost use Rattle.grid_config_values.specs.declared.fault.Fault.TheVariants.{Memory};
     ghost use Rattle.grid_config.specs.Looks.{look_of};
-    ghost use Rattle.papergrid_fits.specs.Tables.{Fits};
-    ghost use Rattle.papergrid.specs.Grids.{grid_text};
+    ghost use Rattle.papergrid_picture.specs.Frame.{line_count};
+    ghost use Rattle.papergrid_fits.specs.Tables.{Fits, table_frame};
+    ghost use Rattle.papergrid.specs.Grids.{grid_text, grid_text_line};
 
     /// Appends the text of the grid, on condition that `fits` answers that the table fits its sizes: its
     /// lines, a line feed between each two. Fails only where allocation fails, and then the text is as it was.
@@ -89,5 +91,46 @@ impl<'a, R: ExactRecords + PeekableRecords, D: Dimension, C: Colors> PeekableGri
         let mut text = String::new(alloc);
         self.build(alloc, &mut text)?;
         Ok(text)
+    }
+
+    /// How many lines the text of the grid has, on condition that `fits` answers that the table fits its
+    /// sizes: none without rows or columns. Does not allocate.
+    pub fn lines(&self) -> usize
+        requires { Fits self.now.settings.now (D.width self.now.sizes) (D.height self.now.sizes) (R.columns self.now.records) (R.rows self.now.records) }
+        ensures { result ≡ line_count (table_frame self.now.settings.now (D.width self.now.sizes) (D.height self.now.sizes) (R.columns self.now.records) (R.rows self.now.records)) }
+    {
+        let rows = self.records.count_rows();
+        if rows == 0 {
+            return 0;
+        }
+        if self.records.count_columns() == 0 {
+            return 0;
+        }
+        total_height(self.config, &self.dimension, rows).unwrap_or(0)
+    }
+
+    /// Appends line `y` of that text, without a line feed, on the same condition and where there is such a
+    /// line. Fails only where allocation fails, and then the text is as it was.
+    pub fn build_line(&self, alloc: Global, y: usize, out: &mut String) -> Result<(), Fault>
+        requires fits { Fits self.now.settings.now (D.width self.now.sizes) (D.height self.now.sizes) (R.columns self.now.records) (R.rows self.now.records) }
+        requires line { y < line_count (table_frame self.now.settings.now (D.width self.now.sizes) (D.height self.now.sizes) (R.columns self.now.records) (R.rows self.now.records)) }
+        ensures text { OnOk result (string_bytes out.new ≡ string_bytes out.old
+            ++ grid_text_line (look_of self.now.settings.now) (D.width self.now.sizes) (D.height self.now.sizes) (C.color self.now.colors) (R.columns self.now.records) (R.rows self.now.records) y) }
+        ensures refused { OnErr result (string_bytes out.new ≡ string_bytes out.old) }
+        ensures fault { IfErr result (λ fault. fault ≡ Memory) }
+    {
+        let widths = widths(alloc, &self.dimension, self.records.count_columns())?;
+        let heights = heights(alloc, &self.dimension, self.records.count_rows())?;
+        print_line(
+            alloc,
+            &self.records,
+            self.config,
+            &self.colors,
+            &widths,
+            &heights,
+            y,
+            out,
+        )?;
+        Ok(())
     }
 }

@@ -7,3 +7,4 @@ mod room;
 mod totals;
 
 pub use fitting::{fits, fits_counted};
+pub use totals::{total_height, total_width};

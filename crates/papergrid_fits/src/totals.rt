@@ -8,11 +8,7 @@ use grid_records_traits::Dimension;
 
 /// How many columns a line of a table of so many columns takes, margins too: `None` where they pass
 /// `usize::MAX`.
-pub(crate) fn total_width<D: Dimension>(
-    cfg: &SpannedConfig,
-    dims: &D,
-    columns: usize,
-) -> Option<usize>
+pub fn total_width<D: Dimension>(cfg: &SpannedConfig, dims: &D, columns: usize) -> Option<usize>
     ensures { let total = track_at (column_tracks cfg.now (D.width dims.now) columns) columns + cfg.now.margin.right.size in SomeIff result (total < 2 ^ 64) total }
 {
     let margin = cfg.get_margin();
@@ -25,11 +21,7 @@ pub(crate) fn total_width<D: Dimension>(
 }
 
 /// How many lines a table of so many rows takes, margins too: `None` where they pass `usize::MAX`.
-pub(crate) fn total_height<D: Dimension>(
-    cfg: &SpannedConfig,
-    dims: &D,
-    rows: usize,
-) -> Option<usize>
+pub fn total_height<D: Dimension>(cfg: &SpannedConfig, dims: &D, rows: usize) -> Option<usize>
     ensures { let total = track_at (row_tracks cfg.now (D.height dims.now) rows) rows + cfg.now.margin.bottom.size in SomeIff result (total < 2 ^ 64) total }
 {
     let margin = cfg.get_margin();

@@ -8,6 +8,7 @@ use std::alloc::{AllocError, Global};
 use std::process::Abort;
 
 mod compact;
+mod edges;
 mod grids;
 mod limits;
 

@@ -73,6 +73,33 @@ fn read_once<C: Colors>(
     IterGrid::new(VecRecords::new(rows), cfg, sizes, colors).to_string(alloc)
 }
 
+// Its lines, one by one, with a line feed between each two.
+fn by_lines<C: Colors>(
+    rt: &impl Abort,
+    alloc: Global,
+    case: &Case,
+    cfg: &SpannedConfig,
+    colors: &C,
+) -> Result<String, Fault> {
+    let rows = rows_of(alloc, case.cells)?;
+    assert!(rt; are_equally_long(&rows));
+    let records = VecRecords::new(rows);
+    let sizes = Sizes {
+        widths: case.widths,
+        heights: case.heights,
+    };
+    fits(&records, cfg, &sizes)?;
+    let grid = PeekableGrid::new(records, cfg, sizes, colors);
+    let mut text = String::new(alloc);
+    for y in 0..grid.lines() {
+        if y > 0 {
+            text.push('\n')?;
+        }
+        grid.build_line(alloc, y, &mut text)?;
+    }
+    Ok(text)
+}
+
 pub(super) fn expect_lines<C: Colors>(
     rt: &impl Abort,
     alloc: Global,
@@ -83,6 +110,8 @@ pub(super) fn expect_lines<C: Colors>(
     let text = looked_up(rt, alloc, case, cfg, colors)?;
     assert_eq!(rt; text.as_str(), case.lines);
     let text = read_once(rt, alloc, case, cfg, colors)?;
+    assert_eq!(rt; text.as_str(), case.lines);
+    let text = by_lines(rt, alloc, case, cfg, colors)?;
     assert_eq!(rt; text.as_str(), case.lines);
     Ok(())
 }
