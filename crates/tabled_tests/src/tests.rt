@@ -12,7 +12,12 @@ use tabled::object::{Cell, Columns, Rows, Segment};
 use tabled::{Alignment, Builder, Margin, Padding, Style, Table, TableOption};
 use tabled_size_dimension::CompleteDimension;
 
+mod batches;
+mod copies;
 mod foreign;
+mod in_widths;
+mod sources;
+mod totals;
 mod writing;
 
 use foreign::{Keeping, Refusing};
