@@ -73,7 +73,6 @@ fn last(records: VecRecords<Text>) -> Option<String> {
 #[test]
 fn records_become_rows_of_strings(rt: HostRuntime) -> Result<(), Fail> {
     let a = rt.alloc();
-    let text = last(kept(a)?);
-    assert!(&rt; matches!(text, Some(it) if it.as_str() == "d"));
+    assert!(&rt; matches!(last(kept(a)?), Some(it) if it.as_str() == "d"));
     Ok(())
 }
