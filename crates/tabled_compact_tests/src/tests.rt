@@ -7,6 +7,8 @@ use tabled_compact::CompactTable;
 use tabled_options::{Margin, Padding, Style};
 use tabled_size_dimension::{ConstDimension, ConstSize};
 
+mod arrays;
+mod edges;
 mod writing;
 
 /// Rows of texts.

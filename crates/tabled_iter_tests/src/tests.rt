@@ -5,6 +5,8 @@ use std::test::Fail;
 use tabled_iter::IterTable;
 use tabled_options::{Margin, Padding, Style};
 
+mod edges;
+mod rows;
 mod writing;
 
 /// Rows of texts.

@@ -1,0 +1,45 @@
+//! Tables of arrays of rows.
+use grid_config::Fault;
+use std::alloc::{AllocError, Global};
+use std::test::Fail;
+use tabled_compact::CompactTable;
+
+// A row of two texts.
+fn pair(alloc: Global) -> Result<[[String; 2]; 1], AllocError> {
+    let first = String::from_str(alloc, "a")?;
+    let second = String::from_str(alloc, "bc")?;
+    Ok([[first, second]])
+}
+
+// Two rows of a text, one of them of two lines.
+fn lines(alloc: Global) -> Result<[[String; 1]; 2], AllocError> {
+    let first = String::from_str(alloc, "a\nbcd")?;
+    let second = String::from_str(alloc, "e")?;
+    Ok([[first], [second]])
+}
+
+fn text_of_pair(alloc: Global) -> Result<String, Fault> {
+    let rows = pair(alloc)?;
+    let table = CompactTable::from(rows);
+    table.to_string(alloc)
+}
+
+fn text_of_lines(alloc: Global) -> Result<String, Fault> {
+    let rows = lines(alloc)?;
+    let table = CompactTable::from(rows);
+    table.to_string(alloc)
+}
+
+#[test]
+fn columns_are_as_wide_as_their_texts(rt: HostRuntime) -> Result<(), Fail> {
+    let text = text_of_pair(rt.alloc())?;
+    assert!(&rt; text.as_str() == "+---+----+\n| a | bc |\n+---+----+");
+    Ok(())
+}
+
+#[test]
+fn a_text_is_as_wide_as_its_widest_line(rt: HostRuntime) -> Result<(), Fail> {
+    let text = text_of_lines(rt.alloc())?;
+    assert!(&rt; text.as_str() == "+-----+\n| a   |\n+-----+\n| e   |\n+-----+");
+    Ok(())
+}
