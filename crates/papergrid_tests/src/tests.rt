@@ -11,7 +11,6 @@ mod compact;
 mod edges;
 mod grids;
 mod limits;
-mod refusing;
 
 // Sizes by their numbers.
 #[derive(Drop)]
