@@ -2,7 +2,7 @@
 use Rattle.std.proofs.Common.{◌≡◌, ℕ, zero, suc, ◌+◌, List, [], ◌∷◌, ◌∙◌, ◌++◌, ap, sym, arith, append_assoc, append-nil, encode_utf8_all, string_bytes}
 use Rattle.std.specs.Prelude.{encode_utf8}
 use Rattle.std.specs.List.{repeat}
-use Rattle.tabled_width.proofs.filling.push_repeated.Goals as goal
+use Rattle.tabled_width.proofs.filling.push_each.Goals as goal
 
 repeat-behind : (n : ℕ) (xs : List ℕ) → repeat n xs ++ xs ≡ repeat (suc n) xs
 repeat-behind zero xs = sym (append-nil xs)
