@@ -413,6 +413,46 @@ where
     Ok(refused && left?.as_str().strip_suffix(";-;-") == Some(before))
 }
 
+// Whether an option is refused for memory, and the table is as it was.
+fn passes_memory<O: TableOption<VecRecords<Text>, ColoredConfig, CompleteDimension>>(
+    alloc: Global,
+    before: &str,
+    option: O,
+) -> Result<bool, Fault>
+where
+    O: Drop,
+{
+    let mut sheet = ascii_sheet(alloc, before)?;
+    let refusal = changed(alloc, &mut sheet, option).err();
+    let left = shown(alloc, &sheet);
+    let_go(sheet);
+    Ok(refusal == Some(Fault::Memory) && left?.as_str().strip_suffix(";-;-") == Some(before))
+}
+
+// The same of an option of all cells.
+fn cells_pass_memory<O: CellOption<VecRecords<Text>, ColoredConfig>>(
+    alloc: Global,
+    before: &str,
+    option: &O,
+) -> Result<bool, Fault> {
+    let mut sheet = ascii_sheet(alloc, before)?;
+    let refusal = cells_changed(alloc, &mut sheet, ALL, option).err();
+    let left = shown(alloc, &sheet);
+    let_go(sheet);
+    Ok(refusal == Some(Fault::Memory) && left?.as_str().strip_suffix(";-;-") == Some(before))
+}
+
+// Fills past what memory holds are not appended one by one until it ends.
+#[test]
+fn fills_past_memory_are_refused_at_once(rt: HostRuntime) -> Result<(), Fail> {
+    let a = rt.alloc();
+    let widest = MinWidth::new(usize::MAX);
+    assert!(&rt; cells_pass_memory(a, "ab|c", &widest)?);
+    assert!(&rt; cells_pass_memory(a, "ab|c\nd", &widest.fill_with('😳'))?);
+    assert!(&rt; passes_memory(a, "ab|c", Justify::new(usize::MAX))?);
+    Ok(())
+}
+
 #[test]
 fn widths_are_measured(rt: HostRuntime) -> Result<(), Fail> {
     let a = rt.alloc();
