@@ -5,6 +5,9 @@ use std::test::Fail;
 use tabled_iter::IterTable;
 use tabled_options::{Margin, Padding, Style};
 
+mod edges;
+mod refusing;
+mod rows;
 mod writing;
 
 /// Rows of texts.
