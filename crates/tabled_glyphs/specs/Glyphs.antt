@@ -1,6 +1,26 @@
--- Box drawing characters of the Unicode Standard, U+2500 to U+257F, where the lines of a table meet.
+-- The glyphs of styles: of ASCII, and box drawing characters of the Unicode Standard, U+2500 to U+257F.
 use Rattle.std.specs.Prelude.{ℕ, Some}
 use Rattle.grid_config_values.specs.declared.borders.Borders.{Borders}
+
+-- `-` along rows, `|` along columns, `+` where they meet
+abbrev pub ascii : Borders ℕ
+ascii = record {
+  top = Some 0x2d;
+  top_left = Some 0x2b;
+  top_right = Some 0x2b;
+  top_intersection = Some 0x2b;
+  bottom = Some 0x2d;
+  bottom_left = Some 0x2b;
+  bottom_right = Some 0x2b;
+  bottom_intersection = Some 0x2b;
+  horizontal = Some 0x2d;
+  left_intersection = Some 0x2b;
+  right_intersection = Some 0x2b;
+  intersection = Some 0x2b;
+  vertical = Some 0x7c;
+  left = Some 0x7c;
+  right = Some 0x7c;
+}
 
 -- light lines
 abbrev pub modern : Borders ℕ
