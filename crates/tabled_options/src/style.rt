@@ -38,7 +38,9 @@ impl Style {
     pub const fn extended() -> Style
         ensures { style_borders result ≡ extended }
     {
-        Style { borders: extended() }
+        Style {
+            borders: extended(),
+        }
     }
 
     /// No glyph, and so no boundary.

@@ -221,7 +221,10 @@ fn spanned(alloc: Global) -> Result<(Option<usize>, Option<usize>), Fault> {
     let mut table = Table::nohead(alloc, ["a", "b"])?;
     let done = table.set_cells(Cell::new(0, 0), &Span::row(2));
     let config = table.get_config().spanned();
-    let taken = (config.get_row_span(at(0, 0)), config.get_column_span(at(0, 0)));
+    let taken = (
+        config.get_row_span(at(0, 0)),
+        config.get_column_span(at(0, 0)),
+    );
     let_go(table);
     done?;
     Ok(taken)

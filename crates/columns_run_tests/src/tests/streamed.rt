@@ -98,6 +98,13 @@ fn a_write_that_fails_leaves_a_front(rt: HostRuntime) {
     }
     for room in 0..TABLE.len() {
         let writer = Counted::new(StepWriter::filling(alloc, 1, room));
-        expect_write_fault(&rt, alloc, writer, RunFault::WriteZero, (0, 1), &TABLE[..room]);
+        expect_write_fault(
+            &rt,
+            alloc,
+            writer,
+            RunFault::WriteZero,
+            (0, 1),
+            &TABLE[..room],
+        );
     }
 }

@@ -8,7 +8,7 @@ use Rattle.columns_run.specs.Cells.{bytes}
 use Rattle.columns_table.specs.Rows.{cut}
 use Rattle.columns_run.proofs.RowLemmas.{sum-more}
 use Rattle.columns_run.proofs.PartLemmas.{cut-row}
-use Rattle.columns_run.proofs.parts.cell_parts.Goals as goal
+use Rattle.columns_run.proofs.styled_rows.cell_parts.Goals as goal
 
 abbrev bytes_of : List (CowStr Global) → List (List ℕ)
 bytes_of parts = map cow_str_bytes parts

@@ -1,6 +1,6 @@
 use Rattle.std.proofs.Common.{◌≡◌, ◌≤◌, ◌++◌, map, vec_len}
 use Rattle.std.specs.Cow.{cow_str_bytes}
-use Rattle.columns_run.proofs.parts.push_parts.Given as goal
+use Rattle.columns_run.proofs.styled_rows.push_parts.Given as goal
 
 abbrev pub invariant-loop-part : goal.invariant-loop-part
 invariant-loop-part l = record {

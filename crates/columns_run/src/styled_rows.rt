@@ -7,7 +7,7 @@ ghost use Rattle.columns_run.specs.Cells.{bytes, shown, last_is_bare, part_line}
 ghost use Rattle.columns_table.specs.Rows.{cut};
 
 use ansi_str::{AnsiSplit, get_blocks};
-use columns_table::Cell;
+use columns_table::LineCell;
 use grid_records_measure::get_line_width;
 use std::alloc::{AllocError, Global};
 use std::borrow::CowStr;
@@ -55,7 +55,7 @@ pub fn cell_parts<'a>(
 }
 
 /// The parts as cells, each measured without its sequences.
-pub fn measured<'a>(alloc: Global, parts: &'a [CowStr<'a>]) -> Result<Vec<Cell<'a>>, AllocError>
+pub fn measured<'a>(alloc: Global, parts: &'a [CowStr<'a>]) -> Result<Vec<LineCell<'a>>, AllocError>
     ensures { IfOk result (λ cells. map shown cells.items ≡ map part_line (map cow_str_bytes parts.now)) }
 {
     let mut cells = Vec::with_capacity(alloc, parts.len())?;
@@ -66,10 +66,10 @@ pub fn measured<'a>(alloc: Global, parts: &'a [CowStr<'a>]) -> Result<Vec<Cell<'
 }
 
 /// The part as a cell.
-fn measured_cell(part: &str) -> Cell<'_>
+fn measured_cell(part: &str) -> LineCell<'_>
     ensures { shown result ≡ part_line part.now }
 {
-    Cell {
+    LineCell {
         text: part,
         width: get_line_width(part),
     }

@@ -3,8 +3,8 @@ use Rattle.std.proofs.lemmas.List.{map_push}
 use Rattle.grid_records_measure.specs.Measures.{measure}
 use Rattle.columns_run.specs.Cells.{shown}
 use Rattle.grid_records_measure.proofs.PrintableLemmas.{measure-printable}
-use Rattle.columns_run.proofs.rows.push_cell.Goals as goal
-use Rattle.columns_run.proofs.rows.push_cell.Goals.{then-plain, else-plain}
+use Rattle.columns_run.proofs.plain_rows.push_cell.Goals as goal
+use Rattle.columns_run.proofs.plain_rows.push_cell.Goals.{then-plain, else-plain}
 
 pub returns : goal.returns
 returns c =

@@ -2,7 +2,7 @@ use Rattle.std.proofs.Common.{◌==◌, length, ap, sym, ◌∙◌}
 use Rattle.std.specs.Cow.{cow_str_bytes}
 use Rattle.columns_run.specs.Rows.{stripped}
 use Rattle.columns_run.proofs.PartLemmas.{last_is_bare-last}
-use Rattle.columns_run.proofs.parts.is_last_bare.Goals as goal
+use Rattle.columns_run.proofs.styled_rows.is_last_bare.Goals as goal
 
 pub returns-in-Some : goal.returns-in-Some
 returns-in-Some c =

@@ -4,8 +4,8 @@ use Rattle.std.specs.declared.borrow.CowStr.{CowStr}
 use Rattle.columns_run.specs.Rows.{line_feed, parts_at, row_parts, without_bare_last}
 use Rattle.columns_run.specs.Cells.{last_is_bare}
 use Rattle.columns_run.proofs.PartLemmas.{popped, kept}
-use Rattle.columns_run.proofs.parts.row_parts.Goals as goal
-use Rattle.columns_run.proofs.parts.row_parts.Goals.{then-is_last_bare+in-Some+in-Owned-1, then-is_last_bare+in-Some+in-Borrowed-1, then-is_last_bare+in-None-1, else-is_last_bare}
+use Rattle.columns_run.proofs.styled_rows.row_parts.Goals as goal
+use Rattle.columns_run.proofs.styled_rows.row_parts.Goals.{then-is_last_bare+in-Some+in-Owned-1, then-is_last_bare+in-Some+in-Borrowed-1, then-is_last_bare+in-None-1, else-is_last_bare}
 
 abbrev Rows : Type 0
 Rows = Vec (CowStr Global) Global

@@ -3,7 +3,7 @@ use Rattle.std.specs.Cow.{cow_str_bytes}
 use Rattle.columns_run.specs.Rows.{tab, parts_at}
 use Rattle.columns_run.specs.Cells.{bytes}
 use Rattle.columns_table.specs.Rows.{cut}
-use Rattle.columns_run.proofs.parts.cell_parts.Given as goal
+use Rattle.columns_run.proofs.styled_rows.cell_parts.Given as goal
 
 abbrev pub invariant-loop-row : goal.invariant-loop-row
 invariant-loop-row l = record {

@@ -1,7 +1,7 @@
 use Rattle.std.proofs.Common.{ℕ, ap}
 use Rattle.ansi_scan.specs.Pieces.{pieces}
 use Rattle.ansi_scan.proofs.Existence.{ArePiecesOf-pieces}
-use Rattle.columns_run.proofs.parts.measured_cell.Goals as goal
+use Rattle.columns_run.proofs.styled_rows.measured_cell.Goals as goal
 
 pub returns : goal.returns
 returns c =

@@ -5,7 +5,7 @@ use Rattle.ansi_scan.proofs.Existence.{ArePiecesOf-pieces}
 use Rattle.ansi_str.specs.Matches.{AreMatches, split_bounds, styled_parts}
 use Rattle.columns_run.specs.Rows.{stripped, places}
 use Rattle.columns_run.proofs.PlaceLemmas.{AreMatches-places}
-use Rattle.columns_run.proofs.parts.push_parts.Goals as goal
+use Rattle.columns_run.proofs.styled_rows.push_parts.Goals as goal
 
 pub returns-clause-parts : goal.returns-clause-parts
 returns-clause-parts c = λ byte ascii is.

@@ -5,7 +5,7 @@ ghost use Rattle.columns_run.specs.Rows.{rows_of};
 ghost use Rattle.columns_run.specs.Cells.{shown, byte_line, rows_shown};
 ghost use Rattle.grid_records_measure.specs.Measures.{are_printable};
 
-use columns_table::{Cell, Rows};
+use columns_table::{LineCell, Rows};
 use grid_records_measure::get_string_width;
 use std::alloc::{AllocError, Global};
 
@@ -52,7 +52,11 @@ fn is_printable(byte: u8) -> bool
 }
 
 /// Appends a cell, measured. Where it is `plain`, it has printable ASCII alone, and a byte takes a column.
-fn push_cell<'a>(cells: &mut Vec<Cell<'a>>, text: &'a str, plain: bool) -> Result<(), AllocError>
+fn push_cell<'a>(
+    cells: &mut Vec<LineCell<'a>>,
+    text: &'a str,
+    plain: bool,
+) -> Result<(), AllocError>
     requires { IsTrue plain → IsTrue (are_printable text.now) }
     ensures { OnOk result (map shown cells.new.items ≡ map shown cells.old.items ++ byte_line text.now ∷ []) }
 {
@@ -61,6 +65,6 @@ fn push_cell<'a>(cells: &mut Vec<Cell<'a>>, text: &'a str, plain: bool) -> Resul
     } else {
         get_string_width(text)
     };
-    cells.push(Cell { text, width })?;
+    cells.push(LineCell { text, width })?;
     Ok(())
 }
