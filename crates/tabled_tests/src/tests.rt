@@ -3,8 +3,8 @@ use grid_config::{
     AlignmentHorizontal, AlignmentVertical, ColoredConfig, CompactConfig, Entity, Fault, Indent,
     Position, Sides, SpannedConfig,
 };
-use grid_records_rows::{Text, VecRecords};
-use grid_records_traits::records::PeekableRecords;
+use grid_records_rows::{RecordsMut, Text, VecRecords};
+use grid_records_traits::records::{ExactRecords, PeekableRecords, RecordColumns};
 use std::alloc::{AllocError, Global};
 use std::process::Abort;
 use std::test::Fail;
@@ -236,10 +236,18 @@ fn a_cell_takes_rows(rt: HostRuntime) -> Result<(), Fail> {
     Ok(())
 }
 
+// Replaces the text of the first cell, if there is one.
+fn put_text(records: &mut VecRecords<Text>, text: Text) {
+    if records.count_rows() > 0 && records.count_columns() > 0 {
+        records.set(at(0, 0), text);
+    }
+}
+
 // Keeps a width of three columns, and replaces the text.
 fn replace(alloc: Global, table: &mut Table) -> Result<(), Fault> {
     table.set(Width::list(alloc, [3])?)?;
-    table.get_records_mut().set(at(0, 0), "ab")?;
+    let text = Text::new(alloc, String::from_str(alloc, "ab")?)?;
+    put_text(table.get_records_mut(), text);
     Ok(())
 }
 
