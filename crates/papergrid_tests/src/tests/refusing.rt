@@ -4,7 +4,9 @@ use super::grids::ascii;
 use super::{Sizes, end, rows_of};
 use grid_config::{CompactConfig, Fault, Indent, Sides, SpannedConfig};
 use grid_records_fakes::RefusedRows;
-use grid_records_rows::{IntoRecords, IterRecords, TruncateContent, VecRecords, are_equally_long};
+use grid_records_rows::{
+    Dimension, IntoRecords, IterRecords, TruncateContent, VecRecords, are_equally_long,
+};
 use papergrid::{CompactGrid, IterGrid, NoColors, PeekableGrid, fits};
 use std::alloc::Global;
 use std::process::Abort;
@@ -22,11 +24,21 @@ fn table() -> Sizes<'static> {
     }
 }
 
-// The widths that cells are cut at as they are read.
-fn narrow() -> Sizes<'static> {
-    Sizes {
-        widths: &[1, 1],
-        heights: &[],
+// The sizes that cells are cut at as they are read.
+#[derive(Clone, Copy)]
+struct Single;
+
+impl Dimension for Single {
+    ghost width = { λ _ _. 1 };
+
+    ghost height = { λ _ _. 1 };
+
+    fn get_width(&self, _column: usize) -> usize {
+        1
+    }
+
+    fn get_height(&self, _row: usize) -> usize {
+        1
     }
 }
 
@@ -93,13 +105,7 @@ fn read_cut<I: IntoRecords>(
     cfg: &SpannedConfig,
     text: &mut String,
 ) -> Result<(), Fault> {
-    let widths = narrow();
-    read(
-        alloc,
-        TruncateContent::new(alloc, cells, &widths),
-        cfg,
-        text,
-    )
+    read(alloc, TruncateContent::new(alloc, cells, Single), cfg, text)
 }
 
 fn read_compact_cut<I: IntoRecords>(
@@ -108,13 +114,7 @@ fn read_compact_cut<I: IntoRecords>(
     cfg: &CompactConfig,
     text: &mut String,
 ) -> Result<(), Fault> {
-    let widths = narrow();
-    read_compact(
-        alloc,
-        TruncateContent::new(alloc, cells, &widths),
-        cfg,
-        text,
-    )
+    read_compact(alloc, TruncateContent::new(alloc, cells, Single), cfg, text)
 }
 
 fn append_read(rt: &impl Abort, alloc: Global, cfg: &SpannedConfig) -> Result<(), Fault> {
