@@ -5,11 +5,10 @@ use Rattle.std.specs.Prelude.{codes, find, if◌then◌else◌}
 use Rattle.std.specs.Option.{option_map_or}
 use Rattle.std.specs.Char.{IsScalar, is_control}
 use Rattle.std.specs.Str.{bytes_eq}
-use Rattle.columns_options.specs.Settings.{ascii, settings_with}
+use Rattle.columns_options.specs.Settings.{settings_with}
 use Rattle.columns_options.specs.declared.options.Options.{Options}
 use Rattle.columns_run.specs.Plain.{GlyphsAre, IsPlain, IsPlainCharacter}
 use Rattle.columns_words.specs.Asking.{IsAnswer}
-use Rattle.columns_words.specs.Glyphs.{extended, modern}
 use Rattle.columns_words.specs.Names.{named, styles}
 use Rattle.columns_words.proofs.StyleLemmas.{asked-style}
 use Rattle.columns_words.specs.declared.words.Asked.TheVariants.{Run}
@@ -18,6 +17,7 @@ use Rattle.grid_config_values.specs.Glyphs.{no_borders}
 use Rattle.grid_config_values.specs.declared.borders.Borders.{Borders}
 use Rattle.grid_records_measure.specs.PlainCharacters.{is_one_column}
 use Rattle.grid_records_measure.proofs.PlainLemmas.{one-column}
+use Rattle.tabled_glyphs.specs.Glyphs.{ascii, extended, modern}
 
 plain : (c : ℕ) → is_one_column c ≡ true → IsScalar c → is_control c ≡ false → IsPlainCharacter c
 plain c one scalar no_control = record { scalar = scalar; one_column = one-column c one; no_control = no_control }

@@ -1,9 +1,10 @@
 //! The settings of a run, and those of a run that asks for nothing.
 ghost use Rattle.std.specs.Prelude.{◌≡◌, None, false};
-ghost use Rattle.columns_options.specs.Settings.{ascii, default_settings};
+ghost use Rattle.columns_options.specs.Settings.{default_settings};
 ghost use Rattle.grid_config.specs.Compact.{compact_of};
 
-use grid_config::{Borders, CompactConfig, Indent, Sides};
+use grid_config::{CompactConfig, Indent, Sides};
+use tabled_glyphs::ascii;
 use tabled_size_priority::Choice;
 
 /// What a run is asked.
@@ -43,28 +44,5 @@ impl Options {
                 .set_borders(ascii())
                 .set_padding(Sides::new(column, column, none, none)),
         }
-    }
-}
-
-// `-` along rows, `|` along columns, `+` where they meet.
-fn ascii() -> Borders<char>
-    ensures { result ≡ ascii }
-{
-    Borders {
-        top: Some('-'),
-        top_left: Some('+'),
-        top_right: Some('+'),
-        top_intersection: Some('+'),
-        bottom: Some('-'),
-        bottom_left: Some('+'),
-        bottom_right: Some('+'),
-        bottom_intersection: Some('+'),
-        horizontal: Some('-'),
-        left_intersection: Some('+'),
-        right_intersection: Some('+'),
-        intersection: Some('+'),
-        vertical: Some('|'),
-        left: Some('|'),
-        right: Some('|'),
     }
 }

@@ -14,7 +14,7 @@ use Rattle.columns_table.specs.Answers.{HasTable as TextsHaveTable, MayRefuse}
 use Rattle.columns_table.specs.Rows.{cut, row_texts_of}
 use Rattle.columns_table.specs.declared.fault.TableFault.{TableFault}
 use Rattle.columns_table.specs.declared.fault.TableFault.TheVariants.{LineTooWide, Memory, Range}
-use Rattle.columns_table.specs.declared.rows.Cell.{Cell}
+use Rattle.columns_table.specs.declared.rows.LineCell.{LineCell}
 use Rattle.columns_table.specs.declared.rows.Rows.{Rows}
 use Rattle.grid_config.specs.Compact.{Compact, compact_of}
 use Rattle.grid_records_measure.specs.Measures.{measure}
@@ -48,7 +48,7 @@ line_rows-plain text none =
     (rows_of (λ b. b) text) (plain_cells text none))
 
 -- the texts of measured rows
-texts-cut : (counts : List ℕ) (cells : List Cell) → texts_of_lines (cut counts (map shown cells)) ≡ map (map (λ cell. cell.text.now)) (cut counts cells)
+texts-cut : (counts : List ℕ) (cells : List LineCell) → texts_of_lines (cut counts (map shown cells)) ≡ map (map (λ cell. cell.text.now)) (cut counts cells)
 texts-cut counts cells =
     ap (map (map (λ (line : Line). line.items))) (cut-map shown counts cells)
     ∙ map-map (map (λ (line : Line). line.items)) (map shown) (cut counts cells)

@@ -4,7 +4,7 @@ use Rattle.std.specs.Borrow.{Bor}
 use Rattle.grid_records_measure.specs.Measures.{measure}
 use Rattle.columns_run.specs.Rows.{cell_parts, stripped}
 use Rattle.columns_table.specs.Rows.{cut}
-use Rattle.columns_table.specs.declared.rows.Cell.{Cell}
+use Rattle.columns_table.specs.declared.rows.LineCell.{LineCell}
 use Rattle.columns_table.specs.declared.rows.Rows.{Rows}
 
 -- a line: the columns that it measures, and its bytes
@@ -17,7 +17,7 @@ abbrev pub bytes : Bor (List ℕ) → List ℕ
 bytes text = text.now
 
 -- a cell as a line
-abbrev pub shown : Cell → Line
+abbrev pub shown : LineCell → Line
 shown cell = record { measure = cell.width; items = cell.text.now }
 
 -- a part of a text: its bytes, and the columns of the characters that it shows

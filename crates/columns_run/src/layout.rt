@@ -7,8 +7,8 @@ ghost use Rattle.columns_run.specs.Layout.{asked_of, output_of};
 ghost use Rattle.columns_run.specs.Run.{MayAnswer};
 
 use crate::fault::RunFault;
-use crate::parts::{cell_parts, measured, row_parts, texts};
-use crate::rows::rows_of;
+use crate::plain_rows::rows_of;
+use crate::styled_rows::{cell_parts, measured, row_parts, texts};
 use columns_asked::Asked;
 use columns_options::Options;
 use columns_table::{Rows, rows_table};

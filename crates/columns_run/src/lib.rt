@@ -6,10 +6,10 @@ mod fault;
 mod input;
 pub mod laws;
 mod layout;
-mod parts;
-mod rows;
+mod plain_rows;
 mod running;
 mod style;
+mod styled_rows;
 
 pub use columns_options::Options;
 pub use fault::RunFault;

@@ -70,6 +70,7 @@ pub struct StepWriter {
     calls: usize,
     bad_call: usize,
     kind: ErrorKind,
+    room: usize,
 }
 
 impl StepWriter {
@@ -86,7 +87,15 @@ impl StepWriter {
             calls: 0,
             bad_call,
             kind,
+            room: usize::MAX,
         }
+    }
+
+    /// A writer that takes this many bytes in all, and then nothing.
+    pub fn filling(alloc: Global, step: usize, room: usize) -> StepWriter {
+        let mut writer = StepWriter::new(alloc, step);
+        writer.room = room;
+        writer
     }
 
     fn call(&mut self) -> io::Result<()> {
@@ -101,8 +110,9 @@ impl StepWriter {
 impl Write for StepWriter {
     fn write(&mut self, buf: &[u8]) -> io::Result<usize> {
         self.call()?;
-        let count = buf.len().min(self.step);
+        let count = buf.len().min(self.step).min(self.room);
         self.taken.extend_from_slice(&buf[..count])?;
+        self.room -= count;
         Ok(count)
     }
 

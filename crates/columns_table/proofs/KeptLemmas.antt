@@ -17,31 +17,31 @@ use Rattle.columns_asked.specs.declared.asked.Asked.{Asked}
 use Rattle.columns_table.specs.Kept.{first_kept, kept_row, resize_to}
 use Rattle.columns_table.specs.Records.{IsMeasured}
 use Rattle.columns_table.specs.Rows.{cell_texts, cut}
-use Rattle.columns_table.specs.declared.rows.Cell.{Cell}
+use Rattle.columns_table.specs.declared.rows.LineCell.{LineCell}
 
 -- a measured cell has the width of its text
-pub width-is : (cell : Cell) → IsMeasured cell → cell.width ≡ text_width cell.text.now
+pub width-is : (cell : LineCell) → IsMeasured cell → cell.width ≡ text_width cell.text.now
 unfolding text_width
 width-is cell measured = measured.1 (pieces cell.text.now) (ArePiecesOf-pieces cell.text.now)
 
-pub item-measured : (cells : List Cell) (cell : Cell) → (0 < length cells) × ((d : Cell) → cell ≡ get_or cells 0 d) → All IsMeasured cells → IsMeasured cell
+pub item-measured : (cells : List LineCell) (cell : LineCell) → (0 < length cells) × ((d : LineCell) → cell ≡ get_or cells 0 d) → All IsMeasured cells → IsMeasured cell
 item-measured cells cell is all = subst IsMeasured (sym (is.1 cell)) (all 0 cell is.0)
 
 -- ---- the cells of a row
 
 module _ (asked : Asked) (beside : ℕ) where
-  pub row-step : (widths : List ℕ) (cells : List Cell) (column : ℕ) → column < length widths
+  pub row-step : (widths : List ℕ) (cells : List LineCell) (column : ℕ) → column < length widths
       → kept_row asked beside (drop column widths) (cell_texts (drop column cells))
       ≡ first_kept (resize_to asked (get_or widths column 0 - beside)) (cell_texts (drop column cells)) ∷ kept_row asked beside (drop (column + 1) widths) (cell_texts (drop (column + 1) cells))
   row-step widths cells column below =
       let next : suc column ≡ column + 1 = omega arith in
       ap (λ ws. kept_row asked beside ws (cell_texts (drop column cells))) (drop-cons widths column 0 below)
       ∙ ap (λ ts. first_kept (resize_to asked (get_or widths column 0 - beside)) (cell_texts (drop column cells)) ∷ kept_row asked beside (drop (suc column) widths) ts)
-      (drop-map (λ (cell : Cell). cell.text.now) 1 (drop column cells) ∙ ap cell_texts (drop-drop 1 column cells))
+      (drop-map (λ (cell : LineCell). cell.text.now) 1 (drop column cells) ∙ ap cell_texts (drop-drop 1 column cells))
       ∙ ap (λ n. first_kept (resize_to asked (get_or widths column 0 - beside)) (cell_texts (drop column cells)) ∷ kept_row asked beside (drop n widths) (cell_texts (drop (column + 1) cells))) next
 
   -- a cell more
-  pub row-pushed : {C : Type 0} (text : C → List ℕ) (done : List C) (cell : C) (widths : List ℕ) (cells : List Cell) (column : ℕ) → column < length widths
+  pub row-pushed : {C : Type 0} (text : C → List ℕ) (done : List C) (cell : C) (widths : List ℕ) (cells : List LineCell) (column : ℕ) → column < length widths
       → text cell ≡ first_kept (resize_to asked (get_or widths column 0 - beside)) (cell_texts (drop column cells))
       → map text (done ++ cell ∷ []) ++ kept_row asked beside (drop (column + 1) widths) (cell_texts (drop (column + 1) cells))
       ≡ map text done ++ kept_row asked beside (drop column widths) (cell_texts (drop column cells))
@@ -52,7 +52,7 @@ module _ (asked : Asked) (beside : ℕ) where
       ∙ ap (λ t. map text done ++ (t ∷ rest)) is
       ∙ ap (λ ts. map text done ++ ts) (sym (row-step widths cells column below))
 
-  pub row-end : (widths : List ℕ) (cells : List Cell) (column : ℕ) → length widths ≤ column → kept_row asked beside (drop column widths) (cell_texts (drop column cells)) ≡ []
+  pub row-end : (widths : List ℕ) (cells : List LineCell) (column : ℕ) → length widths ≤ column → kept_row asked beside (drop column widths) (cell_texts (drop column cells)) ≡ []
   row-end widths cells column past = ap (λ ws. kept_row asked beside ws (cell_texts (drop column cells))) (none widths column past)
     where
       none : (xs : List ℕ) (n : ℕ) → length xs ≤ n → drop n xs ≡ []
@@ -64,7 +64,7 @@ module _ (asked : Asked) (beside : ℕ) where
 -- ---- the rows
 
 -- a row more
-pub rows-pushed : {R : Type 0} (kept : List (List ℕ) → List (List ℕ)) (text : R → List (List ℕ)) (done : List R) (row : R) (counts : List ℕ) (cells : List Cell) (start i : ℕ) → i < length counts
+pub rows-pushed : {R : Type 0} (kept : List (List ℕ) → List (List ℕ)) (text : R → List (List ℕ)) (done : List R) (row : R) (counts : List ℕ) (cells : List LineCell) (start i : ℕ) → i < length counts
     → text row ≡ kept (cell_texts (take (get_or counts i 0) (drop start cells)))
     → map text (done ++ row ∷ []) ++ map kept (map cell_texts (cut (drop (i + 1) counts) (drop (start + get_or counts i 0) cells)))
     ≡ map text done ++ map kept (map cell_texts (cut (drop i counts) (drop start cells)))

@@ -20,7 +20,7 @@ use Rattle.columns_asked.specs.Layout.{column_count, heights_of, widths_of}
 use Rattle.columns_table.specs.Least.{padded, width_in}
 use Rattle.columns_table.specs.Records.{IsMeasured}
 use Rattle.columns_table.specs.Rows.{cell_texts, cut}
-use Rattle.columns_table.specs.declared.rows.Cell.{Cell}
+use Rattle.columns_table.specs.declared.rows.LineCell.{LineCell}
 use Rattle.columns_table.proofs.KeptLemmas.{width-is}
 use Rattle.columns_table.proofs.RecordLemmas.{empty_one_line, get_or-fitted_row}
 use Rattle.columns_table.proofs.SizeLemmas.{columns-cut}
@@ -107,7 +107,7 @@ none_at : (k : ℕ) → get_or {A = List ℕ} [] k [] ≡ []
 none_at zero = refl
 none_at (suc k) = refl
 
-height-is : (cell : Cell) → IsMeasured cell → text_height cell.text.now ≡ 1
+height-is : (cell : LineCell) → IsMeasured cell → text_height cell.text.now ≡ 1
 unfolding text_height
 height-is cell measured = sym (measured.0 (pieces cell.text.now) (ArePiecesOf-pieces cell.text.now))
 
@@ -119,18 +119,18 @@ no-width : 0 ≡ text_width []
 unfolding text_width
 no-width = empty_one_line.1 (pieces []) (ArePiecesOf-pieces [])
 
-height-in : (row : List Cell) (k : ℕ) → All IsMeasured row → text_height (get_or (cell_texts row) k []) ≡ 1
+height-in : (row : List LineCell) (k : ℕ) → All IsMeasured row → text_height (get_or (cell_texts row) k []) ≡ 1
 height-in [] k all = ap text_height (none_at k) ∙ no-height
 height-in (cell ∷ row) zero all = height-is cell (all 0 cell (omega arith))
 height-in (cell ∷ row) (suc k) all = height-in row k (λ i d below. all (suc i) d (omega (arith, below)))
 
-width-in : (row : List Cell) (k : ℕ) → All IsMeasured row → width_in k row ≡ text_width (get_or (cell_texts row) k [])
+width-in : (row : List LineCell) (k : ℕ) → All IsMeasured row → width_in k row ≡ text_width (get_or (cell_texts row) k [])
 width-in [] zero all = no-width
 width-in [] (suc k) all = no-width
 width-in (cell ∷ row) zero all = width-is cell (all 0 cell (omega arith))
 width-in (cell ∷ row) (suc k) all = width-in row k (λ i d below. all (suc i) d (omega (arith, below)))
 
-rows-measured : (counts : List ℕ) (cells : List Cell) → All IsMeasured cells → (i : ℕ) (d : List Cell) → i < length (cut counts cells) → All IsMeasured (get_or (cut counts cells) i d)
+rows-measured : (counts : List ℕ) (cells : List LineCell) → All IsMeasured cells → (i : ℕ) (d : List LineCell) → i < length (cut counts cells) → All IsMeasured (get_or (cut counts cells) i d)
 rows-measured [] cells all i d below = absurd (omega (arith, below))
 rows-measured (n ∷ ns) cells all zero d below = All-take IsMeasured n cells all
 rows-measured (n ∷ ns) cells all (suc i) d below = rows-measured ns (drop n cells) (All-drop IsMeasured n cells all) i d (omega (arith, below))
@@ -141,7 +141,7 @@ count-cut (n ∷ ns) xs = ap suc (count-cut ns (drop n xs))
 
 -- ---- the sizes of a table of measured cells
 
-module _ (style : Compact) (counts : List ℕ) (cells : List Cell) (measured : All IsMeasured cells) where
+module _ (style : Compact) (counts : List ℕ) (cells : List LineCell) (measured : All IsMeasured cells) where
   abbrev pub texts : List (List (List ℕ))
   texts = map cell_texts (cut counts cells)
 
@@ -280,7 +280,7 @@ at-most-greatest (n ∷ ns) zero below = omega arith
 at-most-greatest (n ∷ ns) (suc i) below = let rest = at-most-greatest ns i (omega (arith, below)) in omega (arith, rest)
 
 -- a row more
-pub widest-step : (k : ℕ) (counts : List ℕ) (cells : List Cell) (start i : ℕ) → i < length counts
+pub widest-step : (k : ℕ) (counts : List ℕ) (cells : List LineCell) (start i : ℕ) → i < length counts
     → greatest (map (width_in k) (cut (drop i counts) (drop start cells)))
     ≡ max (width_in k (take (get_or counts i 0) (drop start cells))) (greatest (map (width_in k) (cut (drop (i + 1) counts) (drop (start + get_or counts i 0) cells))))
 widest-step k counts cells start i below =

@@ -28,7 +28,7 @@ use Rattle.columns_asked.specs.Layout.{column_count, frame_under, heights_of, wi
 use Rattle.columns_table.specs.Answers.{natural_text}
 use Rattle.columns_table.specs.Records.{placed_texts, starts_from}
 use Rattle.columns_table.specs.Rows.{cell_texts}
-use Rattle.columns_table.specs.declared.rows.Cell.{Cell}
+use Rattle.columns_table.specs.declared.rows.LineCell.{LineCell}
 use Rattle.columns_table.proofs.PlacedLemmas.{placed-cut}
 use Rattle.columns_table.proofs.SizeLemmas.{columns-cut, cut_texts, height-each, none-high, width-each}
 
@@ -62,7 +62,7 @@ pub good-spans : (style : Compact) (settings : Settings) → StartsWith (compact
 good-spans style settings start rows columns = subst (λ spans. AreGood spans rows columns) (sym start.spans) (good_without rows columns)
 
 -- the rows that are looked up are those that were cut
-pub records-are : (counts : List ℕ) (cells : List Cell) → sum counts ≡ length cells → placed_texts (starts_from 0 counts) cells ≡ cut_texts counts cells
+pub records-are : (counts : List ℕ) (cells : List LineCell) → sum counts ≡ length cells → placed_texts (starts_from 0 counts) cells ≡ cut_texts counts cells
 records-are counts cells whole =
     let all : 0 + sum counts ≡ length cells = omega (arith, whole) in
     ap (map cell_texts) (placed-cut 0 counts cells all)
@@ -76,7 +76,7 @@ pub some-heights : (style : Compact) (texts : List (List (List ℕ))) → line_c
 some-heights style texts some =
     some_sizes (line_count (frame_under style texts)) (heights_of style texts) (λ none. ap (λ sizes. line_count (frame_of (compact_look style) (widths_of style texts) sizes)) none ∙ (none-high style (widths_of style texts)).0) some
 
-module _ (style : Compact) (settings : Settings) (start : StartsWith (compact_start style) settings) (counts : List ℕ) (cells : List Cell) (whole : sum counts ≡ length cells) where
+module _ (style : Compact) (settings : Settings) (start : StartsWith (compact_start style) settings) (counts : List ℕ) (cells : List LineCell) (whole : sum counts ≡ length cells) where
   abbrev texts : List (List (List ℕ))
   texts = cut_texts counts cells
 

@@ -11,10 +11,10 @@ use Rattle.grid_records_traits.specs.Rows.{text_at}
 use Rattle.papergrid_picture.proofs.ShownLemmas.{get_or-map}
 use Rattle.columns_table.specs.Rows.{cut}
 use Rattle.columns_table.specs.Records.{IsMeasured, IsOneLine, IsOnlyLine, placed, placed_texts, starts_from}
-use Rattle.columns_table.specs.declared.rows.Cell.{Cell}
+use Rattle.columns_table.specs.declared.rows.LineCell.{LineCell}
 use Rattle.columns_table.proofs.RecordLemmas.{empty_one_line}
 
-abbrev text_of : Cell → List ℕ
+abbrev text_of : LineCell → List ℕ
 text_of cell = cell.text.now
 
 -- ---- one row
@@ -48,7 +48,7 @@ length-take zero xs = omega arith
 length-take (suc n) [] = omega arith
 length-take (suc n) (x ∷ xs) = omega (arith, length-take n xs)
 
-module _ (starts : List ℕ) (cells : List Cell) (pos : Position) where
+module _ (starts : List ℕ) (cells : List LineCell) (pos : Position) where
   row-text : text_at (placed_texts starts cells) pos ≡ get_or (map text_of (get_or (placed starts cells) pos.row [])) pos.col []
   row-text = ap (λ row. get_or row pos.col []) (get_or-map (map text_of) (placed starts cells) pos.row [])
 
@@ -78,21 +78,21 @@ module _ (starts : List ℕ) (cells : List Cell) (pos : Position) where
         ∙ get_or-drop start (map text_of cells) pos.col []
 
 -- each of them is one line
-row-measured : (starts : List ℕ) (cells : List Cell) (i : ℕ) → All IsMeasured cells → All IsMeasured (get_or (placed starts cells) i [])
+row-measured : (starts : List ℕ) (cells : List LineCell) (i : ℕ) → All IsMeasured cells → All IsMeasured (get_or (placed starts cells) i [])
 row-measured [] cells i all = none i where
-  none : (i : ℕ) → All IsMeasured (get_or {A = List Cell} [] i [])
+  none : (i : ℕ) → All IsMeasured (get_or {A = List LineCell} [] i [])
   none zero = λ k d below. absurd (omega arith)
   none (suc i) = λ k d below. absurd (omega arith)
 row-measured (start ∷ starts) cells zero all = All-take IsMeasured (get_or starts 0 (length cells) - start) (drop start cells) (All-drop IsMeasured start cells all)
 row-measured (start ∷ starts) cells (suc i) all = row-measured starts cells i all
 
-one_in_row : (row : List Cell) (j : ℕ) → All IsMeasured row → (width : ℕ) × IsOneLine (get_or (map text_of row) j []) width
+one_in_row : (row : List LineCell) (j : ℕ) → All IsMeasured row → (width : ℕ) × IsOneLine (get_or (map text_of row) j []) width
 one_in_row [] zero all = (0, empty_one_line)
 one_in_row [] (suc j) all = (0, empty_one_line)
 one_in_row (cell ∷ row) zero all = (cell.width, All-head IsMeasured cell row all)
 one_in_row (cell ∷ row) (suc j) all = one_in_row row j (All-tail IsMeasured cell row all)
 
-pub one_line_each : (starts : List ℕ) (cells : List Cell) (pos : Position) → All IsMeasured cells → (width : ℕ) × IsOneLine (text_at (placed_texts starts cells) pos) width
+pub one_line_each : (starts : List ℕ) (cells : List LineCell) (pos : Position) → All IsMeasured cells → (width : ℕ) × IsOneLine (text_at (placed_texts starts cells) pos) width
 one_line_each starts cells pos all =
     subst (λ text. (width : ℕ) × IsOneLine text width) (sym (row-text starts cells pos)) (one_in_row (get_or (placed starts cells) pos.row []) pos.col (row-measured starts cells pos.row all))
 
@@ -111,7 +111,7 @@ length-starts : (at : ℕ) (counts : List ℕ) → length (starts_from at counts
 length-starts at [] = refl
 length-starts at (n ∷ ns) = ap suc (length-starts (at + n) ns)
 
-pub length-placed : (starts : List ℕ) (cells : List Cell) → length (placed_texts starts cells) ≡ length starts
+pub length-placed : (starts : List ℕ) (cells : List LineCell) → length (placed_texts starts cells) ≡ length starts
 length-placed [] cells = refl
 length-placed (start ∷ starts) cells = ap suc (length-placed starts cells)
 

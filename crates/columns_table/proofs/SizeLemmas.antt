@@ -25,7 +25,7 @@ use Rattle.papergrid_picture.specs.Frame.{Tracks, frame_of, line_count, thicknes
 use Rattle.papergrid_picture.proofs.FrameLemmas.{range_with_len-more}
 use Rattle.columns_asked.specs.Layout.{column_count, frame_under, heights_of, widths_of}
 use Rattle.columns_table.specs.Rows.{cell_texts, cut}
-use Rattle.columns_table.specs.declared.rows.Cell.{Cell}
+use Rattle.columns_table.specs.declared.rows.LineCell.{LineCell}
 
 -- ---- rows cut from a list
 
@@ -39,14 +39,14 @@ length-cut {X} (n ∷ ns) xs h =
     ap (λ k. k ∷ map (λ piece. length piece) (cut ns (drop n xs))) (length-take-le n xs fits) ∙ ap (λ ks. n ∷ ks) (length-cut ns (drop n xs) left)
 
 -- the texts of the rows
-module _ (counts : List ℕ) (cells : List Cell) where
+module _ (counts : List ℕ) (cells : List LineCell) where
   abbrev pub cut_texts : List (List (List ℕ))
   cut_texts = map cell_texts (cut counts cells)
 
   pub columns-cut : sum counts ≡ length cells → column_count cut_texts ≡ greatest counts
   columns-cut whole =
       ap greatest (map-map (λ (row : List (List ℕ)). length row) cell_texts (cut counts cells))
-      ∙ ap greatest (λ k. map (λ row. length-map row (λ (cell : Cell). cell.text.now) k) (cut counts cells))
+      ∙ ap greatest (λ k. map (λ row. length-map row (λ (cell : LineCell). cell.text.now) k) (cut counts cells))
       ∙ ap greatest (length-cut counts cells whole)
 
 -- ---- totals

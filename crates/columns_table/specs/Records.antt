@@ -3,7 +3,7 @@ use Rattle.ansi_scan.specs.Sequences.{Piece, ArePiecesOf}
 use Rattle.grid_records_measure.specs.TextLines.{AreLinesOf}
 use Rattle.std.specs.Prelude.{◌≡◌, ℕ, ◌+◌, List, [], ◌∷◌, length, map, slice_index_or, slice_range}
 use Rattle.grid_records_traits.specs.Cells.{HasLineCount, HasWidth}
-use Rattle.columns_table.specs.declared.rows.Cell.{Cell}
+use Rattle.columns_table.specs.declared.rows.LineCell.{LineCell}
 
 -- the text is its only line
 abbrev pub IsOnlyLine : List ℕ → Type 0
@@ -13,7 +13,7 @@ IsOnlyLine text = (pieces : List Piece) (lines : List (List ℕ)) → ArePiecesO
 abbrev pub IsOneLine : List ℕ → ℕ → Type 0
 IsOneLine text width = HasLineCount text 1 × HasWidth text width × IsOnlyLine text
 
-abbrev pub IsMeasured : Cell → Type 0
+abbrev pub IsMeasured : LineCell → Type 0
 IsMeasured cell = IsOneLine cell.text.now cell.width
 
 -- ---- rows by where they begin
@@ -29,5 +29,5 @@ placed [] xs = []
 placed (start ∷ starts) xs = slice_range xs start (slice_index_or starts 0 (length xs)) ∷ placed starts xs
 
 -- their texts
-abbrev pub placed_texts : List ℕ → List Cell → List (List (List ℕ))
+abbrev pub placed_texts : List ℕ → List LineCell → List (List (List ℕ))
 placed_texts starts cells = map (map (λ cell. cell.text.now)) (placed starts cells)

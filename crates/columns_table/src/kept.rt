@@ -7,10 +7,10 @@ ghost use Rattle.columns_table.specs.Kept.{first_kept, kept_row, resize_to};
 ghost use Rattle.columns_table.specs.Records.{IsMeasured};
 ghost use Rattle.columns_table.specs.Rows.{cell_texts, row_texts_of};
 
-use crate::rows::{Cell, Rows};
+use crate::rows::{LineCell, Rows};
 use columns_asked::{Asked, resized_cell};
 use grid_records_measure::get_text_dimension;
-use grid_records_traits::Cell as Record;
+use grid_records_traits::Cell;
 use std::alloc::{AllocError, Global};
 use std::borrow::CowStr;
 
@@ -33,7 +33,7 @@ impl<'a> KeptCell<'a> {
     }
 }
 
-impl<'a> Record for KeptCell<'a> {
+impl<'a> Cell for KeptCell<'a> {
     ghost text = { λ cell. cow_str_bytes cell.text };
 
     fn text(&self) -> &str {
@@ -82,7 +82,7 @@ pub fn kept_rows<'a>(
 fn kept_cells<'a>(
     alloc: Global,
     asked: &Asked,
-    cells: &[Cell<'a>],
+    cells: &[LineCell<'a>],
     widths: &[usize],
     beside: usize,
 ) -> Result<Vec<KeptCell<'a>>, AllocError>
@@ -102,7 +102,7 @@ fn kept_cells<'a>(
 fn first_kept<'a>(
     alloc: Global,
     asked: &Asked,
-    cells: &[Cell<'a>],
+    cells: &[LineCell<'a>],
     room: usize,
 ) -> Result<KeptCell<'a>, AllocError>
     requires { All IsMeasured cells.now }
@@ -116,7 +116,7 @@ fn first_kept<'a>(
 }
 
 // The cells from this column on.
-fn cells_from<'b, 'a>(cells: &'b [Cell<'a>], column: usize) -> &'b [Cell<'a>]
+fn cells_from<'b, 'a>(cells: &'b [LineCell<'a>], column: usize) -> &'b [LineCell<'a>]
     ensures { result.now ≡ drop column cells.now }
 {
     &cells[column.min(cells.len())..]

@@ -10,7 +10,7 @@ ghost use Rattle.columns_table.specs.Least.{padded, width_in};
 ghost use Rattle.columns_table.specs.Records.{IsMeasured};
 ghost use Rattle.columns_table.specs.Rows.{cut, row_texts_of};
 
-use crate::rows::{Cell, Rows};
+use crate::rows::{LineCell, Rows};
 use grid_config::{CompactConfig, Fault};
 use std::alloc::{AllocError, Global};
 
@@ -57,7 +57,7 @@ fn widest(alloc: Global, rows: &Rows<'_>) -> Result<Vec<usize>, AllocError>
 }
 
 // Raises each width to that of the cell in its column, where it is less.
-fn widen(widths: &mut [usize], cells: &[Cell<'_>])
+fn widen(widths: &mut [usize], cells: &[LineCell<'_>])
     requires { length cells.now ≤ length widths.old }
     ensures long { length widths.new ≡ length widths.old }
     ensures each { (column : ℕ) → slice_index widths.new column ≡ max (slice_index widths.old column) (width_in column cells.now) }

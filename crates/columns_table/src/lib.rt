@@ -10,5 +10,5 @@ mod sizes;
 mod table;
 
 pub use fault::TableFault;
-pub use rows::{Cell, Rows};
+pub use rows::{LineCell, Rows};
 pub use table::rows_table;

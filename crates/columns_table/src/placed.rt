@@ -3,7 +3,7 @@ ghost use Rattle.std.specs.Prelude.{◌≡◌, ◌^◌, ◌<◌, [], All, false,
 ghost use Rattle.grid_records_traits.specs.Rows.{text_at};
 ghost use Rattle.columns_table.specs.Records.{IsMeasured, placed_texts, starts_from};
 
-use crate::rows::Cell;
+use crate::rows::LineCell;
 use grid_config::Position;
 use grid_records_traits::{ExactRecords, PeekableRecords, RecordColumns, RecordTexts};
 use std::alloc::{AllocError, Global};
@@ -12,7 +12,7 @@ use std::borrow::CowStr;
 /// Rows of measured cells: all cells, one row after the other, and where the rows begin.
 #[derive(Drop)]
 pub struct PlacedRows<'a> {
-    cells: Vec<Cell<'a>>,
+    cells: Vec<LineCell<'a>>,
     starts: Vec<usize>,
     columns: usize,
     ghost measured: { All IsMeasured cells.items },
@@ -20,7 +20,7 @@ pub struct PlacedRows<'a> {
 
 impl<'a> PlacedRows<'a> {
     /// Rows of so many columns with these counts of cells. Does not allocate.
-    pub fn new(cells: Vec<Cell<'a>>, counts: Vec<usize>, columns: usize) -> PlacedRows<'a>
+    pub fn new(cells: Vec<LineCell<'a>>, counts: Vec<usize>, columns: usize) -> PlacedRows<'a>
         requires measured { All IsMeasured cells.items }
         requires range { sum counts.items < 2 ^ 64 }
         ensures columns { ⟦<PlacedRows<'a> as RecordColumns>⟧.columns result ≡ columns }
@@ -34,7 +34,7 @@ impl<'a> PlacedRows<'a> {
     }
 
     // The cell at this place, and an empty one where its row has none.
-    fn cell(&self, pos: Position) -> Cell<'a>
+    fn cell(&self, pos: Position) -> LineCell<'a>
         ensures text { result.text.now ≡ text_at (placed_texts self.now.starts.items self.now.cells.items) pos }
         ensures measured { IsMeasured result }
     {
@@ -51,15 +51,15 @@ impl<'a> PlacedRows<'a> {
 }
 
 // A cell without a text.
-fn empty<'a>() -> Cell<'a>
+fn empty<'a>() -> LineCell<'a>
     ensures text { result.text.now ≡ [] }
     ensures measured { IsMeasured result }
 {
-    Cell { text: "", width: 0 }
+    LineCell { text: "", width: 0 }
 }
 
 // The cell with this number, and after the last an empty one.
-fn cell_at<'a>(cells: &[Cell<'a>], index: usize) -> Cell<'a>
+fn cell_at<'a>(cells: &[LineCell<'a>], index: usize) -> LineCell<'a>
     requires { All IsMeasured cells.now }
     ensures text { result.text.now ≡ slice_index_or (map (λ cell. cell.text.now) cells.now) index [] }
     ensures measured { IsMeasured result }

@@ -2,7 +2,7 @@
 
 /// A cell: its text, and the columns that the text takes.
 #[derive(Clone, Copy)]
-pub struct Cell<'a> {
+pub struct LineCell<'a> {
     pub text: &'a str,
     pub width: usize,
 }
@@ -10,6 +10,6 @@ pub struct Cell<'a> {
 /// The cells of all rows, one row after the other, and how many each row has.
 #[derive(Drop)]
 pub struct Rows<'a> {
-    pub cells: Vec<Cell<'a>>,
+    pub cells: Vec<LineCell<'a>>,
     pub counts: Vec<usize>,
 }

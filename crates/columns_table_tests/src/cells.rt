@@ -5,7 +5,7 @@ ghost use Rattle.ansi_scan.specs.Sequences.{IsWhole};
 ghost use Rattle.ansi_str_search.specs.Lines.{IsClosedLine};
 ghost use Rattle.columns_table.specs.Records.{IsMeasured};
 
-use columns_table::Cell;
+use columns_table::LineCell;
 use grid_records_measure::{get_line_width, get_lines};
 use std::alloc::{AllocError, Global};
 use std::borrow::CowStr;
@@ -26,7 +26,7 @@ pub(crate) fn lines_of<'a>(alloc: Global, text: &'a str) -> Result<Vec<CowStr<'a
 pub(crate) fn cells_of<'a>(
     alloc: Global,
     lines: &'a [CowStr<'a>],
-) -> Result<Vec<Cell<'a>>, AllocError>
+) -> Result<Vec<LineCell<'a>>, AllocError>
     requires { All IsClosedLine (map cow_str_bytes lines.now) }
     ensures { IfOk result (λ cells. All IsMeasured cells.items) }
 {
@@ -38,11 +38,11 @@ pub(crate) fn cells_of<'a>(
 }
 
 // The line as a cell.
-fn cell_of(line: &str) -> Cell<'_>
+fn cell_of(line: &str) -> LineCell<'_>
     requires { IsClosedLine line.now }
     ensures { IsMeasured result }
 {
-    Cell {
+    LineCell {
         text: line,
         width: get_line_width(line),
     }

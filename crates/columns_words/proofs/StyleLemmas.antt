@@ -3,12 +3,13 @@ use Rattle.std.proofs.Common.{◌≡◌, ℕ, Bool, List, Option}
 use Rattle.std.specs.Prelude.{codes}
 use Rattle.clap.specs.Simple.{matches_of}
 use Rattle.clap.specs.Walk.{first_of}
-use Rattle.columns_options.specs.Settings.{ascii, settings_with}
+use Rattle.columns_options.specs.Settings.{settings_with}
 use Rattle.columns_options.specs.declared.options.Options.{Options}
 use Rattle.columns_words.specs.Asking.{IsAnswer}
 use Rattle.columns_words.specs.Names.{named, styles}
 use Rattle.columns_words.specs.declared.words.Asked.TheVariants.{Run}
 use Rattle.grid_config.specs.Compact.{compact_of}
+use Rattle.tabled_glyphs.specs.Glyphs.{ascii}
 
 -- it has the style of some name, or the default
 pub asked-style : (words : List (List ℕ)) (options : Options) (streamed : Bool) → IsAnswer words (Run options streamed)

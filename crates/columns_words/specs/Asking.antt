@@ -8,13 +8,14 @@ use Rattle.clap.specs.declared.builder.value_parser.ValueParser.TheVariants.{Uns
 use Rattle.clap.specs.declared.error.kind.ErrorKind.{ErrorKind}
 use Rattle.clap.specs.declared.error.kind.ErrorKind.TheVariants.{DisplayHelp, DisplayVersion}
 use Rattle.columns_options.specs.declared.options.Options.{Options}
-use Rattle.columns_options.specs.Settings.{ascii, settings_with}
+use Rattle.columns_options.specs.Settings.{settings_with}
 use Rattle.columns_words.specs.Command.{IsColumns}
 use Rattle.columns_words.specs.Names.{named, priorities, styles}
 use Rattle.columns_words.specs.declared.words.Asked.{Asked}
 use Rattle.columns_words.specs.declared.words.Asked.TheVariants.{Run, Help, Faulty}
 use Rattle.grid_config.specs.Compact.{compact_of}
 use Rattle.tabled_size_priority.specs.declared.choice.Choice.TheVariants.{None as InTurns}
+use Rattle.tabled_glyphs.specs.Glyphs.{ascii}
 
 -- ---- the fields, by the values that the command gives for the words
 

@@ -1,13 +1,12 @@
 //! Command lines worked by hand: what the command makes of their words. The functions do nothing.
 ghost use Rattle.std.specs.Prelude.{◌≡◌, ◌∷◌, [], Some, None, codes};
 ghost use Rattle.clap.specs.declared.error.kind.ErrorKind.TheVariants.{ArgumentConflict, DisplayHelp, DisplayVersion, InvalidValue, UnknownArgument, ValueValidation};
-ghost use Rattle.columns_options.specs.Settings.{ascii};
 ghost use Rattle.columns_words.specs.Asking.{number};
 ghost use Rattle.columns_words.specs.Command.{IsColumns};
-ghost use Rattle.columns_words.specs.Glyphs.{modern};
 ghost use Rattle.columns_words.specs.Names.{named, priorities, styles};
 ghost use Rattle.columns_words.specs.Worked.{Finds, Gives, columns_by_hand};
 ghost use Rattle.grid_config_values.specs.Glyphs.{no_borders};
+ghost use Rattle.tabled_glyphs.specs.Glyphs.{ascii, modern};
 
 use tabled_size_priority::Choice;
 

@@ -2,7 +2,6 @@
 #![tactic(auto)]
 
 mod command;
-mod glyphs;
 pub mod laws;
 mod names;
 mod words;

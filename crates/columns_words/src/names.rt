@@ -2,11 +2,12 @@
 ghost use Rattle.std.specs.Prelude.{◌≡◌, option_map};
 ghost use Rattle.columns_words.specs.Names.{named, priorities, styles};
 ghost use Rattle.grid_config.specs.Compact.{compact_of};
-ghost use Rattle.columns_options.specs.Settings.{ascii, settings_with};
+ghost use Rattle.columns_options.specs.Settings.{settings_with};
+ghost use Rattle.tabled_glyphs.specs.Glyphs.{ascii};
 
-use crate::glyphs::{extended, modern};
 use columns_options::Options;
 use grid_config::{Borders, CompactConfig};
+use tabled_glyphs::{ascii, extended, modern};
 use tabled_size_priority::Choice;
 
 /// The priority of this name. Of equally wide columns the left one gives first.
@@ -37,6 +38,6 @@ fn glyphs_named(name: Option<&str>) -> Borders<char>
         Some("modern") => modern(),
         Some("extended") => extended(),
         Some("empty") => Borders::empty(),
-        _ => *Options::new().style.get_borders(),
+        _ => ascii(),
     }
 }

@@ -6,7 +6,7 @@ use Rattle.grid_config.specs.Looks.{Look, compact_look, look_of}
 use Rattle.grid_config.specs.Settings.{Settings}
 use Rattle.grid_records_traits.specs.Sources.{texts_of_rows}
 use Rattle.tabled_options.specs.Options.{spaced_sides}
-use Rattle.tabled_options.specs.Styles.{ascii_borders}
+use Rattle.tabled_glyphs.specs.Glyphs.{ascii}
 use Rattle.tabled_size_dimension.specs.Stored.{none_stored}
 use Rattle.tabled_steps.specs.States.{State, state_with}
 use Rattle.tabled.specs.declared.table.Table.{Table}
@@ -21,7 +21,7 @@ state_under text table settings = state_with (texts_of_rows text table.records.r
 
 -- what a table looks like at first: lines of ASCII, and a column of spaces at the left and right of each text
 abbrev pub new_look : Look
-new_look = record (compact_look new_compact) { borders = ascii_borders; padding = λ _. spaced_sides 1 1 0 0 }
+new_look = record (compact_look new_compact) { borders = ascii; padding = λ _. spaced_sides 1 1 0 0 }
 
 -- a table of these rows that no option has changed yet
 abbrev pub new_state : List (List (List ℕ)) → State

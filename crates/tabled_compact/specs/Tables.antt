@@ -8,7 +8,7 @@ use Rattle.grid_config.specs.Looks.{Look, compact_look}
 use Rattle.grid_records_traits.specs.Rows.{fitted}
 use Rattle.papergrid.specs.Grids.{FitsCompact, IsCompactAnswer, compact_text}
 use Rattle.tabled_options.specs.Options.{spaced_sides}
-use Rattle.tabled_options.specs.Styles.{ascii_borders}
+use Rattle.tabled_glyphs.specs.Glyphs.{ascii}
 use Rattle.tabled_size_dimension.specs.Stored.{none_stored}
 use Rattle.tabled_steps.specs.States.{State, state_with}
 use Rattle.tabled_compact.specs.declared.table.CompactTable.{CompactTable}
@@ -37,7 +37,7 @@ compacted rows width table = record {
 
 -- lines of ASCII, and a column of spaces at the left and right of each text
 abbrev pub begun_settings : Compact
-begun_settings = record new_compact { borders = ascii_borders; padding = spaced_sides 1 1 0 0 }
+begun_settings = record new_compact { borders = ascii; padding = spaced_sides 1 1 0 0 }
 
 -- a table that no call has changed yet: it has no columns
 abbrev pub begun : List (List (List ℕ)) → (ℕ → ℕ) → Compacted

@@ -2,35 +2,16 @@
 ghost use Rattle.std.specs.Prelude.{◌≡◌, Some};
 ghost use Rattle.grid_config_values.specs.declared.entity.Entity.TheVariants.{Global as EveryCell};
 ghost use Rattle.grid_config_values.specs.Glyphs.{no_borders};
-ghost use Rattle.tabled_options.specs.Styles.{ascii_borders, borders_of, crossings, extended_borders, modern_borders, style_borders};
+ghost use Rattle.tabled_glyphs.specs.Glyphs.{ascii, extended, modern};
+ghost use Rattle.tabled_options.specs.Styles.{style_borders};
 ghost use Rattle.tabled_steps.specs.Looks.{with_borders};
 ghost use Rattle.tabled_steps.specs.States.{looking};
 
 use grid_config::{Borders, ColoredConfig, Entity, Fault};
 use grid_records_traits::records::RecordTexts;
 use std::alloc::Global;
+use tabled_glyphs::{ascii, extended, modern};
 use tabled_steps::{KeptSizes, TableOption};
-
-// What meets a boundary of rows: at its left end, between two columns, at its right end.
-#[derive(Clone, Copy, Debug)]
-struct Crossings {
-    left: char,
-    between: char,
-    right: char,
-}
-
-impl Crossings {
-    // These three.
-    const fn new(left: char, between: char, right: char) -> Crossings
-        ensures { result ≡ crossings left between right }
-    {
-        Crossings {
-            left,
-            between,
-            right,
-        }
-    }
-}
 
 /// The glyphs of a table's boundaries.
 #[derive(Clone, Copy, Debug)]
@@ -41,61 +22,24 @@ pub struct Style {
 impl Style {
     /// Lines of `-` and `|` that meet in `+`.
     pub const fn ascii() -> Style
-        ensures { style_borders result ≡ ascii_borders }
+        ensures { style_borders result ≡ ascii }
     {
-        let plus = Crossings::new('+', '+', '+');
-        Style::of('-', '|', plus, plus, plus)
+        Style { borders: ascii() }
     }
 
     /// Light lines.
     pub const fn modern() -> Style
-        ensures { style_borders result ≡ modern_borders }
+        ensures { style_borders result ≡ modern }
     {
-        let first = Crossings::new('┌', '┬', '┐');
-        let inner = Crossings::new('├', '┼', '┤');
-        let last = Crossings::new('└', '┴', '┘');
-        Style::of('─', '│', first, inner, last)
+        Style { borders: modern() }
     }
 
     /// Double lines.
     pub const fn extended() -> Style
-        ensures { style_borders result ≡ extended_borders }
-    {
-        let first = Crossings::new('╔', '╦', '╗');
-        let inner = Crossings::new('╠', '╬', '╣');
-        let last = Crossings::new('╚', '╩', '╝');
-        Style::of('═', '║', first, inner, last)
-    }
-
-    // One glyph along all columns, one in all rows, and where they meet those of the first, the inner and
-    // the last boundary of rows.
-    const fn of(
-        along: char,
-        upright: char,
-        first: Crossings,
-        inner: Crossings,
-        last: Crossings,
-    ) -> Style
-        ensures { style_borders result ≡ borders_of along upright first inner last }
+        ensures { style_borders result ≡ extended }
     {
         Style {
-            borders: Borders {
-                top: Some(along),
-                top_left: Some(first.left),
-                top_right: Some(first.right),
-                top_intersection: Some(first.between),
-                bottom: Some(along),
-                bottom_left: Some(last.left),
-                bottom_right: Some(last.right),
-                bottom_intersection: Some(last.between),
-                horizontal: Some(along),
-                left_intersection: Some(inner.left),
-                right_intersection: Some(inner.right),
-                intersection: Some(inner.between),
-                vertical: Some(upright),
-                left: Some(upright),
-                right: Some(upright),
-            },
+            borders: extended(),
         }
     }
 

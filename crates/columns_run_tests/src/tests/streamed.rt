@@ -96,6 +96,15 @@ fn a_write_that_fails_leaves_a_front(rt: HostRuntime) {
         let front = &TABLE[..bad_call - 1];
         expect_write_fault(&rt, alloc, writer, RunFault::Write, (1, 0), front);
     }
-    let writer = Counted::new(StepWriter::new(alloc, 0));
-    expect_write_fault(&rt, alloc, writer, RunFault::WriteZero, (0, 1), b"");
+    for room in 0..TABLE.len() {
+        let writer = Counted::new(StepWriter::filling(alloc, 1, room));
+        expect_write_fault(
+            &rt,
+            alloc,
+            writer,
+            RunFault::WriteZero,
+            (0, 1),
+            &TABLE[..room],
+        );
+    }
 }

@@ -157,7 +157,10 @@ const CHOICES: [Choice; 7] = [
 ];
 
 // Widths of no room, of little room, and of more than there is.
-const WIDTHS: [usize; 6] = [0, 1, 3, 7, 79, usize::MAX];
+const WIDTHS: [usize; 7] = [0, 1, 3, 7, 79, 1 << 63, usize::MAX];
+
+// Whether cells are cut, and whether words are kept.
+const MODES: [(bool, bool); 4] = [(false, false), (false, true), (true, false), (true, true)];
 
 fn expect_case(rt: &impl Abort, alloc: Global, case: &Case) -> Result<(), RunFault> {
     let options = Options {
@@ -206,11 +209,11 @@ fn expect_refusal(
 }
 
 fn expect_refusals(rt: &impl Abort, alloc: Global, width: usize, priority: Choice) {
-    for truncate in [false, true] {
+    for (truncate, keep_words) in MODES {
         let options = Options {
             width: Some(width),
             truncate,
-            keep_words: !truncate,
+            keep_words,
             priority,
             ..defaults(rt)
         };

@@ -2,7 +2,7 @@ use Rattle.std.proofs.Common.{◌≡◌, ℕ, zero, suc, [], ◌∷◌, ◌+◌,
 use Rattle.grid_records_estimate.specs.Estimates.{greatest}
 use Rattle.columns_table.specs.Least.{width_in}
 use Rattle.columns_table.specs.Rows.{cut}
-use Rattle.columns_table.specs.declared.rows.Cell.{Cell}
+use Rattle.columns_table.specs.declared.rows.LineCell.{LineCell}
 use Rattle.columns_table.proofs.KeptLemmas.{sum-step}
 use Rattle.columns_table.proofs.LeastLemmas.{at-most-greatest, widest-step, written}
 use Rattle.columns_table.proofs.least.widest.Goals as goal

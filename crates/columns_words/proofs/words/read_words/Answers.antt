@@ -9,7 +9,7 @@ use Rattle.clap.specs.Walk.{Text, first_of, rows_of}
 use Rattle.clap.specs.declared.error.kind.ErrorKind.{ErrorKind}
 use Rattle.clap.specs.declared.error.kind.ErrorKind.TheVariants.{OutOfMemory}
 use Rattle.clap.proofs.WalkLemmas.{first_value-rows}
-use Rattle.columns_options.specs.Settings.{ascii, settings_with}
+use Rattle.columns_options.specs.Settings.{settings_with}
 use Rattle.columns_words.specs.Asking.{IsAnswer, IsRunOf, IsTold, is_set}
 use Rattle.columns_words.specs.Names.{named, priorities, styles}
 use Rattle.tabled_size_priority.specs.declared.choice.Choice.TheVariants.{None as InTurns}
@@ -18,6 +18,7 @@ use Rattle.columns_words.specs.declared.words.Asked.{Asked}
 use Rattle.columns_words.specs.declared.words.Asked.TheVariants.{Run, Help, Faulty}
 use Rattle.columns_words.proofs.ColumnsLemmas.{columns-free, columns-simple, width_passes}
 use Rattle.columns_words.proofs.words.read_words.Goals as goal
+use Rattle.tabled_glyphs.specs.Glyphs.{ascii}
 
 -- a run by the values of a parse is one by the matches of the words
 same_run : (command : App) (words : List Text) (given : Text → Option Text) → ((id : Text) → given id ≡ first_of id (matches_of command words))
