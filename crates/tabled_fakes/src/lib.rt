@@ -13,6 +13,7 @@ pub struct StepWriter {
     pub calls: usize,
     step: usize,
     bad_call: usize,
+    room: usize,
 }
 
 impl StepWriter {
@@ -23,7 +24,15 @@ impl StepWriter {
             calls: 0,
             step,
             bad_call,
+            room: usize::MAX,
         }
+    }
+
+    /// A writer that never fails, and takes this many bytes in all, and then nothing.
+    pub fn filling(alloc: Global, step: usize, room: usize) -> StepWriter {
+        let mut writer = StepWriter::new(alloc, step, 0);
+        writer.room = room;
+        writer
     }
 
     fn call(&mut self) -> io::Result<()> {
@@ -38,8 +47,9 @@ impl StepWriter {
 impl Write for StepWriter {
     fn write(&mut self, buf: &[u8]) -> io::Result<usize> {
         self.call()?;
-        let count = buf.len().min(self.step);
+        let count = buf.len().min(self.step).min(self.room);
         self.taken.extend_from_slice(&buf[..count])?;
+        self.room -= count;
         Ok(count)
     }
 
