@@ -9,3 +9,4 @@ pub mod Again
 pub mod TotalWidths
 pub mod ShownIn
 pub mod Rowing
+pub mod TrimmedRoom

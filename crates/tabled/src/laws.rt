@@ -7,7 +7,7 @@ ghost use Rattle.grid_config.specs.Settings.{Settings};
 ghost use Rattle.grid_config_spans.specs.Spans.{ArePositive};
 ghost use Rattle.grid_records_measure.specs.Measures.{columns};
 ghost use Rattle.grid_records_measure.specs.TextLines.{line_feed};
-ghost use Rattle.papergrid_picture.specs.Shown.{ArePlainlyShown, CostsOne, IsBare, KeepsLineEnds, ShowsOnly};
+ghost use Rattle.papergrid_picture.specs.Shown.{ArePlainlyShown, CostsOne, IsBare, ShowsOnly};
 ghost use Rattle.tabled.specs.Layout.{batches, multiples};
 ghost use Rattle.tabled.specs.Printing.{IsFit, printed};
 ghost use Rattle.tabled.specs.Totals.{drawn_height, drawn_line, drawn_width};
@@ -23,14 +23,14 @@ pub fn batches_by_hand()
 {}
 
 /// The text of a table is its lines, as many as its total height says, with a line feed between each two. Where
-/// a table with rows and columns can be printed, has no colours and no trimmed line ends, its cells show plain
-/// characters and line feeds, and each glyph, fill and character for justification costs one column, each of
-/// its lines takes the columns that its total width says.
+/// a table with rows and columns can be printed, has no colours, its cells show plain characters and line
+/// feeds, and each glyph, fill and character for justification costs one column, each of its lines takes the
+/// columns that its total width says, whatever is trimmed.
 pub fn totals_count_lines_and_columns()
     ensures lines { (s : State) → printed s ≡ join_with_byte line_feed (map (drawn_line s) (range_with_len 0 (drawn_height s))) }
     ensures columns { (settings : Settings) (rows : List (List (List ℕ))) (stored : Stored) (y : ℕ) →
         let s = state_with rows (look_of settings) (λ _. None) stored in
         ArePositive settings.spans → 0 < length rows → 0 < column_count rows → IsFit s (Ok tt) →
-        IsBare (look_of settings) → KeepsLineEnds (look_of settings) → ShowsOnly CostsOne (look_of settings) → ArePlainlyShown rows →
+        IsBare (look_of settings) → ShowsOnly CostsOne (look_of settings) → ArePlainlyShown rows →
         columns (shown_chars (drawn_line s y)) ≡ drawn_width s }
 {}
