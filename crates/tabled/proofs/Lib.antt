@@ -10,3 +10,6 @@ pub mod TotalWidths
 pub mod ShownIn
 pub mod Rowing
 pub mod TrimmedRoom
+pub mod PlainLines
+pub mod Narrowing
+pub mod ChangedTexts
