@@ -9,3 +9,7 @@ pub mod Again
 pub mod TotalWidths
 pub mod ShownIn
 pub mod Rowing
+pub mod TrimmedRoom
+pub mod PlainLines
+pub mod Narrowing
+pub mod ChangedTexts

@@ -5,3 +5,4 @@ pub mod Layout
 pub mod Making
 pub mod Totals
 pub mod Shown
+pub mod Narrowed

@@ -1,18 +1,45 @@
 //! Laws of the definitions that the contracts cite.
 ghost use Rattle.std.specs.List.{join_with_byte, range_with_len};
-ghost use Rattle.std.specs.Prelude.{◌≡◌, ◌<◌, ℕ, [], ◌∷◌, List, None, Ok, length, map};
-ghost use Rattle.ansi_str.specs.Characters.{shown_chars};
-ghost use Rattle.grid_config.specs.Looks.{look_of};
+ghost use Rattle.std.specs.Prelude.{◌≡◌, ◌<◌, ◌≤◌, ℕ, Bool, IfSome, String, [], ◌∷◌, List, None, Ok, Option, Some, map, unwrap_or};
+ghost use Rattle.ansi_scan.specs.Pieces.{pieces};
+ghost use Rattle.ansi_str.specs.StyledText.{styled};
 ghost use Rattle.grid_config.specs.Settings.{Settings};
-ghost use Rattle.grid_config_spans.specs.Spans.{ArePositive};
-ghost use Rattle.grid_records_measure.specs.Measures.{columns};
+ghost use Rattle.grid_config_values.specs.declared.entity.Entity.TheVariants.{Row as OneRow};
+ghost use Rattle.grid_config_values.specs.declared.position.Position.{Position as Place};
+ghost use Rattle.grid_records_measure.specs.Cutting.{ShowsCut};
 ghost use Rattle.grid_records_measure.specs.TextLines.{line_feed};
-ghost use Rattle.papergrid_picture.specs.Shown.{ArePlainlyShown, CostsOne, IsBare, KeepsLineEnds, ShowsOnly};
+ghost use Rattle.grid_records_traits.specs.Rows.{IsInside, text_at};
+ghost use Rattle.papergrid_picture.specs.Shown.{IsWholeText};
 ghost use Rattle.tabled.specs.Layout.{batches, multiples};
-ghost use Rattle.tabled.specs.Printing.{IsFit, printed};
+ghost use Rattle.tabled.specs.Narrowed.{GivesOnly, IsPlainlyPrinted, TakesAll, least_total, line_columns};
+ghost use Rattle.tabled.specs.Printing.{printed};
+ghost use Rattle.tabled.specs.Tables.{new_state};
 ghost use Rattle.tabled.specs.Totals.{drawn_height, drawn_line, drawn_width};
-ghost use Rattle.tabled_size_dimension.specs.Stored.{Stored};
-ghost use Rattle.tabled_steps.specs.States.{State, column_count, state_with};
+ghost use Rattle.tabled_list.specs.Amounts.{width_of};
+ghost use Rattle.tabled_list.specs.Priorities.{shrinks_so};
+ghost use Rattle.tabled_list.specs.Settings.{setting_step};
+ghost use Rattle.tabled_list.specs.declared.amount.Amount.{Amount as AskedAmount};
+ghost use Rattle.tabled_list.specs.declared.setting.Setting.TheVariants.{Truncate as CutTable, Wrap as BreakTable};
+ghost use Rattle.tabled_size_dimension.specs.declared.suffix.SuffixLimit.{SuffixLimit as OneLimit};
+ghost use Rattle.tabled_size_priority.specs.Choices.{IsShrunkByChoice};
+ghost use Rattle.tabled_size_priority.specs.declared.choice.Choice.{Choice as PriorityName};
+ghost use Rattle.tabled_size_wrap.specs.Showing.{ShowsWrapped};
+ghost use Rattle.tabled_steps.specs.States.{Settles, State, column_count};
+ghost use Rattle.tabled_width.specs.Breaking.{breaking, cutting_wider};
+ghost use Rattle.tabled_width.specs.Options.{truncation, wrapping};
+ghost use Rattle.tabled_width.specs.Rooms.{in_room, room};
+ghost use Rattle.tabled_width.specs.Tables.{narrowed};
+ghost use Rattle.tabled_width.specs.declared.truncate.Truncate.{Truncate as OneTruncate};
+ghost use Rattle.tabled_width.specs.declared.wrap.Wrap.{Wrap as OneWrap};
+
+use grid_config::ColoredConfig;
+use grid_records_rows::{FromText, VecRecords};
+use tabled_size_dimension::CompleteDimension;
+use tabled_size_priority::{
+    Peaker, PriorityLeft, PriorityMax, PriorityMin, PriorityNone, PriorityRight,
+};
+use tabled_steps::{Measurement, TableOption};
+use tabled_width::{Truncate, Width, Wrap};
 
 /// Batches of rows, worked by hand: five rows by two, four by two, none of size 0, and none of no rows.
 pub fn batches_by_hand()
@@ -23,14 +50,71 @@ pub fn batches_by_hand()
 {}
 
 /// The text of a table is its lines, as many as its total height says, with a line feed between each two. Where
-/// a table with rows and columns can be printed, has no colours and no trimmed line ends, its cells show plain
-/// characters and line feeds, and each glyph, fill and character for justification costs one column, each of
-/// its lines takes the columns that its total width says.
+/// a table with rows and columns can be printed, has no colours, its cells show plain characters and line
+/// feeds, and each glyph, fill and character for justification costs one column, each of its lines takes the
+/// columns that its total width says, whatever is trimmed.
 pub fn totals_count_lines_and_columns()
     ensures lines { (s : State) → printed s ≡ join_with_byte line_feed (map (drawn_line s) (range_with_len 0 (drawn_height s))) }
-    ensures columns { (settings : Settings) (rows : List (List (List ℕ))) (stored : Stored) (y : ℕ) →
-        let s = state_with rows (look_of settings) (λ _. None) stored in
-        ArePositive settings.spans → 0 < length rows → 0 < column_count rows → IsFit s (Ok tt) →
-        IsBare (look_of settings) → KeepsLineEnds (look_of settings) → ShowsOnly CostsOne (look_of settings) → ArePlainlyShown rows →
-        columns (shown_chars (drawn_line s y)) ≡ drawn_width s }
+    ensures columns { (settings : Settings) (s : State) (y : ℕ) → IsPlainlyPrinted settings s → line_columns s y ≡ drawn_width s }
+{}
+
+/// What narrower columns make of a text: in its room it is broken or cut, and where it has none it stays. A
+/// broken text shows the lines of the text, each broken by the runs of its characters, whatever their styles,
+/// and a cut one the longest front of its characters that fits; each character in the style that it has in the
+/// text, and U+FFFD in the plain style.
+pub fn narrowed_texts_show_their_breaks()
+    ensures texts { (change : ℕ → List ℕ → Option (List ℕ)) (least widths : List ℕ) (s : State) (place : Place) → IsInside s.rows place → place.col < column_count s.rows →
+        let text = text_at s.rows place in
+        text_at (narrowed change least widths s).rows place ≡ unwrap_or (in_room change text (room s.look least widths place)) text }
+    ensures broken { (width : ℕ) (keep_words : Bool) (text : List ℕ) → 0 < width → IsWholeText text →
+        IfSome (breaking keep_words width text) (λ bytes. ShowsWrapped width keep_words (styled (pieces text)) (styled (pieces bytes))) }
+    ensures cut { (width : ℕ) (text : List ℕ) → IsWholeText text →
+        IfSome (cutting_wider width text) (λ bytes. ShowsCut width (pieces text) (pieces bytes)) }
+{}
+
+/// No line of a table that `Wrap` or `Truncate` has changed takes more columns than were asked for, where its
+/// columns in their least widths, with boundaries and margins, take no more, the priority takes all that it
+/// is to take, and the lines of the new table are of plain characters.
+pub fn narrowed_tables_are_no_wider_than_asked<
+    'a,
+    T: FromText,
+    W: Measurement<Width> + Drop,
+    P: Peaker + Drop,
+>()
+    ensures broken { (option : OneWrap W P) (settings : Settings) (s new : State) (asked y : ℕ) →
+        Settles (Some (OneRow 0)) (⟦<Wrap<W, P> as TableOption<VecRecords<T>, ColoredConfig, CompleteDimension>>⟧.step option) s (Ok new) →
+        TakesAll P.shrinks → GivesOnly (W.measures (wrapping option).width) s asked → IsPlainlyPrinted settings new →
+        least_total s ≤ asked → line_columns new y ≤ asked }
+    ensures cut { (option : OneTruncate W P) (settings : Settings) (s new : State) (asked y : ℕ) →
+        Settles None (⟦<Truncate<'a, W, P> as TableOption<VecRecords<T>, ColoredConfig, CompleteDimension>>⟧.step option) s (Ok new) →
+        TakesAll P.shrinks → GivesOnly (W.measures (truncation option).width) s asked → IsPlainlyPrinted settings new →
+        least_total s ≤ asked → line_columns new y ≤ asked }
+{}
+
+/// The same of the settings of these names in a list, whose priorities take all that they are to take.
+pub fn listed_settings_keep_to_the_asked_width()
+    ensures broken { (width : AskedAmount) (keep_words : Bool) (priority : PriorityName) (settings : Settings) (s new : State) (asked y : ℕ) →
+        setting_step (BreakTable width keep_words priority) s (Ok new) → width_of width (column_count s.rows) s.rows s.look ≡ Ok asked →
+        IsPlainlyPrinted settings new → least_total s ≤ asked → line_columns new y ≤ asked }
+    ensures cut { (width : AskedAmount) (suffix : String) (limit : OneLimit) (multiline try_color : Bool) (priority : PriorityName) (settings : Settings) (s new : State) (asked y : ℕ) →
+        setting_step (CutTable width suffix limit multiline try_color priority) s (Ok new) → width_of width (column_count s.rows) s.rows s.look ≡ Ok asked →
+        IsPlainlyPrinted settings new → least_total s ≤ asked → line_columns new y ≤ asked }
+{}
+
+/// The five priorities take all that they are to take, also by their names; what leaves widths as they are
+/// doesn't.
+pub fn priorities_take_all()
+    ensures turns { TakesAll ⟦<PriorityNone as Peaker>⟧.shrinks }
+    ensures left { TakesAll ⟦<PriorityLeft as Peaker>⟧.shrinks }
+    ensures right { TakesAll ⟦<PriorityRight as Peaker>⟧.shrinks }
+    ensures widest { TakesAll ⟦<PriorityMax as Peaker>⟧.shrinks }
+    ensures narrowest { TakesAll ⟦<PriorityMin as Peaker>⟧.shrinks }
+    ensures named { (name : PriorityName) → TakesAll (shrinks_so (IsShrunkByChoice name)) }
+    ensures idle { ¬ (TakesAll (λ (_ : Bool) _ _ widths _ left. left ≡ widths)) }
+{}
+
+/// What two columns take at least, by hand: a padding of 1 at each side of their cells, and three
+/// boundaries.
+pub fn least_total_by_hand()
+    ensures { least_total (new_state (([] ∷ [] ∷ []) ∷ [])) ≡ 7 }
 {}

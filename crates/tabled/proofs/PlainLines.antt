@@ -1,0 +1,41 @@
+-- Lines of plain characters take the columns of the total width.
+use Rattle.std.proofs.Common.{◌≡◌, ◌<◌, ℕ, List, Option, None, Ok, length, refl, sym, subst, ◌∙◌}
+use Rattle.grid_config_colors.specs.Colors.{Color}
+use Rattle.grid_config_values.specs.declared.position.Position.{Position}
+use Rattle.grid_config_spans.specs.Spans.{ArePositive}
+use Rattle.grid_config.specs.Looks.{Look, look_of}
+use Rattle.grid_config.specs.Settings.{Settings}
+use Rattle.papergrid_fits.proofs.RoomLemmas.{good-spans}
+use Rattle.papergrid_picture.proofs.WidthLemmas.{line-columns}
+use Rattle.papergrid_picture.specs.Shown.{ArePlainlyShown, CostsOne, IsBare, ShowsOnly}
+use Rattle.tabled_size_dimension.specs.Sizes.{size_at}
+use Rattle.tabled_size_dimension.specs.Stored.{Stored, stored_sizes}
+use Rattle.tabled_steps.specs.States.{State, column_count, state_with}
+use Rattle.tabled.specs.Narrowed.{IsPlainlyPrinted, line_columns}
+use Rattle.tabled.specs.Printing.{IsFit, drawn_heights, drawn_sizes, drawn_widths}
+use Rattle.tabled.specs.Totals.{drawn_width}
+use Rattle.tabled.proofs.Fitting.{fits_given}
+use Rattle.tabled.proofs.TotalWidths.{whole_width}
+use Rattle.tabled.proofs.TrimmedRoom.{plain-room}
+
+whole-line : (settings : Settings) (rows : List (List (List ℕ))) (stored : Stored) (y : ℕ) → ArePositive settings.spans → 0 < length rows → 0 < column_count rows → ArePlainlyShown rows →
+    let s = state_with rows (look_of settings) (λ _. None) stored in
+    IsFit s (Ok tt) → IsBare (look_of settings) → ShowsOnly CostsOne (look_of settings) → line_columns s y ≡ drawn_width s
+whole-line settings rows stored y positive some_rows some_columns texts fit bare ones =
+    let s = state_with rows (look_of settings) (λ _. None) stored in
+    let sizes = drawn_sizes s in
+    let width = size_at (stored_sizes sizes.widths) in
+    let height = size_at (stored_sizes sizes.heights) in
+    let fits = fits_given settings rows (λ _. None) stored settings sizes (column_count rows) refl refl refl fit in
+    line-columns (look_of settings) rows (drawn_widths s) (drawn_heights s) bare ones texts settings.spans y
+    (good-spans settings width height (column_count rows) rows (λ _. None) positive fits) (plain-room settings width height (column_count rows) rows (λ _. None) positive fits texts)
+    ∙ sym (whole_width settings rows (λ _. None) stored some_rows some_columns)
+
+pub plain-line : (settings : Settings) (s : State) (y : ℕ) → IsPlainlyPrinted settings s → line_columns s y ≡ drawn_width s
+plain-line settings s y is =
+    let Counted : Look → (Position → Option Color) → Type 0 = λ look colors.
+    (let t = state_with s.rows look colors s.sizes in IsFit t (Ok tt) → IsBare look → ShowsOnly CostsOne look → line_columns t y ≡ drawn_width t) in
+    let here : Counted (look_of settings) (λ _. None) = whole-line settings s.rows s.sizes y is.spans is.some_rows is.some_columns is.texts in
+    let colored : Counted (look_of settings) s.colors = subst (λ (colors : Position → Option Color). Counted (look_of settings) colors) (sym is.no_colors) here in
+    let looked : Counted s.look s.colors = subst (λ (look : Look). Counted look s.colors) (sym is.look) colored in
+    looked is.fits is.bare is.ones

@@ -1,0 +1,30 @@
+use Rattle.std.proofs.Common.{None, Some, IfSome, true, false, cond, nat_lt}
+use Rattle.ansi_scan.specs.Pieces.{pieces}
+use Rattle.ansi_scan.proofs.Existence.{ArePiecesOf-pieces}
+use Rattle.grid_records_measure.specs.Cutting.{ShowsCut}
+use Rattle.grid_records_measure.specs.TextLines.{text_width}
+use Rattle.grid_records_measure.proofs.ShownCuts.{cut-shows}
+use Rattle.tabled_size_wrap.specs.Bytes.{cut_at, wrapped_text}
+use Rattle.tabled_size_wrap.proofs.BytesLemmas.{cut_at-meets, wrapped_text-meets}
+use Rattle.tabled_size_wrap.proofs.WrappedLemmas.{wrapped-shows}
+use Rattle.tabled_width.specs.Rooms.{in_room, room}
+use Rattle.tabled.proofs.ChangedTexts.{text-changed}
+use Rattle.tabled.proofs.laws.narrowed_texts_show_their_breaks.Goals as goal
+
+pub returns-clause-texts : goal.returns-clause-texts
+returns-clause-texts c = λ change least widths s place inside column. text-changed (λ place text. in_room change text (room s.look least widths place)) s.rows place inside column
+
+pub returns-clause-broken : goal.returns-clause-broken
+returns-clause-broken c = λ width keep_words text some whole.
+    let of_text = ArePiecesOf-pieces text in
+    let bytes = wrapped_text width keep_words text in
+    wrapped-shows keep_words text bytes (pieces text) whole.utf8 of_text whole.whole width some (wrapped_text-meets width keep_words text (pieces text) of_text) (pieces bytes) (ArePiecesOf-pieces bytes)
+
+pub returns-clause-cut : goal.returns-clause-cut
+returns-clause-cut c = λ width text whole.
+    let of_text = ArePiecesOf-pieces text in
+    let bytes = cut_at width text in
+    elim (nat_lt width (text_width text)) as (λ b. IfSome (cond b (Some bytes) None) (λ bytes. ShowsCut width (pieces text) (pieces bytes))) [
+      | true ↦ cut-shows width text bytes (pieces text) (pieces bytes) whole.utf8 of_text whole.whole (cut_at-meets width text (pieces text) of_text) (ArePiecesOf-pieces bytes)
+      | false ↦ tt
+    ]

@@ -1,0 +1,45 @@
+-- Tables that are asked to be no wider than so many columns.
+use Rattle.std.specs.Prelude.{◌≡◌, ◌<◌, ℕ, List, None, Option, Ok, Result, length, sum}
+use Rattle.ansi_str.specs.Characters.{shown_chars}
+use Rattle.grid_config_values.specs.declared.fault.Fault.{Fault}
+use Rattle.grid_config_spans.specs.Spans.{ArePositive}
+use Rattle.grid_config.specs.Looks.{Look, look_of}
+use Rattle.grid_config.specs.Settings.{Settings}
+use Rattle.grid_records_measure.specs.Measures.{columns}
+use Rattle.papergrid_picture.specs.Shown.{ArePlainlyShown, CostsOne, IsBare, ShowsOnly}
+use Rattle.tabled_size_priority.specs.Shrinking.{shrunk_sum}
+use Rattle.tabled_steps.specs.States.{State, column_count}
+use Rattle.tabled_width.specs.Rooms.{least_widths}
+use Rattle.tabled_width.specs.Widths.{table_width}
+use Rattle.tabled.specs.Printing.{IsFit}
+use Rattle.tabled.specs.Totals.{drawn_line}
+
+-- a table of these settings, with rows and columns and without colours, that can be printed: its cells show plain characters and
+-- line feeds, and each glyph, fill and character for justification costs one column
+pub record IsPlainlyPrinted (settings : Settings) (s : State) : Type 0 where
+  pub look : s.look ≡ look_of settings
+  pub spans : ArePositive settings.spans
+  pub no_colors : s.colors ≡ (λ _. None)
+  pub some_rows : 0 < length s.rows
+  pub some_columns : 0 < column_count s.rows
+  pub fits : IsFit s (Ok tt)
+  pub bare : IsBare s.look
+  pub ones : ShowsOnly CostsOne s.look
+  pub texts : ArePlainlyShown s.rows
+
+-- the columns that line y of what it prints takes
+abbrev pub line_columns : State → ℕ → ℕ
+line_columns s y = columns (shown_chars (drawn_line s y))
+
+-- what it takes in the least widths of its columns, with boundaries and margins
+abbrev pub least_total : State → ℕ
+least_total s = table_width s.look (least_widths s.look (column_count s.rows) (length s.rows))
+
+-- a measurement gives this width of the table, and no other
+abbrev pub GivesOnly : (ℕ → List (List (List ℕ)) → Look → Result ℕ Fault → Type 0) → State → ℕ → Type 0
+GivesOnly measures s width = (size : Result ℕ Fault) → measures (column_count s.rows) s.rows s.look size → size ≡ Ok width
+
+-- a priority takes from widths all that is asked for, or all that is above their leasts
+abbrev pub TakesAll : {P : Type 0} → (P → List ℕ → ℕ → List ℕ → P → List ℕ → Type 0) → Type 0
+TakesAll {P} shrinks =
+    (before : P) (least : List ℕ) (by : ℕ) (widths : List ℕ) (after : P) (left : List ℕ) → shrinks before least by widths after left → sum left ≡ shrunk_sum least widths by
