@@ -1,5 +1,5 @@
 -- The cell that is seen at a place: what it is, and that a search among the spans finds it.
-use Rattle.std.proofs.Common.{◌≡◌, ◌≢◌, ◌==◌, ◌+◌, ◌<◌, ◌≤◌, ℕ, zero, suc, Bool, true, false, not, ◌&&◌, List, [], ◌∷◌, ◌++◌, map, flat_map, Option, None, Some, refl, sym, ap, subst, ◌∙◌, unwrap_or, ◌⊎◌, inl, inr, IsTrue, is_none, ◌↔◌, nat_lt, arith}
+use Rattle.std.proofs.Common.{◌≡◌, ◌≢◌, ◌==◌, ◌+◌, ◌<◌, ◌≤◌, ℕ, zero, suc, Bool, true, false, not, ◌&&◌, List, [], ◌∷◌, ◌++◌, map, flat_map, Option, None, Some, refl, sym, ap, subst, ◌∙◌, unwrap_or, ◌⊎◌, inl, inr, IsTrue, is_none, ◌↔◌, arith}
 use Rattle.std.specs.Prelude.{⊤}
 use Rattle.std.proofs.lemmas.Bool.{and_parts}
 use Rattle.std.proofs.lemmas.Bool.Decides.{nat_tests}
@@ -347,41 +347,7 @@ pub first_of_more : (test : Position → Bool) (among more : Position → Type 0
 first_of_more test among more None into out none = λ p there. is_false (test p) (λ passes. grind (arith, none p (into p there passes), passes))
 first_of_more test among more (Some x) into out first = (first.0, out x first.1, λ p there passes. first.2 p (into p there passes) passes)
 
--- what is found in a row is the first of all, where none passes in the rows above
-pub first_of_rows : (test : Position → Bool) (row : ℕ) (found : Option Position) → found ≢ None → ((p : Position) → p.row < row → test p ≡ false) →
-    IsFirst test (λ p. p.row ≡ row) found → IsFirst test (λ _. ⊤) found
-first_of_rows test row None some above first = absurd (some refl)
-first_of_rows test row (Some x) some above first = (
-  first.0,
-  tt,
-  λ p there passes. elim (p.row == row) as (λ b. p.row == row ≡ b → is_le (position_cmp x p) ≡ true) [
-    | true ↦ λ e. first.2 p (grind (arith, nat_tests, e)) passes
-    | false ↦ λ e.
-        let below : row ≤ p.row = not_above p passes in
-        is_le_cmp x p ∙ grind (arith, nat_tests, e, below, first.1)
-  ] refl,
-)
-  where
-    not_above : (p : Position) → test p ≡ true → row ≤ p.row
-    not_above p passes = elim (nat_lt p.row row) as (λ b. nat_lt p.row row ≡ b → row ≤ p.row) [
-      | true ↦ λ e. absurd (grind (arith, passes, above p (grind (arith, nat_tests, e))))
-      | false ↦ λ e. grind (arith, nat_tests, e)
-    ] refl
-
--- where none passes in a row and the rows above, none passes in the rows above the next
-pub none_above_next : (test : Position → Bool) (row : ℕ) (found : Option Position) → found ≡ None → ((p : Position) → p.row < row → test p ≡ false) →
-    IsFirst test (λ p. p.row ≡ row) found → (p : Position) → p.row < row + 1 → test p ≡ false
-none_above_next test row (Some x) none above first p before = cc
-none_above_next test row None none above first p before = elim (p.row == row) as (λ b. p.row == row ≡ b → test p ≡ false) [
-  | true ↦ λ e. first p (grind (arith, nat_tests, e))
-  | false ↦ λ e. above p (grind (arith, nat_tests, e, before))
-] refl
-
 module _ (extent : Position → Extent) (place : Position) where
-  -- what hides the place is not below it, nor right of it
-  pub hides_before : (p : Position) → hides extent place p ≡ true → (p.row ≤ place.row) × (p.col ≤ place.col)
-  hides_before p passes = let held = (hides_shown extent place p passes).0 in (held.below, held.right)
-
   abbrev IsFrom : Position → Type 0
   IsFrom first = (anchor : Position) → Holds anchor (extent anchor) place → (first.row ≤ anchor.row) × (first.col ≤ anchor.col)
 
@@ -394,7 +360,7 @@ module _ (extent : Position → Extent) (place : Position) where
       let below = is_lt_cmp place p in
       grind (arith, nat_tests, above, below, begins.0, begins.1, held.below, held.right)) (λ p there. tt) is
 
-  -- and in a row between two places of the row
+  -- and those of a row between two places of the row
   pub first_in_its_row : (row left : ℕ) (found : Option Position) → ((anchor : Position) → Holds anchor (extent anchor) place → left ≤ anchor.col) →
       IsFirst (hides extent place) (IsBetween (at row left) (at row place.col)) found → IsFirst (hides extent place) (λ p. p.row ≡ row) found
   first_in_its_row row left found from is = first_of_more (hides extent place) (IsBetween (at row left) (at row place.col)) (λ p. p.row ≡ row) found (λ p there passes.
@@ -406,16 +372,6 @@ module _ (extent : Position → Extent) (place : Position) where
       let above = is_le_cmp (at row left) p in
       let below = is_lt_cmp (at row place.col) p in
       grind (arith, nat_tests, there, above, below)) is
-
-  -- the last row is that of the place
-  pub first_to_its_row : (found : Option Position) → ((p : Position) → p.row < place.row → hides extent place p ≡ false) →
-      IsFirst (hides extent place) (λ p. p.row ≡ place.row) found → IsFirst (hides extent place) (λ _. ⊤) found
-  first_to_its_row found above is = first_of_more (hides extent place) (λ p. p.row ≡ place.row) (λ _. ⊤) found (λ p there passes. elim (p.row == place.row) as (λ b. p.row == place.row ≡ b → p.row ≡ place.row) [
-      | true ↦ λ e. grind (arith, nat_tests, e)
-      | false ↦ λ e.
-          let before : p.row < place.row = grind (arith, nat_tests, e, (hides_before p passes).0) in
-          absurd (grind (arith, passes, above p before))
-    ] refl) (λ p there. tt) is
 
   first_up_to : (found : Option Position) → IsFirst (hides extent place) (λ _. ⊤) found → found ≡ find (hides extent place) (table_positions (place.row + 1) (place.col + 1))
   first_up_to found is =

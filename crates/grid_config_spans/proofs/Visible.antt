@@ -1,20 +1,15 @@
 -- A search among the spans finds what holds a place.
-use Rattle.std.proofs.Common.{◌≡◌, suc, Bool, true, false, ◌&&◌, List, [], ◌∷◌, Option, None, Some, refl, sym, ap, subst, ◌∙◌, unwrap_or, arith}
+use Rattle.std.proofs.Common.{◌≡◌, suc, Bool, true, false, ◌&&◌, List, [], ◌∷◌, Option, None, Some, refl, sym, ap, subst, unwrap_or, arith}
 use Rattle.std.proofs.lemmas.Bool.Decides.{nat_tests}
 use Rattle.std.specs.List.{All, filter, list_any}
 use Rattle.std.specs.Map.{lookup}
-use Rattle.std.specs.Ordering.{is_gt, is_le}
-use Rattle.std.specs.BTreeMap.Range.{range_contains}
-use Rattle.std.specs.declared.ops.Bound.TheVariants.{Included, Excluded}
-use Rattle.std.specs.declared.cmp.Ordering.{Ordering}
-use Rattle.std.specs.declared.cmp.Ordering.TheVariants.{Less, Equal, Greater}
 use Rattle.grid_config_values.specs.declared.position.Position.{Position}
-use Rattle.grid_config_values.specs.Order.{position_cmp, same_place}
+use Rattle.grid_config_values.specs.Order.{same_place}
 use Rattle.grid_config_spans.specs.declared.extent.Extent.{Extent}
 use Rattle.grid_config_spans.specs.Rectangles.{Holds}
-use Rattle.grid_config_spans.specs.Search.{begun_between, holds, holds_in}
+use Rattle.grid_config_spans.specs.Search.{holds}
 use Rattle.grid_config_spans.specs.Spans.{extent_at, single}
-use Rattle.grid_config_spans.proofs.Order.{is_le_cmp, same_position}
+use Rattle.grid_config_spans.proofs.Order.{same_position}
 
 pub holds_shown : (anchor : Position) (extent : Extent) (place : Position) → holds anchor extent place ≡ true → Holds anchor extent place
 holds_shown anchor extent place e = record {

@@ -1,17 +1,15 @@
 //! The cells that span several columns or rows.
-ghost use Rattle.std.specs.Prelude.{false, ⊤, ◌≡◌, ◌≢◌, ◌+◌, ◌≤◌, ◌<◌, ◌↔◌, [], if◌then◌else◌, ◌==◌, IsOk, IsTrue, IfErr, IfOk, IfSome, OnErr, OnOk, map, None, Some, Err, Ok};
+ghost use Rattle.std.specs.Prelude.{false, ⊤, ◌≡◌, ◌≢◌, ◌+◌, ◌≤◌, ◌<◌, ◌↔◌, [], if◌then◌else◌, ◌==◌, IsOk, IsTrue, IfErr, IfOk, IfSome, OnErr, OnOk, None, Some, Err, Ok};
 ghost use Rattle.grid_config_values.specs.declared.fault.Fault.TheVariants.{Memory, Spans as BadSpan};
-ghost use Rattle.std.specs.List.{All, find, list_all, list_any};
-ghost use Rattle.std.specs.List.Sorted.{IsStrictlySortedBy};
+ghost use Rattle.std.specs.List.{All, list_all, list_any};
 ghost use Rattle.std.specs.Map.{lookup};
-ghost use Rattle.std.specs.Option.{option_map};
 ghost use Rattle.std.specs.Ordering.{is_gt};
 ghost use Rattle.grid_config_values.specs.declared.position.Position.{Position as Place};
 ghost use Rattle.grid_config_values.specs.Order.{position_cmp, same_place};
 ghost use Rattle.grid_config_spans.specs.declared.extent.Extent.{Extent as Size};
 ghost use Rattle.grid_config_spans.specs.Owners.{IsBetween, IsFirst, hides, owner};
 ghost use Rattle.grid_config_spans.specs.Rectangles.{Holds};
-ghost use Rattle.grid_config_spans.specs.Search.{begun_between, holds_in, is_good_span, is_met_by, is_other, search_end};
+ghost use Rattle.grid_config_spans.specs.Search.{begun_between, is_good_span, is_met_by, is_other, search_end};
 ghost use Rattle.grid_config_spans.specs.Spans.{AreGood, ArePositive, IsVisible, SetsColumns, SetsExtent, SetsRows, extent_at, single};
 
 use crate::extent::Extent;
@@ -150,7 +148,8 @@ impl Spans {
     }
 
     /// Whether the rectangle of no other cell holds this place. Looks at no span where there is none, and
-    /// else at those alone that begin near enough.
+    /// else at no more rows than the highest span takes, and in each at no more spans than the widest takes
+    /// columns.
     pub fn is_cell_visible(&self, pos: Position) -> bool
         ensures { IsTrue result ↔ IsVisible self.now pos }
     {
@@ -159,8 +158,8 @@ impl Spans {
 
     /// The cell that is seen at this place: the first by row, then by column, of the other cells whose
     /// rectangles hold the place, and where there is none the cell of the place itself. Each cell takes at
-    /// least one row and one column. Looks at no span where there is none, and else at those alone that
-    /// begin near enough.
+    /// least one row and one column. Looks at no span where there is none, and else at no more rows than
+    /// the highest span takes, and in each at no more spans than the widest takes columns.
     pub fn owner(&self, pos: Position) -> Position
         ensures first { result ≡ owner (extent_at self.now) pos }
         ensures positive { ArePositive self.now }
@@ -215,8 +214,8 @@ impl Spans {
         ) && extent.meets(anchor, *other, *size))
     }
 
-    // Where the first rectangle of another cell begins that holds this place. Few spans are looked at in
-    // turn, and else in each row those alone that begin near enough.
+    // Where the first rectangle of another cell begins that holds this place. Where the spans are no more
+    // than the rows that the highest takes, they are looked at in turn, and else row by row.
     fn holder(&self, pos: Position) -> Option<Position>
         ensures first { IsFirst (hides (extent_at self.now) pos) (λ _. ⊤) result }
         ensures positive { ArePositive self.now }
