@@ -148,8 +148,8 @@ impl Spans {
     }
 
     /// Whether the rectangle of no other cell holds this place. Looks at no span where there is none, and
-    /// else at no more rows than the highest span takes, and in each at no more spans than the widest takes
-    /// columns.
+    /// else at no more than there are places in a rectangle as high as the highest span and as wide as the
+    /// widest.
     pub fn is_cell_visible(&self, pos: Position) -> bool
         ensures { IsTrue result ↔ IsVisible self.now pos }
     {
@@ -158,8 +158,8 @@ impl Spans {
 
     /// The cell that is seen at this place: the first by row, then by column, of the other cells whose
     /// rectangles hold the place, and where there is none the cell of the place itself. Each cell takes at
-    /// least one row and one column. Looks at no span where there is none, and else at no more rows than
-    /// the highest span takes, and in each at no more spans than the widest takes columns.
+    /// least one row and one column. Looks at no span where there is none, and else at no more than there
+    /// are places in a rectangle as high as the highest span and as wide as the widest.
     pub fn owner(&self, pos: Position) -> Position
         ensures first { result ≡ owner (extent_at self.now) pos }
         ensures positive { ArePositive self.now }
