@@ -53,7 +53,7 @@ impl<'a> Record for KeptCell<'a> {
     }
 }
 
-/// The rows in columns of these widths, of which so many columns stand beside a text: each text resized
+/// The rows in columns of these widths, of which `beside` columns stand beside a text: each text resized
 /// to the room that it has, and an empty one for each that a row lacks. Fails only where allocation fails.
 pub fn kept_rows<'a>(
     alloc: Global,

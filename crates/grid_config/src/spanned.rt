@@ -375,7 +375,7 @@ impl SpannedConfig {
         self.cells.justification_color.get(pos)
     }
 
-    /// Whether column boundary `j` of so many columns is there: `has_left` of the borders at 0,
+    /// Whether column boundary `j` of `columns` columns is there: `has_left` of the borders at 0,
     /// `has_right` at `columns`, else `has_vertical`.
     pub fn has_vertical(&self, j: usize, columns: usize) -> bool
         ensures { result ≡ has_column_boundary self.now.borders (boundary_kind j columns) }
@@ -383,7 +383,7 @@ impl SpannedConfig {
         self.whole.borders.has_vertical_at(j, columns)
     }
 
-    /// Whether row boundary `i` of so many rows is there: `has_top` of the borders at 0, `has_bottom`
+    /// Whether row boundary `i` of `rows` rows is there: `has_top` of the borders at 0, `has_bottom`
     /// at `rows`, else `has_horizontal`.
     pub fn has_horizontal(&self, i: usize, rows: usize) -> bool
         ensures { result ≡ has_row_boundary self.now.borders (boundary_kind i rows) }
@@ -494,9 +494,9 @@ impl SpannedConfig {
         self.spans.owner(pos)
     }
 
-    /// Whether in a table of so many rows and columns the rectangle of each cell that spans several
-    /// stays inside the table, and no two of them share a place. Cells outside the table don't count.
-    /// Each cell takes at least one row and one column.
+    /// Whether in a table of `rows` rows and `columns` columns the rectangle of each cell that spans
+    /// several stays inside the table, and no two of them share a place. Cells outside the table
+    /// don't count. Each cell takes at least one row and one column.
     pub fn spans_are_good(&self, rows: usize, columns: usize) -> bool
         ensures good { IsTrue result ↔ AreGood self.now.spans rows columns }
         ensures positive { ArePositive self.now.spans }

@@ -170,9 +170,9 @@ impl Spans {
             .unwrap_or(pos)
     }
 
-    /// Whether in a table of so many rows and columns the rectangle of each cell that spans several stays
-    /// inside the table, and no two of them share a place. Cells outside the table don't count. Each cell
-    /// takes at least one row and one column.
+    /// Whether in a table of `rows` rows and `columns` columns the rectangle of each cell that spans
+    /// several stays inside the table, and no two of them share a place. Cells outside the table don't
+    /// count. Each cell takes at least one row and one column.
     pub fn spans_are_good(&self, rows: usize, columns: usize) -> bool
         ensures good { IsTrue result ↔ AreGood self.now rows columns }
         ensures positive { ArePositive self.now }

@@ -38,7 +38,7 @@ fn meet(sizes: &mut [usize], need: Need, between: bool) -> Result<(), Fault>
     add_shares(tracks, need.size.saturating_sub(held))
 }
 
-// How many boundaries there are between so many columns.
+// How many boundaries there are between `length` columns.
 fn boundaries(length: usize, between: bool) -> usize
     requires { 0 < length }
     ensures { result ≡ (if between then length - 1 else 0) }

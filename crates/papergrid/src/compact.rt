@@ -111,7 +111,7 @@ impl<'a, R: Records, D: Dimension + Drop, C: Colors + Drop> CompactGrid<
     }
 }
 
-// Appends the text of so many rows and columns of records, each row in one line.
+// Appends the text of `rows` rows and `columns` columns of records, each row in one line.
 fn print_lines<R: PeekableRecords, D: Dimension, C: Colors>(
     alloc: Global,
     records: &R,

@@ -59,7 +59,7 @@ pub fn fits_counted<R: PeekableRecords, D: Dimension>(
     }
 }
 
-// Whether the columns of a line and the lines of a table of so many rows and columns are at most
+// Whether the columns of a line and the lines of a table of `rows` rows and `columns` columns are at most
 // `usize::MAX`. Without rows or columns there are none.
 fn is_in_range<D: Dimension>(cfg: &SpannedConfig, dims: &D, rows: usize, columns: usize) -> bool
     ensures { IsTrue result ↔ InRange (sized cfg.now (D.width dims.now) (D.height dims.now) columns rows) }

@@ -480,8 +480,8 @@ impl<'a, R: PeekableRecords, C: Colors> Table<'a, R, C> {
         self.push_all_rows(alloc, out, &flat, &between, &mut runs, &mut cells)
     }
 
-    // How many bytes the lines take at least, of which each has so many columns: what no memory holds is
-    // refused before anything is written.
+    // How many bytes the lines take at least, each of `width` columns: what no memory holds is refused
+    // before anything is written.
     fn room(&self, width: usize) -> usize {
         let margin = self.cfg.get_margin();
         let mut lines = margin.top.size.saturating_add(margin.bottom.size);
@@ -511,7 +511,7 @@ impl<'a, R: PeekableRecords, C: Colors> Table<'a, R, C> {
     }
 }
 
-// So many places, at which no cell is open.
+// `count` places, at which no cell is open.
 fn closed_cells<'a>(alloc: Global, count: usize) -> Result<Vec<Option<OpenCell<'a>>>, AllocError>
     ensures { IfOk result (λ cells. length cells.items ≡ count) }
 {
@@ -564,7 +564,7 @@ fn plain_line<R: PeekableRecords>(records: &R, pos: Position) -> Option<&str>
     Some(text)
 }
 
-// How many columns the first line of the cell at this place takes, whose widest takes so many.
+// How many columns the first line of the cell at this place takes, whose widest takes `widest`.
 fn first_width<R: PeekableRecords>(records: &R, pos: Position, widest: usize) -> usize
     requires { HasWidth (text_at (R.rows records.now) pos) widest }
     ensures { HasLineWidth (text_at (R.rows records.now) pos) 0 result }

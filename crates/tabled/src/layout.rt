@@ -38,7 +38,7 @@ impl LayoutIterator {
     }
 }
 
-// How many batches of this size hold so many rows; none of size 0.
+// How many batches of this size hold `rows` rows; none of size 0.
 fn count_batches(rows: usize, batch: usize) -> usize
     ensures { result ≡ batches rows batch }
 {

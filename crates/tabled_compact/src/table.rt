@@ -82,7 +82,7 @@ impl<I: RecordTexts, D: Dimension> CompactTable<I, D> {
         }
     }
 
-    /// The table with so many columns: a row that has fewer cells gets empty ones, and further ones are
+    /// The table with `count` columns: a row that has fewer cells gets empty ones, and further ones are
     /// left out.
     pub const fn columns(self, count: usize) -> CompactTable<I, D>
         ensures { compacted I.rows D.width result ≡ record (compacted I.rows D.width self) { columns = count } }
@@ -93,7 +93,7 @@ impl<I: RecordTexts, D: Dimension> CompactTable<I, D> {
         }
     }
 
-    /// The table of so many rows at most, counted after those that `skip` passes over.
+    /// The table of `count` rows at most, counted after those that `skip` passes over.
     pub const fn rows(self, count: usize) -> CompactTable<I, D>
         ensures { compacted I.rows D.width result ≡ record (compacted I.rows D.width self) { kept = Some count } }
     {
@@ -103,7 +103,7 @@ impl<I: RecordTexts, D: Dimension> CompactTable<I, D> {
         }
     }
 
-    /// The table without so many first rows of its source.
+    /// The table without the first `count` rows of its source.
     pub const fn skip(self, count: usize) -> CompactTable<I, D>
         ensures { compacted I.rows D.width result ≡ record (compacted I.rows D.width self) { skipped = count } }
     {
@@ -261,7 +261,7 @@ impl<I: IntoRecords, D: Dimension + Drop> CompactTable<I, D> {
     }
 }
 
-// Appends so many columns of these rows, each row in one line.
+// Appends `columns` columns of these rows, each row in one line.
 fn print<I: IntoRecords, D: Dimension + Drop>(
     alloc: Global,
     rows: I,

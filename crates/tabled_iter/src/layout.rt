@@ -58,7 +58,7 @@ pub(crate) fn layout_of<C: Cell>(
     })
 }
 
-/// The first so many, or all.
+/// The first `count`, or all where none is given.
 pub(crate) fn first_kept<T>(items: &[T], count: Option<usize>) -> &[T]
     ensures { result.now ≡ kept_of count items.now }
 {

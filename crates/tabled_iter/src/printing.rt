@@ -72,7 +72,7 @@ fn draw_kept<I: IntoRecords + Drop>(
     }
 }
 
-// Appends so many columns of these rows.
+// Appends `columns` columns of these rows.
 fn print<I: IntoRecords>(
     alloc: Global,
     rows: I,

@@ -53,7 +53,7 @@ impl<I: RecordTexts> IterTable<I> {
         }
     }
 
-    /// Gives the table so many columns, in place of as many as the longest sniffed row has: a row that has
+    /// Gives the table `count` columns, in place of as many as the longest sniffed row has: a row that has
     /// fewer cells gets empty ones, and further ones are left out.
     pub fn columns(&mut self, count: usize) -> &mut Self
         ensures lends { result.ghost_name ≡ self.entry.ghost_name }
@@ -63,7 +63,7 @@ impl<I: RecordTexts> IterTable<I> {
         self
     }
 
-    /// Keeps so many rows at most. Which rows are sniffed stays the same.
+    /// Keeps `count` rows at most. Which rows are sniffed stays the same.
     pub fn rows(&mut self, count: usize) -> &mut Self
         ensures lends { result.ghost_name ≡ self.entry.ghost_name }
         ensures set { streamed I.rows result.now ≡ record (streamed I.rows self.old) { kept = Some count } }
@@ -72,7 +72,7 @@ impl<I: RecordTexts> IterTable<I> {
         self
     }
 
-    /// Sniffs so many rows, in place of a thousand.
+    /// Sniffs `count` rows, in place of a thousand.
     pub fn sniff(&mut self, count: usize) -> &mut Self
         ensures lends { result.ghost_name ≡ self.entry.ghost_name }
         ensures set { streamed I.rows result.now ≡ record (streamed I.rows self.old) { sniff = count } }
@@ -81,7 +81,7 @@ impl<I: RecordTexts> IterTable<I> {
         self
     }
 
-    /// Makes the content of each row so many lines high.
+    /// Makes the content of each row `size` lines high.
     pub fn height(&mut self, size: usize) -> &mut Self
         ensures lends { result.ghost_name ≡ self.entry.ghost_name }
         ensures set { streamed I.rows result.now ≡ record (streamed I.rows self.old) { height = Some size } }
@@ -90,7 +90,7 @@ impl<I: RecordTexts> IterTable<I> {
         self
     }
 
-    /// Makes the content of each column so many columns of the terminal wide. Where no height is set, each
+    /// Makes the content of each column `size` columns of the terminal wide. Where no height is set, each
     /// row then has one line.
     pub fn width(&mut self, size: usize) -> &mut Self
         ensures lends { result.ghost_name ≡ self.entry.ghost_name }

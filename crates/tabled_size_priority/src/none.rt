@@ -63,7 +63,7 @@ impl PriorityNone {
         moved.walks
     }
 
-    // The column, of so many, at which a round begins.
+    // The column, of `count` columns, at which a round begins.
     fn start(&self, count: usize) -> usize
         ensures { result ≡ start_of self.now count }
     {

@@ -127,7 +127,7 @@ where
     Ok(row)
 }
 
-/// A row without texts, with room for so many where there is memory for it.
+/// A row without texts, with room for `columns` texts where there is memory for it.
 fn empty_row(alloc: Global, columns: usize) -> Vec<String>
     ensures { result.items ≡ [] }
 {
@@ -137,7 +137,7 @@ fn empty_row(alloc: Global, columns: usize) -> Vec<String>
     }
 }
 
-/// The row, and after it an empty text for each that it lacks of so many.
+/// The row, and after it an empty text for each that it lacks of `columns` texts.
 fn filled_row(row: Vec<String>, columns: usize) -> Result<Vec<String>, AllocError>
     ensures { IfOk result (λ filled. map string_bytes filled.items ≡ filled_texts columns (map string_bytes row.items)) }
 {

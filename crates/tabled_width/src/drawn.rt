@@ -136,7 +136,7 @@ fn heights_or_least<T: FromText>(
     Ok(heights)
 }
 
-// The widths of so many columns; after the end of the list each is 0.
+// The widths of `columns` columns; after the end of the list each is 0.
 fn column_widths(alloc: Global, widths: &[usize], columns: usize) -> Result<Vec<usize>, AllocError>
     ensures { IfOk result (λ list. list.items ≡ widths_of_columns columns widths.now) }
 {

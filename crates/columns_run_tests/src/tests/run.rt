@@ -136,7 +136,7 @@ fn a_read_that_fails_comes_first(rt: HostRuntime) {
     expect_read_fault(&rt, rt.alloc(), ErrorKind::Interrupted);
 }
 
-// The writer takes so many bytes a call, and fails at this call.
+// What `run` returns with this writer, the counts then, and what the writer took.
 fn expect_write_fault(
     rt: &impl Abort,
     alloc: Global,

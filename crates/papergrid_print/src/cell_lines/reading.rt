@@ -160,7 +160,7 @@ fn len_without_blank_end(lines: &[ShownLine]) -> usize
     len
 }
 
-// Passes over so many lines.
+// Passes over `count` lines.
 fn pass_lines(lines: &mut Lines<'_>, count: usize) -> Result<(), AllocError>
     ensures { OnOk result (lines.new.parts ≡ drop count lines.old.parts) }
 {
