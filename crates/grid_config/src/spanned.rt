@@ -271,8 +271,8 @@ impl SpannedConfig {
         *self.cells.alignment_vertical.get(pos)
     }
 
-    /// Sets whether each line of a cell is aligned by itself, for the cells of the entity. Refused for
-    /// memory alone, and then nothing has changed; for all cells never.
+    /// Sets whether each line of a cell is aligned by itself, for the cells of the entity. Fails only
+    /// where allocation fails, and then nothing has changed; for all cells never.
     pub fn set_line_alignment(&mut self, entity: Entity, value: bool) -> Result<(), Fault>
         ensures set { OnOk result (SetsCovered self.old.line_alignment self.new.line_alignment entity value) }
         ensures refused { OnErr result (IsUnchanged self.old.line_alignment self.new.line_alignment) }
@@ -331,8 +331,8 @@ impl SpannedConfig {
         *self.cells.trim_vertical.get(pos)
     }
 
-    /// Sets what fills the columns that cells' lines leave free, for the cells of the entity. Refused
-    /// for memory alone, and then nothing has changed; for all cells never.
+    /// Sets what fills the columns that cells' lines leave free, for the cells of the entity. Fails
+    /// only where allocation fails, and then nothing has changed; for all cells never.
     pub fn set_justification(&mut self, entity: Entity, value: char) -> Result<(), Fault>
         ensures set { OnOk result (SetsCovered self.old.justification self.new.justification entity value) }
         ensures refused { OnErr result (IsUnchanged self.old.justification self.new.justification) }
@@ -432,8 +432,8 @@ impl SpannedConfig {
     }
 
     /// Sets how many columns the cell at this place takes; 1 takes its span away, and is never refused, nor
-    /// is another span for a cell that has one. Refused as `Spans` for 0, and for memory, and then nothing
-    /// has changed.
+    /// is another span for a cell that has one. Refused as `Spans` for 0, and as `Memory` where allocation
+    /// fails, and then nothing has changed.
     pub fn set_column_span(&mut self, pos: Position, n: usize) -> Result<(), Fault>
         ensures zero { result ≡ Err BadSpan ↔ (n ≡ 0) }
         ensures set { OnOk result (SetsColumns self.old.spans self.new.spans pos n) }
@@ -455,8 +455,8 @@ impl SpannedConfig {
     }
 
     /// Sets how many rows the cell at this place takes; 1 takes its span away, and is never refused, nor is
-    /// another span for a cell that has one. Refused as `Spans` for 0, and for memory, and then nothing has
-    /// changed.
+    /// another span for a cell that has one. Refused as `Spans` for 0, and as `Memory` where allocation
+    /// fails, and then nothing has changed.
     pub fn set_row_span(&mut self, pos: Position, n: usize) -> Result<(), Fault>
         ensures zero { result ≡ Err BadSpan ↔ (n ≡ 0) }
         ensures set { OnOk result (SetsRows self.old.spans self.new.spans pos n) }

@@ -59,7 +59,7 @@ impl Collector {
 
     /// The least sizes of `tracks` columns that hold what was added: first the cells that take one
     /// column, then the shorter spans before the longer ones; none where no row crosses them. Refused as
-    /// `Range` where a size passes `usize::MAX`, and for memory.
+    /// `Range` where a size passes `usize::MAX`, and as `Memory` where allocation fails.
     pub(crate) fn finish(
         self,
         tracks: usize,

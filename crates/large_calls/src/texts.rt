@@ -104,7 +104,7 @@ fn print_edits(rt: &impl Print, alloc: Global, text: &str) -> io::Result<()> {
     println!(rt; "edited: {}", shown.as_str().len())
 }
 
-/// Prints how long the answers are of calls on a styled text of a megabyte, and how many.
+/// Prints how long the results are of calls on a styled text of a megabyte, and how many.
 pub fn print_texts(rt: &impl Print, alloc: Global) -> io::Result<()> {
     let text = repeated(alloc, WORDS, 60_000)?;
     let text = text.as_str();

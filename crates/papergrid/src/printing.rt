@@ -15,7 +15,8 @@ use papergrid_print::{Colors, print_table};
 use std::alloc::Global;
 
 /// Appends the text of `rows` rows and `columns` columns of records. Refused as `fits` refuses them, by
-/// the same faults in the same order, or where allocation fails, and then the text is as it was.
+/// the same faults in the same order, or as `Memory` where allocation fails, and then the text is as it
+/// was.
 pub(crate) fn print_fitting<R: PeekableRecords, D: Dimension, C: Colors>(
     alloc: Global,
     records: &R,

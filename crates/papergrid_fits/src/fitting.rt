@@ -34,7 +34,7 @@ pub fn fits<R: ExactRecords + PeekableRecords, D: Dimension>(
 }
 
 /// Whether the first rows and columns of records fit these sizes, as many of both as are given. The
-/// answers are those of `fits`. Does not allocate.
+/// results are those of `fits`. Does not allocate.
 pub fn fits_counted<R: PeekableRecords, D: Dimension>(
     records: &R,
     cfg: &SpannedConfig,

@@ -56,8 +56,8 @@ pub(crate) fn push_text(
     out.push_str(color.get_suffix())
 }
 
-/// Appends glyphs of a boundary line, of which neighbours in one colour are coloured together. Refused
-/// for memory alone.
+/// Appends glyphs of a boundary line. Neighbours in one colour are coloured together. Fails only where
+/// allocation fails.
 pub(crate) fn push_glyphs(out: &mut String, glyphs: &[GlyphRun<'_>]) -> Result<(), AllocError>
     ensures { OnOk result (string_bytes out.new ≡ string_bytes out.old ++ line_items bare (map glyph_part glyphs.now)) }
 {

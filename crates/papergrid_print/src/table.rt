@@ -176,8 +176,7 @@ impl<'a, R: PeekableRecords, C: Colors> Table<'a, R, C> {
         self.push_boundary_line(out, runs, cells, i, y)
     }
 
-    // Appends the lines of row `i`, of which the first is line `y` of the table. The answer is the line
-    // after them.
+    // Appends the lines of row `i`, from line `y` of the table on. Returns the line after them.
     fn push_row(
         &self,
         out: &mut String,
@@ -202,8 +201,8 @@ impl<'a, R: PeekableRecords, C: Colors> Table<'a, R, C> {
         Ok(end)
     }
 
-    // Appends the line of row boundary `i`, line `y` of the table, where that boundary is there. The answer
-    // is the line after it.
+    // Appends the line of row boundary `i`, line `y` of the table, where that boundary is there. Returns
+    // the line after it.
     fn push_boundary(
         &self,
         out: &mut String,
@@ -397,7 +396,7 @@ impl<'a, R: PeekableRecords, C: Colors> Table<'a, R, C> {
         self.push_row(out, cells, i, y)
     }
 
-    // Appends the lines of a margin, from line `y` of the table on, of which each takes `width` columns.
+    // Appends the lines of a margin, from line `y` of the table on. Each takes `width` columns.
     fn push_margin(
         &self,
         out: &mut String,
@@ -433,8 +432,8 @@ impl<'a, R: PeekableRecords, C: Colors> Table<'a, R, C> {
             + margin.right.size
     }
 
-    // Appends all lines between the margins, by what was made once for all of them. The answer is the line
-    // after them.
+    // Appends all lines between the margins, by what was made once for all of them. Returns the line after
+    // them.
     fn push_all_rows(
         &self,
         alloc: Global,

@@ -54,8 +54,8 @@ impl Table<Text> {
         Ok(Table::of_cells(alloc, cells))
     }
 
-    /// A row of the fields of each value, without a row of names, on condition that the values end. Refused
-    /// for memory alone.
+    /// A row of the fields of each value, without a row of names, on condition that the values end. Fails
+    /// only where allocation fails.
     pub fn nohead<T: Tabled + Drop, I: IntoIterator<Item = T> + Drop>(
         alloc: Global,
         items: I,

@@ -78,7 +78,8 @@ impl Measurement<Height> for Min {
 }
 
 /// This percentage, rounded down, of the lines that the table has by a new estimate, its margins too.
-/// Refused as `Range` where these or their product pass `usize::MAX`, and where allocation fails.
+/// Refused as `Range` where these or their product pass `usize::MAX`, and as `Memory` where
+/// allocation fails.
 impl Measurement<Height> for Percent {
     ghost measures = { λ percent columns rows look outcome. percent_of_height percent.0 columns rows look ≡ outcome };
 

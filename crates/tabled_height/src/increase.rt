@@ -42,7 +42,7 @@ impl<W> CellHeightIncrease<W> {
 }
 
 /// Texts of the cells with fewer lines get line feeds at their ends; cells outside the table are passed
-/// over. Refused as the height may be, and for memory.
+/// over. Refused as the height may be, and as `Memory` where allocation fails.
 impl<T: FromText, W: Measurement<Height>> CellOption<VecRecords<T>, ColoredConfig>
     for CellHeightIncrease<W> {
     ghost step = { λ option at. RaisesCells (W.measures (increase_height option)) at };
@@ -122,7 +122,7 @@ impl<W> TableHeightIncrease<W, PriorityNone> {
 
 /// Where a new estimate of the table has fewer lines, its rows grow to that many, and these heights are
 /// kept. Nothing is done without rows or columns. Refused as the height may be, as `Range` where the lines
-/// of the estimate pass `usize::MAX`, and where allocation fails.
+/// of the estimate pass `usize::MAX`, and as `Memory` where allocation fails.
 impl<T: FromText, W: Measurement<Height> + Drop, P: Peaker + Drop> TableOption<
     VecRecords<T>,
     ColoredConfig,

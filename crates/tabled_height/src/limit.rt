@@ -42,7 +42,7 @@ impl<W> CellHeightLimit<W> {
 }
 
 /// Texts of the cells with more lines keep their first, and at a height of 0 none is left of them; cells
-/// outside the table are passed over. Refused as the height may be, and for memory.
+/// outside the table are passed over. Refused as the height may be, and as `Memory` where allocation fails.
 impl<T: FromText, W: Measurement<Height>> CellOption<VecRecords<T>, ColoredConfig>
     for CellHeightLimit<W> {
     ghost step = { λ option at. LimitsCells (W.measures (limit_height option)) at };
@@ -123,7 +123,7 @@ impl<W> TableHeightLimit<W, PriorityNone> {
 /// Where a new estimate of the table has more lines, its rows shrink to that many, at least to 0, each
 /// text keeps as many lines as its row then has, those of hidden cells too, and these heights are kept.
 /// Nothing is done without rows or columns. Refused as the height may be, as `Range` where the lines of
-/// the estimate pass `usize::MAX`, and where allocation fails.
+/// the estimate pass `usize::MAX`, and as `Memory` where allocation fails.
 impl<T: FromText, W: Measurement<Height> + Drop, P: Peaker + Drop> TableOption<
     VecRecords<T>,
     ColoredConfig,

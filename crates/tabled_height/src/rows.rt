@@ -21,7 +21,8 @@ pub(crate) struct RowHeights {
 }
 
 impl RowHeights {
-    /// Of these records. Refused as `Range` where the lines pass `usize::MAX`, and for memory.
+    /// Of these records. Refused as `Range` where the lines pass `usize::MAX`, and as `Memory` where
+    /// allocation fails.
     pub(crate) fn estimate<R: Records>(
         alloc: Global,
         records: R,

@@ -32,7 +32,7 @@ pub(crate) struct Layout {
 }
 
 /// The sizes that the sniffed rows give. Refused as `Range` where a size with its paddings
-/// passes `usize::MAX`, and for memory.
+/// passes `usize::MAX`, and as `Memory` where allocation fails.
 pub(crate) fn layout_of<C: Cell>(
     alloc: Global,
     sniffed: &[Vec<C>],

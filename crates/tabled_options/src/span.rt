@@ -122,8 +122,8 @@ impl Span {
 fn let_go<T: Drop>(_value: T) {}
 
 /// Sets how many columns or rows each of the cells takes that the table has. Refused as `Spans` for 0, and
-/// for memory. The span of one cell is set in place; those of several are set in a copy of the settings,
-/// which then takes their place.
+/// as `Memory` where allocation fails. The span of one cell is set in place; those of several are set in a
+/// copy of the settings, which then takes their place.
 impl<T: FromText> CellOption<VecRecords<T>, ColoredConfig> for Span {
     ghost step = { λ span at state outcome. spanning span at state ≡ outcome };
 

@@ -133,7 +133,7 @@ impl CompleteDimension {
     }
 
     // Fills what is not set with the least sizes of the table. Refused as `Range` where one of these
-    // passes `usize::MAX`, and for memory, and then nothing has changed.
+    // passes `usize::MAX`, and as `Memory` where allocation fails, and then nothing has changed.
     fn fill<R: Records>(
         &mut self,
         alloc: Global,

@@ -49,7 +49,7 @@ pub fn units(
 pub(crate) struct LineUnits<'a> {
     // characters that are units
     characters: &'a str,
-    // what stands after them, of which the words are kept
+    // what stands after them, whose words are kept
     words: &'a str,
     // where the characters begin
     place: usize,

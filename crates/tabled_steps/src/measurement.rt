@@ -26,7 +26,7 @@ pub trait Measurement<A> {
     /// What it may be of these rows of a given number of texts under these settings, or why it is refused.
     ghost measures: { Self → ℕ → List (List (List ℕ)) → Look → Result ℕ Refusal → Type 0 };
 
-    /// The size, in columns or in lines. Refused as it may be, and for memory.
+    /// The size, in columns or in lines. Refused as it may be, and as `Memory` where allocation fails.
     fn measure<R: ExactRecords + PeekableRecords>(
         &self,
         alloc: Global,

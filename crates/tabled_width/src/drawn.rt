@@ -27,8 +27,8 @@ pub(crate) struct Drawn {
 
 impl Drawn {
     /// Of these records: the sizes that are kept, and in place of those that aren't the least that hold
-    /// the texts. Refused as `Range` where one of these or the total width passes `usize::MAX`, and for
-    /// memory.
+    /// the texts. Refused as `Range` where one of these or the total width passes `usize::MAX`, and as
+    /// `Memory` where allocation fails.
     pub(crate) fn estimate<T: FromText>(
         alloc: Global,
         records: &VecRecords<T>,
@@ -54,7 +54,7 @@ impl Drawn {
 }
 
 /// The least widths of the columns of a table: those of empty texts. Refused as `Range` where one of these
-/// passes `usize::MAX`, and for memory.
+/// passes `usize::MAX`, and as `Memory` where allocation fails.
 pub(crate) fn least_widths(
     alloc: Global,
     cfg: &SpannedConfig,

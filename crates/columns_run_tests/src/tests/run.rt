@@ -56,7 +56,7 @@ pub const FAULTS: &[(&[u8], RunFault)] = &[
     (b"\x1b]0;a", RunFault::Escape { at: 0 }),
 ];
 
-/// The defaults, of which the style is plain.
+/// The defaults, whose style is plain.
 pub fn defaults(rt: &impl Abort) -> Options
     ensures { IsPlain (compact_of result.style) }
 {

@@ -32,7 +32,7 @@ fn writes_the_table(rt: HostRuntime) -> Result<(), RunFault> {
     Ok(())
 }
 
-// The answer in this style, and that nothing is written before it.
+// The result in this style, and that nothing is written before it.
 fn expect_refusal(
     rt: &impl Abort,
     alloc: Global,

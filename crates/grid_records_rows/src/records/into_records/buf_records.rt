@@ -21,7 +21,7 @@ pub trait KeptTexts: RecordTexts {
     ghost kept: { Self → List (List (List ℕ)) };
 }
 
-/// A source of which the first rows were read and are kept.
+/// A source whose first rows were read and are kept.
 #[derive(Drop)]
 pub struct BufRecords<I: IntoRecords> {
     kept: Vec<Vec<I::Cell>>,

@@ -58,7 +58,7 @@ impl<I: IntoRecords> IntoRecords for Fitted<I> {
     }
 }
 
-/// Rows of which each has as many cells.
+/// Rows that all have as many cells.
 #[derive(Debug, Drop)]
 pub struct FittedRows<I> {
     rows: I,
