@@ -15,7 +15,7 @@ use Rattle.columns_asked.specs.Asked.{Asked, Break, Cut, Keep, Resize}
 use Rattle.columns_asked.specs.Resizing.{resized, resized_text}
 use Rattle.columns_asked.specs.Shrunk.{shrunk_list}
 
--- the items of a picture with a line feed behind its last line too
+-- the items of a picture with a line feed after its last line too
 abbrev pub ended : {X : Type 0} → X → Frame → List X → List X
 ended feed frame items = if line_count frame == 0 then [] else items ++ feed ∷ []
 

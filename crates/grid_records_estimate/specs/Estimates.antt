@@ -23,12 +23,12 @@ length_at axis track crossing = min (axis.span track crossing) (axis.tracks - tr
 abbrev pub need_at : Axis → ℕ → ℕ → Need
 need_at axis track crossing = record { length = length_at axis track crossing; first = track; crossing = crossing; size = axis.need track crossing }
 
--- the visible cells that take so many tracks from this one on
+-- the visible cells that take n tracks from this one on
 abbrev pub needs_at : Axis → ℕ → ℕ → List Need
 needs_at axis n track =
     map (need_at axis track) (filter (λ crossing. axis.is_visible track crossing && length_at axis track crossing == n) (range_with_len 0 axis.crossings))
 
--- those that take so many, by their first track
+-- those that take n tracks, by their first track
 abbrev pub needs_of_length : Axis → ℕ → List Need
 needs_of_length axis n = flat_map (needs_at axis n) (range_with_len 0 axis.tracks)
 

@@ -113,7 +113,7 @@ joined [] = []
 joined (line ∷ []) = line
 joined (line ∷ next ∷ lines) = line ++ (0x0a ∷ joined (next ∷ lines))
 
--- so many rows of so many cells, each of which shows its row and its column, both below ten
+-- `rows` rows of `columns` cells, each of which shows its row and its column, both below ten
 abbrev pub named : ℕ → ℕ → List (List (List (List ℕ)))
 named rows columns =
     map (λ row. map (λ column. ((0x30 + row) ∷ 0x2d ∷ (0x30 + column) ∷ []) ∷ []) (range_with_len 0 columns)) (range_with_len 0 rows)
