@@ -196,9 +196,9 @@ pub fn lines_are_joined()
 {}
 
 /// Where the spans are good and each cell that is seen has room, the pieces of each line stand side by side
-/// from column 0 to the table's width, with no gap and no overlap; and where they do so, each cell that is
-/// seen has room, if all its lines are shown. A line of a cell fills the width of its rectangle exactly where
-/// it and the paddings at its sides take no more.
+/// from column 0 to the table's width, with no gap and no overlap. Where they do so, each cell that is seen
+/// has room, if all its lines are shown. A line of a cell fills the width of its rectangle exactly where it
+/// and the paddings at its sides take no more.
 pub fn tiling()
     ensures lines { (grid : Grid) (spans : List (Cell × Extent)) (y : ℕ) →
         HasGoodSpans grid spans → HasRoom grid → BeginsBehindMargin grid.frame →
@@ -214,7 +214,7 @@ pub fn tiling()
 
 /// Where the spans are good and each cell that is seen has room, each line of the rectangle of such a cell
 /// shows the line of its block that stands there, from the first to the last of its columns, and nothing
-/// else: the other pieces of the line tile what is left and right of it.
+/// else. The other pieces of the line tile what is left and right of it.
 pub fn rectangles_show_blocks()
     ensures { (grid : Grid) (spans : List (Cell × Extent)) (i j y : ℕ) →
         HasGoodSpans grid spans → HasRoom grid → BeginsBehindMargin grid.frame →

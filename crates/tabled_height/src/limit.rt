@@ -120,7 +120,7 @@ impl<W> TableHeightLimit<W, PriorityNone> {
     }
 }
 
-/// Where a new estimate of the table has more lines, its rows shrink to that many, at least to 0, each
+/// Where a new estimate of the table has more lines, its rows shrink to that many, at least to 0. Each
 /// text keeps as many lines as its row then has, those of hidden cells too, and these heights are kept.
 /// Nothing is done without rows or columns. Refused as the height may be, as `Range` where the lines of
 /// the estimate pass `usize::MAX`, and as `Memory` where allocation fails.
