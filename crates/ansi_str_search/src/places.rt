@@ -42,7 +42,7 @@ impl<'a> Place<'a> {
     }
 
     /// After `n` bytes of stripped text and the sequences among and before them, or at the end. No
-    /// character of the stripped text is parted there (`is_char_boundary`).
+    /// character of the stripped text is divided there (`is_char_boundary`).
     pub fn after(&self, n: usize) -> Place<'a>
         requires { n < length (strip (pieces self.now.rest.now)) → IsCharBoundary (strip (pieces self.now.rest.now)) n }
         ensures rest { pieces result.rest.now ≡ from_place n (pieces self.now.rest.now) }
@@ -78,7 +78,7 @@ impl<'a> Place<'a> {
     }
 
     /// After `n` bytes of stripped text and the sequences among, before and after them, or at the
-    /// end. No character of the stripped text is parted there (`is_char_boundary`).
+    /// end. No character of the stripped text is divided there (`is_char_boundary`).
     pub fn through(&self, n: usize) -> Place<'a>
         requires { n < length (strip (pieces self.now.rest.now)) → IsCharBoundary (strip (pieces self.now.rest.now)) n }
         ensures rest { pieces result.rest.now ≡ from_text (from_place n (pieces self.now.rest.now)) }

@@ -36,7 +36,7 @@ impl Table<Text> {
         Ok(Table::of_cells(alloc, cells))
     }
 
-    /// The same as `new`; room for `rows` rows is asked for at once, and decides nothing else.
+    /// The same as `new`; room for `rows` rows is allocated at once, and decides nothing else.
     pub fn with_capacity<T: Tabled + Drop, I: IntoIterator<Item = T> + Drop>(
         alloc: Global,
         items: I,

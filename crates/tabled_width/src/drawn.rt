@@ -70,7 +70,7 @@ pub(crate) fn least_widths(
     Ok(least)
 }
 
-/// What a priority leaves of these widths that takes so much of them.
+/// What a priority leaves of these widths that takes `by` columns of width from them.
 pub(crate) fn shrunk<P: Peaker + Drop>(
     priority: P,
     widths: Vec<usize>,
@@ -89,7 +89,7 @@ pub(crate) fn shrunk<P: Peaker + Drop>(
     widths
 }
 
-/// What a priority makes of these widths that gives so much to them.
+/// What a priority makes of these widths that gives `by` columns of width to them.
 pub(crate) fn grown<P: Peaker + Drop>(priority: P, widths: Vec<usize>, by: usize) -> Vec<usize>
     requires { sum widths.items + by < 2 ^ 64 }
     ensures { (after : P) × P.grows priority by widths.items after result.items }
