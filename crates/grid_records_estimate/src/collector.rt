@@ -91,8 +91,8 @@ fn plain_size(need: Need) -> Option<usize>
     usize::try_from(need.size).ok()
 }
 
-// Zeroes for the columns up to `count` columns. It is apart from the way of every cell, since it is seldom
-// called.
+// Appends zeroes until there are `count` columns. It is apart from the way of every cell, since it is
+// seldom called.
 #[cold]
 #[inline(never)]
 fn lengthen(sizes: &mut Vec<usize>, count: usize) -> Result<(), AllocError>

@@ -60,7 +60,8 @@ pub(crate) fn block_line(cfg: &SpannedConfig, cell: &OpenCell<'_>, line: usize) 
     )
 }
 
-// Which of the lines this is, where `above` stand above the text, `count` are of the text, and so on.
+// Which of the lines this is, where `above` blank lines stand above the text, `count` are of the
+// text, and so on.
 fn kind_at(
     top: usize,
     above: usize,

@@ -242,7 +242,7 @@ impl<I: IntoRecords, D: Dimension + Drop> CompactTable<I, D> {
         Ok(text)
     }
 
-    /// Makes the whole text, as `to_string`, and then writes it. A table that has no text, or none since
+    /// Makes the whole text, as `to_string`, and then writes it. A table that has no text, or none because
     /// allocation fails, leaves the writer alone. It gives up with `Write` at the first error of any kind,
     /// and with `WriteZero` where the writer takes nothing; a front of the text is then written, and the
     /// writer isn't called again. Nothing is flushed.

@@ -182,10 +182,10 @@ impl<I: IntoRecords> IterTable<I> {
         Ok(text)
     }
 
-    /// Makes the whole text, as `to_string`, and then writes it. A table that has no text, or none since
-    /// allocation fails, leaves the writer alone. It gives up with `Write` at the first error of any
-    /// kind, and with `WriteZero` where the writer takes nothing; a front of the text is then written,
-    /// and the writer isn't called again. Nothing is flushed.
+    /// Makes the whole text, as `to_string`, and then writes it. A table that has no text, or none
+    /// because allocation fails, leaves the writer alone. It gives up with `Write` at the first error of
+    /// any kind, and with `WriteZero` where the writer takes nothing; a front of the text is then
+    /// written, and the writer isn't called again. Nothing is flushed.
     pub fn build<W: Write>(self, alloc: Global, writer: &mut Counted<W>) -> Result<(), BuildFault>
         ensures whole { OnOk result (Appends (W.contents (inner_of writer.old)) (W.contents (inner_of writer.new)) (printed (streamed I.RecordTexts.rows self))) }
         ensures front { IfErr result (λ fault. ¬ (NoTable fault) → AppendsFront (W.contents (inner_of writer.old)) (W.contents (inner_of writer.new)) (printed (streamed I.RecordTexts.rows self))) }

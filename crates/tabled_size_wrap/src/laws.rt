@@ -84,7 +84,7 @@ pub fn wrapping_adds_breaks()
 {}
 
 /// A whole text of plain characters and line feeds that is wrapped at a width that no character exceeds
-/// has no line that exceeds it.
+/// has no line that measures more than the width.
 pub fn wrapped_lines_fit()
     ensures { (width : ℕ) (keep_words : Bool) (text bytes : List ℕ) (pieces of_wrapped : List Piece) → 0 < width → IsUtf8 text →
         ArePiecesOf text pieces → NoneBroken pieces → IsWrapped width keep_words pieces bytes → ArePiecesOf bytes of_wrapped →

@@ -21,10 +21,11 @@ pub struct Unit {
     pub cost: usize,
 }
 
-/// The units of a line in their order: its characters, each at the larger of 1 and its own width; or, where
-/// words are kept, its spaces, each at 1, the words between them that measure at most the width, each at
-/// what it measures, and the characters of longer words. Joined they are the line without its sequences. It
-/// fails only where allocation fails. (Unicode Standard Annex 11, by the rules of `unicode_width`.)
+/// The units of a line in their order: its characters, each at a cost of the larger of 1 and its own width;
+/// or, where words are kept, its spaces, each at a cost of 1, the words between them that measure at most
+/// the width, each at what it measures, and the characters of longer words. Joined they are the line
+/// without its sequences. It fails only where allocation fails. (Unicode Standard Annex 11, by the rules of
+/// `unicode_width`.)
 pub fn units(
     alloc: Global,
     line: &str,
