@@ -37,7 +37,8 @@ module _ (settings : Settings) (width height : ℕ → ℕ) (columns : ℕ) (row
   abbrev pub IsFitsAnswer : Result (Unit {0}) Fault → Type 0
   IsFitsAnswer answer = FitsAnswer table_frame rows (AreGood settings.spans (length rows) columns) answer
 
-  -- it returns that the table fits: its spans are good, both totals are in range, and no visible cell needs more columns than it has
+  -- it returns that the table fits: its spans are good, both totals are in range, and no visible cell needs more
+  -- columns than it has
   pub record Fits : Type 0 where
     pub good : AreGood settings.spans (length rows) columns
     pub range : InRange table_frame

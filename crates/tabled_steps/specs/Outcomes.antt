@@ -1,4 +1,4 @@
--- What is worked out, or why it is refused. Want of memory is no such refusal: it may come at any call.
+-- What is worked out, or why it is refused. A failed allocation is no such refusal: it may come at any call.
 use Rattle.std.specs.Prelude.{◌≡◌, ℕ, ◌^◌, Bool, if◌then◌else◌, List, MatchResult, Result, Ok, Err, nat_le}
 use Rattle.std.specs.List.{list_any}
 use Rattle.grid_config_values.specs.declared.fault.Fault.{Fault}
