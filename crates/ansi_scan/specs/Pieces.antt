@@ -77,6 +77,6 @@ first_pieces (suc n) (b ∷ bs) =
     record { kind = (front (b ∷ bs)).0; bytes = take (front (b ∷ bs)).1 (b ∷ bs) }
     ∷ first_pieces n (drop (front (b ∷ bs)).1 (b ∷ bs))
 
--- all pieces, of which there are no more than bytes
+-- all pieces; there are no more than bytes
 unfoldable pub pieces : List ℕ → List Piece
 pieces bytes = first_pieces (length bytes) bytes

@@ -145,7 +145,7 @@ abbrev pub NoTextFirst : List Piece → Type 0
 NoTextFirst [] = Unit {0}
 NoTextFirst (p ∷ ps) = p.kind ≢ Text
 
--- some bytes of which none is ESC, up to the next ESC or the end of the text
+-- some bytes, none of which is ESC, up to the next ESC or the end of the text
 pub record IsText (bytes : List ℕ) (after : List Piece) : Type 0 where
   pub some : 0 < length bytes
   pub plain : IsTrue (list_all is_plain bytes)

@@ -79,7 +79,7 @@ through_place n (piece ∷ pieces) =
     if nat_lt n (length (text_of piece)) then front_of n piece
     else piece ∷ through_place (n - length (text_of piece)) pieces
 
--- pieces of which the first has this style before it: its start, the pieces, and the end of the
+-- pieces, where the first has this style before it: its start, the pieces, and the end of the
 -- style then open
 abbrev pub dressed : Attributes → List Piece → List ℕ
 dressed style pieces =

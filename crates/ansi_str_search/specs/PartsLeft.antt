@@ -47,6 +47,6 @@ first_parts (suc n) pattern begun style pieces =
     part_and_others style pieces (first_match pattern (passed_over begun pattern) (strip pieces)) (λ at.
     first_parts n pattern true (style_after_all style (before_place (at + length pattern) pieces)) (from_place (at + length pattern) pieces))
 
--- all parts, of which there are at most two more than bytes
+-- all parts; there are at most two more than bytes
 unfoldable pub parts_left : List ℕ → Bool → Attributes → List Piece → List (List ℕ)
 parts_left pattern begun style pieces = first_parts (length (strip pieces) + 2) pattern begun style pieces

@@ -51,7 +51,7 @@ least_size axis track = greatest (map (λ need. need.size) (needs_at axis 1 trac
 abbrev pub boundaries_within : (ℕ → Bool) → Need → ℕ
 boundaries_within has_boundary need = length (filter has_boundary (range_with_len (need.first + 1) (need.length - 1)))
 
--- sizes among which so much is divided evenly; the whole remainder goes to the first
+-- sizes among which an amount is divided evenly; the whole remainder goes to the first
 abbrev pub with_shares : ℕ → List ℕ → List ℕ
 with_shares n [] = []
 with_shares n (size ∷ sizes) =

@@ -7,7 +7,7 @@ use std::io;
 use std::io::Print;
 use tabled_size_wrap::wrap_styled;
 
-// 18 bytes, of which 8 are shown.
+// 18 bytes; 8 are shown.
 const WORDS: &str = "\x1b[31mab cd\x1b[39mef\t";
 
 const WORDS_ON_A_LINE: &str = "\x1b[31mab cd\x1b[39mef\n";

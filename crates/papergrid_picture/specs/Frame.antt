@@ -34,7 +34,7 @@ pub data Place : Type 0 where
   Row : ℕ → Place
   Outside : Place
 
--- what line y shows of the rows from i on, of which these are the heights: boundary i, then row i, then what follows; after the
+-- what line y shows of the rows from i on, which have these heights: boundary i, then row i, then what follows; after the
 -- last boundary there is nothing more
 abbrev pub place_from : (ℕ → Bool) → ℕ → List ℕ → ℕ → Place
 place_from has_boundary i [] y = if nat_lt y (thickness (has_boundary i)) then Boundary i else Outside

@@ -93,7 +93,7 @@ plain = record {
 abbrev pub lines_at : List (List (List (List ℕ))) → Position → List (List ℕ)
 lines_at texts p = slice_index_or (slice_index_or texts p.row []) p.col ([] ∷ [])
 
--- the picture of cells by their lines, of which each character takes one column
+-- the picture of cells by their lines, where each character takes one column
 abbrev pub drawn_in : (Position → Option Color) → Look → List ℕ → List ℕ → List (List (List (List ℕ))) → List ℕ
 drawn_in colors look widths heights texts =
     grid_items

@@ -20,7 +20,7 @@ pub record IsLongestRun (width : ℕ) (units run left : List LineUnit) : Type 0 
   pub fits : FitsRun width run
   pub longest : (other more : List LineUnit) → units ≡ other ++ more → FitsRun width other → length other ≤ length run
 
--- runs of which each is the longest of what the ones before it left
+-- runs, each of which is the longest of what the ones before it left
 abbrev pub AreLongestRuns : ℕ → List LineUnit → List (List LineUnit) → Type 0
 AreLongestRuns width units [] = units ≡ []
 AreLongestRuns width units (run ∷ runs) =

@@ -114,7 +114,7 @@ texts_taken : {S C E : Type 0} {can : S → Type 0} {left : S → Count} {steps 
 texts_taken {steps = steps} {text = text} {may_refuse = may_refuse} {row = row} s n count gives =
     record { can_next = gives.can_next; ends = tt; each = cells_taken steps text may_refuse n s row count gives.each }
 
--- rows of which the first cells are taken
+-- rows whose first cells are taken
 each_limited : {R S Cells B : Type 0} (steps : S → Option Cells → S → Type 0) (inside : R → S) (limit_of : R → ℕ) (tie : Cells → List B → Type 0) (wanted : Take Cells → List B → Type 0) (limit : ℕ) →
     ((cells : Take Cells) (texts : List B) → tie (take_source cells) texts → take_count cells ≡ limit → wanted cells (take limit texts)) →
     (s : R) (rows : List (List B)) → limit_of s ≡ limit → GivesEach steps tie (inside s) rows →
