@@ -1,4 +1,4 @@
--- The pieces of two texts of which one follows the other.
+-- The pieces of two texts, one after the other.
 use Rattle.std.specs.Prelude.{Bool, true, false, ◌&&◌, cond, List, [], ◌∷◌, ◌++◌}
 use Rattle.ansi_scan.specs.declared.items.Kind.{Kind}
 use Rattle.ansi_scan.specs.declared.items.Kind.TheVariants.{Text, Sgr, Csi, Osc, Esc, Str, Broken}

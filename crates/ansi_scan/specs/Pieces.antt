@@ -11,7 +11,7 @@ use Rattle.ansi_scan_style.specs.Rendition.{is_numeric}
 abbrev pub text_len : List ℕ → ℕ
 text_len bytes = prefix_len is_plain bytes
 
--- behind `len` bytes of a control sequence, of which `numeric` says that all are numeric, and
+-- after `len` bytes of a control sequence, of which `numeric` says that all are numeric, and
 -- `parameters` that all are parameter bytes: what it is, and its length
 unfoldable pub control_from : ℕ → Bool → Bool → List ℕ → Option (Kind × ℕ)
 control_from len numeric parameters [] = None
@@ -24,19 +24,19 @@ control_from len numeric parameters (b ∷ bs) =
 abbrev pub is_inside : Bool → ℕ → Bool
 is_inside bell_ends b = not (bell_ends && b == bell) && is_string_byte b
 
--- behind `len` bytes of a string: its length with the end, where this byte ends it
+-- after `len` bytes of a string: its length with the end, where this byte ends it
 abbrev pub string_end : ℕ → Bool → ℕ → List ℕ → Option ℕ
 string_end len bell_ends b bs =
     cond (bell_ends && b == bell) (Some (len + 1))
     (cond (b == escape && slice_index bs 0 == 0x5c) (Some (len + 2)) None)
 
--- behind `len` bytes of a string: its length with the end
+-- after `len` bytes of a string: its length with the end
 unfoldable pub string_from : ℕ → Bool → List ℕ → Option ℕ
 string_from len bell_ends [] = None
 string_from len bell_ends (b ∷ bs) =
     cond (is_inside bell_ends b) (string_from (len + 1) bell_ends bs) (string_end len bell_ends b bs)
 
--- behind `len` intermediate bytes of an escape sequence: their length with the final byte
+-- after `len` intermediate bytes of an escape sequence: their length with the final byte
 unfoldable pub escape_from : ℕ → List ℕ → Option ℕ
 escape_from len [] = None
 escape_from len (b ∷ bs) =
@@ -77,6 +77,6 @@ first_pieces (suc n) (b ∷ bs) =
     record { kind = (front (b ∷ bs)).0; bytes = take (front (b ∷ bs)).1 (b ∷ bs) }
     ∷ first_pieces n (drop (front (b ∷ bs)).1 (b ∷ bs))
 
--- all pieces, of which there are no more than bytes
+-- all pieces; there are no more than bytes
 unfoldable pub pieces : List ℕ → List Piece
 pieces bytes = first_pieces (length bytes) bytes

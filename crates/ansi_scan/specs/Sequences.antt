@@ -39,7 +39,7 @@ is_final b = is_in_range 0x40 0x7e b
 abbrev pub is_escape_final : ℕ → Bool
 is_escape_final b = is_in_range 0x30 0x7e b
 
--- `P`, `X`, `^` or `_`: behind ESC they open DEVICE CONTROL STRING, 8.3.27, START OF STRING, 8.3.128,
+-- `P`, `X`, `^` or `_`: after ESC they open DEVICE CONTROL STRING, 8.3.27, START OF STRING, 8.3.128,
 -- PRIVACY MESSAGE, 8.3.94, and APPLICATION PROGRAM COMMAND, 8.3.2
 abbrev pub opens_string : ℕ → Bool
 opens_string b = b == 0x50 || (b == 0x58 || (b == 0x5e || b == 0x5f))
@@ -145,7 +145,7 @@ abbrev pub NoTextFirst : List Piece → Type 0
 NoTextFirst [] = Unit {0}
 NoTextFirst (p ∷ ps) = p.kind ≢ Text
 
--- some bytes of which none is ESC, up to the next ESC or the end of the text
+-- some bytes, none of which is ESC, up to the next ESC or the end of the text
 pub record IsText (bytes : List ℕ) (after : List Piece) : Type 0 where
   pub some : 0 < length bytes
   pub plain : IsTrue (list_all is_plain bytes)

@@ -50,7 +50,7 @@ fn text_len(bytes: &[u8]) -> usize
     bytes.len()
 }
 
-/// The kind and the length of the sequence at the front of bytes of which the first is ESC.
+/// The kind and the length of the sequence at the front of bytes that begin with ESC.
 #[tactic(auto, unfolding(crate::specs::Pieces::sequence_front, crate::specs::Pieces::opened))]
 fn sequence(bytes: &[u8]) -> Option<(Kind, usize)>
     ensures value { result ≡ sequence_front bytes.now }

@@ -1,4 +1,4 @@
--- The colours that stand behind 38, 48 and 58, looked for at the front of what follows.
+-- The colours that stand after 38, 48 and 58, looked for at the front of what follows.
 use Rattle.std.specs.Prelude.{ℕ, Bool, ◌||◌, Option, None, Some, List, ◌∷◌, ◌==◌, if◌then◌else◌}
 use Rattle.ansi_scan_style.specs.declared.color.AnsiColor.{AnsiColor}
 use Rattle.ansi_scan_style.specs.declared.color.AnsiColor.TheVariants.{Bit8, Bit24}
@@ -20,7 +20,7 @@ abbrev pub direct_color : List (Option ℕ) → Option (AnsiColor × List (Optio
 direct_color (Some r ∷ Some g ∷ Some b ∷ others) = Some (Bit24 r g b, others)
 direct_color others = None
 
--- the colour at the front, and the parameters behind it
+-- the colour at the front, and the parameters after it
 abbrev pub color_at_front : List (Option ℕ) → Option (AnsiColor × List (Option ℕ))
 color_at_front (Some form ∷ others) =
     if form == 5 then indexed_color others else (if form == 2 then direct_color others else None)

@@ -1,4 +1,4 @@
--- What `==` and `cmp` of styles answer.
+-- What `==` and `cmp` of styles return.
 use Rattle.std.specs.Prelude.{Bool}
 use Rattle.std.specs.declared.cmp.Ordering.{Ordering}
 use Rattle.ansi_scan_style.specs.contracts.style.StylePartialEq.TheImpl.{ghosts as equality}

@@ -75,7 +75,7 @@ after_parameter a (Green layer r) (Some g) = a
 after_parameter a (Blue layer r g) (Some b) = with_color a layer (Bit24 r g b)
 after_parameter a Nothing (Some n) = a
 
--- the attributes after one parameter after the other, of which the first is a code
+-- the attributes after one parameter after the other, where the first is a code
 abbrev pub reading_after : Attributes × Next → Option ℕ → Attributes × Next
 reading_after reading parameter =
     (after_parameter reading.0 reading.1 parameter, next_after reading.1 parameter)

@@ -10,13 +10,13 @@ use Rattle.ansi_str.specs.Parts.{part}
 abbrev pub cut_part : ℕ → ℕ → List Piece → List ℕ
 cut_part a b pieces = part (λ place. false) (λ place. nat_le place b) a b pieces
 
--- a part of a split from place a to place b, behind another part: it begins with the style after the
+-- a part of a split from place a to place b, after another part: it begins with the style after the
 -- sequences placed at or before a, and holds those placed after a and at or before b
 abbrev pub later_part : ℕ → ℕ → List Piece → List ℕ
 later_part a b pieces =
     part (λ place. nat_le place a) (λ place. nat_lt a place && nat_le place b) a b pieces
 
--- the parts behind place a, of a text that is split at these places
+-- the parts after place a, of a text that is split at these places
 abbrev pub parts_behind : ℕ → List ℕ → List Piece → List (List ℕ)
 parts_behind a [] pieces = later_part a (length (strip pieces)) pieces ∷ []
 parts_behind a (b ∷ places) pieces = later_part a b pieces ∷ parts_behind b places pieces

@@ -9,7 +9,7 @@ use Rattle.ansi_str.specs.Matches.{AreMatches, split_bounds, styled_parts}
 use Rattle.ansi_str.specs.Searches.{BeginsWith, EndsWith}
 use Rattle.ansi_str.specs.Keeping.{IsTrimmed, without_end, without_front}
 
--- the two parts at a place, of which one past the end counts as the end
+-- the two parts at a place; a place past the end counts as the end
 abbrev pub sides : ℕ → List Piece → List (List ℕ)
 sides mid pieces = parts_at (min mid (length (strip pieces)) ∷ []) pieces
 

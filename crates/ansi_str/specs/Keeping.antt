@@ -11,7 +11,7 @@ use Rattle.ansi_str.specs.Parts.{taken}
 abbrev pub kept : ℕ → ℕ → List Piece → List ℕ
 kept a b pieces = taken (λ _. true) a b 0 pieces
 
--- without so many bytes of text at the start, or at the end
+-- without n bytes of text at the start, or at the end
 abbrev pub without_front : ℕ → List Piece → List ℕ
 without_front n pieces = kept n (length (strip pieces)) pieces
 
@@ -19,7 +19,7 @@ abbrev pub without_end : ℕ → List Piece → List ℕ
 without_end n pieces = kept 0 (length (strip pieces) - n) pieces
 
 -- what Rust's `trim` leaves of the text stands from a to b, what `trim_start` leaves begins at a, and all before and
--- behind is white space
+-- after is white space
 pub record IsTrimmedAt (text : List ℕ) (a b : ℕ) : Type 0 where
   pub ordered : a ≤ b
   pub within : b ≤ length text

@@ -1,7 +1,7 @@
 -- The bounds of inclusive ranges of places.
 use Rattle.std.specs.Prelude.{ℕ, ◌+◌, ◌^◌, Bool, ◌&&◌, nat_lt, nat_le, Option, None, Some, unwrap_or, if◌then◌else◌}
 
--- behind an inclusive end, where that is a number of 64 bits
+-- after an inclusive end, where that is a number of 64 bits
 abbrev pub end_behind : ℕ → Option ℕ
 end_behind last = if nat_lt (last + 1) (2 ^ 64) then Some (last + 1) else None
 

@@ -3,7 +3,7 @@ use Rattle.std.specs.Prelude.{List, [], ◌∷◌, codes}
 use Rattle.ansi_scan.specs.declared.items.Kind.TheVariants.{Text, Sgr}
 use Rattle.ansi_scan.specs.Sequences.{Piece}
 
--- a text of which two characters are red
+-- a text with two red characters
 abbrev pub red_text : List Piece
 red_text =
     record { kind = Sgr; bytes = codes "\u{1b}[31m" }

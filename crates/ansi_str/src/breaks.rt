@@ -9,11 +9,11 @@ use ansi_str_search::{Place, behind_place};
 use std::alloc::{AllocError, Global};
 use std::borrow::CowStr;
 
-/// The parts of a text between places of the text without its sequences, one more than there are
-/// places, of which `are_places` is true. A part has the sequences that stand after its first place, up
-/// to its last place: the first part those at its first place too. It begins with the start of the style
-/// known after the parts before it, and ends with the end of the style then open. The only refusal is
-/// for memory.
+/// The parts of a text between places of the text without its sequences, one more than there are places,
+/// on condition that `are_places` is true of these. A part has the sequences that stand after its first
+/// place, up to its last place: the first part those at its first place too. It begins with the start of
+/// the style known after the parts before it, and ends with the end of the style then open. Fails only
+/// where allocation fails.
 pub fn split_places<'a>(
     alloc: Global,
     text: &'a str,

@@ -75,7 +75,7 @@ fn joined_cut(
     format!(in alloc; "{before}{slice}{end}")
 }
 
-// The sequences among and before so many bytes of text.
+// The sequences among and before the first `n` bytes of text.
 fn sequences_before(alloc: Global, text: &str, n: usize) -> Result<String, AllocError>
     ensures { IfOk result (λ out. string_bytes out ≡ sequences (before_place n (pieces text.now))) }
 {

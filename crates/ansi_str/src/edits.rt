@@ -15,7 +15,7 @@ pub enum Edit<'a> {
     Left(usize),
     /// The second part of `ansi_split_at`; fails inside a character.
     Right(usize),
-    /// The part of `ansi_split` with this number, from 0 on; fails where there are not so many.
+    /// The part of `ansi_split` with this number, from 0 on; fails where there are not that many parts.
     Part {
         /// What the text is split at.
         pattern: &'a str,

@@ -76,8 +76,8 @@ pub fn cuts_are_slices()
 {}
 
 /// The parts of a split at places are slices of the text: the first one from its front, and a later one
-/// from after the sequences that stand at the place before it, which begins with the start of the style
-/// known there.
+/// from after the sequences that stand at the place before it. A later part begins with the start of
+/// the style known there.
 pub fn breaks_are_slices()
     ensures first { (b : ℕ) (pieces : List Piece) →
         cut_part 0 b pieces ≡ dressed plain_attributes (through_place b pieces) }

@@ -27,8 +27,9 @@ pub trait AnsiStr {
     /// text without its sequences, also where the pattern is empty. Each part has the sequences that
     /// stand from its first to its last place, both included, in their order. A part after a match
     /// begins with the start of the style after the sequences before it, and each part ends with the
-    /// end of the style then open. A text without ESC is returned as borrows, without allocating; else the
-    /// only refusal is for memory, and no part comes after it. Places are bytes of the stripped text.
+    /// end of the style then open. A text without ESC is returned as borrows, without allocating; else a
+    /// part fails only where allocation fails, and no part comes after that. Places are bytes of the
+    /// stripped text.
     fn ansi_split<'a>(&'a self, alloc: Global, pattern: &'a str) -> AnsiSplit<'a>
         ensures parts { (pieces : List Piece) (matches : List ℕ) → ArePiecesOf (text self.now) pieces →
             AreMatches pattern.now (strip pieces) matches →
@@ -36,10 +37,10 @@ pub trait AnsiStr {
         ensures may_refuse { result.may_refuse ≡ has_escape (text self.now) }
         ensures count { length result.parts ≤ length (text self.now) + 2 };
 
-    /// What `ansi_cut` answers where the bounds are good, else none. Bounds are places in the text without
+    /// What `ansi_cut` returns where the bounds are good, else none. Bounds are places in the text without
     /// its sequences: an end is not below the start, and each that is below the length is a character
-    /// boundary. A text without ESC is returned as a borrow. Neither that nor bounds that are not good take
-    /// memory; else it fails only where allocation fails.
+    /// boundary. A text without ESC is returned as a borrow. Neither that nor bounds that are not good
+    /// allocate; else it fails only where allocation fails.
     fn ansi_get<R: AnsiRange>(
         &self,
         alloc: Global,
@@ -136,7 +137,7 @@ pub trait AnsiStr {
 
     /// The text without the white space that `str::trim` takes from it once its sequences are left out.
     /// Every sequence is kept, and none is added. A text without ESC is returned as a borrow, without
-    /// memory; else it fails only where allocation fails.
+    /// allocating; else it fails only where allocation fails.
     fn ansi_trim(&self, alloc: Global) -> Result<CowStr<'_>, AllocError>
         ensures trims { IfOk result (λ left. (pieces : List Piece) → ArePiecesOf (text self.now) pieces → IsTrimmed pieces (cow_str_bytes left)) }
         ensures answers { has_escape (text self.now) ≡ false → IsOk result }

@@ -16,8 +16,8 @@ pub record IsFirstMatch (pattern text : List ℕ) (from at : ℕ) : Type 0 where
   pub occurs : Occurs pattern text at
   pub first : (other : ℕ) → from ≤ other → other < at → ¬ (Occurs pattern text other)
 
--- matches do not overlap, and no two are at one place: the next one is looked for behind the bytes of a
--- match, and behind one more where the pattern is empty
+-- matches do not overlap, and no two are at one place: the next one is looked for after the bytes of a
+-- match, and after one more where the pattern is empty
 abbrev pub behind_match : List ℕ → ℕ → ℕ
 behind_match pattern at = at + max 1 (length pattern)
 
@@ -30,7 +30,7 @@ AreMatchesFrom pattern text from (at ∷ others) =
 abbrev pub AreMatches : List ℕ → List ℕ → List ℕ → Type 0
 AreMatches pattern text matches = AreMatchesFrom pattern text 0 matches
 
--- where each part begins and ends, from place `from` to place `end`, between matches of so many bytes
+-- where each part begins and ends, from place `from` to place `end`, between matches of `size` bytes
 abbrev pub bounds_between : ℕ → ℕ → ℕ → List ℕ → List (ℕ × ℕ)
 bounds_between size from end [] = (from, end) ∷ []
 bounds_between size from end (at ∷ others) = (from, at) ∷ bounds_between size (at + size) end others

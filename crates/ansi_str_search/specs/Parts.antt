@@ -47,11 +47,11 @@ split_part a b pieces =
 
 -- ---- the pieces themselves, cut at a place
 
--- the piece that is left behind the first n bytes of a text
+-- the piece that is left after the first n bytes of a text
 abbrev pub piece_from : ℕ → Piece → Piece
 piece_from n piece = record { kind = piece.kind; bytes = drop n piece.bytes }
 
--- what is left behind n bytes of text and the sequences among and before them: the sequences at
+-- what is left after n bytes of text and the sequences among and before them: the sequences at
 -- that place come first
 abbrev pub from_place : ℕ → List Piece → List Piece
 from_place n [] = []
@@ -72,14 +72,14 @@ before_place n (piece ∷ pieces) =
     else if nat_lt n (length (text_of piece)) then front_of n piece
     else piece ∷ before_place (n - length (text_of piece)) pieces
 
--- n bytes of text, with the sequences among, before and behind them
+-- n bytes of text, with the sequences among, before and after them
 abbrev pub through_place : ℕ → List Piece → List Piece
 through_place n [] = []
 through_place n (piece ∷ pieces) =
     if nat_lt n (length (text_of piece)) then front_of n piece
     else piece ∷ through_place (n - length (text_of piece)) pieces
 
--- pieces of which the first has this style before it: its start, the pieces, and the end of the
+-- pieces, where the first has this style before it: its start, the pieces, and the end of the
 -- style then open
 abbrev pub dressed : Attributes → List Piece → List ℕ
 dressed style pieces =

@@ -21,7 +21,7 @@ begins_with pattern text = starts_with nat_eq text pattern
 abbrev pub matches_first : List ℕ → List ℕ → Bool
 matches_first pattern text = begins_character text && begins_with pattern text
 
--- how many bytes stand before the first match that has at least so many before it
+-- how many bytes stand before the first match that has at least n before it
 unfoldable pub first_match : List ℕ → ℕ → List ℕ → Option ℕ
 first_match pattern zero [] = if matches_first pattern [] then Some 0 else None
 first_match pattern zero (b ∷ bs) =
@@ -29,13 +29,13 @@ first_match pattern zero (b ∷ bs) =
 first_match pattern (suc passed) [] = None
 first_match pattern (suc passed) (b ∷ bs) = option_map (λ n. suc n) (first_match pattern passed bs)
 
--- a match right behind another one has at least so many bytes before it
+-- how many bytes a match has at least before it, by whether it stands right after another one
 abbrev pub passed_over : Bool → List ℕ → ℕ
 passed_over false pattern = 0
 passed_over true [] = 1
 passed_over true (p ∷ ps) = 0
 
--- the part before the match, and the others behind it; where there is no match, all
+-- the part before the match, and the others after it; where there is no match, all
 abbrev pub part_and_others : Attributes → List Piece → Option ℕ → (ℕ → List (List ℕ)) → List (List ℕ)
 part_and_others style pieces None others = dressed style pieces ∷ []
 part_and_others style pieces (Some at) others = dressed style (through_place at pieces) ∷ others at
@@ -47,6 +47,6 @@ first_parts (suc n) pattern begun style pieces =
     part_and_others style pieces (first_match pattern (passed_over begun pattern) (strip pieces)) (λ at.
     first_parts n pattern true (style_after_all style (before_place (at + length pattern) pieces)) (from_place (at + length pattern) pieces))
 
--- all parts, of which there are at most two more than bytes
+-- all parts; there are at most two more than bytes
 unfoldable pub parts_left : List ℕ → Bool → Attributes → List Piece → List (List ℕ)
 parts_left pattern begun style pieces = first_parts (length (strip pieces) + 2) pattern begun style pieces

@@ -9,7 +9,7 @@ use Rattle.ansi_str_search.specs.Splitting.{PartsLeft}
 abbrev pub rest_parts : Rest → List (List ℕ)
 rest_parts rest = parts_left rest.pattern.now rest.begun rest.place.style (pieces rest.place.rest.now)
 
--- nothing is left behind the last part
+-- nothing is left after the last part
 abbrev pub parts_of : Option Rest → List (List ℕ)
 parts_of None = []
 parts_of (Some rest) = rest_parts rest

@@ -2,7 +2,7 @@
 use Rattle.std.specs.Prelude.{◌≡◌, ◌≤◌, ℕ, List, ◌++◌, Option, MatchOption}
 use Rattle.ansi_str_search.specs.Matches.{Occurs, IsFirstMatch}
 
--- the text is the pattern, and what stands behind it
+-- the text is the pattern, and what stands after it
 abbrev pub BeginsWith : List ℕ → List ℕ → Type 0
 BeginsWith pattern text = (behind : List ℕ) × (text ≡ pattern ++ behind)
 

@@ -8,8 +8,8 @@ pub record PartsLeft : Type 0 where
   pub parts : List (List ℕ)
   pub may_refuse : Bool
 
--- a call gave the first part and left the others; or a refusal for memory, and left none; or none, where none was
--- left. Where no part takes memory, each is a borrow and comes
+-- a call gave the first part and left the others; or an error where allocation failed, and left none; or none,
+-- where none was left. Where no part allocates, each is a borrow and comes
 abbrev pub GivesPart : {E Z : Type 0} → PartsLeft → Option (Result (CowStr Z) E) → PartsLeft → Type 0
 GivesPart old found new =
     (IsTrue new.may_refuse → IsTrue old.may_refuse)

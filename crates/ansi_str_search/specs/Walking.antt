@@ -20,7 +20,7 @@ sequence_of piece = if is_text_kind piece.kind then [] else piece.bytes
 abbrev pub sequences : List Piece → List ℕ
 sequences pieces = flat_map sequence_of pieces
 
--- behind the first of some pieces, before which this style is known, are the others, before which that style is
+-- after the first of some pieces, before which this style is known, are the others, before which that style is
 pub record AreFirstAndRest (style : Attributes) (all : List Piece) (after : Attributes) (rest : List Piece) : Type 0 where
   pub first : Piece
   pub parted : all ≡ first ∷ rest
@@ -31,7 +31,7 @@ abbrev pub begins_with_escape : List ℕ → Bool
 begins_with_escape [] = false
 begins_with_escape (b ∷ bs) = b == escape
 
--- the rest stands behind the first of the pieces
+-- the rest stands after the first of the pieces
 pub record IsBehindFirst (all rest : List Piece) : Type 0 where
   pub first : Piece
   pub parted : all ≡ first ∷ rest

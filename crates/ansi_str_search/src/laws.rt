@@ -178,7 +178,7 @@ pub fn one_list_of_matches()
 {}
 
 /// The parts of a text without sequences are those that `str::split` gives, where the pattern is not
-/// empty. At an empty pattern a text is parted at each place where a character begins, and at its end,
+/// empty. At an empty pattern a text is split at each place where a character begins, and at its end,
 /// so that its first and last part are empty; an empty text has two.
 pub fn split_as_std()
     ensures parts { (pattern text matches : List ℕ) (split : Split (Bor (List ℕ))) →

@@ -41,8 +41,8 @@ impl<'a> Place<'a> {
         }
     }
 
-    /// After so many bytes of stripped text and the sequences among and before them, or at the end. No
-    /// character of the stripped text is parted there (`is_char_boundary`).
+    /// After `n` bytes of stripped text and the sequences among and before them, or at the end. No
+    /// character of the stripped text is divided there (`is_char_boundary`).
     pub fn after(&self, n: usize) -> Place<'a>
         requires { n < length (strip (pieces self.now.rest.now)) → IsCharBoundary (strip (pieces self.now.rest.now)) n }
         ensures rest { pieces result.rest.now ≡ from_place n (pieces self.now.rest.now) }
@@ -77,8 +77,8 @@ impl<'a> Place<'a> {
         place
     }
 
-    /// After so many bytes of stripped text and the sequences among, before and after them, or at the
-    /// end. No character of the stripped text is parted there (`is_char_boundary`).
+    /// After `n` bytes of stripped text and the sequences among, before and after them, or at the
+    /// end. No character of the stripped text is divided there (`is_char_boundary`).
     pub fn through(&self, n: usize) -> Place<'a>
         requires { n < length (strip (pieces self.now.rest.now)) → IsCharBoundary (strip (pieces self.now.rest.now)) n }
         ensures rest { pieces result.rest.now ≡ from_text (from_place n (pieces self.now.rest.now)) }
@@ -100,8 +100,8 @@ impl<'a> Place<'a> {
         place
     }
 
-    /// The part of so many bytes of stripped text from here on, and the place where it ends, before
-    /// the sequences there: a borrow where the style is plain and no ESC stands after.
+    /// The part of `n` bytes of stripped text from here on, and the place where it ends, before the
+    /// sequences there: a borrow where the style is plain and no ESC stands after.
     pub(crate) fn part(
         &self,
         alloc: Global,

@@ -99,7 +99,7 @@ fn find_at_characters(text: &str, pattern: &str) -> Option<usize>
     Some(passed)
 }
 
-/// What stands after so many bytes of what the text shows, and none where no character begins there.
+/// What stands after `n` bytes of what the text shows, and none where no character begins there.
 pub fn behind_place(text: &str, n: usize) -> Option<&str>
     ensures { MatchOption result (¬ (IsCharBoundary (strip (pieces_of text.now)) n)) (λ rest.
         IsCharBoundary (strip (pieces_of text.now)) n × (pieces_of rest.now ≡ from_place n (pieces_of text.now))) }

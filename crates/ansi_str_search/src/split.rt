@@ -10,7 +10,7 @@ use std::borrow::CowStr;
 use std::marker::Model;
 
 /// The parts of a text that are still to come, made by `ansi_split`. After the last, and after a
-/// refusal for memory, it gives `None` forever. In a contract it is the list of these parts, and
+/// failed allocation, it gives `None` forever. In a contract it is the list of these parts, and
 /// whether they may allocate.
 #[derive(Debug, Drop)]
 pub struct AnsiSplit<'a> {

@@ -46,7 +46,7 @@ impl<'a> Stripped<'a> {
         find_text(&text[text.len() - self.left..], pattern)
     }
 
-    /// Passes so many bytes.
+    /// Passes `n` bytes.
     pub(crate) fn pass(&mut self, n: usize)
         requires { IsCharBoundary self.old n }
         ensures { self.new ≡ drop n self.old }
@@ -55,7 +55,7 @@ impl<'a> Stripped<'a> {
     }
 }
 
-/// What is shown after so many bytes.
+/// What is shown after `n` bytes.
 pub(crate) fn behind<'a>(stripped: Option<Stripped<'a>>, n: usize) -> Option<Stripped<'a>>
     requires { IfSome stripped (λ bytes. IsCharBoundary bytes n) }
     ensures { result ≡ option_map (drop n) stripped.entry }

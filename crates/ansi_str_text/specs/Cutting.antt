@@ -5,7 +5,7 @@ use Rattle.ansi_scan.specs.declared.items.Kind.{Kind}
 use Rattle.ansi_scan.specs.declared.items.Kind.TheVariants.{Osc, Str}
 use Rattle.ansi_scan.specs.Sequences.{escape, opens_string, is_string_byte, is_command_byte}
 
--- behind ESC, the byte that opens a string, and bytes of the string, of which none ends it
+-- after ESC, the byte that opens a string, and bytes of the string, none of which ends it
 abbrev pub IsOpenString : ℕ → List ℕ → Type 0
 IsOpenString opener string =
     ((opener ≡ 0x5d) × IsTrue (list_all is_command_byte string)) ⊎ (IsTrue (opens_string opener) × IsTrue (list_all is_string_byte string))

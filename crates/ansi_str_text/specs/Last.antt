@@ -1,4 +1,4 @@
--- The last sequence of a text, and what stands behind it.
+-- The last sequence of a text, and what stands after it.
 use Rattle.std.specs.Prelude.{◌≡◌, ◌+◌, ℕ, false, List, ◌∷◌, ◌++◌, length, take, drop}
 use Rattle.ansi_scan.specs.Sequences.{escape}
 use Rattle.ansi_scan.specs.Pieces.{front, pieces}
@@ -11,7 +11,7 @@ pub record IsLastEscape (text : List ℕ) (at : ℕ) : Type 0 where
   pub last : has_escape (drop (at + 1) text) ≡ false
 
 -- the last sequence of the text, or broken ESC, begins there: the pieces before it are those of the text before it, and
--- behind it is nothing but text
+-- after it is nothing but text
 pub record IsLastSequence (text : List ℕ) (at : ℕ) : Type 0 where
   pub rest : List ℕ
   pub here : drop at text ≡ escape ∷ rest

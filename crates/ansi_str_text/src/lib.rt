@@ -15,8 +15,8 @@ pub mod laws;
 pub use blocks::{AnsiBlock, AnsiBlockIter};
 pub use characters::StrippedChars;
 
-/// The blocks of a text: one for each of its items of text, with the style known before it. Takes
-/// no memory.
+/// The blocks of a text: one for each of its items of text, with the style known before it. Does
+/// not allocate.
 pub fn get_blocks(text: &str) -> AnsiBlockIter<'_>
     ensures blocks { (pieces : List Piece) → ArePiecesOf text.now pieces →
         result ≡ blocks_from plain_attributes pieces }

@@ -22,7 +22,7 @@ fn row<'a>(alloc: Global, line: &'a str) -> Result<Vec<&'a str>, AllocError> {
 }
 
 /// The rows with a line between two columns, each column as wide as its widest text. None where not all
-/// rows have as many cells. Refused where a width passes `usize::MAX`, and for memory.
+/// rows have as many cells. Refused where a width passes `usize::MAX`, and where allocation fails.
 pub fn table(alloc: Global, rows: Vec<Vec<&str>>) -> Result<Option<String>, Fault> {
     if !are_equally_long(&rows) {
         return Ok(None);

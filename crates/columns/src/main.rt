@@ -26,8 +26,8 @@ fn main(rt: HostRuntime) -> ExitCode {
     }
 }
 
-// The words of the command line, of which the first is the program's name. They are pushed one by one,
-// since `collect` goes on where the memory that it asks for early is refused.
+// The words of the command line. The first is the program's name. They are pushed one by one, since
+// `collect` goes on where its early allocation fails.
 fn words(rt: &HostRuntime) -> io::Result<Vec<String>> {
     let mut words = Vec::new(rt.alloc());
     for word in env::args(rt)? {
@@ -73,7 +73,7 @@ fn faulty(rt: &HostRuntime, text: &str) -> ExitCode {
     ExitCode::from(2)
 }
 
-// Words that could not be read: memory was refused, or one is not UTF-8.
+// Words that could not be read: allocation failed, or one is not UTF-8.
 fn unread(rt: &HostRuntime, error: &io::Error) -> ExitCode {
     match error.kind() {
         ErrorKind::OutOfMemory => ended(rt, Err(RunFault::Memory)),

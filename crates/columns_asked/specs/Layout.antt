@@ -15,7 +15,7 @@ use Rattle.columns_asked.specs.Asked.{Asked, Break, Cut, Keep, Resize}
 use Rattle.columns_asked.specs.Resizing.{resized, resized_text}
 use Rattle.columns_asked.specs.Shrunk.{shrunk_list}
 
--- the items of a picture with a line feed behind its last line too
+-- the items of a picture with a line feed after its last line too
 abbrev pub ended : {X : Type 0} → X → Frame → List X → List X
 ended feed frame items = if line_count frame == 0 then [] else items ++ feed ∷ []
 
@@ -23,7 +23,7 @@ ended feed frame items = if line_count frame == 0 then [] else items ++ feed ∷
 abbrev pub column_count : {X : Type 0} → List (List X) → ℕ
 column_count rows = greatest (map (λ row. length row) rows)
 
--- each element by its column, of which the first is in this one
+-- each element by its column, where the first is in this one
 abbrev pub by_column : {A B : Type 0} → (ℕ → A → B) → ℕ → List A → List B
 by_column f column [] = []
 by_column f column (x ∷ xs) = f column x ∷ by_column f (column + 1) xs
@@ -82,7 +82,7 @@ module _ (style : Compact) where
 
     -- ---- by bytes
 
-    -- the text of the table, of which each line ends with a line feed
+    -- the text of the table, where each line ends with a line feed
     unfoldable pub asked_text : List (List (List ℕ)) → List ℕ
     asked_text texts =
         ended line_feed (asked_frame texts)
@@ -92,7 +92,7 @@ module _ (style : Compact) where
     unfoldable pub AskedFits : List (List (List ℕ)) → Type 0
     AskedFits texts = InRange (frame_under texts) × InRange (asked_frame texts)
 
-    -- the first cell by row, then column, of which a line takes more columns than its column has
+    -- the first cell by row, then column, with a line that takes more columns than its column has
     unfoldable pub too_wide : List (List (List ℕ)) → Option Position
     too_wide texts = first_too_wide (asked_frame texts) (kept_texts texts)
 

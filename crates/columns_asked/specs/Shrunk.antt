@@ -6,7 +6,7 @@ use Rattle.tabled_size_priority.specs.Shrinking.{shrunk_in_order, shrunk_in_turn
 use Rattle.tabled_size_priority.specs.declared.choice.Choice.{Choice}
 use Rattle.tabled_size_priority.specs.declared.choice.Choice.TheVariants.{None, MinLeft, MinRight, MaxLeft, MaxRight, Left, Right}
 
--- the lists of a form by its two numbers, of which neither passes its bound
+-- the lists of a form by its two numbers, neither of which passes its bound
 abbrev pub lists_of_form : (ℕ → ℕ → List ℕ) → ℕ → ℕ → List (List ℕ)
 lists_of_form form most columns = flat_map (λ number. map (form number) (range_with_len 0 (columns + 1))) (range_with_len 0 (most + 1))
 
@@ -24,7 +24,7 @@ form_of MaxRight least widths = shrunk_to_level (from_side true (length widths))
 form_of Left least widths = shrunk_in_order (from_side false (length widths)) least widths
 form_of Right least widths = shrunk_in_order (from_side true (length widths)) least widths
 
--- widths shrunk by so much, by a priority, not below the leasts
+-- widths shrunk by an amount, by a priority, not below the leasts
 unfoldable pub shrunk_list : Choice → List ℕ → ℕ → List ℕ → List ℕ
 shrunk_list priority least by widths =
     first_of_form (form_of priority least widths) (sum widths) (length widths) (shrunk_sum least widths by)

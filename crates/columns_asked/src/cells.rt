@@ -10,9 +10,9 @@ use std::alloc::{AllocError, Global};
 use std::borrow::CowStr;
 use tabled_size_wrap::{cut_styled, wrap_styled};
 
-/// A text that takes so many columns, resized to the room that its column leaves: wrapped there, or cut
-/// where it takes more. Where cells are cut, one that fits is borrowed. It
-/// fails only where allocation fails.
+/// A text that takes `columns` columns, resized to the room that its column leaves: wrapped there, or
+/// cut where it takes more. Where cells are cut, one that fits is borrowed. It fails only where
+/// allocation fails.
 pub fn resized_cell<'a>(
     alloc: Global,
     asked: &Asked,

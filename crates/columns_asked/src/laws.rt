@@ -82,8 +82,8 @@ pub fn breaks_are_chosen_on_characters()
 {}
 
 /// Styles change nothing of a table but styles. The characters of its picture are those of the picture of
-/// the characters alone; of texts without sequences its text is these characters; and without its sequences
-/// its text is that of the table of the stripped texts, which has a table where the others have one, with the
+/// the characters alone; of texts without sequences its text is these characters. Without its sequences its
+/// text is that of the table of the stripped texts, which has a table where the others have one, with the
 /// same cell too wide.
 pub fn without_styles()
     ensures picture { (style : Compact) (asked : Asked) (rows : List (List (List Styled))) →

@@ -8,8 +8,8 @@ use crate::asked::Asked;
 use std::alloc::{AllocError, Global};
 
 /// The widths that a table shrinks to which would take `total` columns with these widths, each not below
-/// the columns beside a text, `beside`; or none where it takes no more than it may. The only refusal is for
-/// memory.
+/// the columns beside a text, `beside`; or none where it takes no more than it may. It fails only where
+/// allocation fails.
 pub fn narrowed(
     alloc: Global,
     asked: &Asked,

@@ -20,7 +20,7 @@ without_width style = record { width = None; truncate = false; keep_words = fals
 
 -- ---- by bytes
 
--- the bytes of the table of a text, of which each cell is a part with its own bytes
+-- the bytes of the table of a text, where each cell is a part of it with its own bytes
 unfoldable pub output_of : Options → List ℕ → List ℕ
 output_of options input = asked_text (compact_of options.style) (asked_of options) (cell_parts input)
 
@@ -50,6 +50,6 @@ table_characters options characters = asked_characters (compact_of options.style
 unfoldable pub TableFits : Options → List ℕ → Type 0
 TableFits options text = AskedFits (compact_of options.style) (asked_of options) (texts_of (chars (stripped text)))
 
--- the first cell by row, then column, of which a line takes more columns than its column has
+-- the first cell by row, then column, with a line that takes more columns than its column has
 unfoldable pub wide_cell : Options → List ℕ → Option Position
 wide_cell options text = too_wide (compact_of options.style) (asked_of options) (texts_of (chars (stripped text)))

@@ -30,7 +30,7 @@ rows_of character xs = map (slice_split (λ x. character x == tab)) (row_texts c
 abbrev pub stripped : List ℕ → List ℕ
 stripped text = strip (pieces text)
 
--- where a byte stands in a text of which the first byte has this place
+-- where a byte stands in a text whose first byte has this place
 abbrev pub places_from : ℕ → ℕ → List ℕ → List ℕ
 places_from byte place [] = []
 places_from byte place (b ∷ bs) = (if b == byte then place ∷ [] else []) ++ places_from byte (place + 1) bs

@@ -25,7 +25,7 @@ pub enum RunFault {
     Write,
     /// The writer took no byte of a piece that had some.
     WriteZero,
-    /// A request for memory was refused.
+    /// Allocation failed.
     Memory,
 }
 

@@ -16,7 +16,7 @@ use std::alloc::Global;
 
 /// The table of a whole text, each of its lines ended by a line feed; nothing where the text has no rows.
 /// Refused as `Range` where its width or height passes `usize::MAX`, as `LineTooWide` where a line of a
-/// cell takes more columns than its column has, and for memory.
+/// cell takes more columns than its column has, and as `Memory` where allocation fails.
 pub fn styled_table(alloc: Global, options: &Options, text: &str) -> Result<String, RunFault>
     requires { IsWhole text.now }
     ensures answers { MayAnswer options.now text.now result }

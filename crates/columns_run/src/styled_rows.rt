@@ -75,7 +75,7 @@ fn measured_cell(part: &str) -> LineCell<'_>
     }
 }
 
-/// Appends the parts of a text at a character, of which there is one at least.
+/// Appends the parts of a text at a character. There is at least one part.
 fn push_parts<'a>(
     alloc: Global,
     parts: &mut Vec<CowStr<'a>>,

@@ -30,7 +30,7 @@ module _ (style : Compact) (asked : Asked) (texts : List (List (List ℕ))) wher
     pub fits : AskedFits style asked texts
     pub room : too_wide style asked texts ≡ None
 
-  -- why it may be refused; the cases exclude one another, but for memory
+  -- why it may be refused; the cases exclude one another, but for `Memory`
   abbrev pub MayRefuse : TableFault → Type 0
   MayRefuse Range = ¬ (AskedFits style asked texts)
   MayRefuse (LineTooWide row column) = AskedFits style asked texts × (too_wide style asked texts ≡ Some (at row column))

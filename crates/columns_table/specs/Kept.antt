@@ -4,7 +4,7 @@ use Rattle.columns_asked.specs.Asked.{Break, Cut, Resize}
 use Rattle.columns_asked.specs.Resizing.{resized_text}
 use Rattle.columns_asked.specs.declared.asked.Asked.{Asked}
 
--- what is done to a text that gets so many columns
+-- what is done to a text that gets `room` columns
 abbrev pub resize_to : Asked → ℕ → Resize
 resize_to asked room = if asked.truncate then Cut room else Break room asked.keep_words
 
@@ -13,7 +13,7 @@ abbrev pub first_kept : Resize → List (List ℕ) → List ℕ
 first_kept resize [] = []
 first_kept resize (text ∷ texts) = resized_text resize text
 
--- a text for each column of these widths, of which so many columns stand beside the text
+-- a text for each column of these widths, where `beside` columns stand beside the text
 abbrev pub kept_row : Asked → ℕ → List ℕ → List (List ℕ) → List (List ℕ)
 kept_row asked beside [] texts = []
 kept_row asked beside (width ∷ widths) texts =

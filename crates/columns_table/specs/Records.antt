@@ -9,7 +9,7 @@ use Rattle.columns_table.specs.declared.rows.LineCell.{LineCell}
 abbrev pub IsOnlyLine : List ℕ → Type 0
 IsOnlyLine text = (pieces : List Piece) (lines : List (List ℕ)) → ArePiecesOf text pieces → AreLinesOf pieces lines → lines ≡ text ∷ []
 
--- the text is one line, and measures so many columns
+-- the text is one line, and measures `width` columns
 abbrev pub IsOneLine : List ℕ → ℕ → Type 0
 IsOneLine text width = HasLineCount text 1 × HasWidth text width × IsOnlyLine text
 

@@ -9,7 +9,7 @@ pub enum TableFault {
     Range,
     /// A line of a cell measures more columns than its column has. Rows and columns count from 0.
     LineTooWide { row: usize, column: usize },
-    /// A request for memory was refused.
+    /// Allocation failed.
     Memory,
 }
 

@@ -53,8 +53,8 @@ impl<'a> Cell for KeptCell<'a> {
     }
 }
 
-/// The rows in columns of these widths, of which so many columns stand beside a text: each text resized
-/// to the room that it has, and an empty one for each that a row lacks. Fails only where allocation fails.
+/// The rows in columns of these widths, where `beside` columns stand beside a text: each text resized to
+/// the room that it has, and an empty one for each that a row lacks. Fails only where allocation fails.
 pub fn kept_rows<'a>(
     alloc: Global,
     asked: &Asked,

@@ -15,7 +15,7 @@ use grid_config::{CompactConfig, Fault};
 use std::alloc::{AllocError, Global};
 
 /// The least widths of the columns and the least heights of the rows of a table of these rows. Refused as
-/// `Range` where one of either passes `usize::MAX`, and for memory.
+/// `Range` where one of either passes `usize::MAX`, and as `Memory` where allocation fails.
 pub fn least_sizes(
     alloc: Global,
     rows: &Rows<'_>,

@@ -19,7 +19,7 @@ pub struct PlacedRows<'a> {
 }
 
 impl<'a> PlacedRows<'a> {
-    /// Rows of so many columns with these counts of cells. Does not allocate.
+    /// Rows of `columns` columns with these counts of cells. Does not allocate.
     pub fn new(cells: Vec<LineCell<'a>>, counts: Vec<usize>, columns: usize) -> PlacedRows<'a>
         requires measured { All IsMeasured cells.items }
         requires range { sum counts.items < 2 ^ 64 }
@@ -81,7 +81,7 @@ fn number_at(numbers: &[usize], index: usize, other: usize) -> usize
     }
 }
 
-// Where rows of so many cells begin, put in place of the counts.
+// Where rows with these counts of cells begin, put in place of the counts.
 fn starts_of(mut counts: Vec<usize>) -> Vec<usize>
     requires { sum counts.items < 2 ^ 64 }
     ensures { result.items ≡ starts_from 0 counts.items }

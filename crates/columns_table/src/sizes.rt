@@ -43,7 +43,7 @@ impl Dimension for Sizes {
 }
 
 /// The least sizes of a table of these rows. Refused as `Range` where its width or height passes
-/// `usize::MAX`, and for memory.
+/// `usize::MAX`, and as `Memory` where allocation fails.
 pub fn sizes_of(alloc: Global, rows: &Rows<'_>, style: &CompactConfig) -> Result<Sizes, Fault>
     requires whole { sum rows.now.counts.items ≡ vec_len rows.now.cells }
     requires measured { All IsMeasured rows.now.cells.items }

@@ -28,12 +28,12 @@ use grid_records_traits::{ExactRecords, PeekableRecords};
 use papergrid::{NoColors, PeekableGrid, fits};
 use std::alloc::{AllocError, Global};
 
-/// The table of these rows under a style, each of its lines ended by a line feed, in the asked width:
-/// where it would be wider its columns give, and each cell is wrapped or cut to the room that it has;
-/// nothing where there are no rows. Refused as `Range` where its width or height passes `usize::MAX`,
-/// before its columns give or after; else as `LineTooWide` of the first cell, by row, then by column, of
-/// which a line takes more columns than it has; and for memory. Each cell is one line that measures what
-/// it says, and the counts are of all cells.
+/// The table of these rows under a style, each of its lines ended by a line feed, in the asked width.
+/// Where it would be wider its columns give, and each cell is wrapped or cut to the room that it has.
+/// Nothing where there are no rows. Refused as `Range` where its width or height passes `usize::MAX`,
+/// before its columns give or after; else as `LineTooWide` of the first cell, by row, then by column,
+/// with a line that takes more columns than the cell has; and as `Memory` where allocation fails.
+/// Each cell is one line that measures what it says, and the counts are of all cells.
 pub fn rows_table(
     alloc: Global,
     style: &CompactConfig,
@@ -136,8 +136,8 @@ fn narrowed_table(
     text
 }
 
-// The text of these records with a line feed after its last line. Refused as `fits` refuses them, and for
-// memory.
+// The text of these records with a line feed after its last line. Refused as `fits` refuses them, and
+// as `Memory` where allocation fails.
 fn text_where_fits<R: ExactRecords + PeekableRecords>(
     alloc: Global,
     records: &R,

@@ -160,7 +160,7 @@ const TABLES: &[(Way, &str, &[usize], &str)] = &[
     (Way::Wrap(100), "ab", &[1], "+----+\n| ab |\n+----+\n"),
 ];
 
-// The table of cells in lines, so many in each row.
+// The table of cells in lines, with these counts of cells in its rows.
 fn table_of(
     alloc: Global,
     style: &CompactConfig,
@@ -204,7 +204,7 @@ fn no_rows_have_no_table(rt: HostRuntime) -> Result<(), TableFault> {
     Ok(())
 }
 
-// A margin above the table of so many lines.
+// A margin of `lines` lines above the table.
 fn with_margin(lines: usize) -> CompactConfig {
     let margin = Indent {
         size: lines,

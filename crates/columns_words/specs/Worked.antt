@@ -16,7 +16,7 @@ names_rule id names default = value_rule id (Names (borrowed (map borrowed names
 abbrev pub columns_by_hand : App
 columns_by_hand = columns_app (names_rule (codes "priority") priority_names (codes "none")) (names_rule (codes "style") style_names (codes "ascii"))
 
--- the words behind the program's name
+-- the words after the program's name
 abbrev line : List Text → List Text
 line words = codes "columns" ∷ words
 

@@ -22,8 +22,8 @@ pub enum Asked {
     Faulty(String),
 }
 
-/// What the words ask. The first is the program's name and is passed over. Fails where memory is
-/// refused, and by nothing else.
+/// What the words ask. The first is the program's name and is passed over. Fails only where
+/// allocation fails.
 pub fn read_words<S: AsStr>(alloc: Global, words: &[S]) -> Result<Asked, AllocError>
     ensures { IfOk result (IsAnswer (map S.text words.entry.now)) }
 {

@@ -1,4 +1,4 @@
--- What `==` and `cmp` of the settings of compact tables answer.
+-- What `==` and `cmp` of the settings of compact tables return.
 use Rattle.std.specs.Prelude.{Bool}
 use Rattle.std.specs.declared.cmp.Ordering.{Ordering}
 use Rattle.grid_config.specs.contracts.compact.CompactConfigPartialEq.TheImpl.{ghosts as equality}

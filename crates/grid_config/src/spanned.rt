@@ -271,8 +271,8 @@ impl SpannedConfig {
         *self.cells.alignment_vertical.get(pos)
     }
 
-    /// Sets whether each line of a cell is aligned by itself, for the cells of the entity. Refused for
-    /// memory alone, and then nothing has changed; for all cells never.
+    /// Sets whether each line of a cell is aligned by itself, for the cells of the entity. Fails only
+    /// where allocation fails, and then nothing has changed; for all cells never.
     pub fn set_line_alignment(&mut self, entity: Entity, value: bool) -> Result<(), Fault>
         ensures set { OnOk result (SetsCovered self.old.line_alignment self.new.line_alignment entity value) }
         ensures refused { OnErr result (IsUnchanged self.old.line_alignment self.new.line_alignment) }
@@ -331,8 +331,8 @@ impl SpannedConfig {
         *self.cells.trim_vertical.get(pos)
     }
 
-    /// Sets what fills the columns that cells' lines leave free, for the cells of the entity. Refused
-    /// for memory alone, and then nothing has changed; for all cells never.
+    /// Sets what fills the columns that cells' lines leave free, for the cells of the entity. Fails
+    /// only where allocation fails, and then nothing has changed; for all cells never.
     pub fn set_justification(&mut self, entity: Entity, value: char) -> Result<(), Fault>
         ensures set { OnOk result (SetsCovered self.old.justification self.new.justification entity value) }
         ensures refused { OnErr result (IsUnchanged self.old.justification self.new.justification) }
@@ -375,7 +375,7 @@ impl SpannedConfig {
         self.cells.justification_color.get(pos)
     }
 
-    /// Whether column boundary `j` of so many columns is there: `has_left` of the borders at 0,
+    /// Whether column boundary `j` of `columns` columns is there: `has_left` of the borders at 0,
     /// `has_right` at `columns`, else `has_vertical`.
     pub fn has_vertical(&self, j: usize, columns: usize) -> bool
         ensures { result ≡ has_column_boundary self.now.borders (boundary_kind j columns) }
@@ -383,7 +383,7 @@ impl SpannedConfig {
         self.whole.borders.has_vertical_at(j, columns)
     }
 
-    /// Whether row boundary `i` of so many rows is there: `has_top` of the borders at 0, `has_bottom`
+    /// Whether row boundary `i` of `rows` rows is there: `has_top` of the borders at 0, `has_bottom`
     /// at `rows`, else `has_horizontal`.
     pub fn has_horizontal(&self, i: usize, rows: usize) -> bool
         ensures { result ≡ has_row_boundary self.now.borders (boundary_kind i rows) }
@@ -432,8 +432,8 @@ impl SpannedConfig {
     }
 
     /// Sets how many columns the cell at this place takes; 1 takes its span away, and is never refused, nor
-    /// is another span for a cell that has one. Refused as `Spans` for 0, and for memory, and then nothing
-    /// has changed.
+    /// is another span for a cell that has one. Refused as `Spans` for 0, and as `Memory` where allocation
+    /// fails, and then nothing has changed.
     pub fn set_column_span(&mut self, pos: Position, n: usize) -> Result<(), Fault>
         ensures zero { result ≡ Err BadSpan ↔ (n ≡ 0) }
         ensures set { OnOk result (SetsColumns self.old.spans self.new.spans pos n) }
@@ -455,8 +455,8 @@ impl SpannedConfig {
     }
 
     /// Sets how many rows the cell at this place takes; 1 takes its span away, and is never refused, nor is
-    /// another span for a cell that has one. Refused as `Spans` for 0, and for memory, and then nothing has
-    /// changed.
+    /// another span for a cell that has one. Refused as `Spans` for 0, and as `Memory` where allocation
+    /// fails, and then nothing has changed.
     pub fn set_row_span(&mut self, pos: Position, n: usize) -> Result<(), Fault>
         ensures zero { result ≡ Err BadSpan ↔ (n ≡ 0) }
         ensures set { OnOk result (SetsRows self.old.spans self.new.spans pos n) }
@@ -494,9 +494,9 @@ impl SpannedConfig {
         self.spans.owner(pos)
     }
 
-    /// Whether in a table of so many rows and columns the rectangle of each cell that spans several
-    /// stays inside the table, and no two of them share a place. Cells outside the table don't count.
-    /// Each cell takes at least one row and one column.
+    /// Whether in a table of `rows` rows and `columns` columns the rectangle of each cell that spans
+    /// several stays inside the table, and no two of them share a place. Cells outside the table
+    /// don't count. Each cell takes at least one row and one column.
     pub fn spans_are_good(&self, rows: usize, columns: usize) -> bool
         ensures good { IsTrue result ↔ AreGood self.now.spans rows columns }
         ensures positive { ArePositive self.now.spans }

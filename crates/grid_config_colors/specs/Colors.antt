@@ -2,7 +2,7 @@
 use Rattle.std.specs.Prelude.{ℕ, ◌==◌, Bool, ◌&&◌, List, [], length}
 use Rattle.grid_config_colors.specs.declared.borrowed.ANSIStr.{ANSIStr}
 
--- a colour: the bytes that are written before what it colours, and the bytes behind it
+-- a colour: the bytes that are written before what it colours, and the bytes after it
 pub record Color : Type 0 where
   pub prefix : List ℕ
   pub suffix : List ℕ

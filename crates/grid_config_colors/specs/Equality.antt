@@ -1,4 +1,4 @@
--- What `==` and `cmp` of borrowed colours answer.
+-- What `==` and `cmp` of borrowed colours return.
 use Rattle.std.specs.Prelude.{Bool}
 use Rattle.std.specs.declared.cmp.Ordering.{Ordering}
 use Rattle.grid_config_colors.specs.contracts.borrowed.ANSIStrPartialEq.TheImpl.{ghosts as equality}

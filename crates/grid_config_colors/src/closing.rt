@@ -7,7 +7,7 @@ ghost use Rattle.grid_config_colors.specs.Closing.{AreSequences, Clears, Closes}
 use ansi_scan::{Kind, Style, is_whole, scan};
 use ansi_str_text::get_blocks;
 
-/// Whether the prefix and the suffix are sequences, of which the second clears what the first leaves.
+/// Whether the prefix and the suffix are sequences, and the second clears what the first leaves.
 pub(crate) fn closes(prefix: &str, suffix: &str) -> bool
     ensures { IsTrue result ↔ Closes (record { prefix = prefix.now; suffix = suffix.now }) }
 {

@@ -8,7 +8,7 @@ use std::fmt;
 pub enum BufFault {
     /// The text shows no character, so no block of it has a style.
     NoBlock,
-    /// A request for memory was refused.
+    /// Allocation failed.
     Memory,
 }
 

@@ -65,7 +65,7 @@ impl ANSIBuf {
     }
 
     /// The start and the end of the style of the text's first block, which is the first text in it.
-    /// Refused as `NoBlock` exactly where the text shows nothing, and else for memory alone.
+    /// Refused as `NoBlock` exactly where the text shows nothing, and else only where allocation fails.
     pub fn from_text(alloc: Global, text: &str) -> Result<ANSIBuf, BufFault>
         ensures color { IfOk result (λ color. (pieces : List Piece) → ArePiecesOf text.now pieces →
             first_color (blocks_from plain_attributes pieces) ≡ Some color) }

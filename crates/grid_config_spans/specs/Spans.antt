@@ -30,7 +30,8 @@ IsVisible spans place = (anchor : Position) → Holds anchor (extent_at spans an
 abbrev pub IsInTable : ℕ → ℕ → Position → Type 0
 IsInTable rows columns place = (place.row < rows) × (place.col < columns)
 
--- of the anchors in a table of so many rows and columns, each has its rectangle inside it, and no two of them share a place
+-- each anchor in a table of `rows` rows and `columns` columns has its rectangle inside it, and no two of these share a
+-- place
 pub record AreGood (spans : List (Position × Extent)) (rows columns : ℕ) : Type 0 where
   pub inside : (anchor : Position) → IsAnchor spans anchor → IsInTable rows columns anchor → IsInside anchor (extent_at spans anchor) rows columns
   pub apart : (a b place : Position) → IsAnchor spans a → IsAnchor spans b → IsInTable rows columns a → IsInTable rows columns b →

@@ -32,7 +32,7 @@ impl Extent {
             && place.col - anchor.col < self.columns
     }
 
-    // Whether the rectangle is in a table of so many rows and columns, where its anchor is.
+    // Whether the rectangle is in a table of `rows` rows and `columns` columns, where its anchor is.
     pub(crate) fn is_inside(self, anchor: Position, rows: usize, columns: usize) -> bool
         ensures { result ≡ (is_in_table rows columns anchor && is_inside anchor self rows columns) }
     {

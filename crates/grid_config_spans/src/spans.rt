@@ -93,8 +93,8 @@ impl Spans {
     }
 
     /// Sets how many columns the cell at this place takes; 1 takes its span away. Refused as `Spans` for
-    /// 0, and for want of memory, and then nothing has changed. What it takes away does not allocate, nor
-    /// does another span for a cell that has one.
+    /// 0, and as `Memory` where allocation fails, and then nothing has changed. What it takes away does
+    /// not allocate, nor does another span for a cell that has one.
     pub fn set_column_span(&mut self, pos: Position, n: usize) -> Result<(), Fault>
         ensures zero { result ≡ Err BadSpan ↔ (n ≡ 0) }
         ensures ok { OnOk result (SetsColumns self.old self.new pos n) }
@@ -109,8 +109,8 @@ impl Spans {
     }
 
     /// Sets how many rows the cell at this place takes; 1 takes its span away. Refused as `Spans` for 0,
-    /// and for want of memory, and then nothing has changed. What it takes away does not allocate, nor does
-    /// another span for a cell that has one.
+    /// and as `Memory` where allocation fails, and then nothing has changed. What it takes away does not
+    /// allocate, nor does another span for a cell that has one.
     pub fn set_row_span(&mut self, pos: Position, n: usize) -> Result<(), Fault>
         ensures zero { result ≡ Err BadSpan ↔ (n ≡ 0) }
         ensures ok { OnOk result (SetsRows self.old self.new pos n) }
@@ -124,7 +124,7 @@ impl Spans {
         self.set(pos, Extent { rows, ..extent })
     }
 
-    // Sets what the cell at this place takes. Only what was not kept may want memory.
+    // Sets what the cell at this place takes. Only what was not kept may allocate.
     fn set(&mut self, pos: Position, extent: Extent) -> Result<(), Fault>
         requires rows { 0 < extent.rows }
         requires columns { 0 < extent.columns }
@@ -167,9 +167,9 @@ impl Spans {
         self.holder(pos).unwrap_or(pos)
     }
 
-    /// Whether in a table of so many rows and columns the rectangle of each cell that spans several stays
-    /// inside the table, and no two of them share a place. Cells outside the table don't count. Each cell
-    /// takes at least one row and one column.
+    /// Whether in a table of `rows` rows and `columns` columns the rectangle of each cell that spans
+    /// several stays inside the table, and no two of them share a place. Cells outside the table don't
+    /// count. Each cell takes at least one row and one column.
     pub fn spans_are_good(&self, rows: usize, columns: usize) -> bool
         ensures good { IsTrue result ↔ AreGood self.now rows columns }
         ensures positive { ArePositive self.now }

@@ -1,5 +1,5 @@
 -- Which glyph of a table stands where, by the names of papergrid's `Borders`. Of n columns there are n + 1 boundaries:
--- before the first, between two, behind the last; likewise of rows.
+-- before the first, between two, after the last; likewise of rows.
 use Rattle.std.specs.Prelude.{ℕ, ◌+◌, Bool, ◌||◌, ◌==◌, if◌then◌else◌, Option, None, is_some, length}
 use Rattle.std.specs.List.{filter, range_with_len}
 use Rattle.grid_config_values.specs.declared.borders.Borders.{Borders}

@@ -1,4 +1,4 @@
--- What `cmp` of positions answers: by rows, and in a row by columns.
+-- What `cmp` of positions returns: by rows, and in a row by columns.
 use Rattle.std.specs.Prelude.{Bool, ◌&&◌, ◌==◌}
 use Rattle.std.specs.declared.cmp.Ordering.{Ordering}
 use Rattle.grid_config_values.specs.contracts.position.PositionOrd.TheImpl.{ghosts as order}

@@ -166,7 +166,7 @@ impl<T> Borders<T> {
             || is_either_set(&self.left_intersection, &self.right_intersection)
     }
 
-    /// Whether column boundary `j` of so many columns is there: `has_left` of the first, `has_right`
+    /// Whether column boundary `j` of `columns` columns is there: `has_left` of the first, `has_right`
     /// of the last, `has_vertical` of any other.
     pub const fn has_vertical_at(&self, j: usize, columns: usize) -> bool
         ensures { result ≡ has_column_boundary self.now (boundary_kind j columns) }
@@ -180,7 +180,7 @@ impl<T> Borders<T> {
         }
     }
 
-    /// Whether row boundary `i` of so many rows is there: `has_top` of the first, `has_bottom` of the
+    /// Whether row boundary `i` of `rows` rows is there: `has_top` of the first, `has_bottom` of the
     /// last, `has_horizontal` of any other.
     pub const fn has_horizontal_at(&self, i: usize, rows: usize) -> bool
         ensures { result ≡ has_row_boundary self.now (boundary_kind i rows) }
@@ -233,7 +233,7 @@ const fn count_boundaries(n: usize, first: bool, between: bool, last: bool) -> u
     count_if(first, 1) + count_if(between, n - 1) + count_if(last, 1)
 }
 
-// So many, or none.
+// `n`, or 0.
 const fn count_if(is_there: bool, n: usize) -> usize
     ensures { result ≡ (if is_there then n else 0) }
 {

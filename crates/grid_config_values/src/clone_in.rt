@@ -6,7 +6,7 @@ use crate::borders::Borders;
 use crate::sides::{Indent, Sides};
 use std::alloc::{AllocError, Global};
 
-/// Values of which there can be another one, in memory of its own.
+/// Values that can be cloned into memory of their own.
 pub trait CloneIn: Drop {
     /// The same value again. Fails only where allocation fails.
     fn clone_in(&self, alloc: Global) -> Result<Self, AllocError>

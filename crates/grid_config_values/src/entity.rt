@@ -22,7 +22,7 @@ pub enum Entity {
 }
 
 impl Entity {
-    /// The cells of a table of so many rows and columns that are in the set, by rows and in a row by
+    /// The cells of a table of `rows` rows and `cols` columns that are in the set, by rows and in a row by
     /// columns, each once. Does not allocate.
     pub fn iter(&self, rows: usize, cols: usize) -> EntityIterator
         ensures { result ≡ covered_positions self.now rows cols }
@@ -49,7 +49,7 @@ impl Entity {
     }
 }
 
-// Of so many rows or columns the one that is named, or all where none is.
+// Of `count` rows or columns the one that is named, or all where none is.
 fn named(name: Option<usize>, count: usize) -> Range<usize>
     ensures { numbers result ≡ filter (is_named name) (range_with_len 0 count) }
 {

@@ -6,7 +6,7 @@ use std::fmt;
 /// Why a call on a table's settings, sizes or text was refused.
 #[derive(Clone, Copy, Debug, PartialEq, Eq)]
 pub enum Fault {
-    /// A request for memory was refused.
+    /// Allocation failed.
     Memory,
     /// A width, a height or a total passes `usize::MAX`.
     Range,

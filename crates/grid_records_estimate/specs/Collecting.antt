@@ -11,13 +11,13 @@ use Rattle.grid_records_estimate.specs.Estimates.{Axis, greatest}
 abbrev pub PassesMax : List ℕ → Type 0
 PassesMax sizes = (track : ℕ) × (2 ^ 64 ≤ slice_index sizes track)
 
--- whether a boundary is there is the same for all that are strictly inside a table of so many tracks
+-- whether a boundary is there is the same for all that are strictly inside a table of `tracks` tracks
 abbrev pub HasBetween : (ℕ → Bool) → ℕ → Bool → Type 0
 HasBetween has_boundary tracks between = (j : ℕ) → 0 < j → j < tracks → has_boundary j ≡ between
 
 -- ---- needs
 
--- the need is of at least one of so many tracks, and of no more than four sizes together
+-- the need is of at least one of `tracks` tracks, and of no more than four sizes together
 pub record IsInside (tracks : ℕ) (need : Need) : Type 0 where
   pub some : 0 < need.length
   pub tracks_fit : need.first + need.length ≤ tracks
@@ -26,7 +26,7 @@ pub record IsInside (tracks : ℕ) (need : Need) : Type 0 where
 abbrev pub AreInside : ℕ → List Need → Type 0
 AreInside tracks needs = (k : ℕ) (d : Need) → k < length needs → IsInside tracks (slice_index_or needs k d)
 
--- each need begins in a table of so many tracks
+-- each need begins in a table of `tracks` tracks
 abbrev pub AreFirstBelow : ℕ → List Need → Type 0
 AreFirstBelow tracks needs = (k : ℕ) (d : Need) → k < length needs → (slice_index_or needs k d).first < tracks
 
@@ -34,7 +34,7 @@ AreFirstBelow tracks needs = (k : ℕ) (d : Need) → k < length needs → (slic
 abbrev pub AreSound : List Need → Type 0
 AreSound needs = (k : ℕ) (d : Need) → k < length needs → (0 < (slice_index_or needs k d).length) × ((slice_index_or needs k d).size < 2 ^ 66)
 
--- the need in a table of so many tracks: a span counts only inside it
+-- the need in a table of `tracks` tracks: a span counts only inside it
 abbrev pub clipped : ℕ → Need → Need
 clipped tracks need = record need { length = min need.length (tracks - need.first) }
 

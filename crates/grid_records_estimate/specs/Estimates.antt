@@ -23,12 +23,12 @@ length_at axis track crossing = min (axis.span track crossing) (axis.tracks - tr
 abbrev pub need_at : Axis → ℕ → ℕ → Need
 need_at axis track crossing = record { length = length_at axis track crossing; first = track; crossing = crossing; size = axis.need track crossing }
 
--- the visible cells that take so many tracks from this one on
+-- the visible cells that take n tracks from this one on
 abbrev pub needs_at : Axis → ℕ → ℕ → List Need
 needs_at axis n track =
     map (need_at axis track) (filter (λ crossing. axis.is_visible track crossing && length_at axis track crossing == n) (range_with_len 0 axis.crossings))
 
--- those that take so many, by their first track
+-- those that take n tracks, by their first track
 abbrev pub needs_of_length : Axis → ℕ → List Need
 needs_of_length axis n = flat_map (needs_at axis n) (range_with_len 0 axis.tracks)
 
@@ -51,7 +51,7 @@ least_size axis track = greatest (map (λ need. need.size) (needs_at axis 1 trac
 abbrev pub boundaries_within : (ℕ → Bool) → Need → ℕ
 boundaries_within has_boundary need = length (filter has_boundary (range_with_len (need.first + 1) (need.length - 1)))
 
--- sizes among which so much is divided evenly; the whole remainder goes to the first
+-- sizes among which an amount is divided evenly; the whole remainder goes to the first
 abbrev pub with_shares : ℕ → List ℕ → List ℕ
 with_shares n [] = []
 with_shares n (size ∷ sizes) =

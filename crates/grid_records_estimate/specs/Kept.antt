@@ -3,7 +3,7 @@ use Rattle.std.specs.Prelude.{ℕ, List, []}
 use Rattle.grid_records_estimate.specs.Sizes.{table_heights, table_widths}
 use Rattle.grid_records_estimate.specs.Sizing.{Sizing}
 
--- of each column and row by its number; behind the last every size is 0
+-- of each column and row by its number; after the last every size is 0
 pub record Kept : Type 0 where
   pub widths : List ℕ
   pub heights : List ℕ

@@ -8,8 +8,8 @@ use Rattle.grid_records_estimate.specs.Estimates.{track_sizes}
 use Rattle.grid_records_estimate.specs.Sizing.{Sizing, column_axis, row_axis}
 use Rattle.grid_records_estimate.specs.Totals.{total}
 
--- the least widths of so many columns, and the least heights of the rows, each row with as many texts; none of either in a
--- table without rows or columns
+-- the least widths of `columns` columns, and the least heights of the rows, each row with as many texts; none of either
+-- in a table without rows or columns
 unfoldable pub table_widths : Sizing → ℕ → List (List (List ℕ)) → List ℕ
 table_widths sizing columns rows = track_sizes (column_axis sizing columns (fitted columns rows))
 
@@ -26,6 +26,6 @@ abbrev pub height_total : Sizing → ℕ → List (List (List ℕ)) → ℕ
 height_total sizing columns rows =
     total (table_heights sizing columns rows) (boundary_count (has_row_boundary sizing.borders) (length rows)) sizing.margin.top.size sizing.margin.bottom.size
 
--- the refusals of an estimate: for memory, and for a size where one passes the greatest `usize`
+-- the refusals of an estimate: `Memory`, and `Range` where a size passes the greatest `usize`
 abbrev pub IsRefusal : Fault → Type 0 → Type 0
 IsRefusal fault passes = (fault ≡ Memory) ⊎ ((fault ≡ Range) × passes)

@@ -37,7 +37,7 @@ compact_sizing compact = record { margin = compact.margin; borders = compact.bor
 abbrev pub is_visible : List (Position × Extent) → Position → Bool
 is_visible spans place = not (list_any (λ span. holds span.0 (extent_at spans span.0) place && not (same_place span.0 place)) spans)
 
--- ---- the table of these texts, row by row, in so many columns
+-- ---- the table of these texts, row by row, in `columns` columns
 
 abbrev pub place : ℕ → ℕ → Position
 place row column = record { row = row; col = column }

@@ -57,9 +57,9 @@ impl Collector {
         }
     }
 
-    /// The least sizes of so many columns that hold what was added: first the cells that take one
+    /// The least sizes of `tracks` columns that hold what was added: first the cells that take one
     /// column, then the shorter spans before the longer ones; none where no row crosses them. Refused as
-    /// `Range` where a size passes `usize::MAX`, and for memory.
+    /// `Range` where a size passes `usize::MAX`, and as `Memory` where allocation fails.
     pub(crate) fn finish(
         self,
         tracks: usize,
@@ -91,7 +91,8 @@ fn plain_size(need: Need) -> Option<usize>
     usize::try_from(need.size).ok()
 }
 
-// Zeroes for the columns up to so many. It is apart from the way of every cell, since it is seldom called.
+// Appends zeroes until there are `count` columns. It is apart from the way of every cell, since it is
+// seldom called.
 #[cold]
 #[inline(never)]
 fn lengthen(sizes: &mut Vec<usize>, count: usize) -> Result<(), AllocError>

@@ -52,7 +52,7 @@ impl<C: Sizing> GridDimension<C> {
     }
 
     /// The least widths of the columns; none without rows. Refused as `Range` where one passes
-    /// `usize::MAX`, and for memory.
+    /// `usize::MAX`, and as `Memory` where allocation fails.
     pub fn width<R: Records>(alloc: Global, records: R, cfg: &C) -> Result<Vec<usize>, Fault>
         ensures ok { IfOk result (λ sizes. sizes.items ≡ table_widths (C.sizing cfg.now) (R.columns records) (R.rows records)) }
         ensures refused { IfErr result (λ fault. IsRefusal fault (PassesMax (table_widths (C.sizing cfg.now) (R.columns records) (R.rows records)))) }
@@ -67,7 +67,7 @@ impl<C: Sizing> GridDimension<C> {
     }
 
     /// The least heights of the rows; none without columns. Refused as `Range` where one passes
-    /// `usize::MAX`, and for memory.
+    /// `usize::MAX`, and as `Memory` where allocation fails.
     pub fn height<R: Records>(alloc: Global, records: R, cfg: &C) -> Result<Vec<usize>, Fault>
         ensures ok { IfOk result (λ sizes. sizes.items ≡ table_heights (C.sizing cfg.now) (R.columns records) (R.rows records)) }
         ensures refused { IfErr result (λ fault. IsRefusal fault (PassesMax (table_heights (C.sizing cfg.now) (R.columns records) (R.rows records)))) }
@@ -82,7 +82,7 @@ impl<C: Sizing> GridDimension<C> {
     }
 
     /// The least widths and the least heights, of one reading. Refused as `Range` where one of either
-    /// passes `usize::MAX`, and for memory.
+    /// passes `usize::MAX`, and as `Memory` where allocation fails.
     pub fn dimension<R: Records>(
         alloc: Global,
         records: R,
@@ -106,7 +106,7 @@ impl<C: Sizing> GridDimension<C> {
     }
 
     /// The columns that the table takes with its boundaries and margins, 0 without rows or columns.
-    /// Refused as `Range` where they pass `usize::MAX`, and for memory.
+    /// Refused as `Range` where they pass `usize::MAX`, and as `Memory` where allocation fails.
     pub fn width_total<R: Records>(alloc: Global, records: R, cfg: &C) -> Result<usize, Fault>
         ensures ok { IfOk result (λ n. n ≡ width_total (C.sizing cfg.now) (R.columns records) (R.rows records)) }
         ensures refused { IfErr result (λ fault. IsRefusal fault (2 ^ 64 ≤ width_total (C.sizing cfg.now) (R.columns records) (R.rows records))) }
@@ -118,7 +118,7 @@ impl<C: Sizing> GridDimension<C> {
     }
 
     /// The lines that the table takes with its boundaries and margins, 0 without rows or columns.
-    /// Refused as `Range` where they pass `usize::MAX`, and for memory.
+    /// Refused as `Range` where they pass `usize::MAX`, and as `Memory` where allocation fails.
     pub fn height_total<R: Records>(alloc: Global, records: R, cfg: &C) -> Result<usize, Fault>
         ensures ok { IfOk result (λ n. n ≡ height_total (C.sizing cfg.now) (R.columns records) (R.rows records)) }
         ensures refused { IfErr result (λ fault. IsRefusal fault (2 ^ 64 ≤ height_total (C.sizing cfg.now) (R.columns records) (R.rows records))) }

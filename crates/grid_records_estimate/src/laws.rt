@@ -18,8 +18,8 @@ use crate::sizing::Sizing;
 use grid_records_traits::{Dimension, Records};
 
 /// Estimates that were worked out by hand: a span of two over two, with a boundary between them; a
-/// remainder; a span that reaches out of the table, and one of which a single column is left; two spans
-/// that overlap; a short one after a long one; cells of one column, and hidden ones; no rows.
+/// remainder; a span that reaches out of the table, and one with a single column left; two spans that
+/// overlap; a short one after a long one; cells of one column, and hidden ones; no rows.
 #[tactic(auto, unfolding(crate::specs::Estimates::track_sizes))]
 pub fn worked_estimates()
     ensures shared { track_sizes (table true 2 (((2, 8) ∷ (0, 0) ∷ []) ∷ ((1, 1) ∷ (1, 1) ∷ []) ∷ [])) ≡ 4 ∷ 3 ∷ [] }

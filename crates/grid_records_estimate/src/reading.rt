@@ -42,7 +42,7 @@ pub(crate) fn read<R: Records, S: Sizing>(
 }
 
 // Collects what the visible cells of a table need of its columns and of its rows, and counts its rows.
-// More rows than a `usize` counts are refused as memory is.
+// More rows than a `usize` counts are refused as a failed allocation.
 fn collect<R: Records, S: Sizing>(
     records: R,
     cfg: &S,

@@ -38,7 +38,7 @@ fn meet(sizes: &mut [usize], need: Need, between: bool) -> Result<(), Fault>
     add_shares(tracks, need.size.saturating_sub(held))
 }
 
-// How many boundaries there are between so many columns.
+// How many boundaries there are between `length` columns.
 fn boundaries(length: usize, between: bool) -> usize
     requires { 0 < length }
     ensures { result ≡ (if between then length - 1 else 0) }
@@ -46,7 +46,7 @@ fn boundaries(length: usize, between: bool) -> usize
     if between { length - 1 } else { 0 }
 }
 
-// Divides so much evenly among the sizes; the whole remainder goes to the first.
+// Divides `lack` evenly among the sizes; the whole remainder goes to the first.
 fn add_shares(sizes: &mut [usize], lack: u128) -> Result<(), Fault>
     requires some { 0 < length sizes.old }
     requires small { lack < 2 ^ 66 }

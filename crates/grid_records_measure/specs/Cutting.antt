@@ -12,7 +12,7 @@ use Rattle.grid_records_measure.specs.TextLines.{is_line_feed}
 abbrev pub lines_of : List ℕ → List (List ℕ)
 lines_of characters = slice_split is_line_feed characters
 
--- each line but the last takes fewer columns than this width, and the last one at most so many
+-- each line but the last takes fewer columns than this width, and the last one at most this width
 abbrev pub LinesFit : ℕ → List (List ℕ) → Type 0
 LinesFit width [] = Unit {0}
 LinesFit width (line ∷ []) = columns line ≤ width
@@ -21,7 +21,7 @@ LinesFit width (line ∷ next ∷ lines) = (columns line < width) × LinesFit wi
 abbrev pub Fits : ℕ → List ℕ → Type 0
 Fits width characters = LinesFit width (lines_of characters)
 
--- the longest front of the characters that fits, and what is left behind it
+-- the longest front of the characters that fits, and what is left after it
 pub record IsLongestFront (width : ℕ) (characters kept left : List ℕ) : Type 0 where
   pub parted : characters ≡ kept ++ left
   pub fits : Fits width kept
@@ -42,7 +42,7 @@ lacking width kept (c ∷ left) = width - columns (last_of (lines_of kept))
 abbrev pub replacement : ℕ
 replacement = 0xfffd
 
--- the cut of a text behind the characters that are kept, and without style a replacement character for each
+-- the cut of a text after the characters that are kept, and without style a replacement character for each
 -- column that is lacking
 abbrev pub cut_bytes : ℕ → List Piece → List ℕ → List ℕ → List ℕ
 cut_bytes width pieces kept left =

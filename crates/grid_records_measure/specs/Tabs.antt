@@ -23,6 +23,6 @@ put_for_tabs put text = flat_map (λ byte. if byte == tab then put else byte ∷
 abbrev pub piece_with : List ℕ → Piece → List ℕ
 piece_with put piece = if is_text_kind piece.kind then put_for_tabs put piece.bytes else piece.bytes
 
--- the text with so many spaces in the place of each tab that it shows
+-- the text with n spaces in the place of each tab that it shows
 abbrev pub tabs_replaced : ℕ → List Piece → List ℕ
 tabs_replaced n pieces = flat_map (piece_with (replicate n space)) pieces

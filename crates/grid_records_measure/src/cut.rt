@@ -13,10 +13,10 @@ use std::alloc::{AllocError, Global};
 use std::borrow::CowStr;
 
 /// The longest front of a text whose lines but the last cost fewer columns than the width, and whose last
-/// costs at most so many; where text is left after it, a U+FFFD without style for each column that its
-/// last line lacks. A character costs the larger of 1 and its own width. The front is that of `ansi_cut`.
-/// A text without ESC whose cut lacks no column is returned as a borrow, without allocating; else the only
-/// refusal is for memory.
+/// costs at most the width. Where text is left after it, a U+FFFD without style follows for each column
+/// that its last line lacks. A character costs the larger of 1 and its own width. The front is that of
+/// `ansi_cut`. A text without ESC whose cut lacks no column is returned as a borrow, without allocating;
+/// else it fails only where allocation fails.
 pub fn cut_width<'a>(alloc: Global, text: &'a str, width: usize) -> Result<CowStr<'a>, AllocError>
     ensures cut { IfOk result (λ out. (pieces : List Piece) → ArePiecesOf text.now pieces → IsCutAt width pieces (cow_str_bytes out)) }
     ensures answers { IsPlainCut width text.now → IsOk result }
@@ -50,7 +50,7 @@ fn place_and_lacking(text: &str, width: usize) -> (usize, usize)
     (place, 0)
 }
 
-/// How many bytes of a text without sequences fit after so many columns of a line, and the columns of the
+/// How many bytes of a text without sequences fit after `before` columns of a line, and the columns of the
 /// line after them.
 fn fill(text: &str, width: usize, before: usize) -> (usize, usize)
     requires { before ≤ width }
@@ -70,7 +70,7 @@ fn fill(text: &str, width: usize, before: usize) -> (usize, usize)
     (len, used)
 }
 
-/// The columns of a line with a character after so many, where it has room.
+/// The columns of a line with a character after `used` columns, where it has room.
 fn columns_with(c: char, used: usize, width: usize) -> Option<usize>
     requires { used ≤ width }
     ensures columns { result ≡ columns_with width used c }
@@ -90,7 +90,7 @@ fn columns_with(c: char, used: usize, width: usize) -> Option<usize>
     }
 }
 
-/// Appends so many replacement characters.
+/// Appends `n` replacement characters.
 fn push_replacements(out: &mut String, n: usize) -> Result<(), AllocError>
     ensures { OnOk result (string_bytes out.new ≡ string_bytes out.old ++ encode_utf8_all (replicate n replacement)) }
 {

@@ -54,7 +54,7 @@ pub fn closed_lines_join()
 {}
 
 /// Without their sequences the lines of a whole text are those that it shows: the text without its own,
-/// parted at its line feeds.
+/// split at its line feeds.
 pub fn lines_are_shown_lines()
     ensures { (text : List ℕ) (pieces : List Piece) (lines : List (List ℕ)) →
         ArePiecesOf text pieces → NoneBroken pieces → AreLinesOf pieces lines →

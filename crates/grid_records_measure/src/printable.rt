@@ -1,4 +1,4 @@
-//! The width of a text that shows printable ASCII alone, of which each byte takes one column.
+//! The width of a text that shows printable ASCII alone: each byte takes one column.
 ghost use Rattle.std.specs.Prelude.{◌≡◌, MatchOption, chars, false};
 ghost use Rattle.ansi_scan.specs.Pieces.{pieces};
 ghost use Rattle.ansi_str.specs.StyledText.{strip};

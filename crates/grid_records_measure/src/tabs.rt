@@ -11,8 +11,9 @@ use ansi_str::get_blocks;
 use std::alloc::{AllocError, Global};
 use std::borrow::CowStr;
 
-/// The text with so many spaces in the place of each tab that it shows; its sequences stay as they are.
-/// Where it shows no tab it is returned as a borrow, without allocating; else it fails only where allocation fails.
+/// The text with `n` spaces in the place of each tab that it shows; its sequences stay as they are. Where
+/// it shows no tab it is returned as a borrow, without allocating; else it fails only where allocation
+/// fails.
 pub fn replace_tab<'a>(alloc: Global, text: &'a str, n: usize) -> Result<CowStr<'a>, AllocError>
     ensures replaces { IfOk result (λ out. (pieces : List Piece) → ArePiecesOf text.now pieces → cow_str_bytes out ≡ tabs_replaced n pieces) }
     ensures answers { (pieces : List Piece) → ArePiecesOf text.now pieces → has_tab (strip pieces) ≡ false → IsOk result }
@@ -43,7 +44,7 @@ fn has_tab(text: &str) -> bool
     text.as_bytes().contains(&b'\t')
 }
 
-/// The text with so many spaces in the place of each tab that it shows.
+/// The text with `n` spaces in the place of each tab that it shows.
 fn with_spaces(alloc: Global, text: &str, n: usize) -> Result<String, AllocError>
     ensures { IfOk result (λ out. string_bytes out ≡ tabs_replaced n (pieces_of text.now)) }
 {

@@ -32,8 +32,8 @@ fn line_feeds(text: &str) -> usize
 }
 
 /// The lines of a text: its parts when it is split at line feeds, each with the styles that it shows
-/// opened and ended within. A text without ESC is returned as borrows, without allocating; else the only
-/// refusal is for memory, and no line comes after it.
+/// opened and ended within. A text without ESC is returned as borrows, without allocating; else a line
+/// fails only where allocation fails, and no line comes after that.
 pub fn get_lines<'a>(alloc: Global, text: &'a str) -> Lines<'a>
     ensures lines { (pieces : List Piece) → ArePiecesOf text.now pieces → AreLinesOf pieces result.parts }
     ensures may_refuse { result.may_refuse ≡ has_escape text.now }
@@ -44,8 +44,8 @@ pub fn get_lines<'a>(alloc: Global, text: &'a str) -> Lines<'a>
     }
 }
 
-/// The lines of a text that are still to come, made by `get_lines`. After the last, and after a refusal
-/// for memory, it gives `None` forever. In a contract it is the list of these lines, and whether they
+/// The lines of a text that are still to come, made by `get_lines`. After the last, and after a failed
+/// allocation, it gives `None` forever. In a contract it is the list of these lines, and whether they
 /// may allocate.
 #[derive(Debug, Drop)]
 pub struct Lines<'a> {

@@ -8,7 +8,7 @@ abbrev pub of_rest : {S B : Type 0} → (S → B) → B → Option S → B
 of_rest f none None = none
 of_rest f none (Some rest) = f rest
 
--- a call gives the next kept row, and behind the last of them the next row of the rest
+-- a call gives the next kept row, and after the last of them the next row of the rest
 abbrev pub GivesBuffered : {K R Kept Rest : Type 0} → (K → Option Kept → K → Type 0) → (R → Option Rest → R → Type 0) → K → Option R → Option (Either Kept Rest) → K → Option R → Type 0
 GivesBuffered {R = R} kept_steps rest_steps kept rest found kept_then rest_then =
     MatchOption found

@@ -6,7 +6,7 @@ abbrev pub GivesFitted : {S Row Cells : Type 0} → (S → Option Row → S → 
 GivesFitted {Row = Row} steps columns s found cells_of left_of t =
     MatchOption found (steps s None t) (λ cells. (row : Row) × steps s (Some row) t × (cells_of cells ≡ Some row) × (left_of cells ≡ columns))
 
--- the answer is none where the row has ended or ends now, and else its next cell
+-- the result is none where the row has ended or ends now, and else its next cell
 abbrev pub FitsOne : {S C E : Type 0} → (S → Option (Result C E) → S → Type 0) → Option S → Option C → Option S → Type 0
 FitsOne {S} steps before answer after =
     MatchOption answer ((after ≡ None) × MatchOption before (Unit {0}) (λ s. (t : S) × steps s None t))

@@ -3,10 +3,10 @@ use Rattle.std.specs.Prelude.{ℕ, List, map}
 use Rattle.std.specs.List.{range_with_len}
 use Rattle.grid_records_traits.specs.Rows.{text_at}
 
--- so many texts of a row, from a column on
+-- n texts of a row, from a column on
 abbrev pub texts_from : List (List (List ℕ)) → ℕ → ℕ → ℕ → List (List ℕ)
 texts_from rows row column n = map (λ j. text_at rows (record { row = row; col = j })) (range_with_len column n)
 
--- so many rows, from a row on, of so many texts each
+-- n rows, from a row on, of `columns` texts each
 abbrev pub rows_from : List (List (List ℕ)) → ℕ → ℕ → ℕ → List (List (List ℕ))
 rows_from rows columns row n = map (λ i. texts_from rows i 0 columns) (range_with_len row n)

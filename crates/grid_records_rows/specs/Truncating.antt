@@ -14,7 +14,7 @@ cut_text width text =
     let characters = chars (strip (pieces text)) in
     cut_bytes width (pieces text) (front width 0 characters) (behind_front width 0 characters)
 
--- the text where it measures at most so many columns, and else its cut
+-- the text where it measures at most `width` columns, and else its cut
 abbrev pub truncated_text : ℕ → List ℕ → List ℕ
 truncated_text width text = if nat_le (text_width text) width then text else cut_text width text
 
@@ -34,14 +34,14 @@ abbrev pub text_of_truncated : {C : Type 0} → (C → List ℕ) → Truncated C
 text_of_truncated text (Whole cell) = text cell
 text_of_truncated text (Cut kept) = string_bytes kept
 
--- the answer is what is left of the cell that came, or a refusal: the one that came, or of a text that is wider
+-- the result is what is left of the cell that came, or a refusal: the one that came, or of a text that is wider
 abbrev pub IsTruncated : {C E : Type 0} → (C → List ℕ) → ℕ → Result C E → Result (Truncated C) E → Type 0
 IsTruncated text width given answer =
     MatchResult answer
     (λ cell. MatchResult given (λ whole. text_of_truncated text cell ≡ truncated_text width (text whole)) (λ _. ⊥))
     (λ _. MatchResult given (λ whole. width < text_width (text whole)) (λ _. Unit {0}))
 
--- a call answers what is left of the next cell, as long as the row has one; behind a refusal there is none
+-- a call returns what is left of the next cell, as long as the row has one; after a refusal there is none
 abbrev pub GivesTruncated : {S C E : Type 0} → (S → Option (Result C E) → S → Type 0) → (C → List ℕ) → (ℕ → ℕ) → ℕ → Option S → Option (Result (Truncated C) E) → Option S → ℕ → Type 0
 GivesTruncated {S = S} {C = C} {E = E} steps text width column cells found cells_then column_then =
     MatchOption found

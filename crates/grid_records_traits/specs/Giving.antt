@@ -18,8 +18,8 @@ pub record Gives {S A B : Type 0} (can : S → Type 0) (left : S → Count) (ste
   pub ends : IsFinite (left s)
   pub each : GivesEach steps tie s ys
 
--- every run of calls from s answers a cell with each of the texts in order, and then `None`; where one may come, a
--- refusal for memory may stand in a cell's place, and it ends the row
+-- every run of calls from s returns a cell with each of the texts in order, and then `None`; where one may come, a
+-- refusal may stand in a cell's place, and it ends the row
 abbrev pub GivesCells : {S C E : Type 0} → (S → Option (Result C E) → S → Type 0) → (C → List ℕ) → Bool → S → List (List ℕ) → Type 0
 GivesCells steps text may_refuse s [] = HasEnded steps s
 GivesCells {S} {C} {E} steps text may_refuse s (wanted ∷ row) =
@@ -42,7 +42,7 @@ GivesRows row_can row_left row_steps can left steps text may_refuse r rows =
 abbrev pub HasPassedOne : List (List (List ℕ)) → Bool → List (List (List ℕ)) → Bool → Type 0
 HasPassedOne before may_refuse after may_refuse_then = (after ≡ drop 1 before) × (may_refuse_then ≡ may_refuse)
 
--- a call answers the next cell, and refuses none
+-- a call returns the next cell, and refuses none
 abbrev pub AnswersCell : {S C E : Type 0} → (S → Option C → S → Type 0) → S → Option (Result C E) → S → Type 0
 AnswersCell steps s found t =
     MatchOption found (steps s None t) (λ answer. MatchResult answer (λ cell. steps s (Some cell) t) (λ _. ⊥))

@@ -6,11 +6,11 @@ use Rattle.grid_config_values.specs.declared.Position.{Position}
 abbrev pub fitted_row : ℕ → List (List ℕ) → List (List ℕ)
 fitted_row n row = take n row ++ replicate (n - length row) []
 
--- the rows with so many texts each
+-- the rows with n texts each
 abbrev pub fitted : ℕ → List (List (List ℕ)) → List (List (List ℕ))
 fitted n rows = map (fitted_row n) rows
 
--- the row with this number, and behind the last an empty one
+-- the row with this number, and after the last an empty one
 abbrev pub row_at : List (List (List ℕ)) → ℕ → List (List ℕ)
 row_at rows i = slice_index_or rows i []
 

@@ -29,7 +29,7 @@ pub fn cells_have_their_texts<'a, C: Cell + 'a>()
     ensures none { ⟦<Option<C> as Cell>⟧.text None ≡ [] }
 {}
 
-/// What a cell answers of its lines, as functions of its text.
+/// What a cell returns for its lines, as functions of its text.
 pub fn cells_answer_by_their_texts()
     ensures line { (text bytes : List ℕ) (index : ℕ) → IsLineAt text index bytes → bytes ≡ line_at (text_lines text) index }
     ensures count { (text : List ℕ) (count : ℕ) → HasLineCount text count → count ≡ length (text_lines text) }

@@ -1,4 +1,4 @@
-//! What rows of cells have to answer: the traits of sources, of tables and of cells, and of the sizes of
+//! What rows of cells have to return: the traits of sources, of tables and of cells, and of the sizes of
 //! columns and rows.
 #![tactic(auto)]
 

@@ -13,8 +13,8 @@ pub use exact_records::ExactRecords;
 pub use into_records::IntoRecords;
 pub use peekable_records::PeekableRecords;
 
-/// What contracts see of a source of rows: the texts of its cells by rows, and whether a cell may be
-/// refused for memory.
+/// What contracts see of a source of rows: the texts of its cells by rows, and whether a cell may
+/// fail where allocation fails.
 pub trait RecordTexts {
     ghost rows: { Self → List (List (List ℕ)) };
 

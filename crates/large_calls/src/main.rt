@@ -1,5 +1,6 @@
-//! Calls that may be refused for memory, on inputs that are large, where memory is ample. No contract says that a
-//! call answers then; what is printed does, and no test of a small input would notice a bound on the size.
+//! Calls that may fail where allocation fails, on inputs that are large, where memory is ample. No contract
+//! says that a call succeeds then; what is printed does, and no test of a small input would notice a bound
+//! on the size.
 #![tactic(auto)]
 
 mod settings;

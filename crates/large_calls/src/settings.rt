@@ -52,7 +52,7 @@ fn print_spanned(rt: &impl Print, cfg: &mut SpannedConfig) -> io::Result<()> {
     print_cells(rt, cfg)
 }
 
-/// Prints what settings of a thousand rows answer at their middle and their end.
+/// Prints what settings of a thousand rows return at their middle and their end.
 pub fn print_settings(rt: &impl Print, alloc: Global) -> io::Result<()> {
     let mut cfg = SpannedConfig::new(alloc);
     let outcome = print_spanned(rt, &mut cfg);

@@ -7,7 +7,7 @@ use std::io;
 use std::io::Print;
 use tabled_size_wrap::wrap_styled;
 
-// 18 bytes, of which 8 are shown.
+// 18 bytes; 8 are shown.
 const WORDS: &str = "\x1b[31mab cd\x1b[39mef\t";
 
 const WORDS_ON_A_LINE: &str = "\x1b[31mab cd\x1b[39mef\n";
@@ -104,7 +104,7 @@ fn print_edits(rt: &impl Print, alloc: Global, text: &str) -> io::Result<()> {
     println!(rt; "edited: {}", shown.as_str().len())
 }
 
-/// Prints how long the answers are of calls on a styled text of a megabyte, and how many.
+/// Prints how long the results are of calls on a styled text of a megabyte, and how many.
 pub fn print_texts(rt: &impl Print, alloc: Global) -> io::Result<()> {
     let text = repeated(alloc, WORDS, 60_000)?;
     let text = text.as_str();

@@ -14,7 +14,7 @@ pub struct Pages<W> {
 }
 
 impl<W> Pages<W> {
-    /// Writes to `inner`, so many lines a page.
+    /// Writes to `inner`, `lines` lines a page.
     pub fn new(inner: W, lines: usize) -> Pages<W> {
         Pages {
             inner,

@@ -16,7 +16,7 @@ pub record Parts (R G D C : Type 0) : Type 0 where
   pub sizes : D
   pub colors : C
 
--- the text of rows of texts in so many columns: their picture in bytes
+-- the text of rows of texts in `columns` columns: their picture in bytes
 abbrev pub grid_text : Look → (ℕ → ℕ) → (ℕ → ℕ) → (Position → Option Color) → ℕ → List (List (List ℕ)) → List ℕ
 grid_text look width height colors columns rows = table_text look rows colors (sizes_of width columns) (sizes_of height (length rows))
 
@@ -35,7 +35,7 @@ flat compact = record compact {
 abbrev pub one_line : ℕ → ℕ
 one_line row = 1
 
--- a table of so many such columns and rows: of a cell of several lines the first is seen
+-- a table of `columns` such columns and `rows` such rows: of a cell of several lines the first is seen
 abbrev pub lined : Compact → (ℕ → ℕ) → ℕ → ℕ → Frame
 lined compact width columns rows = frame_of (compact_look (flat compact)) (sizes_of width columns) (sizes_of one_line rows)
 

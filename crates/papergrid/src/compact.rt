@@ -68,7 +68,7 @@ impl<'a, R: Records, D: Dimension + Drop, C: Colors + Drop> CompactGrid<
     /// them, each row with as many cells as there are columns; the hint decides nothing. Refused as
     /// `Range` where the columns of a line, or the lines, pass `usize::MAX`, margins too; else as `Room`
     /// of the first cell, by row, then by column, whose widest line with the paddings at its sides is
-    /// wider than its column; or for memory. A refusal leaves the text as it was.
+    /// wider than its column; or as `Memory` where allocation fails. A refusal leaves the text as it was.
     pub fn build(self, alloc: Global, out: &mut String) -> Result<(), Fault>
         ensures text { let rows = fitted (R.columns self.entry.records) (R.rows self.entry.records) in OnOk result (string_bytes out.new ≡ string_bytes out.old
             ++ compact_text (compact_of self.entry.settings.now) (D.width self.entry.sizes) (R.columns self.entry.records) rows (C.color self.entry.colors)) }
@@ -111,7 +111,7 @@ impl<'a, R: Records, D: Dimension + Drop, C: Colors + Drop> CompactGrid<
     }
 }
 
-// Appends the text of so many rows and columns of records, each row in one line.
+// Appends the text of `rows` rows and `columns` columns of records, each row in one line.
 fn print_lines<R: PeekableRecords, D: Dimension, C: Colors>(
     alloc: Global,
     records: &R,

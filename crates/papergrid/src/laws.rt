@@ -11,7 +11,7 @@ ghost use Rattle.papergrid_fits.specs.Tables.{IsFitsAnswer};
 ghost use Rattle.papergrid.specs.Grids.{compact_text, grid_text, one_line};
 
 /// A grid that reads its records once and one that looks up its cells append the same text of the same
-/// records, settings, sizes and colours, and fit them or refuse them alike: the first sees as many cells
+/// records, settings, sizes and colours, and fit them or refuse them alike. The first sees as many cells
 /// in each row as there are columns, the second the rows as they are.
 pub fn both_grids_append_the_same()
     ensures text { (settings : Settings) (width height : ℕ → ℕ) (colors : Place → Option Color) (columns : ℕ) (rows : List (List (List ℕ))) →

@@ -56,7 +56,7 @@ impl<'a, R: ExactRecords + PeekableRecords, D: Dimension, C: Colors> PeekableGri
     ghost use Rattle.papergrid_fits.specs.Tables.{Fits};
     ghost use Rattle.papergrid.specs.Grids.{grid_text};
 
-    /// Appends the text of the grid, on condition that `fits` answers that the table fits its sizes: its
+    /// Appends the text of the grid, on condition that `fits` returns that the table fits its sizes: its
     /// lines, a line feed between each two. Fails only where allocation fails, and then the text is as it was.
     pub fn build(&self, alloc: Global, out: &mut String) -> Result<(), Fault>
         requires { Fits self.now.settings.now (D.width self.now.sizes) (D.height self.now.sizes) (R.columns self.now.records) (R.rows self.now.records) }

@@ -14,8 +14,9 @@ use papergrid_fits::fits_counted;
 use papergrid_print::{Colors, print_table};
 use std::alloc::Global;
 
-/// Appends the text of so many rows and columns of records. Refused as `fits` refuses them, by the same
-/// faults in the same order, or for memory, and then the text is as it was.
+/// Appends the text of `rows` rows and `columns` columns of records. Refused as `fits` refuses them, by
+/// the same faults in the same order, or as `Memory` where allocation fails, and then the text is as it
+/// was.
 pub(crate) fn print_fitting<R: PeekableRecords, D: Dimension, C: Colors>(
     alloc: Global,
     records: &R,

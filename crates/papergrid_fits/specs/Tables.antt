@@ -9,7 +9,7 @@ use Rattle.papergrid_picture.specs.Fitting.{FitsAnswer, InRange, first_too_wide}
 use Rattle.papergrid_picture.specs.Frame.{Frame, Tracks, frame_of}
 use Rattle.papergrid_picture.specs.Tables.{sizes_of}
 
--- so many columns, or rows, of these sizes
+-- `columns` columns, or `rows` rows, of these sizes
 abbrev pub column_tracks : Settings → (ℕ → ℕ) → ℕ → Tracks
 column_tracks settings width columns = record {
   margin = settings.margin.left.size;
@@ -29,15 +29,16 @@ abbrev pub sized : Settings → (ℕ → ℕ) → (ℕ → ℕ) → ℕ → ℕ 
 sized settings width height columns rows = frame_of (look_of settings) (sizes_of width columns) (sizes_of height rows)
 
 module _ (settings : Settings) (width height : ℕ → ℕ) (columns : ℕ) (rows : List (List (List ℕ))) where
-  -- rows of texts in so many columns of these sizes
+  -- rows of texts in `columns` columns of these sizes
   abbrev pub table_frame : Frame
   table_frame = sized settings width height columns (length rows)
 
-  -- what `fits` answers
+  -- what `fits` returns
   abbrev pub IsFitsAnswer : Result (Unit {0}) Fault → Type 0
   IsFitsAnswer answer = FitsAnswer table_frame rows (AreGood settings.spans (length rows) columns) answer
 
-  -- it answers that the table fits: its spans are good, both totals are in range, and no visible cell needs more columns than it has
+  -- it returns that the table fits: its spans are good, both totals are in range, and no visible cell needs more
+  -- columns than it has
   pub record Fits : Type 0 where
     pub good : AreGood settings.spans (length rows) columns
     pub range : InRange table_frame

@@ -34,7 +34,7 @@ pub fn fits<R: ExactRecords + PeekableRecords, D: Dimension>(
 }
 
 /// Whether the first rows and columns of records fit these sizes, as many of both as are given. The
-/// answers are those of `fits`. Does not allocate.
+/// results are those of `fits`. Does not allocate.
 pub fn fits_counted<R: PeekableRecords, D: Dimension>(
     records: &R,
     cfg: &SpannedConfig,
@@ -59,7 +59,7 @@ pub fn fits_counted<R: PeekableRecords, D: Dimension>(
     }
 }
 
-// Whether the columns of a line and the lines of a table of so many rows and columns are at most
+// Whether the columns of a line and the lines of a table of `rows` rows and `columns` columns are at most
 // `usize::MAX`. Without rows or columns there are none.
 fn is_in_range<D: Dimension>(cfg: &SpannedConfig, dims: &D, rows: usize, columns: usize) -> bool
     ensures { IsTrue result ↔ InRange (sized cfg.now (D.width dims.now) (D.height dims.now) columns rows) }

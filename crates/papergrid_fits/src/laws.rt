@@ -25,8 +25,8 @@ pub fn estimated_sizes_leave_room()
 {}
 
 /// A table with columns has as many lines as the height total of its sizes, and one with rows takes as many
-/// columns as their width total; and those of estimated sizes are the totals of the estimate, whatever rows
-/// and columns there are.
+/// columns as their width total. Those of estimated sizes are the totals of the estimate, whatever rows and
+/// columns there are.
 pub fn totals()
     ensures lines { (look : Look) (widths heights : List ℕ) → 0 < length widths →
         line_count (frame_of look widths heights)

@@ -55,7 +55,7 @@ fn column_span(cfg: &SpannedConfig, pos: Position) -> usize
     cfg.get_column_span(pos).unwrap_or(1)
 }
 
-// What so many columns from the first one on, and the boundaries between them, lack of what is needed.
+// What `count` columns from the first one on, and the boundaries between them, lack of what is needed.
 fn lacking<D: Dimension>(
     cfg: &SpannedConfig,
     dims: &D,

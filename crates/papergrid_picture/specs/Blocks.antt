@@ -15,16 +15,16 @@ pub data Content : Type 0 where
   Fill : ℕ → Content
   -- the same on a boundary line, where neighbours in one colour are coloured as one
   Glyph : ℕ → Content
-  -- the line of a cell with this number, and behind its last line nothing
+  -- the line of a cell with this number, and after its last line nothing
   TextLine : Position → ℕ → Content
 
--- what stands side by side in a line: content in so many columns, and its colour
+-- what stands side by side in a line: content in `width` columns, and its colour
 pub record Part : Type 0 where
   pub width : ℕ
   pub content : Content
   pub color : Option Color
 
--- a character in each of so many columns
+-- a character in each of `width` columns
 abbrev pub fill : ℕ → ℕ → Option Color → Part
 fill width character color = record { width = width; content = Fill character; color = color }
 
@@ -52,7 +52,7 @@ free_above Middle free = free / 2
 free_above Bottom free = free
 
 module _ (grid : Grid) (cell : Position) where
-  -- a line of the cell's text in so many columns: padding, indent, the line, what is left, padding. With line alignment what is
+  -- a line of the cell's text in `width` columns: padding, indent, the line, what is left, padding. With line alignment what is
   -- free is counted for the line itself, and else for the widest one
   abbrev pub text_line : ℕ → ℕ → List Part
   text_line width k =

@@ -1,4 +1,4 @@
--- Where the rows and the columns of a table stand, and the boundaries before, between and behind them. A row or a column is
+-- Where the rows and the columns of a table stand, and the boundaries before, between and after them. A row or a column is
 -- called a track, as in the CSS Grid Layout Module (W3C).
 use Rattle.std.specs.Prelude.{ℕ, ◌+◌, ◌-◌, ◌==◌, nat_lt, Bool, List, [], ◌∷◌, length, sum, take, drop, if◌then◌else◌}
 use Rattle.std.specs.List.{filter, range_with_len}
@@ -17,7 +17,7 @@ abbrev pub thickness : Bool → ℕ
 thickness is_there = if is_there then 1 else 0
 
 module _ (tracks : Tracks) where
-  -- boundary n stands behind the margin and the n tracks before it with their boundaries, and track n right behind boundary n
+  -- boundary n stands after the margin and the n tracks before it with their boundaries, and track n right after boundary n
   abbrev pub boundary_at : ℕ → ℕ
   boundary_at n = tracks.margin + sum (take n tracks.sizes) + length (filter tracks.has_boundary (range_with_len 0 n))
 
@@ -34,7 +34,7 @@ pub data Place : Type 0 where
   Row : ℕ → Place
   Outside : Place
 
--- what line y shows of the rows from i on, of which these are the heights: boundary i, then row i, then what follows; behind the
+-- what line y shows of the rows from i on, which have these heights: boundary i, then row i, then what follows; after the
 -- last boundary there is nothing more
 abbrev pub place_from : (ℕ → Bool) → ℕ → List ℕ → ℕ → Place
 place_from has_boundary i [] y = if nat_lt y (thickness (has_boundary i)) then Boundary i else Outside

@@ -72,7 +72,7 @@ module _ (grid : Grid) where
         color = along_column grid.frame.look.borders_color kind;
       } ∷ [])
 
-  -- boundary j and column j in line y, which shows row i: a cell is seen from its first column on, behind its left boundary
+  -- boundary j and column j in line y, which shows row i: a cell is seen from its first column on, after its left boundary
   abbrev pub row_part : ℕ → ℕ → ℕ → List Piece
   row_part i y j =
       let cell = seen i j in

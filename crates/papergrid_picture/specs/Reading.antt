@@ -49,7 +49,7 @@ runs_of (part ∷ parts) = onto_runs part (runs_of parts)
 -- ---- items
 
 module _ {X : Type 0} (reading : Reading X) where
-  -- content in so many columns; a line of a cell is its own
+  -- content in `width` columns; a line of a cell is its own
   abbrev pub content_items : Content → ℕ → List X
   content_items (Fill c) width = flat_map reading.item (replicate width c)
   content_items (Glyph c) width = flat_map reading.item (replicate width c)

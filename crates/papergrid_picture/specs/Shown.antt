@@ -59,7 +59,7 @@ pub record IsBare (look : Look) : Type 0 where
 
 -- ---- texts
 
--- a text in UTF-8 of which no sequence is broken
+-- a text in UTF-8 without a broken sequence
 pub record IsWholeText (text : List ℕ) : Type 0 where
   pub utf8 : IsUtf8 text
   pub whole : NoneBroken (pieces text)

@@ -32,7 +32,7 @@ ShowsPlace rows y (Boundary i) = (i ≤ length rows.sizes) × (rows.has_boundary
 ShowsPlace rows y (Row i) = (i < length rows.sizes) × (track_at rows i ≤ y) × (y < track_at rows i + slice_index rows.sizes i)
 ShowsPlace rows y Outside = (y < rows.margin) ⊎ (track_at rows (length rows.sizes) ≤ y)
 
--- the columns of a table begin behind its left margin, as they do in every table of sizes
+-- the columns of a table begin after its left margin, as they do in every table of sizes
 abbrev pub BeginsBehindMargin : Frame → Type 0
 BeginsBehindMargin frame = frame.columns.margin ≡ frame.look.margin.left.size
 

@@ -93,7 +93,7 @@ plain = record {
 abbrev pub lines_at : List (List (List (List ℕ))) → Position → List (List ℕ)
 lines_at texts p = slice_index_or (slice_index_or texts p.row []) p.col ([] ∷ [])
 
--- the picture of cells by their lines, of which each character takes one column
+-- the picture of cells by their lines, where each character takes one column
 abbrev pub drawn_in : (Position → Option Color) → Look → List ℕ → List ℕ → List (List (List (List ℕ))) → List ℕ
 drawn_in colors look widths heights texts =
     grid_items
@@ -113,7 +113,7 @@ joined [] = []
 joined (line ∷ []) = line
 joined (line ∷ next ∷ lines) = line ++ (0x0a ∷ joined (next ∷ lines))
 
--- so many rows of so many cells, each of which shows its row and its column, both below ten
+-- `rows` rows of `columns` cells, each of which shows its row and its column, both below ten
 abbrev pub named : ℕ → ℕ → List (List (List (List ℕ)))
 named rows columns =
     map (λ row. map (λ column. ((0x30 + row) ∷ 0x2d ∷ (0x30 + column) ∷ []) ∷ []) (range_with_len 0 columns)) (range_with_len 0 rows)

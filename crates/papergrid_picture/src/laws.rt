@@ -52,7 +52,7 @@ pub fn worked_tables()
 /// Cells that span rows and columns, worked out by hand: a row span of two in the middle of its height; row
 /// spans of three, two and two, whose texts stand on boundary lines; two by two cells, with the crossing
 /// in their middle hidden, at the first place and at the last; a span over a boundary that is absent; a
-/// row of columns, of which one has the width 0; spans of rows and of columns side by side.
+/// row of columns, one with the width 0; spans of rows and of columns side by side.
 pub fn worked_spans()
     ensures two_rows { drawn (record plain { extent = extents (span 0 0 2 1 ∷ []); alignment_vertical = λ _. Middle }) (3 ∷ 3 ∷ []) (1 ∷ 1 ∷ []) (named 2 2)
         ≡ joined (codes "+---+---+" ∷ codes "|   |0-1|" ∷ codes "+0-0+---+" ∷ codes "|   |1-1|" ∷ codes "+---+---+" ∷ []) }
@@ -74,8 +74,8 @@ pub fn worked_spans()
 
 /// Paddings, margins and boundaries, worked out by hand: fills of each side, where the bottom padding is
 /// not seen in a row that is too low for it; margins, whose lines at the top and bottom are as wide as all
-/// others; boundaries of which one is absent, and a present one without a glyph at some of its places;
-/// fifteen different glyphs.
+/// others; boundaries with one absent, and a present one without a glyph at some of its places; fifteen
+/// different glyphs.
 pub fn worked_edges()
     ensures paddings { drawn padded (4 ∷ []) (3 ∷ []) (cells (codes "ab" ∷ []) ∷ [])
         ≡ joined (codes "+----+" ∷ codes "|^^^^|" ∷ codes "|<ab>|" ∷ codes "|____|" ∷ codes "+----+" ∷ []) }
@@ -91,7 +91,7 @@ pub fn worked_edges()
         ≡ joined (codes "+-+-+" ∷ codes "|a b|" ∷ codes "+-+-+" ∷ []) }
 {}
 
-/// Colours, worked out by hand: a cell's text; a boundary line, of which neighbours in one colour are
+/// Colours, worked out by hand: a cell's text; a boundary line, whose neighbours in one colour are
 /// coloured together, past a column of width 0 and past a boundary that is absent, but not past a cell
 /// that goes on there; two colours that begin or end in different ways; a text of no bytes, which has no
 /// colour; paddings and margins, each side in its own colour; two cells, each with its own settings and
@@ -141,7 +141,7 @@ pub fn readings<X, Y>()
 
 /// The text of a table without colours shows the picture of what its cells show: characters in their
 /// styles, with glyphs, fills and line feeds in the plain style; and no style is open at its end. The cells
-/// are whole texts, of which no line is trimmed at its ends.
+/// are whole texts, and no line of them is trimmed at its ends.
 pub fn styled_reading()
     ensures { (look : Look) (rows : List (List (List ℕ))) (widths heights : List ℕ) →
         IsBare look → AreWholeTexts rows → KeepsLineEnds look →
@@ -196,9 +196,9 @@ pub fn lines_are_joined()
 {}
 
 /// Where the spans are good and each cell that is seen has room, the pieces of each line stand side by side
-/// from column 0 to the table's width, with no gap and no overlap; and where they do so, each cell that is
-/// seen has room, if all its lines are shown. A line of a cell fills the width of its rectangle exactly where
-/// it and the paddings at its sides take no more.
+/// from column 0 to the table's width, with no gap and no overlap. Where they do so, each cell that is seen
+/// has room, if all its lines are shown. A line of a cell fills the width of its rectangle exactly where it
+/// and the paddings at its sides take no more.
 pub fn tiling()
     ensures lines { (grid : Grid) (spans : List (Cell × Extent)) (y : ℕ) →
         HasGoodSpans grid spans → HasRoom grid → BeginsBehindMargin grid.frame →
@@ -214,7 +214,7 @@ pub fn tiling()
 
 /// Where the spans are good and each cell that is seen has room, each line of the rectangle of such a cell
 /// shows the line of its block that stands there, from the first to the last of its columns, and nothing
-/// else: the other pieces of the line tile what is left and right of it.
+/// else. The other pieces of the line tile what is left and right of it.
 pub fn rectangles_show_blocks()
     ensures { (grid : Grid) (spans : List (Cell × Extent)) (i j y : ℕ) →
         HasGoodSpans grid spans → HasRoom grid → BeginsBehindMargin grid.frame →
@@ -232,14 +232,14 @@ pub fn lines_are_equally_wide()
         columns (shown_chars (table_line look rows (λ _. None) widths heights y)) ≡ total_width (frame_of look widths heights) }
 {}
 
-/// That all lines are tiled doesn't say by itself that each cell has room: the smallest table of which a cell
-/// has none, one row of height 0 and one column of width 0 without boundaries, has no lines.
+/// That all lines are tiled doesn't say by itself that each cell has room: the smallest table with a cell
+/// that has none, one row of height 0 and one column of width 0 without boundaries, has no lines.
 pub fn hidden_cells_need_no_room()
     ensures no_lines { line_count hidden_cell.frame ≡ 0 }
     ensures no_room { ¬ (HasRoom hidden_cell) }
 {}
 
-/// One table in three readings, worked out by hand: a red cell of two lines, of which each opens and ends
+/// One table in three readings, worked out by hand: a red cell of two lines, each of which opens and ends
 /// its own colour; and its look is bare.
 pub fn worked_readings()
     ensures bare { IsBare plain }

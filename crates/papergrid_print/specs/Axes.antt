@@ -10,7 +10,7 @@ abbrev pub margin_before : Look → Axis → ℕ
 margin_before look Rows = look.margin.top.size
 margin_before look Columns = look.margin.left.size
 
--- boundary n of so many tracks is there
+-- boundary n of `count` tracks is there
 abbrev pub is_there : Look → Axis → ℕ → ℕ → Bool
 is_there look Rows count n = has_row_boundary look.borders (boundary_kind n count)
 is_there look Columns count n = has_column_boundary look.borders (boundary_kind n count)

@@ -12,7 +12,7 @@ use Rattle.papergrid_print.specs.declared.block.BlockLine.{BlockLine}
 use Rattle.papergrid_print.specs.declared.block.BlockLine.TheVariants.{Above, Text, Below, Outside}
 use Rattle.papergrid_print.specs.declared.block.OpenCell.{OpenCell}
 
--- line k of paddings above and below, blank lines, and lines of a text between them; behind the last line of the text stands the
+-- line k of paddings above and below, blank lines, and lines of a text between them; after the last line of the text stands the
 -- empty text
 abbrev pub kind_at : ℕ → ℕ → ℕ → ℕ → ℕ → ℕ → BlockLine
 kind_at top above count below bottom k =
@@ -23,7 +23,7 @@ kind_at top above count below bottom k =
     else if nat_lt (k - top - above - count - below) bottom then Below
     else Outside
 
--- line k of the rectangle of a cell of so many lines
+-- line k of the rectangle of a cell of `count` lines
 abbrev pub line_kind : Look → Position → ℕ → ℕ → ℕ → BlockLine
 line_kind look cell count height k =
     let padding = look.padding cell in
@@ -66,7 +66,7 @@ abbrev pub indent : Look → OpenCell → ℕ → ℕ → ℕ
 indent look shown room k =
     free_left (look.alignment_horizontal shown.pos) (room - (if look.line_alignment shown.pos then slice_index (measures_of shown.lines) k else greatest (measures_of shown.lines)))
 
--- line k between the paddings: what is free before it, the line, and what is free behind it
+-- line k between the paddings: what is free before it, the line, and what is free after it
 abbrev pub justified : Look → OpenCell → ℕ → ℕ → List ℕ
 justified look shown room k =
     let blank : ℕ → List ℕ = λ width. colored (look.justification_color shown.pos) (fill_bytes (look.justification shown.pos) width) in

@@ -7,7 +7,7 @@ use Rattle.papergrid_picture.specs.Picture.{blank}
 use Rattle.papergrid_print.specs.Painting.{colored, fill_bytes}
 
 module _ (look : Look) where
-  -- in a row, on column boundary j of so many columns
+  -- in a row, on column boundary j of `columns` columns
   abbrev pub upright_bytes : ℕ → ℕ → List ℕ
   upright_bytes j columns =
       let kind = boundary_kind j columns in
@@ -15,7 +15,7 @@ module _ (look : Look) where
       then colored (in_row look.borders_color kind) (fill_bytes (unwrap_or (in_row look.borders kind) blank) 1)
       else []
 
-  -- where row boundary i of so many rows meets it
+  -- where row boundary i of `rows` rows meets it
   abbrev pub corner_parts : ℕ → ℕ → ℕ → ℕ → List Part
   corner_parts i rows j columns =
       let row = boundary_kind i rows in

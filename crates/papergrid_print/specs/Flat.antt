@@ -48,8 +48,8 @@ standing look cell = record {
   line_alignment = look.line_alignment cell;
 }
 
--- a line of this measure in a column of this width, between the paddings, where the widest line of the cell measures so much: what
--- is free before it, the line in its colour, and what is free behind it
+-- a line of this measure in a column of this width, between the paddings, where the widest line of the cell measures
+-- `widest`: what is free before it, the line in its colour, and what is free after it
 abbrev pub placed : Standing → ℕ → ℕ → ℕ → Option Color → List ℕ → List ℕ
 placed stands width measure widest color line =
     let room = width - stands.left - stands.right in
@@ -57,7 +57,7 @@ placed stands width measure widest color line =
     let free : ℕ → List ℕ = λ n. colored stands.fill_color (fill_bytes stands.fill n) in
     free indent ++ (colored color line ++ free (room - indent - measure))
 
--- the text behind the spaces that are kept with it
+-- the text after the spaces that are kept with it
 abbrev pub spaced_text : Spaced → List ℕ
 spaced_text spaced = drop spaced.spaces (string_bytes spaced.text)
 
@@ -85,14 +85,14 @@ module _ (look : Look) where
   abbrev pub right_padding : Position → List ℕ
   right_padding cell = colored (look.padding_color cell).right (fill_bytes (look.padding cell).right.fill (look.padding cell).right.size)
 
-  -- what stands before the first line, between two, and behind the last, and how lines stand in their columns
+  -- what stands before the first line, between two, and after the last, and how lines stand in their columns
   pub record AreFlatRows (columns : ℕ) (rows : FlatRows) : Type 0 where
     pub front : string_bytes rows.front ≡ left_margin ++ (upright_bytes look 0 columns ++ left_padding first_cell)
     pub between : spaced_text rows.between ≡ right_padding first_cell ++ (upright_bytes look 1 columns ++ left_padding first_cell)
     pub back : spaced_text rows.back ≡ right_padding first_cell ++ (upright_bytes look columns columns ++ right_margin)
     pub standing : standing_of rows ≡ standing look first_cell
 
-  -- what stands behind column boundary j of so many: the padding of the next cell, and behind the last one the margin
+  -- what stands after column boundary j of `columns`: the padding of the next cell, and after the last one the margin
   abbrev pub behind_boundary : ℕ → ℕ → List ℕ
   behind_boundary j columns = if j == columns then right_margin else left_padding first_cell
 
@@ -102,11 +102,11 @@ first_placed sheet stands cell =
     let measures = (grid_of sheet).measures cell in
     placed stands (slice_index sheet.widths cell.col) (slice_index measures 0) (greatest measures) (sheet.colors cell) ((bytes_of sheet).line cell 0)
 
--- what stands behind the text in column j of so many
+-- what stands after the text in column j of `columns`
 abbrev pub behind_text : FlatRows → ℕ → ℕ → List ℕ
 behind_text rows j columns = if j + 1 == columns then spaced_text rows.back else spaced_text rows.between
 
--- rows of one line that were made for a table with these settings and so many columns, where its settings allow it
+-- rows of one line that were made for a table with these settings and `columns` columns, where its settings allow it
 abbrev pub AreMadeFor : Settings → ℕ → Option FlatRows → Type 0
 AreMadeFor settings columns made = MatchOption made ⊤ (λ rows. AreFlat settings × AreFlatRows (look_of settings) columns rows)
 

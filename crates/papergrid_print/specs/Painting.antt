@@ -15,7 +15,7 @@ bare = record { item = encode_utf8; line = λ _ _. []; paint = in_color }
 abbrev pub colored : Option Color → List ℕ → List ℕ
 colored color bytes = painted bare color bytes
 
--- so many times a character
+-- a character `width` times
 abbrev pub fill_bytes : ℕ → ℕ → List ℕ
 fill_bytes character width = flat_map encode_utf8 (replicate width character)
 
@@ -37,7 +37,7 @@ suffix_of (Some color) = color.suffix
 abbrev pub color_change : Option Color → Option Color → List ℕ
 color_change before next = if same_color before next then [] else suffix_of before ++ prefix_of next
 
--- glyphs behind a colour that was begun: each begins its colour where it is another one, and the last colour is ended
+-- glyphs after a colour that was begun: each begins its colour where it is another one, and the last colour is ended
 abbrev pub glyphs_behind : Option Color → List GlyphRun → List ℕ
 glyphs_behind color [] = color_change color None
 glyphs_behind color (glyph ∷ glyphs) =

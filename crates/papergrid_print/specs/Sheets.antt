@@ -54,7 +54,7 @@ module _ (sheet : Sheet) where
   abbrev pub place_line : ℕ → List ℕ
   place_line y = line_at (place row_tracks y) y
 
-  -- what parts show of which none is a glyph
+  -- what parts show, none of which is a glyph
   abbrev pub plain_bytes : List Part → List ℕ
   plain_bytes parts = flat_map (λ part. painted bytes_of part.color (part_items bytes_of part)) parts
 

@@ -60,7 +60,8 @@ pub(crate) fn block_line(cfg: &SpannedConfig, cell: &OpenCell<'_>, line: usize) 
     )
 }
 
-// Which of the lines this is, where so many stand above the blank lines, so many are blank, and so on.
+// Which of the lines this is, where `above` blank lines stand above the text, `count` are of the
+// text, and so on.
 fn kind_at(
     top: usize,
     above: usize,
@@ -154,7 +155,7 @@ fn push_text_line(
     push_indent(out, &padding.right, &colors.right)
 }
 
-// Appends the line of the text with this number in so many columns, without the paddings.
+// Appends the line of the text with this number in `room` columns, without the paddings.
 fn push_justified(
     out: &mut String,
     cfg: &SpannedConfig,
@@ -201,7 +202,7 @@ pub(crate) fn push_indent(
     push_blank(out, indent.fill, indent.size, color)
 }
 
-/// Appends a character so many times, in a colour if there is one. Fails only where allocation fails.
+/// Appends a character `width` times, in a colour if there is one. Fails only where allocation fails.
 pub(crate) fn push_blank(
     out: &mut String,
     character: char,

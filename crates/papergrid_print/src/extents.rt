@@ -24,7 +24,7 @@ pub(crate) fn thickness(cfg: &SpannedConfig, axis: Axis, sizes: &[usize], n: usi
     if is_there { 1 } else { 0 }
 }
 
-/// How much so many tracks take from one on, with the boundaries between them.
+/// How much `count` tracks take from one on, with the boundaries between them.
 pub(crate) fn stretch(
     cfg: &SpannedConfig,
     axis: Axis,

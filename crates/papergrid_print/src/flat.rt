@@ -50,7 +50,7 @@ pub(crate) fn are_flat(cfg: &SpannedConfig) -> bool
 }
 
 impl<'a> FlatRows<'a> {
-    /// That of a table of so many columns. Fails only where allocation fails.
+    /// That of a table of `columns` columns. Fails only where allocation fails.
     pub(crate) fn new(
         alloc: Global,
         cfg: &'a SpannedConfig,
@@ -87,7 +87,7 @@ impl<'a> FlatRows<'a> {
         &self.front
     }
 
-    // What stands after the text in column `j` of so many.
+    // What stands after the text in column `j` of `columns`.
     #[inline(always)]
     fn behind(&self, j: usize, columns: usize) -> &Spaced
         requires { j < columns }
@@ -100,8 +100,9 @@ impl<'a> FlatRows<'a> {
         }
     }
 
-    /// Appends a line that measures so much to column `j` of so many, which is as wide as given, and what
-    /// stands after it; `widest` is what the widest line of its cell measures. Fails only where allocation fails.
+    /// Appends a line that measures `measure` to column `j` of `columns`, which is `width` wide, and what
+    /// stands after it; `widest` is what the widest line of its cell measures. Fails only where allocation
+    /// fails.
     #[inline(always)]
     pub(crate) fn push_line(
         &self,

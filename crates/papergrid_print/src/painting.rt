@@ -8,7 +8,7 @@ ghost use Rattle.papergrid_print.specs.Painting.{bare, color_change, colored, fi
 use grid_config_colors::ANSIStr;
 use std::alloc::AllocError;
 
-/// A glyph of a boundary line, in so many columns, and its colour.
+/// A glyph of a boundary line, in `width` columns, and its colour.
 #[derive(Clone, Copy)]
 pub(crate) struct GlyphRun<'a> {
     pub(crate) character: char,
@@ -16,7 +16,7 @@ pub(crate) struct GlyphRun<'a> {
     pub(crate) color: Option<ANSIStr<'a>>,
 }
 
-/// Appends a character so many times, in its colour. Fails only where allocation fails.
+/// Appends a character `width` times, in its colour. Fails only where allocation fails.
 pub(crate) fn push_fill(
     out: &mut String,
     character: char,
@@ -56,8 +56,8 @@ pub(crate) fn push_text(
     out.push_str(color.get_suffix())
 }
 
-/// Appends glyphs of a boundary line, of which neighbours in one colour are coloured together. Refused
-/// for memory alone.
+/// Appends glyphs of a boundary line. Neighbours in one colour are coloured together. Fails only where
+/// allocation fails.
 pub(crate) fn push_glyphs(out: &mut String, glyphs: &[GlyphRun<'_>]) -> Result<(), AllocError>
     ensures { OnOk result (string_bytes out.new ≡ string_bytes out.old ++ line_items bare (map glyph_part glyphs.now)) }
 {
@@ -120,7 +120,7 @@ fn suffix_of<'a>(color: Option<ANSIStr<'a>>) -> &'a str
     }
 }
 
-/// Appends a character so many times, with one growth. Fails only where allocation fails.
+/// Appends a character `width` times, with one growth. Fails only where allocation fails.
 #[inline(never)]
 pub(crate) fn push_repeated(
     out: &mut String,
@@ -136,7 +136,7 @@ pub(crate) fn push_repeated(
     push_each(out, character, width)
 }
 
-// Appends so many of these spaces.
+// Appends `width` of these spaces.
 fn push_spaces(out: &mut String, spaces: &str, width: usize) -> Result<(), AllocError>
     requires spaces { spaces.now ≡ replicate (length spaces.now) 0x20 }
     requires enough { width ≤ length spaces.now }

@@ -34,7 +34,7 @@ impl Spaced {
         })
     }
 
-    /// Appends so many spaces and the text. Fails only where allocation fails.
+    /// Appends `spaces` spaces and the text. Fails only where allocation fails.
     #[inline(always)]
     pub(crate) fn push_behind(&self, out: &mut String, spaces: usize) -> Result<(), AllocError>
         ensures { OnOk result (string_bytes out.new ≡ string_bytes out.old ++ (fill_bytes 0x20 spaces ++ spaced_text self.now)) }

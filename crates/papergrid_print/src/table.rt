@@ -176,8 +176,7 @@ impl<'a, R: PeekableRecords, C: Colors> Table<'a, R, C> {
         self.push_boundary_line(out, runs, cells, i, y)
     }
 
-    // Appends the lines of row `i`, of which the first is line `y` of the table. The answer is the line
-    // after them.
+    // Appends the lines of row `i`, from line `y` of the table on. Returns the line after them.
     fn push_row(
         &self,
         out: &mut String,
@@ -202,8 +201,8 @@ impl<'a, R: PeekableRecords, C: Colors> Table<'a, R, C> {
         Ok(end)
     }
 
-    // Appends the line of row boundary `i`, line `y` of the table, where that boundary is there. The answer
-    // is the line after it.
+    // Appends the line of row boundary `i`, line `y` of the table, where that boundary is there. Returns
+    // the line after it.
     fn push_boundary(
         &self,
         out: &mut String,
@@ -397,7 +396,7 @@ impl<'a, R: PeekableRecords, C: Colors> Table<'a, R, C> {
         self.push_row(out, cells, i, y)
     }
 
-    // Appends the lines of a margin, from line `y` of the table on, of which each takes `width` columns.
+    // Appends the lines of a margin, from line `y` of the table on. Each takes `width` columns.
     fn push_margin(
         &self,
         out: &mut String,
@@ -433,8 +432,8 @@ impl<'a, R: PeekableRecords, C: Colors> Table<'a, R, C> {
             + margin.right.size
     }
 
-    // Appends all lines between the margins, by what was made once for all of them. The answer is the line
-    // after them.
+    // Appends all lines between the margins, by what was made once for all of them. Returns the line after
+    // them.
     fn push_all_rows(
         &self,
         alloc: Global,
@@ -480,8 +479,8 @@ impl<'a, R: PeekableRecords, C: Colors> Table<'a, R, C> {
         self.push_all_rows(alloc, out, &flat, &between, &mut runs, &mut cells)
     }
 
-    // How many bytes the lines take at least, of which each has so many columns: what no memory holds is
-    // refused before anything is written.
+    // How many bytes the lines take at least, each of `width` columns: what no memory holds is refused
+    // before anything is written.
     fn room(&self, width: usize) -> usize {
         let margin = self.cfg.get_margin();
         let mut lines = margin.top.size.saturating_add(margin.bottom.size);
@@ -511,7 +510,7 @@ impl<'a, R: PeekableRecords, C: Colors> Table<'a, R, C> {
     }
 }
 
-// So many places, at which no cell is open.
+// `count` places, at which no cell is open.
 fn closed_cells<'a>(alloc: Global, count: usize) -> Result<Vec<Option<OpenCell<'a>>>, AllocError>
     ensures { IfOk result (λ cells. length cells.items ≡ count) }
 {
@@ -564,7 +563,7 @@ fn plain_line<R: PeekableRecords>(records: &R, pos: Position) -> Option<&str>
     Some(text)
 }
 
-// How many columns the first line of the cell at this place takes, whose widest takes so many.
+// How many columns the first line of the cell at this place takes, whose widest takes `widest`.
 fn first_width<R: PeekableRecords>(records: &R, pos: Position, widest: usize) -> usize
     requires { HasWidth (text_at (R.rows records.now) pos) widest }
     ensures { HasLineWidth (text_at (R.rows records.now) pos) 0 result }

@@ -47,7 +47,7 @@ fn rows_of(alloc: Global, cells: &[&[&'static str]]) -> Result<Vec<Vec<&'static 
     Ok(rows)
 }
 
-// What `fits` answers of a table of these rows, all of as many cells.
+// What `fits` returns for a table of these rows, all of as many cells.
 fn answer(
     rt: &impl Abort,
     alloc: Global,

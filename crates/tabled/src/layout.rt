@@ -18,8 +18,8 @@ pub struct LayoutIterator {
 }
 
 impl LayoutIterator {
-    /// 0, `batch`, twice `batch` and so on: one for each batch of the rows from `from` to `to`, of which the
-    /// last may be smaller; none where `batch` is 0 or there are no rows.
+    /// 0, `batch`, twice `batch` and so on: one for each batch of the rows from `from` to `to`. The last
+    /// batch may be smaller. None where `batch` is 0 or there are no rows.
     pub fn new(from: usize, to: usize, batch: usize) -> LayoutIterator
         ensures { values_left result ≡ multiples (batches (to - from) batch) batch }
     {
@@ -38,7 +38,7 @@ impl LayoutIterator {
     }
 }
 
-// How many batches of this size hold so many rows; none of size 0.
+// How many batches of this size hold `rows` rows; none of size 0.
 fn count_batches(rows: usize, batch: usize) -> usize
     ensures { result ≡ batches rows batch }
 {

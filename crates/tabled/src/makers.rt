@@ -36,7 +36,7 @@ impl Table<Text> {
         Ok(Table::of_cells(alloc, cells))
     }
 
-    /// The same as `new`; room for so many rows is asked for at once, and decides nothing else.
+    /// The same as `new`; room for `rows` rows is allocated at once, and decides nothing else.
     pub fn with_capacity<T: Tabled + Drop, I: IntoIterator<Item = T> + Drop>(
         alloc: Global,
         items: I,
@@ -54,8 +54,8 @@ impl Table<Text> {
         Ok(Table::of_cells(alloc, cells))
     }
 
-    /// A row of the fields of each value, without a row of names, on condition that the values end. Refused
-    /// for memory alone.
+    /// A row of the fields of each value, without a row of names, on condition that the values end. Fails
+    /// only where allocation fails.
     pub fn nohead<T: Tabled + Drop, I: IntoIterator<Item = T> + Drop>(
         alloc: Global,
         items: I,

@@ -19,13 +19,13 @@ abbrev pub writing_fault : WriteFault → BuildFault
 writing_fault WriteFailed = Write
 writing_fault WriterTookNothing = WriteZero
 
--- the table has no text, or there was no memory for it
+-- the table has no text, or allocation failed
 abbrev pub NoTable : BuildFault → Type 0
 NoTable (Table fault) = Unit {0}
 NoTable Write = ⊥
 NoTable WriteZero = ⊥
 
--- a fault tells that the table is refused as it may be, or for memory; or that it fits and the writer gave up
+-- a fault tells that the table is refused as it may be, or as `Memory`; or that it fits and the writer gave up
 abbrev pub BuildRefusal : Type 0 → (Result (Unit {0}) Fault → Type 0) → BuildFault → Type 0
 BuildRefusal Fits IsFit (Table fault) = (fault ≡ Memory) ⊎ IsFit (Err fault)
 BuildRefusal Fits IsFit Write = Fits

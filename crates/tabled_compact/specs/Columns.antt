@@ -5,7 +5,7 @@ use Rattle.grid_records_estimate.specs.Estimates.{greatest}
 use Rattle.grid_records_measure.specs.TextLines.{text_width}
 use Rattle.tabled_compact.specs.Tables.{Compacted, begun}
 
--- the text of a row in a column, and behind its last cell the empty one
+-- the text of a row in a column, and after its last cell the empty one
 abbrev pub text_in : List (List ℕ) → ℕ → List ℕ
 text_in row column = slice_index_or row column []
 
@@ -20,6 +20,6 @@ spaced_width rows column = min (column_width rows column + 2) (2 ^ 64 - 1)
 abbrev pub spaced_widths : ℕ → List (List (List ℕ)) → List ℕ
 spaced_widths columns rows = map (spaced_width rows) (range_with_len 0 columns)
 
--- a table of rows of so many cells each that no call has changed yet: it has these columns
+-- a table of rows of `columns` cells each that no call has changed yet: it has that many columns
 abbrev pub begun_by_texts : ℕ → List (List (List ℕ)) → Compacted
 begun_by_texts columns rows = record (begun rows (slice_index (spaced_widths columns rows))) { columns = columns }

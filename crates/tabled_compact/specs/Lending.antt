@@ -1,4 +1,4 @@
--- The settings that a compact table lends: once the reference ends, the table has what is left behind it, and its other
+-- The settings that a compact table lends: once the reference ends, the table has what it left there, and its other
 -- parts as before.
 use Rattle.std.specs.Borrow.{Lends, MutBor, Fml, RattleType}
 use Rattle.grid_config.specs.contracts.compact.CompactConfig.{the_row as config_row}

@@ -16,7 +16,7 @@ use Rattle.tabled_compact.specs.declared.table.CompactTable.{CompactTable}
 -- ---- what it is
 
 -- the rows of its source, its settings, the width of each column, how many columns it has, how many rows of the source
--- it passes over, and how many behind them it keeps, or all
+-- it passes over, and how many after them it keeps, or all
 pub record Compacted : Type 0 where
   pub rows : List (List (List ℕ))
   pub settings : Compact
@@ -62,12 +62,12 @@ pub record KeepsShape (before after : Compacted) : Type 0 where
 
 -- ---- what it prints
 
--- the first so many, or all
+-- the first `count`, or all
 abbrev pub kept_of : {T : Type 0} → Option ℕ → List T → List T
 kept_of None items = items
 kept_of (Some count) items = take count items
 
--- behind the rows that are passed over as many as are kept, each of so many cells
+-- after the rows that are passed over as many as are kept, each of as many cells as the table has columns
 abbrev pub shown_rows : Compacted → List (List (List ℕ))
 shown_rows table = fitted table.columns (kept_of table.kept (drop table.skipped table.rows))
 

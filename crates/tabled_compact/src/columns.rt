@@ -10,7 +10,7 @@ use grid_records_measure::get_text_width;
 use grid_records_traits::{Cell, Dimension, RecordTexts};
 use tabled_size_dimension::{ConstDimension, ConstSize};
 
-/// Rows in an array, of so many cells each.
+/// Rows in an array, of `COLUMNS` cells each.
 pub trait RowArray<const COLUMNS: usize, const ROWS: usize>: RecordTexts {
     /// The width of each column with 2 more, or `usize::MAX` where that passes it. A column is as wide as its
     /// widest text. Does not allocate.

@@ -7,7 +7,7 @@ use tabled_output::WriteFault;
 /// Why a table was not written to its end.
 #[derive(Clone, Copy, Debug, PartialEq, Eq)]
 pub enum BuildFault {
-    /// The table has no text, or there was no memory for it. Nothing was written.
+    /// The table has no text, or allocation failed. Nothing was written.
     Table(Fault),
     /// The writer failed in this call, by an error of any kind.
     Write,

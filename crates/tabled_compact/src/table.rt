@@ -82,7 +82,7 @@ impl<I: RecordTexts, D: Dimension> CompactTable<I, D> {
         }
     }
 
-    /// The table with so many columns: a row that has fewer cells gets empty ones, and further ones are
+    /// The table with `count` columns: a row that has fewer cells gets empty ones, and further ones are
     /// left out.
     pub const fn columns(self, count: usize) -> CompactTable<I, D>
         ensures { compacted I.rows D.width result ≡ record (compacted I.rows D.width self) { columns = count } }
@@ -93,7 +93,7 @@ impl<I: RecordTexts, D: Dimension> CompactTable<I, D> {
         }
     }
 
-    /// The table of so many rows at most, counted after those that `skip` passes over.
+    /// The table of `count` rows at most, counted after those that `skip` passes over.
     pub const fn rows(self, count: usize) -> CompactTable<I, D>
         ensures { compacted I.rows D.width result ≡ record (compacted I.rows D.width self) { kept = Some count } }
     {
@@ -103,7 +103,7 @@ impl<I: RecordTexts, D: Dimension> CompactTable<I, D> {
         }
     }
 
-    /// The table without so many first rows of its source.
+    /// The table without the first `count` rows of its source.
     pub const fn skip(self, count: usize) -> CompactTable<I, D>
         ensures { compacted I.rows D.width result ≡ record (compacted I.rows D.width self) { skipped = count } }
     {
@@ -171,8 +171,8 @@ where
 }
 
 impl<I: RecordTexts, D: Dimension> CompactTable<I, D> {
-    /// Changes the table by an option: one step of its rows and settings. Refused as the step is, and for
-    /// memory, and then nothing has changed.
+    /// Changes the table by an option: one step of its rows and settings. Refused as the step is, and
+    /// as `Memory` where allocation fails, and then nothing has changed.
     pub fn set<O: TableOption<I, CompactConfig, ZeroDimension>>(
         &mut self,
         alloc: Global,
@@ -205,8 +205,8 @@ impl<I: IntoRecords, D: Dimension + Drop> CompactTable<I, D> {
     /// Appends the text of the table: its lines, a line feed between each two; nothing without columns or
     /// rows. Reads the source once. Refused as `Range` where the columns of a line, or the lines, pass
     /// `usize::MAX`, margins too; else as `Room` of the first cell, by row, then by column, whose widest
-    /// line with the paddings at its sides is wider than its column; or for memory. A refusal leaves the
-    /// text as it was.
+    /// line with the paddings at its sides is wider than its column; or as `Memory` where allocation
+    /// fails. A refusal leaves the text as it was.
     pub fn fmt(self, alloc: Global, out: &mut String) -> Result<(), Fault>
         ensures text { OnOk result (string_bytes out.new ≡ string_bytes out.old ++ printed (compacted I.RecordTexts.rows D.width self)) }
         ensures fits { IfOk result (λ _. Fits (compacted I.RecordTexts.rows D.width self)) }
@@ -242,10 +242,10 @@ impl<I: IntoRecords, D: Dimension + Drop> CompactTable<I, D> {
         Ok(text)
     }
 
-    /// Makes the whole text, as `to_string`, and then writes it. A table that has no text,
-    /// or none for want of memory, leaves the writer alone. It gives up with `Write` at the first error of any kind, and with
-    /// `WriteZero` where the writer takes nothing; a front of the text is then written, and the writer isn't
-    /// called again. Nothing is flushed.
+    /// Makes the whole text, as `to_string`, and then writes it. A table that has no text, or none because
+    /// allocation fails, leaves the writer alone. It gives up with `Write` at the first error of any kind,
+    /// and with `WriteZero` where the writer takes nothing; a front of the text is then written, and the
+    /// writer isn't called again. Nothing is flushed.
     pub fn build<W: Write>(self, alloc: Global, writer: &mut Counted<W>) -> Result<(), BuildFault>
         ensures whole { OnOk result (Appends (W.contents (inner_of writer.old)) (W.contents (inner_of writer.new)) (printed (compacted I.RecordTexts.rows D.width self))) }
         ensures front { IfErr result (λ fault. ¬ (NoTable fault) → AppendsFront (W.contents (inner_of writer.old)) (W.contents (inner_of writer.new)) (printed (compacted I.RecordTexts.rows D.width self))) }
@@ -261,7 +261,7 @@ impl<I: IntoRecords, D: Dimension + Drop> CompactTable<I, D> {
     }
 }
 
-// Appends so many columns of these rows, each row in one line.
+// Appends `columns` columns of these rows, each row in one line.
 fn print<I: IntoRecords, D: Dimension + Drop>(
     alloc: Global,
     rows: I,

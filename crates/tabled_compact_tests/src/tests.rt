@@ -31,7 +31,7 @@ pub fn rows_of(alloc: Global, cells: &[&[&'static str]]) -> Result<Rows, AllocEr
     Ok(rows)
 }
 
-/// A table of these rows, with so many columns.
+/// A table of these rows, with `columns` columns.
 pub fn table(
     alloc: Global,
     cells: &[&[&'static str]],

@@ -30,11 +30,11 @@ estimate_with heights lines = record { heights = heights; lines = lines }
 abbrev pub counted : Look → List ℕ → Result Estimate Fault
 counted look heights = sized (height_total look heights) ≫= λ lines. Ok (estimate_with heights lines)
 
--- the least heights that hold the texts of a table of so many columns, whatever heights it keeps
+-- the least heights that hold the texts of a table of `columns` columns, whatever heights it keeps
 abbrev pub estimated : Look → ℕ → List (List (List ℕ)) → Result Estimate Fault
 estimated look columns rows = counted look (natural_heights look columns rows)
 
--- so many hundredths of the lines that it has, rounded down
+-- this percentage of the lines that it has, rounded down
 abbrev pub hundredths : ℕ → ℕ → Result ℕ Fault
 hundredths percent lines = sized (lines * percent) ≫= λ product. Ok (product / 100)
 

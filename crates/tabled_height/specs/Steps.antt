@@ -9,7 +9,7 @@ use Rattle.tabled_steps.specs.States.{Outcome, State, column_count}
 use Rattle.tabled_height.specs.Heights.{Estimate, estimated}
 use Rattle.tabled_height.specs.Lines.{limited, raised}
 
--- what a measurement may answer: of a table's columns, its rows and its look
+-- what a measurement may return: of a table's columns, its rows and its look
 abbrev pub Measuring : Type 1
 Measuring = ℕ → List (List (List ℕ)) → Look → Result ℕ Fault → Type 0
 

@@ -7,7 +7,7 @@ use Rattle.grid_config_values.specs.declared.sides.Sides.{Sides}
 abbrev pub uneven : List (List (List ℕ))
 uneven = (codes "a" ∷ codes "b\nc" ∷ []) ∷ (codes "d\ne\nf" ∷ codes "g" ∷ []) ∷ []
 
--- a margin of so many lines at the top and at the bottom
+-- a margin of `top` lines at the top and of `bottom` lines at the bottom
 abbrev pub margins : ℕ → ℕ → Sides Indent
 margins top bottom =
     let none : Indent = record { size = 0; fill = 0x20 } in

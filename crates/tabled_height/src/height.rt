@@ -20,14 +20,14 @@ use tabled_steps::{Max, Measurement, Min, Percent};
 pub struct Height;
 
 impl Height {
-    /// The option of at least so many lines.
+    /// The option of at least this many lines.
     pub fn increase<W: Measurement<Height>>(height: W) -> CellHeightIncrease<W>
         ensures { increase_height result ≡ height }
     {
         CellHeightIncrease::new(height)
     }
 
-    /// The option of at most so many lines.
+    /// The option of at most this many lines.
     pub fn limit<W: Measurement<Height>>(height: W) -> CellHeightLimit<W>
         ensures { limit_height result ≡ height }
     {
@@ -77,8 +77,9 @@ impl Measurement<Height> for Min {
     }
 }
 
-/// So many hundredths, rounded down, of the lines that the table has by a new estimate, its margins too.
-/// Refused as `Range` where these or their product pass `usize::MAX`, and for memory.
+/// This percentage, rounded down, of the lines that the table has by a new estimate, its margins too.
+/// Refused as `Range` where these or their product pass `usize::MAX`, and as `Memory` where
+/// allocation fails.
 impl Measurement<Height> for Percent {
     ghost measures = { λ percent columns rows look outcome. percent_of_height percent.0 columns rows look ≡ outcome };
 
@@ -130,7 +131,7 @@ fn row_lines<R: ExactRecords + PeekableRecords>(records: &R, row: usize) -> usiz
     most
 }
 
-// So many hundredths of the lines, rounded down. Refused as `Range` where the product passes `usize::MAX`.
+// This percentage of the lines, rounded down. Refused as `Range` where the product passes `usize::MAX`.
 fn hundredths(lines: usize, percent: usize) -> Result<usize, Fault>
     ensures { Answers (λ n. n) result (hundredths percent lines) }
 {

@@ -1,4 +1,4 @@
-//! Heights that are at least so many lines.
+//! Heights of at least a given number of lines.
 ghost use Rattle.std.specs.Prelude.{◌≡◌, None, Some};
 ghost use Rattle.grid_config_values.specs.declared.entity.Entity.TheVariants.{Global as EveryCell};
 ghost use Rattle.tabled_height.specs.Options.{increase_height, table_increase};
@@ -15,7 +15,8 @@ use tabled_size_dimension::CompleteDimension;
 use tabled_size_priority::{Peaker, PriorityNone};
 use tabled_steps::{CellOption, Measurement, TableOption, change_texts};
 
-/// At least so many lines: of cells each, or of a table, whose rows then get in turns what it lacks.
+/// At least a given number of lines: of cells each, or of a table, whose rows then get in turns what
+/// it lacks.
 #[derive(Clone, Copy, Debug, PartialEq, Eq, PartialOrd, Ord)]
 pub struct CellHeightIncrease<W = usize> {
     height: W,
@@ -41,7 +42,7 @@ impl<W> CellHeightIncrease<W> {
 }
 
 /// Texts of the cells with fewer lines get line feeds at their ends; cells outside the table are passed
-/// over. Refused as the height may be, and for memory.
+/// over. Refused as the height may be, and as `Memory` where allocation fails.
 impl<T: FromText, W: Measurement<Height>> CellOption<VecRecords<T>, ColoredConfig>
     for CellHeightIncrease<W> {
     ghost step = { λ option at. RaisesCells (W.measures (increase_height option)) at };
@@ -90,7 +91,7 @@ impl<T: FromText, W: Measurement<Height> + Drop> TableOption<
     }
 }
 
-/// At least so many lines of a table.
+/// At least a given number of lines of a table.
 #[derive(Clone, Debug, Drop)]
 pub struct TableHeightIncrease<W = usize, P = PriorityNone> {
     height: W,
@@ -119,9 +120,9 @@ impl<W> TableHeightIncrease<W, PriorityNone> {
     }
 }
 
-/// Where a new estimate of the table has fewer lines, its rows grow to so many, and these heights are kept.
-/// Nothing is done without rows or columns. Refused as the height may be, as `Range` where the lines of
-/// the estimate pass `usize::MAX`, and for memory.
+/// Where a new estimate of the table has fewer lines, its rows grow to that many, and these heights are
+/// kept. Nothing is done without rows or columns. Refused as the height may be, as `Range` where the lines
+/// of the estimate pass `usize::MAX`, and as `Memory` where allocation fails.
 impl<T: FromText, W: Measurement<Height> + Drop, P: Peaker + Drop> TableOption<
     VecRecords<T>,
     ColoredConfig,

@@ -91,7 +91,7 @@ pub fn cell_options_are_their_steps<T: FromText, W: Measurement<Height>>()
     ensures limit_hint { (option : CellLimit W) → ⟦<CellHeightLimit<W> as CellOption<VecRecords<T>, ColoredConfig>>⟧.hint option ≡ Some EveryCell }
 {}
 
-/// What the measurements of heights may answer.
+/// What the measurements of heights may return.
 pub fn measurements_of_heights()
     ensures greatest { (max : Greatest) (columns : ℕ) (rows : List (List (List ℕ))) (look : Look) (outcome : Result ℕ Refusal) →
         ⟦<Max as Measurement<Height>>⟧.measures max columns rows look outcome → Ok (most_lines columns rows) ≡ outcome }

@@ -1,4 +1,4 @@
-//! Heights that are at most so many lines.
+//! Heights of at most a given number of lines.
 ghost use Rattle.std.specs.Prelude.{◌≡◌, None, Some};
 ghost use Rattle.grid_config_values.specs.declared.entity.Entity.TheVariants.{Global as EveryCell};
 ghost use Rattle.tabled_height.specs.Options.{limit_height, table_limit};
@@ -15,7 +15,8 @@ use tabled_size_dimension::CompleteDimension;
 use tabled_size_priority::{Peaker, PriorityNone};
 use tabled_steps::{CellOption, Measurement, TableOption, change_texts};
 
-/// At most so many lines: of cells each, or of a table, whose rows then give in turns what it has too much.
+/// At most a given number of lines: of cells each, or of a table, whose rows then give in turns what it has
+/// too much.
 #[derive(Clone, Copy, Debug, PartialEq, Eq, PartialOrd, Ord)]
 pub struct CellHeightLimit<W = usize> {
     height: W,
@@ -41,7 +42,7 @@ impl<W> CellHeightLimit<W> {
 }
 
 /// Texts of the cells with more lines keep their first, and at a height of 0 none is left of them; cells
-/// outside the table are passed over. Refused as the height may be, and for memory.
+/// outside the table are passed over. Refused as the height may be, and as `Memory` where allocation fails.
 impl<T: FromText, W: Measurement<Height>> CellOption<VecRecords<T>, ColoredConfig>
     for CellHeightLimit<W> {
     ghost step = { λ option at. LimitsCells (W.measures (limit_height option)) at };
@@ -90,7 +91,7 @@ impl<T: FromText, W: Measurement<Height> + Drop> TableOption<
     }
 }
 
-/// At most so many lines of a table.
+/// At most a given number of lines of a table.
 #[derive(Debug, Drop)]
 pub struct TableHeightLimit<W = usize, P = PriorityNone> {
     height: W,
@@ -119,10 +120,10 @@ impl<W> TableHeightLimit<W, PriorityNone> {
     }
 }
 
-/// Where a new estimate of the table has more lines, its rows shrink to so many, at least to 0, each text
-/// keeps as many lines as its row then has, those of hidden cells too, and these heights are kept. Nothing
-/// is done without rows or columns. Refused as the height may be, as `Range` where the lines of the
-/// estimate pass `usize::MAX`, and for memory.
+/// Where a new estimate of the table has more lines, its rows shrink to that many, at least to 0. Each
+/// text keeps as many lines as its row then has, those of hidden cells too, and these heights are kept.
+/// Nothing is done without rows or columns. Refused as the height may be, as `Range` where the lines of
+/// the estimate pass `usize::MAX`, and as `Memory` where allocation fails.
 impl<T: FromText, W: Measurement<Height> + Drop, P: Peaker + Drop> TableOption<
     VecRecords<T>,
     ColoredConfig,

@@ -12,7 +12,7 @@ use std::alloc::{AllocError, Global};
 use std::borrow::CowStr;
 use tabled_steps::TextChange;
 
-/// Texts with fewer lines get line feeds at their end, until they have so many lines.
+/// Texts with fewer lines get line feeds at their end, until they have `height` lines.
 #[derive(Drop)]
 pub(crate) struct Raising {
     pub(crate) height: usize,
@@ -35,7 +35,7 @@ impl TextChange for Raising {
     }
 }
 
-// The text, and so many line feeds after it. Room for them is taken at once.
+// The text, and `count` line feeds after it. Room for them is taken at once.
 fn with_line_feeds(alloc: Global, text: &str, count: usize) -> Result<String, AllocError>
     ensures { IfOk result (λ out. string_bytes out ≡ text.now ++ replicate count line_feed) }
 {
@@ -99,7 +99,7 @@ fn height_at(heights: &[usize], row: usize) -> usize
     heights.get(row).copied().unwrap_or(0)
 }
 
-// The first lines of a text that has more than so many.
+// The first lines of a text that has more than `height`.
 fn limited_text(alloc: Global, text: &str, height: usize) -> Result<Option<String>, AllocError>
     ensures { (place : Place) → IfOk result (λ out. option_map string_bytes out ≡ limited height place text.now) }
 {
@@ -109,7 +109,7 @@ fn limited_text(alloc: Global, text: &str, height: usize) -> Result<Option<Strin
     Ok(Some(first_lines(alloc, text, height)?))
 }
 
-// So many lines of a text from the first on, joined by line feeds.
+// `count` lines of a text from the first on, joined by line feeds.
 fn first_lines(alloc: Global, text: &str, count: usize) -> Result<String, AllocError>
     ensures { IfOk result (λ out. string_bytes out ≡ first_lines_of count text.now) }
 {

@@ -21,7 +21,8 @@ pub(crate) struct RowHeights {
 }
 
 impl RowHeights {
-    /// Of these records. Refused as `Range` where the lines pass `usize::MAX`, and for memory.
+    /// Of these records. Refused as `Range` where the lines pass `usize::MAX`, and as `Memory` where
+    /// allocation fails.
     pub(crate) fn estimate<R: Records>(
         alloc: Global,
         records: R,
@@ -43,7 +44,7 @@ impl RowHeights {
         self.lines
     }
 
-    /// The heights that the rows get where the table has fewer lines than so many, and else none.
+    /// The heights that the rows get where the table has fewer lines than `height`, and else none.
     pub(crate) fn grown<P: Peaker + Drop>(self, priority: P, height: usize) -> Option<Vec<usize>>
         ensures { GrownRows P.grows priority height (estimate_with self.heights.items self.lines) (option_map (λ list. list.items) result) }
     {
@@ -56,7 +57,7 @@ impl RowHeights {
         Some(heights)
     }
 
-    /// The heights that are left to the rows where the table has more lines than so many, and else none.
+    /// The heights that are left to the rows where the table has more lines than `height`, and else none.
     /// It fails only where allocation fails.
     pub(crate) fn shrunk<P: Peaker + Drop>(
         self,
@@ -77,7 +78,7 @@ impl RowHeights {
     }
 }
 
-// So many zeros.
+// `count` zeros.
 fn zeros(alloc: Global, count: usize) -> Result<Vec<usize>, AllocError>
     ensures { IfOk result (λ zeros. zeros.items ≡ replicate count 0) }
 {

@@ -22,7 +22,7 @@ abbrev pub row_height : ℕ → List (List ℕ) → ℕ
 row_height columns row = max 1 (greatest (map text_height (take columns row)))
 
 -- every row has the height that is set; else, where a width is set, one line; else a sniffed row has its own height, and a
--- row behind these one line
+-- row after these one line
 abbrev pub heights_or : Option ℕ → Option ℕ → ℕ → List (List (List ℕ)) → Sizes
 heights_or (Some height) width columns sniffed = Alike height
 heights_or None (Some width) columns sniffed = Alike 1

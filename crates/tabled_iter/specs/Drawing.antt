@@ -7,7 +7,7 @@ use Rattle.papergrid_picture.specs.Frame.{frame_of}
 use Rattle.papergrid_picture.specs.Tables.{sizes_of}
 use Rattle.tabled_size_dimension.specs.Sizes.{Sizes, size_at}
 
--- whether so many columns of the rows fit these widths and heights
+-- whether `columns` columns of the rows fit these widths and heights
 abbrev pub IsDrawn : Look → Sizes × Sizes → ℕ → List (List (List ℕ)) → Result (Unit {0}) Fault → Type 0
 IsDrawn look sizes columns rows answer =
     FitsAnswer (frame_of look (sizes_of (size_at sizes.0) columns) (sizes_of (size_at sizes.1) (length rows))) rows (Unit {0}) answer

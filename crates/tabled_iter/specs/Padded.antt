@@ -6,7 +6,7 @@ use Rattle.tabled_size_dimension.specs.Sizes.{Sizes, Alike, Listed, ListedBefore
 abbrev pub AreGreater : ℕ → Sizes → Sizes → Type 0
 AreGreater more sizes sums = (k : ℕ) → size_at sums k ≡ size_at sizes k + more
 
--- how many stand in a list; the number behind them is the one of all others
+-- how many stand in a list; the number after them is the one of all others
 abbrev pub listed : Sizes → ℕ
 listed (Alike size) = 0
 listed (Listed sizes) = length sizes

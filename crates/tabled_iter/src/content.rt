@@ -13,7 +13,7 @@ use std::alloc::{AllocError, Global};
 use tabled_compact::width_in;
 use tabled_size_dimension::DimensionValue;
 
-/// The first so many, or all where there are fewer.
+/// The first `count`, or all where there are fewer.
 pub(crate) fn first<T>(items: &[T], count: usize) -> &[T]
     ensures { result.now ≡ take count items.now }
 {

@@ -32,7 +32,7 @@ pub(crate) struct Layout {
 }
 
 /// The sizes that the sniffed rows give. Refused as `Range` where a size with its paddings
-/// passes `usize::MAX`, and for memory.
+/// passes `usize::MAX`, and as `Memory` where allocation fails.
 pub(crate) fn layout_of<C: Cell>(
     alloc: Global,
     sniffed: &[Vec<C>],
@@ -58,7 +58,7 @@ pub(crate) fn layout_of<C: Cell>(
     })
 }
 
-/// The first so many, or all.
+/// The first `count`, or all where none is given.
 pub(crate) fn first_kept<T>(items: &[T], count: Option<usize>) -> &[T]
     ensures { result.now ≡ kept_of count items.now }
 {

@@ -1,4 +1,4 @@
-//! Tables over a source of rows, of which the first are read ahead to know the sizes of columns and rows.
+//! Tables over a source of rows, whose first rows are read ahead to know the sizes of columns and rows.
 #![tactic(auto)]
 
 mod content;

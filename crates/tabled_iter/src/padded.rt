@@ -9,7 +9,7 @@ use std::alloc::{AllocError, Global};
 use tabled_size_dimension::DimensionValue;
 
 /// The sizes with both paddings. Refused as `Range` where one of them passes `usize::MAX`, that of all
-/// others included; or for memory.
+/// others included; or as `Memory` where allocation fails.
 pub(crate) fn padded(
     alloc: Global,
     sizes: &DimensionValue,

@@ -20,7 +20,7 @@ use std::alloc::Global;
 use tabled_size_dimension::StaticDimension;
 
 /// Appends the rows that are kept, their cells cut at the widths of the content. Refused as `Range`, then
-/// as `Room`, or for memory, and then the text is as it was.
+/// as `Room`, or as `Memory` where allocation fails, and then the text is as it was.
 pub(crate) fn draw<I: IntoRecords + Drop>(
     alloc: Global,
     rows: I,
@@ -72,7 +72,7 @@ fn draw_kept<I: IntoRecords + Drop>(
     }
 }
 
-// Appends so many columns of these rows.
+// Appends `columns` columns of these rows.
 fn print<I: IntoRecords>(
     alloc: Global,
     rows: I,

@@ -53,7 +53,7 @@ impl<I: RecordTexts> IterTable<I> {
         }
     }
 
-    /// Gives the table so many columns, in place of as many as the longest sniffed row has: a row that has
+    /// Gives the table `count` columns, in place of as many as the longest sniffed row has: a row that has
     /// fewer cells gets empty ones, and further ones are left out.
     pub fn columns(&mut self, count: usize) -> &mut Self
         ensures lends { result.ghost_name ≡ self.entry.ghost_name }
@@ -63,7 +63,7 @@ impl<I: RecordTexts> IterTable<I> {
         self
     }
 
-    /// Keeps so many rows at most. Which rows are sniffed stays the same.
+    /// Keeps `count` rows at most. Which rows are sniffed stays the same.
     pub fn rows(&mut self, count: usize) -> &mut Self
         ensures lends { result.ghost_name ≡ self.entry.ghost_name }
         ensures set { streamed I.rows result.now ≡ record (streamed I.rows self.old) { kept = Some count } }
@@ -72,7 +72,7 @@ impl<I: RecordTexts> IterTable<I> {
         self
     }
 
-    /// Sniffs so many rows, in place of a thousand.
+    /// Sniffs `count` rows, in place of a thousand.
     pub fn sniff(&mut self, count: usize) -> &mut Self
         ensures lends { result.ghost_name ≡ self.entry.ghost_name }
         ensures set { streamed I.rows result.now ≡ record (streamed I.rows self.old) { sniff = count } }
@@ -81,7 +81,7 @@ impl<I: RecordTexts> IterTable<I> {
         self
     }
 
-    /// Makes the content of each row so many lines high.
+    /// Makes the content of each row `size` lines high.
     pub fn height(&mut self, size: usize) -> &mut Self
         ensures lends { result.ghost_name ≡ self.entry.ghost_name }
         ensures set { streamed I.rows result.now ≡ record (streamed I.rows self.old) { height = Some size } }
@@ -90,7 +90,7 @@ impl<I: RecordTexts> IterTable<I> {
         self
     }
 
-    /// Makes the content of each column so many columns of the terminal wide. Where no height is set, each
+    /// Makes the content of each column `size` columns of the terminal wide. Where no height is set, each
     /// row then has one line.
     pub fn width(&mut self, size: usize) -> &mut Self
         ensures lends { result.ghost_name ≡ self.entry.ghost_name }
@@ -100,8 +100,8 @@ impl<I: RecordTexts> IterTable<I> {
         self
     }
 
-    /// Changes the table by an option: one step of its rows and settings. Refused as the step is, and for
-    /// memory, and then nothing has changed.
+    /// Changes the table by an option: one step of its rows and settings. Refused as the step is, and
+    /// as `Memory` where allocation fails, and then nothing has changed.
     pub fn set<O: TableOption<I, CompactConfig, ZeroDimension>>(
         &mut self,
         alloc: Global,
@@ -147,8 +147,8 @@ impl<I: IntoRecords> IterTable<I> {
     /// Appends the text of the table: its lines, a line feed between each two; nothing without columns or
     /// rows. Reads the source once. Refused as `Range` where the columns of a line, or the lines, pass
     /// `usize::MAX`, margins too; else as `Room` of the first cell, by row, then by column, whose widest
-    /// line with the paddings at its sides is wider than its column; or for memory. A refusal leaves the
-    /// text as it was.
+    /// line with the paddings at its sides is wider than its column; or as `Memory` where allocation
+    /// fails. A refusal leaves the text as it was.
     pub fn fmt(self, alloc: Global, out: &mut String) -> Result<(), Fault>
         ensures text { OnOk result (string_bytes out.new ≡ string_bytes out.old ++ printed (streamed I.RecordTexts.rows self)) }
         ensures fits { OnOk result (IsFit (streamed I.RecordTexts.rows self) (Ok tt)) }
@@ -182,10 +182,10 @@ impl<I: IntoRecords> IterTable<I> {
         Ok(text)
     }
 
-    /// Makes the whole text, as `to_string`, and then writes it. A table that has no text, or none for
-    /// want of memory, leaves the writer alone. It gives up with `Write` at the first error of any kind,
-    /// and with `WriteZero` where the writer takes nothing; a front of the text is then written, and the
-    /// writer isn't called again. Nothing is flushed.
+    /// Makes the whole text, as `to_string`, and then writes it. A table that has no text, or none
+    /// because allocation fails, leaves the writer alone. It gives up with `Write` at the first error of
+    /// any kind, and with `WriteZero` where the writer takes nothing; a front of the text is then
+    /// written, and the writer isn't called again. Nothing is flushed.
     pub fn build<W: Write>(self, alloc: Global, writer: &mut Counted<W>) -> Result<(), BuildFault>
         ensures whole { OnOk result (Appends (W.contents (inner_of writer.old)) (W.contents (inner_of writer.new)) (printed (streamed I.RecordTexts.rows self))) }
         ensures front { IfErr result (λ fault. ¬ (NoTable fault) → AppendsFront (W.contents (inner_of writer.old)) (W.contents (inner_of writer.new)) (printed (streamed I.RecordTexts.rows self))) }

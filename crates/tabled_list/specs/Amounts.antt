@@ -7,7 +7,7 @@ use Rattle.tabled_width.specs.Measures.{greatest_least_width, greatest_width, pe
 use Rattle.tabled_list.specs.declared.amount.Amount.{Amount}
 use Rattle.tabled_list.specs.declared.amount.Amount.TheVariants.{Exact, Max, Min, Percent}
 
--- as a width, of so many columns
+-- as a width, of `columns` columns
 abbrev pub width_of : Amount → ℕ → List (List (List ℕ)) → Look → Result ℕ Fault
 width_of (Exact n) columns rows look = Ok n
 width_of Max columns rows look = Ok (greatest_width columns rows)

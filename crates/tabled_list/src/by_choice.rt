@@ -29,7 +29,7 @@ pub trait Prioritized<T: FromText> {
     ghost stepped: { Self → Named → State → Outcome → Type 0 };
 
     /// Changes the table by the option with this priority: its step by each name of the priority. Refused as
-    /// the step is, and for memory, and then nothing has changed.
+    /// the step is, and as `Memory` where allocation fails, and then nothing has changed.
     fn adjust_by<S: Adjustable<T>, P: Peaker + Drop>(
         self,
         table: &mut S,

@@ -9,8 +9,8 @@ use grid_records_rows::FromText;
 use std::alloc::Global;
 
 /// Changes the table by the settings, one after the other, up to the first that is refused: that one changes
-/// nothing, and those before it stand. Its index and why it is refused, which may be for memory, are
-/// answered.
+/// nothing, and those before it stand. Returns its index and why it is refused, which may be that
+/// allocation fails.
 pub fn apply_list<T: FromText, S: Adjustable<T>>(
     alloc: Global,
     table: &mut S,

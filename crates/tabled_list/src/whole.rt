@@ -46,7 +46,7 @@ pub(crate) struct ColumnsAt {
     pub(crate) size: usize,
 }
 
-/// Sets it. Refused as `Spans` for 0, and for memory.
+/// Sets it. Refused as `Spans` for 0, and as `Memory` where allocation fails.
 impl<R: RecordTexts, D: KeptSizes> TableOption<R, ColoredConfig, D> for ColumnsAt {
     ghost step = { λ option state outcome. positive option.size (looking (with_column_span option.pos option.size)) state ≡ outcome };
 
@@ -77,7 +77,7 @@ pub(crate) struct RowsAt {
     pub(crate) size: usize,
 }
 
-/// Sets it. Refused as `Spans` for 0, and for memory.
+/// Sets it. Refused as `Spans` for 0, and as `Memory` where allocation fails.
 impl<R: RecordTexts, D: KeptSizes> TableOption<R, ColoredConfig, D> for RowsAt {
     ghost step = { λ option state outcome. positive option.size (looking (with_row_span option.pos option.size)) state ≡ outcome };
 

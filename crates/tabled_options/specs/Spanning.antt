@@ -13,7 +13,7 @@ use Rattle.tabled_options.specs.declared.span.Tracks.TheVariants.{Columns, Rows}
 abbrev pub span_size : Span → ℕ
 span_size span = span.size
 
--- what a cell takes of columns and rows, with so many of these
+-- what a cell takes of columns and rows, with n of these tracks
 abbrev pub taking : Tracks → ℕ → Extent → Extent
 taking Columns n = with_columns n
 taking Rows n = with_rows n
@@ -21,11 +21,11 @@ taking Rows n = with_rows n
 abbrev pub span_extent : Span → Extent → Extent
 span_extent span = taking span.of span.size
 
--- the step of a span: each cell of the table that the entity covers takes so many; none takes 0
+-- the step of a span: each cell of the table that the entity covers takes the size of the span; none takes 0
 abbrev pub spanning : Span → Entity → State → Outcome
 spanning span at s = positive (span_size span) (looking (with_extents (span_extent span) at (length s.rows) (column_count s.rows))) s
 
--- ---- cells that take so many one after the other
+-- ---- cells that take a span, one after the other
 
 -- at each of these places what a cell takes has changed
 abbrev pub placed_all : (Extent → Extent) → List Position → (Position → Extent) → Position → Extent

@@ -28,7 +28,7 @@ enum Tracks {
 }
 
 impl Span {
-    /// So many columns.
+    /// A span of `n` columns.
     pub fn column(n: usize) -> Span
         ensures size { span_size result ≡ n }
         ensures extent { span_extent result ≡ with_columns n }
@@ -39,7 +39,7 @@ impl Span {
         }
     }
 
-    /// So many rows.
+    /// A span of `n` rows.
     pub fn row(n: usize) -> Span
         ensures size { span_size result ≡ n }
         ensures extent { span_extent result ≡ with_rows n }
@@ -63,8 +63,8 @@ impl Span {
         }
     }
 
-    // Sets it at this place, where a table of so many rows and columns has it. Fails only where allocation fails,
-    // and then nothing has changed.
+    // Sets it at this place, where a table of `rows` rows and `columns` columns has it. Fails only where
+    // allocation fails, and then nothing has changed.
     fn set_inside(
         self,
         config: &mut SpannedConfig,
@@ -122,8 +122,8 @@ impl Span {
 fn let_go<T: Drop>(_value: T) {}
 
 /// Sets how many columns or rows each of the cells takes that the table has. Refused as `Spans` for 0, and
-/// for memory. The span of one cell is set in place; those of several are set in a copy of the settings,
-/// which then takes their place.
+/// as `Memory` where allocation fails. The span of one cell is set in place; those of several are set in a
+/// copy of the settings, which then takes their place.
 impl<T: FromText> CellOption<VecRecords<T>, ColoredConfig> for Span {
     ghost step = { λ span at state outcome. spanning span at state ≡ outcome };
 

@@ -59,7 +59,7 @@ empty_writes_after (Err _) piece count = count
 
 -- ---- several calls, from `before` to `after`
 
--- a call answered an error
+-- a call returned an error
 abbrev pub HasFailed : {T : Type 0} → Counted T → Counted T → Type 0
 HasFailed before after = failures_of after ≢ failures_of before
 
@@ -71,13 +71,13 @@ HasTakenNothing before after = empty_writes_of after ≢ empty_writes_of before
 abbrev pub HasGivenPieces : {T : Type 0} → Counted T → Counted T → ℕ → Type 0
 HasGivenPieces before after n = pieces_read_of after ≡ (pieces_read_of before + n) % 2 ^ 64
 
--- a call answered an error exactly where P holds, and then it was one, and no call came behind it
+-- a call returned an error exactly where P holds, and then it was one, and no call came after it
 pub record FailsIff {T : Type 0} (P : Type 0) (before after : Counted T) : Type 0 where
   pub once : P → failures_of after ≡ next_count (failures_of before)
   pub last : P → last_refused after ≡ true
   pub others : ¬ P → failures_of after ≡ failures_of before
 
--- a write took no byte of a piece that had some exactly where P holds, and then it was one, and no call came behind it
+-- a write took no byte of a piece that had some exactly where P holds, and then it was one, and no call came after it
 pub record TakesNothingIff {T : Type 0} (P : Type 0) (before after : Counted T) : Type 0 where
   pub once : P → empty_writes_of after ≡ next_count (empty_writes_of before)
   pub last : P → last_refused after ≡ true

@@ -1,7 +1,7 @@
 -- The sizes of columns or of rows, each by its number.
 use Rattle.std.specs.Prelude.{ℕ, ◌<◌, List, length, slice_index, slice_index_or}
 
--- one size for all; or those of a list, and behind it 0 or one size for all others
+-- one size for all; or those of a list, and after it 0 or one size for all others
 pub data Sizes : Type 0 where
   Alike : ℕ → Sizes
   Listed : List ℕ → Sizes
@@ -18,6 +18,6 @@ CoversFirst count (Alike size) = Unit {0}
 CoversFirst count (Listed sizes) = (k : ℕ) → k < count → k < length sizes
 CoversFirst count (ListedBefore sizes size) = (k : ℕ) → k < count → k < length sizes
 
--- no column and no row of a table of so many is past its list
+-- no column and no row of a table of `columns` columns and `rows` rows is past its list
 abbrev pub CoversTable : ℕ → ℕ → Sizes × Sizes → Type 0
 CoversTable columns rows sizes = CoversFirst columns sizes.0 × CoversFirst rows sizes.1

@@ -114,7 +114,7 @@ impl CompleteDimension {
         as_slice(&self.heights)
     }
 
-    /// Whether no column and no row of a table of so many is past its list.
+    /// Whether no column and no row of a table of `columns` columns and `rows` rows is past its list.
     pub fn covers(&self, columns: usize, rows: usize) -> bool
         ensures { IsTrue result ↔ CoversTable columns rows (stored_sizes self.now.widths, stored_sizes self.now.heights) }
     {
@@ -133,7 +133,7 @@ impl CompleteDimension {
     }
 
     // Fills what is not set with the least sizes of the table. Refused as `Range` where one of these
-    // passes `usize::MAX`, and for memory, and then nothing has changed.
+    // passes `usize::MAX`, and as `Memory` where allocation fails, and then nothing has changed.
     fn fill<R: Records>(
         &mut self,
         alloc: Global,

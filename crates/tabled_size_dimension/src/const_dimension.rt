@@ -38,7 +38,7 @@ impl<const COLUMNS: usize, const ROWS: usize> ConstDimension<COLUMNS, ROWS> {
         ConstDimension { width, height }
     }
 
-    /// Whether no column and no row of a table of so many is past its list.
+    /// Whether no column and no row of a table of `columns` columns and `rows` rows is past its list.
     pub fn covers(&self, columns: usize, rows: usize) -> bool
         ensures { IsTrue result ↔ CoversTable columns rows (const_sizes self.now.0, const_sizes self.now.1) }
     {

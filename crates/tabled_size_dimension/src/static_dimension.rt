@@ -34,7 +34,8 @@ impl StaticDimension {
         StaticDimension { width, height }
     }
 
-    /// Whether no column and no row of a table of so many is past its list, that of a `Partial` included.
+    /// Whether no column and no row of a table of `columns` columns and `rows` rows is past its list,
+    /// that of a `Partial` included.
     pub fn covers(&self, columns: usize, rows: usize) -> bool
         ensures { IsTrue result ↔ CoversTable columns rows self.now }
     {

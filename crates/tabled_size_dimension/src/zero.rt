@@ -16,7 +16,7 @@ impl ZeroDimension {
         ZeroDimension {}
     }
 
-    /// Whether there is a size for each column and row of a table of so many: there always is.
+    /// Whether there is a size for each column and row of a table of this size: there always is.
     pub fn covers(&self, _columns: usize, _rows: usize) -> bool
         ensures { IsTrue result }
     {

@@ -6,7 +6,7 @@ use Rattle.std.specs.List.{range_with_len, count_by}
 abbrev pub columns_of : List ℕ → List ℕ
 columns_of sizes = range_with_len 0 (length sizes)
 
--- the place of a column, of so many: how many come before it, from the right or from the left
+-- the place of a column, of `count` columns: how many come before it, from the right or from the left
 abbrev pub from_side : Bool → ℕ → ℕ → ℕ
 from_side right count column = if right then count - 1 - column else column
 

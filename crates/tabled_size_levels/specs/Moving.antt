@@ -43,19 +43,19 @@ Gives Shared = Unit {0}
 
 -- ---- orders
 
--- how many columns of so many come before a column
+-- how many of `count` columns come before a column
 abbrev pub place_of : Order → ℕ → ℕ → ℕ
 place_of (FromSide right) count column = from_side right count column
 place_of (FromColumn start) count column = from_column start count column
 
--- a round begins at one of so many columns
+-- a round begins at one of `count` columns
 abbrev pub BeginsWithin : Order → ℕ → Type 0
 BeginsWithin (FromSide right) count = Unit {0}
 BeginsWithin (FromColumn start) count = start ≤ count
 
 -- ---- what is moved
 
--- the columns before one of them are changed by all of the second amount, those behind it by the first, and it by more than
+-- the columns before one of them are changed by all of the second amount, those after it by the first, and it by more than
 -- the first
 pub record IsMovedInOrder (place first second change : ℕ → ℕ) (count column : ℕ) : Type 0 where
   pub inside : column < count
@@ -112,7 +112,7 @@ pub record IsGiven (rule : Rule) (place : ℕ → ℕ) (by : ℕ) (widths sizes 
   pub sums : sum sizes ≡ sum widths + amount_of rule [] by widths
   pub given : IsMovedByRule rule place [] widths (λ column. slice_index sizes column - slice_index widths column) (amount_of rule [] by widths) last
 
--- each column before one of them gives all that it has above its least, and none behind it gives any
+-- each column before one of them gives all that it has above its least, and none after it gives any
 pub record IsTakenWhole (place : ℕ → ℕ) (least : List ℕ) (by : ℕ) (widths sizes : List ℕ) : Type 0 where
   pub lower : NoneRises widths sizes
   pub sums : sum sizes + amount_of Narrowest least by widths ≡ sum widths

@@ -18,8 +18,8 @@ fn give_each(rule: Rule, number: u128, widths: &mut [usize])
     }
 }
 
-// Gives what the rule moves at the number to one column after the other, in the order, until so much is given, and
-// answers the last of them.
+// Gives what the rule moves at the number to one column after the other, in the order, until `amount` is
+// given, and returns the last of them.
 fn give_in_order(
     rule: Rule,
     number: u128,

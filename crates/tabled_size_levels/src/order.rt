@@ -12,7 +12,7 @@ pub enum Order {
 }
 
 impl Order {
-    // The column, of so many, at a place.
+    // The column, of `count` columns, at a place.
     pub(crate) fn column_at(self, count: usize, place: usize) -> usize
         requires inside { place < count }
         requires begins { BeginsWithin self count }

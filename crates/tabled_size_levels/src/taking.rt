@@ -18,8 +18,8 @@ fn take_each(rule: Rule, number: u128, widths: &mut [usize], least: &[usize])
     }
 }
 
-// Takes what the rule moves at the number from one column after the other, in the order, until so much is taken,
-// and answers the last of them.
+// Takes what the rule moves at the number from one column after the other, in the order, until `amount` is
+// taken, and returns the last of them.
 fn take_in_order(
     rule: Rule,
     number: u128,

@@ -1,4 +1,4 @@
--- What the five priorities answer.
+-- What the five priorities return.
 use Rattle.std.specs.Prelude.{◌≡◌, ℕ, ◌+◌, nat_lt, Bool, List, length, Option, MatchOption, if◌then◌else◌}
 use Rattle.tabled_size_priority.specs.Columns.{from_side, from_column}
 use Rattle.tabled_size_priority.specs.Peaking.{Names, InPlace, Widest, NamesNarrowest}
@@ -15,11 +15,11 @@ widest_peaks right least sizes answer after = Names (Widest (from_side right (le
 abbrev pub narrowest_peaks : Bool → List ℕ → List ℕ → Option ℕ → Bool → Type 0
 narrowest_peaks right least sizes answer after = NamesNarrowest (from_side right (length sizes)) least sizes answer × (after ≡ right)
 
--- where a round of so many columns begins: past their end it begins at 0
+-- where a round of `count` columns begins: past their end it begins at 0
 abbrev pub start_of : ℕ → ℕ → ℕ
 start_of next count = if nat_lt next count then next else 0
 
--- the first column of a round, which then goes on behind it
+-- the first column of a round, which then goes on after it
 abbrev pub turn_peaks : ℕ → List ℕ → List ℕ → Option ℕ → ℕ → Type 0
 turn_peaks next least sizes answer after =
     Names (InPlace (from_column (start_of next (length sizes)) (length sizes))) least sizes answer

@@ -2,7 +2,7 @@
 use Rattle.std.specs.Prelude.{◌≡◌, ◌≤◌, ◌<◌, ℕ, zero, suc, ◌+◌, ◌-◌, nat_lt, List, [], length, min, slice_index, slice_set, Option, Some, None, if◌then◌else◌}
 use Rattle.tabled_size_priority.specs.Shrinking.{room_of}
 
--- no column of so many
+-- no column of `count` columns
 abbrev pub IsNowhere : ℕ → Option ℕ → Type 0
 IsNowhere count None = Unit {0}
 IsNowhere count (Some column) = count ≤ column
@@ -39,7 +39,7 @@ pub record OneAnswer {S : Type 0} (peaks : S → List ℕ → List ℕ → Optio
   pub answer : peaks before.priority least before.widths (Some column) after
   pub is_now : now ≡ answered least column after before
 
--- so many answers lead from the start to here
+-- n answers lead from the start to here
 abbrev pub Leads : {S : Type 0} → (S → List ℕ → List ℕ → Option ℕ → S → Type 0) → List ℕ → Stand S → ℕ → Stand S → Type 0
 Leads peaks least start zero now = now ≡ start
 Leads peaks least start (suc n) now = OneAnswer peaks least (Leads peaks least start n) now

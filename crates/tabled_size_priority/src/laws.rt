@@ -58,9 +58,9 @@ pub fn one_grown_list()
         IsGrownInTurns start by widths xs → IsGrownInTurns start by widths ys → xs ≡ ys }
 {}
 
-/// The widest first cuts to the least level at which enough is left, and then takes one more from the
-/// first columns at that level; the narrowest first raises to the greatest level for which there is enough,
-/// and then gives one more to the first columns at that level.
+/// The widest first cuts to the least level at which enough is left, and then takes one more from the first
+/// columns at that level. The narrowest first raises to the greatest level for which there is enough, and
+/// then gives one more to the first columns at that level.
 pub fn levels_are_named()
     ensures least { (right : Bool) (least : List ℕ) (by : ℕ) (widths sizes : List ℕ) (level : ℕ) →
         IsShrunkByWidest right least by widths sizes → IsLeastLevel least widths (shrunk_sum least widths by) level →

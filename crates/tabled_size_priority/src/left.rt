@@ -17,7 +17,7 @@ impl PriorityLeft {
         PriorityLeft
     }
 
-    /// Shrinks as `Peaker::shrink` does, and answers the walks over the columns that it took: at most 2.
+    /// Shrinks as `Peaker::shrink` does, and returns the walks over the columns that it took: at most 2.
     pub fn shrink_counted(&mut self, widths: &mut [usize], least: &[usize], by: usize) -> u32
         requires fits { sum widths.old < 2 ^ 64 }
         requires leasts { length least.now ≡ length widths.old }
@@ -29,7 +29,7 @@ impl PriorityLeft {
         take_whole(Order::FromSide(false), widths, least, by).walks
     }
 
-    /// Grows as `Peaker::grow` does, and answers the walks over the columns that it took: at most 1.
+    /// Grows as `Peaker::grow` does, and returns the walks over the columns that it took: at most 1.
     pub fn grow_counted(&mut self, widths: &mut [usize], by: usize) -> u32
         requires { sum widths.old + by < 2 ^ 64 }
         ensures grown { IsGrownFromSide false by widths.old widths.new }

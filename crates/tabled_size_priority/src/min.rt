@@ -45,7 +45,7 @@ impl PriorityMin {
         PriorityMin::new(true)
     }
 
-    /// Shrinks as `Peaker::shrink` does, and answers the walks over the columns that it took: at most 68.
+    /// Shrinks as `Peaker::shrink` does, and returns the walks over the columns that it took: at most 68.
     pub fn shrink_counted(&mut self, widths: &mut [usize], least: &[usize], by: usize) -> u32
         requires fits { sum widths.old < 2 ^ 64 }
         requires leasts { length least.now ≡ length widths.old }
@@ -58,7 +58,7 @@ impl PriorityMin {
         take(Rule::Narrowest, order, widths, least, by).walks
     }
 
-    /// Grows as `Peaker::grow` does, and answers the walks over the columns that it took: at most 69.
+    /// Grows as `Peaker::grow` does, and returns the walks over the columns that it took: at most 69.
     pub fn grow_counted(&mut self, widths: &mut [usize], by: usize) -> u32
         requires { sum widths.old + by < 2 ^ 64 }
         ensures grown { IsGrownByNarrowest self.old by widths.old widths.new × (self.new ≡ self.old) }

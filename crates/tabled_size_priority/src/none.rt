@@ -34,7 +34,7 @@ impl PriorityNone {
         PriorityNone { next: 0 }
     }
 
-    /// Shrinks as `Peaker::shrink` does, and answers the walks over the columns that it took: at most 68.
+    /// Shrinks as `Peaker::shrink` does, and returns the walks over the columns that it took: at most 68.
     pub fn shrink_counted(&mut self, widths: &mut [usize], least: &[usize], by: usize) -> u32
         requires fits { sum widths.old < 2 ^ 64 }
         requires leasts { length least.now ≡ length widths.old }
@@ -49,7 +49,7 @@ impl PriorityNone {
         moved.walks
     }
 
-    /// Grows as `Peaker::grow` does, and answers the walks over the columns that it took: at most 68.
+    /// Grows as `Peaker::grow` does, and returns the walks over the columns that it took: at most 68.
     pub fn grow_counted(&mut self, widths: &mut [usize], by: usize) -> u32
         requires { sum widths.old + by < 2 ^ 64 }
         ensures grown { grows_in_turns self.old by widths.old self.new widths.new }
@@ -63,7 +63,7 @@ impl PriorityNone {
         moved.walks
     }
 
-    // The column, of so many, at which a round begins.
+    // The column, of `count` columns, at which a round begins.
     fn start(&self, count: usize) -> usize
         ensures { result ≡ start_of self.now count }
     {

@@ -16,7 +16,7 @@ impl PriorityRight {
         PriorityRight
     }
 
-    /// Shrinks as `Peaker::shrink` does, and answers the walks over the columns that it took: at most 2.
+    /// Shrinks as `Peaker::shrink` does, and returns the walks over the columns that it took: at most 2.
     pub fn shrink_counted(&mut self, widths: &mut [usize], least: &[usize], by: usize) -> u32
         requires fits { sum widths.old < 2 ^ 64 }
         requires leasts { length least.now ≡ length widths.old }
@@ -28,7 +28,7 @@ impl PriorityRight {
         take_whole(Order::FromSide(true), widths, least, by).walks
     }
 
-    /// Grows as `Peaker::grow` does, and answers the walks over the columns that it took: at most 1.
+    /// Grows as `Peaker::grow` does, and returns the walks over the columns that it took: at most 1.
     pub fn grow_counted(&mut self, widths: &mut [usize], by: usize) -> u32
         requires { sum widths.old + by < 2 ^ 64 }
         ensures grown { IsGrownFromSide true by widths.old widths.new }

@@ -16,7 +16,7 @@ pub const CHOICES: [Choice; 7] = [
     Choice::MaxRight,
 ];
 
-// How many lists of so many numbers below 6 there are.
+// How many lists of 0, 1, 2 and 3 numbers below 6 there are.
 pub const COUNTS: [usize; 4] = [1, 6, 36, 216];
 
 /// The numbers of a list by its number among them.

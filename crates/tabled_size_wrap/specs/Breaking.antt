@@ -8,19 +8,19 @@ abbrev pub run_cost : List LineUnit → ℕ
 run_cost run = sum_by (λ unit. unit.cost) run
 
 -- a run of units fits into a line: those that cost at most the width sum to at most the width. Those before one that costs
--- more sum below the width, so that it has a column left, and those behind it to nothing
+-- more sum below the width, so that it has a column left, and those after it to nothing
 pub record FitsRun (width : ℕ) (run : List LineUnit) : Type 0 where
   pub narrow : run_cost (filter (λ unit. nat_le unit.cost width) run) ≤ width
   pub wide : (before behind : List LineUnit) (unit : LineUnit) → run ≡ before ++ unit ∷ behind → width < unit.cost →
       (run_cost before < width) × (run_cost behind ≡ 0)
 
--- of all runs of the first units that fit, the longest one; and what is left behind it
+-- of all runs of the first units that fit, the longest one; and what is left after it
 pub record IsLongestRun (width : ℕ) (units run left : List LineUnit) : Type 0 where
   pub parted : units ≡ run ++ left
   pub fits : FitsRun width run
   pub longest : (other more : List LineUnit) → units ≡ other ++ more → FitsRun width other → length other ≤ length run
 
--- runs of which each is the longest of what the ones before it left
+-- runs, each of which is the longest of what the ones before it left
 abbrev pub AreLongestRuns : ℕ → List LineUnit → List (List LineUnit) → Type 0
 AreLongestRuns width units [] = units ≡ []
 AreLongestRuns width units (run ∷ runs) =

@@ -8,15 +8,15 @@ use Rattle.grid_records_measure.specs.TextLines.{line_feed}
 use Rattle.tabled_size_wrap.specs.Units.{LineUnit, line_units, unit_len}
 use Rattle.tabled_size_wrap.specs.Wrapping.{line_part, replacement_bytes, shown_lines}
 
--- a run that has taken so many columns has room for the unit; for one that costs more than the width, where a column is left
+-- a run that has taken `used` columns has room for the unit; for one that costs more than the width, where a column is left
 abbrev pub has_room : ℕ → ℕ → LineUnit → Bool
 has_room width used unit = if nat_le unit.cost width then nat_le (used + unit.cost) width else nat_lt used width
 
--- the columns that are taken behind it; a unit that costs more than the width takes all that are left
+-- the columns that are taken after it; a unit that costs more than the width takes all that are left
 abbrev pub used_behind : ℕ → ℕ → LineUnit → ℕ
 used_behind width used unit = if nat_le unit.cost width then used + unit.cost else width
 
--- the runs, of which the first has taken so many columns
+-- the runs, where the first has taken `used` columns already
 abbrev pub runs_from : ℕ → ℕ → List LineUnit → List (List LineUnit)
 runs_from width used [] = [] ∷ []
 runs_from width used (unit ∷ units) =

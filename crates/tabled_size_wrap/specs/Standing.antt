@@ -7,7 +7,7 @@ use Rattle.ansi_str.specs.StyledText.{style_after_all}
 use Rattle.ansi_str.specs.Parts.{from_place, through_place}
 use Rattle.ansi_str.specs.Walking.{from_text}
 
--- what stands behind a place at which a line is split, and the style known there; the front is no such place
+-- what stands after a place at which a line is split, and the style known there; the front is no such place
 abbrev pub behind_break : ℕ → List Piece → List Piece
 behind_break zero pieces = pieces
 behind_break (suc n) pieces = from_text (from_place (suc n) pieces)

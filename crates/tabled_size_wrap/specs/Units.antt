@@ -36,7 +36,7 @@ line_units width keep_words line =
 abbrev pub unit_len : LineUnit → ℕ
 unit_len unit = length (encode_utf8_all unit.text)
 
--- the units with the bytes at which they begin and end, of which the first begins here
+-- the units with the bytes at which they begin and end, where the first begins here
 abbrev pub placed : ℕ → List LineUnit → List Unit
 placed place [] = []
 placed place (unit ∷ units) =

@@ -24,7 +24,7 @@ abbrev pub from_wide : ℕ → List LineUnit → List LineUnit
 from_wide width run = drop (prefix_len (is_narrow width) run) run
 
 -- narrow units, and those from a wide one on, which begin here: the part of the first; the columns that they leave, marked in
--- the place of the wide one; and the part of what stands behind it
+-- the place of the wide one; and the part of what stands after it
 abbrev pub shown_run : {X : Type 0} → (LineUnit → ℕ) → (ℕ → ℕ → List X) → List X → ℕ → ℕ → List LineUnit → List LineUnit → List X
 shown_run len part mark width place front [] = part place (place + sum_by len front)
 shown_run len part mark width place front (wide ∷ behind) =
@@ -32,7 +32,7 @@ shown_run len part mark width place front (wide ∷ behind) =
     let to = from + len wide in
     part place from ++ (repeat (width - run_cost front) mark ++ part to (to + sum_by len behind))
 
--- the lines of runs one behind another, of which the first begins here
+-- the lines of runs one after another, where the first begins here
 abbrev pub shown_lines : {X : Type 0} → (LineUnit → ℕ) → (ℕ → ℕ → List X) → List X → ℕ → ℕ → List (List LineUnit) → List (List X)
 shown_lines len part mark width place [] = []
 shown_lines len part mark width place (run ∷ runs) =

@@ -53,7 +53,7 @@ fn push_runs(
     ensures { OnOk result (string_bytes out.new ≡ string_bytes out.old ++ join_with_byte line_feed (broken_lines width keep_words (pieces line.now))) }
 {
     let mut place = Place::start_of(line);
-    // the bytes after the place that this line of the answer keeps, and the columns that it has taken
+    // the bytes after the place that this line of the result keeps, and the columns that it has taken
     let mut kept = 0;
     let mut used = 0;
     for unit in LineUnits::new(stripped, width, keep_words) {
@@ -78,8 +78,8 @@ fn push_runs(
     push_part(alloc, out, &mut place, kept)
 }
 
-// The same of a line that shows some ASCII text, so many bytes, where words are not kept: each byte is a
-// unit that costs one column, so a line of the answer has as many as the width.
+// The same of a line that shows some ASCII text, `len` bytes of it, where words are not kept: each byte
+// is a unit that costs one column, so a line of the result has as many as the width.
 fn push_full_lines(
     alloc: Global,
     out: &mut String,
@@ -103,7 +103,7 @@ fn push_full_lines(
     push_part(alloc, out, &mut place, left)
 }
 
-// Whether a line that has taken so many columns has room for a unit; for one that costs more than the
+// Whether a line that has taken `used` columns has room for a unit; for one that costs more than the
 // width, where a column is left.
 fn has_room(cost: usize, used: usize, width: usize) -> bool
     requires { used ≤ width }
@@ -145,7 +145,7 @@ fn push_part<'a>(
     push_slice(alloc, out, place, len)
 }
 
-// Appends so many bytes of a line from a place on, with the sequences among and after them, and goes to
+// Appends `len` bytes of a line from a place on, with the sequences among and after them, and goes to
 // the place after them.
 fn push_slice<'a>(
     alloc: Global,
@@ -165,7 +165,7 @@ fn push_slice<'a>(
     Ok(())
 }
 
-// Appends so many replacement characters.
+// Appends `n` replacement characters.
 fn push_replacements(out: &mut String, n: usize) -> Result<(), AllocError>
     ensures { OnOk result (string_bytes out.new ≡ string_bytes out.old ++ repeat n replacement_bytes) }
 {

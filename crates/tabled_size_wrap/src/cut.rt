@@ -10,9 +10,9 @@ use std::alloc::{AllocError, Global};
 use std::borrow::CowStr;
 
 /// The longest front of a text whose lines but the last cost fewer columns than the width, and whose last
-/// costs at most so many; where text is left after it, a U+FFFD without style for each column that its
-/// last line lacks: the cut of `cut_width`. A text without ESC whose cut lacks no column is answered by a
-/// borrow, without allocating; else it fails only where allocation fails.
+/// costs at most the width. Where text is left after it, a U+FFFD without style follows for each column
+/// that its last line lacks. It is the cut of `cut_width`. A text without ESC whose cut lacks no column
+/// is returned as a borrow, without allocating; else it fails only where allocation fails.
 pub fn cut_styled<'a>(alloc: Global, text: &'a str, width: usize) -> Result<CowStr<'a>, AllocError>
     ensures cut { IfOk result (λ out. (pieces : List Piece) → ArePiecesOf text.now pieces → IsCutAt width pieces (cow_str_bytes out)) }
     ensures bytes { IfOk result (λ out. cow_str_bytes out ≡ cut_at width text.now) }

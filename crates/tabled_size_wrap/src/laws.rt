@@ -75,16 +75,16 @@ pub fn wrapped_lines_show_their_runs()
         AreLinesOf of_wrapped lines → All IsClosedLine lines × (join_with_byte line_feed lines ≡ bytes) }
 {}
 
-/// A whole text that is wrapped at a width of which no character takes more is the text with breaks put
-/// into its lines: without them it shows the same characters, all but the line feeds in the same styles.
+/// A whole text that is wrapped at a width that no character exceeds is the text with breaks put into
+/// its lines: without them it shows the same characters, all but the line feeds in the same styles.
 pub fn wrapping_adds_breaks()
     ensures { (width : ℕ) (keep_words : Bool) (text bytes : List ℕ) (pieces of_wrapped : List Piece) → 0 < width → IsUtf8 text →
         ArePiecesOf text pieces → NoneBroken pieces → IsWrapped width keep_words pieces bytes → ArePiecesOf bytes of_wrapped →
         All (λ c. own_width c ≤ width) (chars (strip pieces)) → AddsBreaks (styled pieces) (styled of_wrapped) }
 {}
 
-/// A whole text of plain characters and line feeds that is wrapped at a width of which no character takes
-/// more has no line that measures more.
+/// A whole text of plain characters and line feeds that is wrapped at a width that no character exceeds
+/// has no line that measures more than the width.
 pub fn wrapped_lines_fit()
     ensures { (width : ℕ) (keep_words : Bool) (text bytes : List ℕ) (pieces of_wrapped : List Piece) → 0 < width → IsUtf8 text →
         ArePiecesOf text pieces → NoneBroken pieces → IsWrapped width keep_words pieces bytes → ArePiecesOf bytes of_wrapped →

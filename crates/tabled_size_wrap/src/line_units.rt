@@ -21,11 +21,11 @@ pub struct Unit {
     pub cost: usize,
 }
 
-/// The units of a line in their order: its characters, each of which costs the larger of 1 and its own
-/// width; or, where words are kept, its spaces, each of which costs 1, the words between them that
-/// measure at most the width, which cost what they measure, and the characters of longer words. Joined
-/// they are the line without its sequences. It fails only where allocation fails. (Unicode Standard Annex 11,
-/// by the rules of `unicode_width`.)
+/// The units of a line in their order: its characters, each at a cost of the larger of 1 and its own width;
+/// or, where words are kept, its spaces, each at a cost of 1, the words between them that measure at most
+/// the width, each at what it measures, and the characters of longer words. Joined they are the line
+/// without its sequences. It fails only where allocation fails. (Unicode Standard Annex 11, by the rules of
+/// `unicode_width`.)
 pub fn units(
     alloc: Global,
     line: &str,
@@ -49,7 +49,7 @@ pub fn units(
 pub(crate) struct LineUnits<'a> {
     // characters that are units
     characters: &'a str,
-    // what stands after them, of which the words are kept
+    // what stands after them, whose words are kept
     words: &'a str,
     // where the characters begin
     place: usize,

@@ -10,10 +10,10 @@ use std::alloc::{AllocError, Global};
 
 /// A text with its lines broken at a width, in columns. Each line of `get_lines` is broken by itself into runs of
 /// its units (`units`), each as long as it fits: its units sum to at most the width. A unit that costs
-/// more than the width takes the columns that its run has left, or those of a new run where none is left:
-/// in each stands a U+FFFD without style, and the part of the unit is left out with its sequences. The
+/// more than the width takes the columns that its run has left, or those of a new run where none is left.
+/// In each stands a U+FFFD without style, and the part of the unit is left out with its sequences. The
 /// bytes of a run are the parts of `split_places` at its ends and around such a unit, and runs are joined
-/// by line feeds. At width 0 the answer is the empty text. It fails only where allocation fails.
+/// by line feeds. At width 0 the result is the empty text. It fails only where allocation fails.
 pub fn wrap_styled(
     alloc: Global,
     text: &str,

@@ -20,7 +20,7 @@ covering at value old p = if covers at p then value else old p
 abbrev pub placing : {T : Type 0} → Position → T → (Position → T) → Position → T
 placing place value old p = if same_place place p then value else old p
 
--- what becomes of the value in each cell of a table of so many rows and columns that the entity covers
+-- what becomes of the value in each cell of a table of `rows` rows and `columns` columns that the entity covers
 abbrev pub changing_inside : {T : Type 0} → (T → T) → Entity → ℕ → ℕ → (Position → T) → Position → T
 changing_inside change at rows columns old p = if covers at p && (nat_lt p.row rows && nat_lt p.col columns) then change (old p) else old p
 
@@ -70,6 +70,6 @@ with_column_span place n look = record look { extent = placing place (with_colum
 abbrev pub with_row_span : Position → ℕ → Look → Look
 with_row_span place n look = record look { extent = placing place (with_rows n (look.extent place)) look.extent }
 
--- of each cell of a table of so many rows and columns that the entity covers
+-- of each cell of a table of `rows` rows and `columns` columns that the entity covers
 abbrev pub with_extents : (Extent → Extent) → Entity → ℕ → ℕ → Look → Look
 with_extents change at rows columns look = record look { extent = changing_inside change at rows columns look.extent }

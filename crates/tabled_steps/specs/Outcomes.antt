@@ -1,4 +1,4 @@
--- What is worked out, or why it is refused. Want of memory is no such refusal: it may come at any call.
+-- What is worked out, or why it is refused. A failed allocation is no such refusal: it may come at any call.
 use Rattle.std.specs.Prelude.{◌≡◌, ℕ, ◌^◌, Bool, if◌then◌else◌, List, MatchResult, Result, Ok, Err, nat_le}
 use Rattle.std.specs.List.{list_any}
 use Rattle.grid_config_values.specs.declared.fault.Fault.{Fault}
@@ -10,14 +10,14 @@ abbrev pub ◌≫=◌ : {A B : Type 0} → Result A Fault → (A → Result B Fa
 (Ok x) ≫= f = f x
 (Err fault) ≫= f = Err fault
 
--- a call may be refused by this fault: for memory, or where what it works out may be refused so
+-- a call may be refused by this fault: by `Memory`, or where what it works out may be refused so
 abbrev pub MayRefuse : {Y : Type 0} → Fault → (Result Y Fault → Type 0) → Type 0
 MayRefuse Memory gives = Unit {0}
 MayRefuse Range gives = gives (Err Range)
 MayRefuse Spans gives = gives (Err Spans)
 MayRefuse (Room row column) gives = gives (Err (Room row column))
 
--- a call answers what may be worked out, memory aside
+-- a call returns what may be worked out, memory aside
 abbrev pub Gives : {X Y : Type 0} → (X → Y) → Result X Fault → (Result Y Fault → Type 0) → Type 0
 Gives view result gives = MatchResult result (λ x. gives (Ok (view x))) (λ fault. MayRefuse fault gives)
 

@@ -40,7 +40,7 @@ row_axis look columns rows = record {
   has_boundary = λ i. has_row_boundary look.borders (boundary_kind i (length rows));
 }
 
--- the least widths and heights that hold the cells of so many columns
+-- the least widths and heights that hold the cells of `columns` columns
 unfoldable pub natural_widths : Look → ℕ → List (List (List ℕ)) → List ℕ
 natural_widths look columns rows = track_sizes (column_axis look columns (fitted columns rows))
 

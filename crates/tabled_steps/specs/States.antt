@@ -30,8 +30,8 @@ column_count (row ∷ rows) = length row
 abbrev pub Outcome : Type 0
 Outcome = Result State Fault
 
--- a call is a step. Accepted, it leaves a state that the step may lead to; refused, for memory or as the step may be, it
--- leaves the state as it was
+-- a call is a step. Accepted, it leaves a state that the step may lead to; refused, as `Memory` or as the step may be,
+-- it leaves the state as it was
 abbrev pub Steps : {T : Type 0} → (State → Outcome → Type 0) → Result T Fault → State → State → Type 0
 Steps step result old new = MatchResult result (λ _. step old (Ok new)) (λ fault. (new ≡ old) × MayRefuse fault (step old))
 
@@ -39,7 +39,7 @@ Steps step result old new = MatchResult result (λ _. step old (Ok new)) (λ fau
 abbrev pub StepsTo : {T : Type 0} → (State → Outcome) → Result T Fault → State → State → Type 0
 StepsTo step result old new = Steps (λ state outcome. step state ≡ outcome) result old new
 
--- what the hint of a step clears: behind the step the sizes are kept that it leaves as they are
+-- what the hint of a step clears: after the step the sizes are kept that it leaves as they are
 abbrev pub settled : Option Entity → Outcome → Outcome
 settled hint outcome = outcome ≫= λ s. Ok (record s { sizes = kept_after hint s.sizes })
 

@@ -17,16 +17,16 @@ pub struct Max;
 #[derive(Clone, Copy, Debug)]
 pub struct Min;
 
-/// So many hundredths of a table's total width or height.
+/// A percentage of a table's total width or height.
 #[derive(Clone, Copy, Debug)]
 pub struct Percent(pub usize);
 
 /// A size that is given or taken from a table. `A` marks which: a width, in columns, or a height, in lines.
 pub trait Measurement<A> {
-    /// What it may be of these rows of so many texts under these settings, or why it is refused.
+    /// What it may be of these rows of a given number of texts under these settings, or why it is refused.
     ghost measures: { Self → ℕ → List (List (List ℕ)) → Look → Result ℕ Refusal → Type 0 };
 
-    /// The size, in columns or in lines. Refused as it may be, and for memory.
+    /// The size, in columns or in lines. Refused as it may be, and as `Memory` where allocation fails.
     fn measure<R: ExactRecords + PeekableRecords>(
         &self,
         alloc: Global,

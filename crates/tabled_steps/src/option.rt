@@ -17,7 +17,7 @@ pub trait TableOption<R: RecordTexts, C: Configuration, D: KeptSizes> {
     ghost hint: { Self → Option Cells };
 
     /// Changes a table by its records, its settings and the sizes that it keeps. Refused as the step is,
-    /// and for memory, and then nothing has changed.
+    /// and as `Memory` where allocation fails, and then nothing has changed.
     fn change(self, alloc: Global, records: &mut R, cfg: &mut C, dims: &mut D) -> Result<(), Fault>
         ensures { Steps (step self) result (state_with (R.rows records.old) (C.look cfg.old) (C.colors cfg.old) (D.sizes dims.old)) (state_with (R.rows records.new) (C.look cfg.new) (C.colors cfg.new) (D.sizes dims.new)) };
 
@@ -35,7 +35,7 @@ pub trait CellOption<R: RecordTexts, C: Configuration> {
     ghost hint: { Self → Option Cells };
 
     /// Changes the cells of the entity, by the records and the settings of their table. Refused as the
-    /// step is, and for memory, and then nothing has changed.
+    /// step is, and as `Memory` where allocation fails, and then nothing has changed.
     fn change(
         &self,
         alloc: Global,

@@ -43,7 +43,7 @@ fn texts(alloc: Global, table: &Table) -> Result<String, AllocError> {
     Ok(all)
 }
 
-// Whether the table has so many rows and columns, and these texts.
+// Whether the table has `rows` rows and `columns` columns, and these texts.
 fn shows(
     alloc: Global,
     table: &Table,

@@ -32,8 +32,8 @@ impl Builder {
         Builder::from_vec(Vec::new(alloc))
     }
 
-    /// No rows, with room for `rows` of them of `columns` texts each. The room for rows is asked for
-    /// now, and the only refusal is for its memory; the sizes decide nothing else.
+    /// No rows, with room for `rows` of them of `columns` texts each. The room for rows is allocated
+    /// now. It fails only where that allocation fails; the sizes decide nothing else.
     pub fn with_capacity(alloc: Global, rows: usize, columns: usize) -> Result<Builder, AllocError>
         ensures { IfOk result (λ builder. builder ≡ []) }
     {
@@ -77,8 +77,8 @@ impl Builder {
         longest_row(&self.rows)
     }
 
-    /// The rows, each with as many texts as the longest: after a short one stand empty texts. The only
-    /// refusal is for memory.
+    /// The rows, each with as many texts as the longest: after a short one stand empty texts. Fails
+    /// only where allocation fails.
     pub fn into_rows(self) -> Result<Vec<Vec<String>>, AllocError>
         ensures { IfOk result (λ rows. text_rows rows.items ≡ filled self) }
     {
@@ -127,7 +127,7 @@ where
     Ok(row)
 }
 
-/// A row without texts, with room for so many where there is memory for it.
+/// A row without texts, with room for `columns` texts where there is memory for it.
 fn empty_row(alloc: Global, columns: usize) -> Vec<String>
     ensures { result.items ≡ [] }
 {
@@ -137,7 +137,7 @@ fn empty_row(alloc: Global, columns: usize) -> Vec<String>
     }
 }
 
-/// The row, and after it an empty text for each that it lacks of so many.
+/// The row, and after it an empty text for each that it lacks of `columns` texts.
 fn filled_row(row: Vec<String>, columns: usize) -> Result<Vec<String>, AllocError>
     ensures { IfOk result (λ filled. map string_bytes filled.items ≡ filled_texts columns (map string_bytes row.items)) }
 {

@@ -30,7 +30,7 @@ pub trait Tabled {
         ensures count { IfOk result (λ out. vec_len out ≡ length names) };
 }
 
-/// The fields and names of the value behind it.
+/// The fields and names of the value that it refers to.
 impl<'a, T: Tabled> Tabled for &'a T {
     ghost texts = { λ value. T.texts value.now };
 
@@ -90,7 +90,7 @@ impl<T: Tabled> Tabled for Option<T> {
     }
 }
 
-/// So many empty texts. Room for all is asked for at once.
+/// `count` empty texts. Room for all is allocated at once.
 fn empty_texts<'a>(alloc: Global, count: usize) -> Result<Vec<CowStr<'a>>, AllocError>
     ensures texts { IfOk result (λ out. texts_of out.items ≡ replicate count []) }
     ensures count { IfOk result (λ out. vec_len out ≡ count) }

@@ -1,4 +1,4 @@
--- Texts that are cut, with a suffix behind.
+-- Texts that are cut, with a suffix after them.
 use Rattle.std.specs.Prelude.{ℕ, ◌-◌, ◌*◌, ◌/◌, ◌==◌, Bool, if◌then◌else◌, List, [], ◌∷◌, ◌++◌, Option, None, Some, chars, encode_utf8_all, length, map, nat_lt, take}
 use Rattle.std.specs.List.{join_with_byte, repeat}
 use Rattle.ansi_scan.specs.Attributes.{Attributes, plain_attributes}
@@ -28,7 +28,7 @@ last_style style (x ∷ xs) = last_style x.1 xs
 
 -- ---- the suffix
 
--- what stands behind a cut, what is done where it has no room, whether each line is cut by itself, and whether the suffix
+-- what stands after a cut, what is done where it has no room, whether each line is cut by itself, and whether the suffix
 -- takes the style of the text before it
 pub record Cutting : Type 0 where
   pub suffix : List ℕ
@@ -42,7 +42,7 @@ filled_by c room =
     repeat (room / cost c) (encode_utf8_all (c ∷ [])) ++ repeat (room - room / cost c * cost c) (encode_utf8_all (replacement ∷ []))
 
 module _ (cutting : Cutting) where
-  -- the suffix behind the cut of a text at a width: as it stands, or between start and end of the last kept character's style
+  -- the suffix after the cut of a text at a width: as it stands, or between start and end of the last kept character's style
   abbrev pub suffix_behind : ℕ → List ℕ → List ℕ
   suffix_behind width text =
       let style = last_style plain_attributes (kept width text) in

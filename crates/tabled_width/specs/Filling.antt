@@ -6,7 +6,7 @@ use Rattle.ansi_str.specs.StyledText.{strip}
 use Rattle.grid_records_measure.specs.Measures.{measure}
 use Rattle.grid_records_measure.specs.TextLines.{line_feed, text_lines, text_width}
 
--- a line, and behind its end as many fill characters as it measures less than the width
+-- a line, and after its end as many fill characters as it measures less than the width
 abbrev pub filled_line : ℕ → ℕ → List ℕ → List ℕ
 filled_line width fill line = line ++ repeat (width - measure (chars (strip (pieces line)))) (encode_utf8_all (fill ∷ []))
 
@@ -14,7 +14,7 @@ filled_line width fill line = line ++ repeat (width - measure (chars (strip (pie
 abbrev pub filling : ℕ → ℕ → List ℕ → Option (List ℕ)
 filling fill width text = if nat_lt (text_width text) width then Some (join_with_byte line_feed (map (filled_line width fill) (text_lines text))) else None
 
--- a line behind others follows a line feed
+-- a line after others follows a line feed
 abbrev pub separated : Bool → List ℕ → List ℕ
 separated true line = line_feed ∷ line
 separated false line = line

@@ -16,7 +16,7 @@ pub record Wrapping (W P : Type 0) : Type 0 where
 abbrev pub wrapping : {W P : Type 0} → Wrap W P → Wrapping W P
 wrapping option = record { width = option.width; keep_words = option.keep_words; priority = option.priority }
 
--- the width, the character behind lines, and the priority of the columns
+-- the width, the character after lines, and the priority of the columns
 pub record Widening (W P : Type 0) : Type 0 where
   pub width : W
   pub fill : ℕ

@@ -6,20 +6,20 @@ use Rattle.grid_config_values.specs.declared.position.Position.{Position}
 use Rattle.grid_config.specs.Looks.{Look}
 use Rattle.tabled_steps.specs.Sizes.{is_seen, natural_widths}
 
--- the widths of so many columns; behind the end of the list each is 0
+-- the widths of `columns` columns; after the end of the list each is 0
 abbrev pub column_widths : ℕ → List ℕ → List ℕ
 column_widths columns widths = map (λ column. slice_index widths column) (range_with_len 0 columns)
 
 module _ (look : Look) where
-  -- the least widths of a table of so many columns and rows: those of empty texts
+  -- the least widths of a table of `columns` columns and `rows` rows: those of empty texts
   abbrev pub least_widths : ℕ → ℕ → List ℕ
   least_widths columns rows = natural_widths look columns (replicate rows (replicate columns []))
 
-  -- how many of so many columns a cell takes: its span counts only inside the table
+  -- how many of `columns` columns a cell takes: its span counts only inside the table
   abbrev pub cell_columns : ℕ → Position → ℕ
   cell_columns columns place = min (look.extent place).columns (columns - place.col)
 
-  -- how many of the boundaries between so many columns from one on are there
+  -- how many of the boundaries between `count` columns from one on are there
   abbrev pub boundaries_between : ℕ → ℕ → ℕ → ℕ
   boundaries_between columns first count =
       length (filter (λ j. has_column_boundary look.borders (boundary_kind j columns)) (range_with_len (first + 1) (count - 1)))

@@ -57,7 +57,7 @@ narrowed change least widths s =
     }
 
 module _ {P : Type 0} (shrinks : P → List ℕ → ℕ → List ℕ → P → List ℕ → Type 0) (priority : P) (change : ℕ → List ℕ → Option (List ℕ)) where
-  -- the priority takes so much from the widths, none of which falls below its least
+  -- the priority takes this amount from the widths, none of which falls below its least
   abbrev pub Shrunk : List ℕ → ℕ → State → Outcome → Type 0
   Shrunk widths by s =
       Then (all_sized (least_widths s.look (column_count s.rows) (length s.rows))) (λ least outcome.
@@ -73,7 +73,7 @@ module _ {P : Type 0} (shrinks : P → List ℕ → ℕ → List ℕ → P → L
 -- ---- wider
 
 module _ {P : Type 0} (grows : P → ℕ → List ℕ → P → List ℕ → Type 0) (priority : P) where
-  -- the priority gives so much to the widths
+  -- the priority gives this amount to the widths
   abbrev pub Grown : List ℕ → ℕ → State → Outcome → Type 0
   Grown widths by s outcome =
       (more : List ℕ) × ((after : P) × grows priority by widths after more) × (Ok (record s { sizes = record s.sizes { widths = Some more } }) ≡ outcome)

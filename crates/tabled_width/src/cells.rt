@@ -14,8 +14,8 @@ use grid_records_traits::records::RecordTexts;
 use std::alloc::{AllocError, Global};
 use tabled_steps::{TextChange, change_texts};
 
-/// Changes the texts of the cells that the entity covers, as they change in so many columns. Refused for
-/// memory alone, and then none has changed.
+/// Changes the texts of the cells that the entity covers, as they change in `width` columns. Fails only
+/// where allocation fails, and then none has changed.
 pub(crate) fn change_cells<T: FromText, X: RoomChange>(
     alloc: Global,
     records: &mut VecRecords<T>,

@@ -27,8 +27,8 @@ pub(crate) struct Drawn {
 
 impl Drawn {
     /// Of these records: the sizes that are kept, and in place of those that aren't the least that hold
-    /// the texts. Refused as `Range` where one of these or the total width passes `usize::MAX`, and for
-    /// memory.
+    /// the texts. Refused as `Range` where one of these or the total width passes `usize::MAX`, and as
+    /// `Memory` where allocation fails.
     pub(crate) fn estimate<T: FromText>(
         alloc: Global,
         records: &VecRecords<T>,
@@ -54,7 +54,7 @@ impl Drawn {
 }
 
 /// The least widths of the columns of a table: those of empty texts. Refused as `Range` where one of these
-/// passes `usize::MAX`, and for memory.
+/// passes `usize::MAX`, and as `Memory` where allocation fails.
 pub(crate) fn least_widths(
     alloc: Global,
     cfg: &SpannedConfig,
@@ -70,7 +70,7 @@ pub(crate) fn least_widths(
     Ok(least)
 }
 
-/// What a priority leaves of these widths that takes so much of them.
+/// What a priority leaves of these widths that takes `by` columns of width from them.
 pub(crate) fn shrunk<P: Peaker + Drop>(
     priority: P,
     widths: Vec<usize>,
@@ -89,7 +89,7 @@ pub(crate) fn shrunk<P: Peaker + Drop>(
     widths
 }
 
-/// What a priority makes of these widths that gives so much to them.
+/// What a priority makes of these widths that gives `by` columns of width to them.
 pub(crate) fn grown<P: Peaker + Drop>(priority: P, widths: Vec<usize>, by: usize) -> Vec<usize>
     requires { sum widths.items + by < 2 ^ 64 }
     ensures { (after : P) × P.grows priority by widths.items after result.items }
@@ -136,7 +136,7 @@ fn heights_or_least<T: FromText>(
     Ok(heights)
 }
 
-// The widths of so many columns; after the end of the list each is 0.
+// The widths of `columns` columns; after the end of the list each is 0.
 fn column_widths(alloc: Global, widths: &[usize], columns: usize) -> Result<Vec<usize>, AllocError>
     ensures { IfOk result (λ list. list.items ≡ widths_of_columns columns widths.now) }
 {

@@ -47,7 +47,7 @@ impl LineChange for FilledLine {
     }
 }
 
-/// Appends a character so many times. Room for all of them is taken at once, so that an amount past what
+/// Appends a character `count` times. Room for all of them is taken at once, so that an amount past what
 /// memory holds is refused before the first.
 pub(crate) fn push_repeated(out: &mut String, c: char, count: usize) -> Result<(), AllocError>
     ensures { OnOk result (string_bytes out.new ≡ string_bytes out.old ++ repeat count (encode_utf8_all (c ∷ []))) }

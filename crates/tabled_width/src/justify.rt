@@ -49,7 +49,7 @@ impl Justify<Min> {
     }
 }
 
-/// Fills, and then cuts, each cell. Refused as the measurement is, and for memory.
+/// Fills, and then cuts, each cell. Refused as the measurement is, and as `Memory` where allocation fails.
 impl<T: FromText, W: Measurement<Width> + Drop> TableOption<
     VecRecords<T>,
     ColoredConfig,

@@ -53,7 +53,7 @@ fn past_piece(
     (used, last, true)
 }
 
-// The columns of a line with a character after so many, where it has room.
+// The columns of a line with a character after `used` columns, where it has room.
 fn columns_after(c: char, used: usize, width: usize) -> Option<usize>
     requires { used ≤ width }
     ensures columns { result ≡ columns_with width used c }

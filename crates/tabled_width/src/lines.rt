@@ -17,8 +17,8 @@ pub(crate) trait LineChange {
         ensures { OnOk result (string_bytes out.new ≡ string_bytes out.old ++ becomes self.now line.now) };
 }
 
-/// The text of what its lines become, each with its styles opened and ended within. The only refusal is
-/// for memory.
+/// The text of what its lines become, each with its styles opened and ended within. Fails only where
+/// allocation fails.
 pub(crate) fn change_lines<L: LineChange>(
     alloc: Global,
     text: &str,

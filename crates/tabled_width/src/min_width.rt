@@ -65,8 +65,8 @@ impl<W, P> MinWidth<W, P> {
     }
 }
 
-/// Fills the lines of each cell that measures less than the width. Refused as the measurement is, and for
-/// memory.
+/// Fills the lines of each cell that measures less than the width. Refused as the measurement is, and
+/// as `Memory` where allocation fails.
 impl<T: FromText, W: Measurement<Width>, P> CellOption<VecRecords<T>, ColoredConfig>
     for MinWidth<W, P> {
     ghost step = { λ option at. Measured (W.measures (widening option).width) (λ width state outcome. changing (λ _. filling (widening option).fill width) at state ≡ outcome) };
@@ -91,7 +91,8 @@ impl<T: FromText, W: Measurement<Width>, P> CellOption<VecRecords<T>, ColoredCon
 
 /// Where the table takes fewer columns than the width, with its margins, its columns grow by the priority.
 /// The sizes that are not kept are estimated and kept. Nothing is done without rows or columns. Refused as
-/// the measurement is, as `Range` where a size or the total passes `usize::MAX`, and for memory.
+/// the measurement is, as `Range` where a size or the total passes `usize::MAX`, and as `Memory` where
+/// allocation fails.
 impl<T: FromText, W: Measurement<Width> + Drop, P: Peaker + Drop> TableOption<
     VecRecords<T>,
     ColoredConfig,

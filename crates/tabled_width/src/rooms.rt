@@ -57,7 +57,7 @@ fn room(cfg: &SpannedConfig, least: &[usize], widths: &[usize], pos: Position) -
     )
 }
 
-// How many of so many columns a cell takes: its span counts only inside the table.
+// How many of `columns` columns a cell takes: its span counts only inside the table.
 fn cell_columns(cfg: &SpannedConfig, columns: usize, pos: Position) -> usize
     ensures { result ≡ columns_of_cell (look_of cfg.now) columns pos }
 {
@@ -65,7 +65,7 @@ fn cell_columns(cfg: &SpannedConfig, columns: usize, pos: Position) -> usize
     span.min(columns.saturating_sub(pos.col))
 }
 
-// So many widths from one on.
+// `count` widths from one on.
 fn columns_from(widths: &[usize], first: usize, count: usize) -> &[usize]
     requires { count ≤ length widths.now - first }
     ensures { result.now ≡ take count (drop first widths.now) }
@@ -76,7 +76,7 @@ fn columns_from(widths: &[usize], first: usize, count: usize) -> &[usize]
     &widths[first..first + count]
 }
 
-// How many of the boundaries between so many columns from one on are there.
+// How many of the boundaries between `count` columns from one on are there.
 fn boundaries_between(cfg: &SpannedConfig, columns: usize, first: usize, count: usize) -> usize
     requires { count ≤ columns - first }
     ensures { result ≡ boundaries_between (look_of cfg.now) columns first count }

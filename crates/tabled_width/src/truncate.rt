@@ -152,7 +152,8 @@ impl<'a, W, P> Truncate<'a, W, P> {
     }
 }
 
-/// Cuts each cell that measures more than the width. Refused as the measurement is, and for memory.
+/// Cuts each cell that measures more than the width. Refused as the measurement is, and as `Memory`
+/// where allocation fails.
 impl<'a, T: FromText, W: Measurement<Width>, P> CellOption<VecRecords<T>, ColoredConfig>
     for Truncate<'a, W, P> {
     ghost step = { λ option at. Measured (W.measures (truncation option).width) (λ width state outcome. changing (λ _. truncating (truncation option).cutting width) at state ≡ outcome) };
@@ -180,7 +181,7 @@ impl<'a, T: FromText, W: Measurement<Width>, P> CellOption<VecRecords<T>, Colore
 /// beside its paddings. A hidden cell stays, and one that is narrower than its least. The sizes that are
 /// not kept are estimated and kept, the heights as long as the texts stay. Nothing is done without rows or
 /// columns. Refused as the measurement is, as `Range` where a size or the total passes `usize::MAX`, and
-/// for memory.
+/// as `Memory` where allocation fails.
 impl<'a, T: FromText, W: Measurement<Width> + Drop, P: Peaker + Drop> TableOption<
     VecRecords<T>,
     ColoredConfig,

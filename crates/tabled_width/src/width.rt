@@ -45,8 +45,8 @@ impl Width {
         Justify::new(width)
     }
 
-    /// A list of the items in their order, on condition that they end: `WidthList::from_iter`. The only
-    /// refusal is for memory.
+    /// A list of the items in their order, on condition that they end: `WidthList::from_iter`. Fails
+    /// only where allocation fails.
     pub fn list<I: IntoIterator<Item = usize>>(
         alloc: Global,
         items: I,

@@ -83,7 +83,8 @@ impl<W, P> Wrap<W, P> {
     }
 }
 
-/// Breaks each cell that measures more than the width. Refused as the measurement is, and for memory.
+/// Breaks each cell that measures more than the width. Refused as the measurement is, and as
+/// `Memory` where allocation fails.
 impl<T: FromText, W: Measurement<Width>, P> CellOption<VecRecords<T>, ColoredConfig>
     for Wrap<W, P> {
     ghost step = { λ option at. Measured (W.measures (wrapping option).width) (λ width state outcome. changing (λ _. wrapping_wider (wrapping option).keep_words width) at state ≡ outcome) };
@@ -113,7 +114,8 @@ impl<T: FromText, W: Measurement<Width>, P> CellOption<VecRecords<T>, ColoredCon
 /// priority, and each text is broken in its room: what its column, or its span, has beside its paddings. A
 /// hidden cell stays, and one that is narrower than its least. The sizes that are not kept are estimated
 /// and kept, the heights as long as the texts stay. Nothing is done without rows or columns. Refused as the
-/// measurement is, as `Range` where a size or the total passes `usize::MAX`, and for memory.
+/// measurement is, as `Range` where a size or the total passes `usize::MAX`, and as `Memory` where
+/// allocation fails.
 impl<T: FromText, W: Measurement<Width> + Drop, P: Peaker + Drop> TableOption<
     VecRecords<T>,
     ColoredConfig,

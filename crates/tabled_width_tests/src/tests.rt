@@ -413,7 +413,7 @@ where
     Ok(refused && left?.as_str().strip_suffix(";-;-") == Some(before))
 }
 
-// Whether an option is refused for memory, and the table is as it was.
+// Whether an option fails where allocation fails, and the table is as it was.
 fn passes_memory<O: TableOption<VecRecords<Text>, ColoredConfig, CompleteDimension>>(
     alloc: Global,
     before: &str,

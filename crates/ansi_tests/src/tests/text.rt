@@ -63,7 +63,7 @@ fn gives_blocks(rt: HostRuntime) -> Result<(), Fail> {
 // ---- characters
 
 // The characters of a text, taken from the front and from the back by turns, against those of what it shows:
-// of seven characters, so many from the front before the others from the back.
+// of seven characters, `front` from the front before the others from the back.
 fn expect_turns(rt: &impl Abort, text: &str, shown: &str, front: usize) {
     let mut found = stripped_chars(text);
     let mut wanted = shown.chars();

@@ -5,7 +5,7 @@ use std::io::{ErrorKind, Read, Write};
 use std::process::Abort;
 use std::test::Fail;
 
-/// That so many calls failed, and so many writes took nothing.
+/// That `failures` calls failed, and `empty_writes` writes took nothing.
 pub fn expect_counts<T>(rt: &impl Abort, counted: &Counted<T>, failures: u64, empty_writes: u64) {
     assert_eq!(rt;
         (counted.failures(), counted.empty_writes()),
@@ -13,7 +13,7 @@ pub fn expect_counts<T>(rt: &impl Abort, counted: &Counted<T>, failures: u64, em
     );
 }
 
-// A call that takes so many bytes, or none where it fails, and the failures then.
+// A call that takes `taken` bytes, or none where it fails, and the failures then.
 fn expect_read(
     rt: &impl Abort,
     reader: &mut Counted<ByteReader<'_>>,
@@ -25,7 +25,7 @@ fn expect_read(
     expect_counts(rt, reader, failures, 0);
 }
 
-// A call that takes so many bytes, or none where it fails, and the counts then.
+// A call that takes `taken` bytes, or none where it fails, and the counts then.
 fn expect_write(
     rt: &impl Abort,
     writer: &mut Counted<StepWriter>,

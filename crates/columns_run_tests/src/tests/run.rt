@@ -56,7 +56,7 @@ pub const FAULTS: &[(&[u8], RunFault)] = &[
     (b"\x1b]0;a", RunFault::Escape { at: 0 }),
 ];
 
-/// The defaults, of which the style is plain.
+/// The defaults, whose style is plain.
 pub fn defaults(rt: &impl Abort) -> Options
     ensures { IsPlain (compact_of result.style) }
 {
@@ -136,7 +136,7 @@ fn a_read_that_fails_comes_first(rt: HostRuntime) {
     expect_read_fault(&rt, rt.alloc(), ErrorKind::Interrupted);
 }
 
-// The writer takes so many bytes a call, and fails at this call.
+// What `run` returns with this writer, the counts then, and what the writer took.
 fn expect_write_fault(
     rt: &impl Abort,
     alloc: Global,

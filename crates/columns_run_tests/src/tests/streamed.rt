@@ -32,7 +32,7 @@ fn writes_the_table(rt: HostRuntime) -> Result<(), RunFault> {
     Ok(())
 }
 
-// The answer in this style, and that nothing is written before it.
+// The result in this style, and that nothing is written before it.
 fn expect_refusal(
     rt: &impl Abort,
     alloc: Global,
@@ -72,7 +72,7 @@ fn a_read_that_fails_comes_first(rt: HostRuntime) {
     expect_counts(&rt, &writer, 0, 0);
 }
 
-// The answer where the writer takes so many bytes a call and fails at this call, and what it took.
+// The fault with this writer, the counts then, and what the writer took.
 fn expect_write_fault(
     rt: &impl Abort,
     alloc: Global,

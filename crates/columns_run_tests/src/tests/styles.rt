@@ -92,7 +92,7 @@ const CASES: &[Case] = &[
         input: "a\n",
         table: "^^^^^^^^\n<+---+>>\n<| a |>>\n<+---+>>\n________\n________\n",
     },
-    // A boundary of which no glyph is set is none.
+    // A boundary without a glyph that is set is none.
     Case {
         borders: Borders {
             vertical: Some('|'),
@@ -174,7 +174,7 @@ const CASES: &[Case] = &[
     },
 ];
 
-// Paddings and margins of which one passes the greatest width or height.
+// Paddings and margins, one of which passes the greatest width or height.
 const TOO_GREAT: &[(Sides<Indent>, Sides<Indent>)] = &[
     (
         Sides {
@@ -213,7 +213,7 @@ fn style(borders: Borders<char>, padding: Sides<Indent>, margin: Sides<Indent>) 
         .set_margin(margin)
 }
 
-// The answer for an input in a plain style, and the writer then.
+// The result for an input in a plain style, and the writer then.
 fn answer(
     rt: &impl Abort,
     alloc: Global,
@@ -247,7 +247,7 @@ fn draws_in_the_style_that_is_asked_for(rt: HostRuntime) {
     }
 }
 
-// A table past the greatest width or height is refused by that name, and not for want of memory.
+// A table past the greatest width or height is refused by that name, and not by a failed allocation.
 fn expect_range(rt: &impl Abort, alloc: Global, style: CompactConfig) {
     let (result, writer) = answer(rt, alloc, style, "a\n");
     assert_eq!(rt; result, Err(RunFault::Range));

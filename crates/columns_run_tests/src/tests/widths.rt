@@ -191,7 +191,7 @@ fn keeps_to_the_width(rt: HostRuntime) -> Result<(), RunFault> {
     Ok(())
 }
 
-// The answer for an input at these options, and that nothing is written before it.
+// The result for an input at these options, and that nothing is written before it.
 fn expect_refusal(
     rt: &impl Abort,
     alloc: Global,

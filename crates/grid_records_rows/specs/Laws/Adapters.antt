@@ -41,7 +41,7 @@ at_zero : {S A : Type 0} (steps : S → Option A → S → Type 0) (s u : S) (r 
 at_zero steps s u r n none run =
     unskipped steps run.0 s run.1.0 u r run.1.1 run.1.2 (let le = few r (length run.0) n run.2 in omega (arith, le, none))
 
--- what is left behind some items
+-- what is left after some items
 pub each_after : {S A B : Type 0} (steps : S → Option A → S → Type 0) (tie : A → B → Type 0) (xs : List A) (ys : List B) (s t : S) → GivesEach steps tie s ys → Yields steps s xs t →
     GivesEach steps tie t (drop (length xs) ys)
 each_after steps tie [] ys s t gives same = subst (λ v. GivesEach steps tie v ys) same gives
@@ -86,7 +86,7 @@ each_skipped steps tie n s ys (z ∷ zs) count left gives = (
       (next.0, skip_later steps tie t zs step.0 next.1),
 )
 
--- the items of an iterator behind its first
+-- the items of an iterator after its first
 pub gives_skipped : {S A B : Type 0} {can : S → Type 0} {left : S → Count} {steps : S → Option A → S → Type 0} {tie : A → B → Type 0} {it : S} {ys : List B} (s : Skip S) (n : ℕ) →
     skip_source s ≡ it → skip_count s ≡ n → Gives can left steps tie it ys →
     Gives (λ s. can (skip_source s)) (λ s. count_map (λ n. n - skip_count s) (left (skip_source s))) (skip_steps steps) tie s (drop n ys)
@@ -114,7 +114,7 @@ texts_taken : {S C E : Type 0} {can : S → Type 0} {left : S → Count} {steps 
 texts_taken {steps = steps} {text = text} {may_refuse = may_refuse} {row = row} s n count gives =
     record { can_next = gives.can_next; ends = tt; each = cells_taken steps text may_refuse n s row count gives.each }
 
--- rows of which the first cells are taken
+-- rows whose first cells are taken
 each_limited : {R S Cells B : Type 0} (steps : S → Option Cells → S → Type 0) (inside : R → S) (limit_of : R → ℕ) (tie : Cells → List B → Type 0) (wanted : Take Cells → List B → Type 0) (limit : ℕ) →
     ((cells : Take Cells) (texts : List B) → tie (take_source cells) texts → take_count cells ≡ limit → wanted cells (take limit texts)) →
     (s : R) (rows : List (List B)) → limit_of s ≡ limit → GivesEach steps tie (inside s) rows →

@@ -100,7 +100,7 @@ module _ {S C E : Type 0} (steps : S → Option (Result C E) → S → Type 0) (
           (next.0, over t step.1),
     )
 
-    -- a row of which so many cells are wanted
+    -- a row of which n cells are wanted
     pub gives_fitted : {can : S → Type 0} {left : S → Count} (s : F) (it : S) (n : ℕ) (row : List (List ℕ)) → cells_of s ≡ Some it → left_of s ≡ n → GivesTexts can left steps text may_refuse it row →
         GivesTexts (λ s. IfSome (cells_of s) can) (λ s. at_most (left_of s)) (λ s r t. FitsCell steps (cells_of s) (left_of s) r (cells_of t) (left_of t)) (text_or_empty text) may_refuse s (fitted_row n row)
     gives_fitted {can} {left} s it n row is count gives =
@@ -110,7 +110,7 @@ module _ {S C E : Type 0} (steps : S → Option (Result C E) → S → Type 0) (
           each = subst (λ v. GivesCells (λ s r t. FitsCell steps (cells_of s) (left_of s) r (cells_of t) (left_of t)) (text_or_empty text) may_refuse s v) (fit-fitted_row n row) (fits n row s it is count gives.each);
         }
 
--- the rows of which so many cells are wanted
+-- the rows of which n cells are wanted
 pub each_fitted : {R S Row Cells : Type 0} (steps : S → Option Row → S → Type 0) (inside : R → S) (columns_of : R → ℕ) (cells_of : Cells → Option Row) (left_of : Cells → ℕ)
     (tie : Row → List (List ℕ) → Type 0) (wanted : Cells → List (List ℕ) → Type 0) (n : ℕ) →
     ((row : Row) (cells : Cells) (texts : List (List ℕ)) → tie row texts → cells_of cells ≡ Some row → left_of cells ≡ n → wanted cells (fitted_row n texts)) →

@@ -103,7 +103,7 @@ truncated_rows_give {may_refuse = may_refuse} {rows = rows} row_steps steps text
           (λ row cells texts given same at is. gives_truncated steps text may_refuse width cells_of dimension_of column_of (dimension_in s) texts cells row same at is given) s rows refl gives.each;
     }
 
--- a text that measures at most so many columns stays
+-- a text that measures at most `width` columns stays
 pub whole_text : (width found : ℕ) (text : List ℕ) → found ≡ text_width text → found ≤ width → text ≡ truncated_text width text
 whole_text width found text is le =
     let yes : nat_le (text_width text) width ≡ true = le-leb (text_width text) width (omega (arith, is, le)) in

@@ -18,7 +18,7 @@ pub struct EmptyRecords {
 }
 
 impl EmptyRecords {
-    /// So many rows of so many empty texts. Does not allocate.
+    /// `rows` rows of `columns` empty texts. Does not allocate.
     pub const fn new(rows: usize, columns: usize) -> EmptyRecords
         ensures rows { ⟦<EmptyRecords as RecordTexts>⟧.rows result ≡ replicate rows (replicate columns []) }
         ensures columns { ⟦<EmptyRecords as RecordColumns>⟧.columns result ≡ columns }

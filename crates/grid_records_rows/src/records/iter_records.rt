@@ -14,7 +14,7 @@ pub struct IterRecords<I> {
 }
 
 impl<I: IntoRecords> IterRecords<I> {
-    /// The rows of the source, so many columns, and the hint. Does not allocate.
+    /// The rows of the source, this count of columns, and the hint. Does not allocate.
     pub fn new(iter: I, count_columns: usize, count_rows: Option<usize>) -> IterRecords<I>
         ensures rows { ⟦<IterRecords<I> as RecordTexts>⟧.rows result ≡ I.RecordTexts.rows iter }
         ensures columns { ⟦<IterRecords<I> as RecordColumns>⟧.columns result ≡ count_columns }

@@ -43,7 +43,7 @@ module _ {T R Cells : Type 0} (text : T → List ℕ) (can : Cells → Type 0) (
       (λ row it h. each_of_array text it (map text row) (ap (map text) (became row it h)))
       s (map (map text) (array_into_iter_items (inside s))) (each_of_array (map text) (inside s) (map (map text) (array_into_iter_items (inside s))) refl)
 
--- behind the end of a vector nothing comes
+-- after the end of a vector nothing comes
 pub vec_stays : {T : Type 0} (s t : IntoIter T Global) → into_iter_steps s None t → (row : T) (u : IntoIter T Global) → ¬ (into_iter_steps t (Some row) u)
 vec_stays s t ended row u step = omega (arith, ended.1, step.1)
 

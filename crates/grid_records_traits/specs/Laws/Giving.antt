@@ -123,7 +123,7 @@ module _ {S C : Type 0} (E : Type 0) (text : C → List ℕ) (left_of : S → �
   pub each_cell : (s : S) → GivesCells CellSteps text false s (texts_of s)
   each_cell s = each_cell_given CellSteps text false s (texts_of s) (each_left CellSteps _ texts_of next_cell s (texts_of s) refl)
 
--- the rows, of which each gives its texts
+-- the rows, each of which gives its texts
 module _ {S Row : Type 0} (columns_of count_of : S → ℕ) (texts_of : Row → List (List ℕ)) (rows_of : S → List (List (List ℕ))) (tie : Row → List (List ℕ) → Type 0) (tied : (row : Row) → tie row (texts_of row)) where
   abbrev RowSteps : S → Option Row → S → Type 0
   RowSteps s r t = (columns_of t ≡ columns_of s) × TakesOne (count_of s) r (count_of t) × GivesRow texts_of (rows_of s) r (rows_of t)

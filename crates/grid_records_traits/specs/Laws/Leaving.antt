@@ -57,7 +57,7 @@ module _ {S A B : Type 0} (steps : S → Option A → S → Type 0) (left : S �
   after (x ∷ xs) s t led =
       after xs led.0 t led.2 ∙ ap (drop (length xs)) (passes s led.0 x led.1) ∙ drop_one (length xs) (left s)
 
-  -- and of those behind the first
+  -- and of those after the first
   pub passed_skipped : (s t : Skip S) (x : A) → skip_steps steps s (Some x) t → drop (skip_count t) (left (skip_source t)) ≡ drop 1 (drop (skip_count s) (left (skip_source s)))
   passed_skipped s t x step =
       let run = step.1 in
@@ -65,7 +65,7 @@ module _ {S A B : Type 0} (steps : S → Option A → S → Type 0) (left : S �
       ∙ passes run.1.0 (skip_source t) x run.1.2
       ∙ ap (drop 1) (after run.0 (skip_source s) run.1.0 run.1.1 ∙ ap (λ n. drop n (left (skip_source s))) run.2)
 
--- so many of the same
+-- n of the same
 pub passed_same : {A : Type 0} (m n : ℕ) (before after : A) → m + 1 ≡ n → after ≡ before → replicate m after ≡ drop 1 (replicate n before)
 passed_same m n before after count same =
     let more : n ≡ suc m = omega (arith, count) in

@@ -9,7 +9,7 @@ use grid_records_measure::{count_lines, get_text_dimension, get_text_width};
 use std::alloc::{AllocError, Global};
 use std::borrow::CowStr;
 
-/// A cell with a text. All that it answers is said of this text.
+/// A cell with a text. All that it returns is said of this text.
 pub trait Cell: Drop {
     ghost text: { Self → List ℕ };
 

@@ -11,7 +11,7 @@ pub use given::{GivenCells, GivenRows};
 use std::alloc::AllocError;
 
 /// A source of rows of cells. An iterator over its rows gives iterators over their cells, and each of
-/// these returns a cell or a refusal for memory, after which it gives `None`.
+/// these returns a cell, or an error where allocation fails, after which it gives `None`.
 pub trait IntoRecords: RecordTexts {
     type Cell: Cell;
 
@@ -22,7 +22,7 @@ pub trait IntoRecords: RecordTexts {
     /// The texts of the rows that an iterator over rows has left.
     ghost rows_left: { Self.IterRows → List (List (List ℕ)) };
 
-    /// Whether one of their cells may be refused for memory.
+    /// Whether one of their cells may fail where allocation fails.
     ghost may_refuse_left: { Self.IterRows → Bool };
 
     /// The rows.

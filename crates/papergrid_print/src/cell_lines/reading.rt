@@ -46,7 +46,7 @@ pub(crate) fn read_cell<'a, R: PeekableRecords>(
     Ok(CellLines::new(vec![in alloc; line]?))
 }
 
-// The lines of a text, of which none is looked up from the top.
+// The lines of a text. None is looked up from the top.
 fn read_text<'a>(
     alloc: Global,
     text: &'a str,
@@ -160,7 +160,7 @@ fn len_without_blank_end(lines: &[ShownLine]) -> usize
     len
 }
 
-// Passes over so many lines.
+// Passes over `count` lines.
 fn pass_lines(lines: &mut Lines<'_>, count: usize) -> Result<(), AllocError>
     ensures { OnOk result (lines.new.parts ≡ drop count lines.old.parts) }
 {

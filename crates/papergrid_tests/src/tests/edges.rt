@@ -103,7 +103,7 @@ const FILLS: Case = Case {
     lines: "+漢漢漢漢漢+\n\u{301}\u{1b}\u{1b}\u{1b}\u{1b}\u{1b}|\n\u{301}漢漢a\t\u{301}|\n+-----+",
 };
 
-// Two boundaries alone, of which no other glyph is set.
+// Two boundaries alone; no other glyph is set.
 const ABSENT: Case = Case {
     cells: &[&["a", "b"], &["c", "d"]],
     widths: &[1, 1],

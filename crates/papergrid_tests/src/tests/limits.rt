@@ -6,7 +6,7 @@ use papergrid::{IterGrid, NoColors, PeekableGrid, fits};
 use std::alloc::Global;
 use std::process::Abort;
 
-// What both grids answer of a table of one cell, in a column of this width.
+// What both grids return for a table of one cell, in a column of this width.
 fn expect_memory(
     rt: &impl Abort,
     alloc: Global,

@@ -13,7 +13,7 @@ use tabled_steps::{CellOption, TableOption};
 impl<T: FromText> Table<T> {
     /// Changes the table by the settings, one after the other, up to the first that is refused: that one
     /// changes nothing, and those before it stand. Returns its index and why it is refused, which may be
-    /// for memory.
+    /// that allocation fails.
     pub fn with_list(&mut self, settings: &[Setting]) -> Result<(), (usize, Fault)>
         ensures run { OnOk result (Runs settings.now (state_of T.text self.old) (state_of T.text self.new)) }
         ensures refused { IfErr result (λ refusal. RefusedAt settings.now (state_of T.text self.old) (state_of T.text self.new) refusal.0 refusal.1) }

@@ -16,7 +16,7 @@ impl<T: FromText> Table<T> {
     /// Whether the table fits its sizes, those that it keeps and in place of the others the least. Refused
     /// as `Spans` where its spans are not good; else as `Range` where the columns of a line, or the lines,
     /// pass `usize::MAX`; else as `Room` of the first visible cell, by row, then by column, that needs more
-    /// columns than it has; and for memory.
+    /// columns than it has; and as `Memory` where allocation fails.
     pub fn fits(&self) -> Result<(), Fault>
         ensures fits { OnOk result (IsFit (state_of T.text self.now) (Ok tt)) }
         ensures refused { IfErr result (λ fault. (fault ≡ Memory) ⊎ IsFit (state_of T.text self.now) (Err fault)) }

@@ -113,7 +113,7 @@ fn left_part(columns: usize, align: Option<AlignmentHorizontal>) -> usize
     }
 }
 
-// A margin of so many columns more, with this fill.
+// A margin of `more` columns more, with this fill.
 fn widened(indent: Indent, more: usize, fill: char) -> Indent
     ensures { result ≡ made_wider more fill indent }
 {

@@ -14,7 +14,8 @@ use tabled_size_dimension::CompleteDimension;
 
 impl<T: FromText> Table<T> {
     /// How many columns a line of the table takes, in the widths that it keeps and else in the least, margins
-    /// too; 0 without rows or columns. Refused as `Range` where that passes `usize::MAX`, and for memory.
+    /// too; 0 without rows or columns. Refused as `Range` where that passes `usize::MAX`, and as `Memory`
+    /// where allocation fails.
     pub fn total_width(&self) -> Result<usize, Fault>
         ensures total { IfOk result (λ total. total ≡ drawn_width (state_of T.text self.now)) }
         ensures refused { IfErr result (λ fault. IsRefusal fault (2 ^ 64 ≤ drawn_width (state_of T.text self.now))) }
@@ -30,7 +31,8 @@ impl<T: FromText> Table<T> {
     }
 
     /// How many lines the table takes, in the heights that it keeps and else in the least, margins too; 0
-    /// without rows or columns. Refused as `Range` where that passes `usize::MAX`, and for memory.
+    /// without rows or columns. Refused as `Range` where that passes `usize::MAX`, and as `Memory` where
+    /// allocation fails.
     pub fn total_height(&self) -> Result<usize, Fault>
         ensures total { IfOk result (λ total. total ≡ drawn_height (state_of T.text self.now)) }
         ensures refused { IfErr result (λ fault. IsRefusal fault (2 ^ 64 ≤ drawn_height (state_of T.text self.now))) }

@@ -14,10 +14,10 @@ use tabled_compact::BuildFault;
 use tabled_output::{Counted, write_all};
 
 impl<T: FromText> Table<T> {
-    /// Makes the whole text, as `to_string`, and then writes it. A table that has no text, or none for
-    /// want of memory, leaves the writer alone. It gives up with `Write` at the first error of any kind,
-    /// and with `WriteZero` where the writer takes nothing; a front of the text is then written, and the
-    /// writer isn't called again. Nothing is flushed.
+    /// Makes the whole text, as `to_string`, and then writes it. A table that has no text, or none
+    /// because allocation fails, leaves the writer alone. It gives up with `Write` at the first error of
+    /// any kind, and with `WriteZero` where the writer takes nothing; a front of the text is then
+    /// written, and the writer isn't called again. Nothing is flushed.
     pub fn build<W: Write>(&self, writer: &mut Counted<W>) -> Result<(), BuildFault>
         ensures whole { OnOk result (Appends (W.contents (inner_of writer.old)) (W.contents (inner_of writer.new)) (printed (state_of T.text self.now))) }
         ensures front { IfErr result (λ fault. ¬ (NoTable fault) → AppendsFront (W.contents (inner_of writer.old)) (W.contents (inner_of writer.new)) (printed (state_of T.text self.now))) }

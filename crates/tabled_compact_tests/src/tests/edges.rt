@@ -34,7 +34,7 @@ fn each_cell_needs_room(rt: HostRuntime) -> Result<(), Fail> {
     Ok(())
 }
 
-// What the writer of a table answers that prints nothing, and how many calls it had.
+// What the writer of a table returns that prints nothing, and how many calls it had.
 fn calls(alloc: Global, table: Begun) -> (bool, usize) {
     let mut counted = Counted::new(StepWriter::new(alloc, 1, 1));
     let answer = table.build(alloc, &mut counted);

@@ -50,7 +50,7 @@ fn cells_are_cut_by_what_they_measure(rt: HostRuntime) -> Result<(), Fail> {
     Ok(())
 }
 
-// What the writer of a table answers that prints nothing, and how many calls it had.
+// What the writer of a table returns that prints nothing, and how many calls it had.
 fn calls(alloc: Global, table: IterTable<Rows>) -> (bool, usize) {
     let mut counted = Counted::new(StepWriter::new(alloc, 1, 1));
     let answer = table.build(alloc, &mut counted);

@@ -10,8 +10,8 @@ use tabled_output::Counted;
 
 const TEXT: &[u8] = b"+---+\n| a |\n+---+";
 
-// What a table answers that is written by so many bytes a call, to a writer that fails at this one; which
-// counts changed; and that a front of so many bytes was taken by so many calls.
+// What a table returns that is written to this writer; which counts changed; and that a front of `taken`
+// bytes was taken by `calls` calls.
 fn expect_written(
     rt: &impl Abort,
     alloc: Global,

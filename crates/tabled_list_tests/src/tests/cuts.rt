@@ -19,7 +19,7 @@ fn becomes(alloc: Global, text: &str, setting: Setting, wanted: &str) -> Result<
     Ok(is_wanted)
 }
 
-// A cut at so many columns, with a suffix.
+// A cut at `width` columns, with a suffix.
 fn cut(alloc: Global, width: usize, suffix: &str, limit: SuffixLimit) -> Result<Setting, Fault> {
     Ok(Setting::CellTruncate {
         at: Entity::Global,

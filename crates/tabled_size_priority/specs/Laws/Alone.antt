@@ -1,4 +1,4 @@
--- Lists of which one column gets all.
+-- Lists where one column gets all.
 use Rattle.std.proofs.Common.{◌≡◌, ℕ, zero, suc, ◌+◌, ◌<◌, ◌≤◌, List, [], length, get_or, set, sum, refl, sym, ◌∙◌, ap, subst, arith, ◌≢◌, inl, inr, Bool, get_or-set_same, get_or-set_other}
 use Rattle.std.specs.Prelude.{◌⊎◌, Option, Some, None}
 use Rattle.std.proofs.lemmas.Bool.{cases_lt, cases_order}

@@ -257,7 +257,7 @@ order-size given c k w l s le cases = elim (order-cases given c k w l) [
   ]
 ]
 
--- the columns before one give all, it gives some, and those behind it nothing
+-- the columns before one give all, it gives some, and those after it nothing
 order-formed : (place change : ℕ → ℕ) (least widths sizes : List ℕ) (total column : ℕ) → IsPlacing place (length widths) → length sizes ≡ length widths → sum sizes ≡ total → column < length widths
     → ((i : ℕ) → i < length widths → get_or sizes i 0 ≤ get_or widths i 0) → ((i : ℕ) → change i ≡ get_or widths i 0 - get_or sizes i 0)
     → change column ≤ gap_of least widths column

@@ -20,7 +20,7 @@ turn_inside start count i start_in inside = elim (cases_lt i start) [
   | inr after ↦ let is : from_column start count i ≡ i - start = from_column-after start count i after in omega arith
 ]
 
--- where a round goes on behind column p, the columns behind p in the first round come first, and then those up to p
+-- where a round goes on after column p, the columns after p in the first round come first, and then those up to p
 abbrev turned : ℕ → ℕ → ℕ → ℕ → ℕ
 turned start count p i = from_column (start_of (p + 1) count) count i
 
@@ -80,7 +80,7 @@ asked-before k c place h = grind (arith, nat_tests)
 asked-behind : (k c place : ℕ) → c ≤ place → asked k c place ≡ k
 asked-behind k c place h = grind (arith, nat_tests)
 
--- a column's size after so many times that it was asked, and what an answer makes of a size
+-- a column's size after it was asked t times, and what an answer makes of a size
 pub record IsTurning (least widths : List ℕ) (at : ℕ → ℕ → ℕ) (change : ℕ → ℕ) : Type 0 where
   pub begins : (i : ℕ) → i < length widths → get_or widths i 0 ≡ at i 0
   pub rests : (i t : ℕ) → at i t ≤ get_or least i 0 → at i (t + 1) ≡ at i t

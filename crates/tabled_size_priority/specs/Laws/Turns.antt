@@ -18,7 +18,7 @@ use Rattle.tabled_size_priority.specs.Laws.Turning.{IsTurning, KeepsTurns, turn-
 
 -- ---- shrinking
 
--- a column's size after so many times that it was asked
+-- a column's size after it was asked t times
 abbrev left_at : List ℕ → List ℕ → ℕ → ℕ → ℕ
 left_at least widths i t = get_or widths i 0 - min (get_or widths i 0 - get_or least i 0) t
 

@@ -16,7 +16,7 @@ fn names_stand_beside_fields(rt: HostRuntime) -> Result<(), Fail> {
     Ok(())
 }
 
-// Two rows, of which the second is short.
+// Two rows; the second is short.
 fn ragged(alloc: Global) -> Result<Vec<Vec<&'static str>>, AllocError> {
     let mut first = Vec::new(alloc);
     first.push("a")?;

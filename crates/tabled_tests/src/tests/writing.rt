@@ -9,8 +9,8 @@ use tabled_fakes::StepWriter;
 
 const TEXT: &[u8] = b"+---+\n| a |\n+---+";
 
-// That a table which is written to this writer answers so, which counts change, and that so many bytes of
-// its text are taken by so many calls.
+// That a table which is written to this writer returns this, which counts change, and that `taken` bytes
+// of its text are taken by `calls` calls.
 fn expect_written(
     rt: &impl Abort,
     table: &Table,

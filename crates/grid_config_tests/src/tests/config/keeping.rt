@@ -1,5 +1,5 @@
 //! Refusals, which change nothing: what was set before a refused call is kept, what the call was to set is
-//! not there, and the refusal is handed on. `tests/memory` runs this test with each request for memory refused.
+//! not there, and the refusal is handed on. `tests/memory` runs this test with each allocation failing.
 use super::*;
 use grid_config::EntityMap;
 

@@ -300,7 +300,7 @@ fn expect_visible(rt: &impl Abort, config: &SpannedConfig, wanted: [bool; 4]) {
     expect(rt, found == wanted, "visible cells");
 }
 
-// Whether the spans are good in a table of so many rows and columns.
+// Whether the spans are good in a table of `rows` rows and `columns` columns.
 fn expect_good(rt: &impl Abort, config: &SpannedConfig, rows: usize, columns: usize, wanted: bool) {
     expect(
         rt,

@@ -21,7 +21,7 @@ pub trait KeptTexts: RecordTexts {
     ghost kept: { Self → List (List (List ℕ)) };
 }
 
-/// A source of which the first rows were read and are kept.
+/// A source whose first rows were read and are kept.
 #[derive(Drop)]
 pub struct BufRecords<I: IntoRecords> {
     kept: Vec<Vec<I::Cell>>,
@@ -29,8 +29,8 @@ pub struct BufRecords<I: IntoRecords> {
 }
 
 impl<I: IntoRecords> BufRecords<I> {
-    /// The rows of the source, the first of which are read and kept: so many, or all where it has fewer.
-    /// It fails only where allocation fails, of a cell that is read or of room to keep it.
+    /// The rows of the source, whose first `count` rows are read and kept, or all where it has fewer. It
+    /// fails only where allocation fails, of a cell that is read or of room to keep it.
     pub fn new(alloc: Global, records: I, count: usize) -> Result<BufRecords<I>, AllocError>
         ensures rows { IfOk result (λ out. ⟦<BufRecords<I> as RecordTexts>⟧.rows out ≡ I.RecordTexts.rows records) }
         ensures kept { IfOk result (λ out. ⟦<BufRecords<I> as KeptTexts>⟧.kept out ≡ take count (I.RecordTexts.rows records)) }

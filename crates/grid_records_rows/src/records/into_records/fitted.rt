@@ -20,7 +20,7 @@ pub struct Fitted<I> {
 }
 
 impl<I: IntoRecords> Fitted<I> {
-    /// So many cells of each row. Does not allocate.
+    /// `columns` cells of each row. Does not allocate.
     pub fn new(records: I, columns: usize) -> Fitted<I>
         ensures rows { ⟦<Fitted<I> as RecordTexts>⟧.rows result ≡ fitted columns (I.RecordTexts.rows records) }
         ensures refuses { ⟦<Fitted<I> as RecordTexts>⟧.may_refuse result ≡ I.RecordTexts.may_refuse records }
@@ -58,7 +58,7 @@ impl<I: IntoRecords> IntoRecords for Fitted<I> {
     }
 }
 
-/// Rows of which each has as many cells.
+/// Rows that all have as many cells.
 #[derive(Debug, Drop)]
 pub struct FittedRows<I> {
     rows: I,

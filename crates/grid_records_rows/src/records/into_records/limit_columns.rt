@@ -55,7 +55,7 @@ impl<I: IntoRecords> IntoRecords for LimitColumns<I> {
     }
 }
 
-/// Rows of which the first cells are given.
+/// Rows whose first cells are given.
 #[derive(Debug, Drop)]
 pub struct LimitedRows<I> {
     rows: I,

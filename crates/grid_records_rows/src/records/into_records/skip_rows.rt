@@ -16,7 +16,7 @@ pub struct SkipRows<I> {
 }
 
 impl<I: IntoRecords> SkipRows<I> {
-    /// The rows after so many, or none where it has no more. Does not allocate.
+    /// The rows after the first `count`, or none where it has no more. Does not allocate.
     pub fn new(records: I, count: usize) -> SkipRows<I>
         ensures rows { ⟦<SkipRows<I> as RecordTexts>⟧.rows result ≡ drop count (I.RecordTexts.rows records) }
         ensures refuses { ⟦<SkipRows<I> as RecordTexts>⟧.may_refuse result ≡ I.RecordTexts.may_refuse records }

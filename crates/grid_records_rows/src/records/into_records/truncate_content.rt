@@ -15,7 +15,7 @@ use grid_records_measure::cut_width;
 use std::alloc::{AllocError, Global};
 
 /// The cells of a source, each cut at the width of its column where it measures more. A cell is cut when
-/// it is read, and may then be refused for memory; a cell that fits never is.
+/// it is read, which fails where allocation fails; a cell that fits never fails.
 #[derive(Debug, Drop)]
 pub struct TruncateContent<I, D> {
     alloc: Global,
@@ -86,7 +86,7 @@ impl<C: Cell> Cell for Truncated<C> {
     }
 }
 
-/// The cell, cut where it measures more than this width. Only a cut may be refused, for memory.
+/// The cell, cut where it measures more than this width. Only a cut may fail, where allocation fails.
 fn truncate<C: Cell>(alloc: Global, cell: C, width: usize) -> Result<Truncated<C>, AllocError>
     ensures ok { IfOk result (λ out. text_of_truncated C.text out ≡ truncated_text width (C.text cell)) }
     ensures refused { IfErr result (λ _. width < text_width (C.text cell)) }
