@@ -214,13 +214,13 @@ module _ (settings : Settings) (s : State) (asked : ℕ) (some_rows : 0 < length
       look_is = ap (λ (t : State). t.look) (sym same);
       columns_are = ap (λ (t : State). column_count t.rows) (sym same) ∙ columns-changed (λ place text. in_room change text (room s.look least left place)) Global count s.rows;
       within = λ is.
-      (let widths = column_widths count it.widths in
-      let more = beside s.look count in
-      let taken : sum left ≡ shrunk_sum least widths (it.whole - asked) = takes priority least (it.whole - asked) widths after left shrunk in
-      let low : sum (floors least widths) ≤ sum leasts = subst (λ (ls : List ℕ). sum (floors least widths) ≤ sum ls) are (floors-sum least widths) in
-      let before : it.whole ≡ sum widths + more = whole ∙ column-total s.look count it.widths some_columns in
-      let within = shrunk-within (sum widths) (sum (floors least widths)) (sum leasts) (sum left) more asked it.whole before wider (least-allowed is) low taken in
-      omega (arith, within, column-total s.look count left some_columns, first-sum left count));
+          (let widths = column_widths count it.widths in
+          let more = beside s.look count in
+          let taken : sum left ≡ shrunk_sum least widths (it.whole - asked) = takes priority least (it.whole - asked) widths after left shrunk in
+          let low : sum (floors least widths) ≤ sum leasts = subst (λ (ls : List ℕ). sum (floors least widths) ≤ sum ls) are (floors-sum least widths) in
+          let before : it.whole ≡ sum widths + more = whole ∙ column-total s.look count it.widths some_columns in
+          let within = shrunk-within (sum widths) (sum (floors least widths)) (sum leasts) (sum left) more asked it.whole before wider (least-allowed is) low taken in
+          omega (arith, within, column-total s.look count left some_columns, first-sum left count));
     }
 
     shrunk-keeps : (it : Drawn) → it.whole ≡ table_width s.look (column_widths count it.widths) → asked < it.whole → (new : State) → step_of it (keeping it s) (Ok new) → KeepsTo settings asked s.look count new
