@@ -1,7 +1,7 @@
 -- The order of positions, by numbers.
 use Rattle.std.proofs.Common.{◌≡◌, true, ◌||◌, ◌&&◌, ◌==◌, nat_lt, refl, arith}
 use Rattle.std.proofs.lemmas.Bool.Decides.{nat_tests}
-use Rattle.std.specs.Ordering.{is_eq, is_le, is_lt, nat_cmp, ordering_then}
+use Rattle.std.specs.Ordering.{is_eq, is_le, nat_cmp, ordering_then}
 use Rattle.grid_config_values.specs.declared.position.Position.{Position}
 use Rattle.grid_config_values.specs.Order.{position_cmp, same_place}
 
@@ -13,9 +13,6 @@ is_eq_cmp a b = grind (arith, nat_tests)
 
 pub is_le_cmp : (a b : Position) → is_le (position_cmp a b) ≡ (nat_lt a.row b.row || (a.row == b.row && (nat_lt a.col b.col || a.col == b.col)))
 is_le_cmp a b = grind (arith, nat_tests)
-
-pub is_lt_cmp : (a b : Position) → is_lt (position_cmp a b) ≡ (nat_lt a.row b.row || (a.row == b.row && nat_lt a.col b.col))
-is_lt_cmp a b = grind (arith, nat_tests)
 
 pub same_position : (a b : Position) → same_place a b ≡ true → a ≡ b
 same_position a b same =

@@ -1,30 +1,32 @@
 -- The cell that is seen at a place: what it is, and that a search among the spans finds it.
 use Rattle.std.proofs.Common.{◌≡◌, ◌≢◌, ◌==◌, ◌+◌, ◌<◌, ◌≤◌, ℕ, zero, suc, Bool, true, false, not, ◌&&◌, List, [], ◌∷◌, ◌++◌, map, flat_map, Option, None, Some, refl, sym, ap, subst, ◌∙◌, unwrap_or, ◌⊎◌, inl, inr, IsTrue, is_none, ◌↔◌, arith}
-use Rattle.std.specs.Prelude.{⊤}
 use Rattle.std.proofs.lemmas.Bool.{and_parts}
 use Rattle.std.proofs.lemmas.Bool.Decides.{nat_tests}
 use Rattle.std.specs.List.{All, AllByRecursion, filter, find, list_any, range_with_len}
 use Rattle.std.specs.List.Sorted.{IsStrictlySortedBy}
 use Rattle.std.specs.Map.{lookup}
 use Rattle.std.specs.Option.{option_map}
-use Rattle.std.specs.Ordering.{is_le}
-use Rattle.std.specs.BTreeMap.Range.{entries_between, range_contains}
+use Rattle.std.specs.Ordering.{is_gt, is_le}
 use Rattle.std.specs.declared.cmp.Ordering.TheVariants.{Less}
-use Rattle.std.specs.declared.ops.Bound.TheVariants.{Included}
 use Rattle.grid_config_values.specs.declared.position.Position.{Position}
 use Rattle.grid_config_values.specs.Entities.{table_positions}
 use Rattle.grid_config_values.specs.Order.{position_cmp, same_place}
 use Rattle.grid_config_spans.specs.declared.extent.Extent.{Extent}
-use Rattle.grid_config_spans.specs.Owners.{IsBetween, IsFirst, hides, owner}
+use Rattle.grid_config_spans.specs.Owners.{hides, owner}
 use Rattle.grid_config_spans.specs.Rectangles.{Holds}
-use Rattle.grid_config_spans.specs.Search.{holds}
+use Rattle.grid_config_spans.specs.Search.{begun_between, holds, holds_in}
 use Rattle.grid_config_spans.specs.Spans.{AreGood, ArePositive, IsInTable, IsVisible, extent_at, single}
-use Rattle.grid_config_spans.proofs.Order.{is_le_cmp, is_lt_cmp, same_position, same_itself}
-use Rattle.grid_config_spans.proofs.Visible.{Kept, NotKept, any_from_lookup, any_of_filter, extent_kept, holds_shown, holds_tested, first_passes, kept_or_single, single_holds}
+use Rattle.grid_config_spans.proofs.Order.{is_le_cmp, same_position, same_itself}
+use Rattle.grid_config_spans.proofs.Visible.{Kept, NotKept, begins_between, extent_kept, found_in_search, holder_is_before, holds_shown, holds_tested, first_passes, kept_or_single, not_before_itself, single_holds}
 use Rattle.grid_config_spans.proofs.Good.{is_false}
 use Rattle.grid_config_spans.proofs.Parting.{holder_is_visible, in_table_before, visible_apart, visible_without}
 
 -- ---- the first place that passes
+
+-- of some places none passes, or this is the first of those that do
+abbrev IsFirst : (Position → Bool) → (Position → Type 0) → Option Position → Type 0
+IsFirst test among None = (p : Position) → among p → test p ≡ false
+IsFirst test among (Some first) = (test first ≡ true) × among first × ((p : Position) → among p → test p ≡ true → is_le (position_cmp first p) ≡ true)
 
 both_ways : (a b : Position) → is_le (position_cmp a b) ≡ true → is_le (position_cmp b a) ≡ true → a ≡ b
 both_ways a b le ge =
@@ -74,7 +76,7 @@ first_joined test front back all (Some x) s before parted of_front of_back found
   ],
 )
 
-abbrev pub at : ℕ → ℕ → Position
+abbrev at : ℕ → ℕ → Position
 at row col = record { row = row; col = col }
 
 -- in a row, from a column on
@@ -283,111 +285,61 @@ found_first test (span ∷ spans) found ordered is p extent kept passes = elim (
       ] refl
 ] refl
 
--- whether the rectangle of a span holds a place that is not its own
-abbrev pub hides_in : Position → Position × Extent → Bool
-hides_in place span = holds span.0 span.1 place && not (same_place span.0 place)
-
-module _ (spans : List (Position × Extent)) (first last place : Position)
-    (kept : All (λ span. lookup (same_place span.0) spans ≡ Some span.1) (entries_between position_cmp (Included first) (Included last) spans))
-    (ordered : IsStrictlySortedBy position_cmp (map (λ span. span.0) spans)) where
-  abbrev begins : Position × Extent → Bool
-  begins span = range_contains position_cmp (Included first) (Included last) span.0
-
+module _ (spans : List (Position × Extent)) (first place : Position) (from : (anchor : Position) → Holds anchor (extent_at spans anchor) place → is_gt (position_cmp first anchor) ≡ false)
+    (kept : All (λ span. lookup (same_place span.0) spans ≡ Some span.1) (begun_between first place spans)) (ordered : IsStrictlySortedBy position_cmp (map (λ span. span.0) spans)) where
   abbrev is_holder : Position × Extent → Bool
-  is_holder span = begins span && hides_in place span
+  is_holder span = begins_between first place span && holds_in place span
 
-  -- what hides the place and is kept passes the test
-  kept_passes : (p : Position) (extent : Extent) → extent_at spans p ≡ extent → hides (extent_at spans) place p ≡ true → hides_in place (p, extent) ≡ true
-  kept_passes p extent is passes = subst (λ (e : Extent). hides_in place (p, e) ≡ true) is passes
+  differs : (p : Position) → p ≢ place → same_place p place ≡ false
+  differs p other = is_false (same_place p place) (λ same. other (same_position p place same))
 
-  -- what hides the place is kept
-  not_single : (p : Position) → extent_at spans p ≡ single → hides (extent_at spans) place p ≡ true → ⊥
-  not_single p is passes =
+  none_found : find (holds_in place) (begun_between first place spans) ≡ None → IsFirst (hides (extent_at spans) place) (UpTo place) None
+  none_found none p there = is_false (hides (extent_at spans) place p) (λ passes.
       let shown = hides_shown (extent_at spans) place p passes in
-      shown.1 (single_holds p place (subst (λ (e : Extent). Holds p e place) is shown.0))
+      elim (kept_or_single spans p) [
+        | Kept extent found is ↦
+            let some = found_in_search spans first place p extent found (from p shown.0) (subst (λ (e : Extent). Holds p e place) is shown.0) (differs p shown.1) in
+            grind (arith, some, none_passes (holds_in place) (begun_between first place spans) none)
+        | NotKept is ↦ shown.1 (single_holds p place (subst (λ (e : Extent). Holds p e place) is shown.0))
+      ])
 
-  none_found : find (hides_in place) (entries_between position_cmp (Included first) (Included last) spans) ≡ None → IsFirst (hides (extent_at spans) place) (IsBetween first last) None
-  none_found none p there = is_false (hides (extent_at spans) place p) (λ passes. elim (kept_or_single spans p) [
-    | Kept extent found is ↦
-        let both : is_holder (p, extent) ≡ true = grind (arith, there, kept_passes p extent is passes) in
-        let some = any_of_filter begins (hides_in place) spans ∙ any_from_lookup is_holder spans p extent found both in
-        grind (arith, some, none_passes (hides_in place) (entries_between position_cmp (Included first) (Included last) spans) none)
-    | NotKept is ↦ not_single p is passes
-  ])
-
-  one_found : (span : Position × Extent) → find (hides_in place) (entries_between position_cmp (Included first) (Included last) spans) ≡ Some span →
-      IsFirst (hides (extent_at spans) place) (IsBetween first last) (Some span.0)
+  one_found : (span : Position × Extent) → find (holds_in place) (begun_between first place spans) ≡ Some span → IsFirst (hides (extent_at spans) place) (UpTo place) (Some span.0)
   one_found span is =
-      let of_all : find is_holder spans ≡ Some span = sym (find_of_filter begins (hides_in place) spans) ∙ is in
-      let has = found_passes (λ s. lookup (same_place s.0) spans ≡ Some s.1) (hides_in place) (entries_between position_cmp (Included first) (Included last) spans) span kept is in
-      let parts = and_parts (begins span) (hides_in place span) (found_passes (λ _. Unit {0}) is_holder spans span (λ k d lt. tt) of_all).0 in (
-        subst (λ (e : Extent). hides_in place (span.0, e) ≡ true) (sym (extent_kept spans span.0 span.1 has.1)) has.0,
-        parts.0,
-        λ p there passes. elim (kept_or_single spans p) [
-          | Kept extent found is_extent ↦
-              let both : is_holder (p, extent) ≡ true = grind (arith, there, kept_passes p extent is_extent passes) in
-              found_first is_holder spans span ordered of_all p extent found both
-          | NotKept is_extent ↦ absurd (not_single p is_extent passes)
-        ],
+      let of_all : find is_holder spans ≡ Some span = sym (find_of_filter (begins_between first place) (holds_in place) spans) ∙ is in
+      let has = found_passes (λ s. lookup (same_place s.0) spans ≡ Some s.1) (holds_in place) (begun_between first place spans) span kept is in
+      let begins = (and_parts (begins_between first place span) (holds_in place span) (found_passes (λ _. Unit {0}) is_holder spans span (λ k d lt. tt) of_all).0).0 in
+      let held : Holds span.0 (extent_at spans span.0) place = subst (λ (e : Extent). Holds span.0 e place) (sym (extent_kept spans span.0 span.1 has.1)) (holds_shown span.0 span.1 place has.0) in (
+        hides_tested (extent_at spans) place span.0 held (differs span.0 (λ same. not_before_itself first place span same begins)),
+        up_to (extent_at spans span.0) place span.0 held,
+        λ p there passes.
+            let shown = hides_shown (extent_at spans) place p passes in
+            elim (kept_or_single spans p) [
+              | Kept extent found is_extent ↦
+                  let holds_it = subst (λ (e : Extent). Holds p e place) is_extent shown.0 in
+                  let both : is_holder (p, extent) ≡ true = grind (arith, holder_is_before first place p extent (from p shown.0) holds_it (differs p shown.1), holds_tested p extent place holds_it) in
+                  found_first is_holder spans span ordered of_all p extent found both
+              | NotKept is_extent ↦ absurd (shown.1 (single_holds p place (subst (λ (e : Extent). Holds p e place) is_extent shown.0)))
+            ],
       )
 
-  found_between : (found : Option (Position × Extent)) → find (hides_in place) (entries_between position_cmp (Included first) (Included last) spans) ≡ found →
-      IsFirst (hides (extent_at spans) place) (IsBetween first last) (option_map (λ (span : Position × Extent). span.0) found)
-  found_between None is = none_found is
-  found_between (Some span) is = one_found span is
+  search_first : (found : Option (Position × Extent)) → find (holds_in place) (begun_between first place spans) ≡ found → IsFirst (hides (extent_at spans) place) (UpTo place) (option_map (λ (span : Position × Extent). span.0) found)
+  search_first None is = none_found is
+  search_first (Some span) is = one_found span is
 
-  -- a search among the spans finds the first that hides the place
-  pub search_first : (result : Option Position) → result ≡ option_map (λ (span : Position × Extent). span.0) (find (hides_in place) (entries_between position_cmp (Included first) (Included last) spans)) →
-      IsFirst (hides (extent_at spans) place) (IsBetween first last) result
-  search_first result is = subst (IsFirst (hides (extent_at spans) place) (IsBetween first last)) (sym is) (found_between (find (hides_in place) (entries_between position_cmp (Included first) (Included last) spans)) refl)
+  -- the first that the search finds, and else the place, is the owner
+  pub owner_found : (result : Option Position) → result ≡ option_map (λ (span : Position × Extent). span.0) (find (holds_in place) (begun_between first place spans)) → unwrap_or result place ≡ owner (extent_at spans) place
+  owner_found result is =
+      ap (λ o. unwrap_or o place) (is ∙ first_unique (hides (extent_at spans) place) (UpTo place) _ _ (search_first (find (holds_in place) (begun_between first place spans)) refl) (first_of_table (extent_at spans) place))
 
--- the first of some places is the first of more, where no others pass
-pub first_of_more : (test : Position → Bool) (among more : Position → Type 0) (found : Option Position) →
-    ((p : Position) → more p → test p ≡ true → among p) → ((p : Position) → among p → more p) → IsFirst test among found → IsFirst test more found
-first_of_more test among more None into out none = λ p there. is_false (test p) (λ passes. grind (arith, none p (into p there passes), passes))
-first_of_more test among more (Some x) into out first = (first.0, out x first.1, λ p there passes. first.2 p (into p there passes) passes)
-
-module _ (extent : Position → Extent) (place : Position) where
-  abbrev IsFrom : Position → Type 0
-  IsFrom first = (anchor : Position) → Holds anchor (extent anchor) place → (first.row ≤ anchor.row) × (first.col ≤ anchor.col)
-
-  -- all that hide the place begin between the first that may hold it and the place
-  pub first_scanned : (first : Position) (found : Option Position) → IsFrom first → IsFirst (hides extent place) (IsBetween first place) found → IsFirst (hides extent place) (λ _. ⊤) found
-  first_scanned first found from is = first_of_more (hides extent place) (IsBetween first place) (λ _. ⊤) found (λ p there passes.
-      let held = (hides_shown extent place p passes).0 in
-      let begins = from p held in
-      let above = is_le_cmp first p in
-      let below = is_lt_cmp place p in
-      grind (arith, nat_tests, above, below, begins.0, begins.1, held.below, held.right)) (λ p there. tt) is
-
-  -- and those of a row between two places of the row
-  pub first_in_its_row : (row left : ℕ) (found : Option Position) → ((anchor : Position) → Holds anchor (extent anchor) place → left ≤ anchor.col) →
-      IsFirst (hides extent place) (IsBetween (at row left) (at row place.col)) found → IsFirst (hides extent place) (λ p. p.row ≡ row) found
-  first_in_its_row row left found from is = first_of_more (hides extent place) (IsBetween (at row left) (at row place.col)) (λ p. p.row ≡ row) found (λ p there passes.
-      let held = (hides_shown extent place p passes).0 in
-      let begins = from p held in
-      let above = is_le_cmp (at row left) p in
-      let below = is_lt_cmp (at row place.col) p in
-      grind (arith, nat_tests, there, above, below, begins, held.right)) (λ p there.
-      let above = is_le_cmp (at row left) p in
-      let below = is_lt_cmp (at row place.col) p in
-      grind (arith, nat_tests, there, above, below)) is
-
-  first_up_to : (found : Option Position) → IsFirst (hides extent place) (λ _. ⊤) found → found ≡ find (hides extent place) (table_positions (place.row + 1) (place.col + 1))
-  first_up_to found is =
-      let of_all = first_of_more (hides extent place) (UpTo place) (λ _. ⊤) _ (λ p there passes. up_to (extent p) place p (hides_shown extent place p passes).0) (λ p there. tt) (first_of_table extent place) in
-      first_unique (hides extent place) (λ _. ⊤) found _ is of_all
-
-  -- the first that hides the place, and else the place, is the owner
-  pub owner_first : (found : Option Position) → IsFirst (hides extent place) (λ _. ⊤) found → unwrap_or found place ≡ owner extent place
-  owner_first found is = ap (λ o. unwrap_or o place) (first_up_to found is)
-
--- none hides the place exactly where it is visible
-pub none_decides : (spans : List (Position × Extent)) (place : Position) (found : Option Position) → IsFirst (hides (extent_at spans) place) (λ _. ⊤) found → IsTrue (is_none found) ↔ IsVisible spans place
-none_decides spans place None none = (λ _. none_hides (extent_at spans) place (λ p there. none p tt), λ _. refl)
-none_decides spans place (Some a) found = (
-  λ h. cc,
-  λ seen.
-      let shown = hides_shown (extent_at spans) place a found.0 in
-      absurd (shown.1 (seen a shown.0)),
-)
+  -- nothing is found exactly where the place is visible
+  pub search_decides : (result : Option Position) → result ≡ option_map (λ (span : Position × Extent). span.0) (find (holds_in place) (begun_between first place spans)) → IsTrue (is_none result) ↔ IsVisible spans place
+  search_decides result is = decided result (subst (IsFirst (hides (extent_at spans) place) (UpTo place)) (sym is) (search_first (find (holds_in place) (begun_between first place spans)) refl))
+    where
+      decided : (r : Option Position) → IsFirst (hides (extent_at spans) place) (UpTo place) r → IsTrue (is_none r) ↔ IsVisible spans place
+      decided None none = (λ _. none_hides (extent_at spans) place none, λ _. refl)
+      decided (Some a) found = (
+        λ h. cc,
+        λ seen.
+            let shown = hides_shown (extent_at spans) place a found.0 in
+            absurd (shown.1 (seen a shown.0)),
+      )

@@ -12,6 +12,9 @@ abbrev pub holds : Position → Extent → Position → Bool
 holds anchor extent place =
     (nat_le anchor.row place.row && nat_lt place.row (anchor.row + extent.rows)) && (nat_le anchor.col place.col && nat_lt place.col (anchor.col + extent.columns))
 
+abbrev pub holds_in : Position → Position × Extent → Bool
+holds_in place span = holds span.0 span.1 place
+
 -- the spans that begin at the first place or after it, and before the end
 abbrev pub begun_between : Position → Position → List (Position × Extent) → List (Position × Extent)
 begun_between first end spans = entries_between position_cmp (Included first) (Excluded end) spans

@@ -1,15 +1,17 @@
 //! The cells that span several columns or rows.
-ghost use Rattle.std.specs.Prelude.{false, ⊤, ◌≡◌, ◌≢◌, ◌+◌, ◌≤◌, ◌<◌, ◌↔◌, [], if◌then◌else◌, ◌==◌, IsOk, IsTrue, IfErr, IfOk, IfSome, OnErr, OnOk, None, Some, Err, Ok};
+ghost use Rattle.std.specs.Prelude.{false, ◌≡◌, ◌≢◌, ◌+◌, ◌≤◌, ◌<◌, ◌↔◌, [], if◌then◌else◌, ◌==◌, IsOk, IsTrue, IfErr, IfOk, IfSome, OnErr, OnOk, map, None, Some, Err, Ok};
 ghost use Rattle.grid_config_values.specs.declared.fault.Fault.TheVariants.{Memory, Spans as BadSpan};
-ghost use Rattle.std.specs.List.{All, list_all, list_any};
+ghost use Rattle.std.specs.List.{All, find, list_all, list_any};
+ghost use Rattle.std.specs.List.Sorted.{IsStrictlySortedBy};
 ghost use Rattle.std.specs.Map.{lookup};
+ghost use Rattle.std.specs.Option.{option_map};
 ghost use Rattle.std.specs.Ordering.{is_gt};
 ghost use Rattle.grid_config_values.specs.declared.position.Position.{Position as Place};
 ghost use Rattle.grid_config_values.specs.Order.{position_cmp, same_place};
 ghost use Rattle.grid_config_spans.specs.declared.extent.Extent.{Extent as Size};
-ghost use Rattle.grid_config_spans.specs.Owners.{IsBetween, IsFirst, hides, owner};
+ghost use Rattle.grid_config_spans.specs.Owners.{owner};
 ghost use Rattle.grid_config_spans.specs.Rectangles.{Holds};
-ghost use Rattle.grid_config_spans.specs.Search.{begun_between, is_good_span, is_met_by, is_other, search_end};
+ghost use Rattle.grid_config_spans.specs.Search.{begun_between, holds_in, is_good_span, is_met_by, is_other, search_end};
 ghost use Rattle.grid_config_spans.specs.Spans.{AreGood, ArePositive, IsVisible, SetsColumns, SetsExtent, SetsRows, extent_at, single};
 
 use crate::extent::Extent;
@@ -148,23 +150,24 @@ impl Spans {
     }
 
     /// Whether the rectangle of no other cell holds this place. Looks at no span where there is none, and
-    /// else at no more than there are places in a rectangle as high as the highest span and as wide as the
-    /// widest.
+    /// else at those alone that begin near enough.
     pub fn is_cell_visible(&self, pos: Position) -> bool
         ensures { IsTrue result ↔ IsVisible self.now pos }
     {
-        self.holder(pos).is_none()
+        self.holder_from(self.first_that_may_hold(pos), pos)
+            .is_none()
     }
 
     /// The cell that is seen at this place: the first by row, then by column, of the other cells whose
     /// rectangles hold the place, and where there is none the cell of the place itself. Each cell takes at
-    /// least one row and one column. Looks at no span where there is none, and else at no more than there
-    /// are places in a rectangle as high as the highest span and as wide as the widest.
+    /// least one row and one column. Looks at no span where there is none, and else at those alone that
+    /// begin near enough.
     pub fn owner(&self, pos: Position) -> Position
         ensures first { result ≡ owner (extent_at self.now) pos }
         ensures positive { ArePositive self.now }
     {
-        self.holder(pos).unwrap_or(pos)
+        self.holder_from(self.first_that_may_hold(pos), pos)
+            .unwrap_or(pos)
     }
 
     /// Whether in a table of `rows` rows and `columns` columns the rectangle of each cell that spans
@@ -214,63 +217,31 @@ impl Spans {
         ) && extent.meets(anchor, *other, *size))
     }
 
-    // Where the first rectangle of another cell begins that holds this place. Where the spans are no more
-    // than the rows that the highest takes, they are looked at in turn, and else row by row.
-    fn holder(&self, pos: Position) -> Option<Position>
-        ensures first { IsFirst (hides (extent_at self.now) pos) (λ _. ⊤) result }
+    // Where the first rectangle begins that holds this place, of those that begin before it, and not
+    // before the first place.
+    fn holder_from(&self, first: Position, pos: Position) -> Option<Position>
+        requires { is_gt (position_cmp first pos) ≡ false }
+        ensures found { result ≡ option_map (λ span. span.0) (find (holds_in pos) (begun_between first pos self.now)) }
+        ensures kept { All (λ span. lookup (same_place span.0) self.now ≡ Some span.1) (begun_between first pos self.now) }
+        ensures ordered { IsStrictlySortedBy position_cmp (map (λ span. span.0) self.now) }
         ensures positive { ArePositive self.now }
     {
-        let first = self.first_that_may_hold(pos);
-        if self.extents.len() <= self.most_rows {
-            return self.holder_between(first, pos, pos);
-        }
-        self.holder_by_rows(first, pos)
-    }
-
-    // The same, of those that begin in the first row or below it, and not left of the first column.
-    fn holder_by_rows(&self, first: Position, pos: Position) -> Option<Position>
-        requires before { (first.row ≤ pos.row) × (first.col ≤ pos.col) }
-        requires holders { (anchor : Place) → Holds anchor (extent_at self.now anchor) pos → (first.row ≤ anchor.row) × (first.col ≤ anchor.col) }
-        ensures { IsFirst (hides (extent_at self.now) pos) (λ _. ⊤) result }
-    {
-        for row in first.row..pos.row {
-            let found = self.holder_in_row(row, first.col, pos);
-            if found.is_some() {
-                return found;
-            }
-        }
-        self.holder_in_row(pos.row, first.col, pos)
-    }
-
-    // The same, of those that begin in one row, and not left of a column.
-    fn holder_in_row(&self, row: usize, left: usize, pos: Position) -> Option<Position>
-        requires before { left ≤ pos.col }
-        requires holders { (anchor : Place) → Holds anchor (extent_at self.now anchor) pos → left ≤ anchor.col }
-        ensures { IsFirst (hides (extent_at self.now) pos) (λ p. p.row ≡ row) result }
-    {
-        self.holder_between(Position::new(row, left), Position::new(row, pos.col), pos)
-    }
-
-    // The same, of those that begin between two places.
-    fn holder_between(&self, first: Position, last: Position, pos: Position) -> Option<Position>
-        requires { is_gt (position_cmp first last) ≡ false }
-        ensures { IsFirst (hides (extent_at self.now) pos) (IsBetween first last) result }
-    {
         self.extents
-            .range(first..=last)
-            .find(|(anchor, extent)| extent.holds(**anchor, pos) && **anchor != pos)
+            .range(first..pos)
+            .find(|(anchor, extent)| extent.holds(**anchor, pos))
             .map(|(anchor, _)| *anchor)
     }
 
-    // No rectangle that holds `pos` begins above this place, or left of it.
+    // No rectangle that begins before this place holds `pos`.
     fn first_that_may_hold(&self, pos: Position) -> Position
-        ensures before { (result.row ≤ pos.row) × (result.col ≤ pos.col) }
-        ensures holders { (anchor : Place) → Holds anchor (extent_at self.now anchor) pos → (result.row ≤ anchor.row) × (result.col ≤ anchor.col) }
+        ensures first { is_gt (position_cmp result pos) ≡ false }
+        ensures before { (anchor : Place) → Holds anchor (extent_at self.now anchor) pos → is_gt (position_cmp result anchor) ≡ false }
     {
-        Position::new(
-            pos.row.saturating_sub(self.most_rows - 1),
-            pos.col.saturating_sub(self.most_columns - 1),
-        )
+        if self.most_rows == 1 {
+            Position::new(pos.row, pos.col.saturating_sub(self.most_columns - 1))
+        } else {
+            Position::new(pos.row.saturating_sub(self.most_rows - 1), 0)
+        }
     }
 
     // What the cell at this place takes.

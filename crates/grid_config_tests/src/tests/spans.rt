@@ -208,61 +208,6 @@ const OWNED: &[(&str, &[Set], &[Owned])] = &[
         &[Columns(1, 1, MOST), Rows(1, 1, MOST)],
         &[(MOST, MOST, 1, 1), (0, MOST, 0, MOST)],
     ),
-    (
-        "in the first row of those that hold the place, of more spans than one takes rows",
-        &[
-            Columns(1, 0, 4),
-            Columns(1, 1, 3),
-            Rows(0, 2, 3),
-            Columns(5, 0, 2),
-        ],
-        &[(1, 2, 0, 2), (1, 3, 1, 0), (1, 1, 1, 0), (2, 2, 0, 2)],
-    ),
-    (
-        "past the greatest place, of more spans than one takes rows",
-        &[Columns(1, 1, MOST), Columns(2, 2, MOST)],
-        &[(1, MOST, 1, 1), (2, MOST, 2, 2), (3, MOST, 3, MOST)],
-    ),
-    (
-        // A . B B .
-        // A . B B D
-        // A C C C D
-        // E E . F .
-        // . . . F .
-        "a table dense with spans",
-        &[
-            Rows(0, 0, 3),
-            Columns(0, 2, 2),
-            Rows(0, 2, 2),
-            Columns(2, 1, 3),
-            Rows(1, 4, 2),
-            Columns(3, 0, 2),
-            Rows(3, 3, 2),
-        ],
-        &[
-            (0, 0, 0, 0),
-            (0, 1, 0, 1),
-            (0, 3, 0, 2),
-            (0, 4, 0, 4),
-            (1, 0, 0, 0),
-            (1, 1, 1, 1),
-            (1, 2, 0, 2),
-            (1, 3, 0, 2),
-            (1, 4, 1, 4),
-            (2, 0, 0, 0),
-            (2, 1, 2, 1),
-            (2, 2, 2, 1),
-            (2, 3, 2, 1),
-            (2, 4, 1, 4),
-            (3, 0, 3, 0),
-            (3, 1, 3, 0),
-            (3, 2, 3, 2),
-            (3, 4, 3, 4),
-            (4, 0, 4, 0),
-            (4, 3, 3, 3),
-            (4, 4, 4, 4),
-        ],
-    ),
 ];
 
 #[test]

@@ -1,9 +1,10 @@
 use Rattle.std.proofs.Common.{◌≡◌, IsTrue, ◌↔◌, is_none, subst, sym, arith}
 use Rattle.grid_config_spans.specs.Spans.{IsVisible}
-use Rattle.grid_config_spans.proofs.Owners.{none_decides}
+use Rattle.grid_config_spans.proofs.Owners.{search_decides}
 use Rattle.grid_config_spans.proofs.spans.Spans.is_cell_visible.Goals as goal
 
 pub returns : goal.returns
 returns c =
-    let same : c.is_none.result ≡ is_none c.holder.result = grind (arith, c.is_none.ensures) in
-    subst (λ b. IsTrue b ↔ IsVisible c.args.self.now c.args.pos) (sym same) (none_decides c.args.self.now c.args.pos c.holder.result c.holder.ensures.first)
+    let same : c.is_none.result ≡ is_none c.holder_from.result = grind (arith, c.is_none.ensures) in
+    subst (λ b. IsTrue b ↔ IsVisible c.args.self.now c.args.pos) (sym same)
+    (search_decides c.args.self.now c.first_that_may_hold.result c.args.pos c.first_that_may_hold.ensures.before c.holder_from.ensures.kept c.holder_from.ensures.ordered c.holder_from.result c.holder_from.ensures.found)

@@ -1,7 +1,8 @@
 use Rattle.std.proofs.Common.{◌∙◌}
-use Rattle.grid_config_spans.specs.Spans.{extent_at}
-use Rattle.grid_config_spans.proofs.Owners.{owner_first}
+use Rattle.grid_config_spans.proofs.Owners.{owner_found}
 use Rattle.grid_config_spans.proofs.spans.Spans.owner.Goals as goal
 
 pub returns-clause-first : goal.returns-clause-first
-returns-clause-first c = c.unwrap_or.ensures ∙ owner_first (extent_at c.args.self.now) c.args.pos c.holder.result c.holder.ensures.first
+returns-clause-first c =
+    c.unwrap_or.ensures
+    ∙ owner_found c.args.self.now c.first_that_may_hold.result c.args.pos c.first_that_may_hold.ensures.before c.holder_from.ensures.kept c.holder_from.ensures.ordered c.holder_from.result c.holder_from.ensures.found
