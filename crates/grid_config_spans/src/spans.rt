@@ -148,8 +148,7 @@ impl Spans {
     }
 
     /// Whether the rectangle of no other cell holds this place. Looks at no span where there is none, and
-    /// else at no more than there are places in a rectangle as high as the highest span and as wide as the
-    /// widest.
+    /// else at those alone that begin near enough, however wide the table is.
     pub fn is_cell_visible(&self, pos: Position) -> bool
         ensures { IsTrue result ↔ IsVisible self.now pos }
     {
@@ -158,8 +157,8 @@ impl Spans {
 
     /// The cell that is seen at this place: the first by row, then by column, of the other cells whose
     /// rectangles hold the place, and where there is none the cell of the place itself. Each cell takes at
-    /// least one row and one column. Looks at no span where there is none, and else at no more than there
-    /// are places in a rectangle as high as the highest span and as wide as the widest.
+    /// least one row and one column. Looks at no span where there is none, and else at those alone that
+    /// begin near enough, however wide the table is.
     pub fn owner(&self, pos: Position) -> Position
         ensures first { result ≡ owner (extent_at self.now) pos }
         ensures positive { ArePositive self.now }
@@ -214,17 +213,28 @@ impl Spans {
         ) && extent.meets(anchor, *other, *size))
     }
 
-    // Where the first rectangle of another cell begins that holds this place. Where the spans are no more
-    // than the rows that the highest takes, they are looked at in turn, and else row by row.
+    // Where the first rectangle of another cell begins that holds this place. Where few spans begin near
+    // enough they are looked at in turn, and else row by row: either finds the same.
     fn holder(&self, pos: Position) -> Option<Position>
         ensures first { IsFirst (hides (extent_at self.now) pos) (λ _. ⊤) result }
         ensures positive { ArePositive self.now }
     {
         let first = self.first_that_may_hold(pos);
-        if self.extents.len() <= self.most_rows {
+        if self.are_few(first, pos, self.most_rows.saturating_mul(16)) {
             return self.holder_between(first, pos, pos);
         }
         self.holder_by_rows(first, pos)
+    }
+
+    // Whether no more than so many spans begin between two places, or all of one row. To look at these in
+    // turn takes no longer than a search in each row.
+    fn are_few(&self, first: Position, last: Position, most: usize) -> bool
+        requires { is_gt (position_cmp first last) ≡ false }
+    {
+        if first.row == last.row || self.extents.len() <= most {
+            return true;
+        }
+        self.extents.range(first..=last).nth(most).is_none()
     }
 
     // The same, of those that begin in the first row or below it, and not left of the first column.
