@@ -1,6 +1,6 @@
 -- The texts of a table of which some have changed.
-use Rattle.std.proofs.Common.{◌≡◌, ◌≢◌, ◌⊎◌, inl, inr, ◌==◌, ◌+◌, ◌-◌, ◌<◌, ℕ, zero, suc, Bool, true, false, cond, List, [], ◌∷◌, ◌++◌, Option, None, Some, filter, map, get_or, length, slice_set, unwrap_or, refl, ap, sym, subst, ◌∙◌, arith, get_or-set_other, get_or-set_same, length-set}
-use Rattle.std.specs.List.{cons_option, filter_map, flat_map, range_with_len}
+use Rattle.std.proofs.Common.{◌≡◌, ◌≢◌, ◌⊎◌, inl, inr, ◌+◌, ◌-◌, ◌<◌, ℕ, true, false, List, [], ◌∷◌, ◌++◌, Option, None, Some, filter, map, get_or, length, slice_set, unwrap_or, refl, ap, sym, subst, ◌∙◌, arith, get_or-set_other, get_or-set_same, length-set}
+use Rattle.std.specs.List.{cons_option, flat_map, range_with_len}
 use Rattle.std.specs.Option.{option_map}
 use Rattle.std.proofs.lemmas.Bool.{cases_eq}
 use Rattle.std.proofs.lemmas.Bool.Decides.{nat_tests}
@@ -14,7 +14,7 @@ use Rattle.grid_config_spans.proofs.Order.{same_position}
 use Rattle.grid_records_traits.specs.Rows.{IsInside, row_at, text_at, with_text}
 use Rattle.papergrid_fits.proofs.First.{range-at}
 use Rattle.papergrid_picture.specs.Picture.{at}
-use Rattle.tabled_steps.specs.Changes.{Change, changed_rows, changes, with_all}
+use Rattle.tabled_steps.specs.Changes.{changed_rows, changes, with_all}
 use Rattle.tabled_steps.specs.States.{column_count}
 
 -- ---- one text

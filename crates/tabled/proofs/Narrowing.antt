@@ -1,10 +1,9 @@
 -- Why a table that was made narrower takes no more columns than were asked.
-use Rattle.std.proofs.Common.{◌≡◌, ◌==◌, ◌&&◌, ◌+◌, ◌-◌, ◌<◌, ◌≤◌, cond, not, ℕ, zero, suc, max, Bool, true, false, List, [], ◌∷◌, Option, None, Some, Result, Ok, Err, nat_lt, map, get_or, length, replicate, sum, slice_index, slice_set, unwrap_or, refl, ap, sym, subst, ◌∙◌, arith, length-set}
+use Rattle.std.proofs.Common.{◌≡◌, ◌==◌, ◌&&◌, ◌+◌, ◌-◌, ◌<◌, ◌≤◌, cond, not, ℕ, zero, suc, max, Bool, true, false, List, [], ◌∷◌, Option, Some, Result, Ok, Err, nat_lt, map, length, replicate, sum, slice_index, slice_set, unwrap_or, refl, ap, sym, subst, ◌∙◌, arith, length-set}
 use Rattle.std.specs.List.{list_any, range_with_len}
 use Rattle.std.proofs.lemmas.Bool.Decides.{nat_tests}
 use Rattle.std.proofs.lemmas.List.{length-replicate}
 use Rattle.std.proofs.lemmas.List.FromFn.{length-map-range_with_len}
-use Rattle.grid_config_colors.specs.Colors.{Color}
 use Rattle.grid_config_values.specs.Glyphs.{boundary_count, has_column_boundary}
 use Rattle.grid_config_values.specs.Entities.{covered_positions}
 use Rattle.grid_config_values.specs.declared.entity.Entity.{Entity}
@@ -12,17 +11,13 @@ use Rattle.grid_config_values.specs.declared.entity.Entity.TheVariants.{Global}
 use Rattle.grid_config_values.specs.declared.fault.Fault.{Fault}
 use Rattle.grid_config_values.specs.declared.fault.Fault.TheVariants.{Range}
 use Rattle.grid_config_values.specs.declared.position.Position.{Position}
-use Rattle.grid_config_spans.specs.Spans.{ArePositive}
 use Rattle.grid_config.specs.Looks.{Look, look_of}
 use Rattle.grid_config.specs.Settings.{Settings}
 use Rattle.grid_records_estimate.proofs.Lengths.{length-table_widths}
 use Rattle.grid_records_estimate.specs.Sizing.{sizing_of}
 use Rattle.grid_records_traits.specs.Rows.{row_at, with_text}
-use Rattle.papergrid_fits.proofs.RoomLemmas.{good-spans}
 use Rattle.papergrid_fits.proofs.TotalLemmas.{columns-total}
-use Rattle.papergrid_picture.proofs.WidthLemmas.{line-columns}
-use Rattle.papergrid_picture.specs.Shown.{ArePlainlyShown, CostsOne, IsBare, ShowsOnly}
-use Rattle.tabled_size_dimension.specs.Sizes.{Listed, size_at}
+use Rattle.tabled_size_dimension.specs.Sizes.{size_at}
 use Rattle.tabled_size_dimension.specs.Stored.{Stored, kept_after, stored_sizes}
 use Rattle.tabled_size_levels.specs.Lists.{map-le, sum-cons}
 use Rattle.tabled_list.specs.Priorities.{shrinks_so}
@@ -34,16 +29,14 @@ use Rattle.tabled_steps.proofs.Estimating.{widths_by_look}
 use Rattle.tabled_steps.specs.Changes.{Change, changed_rows, changes, with_all}
 use Rattle.tabled_steps.specs.Outcomes.{◌≫=◌, all_sized, passes, sized}
 use Rattle.tabled_steps.specs.Sizes.{heights_or, natural_widths, widths_or}
-use Rattle.tabled_steps.specs.States.{Outcome, Settles, State, column_count, settled, state_with}
+use Rattle.tabled_steps.specs.States.{Outcome, Settles, State, column_count, settled}
 use Rattle.tabled_width.specs.Rooms.{column_widths, in_room, least_widths, room}
 use Rattle.tabled_width.specs.Steps.{Measured, Then}
 use Rattle.tabled_width.specs.Tables.{Drawn, Narrows, NarrowsTable, Shrunk, Where, drawn, drawn_with, has_cells, keeping, narrowed}
 use Rattle.tabled_width.specs.Widths.{table_width}
 use Rattle.tabled.specs.Narrowed.{GivesOnly, IsPlainlyPrinted, TakesAll, least_total, line_columns}
-use Rattle.tabled.specs.Printing.{IsFit, drawn_heights, drawn_sizes, drawn_widths}
+use Rattle.tabled.specs.Printing.{drawn_heights, drawn_sizes, drawn_widths}
 use Rattle.tabled.specs.Totals.{drawn_width}
-use Rattle.tabled.proofs.Fitting.{fits_given}
-use Rattle.tabled.proofs.TotalWidths.{whole_width}
 use Rattle.tabled.proofs.PlainLines.{plain-line}
 
 -- ---- rows of which texts change are as long
@@ -128,6 +121,9 @@ then-ok (Err fault) next s is = absurd (cc is)
 same-ok : {A : Type 0} (a b : A) → ◌≡◌ {A = Result A Fault} (Ok a) (Ok b) → a ≡ b
 same-ok a b is = cc is
 
+back-ok : {A : Type 0} (a b : A) → ◌≡◌ {A = Result A Fault} (Ok a) (Ok b) → b ≡ a
+back-ok a b is = cc is
+
 if-ok : {A : Type 0} (b : Bool) (fault : Fault) (x y : A) → cond b (Err fault) (Ok x) ≡ Ok y → y ≡ x
 if-ok true fault x y is = absurd (cc is)
 if-ok false fault x y is = cc is
@@ -150,10 +146,9 @@ drawn-whole look columns rows sizes it is =
     let total = table_width look (column_widths columns first.value) in
     let third = bind-ok (sized total) (by_whole first.value second.value) it second.follows in
     let found : Drawn = drawn_with first.value second.value third.value in
-    let same : it ≡ found = sym (same-ok found it third.follows) in
-    ap (λ (d : Drawn). d.whole) same
+    ap (λ (d : Drawn). d.whole) (back-ok found it third.follows)
     ∙ if-ok (passes total) Range total third.value third.is
-    ∙ sym (ap (λ (d : Drawn). table_width look (column_widths columns d.widths)) same)
+    ∙ ap (λ (d : Drawn). table_width look (column_widths columns d.widths)) (same-ok found it third.follows)
 
 -- ---- the widths that a step leaves
 

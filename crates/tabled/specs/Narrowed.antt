@@ -1,5 +1,5 @@
 -- Tables that are asked to be no wider than so many columns.
-use Rattle.std.specs.Prelude.{◌≡◌, ◌<◌, ℕ, List, None, Option, Ok, Result, length, sum}
+use Rattle.std.specs.Prelude.{◌≡◌, ◌<◌, ℕ, List, None, Ok, Result, length, sum}
 use Rattle.ansi_str.specs.Characters.{shown_chars}
 use Rattle.grid_config_values.specs.declared.fault.Fault.{Fault}
 use Rattle.grid_config_spans.specs.Spans.{ArePositive}

@@ -1,6 +1,7 @@
 //! Laws of the definitions that the contracts cite.
 ghost use Rattle.std.specs.List.{join_with_byte, range_with_len};
 ghost use Rattle.std.specs.Prelude.{◌≡◌, ◌<◌, ◌≤◌, ℕ, Bool, IfSome, String, [], ◌∷◌, List, None, Ok, Option, Some, map, unwrap_or};
+ghost use Rattle.std.proofs.Common.{Global as Heap};
 ghost use Rattle.ansi_scan.specs.Pieces.{pieces};
 ghost use Rattle.ansi_str.specs.StyledText.{styled};
 ghost use Rattle.grid_config.specs.Settings.{Settings};
@@ -96,7 +97,7 @@ pub fn listed_settings_keep_to_the_asked_width()
     ensures broken { (width : AskedAmount) (keep_words : Bool) (priority : PriorityName) (settings : Settings) (s new : State) (asked y : ℕ) →
         setting_step (BreakTable width keep_words priority) s (Ok new) → width_of width (column_count s.rows) s.rows s.look ≡ Ok asked →
         IsPlainlyPrinted settings new → least_total s ≤ asked → line_columns new y ≤ asked }
-    ensures cut { (width : AskedAmount) (suffix : String) (limit : OneLimit) (multiline try_color : Bool) (priority : PriorityName) (settings : Settings) (s new : State) (asked y : ℕ) →
+    ensures cut { (width : AskedAmount) (suffix : String Heap) (limit : OneLimit) (multiline try_color : Bool) (priority : PriorityName) (settings : Settings) (s new : State) (asked y : ℕ) →
         setting_step (CutTable width suffix limit multiline try_color priority) s (Ok new) → width_of width (column_count s.rows) s.rows s.look ≡ Ok asked →
         IsPlainlyPrinted settings new → least_total s ≤ asked → line_columns new y ≤ asked }
 {}

@@ -3,26 +3,54 @@
 use super::table as table_of;
 use grid_config::Fault;
 use grid_records_fakes::RefusedRows;
+use grid_records_traits::IntoRecords;
 use std::alloc::{AllocError, Global};
 use std::process::Abort;
 use std::test::Fail;
 use tabled_compact::{BuildFault, CompactTable};
 use tabled_fakes::StepWriter;
 use tabled_output::Counted;
-use tabled_size_dimension::ConstDimension;
 
-// A table of two rows of two cells, of which the first so many cells are given and all others refused.
-fn table(whole: usize) -> CompactTable<RefusedRows, ConstDimension<0, 0>> {
-    CompactTable::new(RefusedRows::new(2, 2, whole))
-        .columns(2)
-        .width(3)
+// Appends the table of these rows, in two columns; so many of them are kept.
+fn append<R: IntoRecords>(
+    alloc: Global,
+    rows: R,
+    kept: usize,
+    text: &mut String,
+) -> Result<(), Fault> {
+    let table = CompactTable::new(rows).columns(2).width(3);
+    table.rows(kept).fmt(alloc, text)
 }
 
-// Whether such a table has no text for want of memory, and leaves what a text has.
+// The text of that table.
+fn text_of<R: IntoRecords>(alloc: Global, rows: R, kept: usize) -> Result<String, Fault> {
+    let table = CompactTable::new(rows).columns(2).width(3);
+    table.rows(kept).to_string(alloc)
+}
+
+// Writes that table, with all rows.
+fn write<R: IntoRecords>(
+    alloc: Global,
+    rows: R,
+    writer: &mut Counted<StepWriter>,
+) -> Result<(), BuildFault> {
+    let table = CompactTable::new(rows).columns(2).width(3);
+    table.build(alloc, writer)
+}
+
+// Two rows of two cells, of which the first so many are given and all others refused.
+fn given(whole: usize) -> RefusedRows {
+    RefusedRows::new(2, 2, whole)
+}
+
+// Whether the table of such rows has no text for want of memory, and leaves what a text has.
 fn is_refused(alloc: Global, whole: usize) -> Result<bool, AllocError> {
-    let made = matches!(table(whole).to_string(alloc), Err(Fault::Memory));
+    let made = matches!(text_of(alloc, given(whole), 2), Err(Fault::Memory));
     let mut text = String::from_str(alloc, "before")?;
-    let appended = matches!(table(whole).fmt(alloc, &mut text), Err(Fault::Memory));
+    let appended = matches!(
+        append(alloc, given(whole), 2, &mut text),
+        Err(Fault::Memory)
+    );
     Ok(made && appended && text.as_str() == "before")
 }
 
@@ -35,16 +63,12 @@ fn a_cell_that_is_refused_leaves_the_text(rt: HostRuntime) -> Result<(), Fail> {
 }
 
 #[test]
-fn a_table_whose_cells_are_given_has_its_text(rt: HostRuntime) -> Result<(), Fail> {
-    let text = "+---+---+\n| a | a |\n+---+---+\n| a | a |\n+---+---+";
-    assert!(&rt; table(4).to_string(rt.alloc())?.as_str() == text);
-    Ok(())
-}
-
-#[test]
-fn a_row_that_is_not_kept_is_not_read(rt: HostRuntime) -> Result<(), Fail> {
-    let text = "+---+---+\n| a | a |\n+---+---+";
-    assert!(&rt; table(2).rows(1).to_string(rt.alloc())?.as_str() == text);
+fn cells_that_are_given_have_their_text(rt: HostRuntime) -> Result<(), Fail> {
+    let all = "+---+---+\n| a | a |\n+---+---+\n| a | a |\n+---+---+";
+    assert!(&rt; text_of(rt.alloc(), given(4), 2)?.as_str() == all);
+    // the second row is not read
+    let first = "+---+---+\n| a | a |\n+---+---+";
+    assert!(&rt; text_of(rt.alloc(), given(2), 1)?.as_str() == first);
     Ok(())
 }
 
@@ -52,7 +76,7 @@ fn a_row_that_is_not_kept_is_not_read(rt: HostRuntime) -> Result<(), Fail> {
 fn a_cell_that_is_refused_leaves_the_writer(rt: HostRuntime) -> Result<(), Fail> {
     for whole in 0..4 {
         let mut counted = Counted::new(StepWriter::new(rt.alloc(), 1, 1));
-        let answer = table(whole).build(rt.alloc(), &mut counted);
+        let answer = write(rt.alloc(), given(whole), &mut counted);
         assert_eq!(&rt; answer, Err(BuildFault::Table(Fault::Memory)));
         assert_eq!(&rt; (counted.failures(), counted.empty_writes()), (0, 0));
         assert_eq!(&rt; counted.into_inner().calls, 0);

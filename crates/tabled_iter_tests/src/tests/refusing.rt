@@ -3,6 +3,7 @@
 use super::table as table_of;
 use grid_config::Fault;
 use grid_records_fakes::RefusedRows;
+use grid_records_traits::IntoRecords;
 use std::alloc::{AllocError, Global};
 use std::process::Abort;
 use std::test::Fail;
@@ -13,22 +14,64 @@ use tabled_output::Counted;
 
 const TEXT: &str = "+---+---+\n| a | a |\n+---+---+\n| a | a |\n+---+---+";
 
-// A table of two rows of two cells, of which so many rows are sniffed, and the first so many cells are given and all
-// others refused.
-fn table(sniff: usize, whole: usize) -> IterTable<RefusedRows> {
-    let mut table = IterTable::new(RefusedRows::new(2, 2, whole));
-    table.columns(2).width(1).sniff(sniff);
-    table
+// Sets two columns of content of width 1, and how many rows are sniffed and kept.
+fn set<R: IntoRecords>(table: &mut IterTable<R>, sniff: usize, kept: usize) {
+    table.columns(2).width(1).sniff(sniff).rows(kept);
 }
 
-// Whether such a table has no text for want of memory, and leaves what a text has.
+// Appends the table of these rows.
+fn append<R: IntoRecords>(
+    alloc: Global,
+    rows: R,
+    sniff: usize,
+    kept: usize,
+    text: &mut String,
+) -> Result<(), Fault> {
+    let mut table = IterTable::new(rows);
+    set(&mut table, sniff, kept);
+    table.fmt(alloc, text)
+}
+
+// The text of that table.
+fn text_of<R: IntoRecords>(
+    alloc: Global,
+    rows: R,
+    sniff: usize,
+    kept: usize,
+) -> Result<String, Fault> {
+    let mut table = IterTable::new(rows);
+    set(&mut table, sniff, kept);
+    table.to_string(alloc)
+}
+
+// Writes that table, with one row sniffed and both kept.
+fn write<R: IntoRecords>(
+    alloc: Global,
+    rows: R,
+    writer: &mut Counted<StepWriter>,
+) -> Result<(), BuildFault> {
+    let mut table = IterTable::new(rows);
+    set(&mut table, 1, 2);
+    table.build(alloc, writer)
+}
+
+// The text of a table of rows that are read at once.
+fn text_of_read<R: IntoRecords>(alloc: Global, rows: R) -> Result<String, Fault> {
+    let table = IterTable::from_rows(alloc, rows)?;
+    table.to_string(alloc)
+}
+
+// Two rows of two cells, of which the first so many are given and all others refused.
+fn given(whole: usize) -> RefusedRows {
+    RefusedRows::new(2, 2, whole)
+}
+
+// Whether the table of such rows has no text for want of memory, and leaves what a text has.
 fn is_refused(alloc: Global, sniff: usize, whole: usize) -> Result<bool, AllocError> {
-    let made = matches!(table(sniff, whole).to_string(alloc), Err(Fault::Memory));
+    let made = matches!(text_of(alloc, given(whole), sniff, 2), Err(Fault::Memory));
     let mut text = String::from_str(alloc, "before")?;
-    let appended = matches!(
-        table(sniff, whole).fmt(alloc, &mut text),
-        Err(Fault::Memory)
-    );
+    let outcome = append(alloc, given(whole), sniff, 2, &mut text);
+    let appended = matches!(outcome, Err(Fault::Memory));
     Ok(made && appended && text.as_str() == "before")
 }
 
@@ -43,23 +86,11 @@ fn a_cell_that_is_refused_leaves_the_text(rt: HostRuntime) -> Result<(), Fail> {
 }
 
 #[test]
-fn a_table_whose_cells_are_given_has_its_text(rt: HostRuntime) -> Result<(), Fail> {
-    assert!(&rt; table(1, 4).to_string(rt.alloc())?.as_str() == TEXT);
-    Ok(())
-}
-
-// The table of the first row alone.
-fn first(sniff: usize) -> IterTable<RefusedRows> {
-    let mut first = table(sniff, 2);
-    first.rows(1);
-    first
-}
-
-#[test]
 fn rows_that_are_neither_sniffed_nor_kept_are_not_read(rt: HostRuntime) -> Result<(), Fail> {
-    let text = "+---+---+\n| a | a |\n+---+---+";
-    assert!(&rt; first(1).to_string(rt.alloc())?.as_str() == text);
-    assert!(&rt; matches!(first(2).to_string(rt.alloc()), Err(Fault::Memory)));
+    assert!(&rt; text_of(rt.alloc(), given(4), 1, 2)?.as_str() == TEXT);
+    let first = "+---+---+\n| a | a |\n+---+---+";
+    assert!(&rt; text_of(rt.alloc(), given(2), 1, 1)?.as_str() == first);
+    assert!(&rt; matches!(text_of(rt.alloc(), given(2), 2, 1), Err(Fault::Memory)));
     Ok(())
 }
 
@@ -67,7 +98,7 @@ fn rows_that_are_neither_sniffed_nor_kept_are_not_read(rt: HostRuntime) -> Resul
 fn a_cell_that_is_refused_leaves_the_writer(rt: HostRuntime) -> Result<(), Fail> {
     for whole in 0..4 {
         let mut counted = Counted::new(StepWriter::new(rt.alloc(), 1, 1));
-        let answer = table(1, whole).build(rt.alloc(), &mut counted);
+        let answer = write(rt.alloc(), given(whole), &mut counted);
         assert_eq!(&rt; answer, Err(BuildFault::Table(Fault::Memory)));
         assert_eq!(&rt; (counted.failures(), counted.empty_writes()), (0, 0));
         assert_eq!(&rt; counted.into_inner().calls, 0);
@@ -78,11 +109,9 @@ fn a_cell_that_is_refused_leaves_the_writer(rt: HostRuntime) -> Result<(), Fail>
 #[test]
 fn rows_that_are_read_at_once_are_refused_at_once(rt: HostRuntime) -> Result<(), Fail> {
     for whole in 0..4 {
-        let read = IterTable::from_rows(rt.alloc(), RefusedRows::new(2, 2, whole));
-        assert!(&rt; read.is_err());
+        assert!(&rt; matches!(text_of_read(rt.alloc(), given(whole)), Err(Fault::Memory)));
     }
-    let table = IterTable::from_rows(rt.alloc(), RefusedRows::new(2, 2, 4))?;
-    assert!(&rt; table.to_string(rt.alloc())?.as_str() == TEXT);
+    assert!(&rt; text_of_read(rt.alloc(), given(4))?.as_str() == TEXT);
     Ok(())
 }
 
