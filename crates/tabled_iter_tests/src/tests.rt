@@ -6,7 +6,6 @@ use tabled_iter::IterTable;
 use tabled_options::{Margin, Padding, Style};
 
 mod edges;
-mod refusing;
 mod rows;
 mod writing;
 
