@@ -9,6 +9,7 @@ use tabled_size_dimension::{ConstDimension, ConstSize};
 
 mod arrays;
 mod edges;
+mod refusing;
 mod writing;
 
 /// Rows of texts.
