@@ -6,6 +6,7 @@ use tabled_iter::IterTable;
 use tabled_options::{Margin, Padding, Style};
 
 mod edges;
+mod refusing;
 mod rows;
 mod writing;
 

@@ -1,11 +1,13 @@
 //! Tables after lists of settings.
 use grid_config::{Fault, Indent, Sides};
 use std::alloc::{AllocError, Global};
-use tabled::{Padding, Setting};
+use tabled::{Amount, Padding, Setting};
+use tabled_size_priority::Choice;
 
 mod beside;
 mod cuts;
 mod printed;
+mod refused;
 mod switches;
 
 // Lets a value go that has many parts.
@@ -16,6 +18,28 @@ fn alone(alloc: Global, setting: Setting) -> Result<Vec<Setting>, AllocError> {
     let mut list = Vec::new(alloc);
     list.push(setting)?;
     Ok(list)
+}
+
+// A list of three.
+fn three(
+    alloc: Global,
+    first: Setting,
+    second: Setting,
+    third: Setting,
+) -> Result<Vec<Setting>, AllocError> {
+    let mut list = Vec::new(alloc);
+    list.push(first)?;
+    list.push(second)?;
+    list.push(third)?;
+    Ok(list)
+}
+
+fn wrap(width: usize) -> Setting {
+    Setting::Wrap {
+        width: Amount::Exact(width),
+        keep_words: false,
+        priority: Choice::None,
+    }
 }
 
 fn spaced(left: usize, right: usize, top: usize, bottom: usize) -> Sides<Indent> {

@@ -41,9 +41,10 @@ fn a_table_is_written_until_the_writer_gives_up(rt: HostRuntime) -> Result<(), F
         let writer = StepWriter::new(a, 1, bad);
         let failed = Err(BuildFault::Write);
         expect_written(&rt, a, writer, failed, (1, 0), bad - 1, bad)?;
+        let filling = StepWriter::filling(a, 1, bad - 1);
+        let empty = Err(BuildFault::WriteZero);
+        expect_written(&rt, a, filling, empty, (0, 1), bad - 1, bad)?;
     }
-    let taker = StepWriter::new(a, 0, 0);
-    expect_written(&rt, a, taker, Err(BuildFault::WriteZero), (0, 1), 0, 1)?;
     Ok(())
 }
 

@@ -5,7 +5,7 @@ use grid_records_traits::records::PeekableRecords;
 use std::alloc::Global;
 use std::process::Abort;
 use std::test::Fail;
-use tabled::{Amount, Setting, Table};
+use tabled::{Amount, Setting, Table, Truncate};
 use tabled_size_dimension::SuffixLimit;
 
 // Whether the text of a cell becomes this.
@@ -37,6 +37,18 @@ fn a_suffix_follows(rt: HostRuntime) -> Result<(), Fail> {
     let limit = SuffixLimit::Cut;
     assert!(&rt; becomes(a, "Hello", cut(a, 4, "...", limit)?, "H...")?);
     assert!(&rt; becomes(a, "Hello", cut(a, 3, "...", limit)?, "...")?);
+    Ok(())
+}
+
+#[test]
+fn columns_of_each_line_count(rt: HostRuntime) -> Result<(), Fail> {
+    let a = rt.alloc();
+    for (width, wanted) in [(3, "123"), (4, "123\n4567")] {
+        let lines = "123\n456789";
+        assert!(&rt; &*Truncate::truncate(a, lines, width)? == wanted);
+        let setting = cut(a, width, "", SuffixLimit::Cut)?;
+        assert!(&rt; becomes(a, lines, setting, wanted)?);
+    }
     Ok(())
 }
 

@@ -1,7 +1,7 @@
 //! What tables print after lists of settings, and which settings are refused.
-use super::{alone, let_go, outcome, spaced};
+use super::{alone, let_go, outcome, spaced, three, wrap};
 use grid_config::{Entity, Fault, Position};
-use std::alloc::{AllocError, Global};
+use std::alloc::Global;
 use std::process::Abort;
 use std::test::Fail;
 use tabled::{Amount, Setting, Table};
@@ -27,14 +27,6 @@ fn shows(alloc: Global, text: &str, settings: &[Setting], wanted: &str) -> Resul
 fn one_shows(alloc: Global, text: &str, setting: Setting, wanted: &str) -> Result<bool, Fault> {
     let settings = alone(alloc, setting)?;
     shows(alloc, text, &settings, wanted)
-}
-
-fn wrap(width: usize) -> Setting {
-    Setting::Wrap {
-        width: Amount::Exact(width),
-        keep_words: false,
-        priority: Choice::None,
-    }
 }
 
 fn grown(width: usize) -> Setting {
@@ -104,20 +96,6 @@ fn a_text_without_room_is_not_printed(rt: HostRuntime) -> Result<(), Fail> {
     let room = Fault::Room { row: 0, column: 0 };
     assert!(&rt; one_shows(a, "Hello", narrow, "") == Err(room));
     Ok(())
-}
-
-// A list of three.
-fn three(
-    alloc: Global,
-    first: Setting,
-    second: Setting,
-    third: Setting,
-) -> Result<Vec<Setting>, AllocError> {
-    let mut list = Vec::new(alloc);
-    list.push(first)?;
-    list.push(second)?;
-    list.push(third)?;
-    Ok(list)
 }
 
 #[test]
