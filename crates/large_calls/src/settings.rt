@@ -3,15 +3,19 @@ use grid_config::{
     ANSIBuf, AlignmentHorizontal, ColoredConfig, Entity, Fault, Indent, Position, Sides,
     SpannedConfig,
 };
-use std::alloc::{AllocError, Global};
+use std::alloc::Global;
 use std::io;
 use std::io::Print;
 
-// Every other row begins with a cell of two columns; the rows between with one of two rows.
+// Of three rows the first begins with a cell of two columns, and the second with one of two rows.
 fn set_spans(cfg: &mut SpannedConfig) -> Result<(), Fault> {
     for row in 0..1000 {
         let pos = Position::new(row, 0);
-        cfg.set_column_span(pos, 2)?;
+        match row % 3 {
+            0 => cfg.set_column_span(pos, 2)?,
+            1 => cfg.set_row_span(pos, 2)?,
+            _ => {}
+        }
     }
     Ok(())
 }
@@ -29,7 +33,8 @@ fn print_spans(rt: &impl Print, cfg: &SpannedConfig) -> io::Result<()> {
     let good = cfg.spans_are_good(1000, 2);
     let last = Position::new(999, 1);
     let seen = cfg.is_cell_visible(last);
-    println!(rt; "spans: {good}, {seen}, {:?}", cfg.owner(last))
+    println!(rt; "spans: {good}, {seen}, {:?}", cfg.owner(last))?;
+    println!(rt; "between: {:?}", cfg.owner(Position::new(500, 0)))
 }
 
 fn print_cells(rt: &impl Print, cfg: &SpannedConfig) -> io::Result<()> {
@@ -52,10 +57,17 @@ fn print_spanned(rt: &impl Print, cfg: &mut SpannedConfig) -> io::Result<()> {
     print_cells(rt, cfg)
 }
 
+fn print_clone(rt: &impl Print, alloc: Global, cfg: &SpannedConfig) -> io::Result<()> {
+    let Ok(copy) = cfg.clone(alloc) else {
+        return println!(rt; "no clone");
+    };
+    print_spans(rt, &copy)?;
+    print_cells(rt, &copy)
+}
+
 /// Prints what settings of a thousand rows return at their middle and their end.
 pub fn print_settings(rt: &impl Print, alloc: Global) -> io::Result<()> {
     let mut cfg = SpannedConfig::new(alloc);
-    let outcome = print_spanned(rt, &mut cfg);
-    drop(cfg);
-    outcome
+    print_spanned(rt, &mut cfg)?;
+    print_clone(rt, alloc, &cfg)
 }

@@ -41,7 +41,11 @@ fn print_strips(rt: &impl Print, alloc: Global, text: &str) -> io::Result<()> {
 
 fn print_cuts(rt: &impl Print, alloc: Global, text: &str) -> io::Result<()> {
     let cut = text.ansi_get(alloc, 1..479_999)?;
-    print_part(rt, "cut", cut)?;
+    print_part(rt, "got", cut)?;
+    if is_good_range(text, &(1..479_999)) {
+        let cut = text.ansi_cut(alloc, 1..479_999)?;
+        println!(rt; "cut: {}", cut.as_str().len())?;
+    }
     if is_good_range(text, &(240_003..)) {
         let (left, right) = text.ansi_split_at(alloc, 240_003)?;
         let (left, right) = (left.as_str().len(), right.as_str().len());
