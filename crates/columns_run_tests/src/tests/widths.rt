@@ -1,6 +1,6 @@
 //! Tables in a width that is asked, worked out by hand.
 use super::counted::expect_counts;
-use super::run::{FAULTS, defaults};
+use super::run::{FAULTS, TABLES, defaults};
 use crate::fakes::StepWriter;
 use columns_run::{Counted, Options, RunFault, run, style_is_plain};
 use std::alloc::Global;
@@ -8,6 +8,7 @@ use std::process::Abort;
 use tabled_size_priority::Choice;
 
 // What is asked, an input, and its table.
+#[derive(Clone, Copy)]
 struct Case {
     width: Option<usize>,
     truncate: bool,
@@ -230,4 +231,36 @@ fn no_width_makes_an_input_good(rt: HostRuntime) {
             expect_refusals(&rt, rt.alloc(), width, priority);
         }
     }
+}
+
+// The tables of a run without a width, in these options.
+fn expect_tables(
+    rt: &impl Abort,
+    alloc: Global,
+    width: usize,
+    priority: Choice,
+) -> Result<(), RunFault> {
+    for (truncate, keep_words) in MODES {
+        for (input, table) in TABLES {
+            let case = Case {
+                width: Some(width),
+                truncate,
+                keep_words,
+                priority,
+                input,
+                table,
+            };
+            expect_case(rt, alloc, &case)?;
+        }
+    }
+    Ok(())
+}
+
+#[test]
+fn a_width_past_any_table_changes_none(rt: HostRuntime) -> Result<(), RunFault> {
+    for priority in CHOICES {
+        expect_tables(&rt, rt.alloc(), 1 << 63, priority)?;
+        expect_tables(&rt, rt.alloc(), usize::MAX, priority)?;
+    }
+    Ok(())
 }
