@@ -3,13 +3,14 @@ use grid_config::{
     AlignmentHorizontal, AlignmentVertical, ColoredConfig, CompactConfig, Entity, Fault, Indent,
     Position, Sides, SpannedConfig,
 };
-use grid_records_rows::{Text, VecRecords};
-use grid_records_traits::records::PeekableRecords;
+use grid_records_rows::{RecordsMut, Text, VecRecords};
+use grid_records_traits::records::{ExactRecords, PeekableRecords, RecordColumns};
 use std::alloc::{AllocError, Global};
 use std::process::Abort;
 use std::test::Fail;
 use tabled::object::{Cell, Columns, Rows, Segment};
-use tabled::{Alignment, Builder, Margin, Padding, Style, Table, TableOption};
+use tabled::{Alignment, Builder, Margin, Padding, Span, Style, Table, TableOption, Width};
+use tabled_options::PaddingExpand;
 use tabled_size_dimension::CompleteDimension;
 
 mod batches;
@@ -187,6 +188,87 @@ fn options_set_what_their_values_say(rt: HostRuntime) -> Result<(), Fail> {
                 == AlignmentVertical::Bottom
         })?
     );
+    Ok(())
+}
+
+// Settings of light lines.
+fn lined(alloc: Global) -> SpannedConfig {
+    let mut config = SpannedConfig::new(alloc);
+    config.set_borders(Style::modern().get_borders());
+    config
+}
+
+// Whether a table has light lines.
+fn has_light_lines(table: &Table) -> bool {
+    let borders = *table.get_config().spanned().get_borders();
+    borders == Style::modern().get_borders()
+}
+
+#[test]
+fn settings_are_options(rt: HostRuntime) -> Result<(), Fail> {
+    let a = rt.alloc();
+    let plain = CompactConfig::new().set_borders(Style::modern().get_borders());
+    assert!(&rt; sets(a, plain, has_light_lines)?);
+    assert!(&rt; sets(a, lined(a), has_light_lines)?);
+    assert!(&rt; sets(a, ColoredConfig::new(lined(a)), has_light_lines)?);
+    assert!(&rt; matches!(Padding::expand(true), PaddingExpand::Horizontal));
+    assert!(&rt; matches!(Padding::expand(false), PaddingExpand::Vertical));
+    Ok(())
+}
+
+// How many rows and columns the first cell takes, once it was given two rows.
+fn spanned(alloc: Global) -> Result<(Option<usize>, Option<usize>), Fault> {
+    let mut table = Table::nohead(alloc, ["a", "b"])?;
+    let done = table.set_cells(Cell::new(0, 0), &Span::row(2));
+    let config = table.get_config().spanned();
+    let taken = (
+        config.get_row_span(at(0, 0)),
+        config.get_column_span(at(0, 0)),
+    );
+    let_go(table);
+    done?;
+    Ok(taken)
+}
+
+#[test]
+fn a_cell_takes_rows(rt: HostRuntime) -> Result<(), Fail> {
+    assert!(&rt; spanned(rt.alloc())? == (Some(2), None));
+    Ok(())
+}
+
+// Replaces the text of the first cell, if there is one.
+fn put_text(records: &mut VecRecords<Text>, text: Text) {
+    if records.count_rows() > 0 && records.count_columns() > 0 {
+        records.set(at(0, 0), text);
+    }
+}
+
+// Keeps a width of three columns, and replaces the text.
+fn replace(alloc: Global, table: &mut Table) -> Result<(), Fault> {
+    table.set(Width::list(alloc, [3])?)?;
+    let text = Text::new(alloc, String::from_str(alloc, "ab")?)?;
+    put_text(table.get_records_mut(), text);
+    Ok(())
+}
+
+// What a table prints whose text was replaced beside the width that it keeps, and once it keeps none.
+fn replaced(alloc: Global) -> Result<(Result<String, Fault>, Result<String, Fault>), Fault> {
+    let mut table = Table::nohead(alloc, ["a"])?;
+    let done = replace(alloc, &mut table);
+    let narrow = table.to_string();
+    table.get_dimension_mut().clear();
+    let wide = table.to_string();
+    let_go(table);
+    done?;
+    Ok((narrow, wide))
+}
+
+#[test]
+fn lent_rows_clear_no_sizes(rt: HostRuntime) -> Result<(), Fail> {
+    let (narrow, wide) = replaced(rt.alloc())?;
+    let room = Fault::Room { row: 0, column: 0 };
+    assert!(&rt; narrow == Err(room));
+    assert!(&rt; wide?.as_str() == "+----+\n| ab |\n+----+");
     Ok(())
 }
 
