@@ -14,6 +14,7 @@ use tabled_options::PaddingExpand;
 use tabled_size_dimension::CompleteDimension;
 
 mod batches;
+mod chained;
 mod copies;
 mod foreign;
 mod in_widths;
@@ -123,23 +124,25 @@ where
     Ok(answer)
 }
 
+// Whether a table has a margin of four sizes and fills.
+fn has_margin(table: &Table) -> bool {
+    let margin = *table.get_config().spanned().get_margin();
+    margin
+        == Sides::new(
+            Indent::new(1, '<'),
+            Indent::new(2, '>'),
+            Indent::new(3, '^'),
+            Indent::new(4, '_'),
+        )
+}
+
 #[test]
 fn options_set_what_their_values_say(rt: HostRuntime) -> Result<(), Fail> {
     let a = rt.alloc();
     assert!(&rt; is_new(Table::nohead(a, ["x"])?));
     let margin = Margin::new(1, 2, 3, 4).fill('<', '>', '^', '_');
-    assert!(&rt;
-        sets(a, margin, |table| {
-            let margin = *table.get_config().spanned().get_margin();
-            margin
-                == Sides::new(
-                    Indent::new(1, '<'),
-                    Indent::new(2, '>'),
-                    Indent::new(3, '^'),
-                    Indent::new(4, '_')
-                )
-        })?
-    );
+    assert!(&rt; sets(a, margin.clone()?, has_margin)?);
+    assert!(&rt; sets(a, margin, has_margin)?);
     let padding = Padding::new(4, 3, 2, 1).fill('<', '>', '^', '_');
     assert!(&rt;
         sets(a, padding, |table| {
@@ -170,24 +173,43 @@ fn options_set_what_their_values_say(rt: HostRuntime) -> Result<(), Fail> {
             !table.get_config().spanned().get_borders().has_left()
         })?
     );
-    assert!(&rt;
-        sets(a, Alignment::right(), |table| {
-            table
-                .get_config()
-                .spanned()
-                .get_alignment_horizontal(at(1, 0))
-                == AlignmentHorizontal::Right
-        })?
+    Ok(())
+}
+
+// Where texts stand in a cell once one alignment was set after another.
+fn stand(
+    alloc: Global,
+    before: Alignment,
+    option: Alignment,
+) -> Result<(AlignmentHorizontal, AlignmentVertical), Fault> {
+    let mut table = Table::nohead(alloc, [("a", "b"), ("c", "d")])?;
+    let begun = table.set(before);
+    let done = table.set(option);
+    let config = table.get_config().spanned();
+    let places = (
+        config.get_alignment_horizontal(at(1, 0)),
+        config.get_alignment_vertical(at(1, 0)),
     );
-    assert!(&rt;
-        sets(a, Alignment::bottom(), |table| {
-            table
-                .get_config()
-                .spanned()
-                .get_alignment_vertical(at(1, 0))
-                == AlignmentVertical::Bottom
-        })?
-    );
+    let_go(table);
+    begun?;
+    done?;
+    Ok(places)
+}
+
+#[test]
+fn alignments_set_where_texts_stand(rt: HostRuntime) -> Result<(), Fail> {
+    let a = rt.alloc();
+    let (right, bottom) = (Alignment::right(), Alignment::bottom());
+    let left = (AlignmentHorizontal::Left, AlignmentVertical::Top);
+    assert!(&rt; stand(a, right, Alignment::left())? == left);
+    let center = (AlignmentHorizontal::Center, AlignmentVertical::Top);
+    assert!(&rt; stand(a, right, Alignment::center())? == center);
+    let at_right = (AlignmentHorizontal::Right, AlignmentVertical::Bottom);
+    assert!(&rt; stand(a, right, bottom)? == at_right);
+    assert!(&rt; stand(a, bottom, right)? == at_right);
+    assert!(&rt; stand(a, bottom, Alignment::top())? == left);
+    let middle = (AlignmentHorizontal::Left, AlignmentVertical::Center);
+    assert!(&rt; stand(a, bottom, Alignment::center_vertical())? == middle);
     Ok(())
 }
 
@@ -204,22 +226,31 @@ fn has_light_lines(table: &Table) -> bool {
     borders == Style::modern().get_borders()
 }
 
+// Whether settings that are lent give a table light lines.
+fn lends_light_lines(alloc: Global) -> Result<bool, Fault> {
+    let config = lined(alloc);
+    let answer = sets(alloc, &config, has_light_lines);
+    let_go(config);
+    answer
+}
+
 #[test]
 fn settings_are_options(rt: HostRuntime) -> Result<(), Fail> {
     let a = rt.alloc();
     let plain = CompactConfig::new().set_borders(Style::modern().get_borders());
     assert!(&rt; sets(a, plain, has_light_lines)?);
     assert!(&rt; sets(a, lined(a), has_light_lines)?);
+    assert!(&rt; lends_light_lines(a)?);
     assert!(&rt; sets(a, ColoredConfig::new(lined(a)), has_light_lines)?);
     assert!(&rt; matches!(Padding::expand(true), PaddingExpand::Horizontal));
     assert!(&rt; matches!(Padding::expand(false), PaddingExpand::Vertical));
     Ok(())
 }
 
-// How many rows and columns the first cell takes, once it was given two rows.
-fn spanned(alloc: Global) -> Result<(Option<usize>, Option<usize>), Fault> {
-    let mut table = Table::nohead(alloc, ["a", "b"])?;
-    let done = table.set_cells(Cell::new(0, 0), &Span::row(2));
+// How many rows and columns the first cell takes, once it was given a span.
+fn spanned(alloc: Global, span: Span) -> Result<(Option<usize>, Option<usize>), Fault> {
+    let mut table = Table::nohead(alloc, [("a", "b"), ("c", "d")])?;
+    let done = table.set_cells(Cell::new(0, 0), &span);
     let config = table.get_config().spanned();
     let taken = (
         config.get_row_span(at(0, 0)),
@@ -231,8 +262,10 @@ fn spanned(alloc: Global) -> Result<(Option<usize>, Option<usize>), Fault> {
 }
 
 #[test]
-fn a_cell_takes_rows(rt: HostRuntime) -> Result<(), Fail> {
-    assert!(&rt; spanned(rt.alloc())? == (Some(2), None));
+fn a_cell_takes_rows_or_columns(rt: HostRuntime) -> Result<(), Fail> {
+    let a = rt.alloc();
+    assert!(&rt; spanned(a, Span::row(2))? == (Some(2), None));
+    assert!(&rt; spanned(a, Span::column(2))? == (None, Some(2)));
     Ok(())
 }
 
