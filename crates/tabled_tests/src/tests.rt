@@ -18,6 +18,7 @@ mod chained;
 mod copies;
 mod foreign;
 mod in_widths;
+mod refused;
 mod sources;
 mod totals;
 mod writing;

@@ -8,8 +8,11 @@ use std::process::Abort;
 use std::test::Fail;
 use tabled::{Alignment, Margin, Table};
 
-// A table of one cell at the right of a kept width, with a margin.
-fn changed(alloc: Global) -> Result<Table, Fault> {
+/// What a changed table prints.
+pub const TEXT: &str = "<+-----+\n<|   a |\n<+-----+";
+
+/// A table of one cell at the right of a kept width, with a margin.
+pub fn changed(alloc: Global) -> Result<Table, Fault> {
     let mut table = narrow(alloc, "a", 5)?;
     let margin = table.set(Margin::new(1, 0, 0, 0).fill('<', ' ', ' ', ' '));
     let aligned = table.set_cells(Entity::Global, &Alignment::right());
@@ -32,7 +35,7 @@ fn copied(alloc: Global, table: Table) -> Result<Table, AllocError> {
 #[test]
 fn a_copy_is_the_same_table(rt: HostRuntime) -> Result<(), Fail> {
     let a = rt.alloc();
-    assert!(&rt; prints(copied(a, changed(a)?)?, "<+-----+\n<|   a |\n<+-----+")?);
+    assert!(&rt; prints(copied(a, changed(a)?)?, TEXT)?);
     assert!(&rt; prints(copied(a, Table::default(a))?, "")?);
     Ok(())
 }
