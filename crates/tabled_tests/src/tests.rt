@@ -319,6 +319,14 @@ fn keeps<O: TableOption<VecRecords<Text>, ColoredConfig, CompleteDimension> + Dr
     Ok((done, kept))
 }
 
+// The same of settings that are lent.
+fn lent_keeps(alloc: Global) -> Result<(Result<(), Fault>, bool), Fault> {
+    let config = SpannedConfig::new(alloc);
+    let answer = keeps(alloc, &config);
+    let_go(config);
+    answer
+}
+
 #[test]
 fn a_hint_clears_what_it_names(rt: HostRuntime) -> Result<(), Fail> {
     let a = rt.alloc();
@@ -330,6 +338,7 @@ fn a_hint_clears_what_it_names(rt: HostRuntime) -> Result<(), Fail> {
     assert!(&rt; keeps(a, Alignment::left())? == (Ok(()), false));
     assert!(&rt; keeps(a, CompactConfig::new())? == (Ok(()), false));
     assert!(&rt; keeps(a, SpannedConfig::new(a))? == (Ok(()), false));
+    assert!(&rt; lent_keeps(a)? == (Ok(()), false));
     assert!(&rt; keeps(a, ColoredConfig::new(SpannedConfig::new(a)))? == (Ok(()), false));
     Ok(())
 }
