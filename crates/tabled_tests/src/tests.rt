@@ -3,19 +3,22 @@ use grid_config::{
     AlignmentHorizontal, AlignmentVertical, ColoredConfig, CompactConfig, Entity, Fault, Indent,
     Position, Sides, SpannedConfig,
 };
-use grid_records_rows::{Text, VecRecords};
-use grid_records_traits::records::PeekableRecords;
+use grid_records_rows::{RecordsMut, Text, VecRecords};
+use grid_records_traits::records::{ExactRecords, PeekableRecords, RecordColumns};
 use std::alloc::{AllocError, Global};
 use std::process::Abort;
 use std::test::Fail;
 use tabled::object::{Cell, Columns, Rows, Segment};
-use tabled::{Alignment, Builder, Margin, Padding, Style, Table, TableOption};
+use tabled::{Alignment, Builder, Margin, Padding, Span, Style, Table, TableOption, Width};
+use tabled_options::PaddingExpand;
 use tabled_size_dimension::CompleteDimension;
 
 mod batches;
+mod chained;
 mod copies;
 mod foreign;
 mod in_widths;
+mod refused;
 mod sources;
 mod totals;
 mod writing;
@@ -122,23 +125,25 @@ where
     Ok(answer)
 }
 
+// Whether a table has a margin of four sizes and fills.
+fn has_margin(table: &Table) -> bool {
+    let margin = *table.get_config().spanned().get_margin();
+    margin
+        == Sides::new(
+            Indent::new(1, '<'),
+            Indent::new(2, '>'),
+            Indent::new(3, '^'),
+            Indent::new(4, '_'),
+        )
+}
+
 #[test]
 fn options_set_what_their_values_say(rt: HostRuntime) -> Result<(), Fail> {
     let a = rt.alloc();
     assert!(&rt; is_new(Table::nohead(a, ["x"])?));
     let margin = Margin::new(1, 2, 3, 4).fill('<', '>', '^', '_');
-    assert!(&rt;
-        sets(a, margin, |table| {
-            let margin = *table.get_config().spanned().get_margin();
-            margin
-                == Sides::new(
-                    Indent::new(1, '<'),
-                    Indent::new(2, '>'),
-                    Indent::new(3, '^'),
-                    Indent::new(4, '_')
-                )
-        })?
-    );
+    assert!(&rt; sets(a, margin.clone()?, has_margin)?);
+    assert!(&rt; sets(a, margin, has_margin)?);
     let padding = Padding::new(4, 3, 2, 1).fill('<', '>', '^', '_');
     assert!(&rt;
         sets(a, padding, |table| {
@@ -169,24 +174,135 @@ fn options_set_what_their_values_say(rt: HostRuntime) -> Result<(), Fail> {
             !table.get_config().spanned().get_borders().has_left()
         })?
     );
-    assert!(&rt;
-        sets(a, Alignment::right(), |table| {
-            table
-                .get_config()
-                .spanned()
-                .get_alignment_horizontal(at(1, 0))
-                == AlignmentHorizontal::Right
-        })?
+    Ok(())
+}
+
+// Where texts stand in a cell once one alignment was set after another.
+fn stand(
+    alloc: Global,
+    before: Alignment,
+    option: Alignment,
+) -> Result<(AlignmentHorizontal, AlignmentVertical), Fault> {
+    let mut table = Table::nohead(alloc, [("a", "b"), ("c", "d")])?;
+    let begun = table.set(before);
+    let done = table.set(option);
+    let config = table.get_config().spanned();
+    let places = (
+        config.get_alignment_horizontal(at(1, 0)),
+        config.get_alignment_vertical(at(1, 0)),
     );
-    assert!(&rt;
-        sets(a, Alignment::bottom(), |table| {
-            table
-                .get_config()
-                .spanned()
-                .get_alignment_vertical(at(1, 0))
-                == AlignmentVertical::Bottom
-        })?
+    let_go(table);
+    begun?;
+    done?;
+    Ok(places)
+}
+
+#[test]
+fn alignments_set_where_texts_stand(rt: HostRuntime) -> Result<(), Fail> {
+    let a = rt.alloc();
+    let (right, bottom) = (Alignment::right(), Alignment::bottom());
+    let left = (AlignmentHorizontal::Left, AlignmentVertical::Top);
+    assert!(&rt; stand(a, right, Alignment::left())? == left);
+    let center = (AlignmentHorizontal::Center, AlignmentVertical::Top);
+    assert!(&rt; stand(a, right, Alignment::center())? == center);
+    let at_right = (AlignmentHorizontal::Right, AlignmentVertical::Bottom);
+    assert!(&rt; stand(a, right, bottom)? == at_right);
+    assert!(&rt; stand(a, bottom, right)? == at_right);
+    assert!(&rt; stand(a, bottom, Alignment::top())? == left);
+    let middle = (AlignmentHorizontal::Left, AlignmentVertical::Center);
+    assert!(&rt; stand(a, bottom, Alignment::center_vertical())? == middle);
+    Ok(())
+}
+
+// Settings of light lines.
+fn lined(alloc: Global) -> SpannedConfig {
+    let mut config = SpannedConfig::new(alloc);
+    config.set_borders(Style::modern().get_borders());
+    config
+}
+
+// Whether a table has light lines.
+fn has_light_lines(table: &Table) -> bool {
+    let borders = *table.get_config().spanned().get_borders();
+    borders == Style::modern().get_borders()
+}
+
+// Whether settings that are lent give a table light lines.
+fn lends_light_lines(alloc: Global) -> Result<bool, Fault> {
+    let config = lined(alloc);
+    let answer = sets(alloc, &config, has_light_lines);
+    let_go(config);
+    answer
+}
+
+#[test]
+fn settings_are_options(rt: HostRuntime) -> Result<(), Fail> {
+    let a = rt.alloc();
+    let plain = CompactConfig::new().set_borders(Style::modern().get_borders());
+    assert!(&rt; sets(a, plain, has_light_lines)?);
+    assert!(&rt; sets(a, lined(a), has_light_lines)?);
+    assert!(&rt; lends_light_lines(a)?);
+    assert!(&rt; sets(a, ColoredConfig::new(lined(a)), has_light_lines)?);
+    assert!(&rt; matches!(Padding::expand(true), PaddingExpand::Horizontal));
+    assert!(&rt; matches!(Padding::expand(false), PaddingExpand::Vertical));
+    Ok(())
+}
+
+// How many rows and columns the first cell takes, once it was given a span.
+fn spanned(alloc: Global, span: Span) -> Result<(Option<usize>, Option<usize>), Fault> {
+    let mut table = Table::nohead(alloc, [("a", "b"), ("c", "d")])?;
+    let done = table.set_cells(Cell::new(0, 0), &span);
+    let config = table.get_config().spanned();
+    let taken = (
+        config.get_row_span(at(0, 0)),
+        config.get_column_span(at(0, 0)),
     );
+    let_go(table);
+    done?;
+    Ok(taken)
+}
+
+#[test]
+fn a_cell_takes_rows_or_columns(rt: HostRuntime) -> Result<(), Fail> {
+    let a = rt.alloc();
+    assert!(&rt; spanned(a, Span::row(2))? == (Some(2), None));
+    assert!(&rt; spanned(a, Span::column(2))? == (None, Some(2)));
+    Ok(())
+}
+
+// Replaces the text of the first cell, if there is one.
+fn put_text(records: &mut VecRecords<Text>, text: Text) {
+    if records.count_rows() > 0 && records.count_columns() > 0 {
+        records.set(at(0, 0), text);
+    }
+}
+
+// Keeps a width of three columns, and replaces the text.
+fn replace(alloc: Global, table: &mut Table) -> Result<(), Fault> {
+    table.set(Width::list(alloc, [3])?)?;
+    let text = Text::new(alloc, String::from_str(alloc, "ab")?)?;
+    put_text(table.get_records_mut(), text);
+    Ok(())
+}
+
+// What a table prints whose text was replaced beside the width that it keeps, and once it keeps none.
+fn replaced(alloc: Global) -> Result<(Result<String, Fault>, Result<String, Fault>), Fault> {
+    let mut table = Table::nohead(alloc, ["a"])?;
+    let done = replace(alloc, &mut table);
+    let narrow = table.to_string();
+    table.get_dimension_mut().clear();
+    let wide = table.to_string();
+    let_go(table);
+    done?;
+    Ok((narrow, wide))
+}
+
+#[test]
+fn lent_rows_clear_no_sizes(rt: HostRuntime) -> Result<(), Fail> {
+    let (narrow, wide) = replaced(rt.alloc())?;
+    let room = Fault::Room { row: 0, column: 0 };
+    assert!(&rt; narrow == Err(room));
+    assert!(&rt; wide?.as_str() == "+----+\n| ab |\n+----+");
     Ok(())
 }
 
@@ -203,6 +319,14 @@ fn keeps<O: TableOption<VecRecords<Text>, ColoredConfig, CompleteDimension> + Dr
     Ok((done, kept))
 }
 
+// The same of settings that are lent.
+fn lent_keeps(alloc: Global) -> Result<(Result<(), Fault>, bool), Fault> {
+    let config = SpannedConfig::new(alloc);
+    let answer = keeps(alloc, &config);
+    let_go(config);
+    answer
+}
+
 #[test]
 fn a_hint_clears_what_it_names(rt: HostRuntime) -> Result<(), Fail> {
     let a = rt.alloc();
@@ -214,6 +338,7 @@ fn a_hint_clears_what_it_names(rt: HostRuntime) -> Result<(), Fail> {
     assert!(&rt; keeps(a, Alignment::left())? == (Ok(()), false));
     assert!(&rt; keeps(a, CompactConfig::new())? == (Ok(()), false));
     assert!(&rt; keeps(a, SpannedConfig::new(a))? == (Ok(()), false));
+    assert!(&rt; lent_keeps(a)? == (Ok(()), false));
     assert!(&rt; keeps(a, ColoredConfig::new(SpannedConfig::new(a)))? == (Ok(()), false));
     Ok(())
 }

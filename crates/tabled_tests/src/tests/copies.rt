@@ -1,4 +1,4 @@
-//! Copies of tables.
+//! Copies of tables, and of options.
 use super::{at, let_go, narrow, one, prints};
 use grid_config::{Entity, Fault};
 use grid_records_rows::{Text, VecRecords};
@@ -6,10 +6,13 @@ use grid_records_traits::records::PeekableRecords;
 use std::alloc::{AllocError, Global};
 use std::process::Abort;
 use std::test::Fail;
-use tabled::{Alignment, Margin, Table};
+use tabled::{Alignment, Margin, Table, Truncate, Width};
 
-// A table of one cell at the right of a kept width, with a margin.
-fn changed(alloc: Global) -> Result<Table, Fault> {
+/// What a changed table prints.
+pub const TEXT: &str = "<+-----+\n<|   a |\n<+-----+";
+
+/// A table of one cell at the right of a kept width, with a margin.
+pub fn changed(alloc: Global) -> Result<Table, Fault> {
     let mut table = narrow(alloc, "a", 5)?;
     let margin = table.set(Margin::new(1, 0, 0, 0).fill('<', ' ', ' ', ' '));
     let aligned = table.set_cells(Entity::Global, &Alignment::right());
@@ -32,7 +35,7 @@ fn copied(alloc: Global, table: Table) -> Result<Table, AllocError> {
 #[test]
 fn a_copy_is_the_same_table(rt: HostRuntime) -> Result<(), Fail> {
     let a = rt.alloc();
-    assert!(&rt; prints(copied(a, changed(a)?)?, "<+-----+\n<|   a |\n<+-----+")?);
+    assert!(&rt; prints(copied(a, changed(a)?)?, TEXT)?);
     assert!(&rt; prints(copied(a, Table::default(a))?, "")?);
     Ok(())
 }
@@ -74,5 +77,26 @@ fn last(records: VecRecords<Text>) -> Option<String> {
 fn records_become_rows_of_strings(rt: HostRuntime) -> Result<(), Fail> {
     let a = rt.alloc();
     assert!(&rt; matches!(last(kept(a)?), Some(it) if it.as_str() == "d"));
+    Ok(())
+}
+
+// Whether the option cuts each line of a cell at four columns, and puts the suffix behind it.
+fn cuts(alloc: Global, option: Truncate<'static>) -> Result<bool, Fault> {
+    let mut table = Table::nohead(alloc, ["Hello\nWorld"])?;
+    let done = table.set(option);
+    let text = table.to_string();
+    let_go(table);
+    done?;
+    Ok(text?.as_str() == "+------+\n| He.. |\n| Wo.. |\n+------+")
+}
+
+#[test]
+fn a_copy_cuts_as_its_source_does(rt: HostRuntime) -> Result<(), Fail> {
+    let a = rt.alloc();
+    let source = Width::truncate(8).suffix("..").multiline(true);
+    let copy = source.clone()?;
+    assert!(&rt; copy == source && copy != source.suffix_try_color(true));
+    assert!(&rt; cuts(a, copy)?);
+    assert!(&rt; cuts(a, source)?);
     Ok(())
 }

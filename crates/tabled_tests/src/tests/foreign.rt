@@ -1,12 +1,12 @@
-//! Options of a caller's own.
+//! Options and measurements of a caller's own.
 ghost use Rattle.std.specs.Prelude.{◌≡◌, Err, None, Ok, Some};
 ghost use Rattle.grid_config_values.specs.declared.entity.Entity.TheVariants.{Global as EveryCell};
 ghost use Rattle.grid_config_values.specs.declared.fault.Fault.TheVariants.{Range as PassesMax};
 
-use grid_config::{ColoredConfig, Entity, Fault};
-use grid_records_traits::records::RecordTexts;
+use grid_config::{ColoredConfig, Entity, Fault, SpannedConfig};
+use grid_records_traits::records::{ExactRecords, PeekableRecords, RecordTexts};
 use std::alloc::Global;
-use tabled::TableOption;
+use tabled::{CellOption, Measurement, TableOption};
 use tabled_steps::KeptSizes;
 
 /// It changes nothing, and the sizes stay kept.
@@ -33,7 +33,7 @@ impl<R: RecordTexts, D: KeptSizes> TableOption<R, ColoredConfig, D> for Keeping 
     }
 }
 
-/// It is refused.
+/// It is refused, of a table, of its cells, and as a size.
 #[derive(Clone, Copy, Debug)]
 pub struct Refusing;
 
@@ -54,5 +54,38 @@ impl<R: RecordTexts, D: KeptSizes> TableOption<R, ColoredConfig, D> for Refusing
 
     fn hint_change(&self) -> Option<Entity> {
         Some(Entity::Global)
+    }
+}
+
+impl<R: RecordTexts> CellOption<R, ColoredConfig> for Refusing {
+    ghost step = { λ _ _ _ outcome. Err PassesMax ≡ outcome };
+
+    ghost hint = { λ _. Some EveryCell };
+
+    fn change(
+        &self,
+        _alloc: Global,
+        _records: &mut R,
+        _cfg: &mut ColoredConfig,
+        _entity: Entity,
+    ) -> Result<(), Fault> {
+        Err(Fault::Range)
+    }
+
+    fn hint_change(&self) -> Option<Entity> {
+        Some(Entity::Global)
+    }
+}
+
+impl<A> Measurement<A> for Refusing {
+    ghost measures = { λ _ _ _ _ outcome. Err PassesMax ≡ outcome };
+
+    fn measure<R: ExactRecords + PeekableRecords>(
+        &self,
+        _alloc: Global,
+        _records: &R,
+        _cfg: &SpannedConfig,
+    ) -> Result<usize, Fault> {
+        Err(Fault::Range)
     }
 }

@@ -1,6 +1,6 @@
 //! How much tables take as a whole.
-use super::{let_go, narrow};
-use grid_config::Fault;
+use super::{let_go, narrow, prints};
+use grid_config::{ANSIBuf, Entity, Fault};
 use std::alloc::Global;
 use std::process::Abort;
 use std::test::Fail;
@@ -57,6 +57,22 @@ fn a_total_past_all_numbers_is_refused_alone(rt: HostRuntime) -> Result<(), Fail
     assert!(&rt; totals(with_margin(a, high)?) == (Ok(5), Err(Fault::Range)));
     let padded = Padding::new(0, 0, most, 0);
     assert!(&rt; totals(with_padding(a, padded)?) == (Ok(3), Err(Fault::Range)));
+    Ok(())
+}
+
+// A table of one cell whose colour shows characters of its own.
+fn colored(alloc: Global) -> Result<Table, Fault> {
+    let color = ANSIBuf::new(alloc, "<", ">")?;
+    let mut table = Table::nohead(alloc, ["a"])?;
+    let done = table.get_config_mut().set_color(Entity::Global, color);
+    kept(table, done)
+}
+
+#[test]
+fn totals_count_no_texts_of_colours(rt: HostRuntime) -> Result<(), Fail> {
+    let a = rt.alloc();
+    assert!(&rt; totals(colored(a)?) == (Ok(5), Ok(3)));
+    assert!(&rt; prints(colored(a)?, "+---+\n| <a> |\n+---+")?);
     Ok(())
 }
 

@@ -53,9 +53,10 @@ fn expect_all(rt: &impl Abort, a: Global, table: &Table) {
         let writer = StepWriter::new(a, 1, bad);
         let failed = Err(BuildFault::Write);
         expect_written(rt, table, writer, failed, (1, 0), bad - 1, bad);
+        let filling = StepWriter::filling(a, 1, bad - 1);
+        let empty = Err(BuildFault::WriteZero);
+        expect_written(rt, table, filling, empty, (0, 1), bad - 1, bad);
     }
-    let taker = StepWriter::new(a, 0, 0);
-    expect_written(rt, table, taker, Err(BuildFault::WriteZero), (0, 1), 0, 1);
 }
 
 #[test]
