@@ -4,7 +4,9 @@
 ghost use Rattle.columns_run.specs.Plain.{IsPlain};
 ghost use Rattle.grid_config.specs.Compact.{compact_of};
 
-pub use columns_run::{Counted, Options, RunFault, laws, run, run_streamed, style_is_plain};
+pub use columns_run::{
+    Counted, Options, RunFault, laws, read_all, run, run_streamed, style_is_plain,
+};
 pub use columns_words::{Asked, read_words};
 use std::env;
 use std::io::{self, ErrorKind};

@@ -12,11 +12,11 @@ use Rattle.columns_options.specs.declared.options.Options.{Options}
 use Rattle.columns_run.proofs.PartLemmas.{cut-map}
 use Rattle.columns_table.specs.Answers.{HasTable as TextsHaveTable, MayRefuse}
 use Rattle.columns_table.specs.Rows.{cut, row_texts_of}
-use Rattle.columns_table.specs.declared.fault.TableFault.{TableFault}
-use Rattle.columns_table.specs.declared.fault.TableFault.TheVariants.{LineTooWide, Memory, Range}
 use Rattle.columns_table.specs.declared.rows.LineCell.{LineCell}
 use Rattle.columns_table.specs.declared.rows.Rows.{Rows}
 use Rattle.grid_config.specs.Compact.{Compact, compact_of}
+use Rattle.grid_config_values.specs.declared.fault.Fault.{Fault}
+use Rattle.grid_config_values.specs.declared.fault.Fault.TheVariants.{Memory, Range, Room, Spans}
 use Rattle.grid_records_measure.specs.Measures.{measure}
 use Rattle.columns_run.specs.Cells.{Line, byte_line, line_rows, part_line, rows_shown, shown, texts_of_lines}
 use Rattle.columns_run.specs.Fault.{IsOfInput, run_fault}
@@ -92,13 +92,15 @@ module _ (options : Options) (text : List ℕ) (utf8 : IsUtf8 text) (whole : IsW
   has-table good = (utf8, whole, subst (λ (T : Type 0). T) fits good.fits, sym wide ∙ good.room)
 
   -- a text has no table for the reason that its texts have none
-  pub refused : {T : Type 0} (given : TableFault) (result : Result T RunFault) → result ≡ Err (run_fault given) → MayRefuse style asked texts given → MayAnswer options text result
+  pub refused : {T : Type 0} (given : Fault) (result : Result T RunFault) → result ≡ Err (run_fault given) → MayRefuse style asked texts given → MayAnswer options text result
   refused Range result is told = subst (MayAnswer options text) (sym is) (utf8, whole, λ good. told (subst (λ (T : Type 0). T) (sym fits) good))
-  refused (LineTooWide row column) result is told = subst (MayAnswer options text) (sym is) (utf8, whole, subst (λ (T : Type 0). T) fits told.0, sym wide ∙ told.1)
+  refused (Room row column) result is told = subst (MayAnswer options text) (sym is) (utf8, whole, subst (λ (T : Type 0). T) fits told.0, sym wide ∙ told.1)
   refused Memory result is told = subst (MayAnswer options text) (sym is) tt
+  refused Spans result is told = absurd told
 
 -- and it is a fault of the input
-pub of_input : (given : TableFault) → IsOfInput (run_fault given)
+pub of_input : (given : Fault) → IsOfInput (run_fault given)
 of_input Range = tt
-of_input (LineTooWide row column) = tt
+of_input Spans = tt
+of_input (Room row column) = tt
 of_input Memory = tt

@@ -2,10 +2,10 @@
 use Rattle.std.specs.Prelude.{ℕ, List, ⊤, ◌++◌, codes, decimal}
 use Rattle.columns_run.specs.declared.fault.RunFault.{RunFault}
 use Rattle.columns_run.specs.declared.fault.RunFault.TheVariants.{Read, ReadTooLong, NotUtf8, Escape, Range, LineTooWide, Write, WriteZero, Memory}
+use Rattle.grid_config_values.specs.declared.fault.Fault.{Fault}
+use Rattle.grid_config_values.specs.declared.fault.Fault.TheVariants.{Memory as NoMemory, Range as PassesMax, Room, Spans}
 use Rattle.tabled_output.specs.declared.writing.WriteFault.{WriteFault}
 use Rattle.tabled_output.specs.declared.writing.WriteFault.TheVariants.{Write as Failed, WriteZero as TookNothing}
-use Rattle.columns_table.specs.declared.fault.TableFault.{TableFault}
-use Rattle.columns_table.specs.declared.fault.TableFault.TheVariants.{LineTooWide as TooWide, Memory as NoMemory, Range as PassesMax}
 
 -- the bytes that a fault prints
 abbrev pub fault_text : RunFault → List ℕ
@@ -24,11 +24,12 @@ abbrev pub write_fault : WriteFault → RunFault
 write_fault Failed = Write
 write_fault TookNothing = WriteZero
 
--- what a run calls it where a text has no table
-abbrev pub run_fault : TableFault → RunFault
+-- what a run calls it where a text has no table, which has no spans
+abbrev pub run_fault : Fault → RunFault
 run_fault NoMemory = Memory
 run_fault PassesMax = Range
-run_fault (TooWide row column) = LineTooWide row column
+run_fault Spans = Range
+run_fault (Room row column) = LineTooWide row column
 
 -- a fault that reading may give
 abbrev pub IsOfReading : RunFault → Type 0

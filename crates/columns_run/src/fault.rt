@@ -1,5 +1,5 @@
 //! Why a run gave up.
-use columns_table::TableFault;
+use grid_config::Fault;
 use std::alloc::AllocError;
 use std::error::Error;
 use std::fmt;
@@ -81,18 +81,18 @@ impl From<WriteFault> for RunFault {
     }
 }
 
-/// Why the text has no table, by the same names.
-impl From<TableFault> for RunFault {
+/// Why the text has no table. A table of a text has no spans, so that `Spans` isn't met.
+impl From<Fault> for RunFault {
     ghost use Rattle.std.specs.Prelude.{◌≡◌};
     ghost use Rattle.columns_run.specs.Fault.{run_fault};
 
     ghost from_gives = { λ given fault. fault ≡ run_fault given };
 
-    fn from(fault: TableFault) -> RunFault {
+    fn from(fault: Fault) -> RunFault {
         match fault {
-            TableFault::Range => RunFault::Range,
-            TableFault::LineTooWide { row, column } => RunFault::LineTooWide { row, column },
-            TableFault::Memory => RunFault::Memory,
+            Fault::Memory => RunFault::Memory,
+            Fault::Range | Fault::Spans => RunFault::Range,
+            Fault::Room { row, column } => RunFault::LineTooWide { row, column },
         }
     }
 }

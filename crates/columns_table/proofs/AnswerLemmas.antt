@@ -10,8 +10,7 @@ use Rattle.grid_records_estimate.specs.Sizes.{IsRefusal}
 use Rattle.papergrid_picture.specs.Fitting.{FitsAnswer, InRange, first_too_wide, table_width}
 use Rattle.columns_asked.specs.Layout.{AskedFits, asked_frame, asked_text, frame_under, kept_texts, narrow, narrowed, too_wide, widths_of}
 use Rattle.columns_asked.specs.declared.asked.Asked.{Asked}
-use Rattle.columns_table.specs.Answers.{HasTable, MayRefuse, natural_text, table_fault}
-use Rattle.columns_table.specs.declared.fault.TableFault.{TableFault}
+use Rattle.columns_table.specs.Answers.{HasTable, MayRefuse, natural_text}
 use Rattle.columns_table.proofs.NarrowedLemmas.{fits-natural, room-natural, text-natural}
 
 module _ (style : Compact) (asked : Asked) (texts : List (List (List ℕ))) where
@@ -19,21 +18,21 @@ module _ (style : Compact) (asked : Asked) (texts : List (List (List ℕ))) wher
   pub record Known (table : Result (String Global) Fault) : Type 0 where
     pub text : IfOk table (λ found. string_bytes found ≡ asked_text style asked texts)
     pub fits : OnOk table (HasTable style asked texts)
-    pub refused : IfErr table (λ fault. MayRefuse style asked texts (table_fault fault))
+    pub refused : IfErr table (MayRefuse style asked texts)
 
   -- the sizes that were found tell the widths
   pub narrow-is : (widths : List ℕ) (total : ℕ) → widths ≡ widths_of style texts → total ≡ table_width (frame_under style texts) → narrow style asked widths total asked.width ≡ narrowed style asked texts
   narrow-is widths total wide same = ap (λ (found : List ℕ). narrow style asked found total asked.width) wide ∙ ap (λ (n : ℕ). narrow style asked (widths_of style texts) n asked.width) same
 
-  may-refuse : InRange (frame_under style texts) → (fault : Fault) → FitsAnswer (asked_frame style asked texts) (kept_texts style asked texts) (Unit {0}) (Err fault) → MayRefuse style asked texts (table_fault fault)
+  may-refuse : InRange (frame_under style texts) → (fault : Fault) → FitsAnswer (asked_frame style asked texts) (kept_texts style asked texts) (Unit {0}) (Err fault) → MayRefuse style asked texts fault
   unfolding AskedFits too_wide
   may-refuse range Memory is = tt
   may-refuse range Range is = λ fits. is.1 fits.1
   may-refuse range Spans is = absurd (is tt)
   may-refuse range (Room row column) is = ((range, is.1), is.2)
 
-  refuses : InRange (frame_under style texts) → (fault : Fault) → (fault ≡ Memory) ⊎ FitsAnswer (asked_frame style asked texts) (kept_texts style asked texts) (Unit {0}) (Err fault) → MayRefuse style asked texts (table_fault fault)
-  refuses range fault (inl memory) = subst (λ (given : Fault). MayRefuse style asked texts (table_fault given)) (sym memory) tt
+  refuses : InRange (frame_under style texts) → (fault : Fault) → (fault ≡ Memory) ⊎ FitsAnswer (asked_frame style asked texts) (kept_texts style asked texts) (Unit {0}) (Err fault) → MayRefuse style asked texts fault
+  refuses range fault (inl memory) = subst (MayRefuse style asked texts) (sym memory) tt
   refuses range fault (inr is) = may-refuse range fault is
 
   out-of-range : ¬ (InRange (frame_under style texts)) → ¬ (AskedFits style asked texts)
@@ -41,9 +40,9 @@ module _ (style : Compact) (asked : Asked) (texts : List (List (List ℕ))) wher
   out-of-range out fits = out fits.0
 
   -- sizes that are refused
-  pub sizes-refused : (fault : Fault) → IsRefusal fault (¬ (InRange (frame_under style texts))) → MayRefuse style asked texts (table_fault fault)
-  sizes-refused fault (inl memory) = subst (λ (given : Fault). MayRefuse style asked texts (table_fault given)) (sym memory) tt
-  sizes-refused fault (inr range) = subst (λ (given : Fault). MayRefuse style asked texts (table_fault given)) (sym range.0) (out-of-range range.1)
+  pub sizes-refused : (fault : Fault) → IsRefusal fault (¬ (InRange (frame_under style texts))) → MayRefuse style asked texts fault
+  sizes-refused fault (inl memory) = subst (MayRefuse style asked texts) (sym memory) tt
+  sizes-refused fault (inr range) = subst (MayRefuse style asked texts) (sym range.0) (out-of-range range.1)
 
   has-table : InRange (frame_under style texts) → InRange (asked_frame style asked texts) → too_wide style asked texts ≡ None → HasTable style asked texts
   unfolding AskedFits
@@ -70,20 +69,6 @@ module _ (style : Compact) (asked : Asked) (texts : List (List (List ℕ))) wher
         (λ none _. record { fits = fits-natural style asked texts told range; room = room-natural style asked texts told none }) room room;
     refused = IfErr-weaker table _ _ (λ fault memory. refuses range fault (inl memory)) refused;
   }
-
-  -- what it is called above
-  pub refused-as : (table : Result (String Global) Fault) (given : Fault) (result : Result (String Global) TableFault) → Known table → table ≡ Err given → result ≡ Err (table_fault given) → IfErr result (MayRefuse style asked texts)
-  refused-as table given result known is told =
-      subst (λ (r : Result (String Global) TableFault). IfErr r (MayRefuse style asked texts)) (sym told) (subst (λ (t : Result (String Global) Fault). IfErr t (λ fault. MayRefuse style asked texts (table_fault fault))) is known.refused)
-
-  pub refused-by : (given : Fault) (result : Result (String Global) TableFault) → result ≡ Err (table_fault given) → MayRefuse style asked texts (table_fault given) → IfErr result (MayRefuse style asked texts)
-  refused-by given result told may = subst (λ (r : Result (String Global) TableFault). IfErr r (MayRefuse style asked texts)) (sym told) may
-
-  pub found-text : (table : Result (String Global) Fault) (found : String Global) → Known table → table ≡ Ok found → string_bytes found ≡ asked_text style asked texts
-  found-text table found known is = subst (λ (t : Result (String Global) Fault). IfOk t (λ text. string_bytes text ≡ asked_text style asked texts)) is known.text
-
-  pub found-fits : (table : Result (String Global) Fault) (found : String Global) → Known table → table ≡ Ok found → HasTable style asked texts
-  found-fits table found known is = subst (λ (t : Result (String Global) Fault). OnOk t (HasTable style asked texts)) is known.fits
 
 -- widths that were found, or none
 pub found-some : {A : Type 0} (items : A → List ℕ) (found : Option A) (widths : A) (P : Option (List ℕ)) → found ≡ Some widths → option_map items found ≡ P → P ≡ Some (items widths)

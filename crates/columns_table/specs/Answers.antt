@@ -3,21 +3,12 @@ use Rattle.std.specs.Prelude.{◌≡◌, ℕ, List, None, Some, ⊤}
 use Rattle.grid_config.specs.Compact.{Compact}
 use Rattle.grid_config.specs.Looks.{compact_look}
 use Rattle.grid_config_values.specs.declared.fault.Fault.{Fault}
-use Rattle.grid_config_values.specs.declared.fault.Fault.TheVariants.{Memory as NoMemory, Range as PassesMax, Room, Spans}
+use Rattle.grid_config_values.specs.declared.fault.Fault.TheVariants.{Memory, Range, Room, Spans}
 use Rattle.grid_records_measure.specs.TextLines.{line_feed}
 use Rattle.papergrid_picture.specs.Picture.{at}
 use Rattle.papergrid_picture.specs.Tables.{table_text}
 use Rattle.columns_asked.specs.Layout.{AskedFits, ended, frame_under, heights_of, too_wide, widths_of}
 use Rattle.columns_asked.specs.declared.asked.Asked.{Asked}
-use Rattle.columns_table.specs.declared.fault.TableFault.{TableFault}
-use Rattle.columns_table.specs.declared.fault.TableFault.TheVariants.{LineTooWide, Memory, Range}
-
--- what it is called where a grid has no table. A table of texts has no spans
-abbrev pub table_fault : Fault → TableFault
-table_fault NoMemory = Memory
-table_fault PassesMax = Range
-table_fault Spans = Range
-table_fault (Room row column) = LineTooWide row column
 
 -- the text of a table whose width isn't asked
 abbrev pub natural_text : Compact → List (List (List ℕ)) → List ℕ
@@ -30,8 +21,9 @@ module _ (style : Compact) (asked : Asked) (texts : List (List (List ℕ))) wher
     pub fits : AskedFits style asked texts
     pub room : too_wide style asked texts ≡ None
 
-  -- why it may be refused; the cases exclude one another, but for `Memory`
-  abbrev pub MayRefuse : TableFault → Type 0
+  -- why it may be refused; the cases exclude one another, but for `Memory`. A table of texts has no spans
+  abbrev pub MayRefuse : Fault → Type 0
   MayRefuse Range = ¬ (AskedFits style asked texts)
-  MayRefuse (LineTooWide row column) = AskedFits style asked texts × (too_wide style asked texts ≡ Some (at row column))
+  MayRefuse (Room row column) = AskedFits style asked texts × (too_wide style asked texts ≡ Some (at row column))
   MayRefuse Memory = ⊤
+  MayRefuse Spans = ⊥

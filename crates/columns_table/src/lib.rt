@@ -1,7 +1,6 @@
 //! The rows of a text as a table, in the width that is asked.
 #![tactic(auto)]
 
-mod fault;
 mod kept;
 mod least;
 mod placed;
@@ -9,6 +8,5 @@ mod rows;
 mod sizes;
 mod table;
 
-pub use fault::TableFault;
 pub use rows::{LineCell, Rows};
 pub use table::rows_table;

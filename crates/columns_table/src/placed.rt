@@ -33,7 +33,9 @@ impl<'a> PlacedRows<'a> {
         }
     }
 
-    // The cell at this place, and an empty one where its row has none.
+    // The cell at this place, and an empty one where its row has none. Printing asks for each cell a few
+    // times: hints on it and on what calls it let the look-ups be merged.
+    #[inline(always)]
     fn cell(&self, pos: Position) -> LineCell<'a>
         ensures text { result.text.now ≡ text_at (placed_texts self.now.starts.items self.now.cells.items) pos }
         ensures measured { IsMeasured result }
@@ -59,6 +61,7 @@ fn empty<'a>() -> LineCell<'a>
 }
 
 // The cell with this number, and after the last an empty one.
+#[inline(always)]
 fn cell_at<'a>(cells: &[LineCell<'a>], index: usize) -> LineCell<'a>
     requires { All IsMeasured cells.now }
     ensures text { result.text.now ≡ slice_index_or (map (λ cell. cell.text.now) cells.now) index [] }
@@ -72,6 +75,7 @@ fn cell_at<'a>(cells: &[LineCell<'a>], index: usize) -> LineCell<'a>
 }
 
 // The number at this place, and after the last the other one.
+#[inline(always)]
 fn number_at(numbers: &[usize], index: usize, other: usize) -> usize
     ensures { result ≡ slice_index_or numbers.now index other }
 {
@@ -117,10 +121,12 @@ impl<'a> ExactRecords for PlacedRows<'a> {
 
 /// A cell is one line, with the bytes that it has in the text.
 impl<'a> PeekableRecords for PlacedRows<'a> {
+    #[inline(always)]
     fn get_text(&self, pos: Position) -> &str {
         self.cell(pos).text
     }
 
+    #[inline(always)]
     fn get_line(
         &self,
         _alloc: Global,
@@ -133,10 +139,12 @@ impl<'a> PeekableRecords for PlacedRows<'a> {
         Ok(CowStr::Borrowed(self.get_text(pos)))
     }
 
+    #[inline(always)]
     fn count_lines(&self, _pos: Position) -> usize {
         1
     }
 
+    #[inline(always)]
     fn get_width(&self, pos: Position) -> usize {
         self.cell(pos).width
     }

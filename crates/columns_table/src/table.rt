@@ -14,7 +14,6 @@ ghost use Rattle.columns_table.specs.Answers.{HasTable, MayRefuse, natural_text}
 ghost use Rattle.columns_table.specs.Records.{IsMeasured};
 ghost use Rattle.columns_table.specs.Rows.{row_texts_of};
 
-use crate::fault::TableFault;
 use crate::kept::kept_rows;
 use crate::least::greatest;
 use crate::placed::PlacedRows;
@@ -31,15 +30,15 @@ use std::alloc::{AllocError, Global};
 /// The table of these rows under a style, each of its lines ended by a line feed, in the asked width.
 /// Where it would be wider its columns give, and each cell is wrapped or cut to the room that it has.
 /// Nothing where there are no rows. Refused as `Range` where its width or height passes `usize::MAX`,
-/// before its columns give or after; else as `LineTooWide` of the first cell, by row, then by column,
-/// with a line that takes more columns than the cell has; and as `Memory` where allocation fails.
+/// before its columns give or after; else as `Room` of the first cell, by row, then by column, with a
+/// line that takes more columns than the cell has; and as `Memory` where allocation fails.
 /// Each cell is one line that measures what it says, and the counts are of all cells.
 pub fn rows_table(
     alloc: Global,
     style: &CompactConfig,
     asked: &Asked,
     rows: Rows<'_>,
-) -> Result<String, TableFault>
+) -> Result<String, Fault>
     requires whole { sum rows.counts.items ≡ vec_len rows.cells }
     requires measured { All IsMeasured rows.cells.items }
     ensures table { IfOk result (λ table. string_bytes table ≡ asked_text (compact_of style.now) asked.now (row_texts_of rows.entry)) }
@@ -47,11 +46,10 @@ pub fn rows_table(
     ensures refused { IfErr result (MayRefuse (compact_of style.now) asked.now (row_texts_of rows.entry)) }
 {
     let sizes = sizes_of(alloc, &rows, style)?;
-    let table = match narrower(alloc, style, asked, &sizes)? {
+    match narrower(alloc, style, asked, &sizes)? {
         Some(widths) => narrowed_table(alloc, style, asked, rows, widths),
         None => natural_table(alloc, style, rows, sizes),
-    };
-    Ok(table?)
+    }
 }
 
 // The widths that the columns shrink to where the table of these sizes would be wider than it may.

@@ -2,8 +2,8 @@
 use crate::cells::{cells_of, lines_of, total};
 use ansi_scan::is_whole;
 use columns_asked::Asked;
-use columns_table::{Rows, TableFault, rows_table};
-use grid_config::{Borders, CompactConfig, Indent, Sides};
+use columns_table::{Rows, rows_table};
+use grid_config::{Borders, CompactConfig, Fault, Indent, Sides};
 use std::alloc::Global;
 use tabled_size_priority::Choice;
 
@@ -167,21 +167,21 @@ fn table_of(
     asked: &Asked,
     text: &str,
     counts: &[usize],
-) -> Result<String, TableFault> {
+) -> Result<String, Fault> {
     if !is_whole(text) {
-        return Err(TableFault::Memory);
+        return Err(Fault::Memory);
     }
     let lines = lines_of(alloc, text)?;
     let cells = cells_of(alloc, &lines)?;
     let counts = counts.to_vec(alloc)?;
     if total(&counts) != Some(cells.len()) {
-        return Err(TableFault::Memory);
+        return Err(Fault::Memory);
     }
     rows_table(alloc, style, asked, Rows { cells, counts })
 }
 
 #[test]
-fn rows_have_their_table(rt: HostRuntime) -> Result<(), TableFault> {
+fn rows_have_their_table(rt: HostRuntime) -> Result<(), Fault> {
     for case in TABLES {
         let (way, text, counts, wanted) = *case;
         let table = table_of(rt.alloc(), &ascii(), &asked_by(way), text, counts)?;
@@ -191,7 +191,7 @@ fn rows_have_their_table(rt: HostRuntime) -> Result<(), TableFault> {
 }
 
 #[test]
-fn no_rows_have_no_table(rt: HostRuntime) -> Result<(), TableFault> {
+fn no_rows_have_no_table(rt: HostRuntime) -> Result<(), Fault> {
     let style = ascii().set_padding(Sides::new(ENDLESS, ENDLESS, ENDLESS, ENDLESS));
     for asked in [NATURAL, wrapped(0), cut(0)] {
         let rows = Rows {
@@ -214,7 +214,7 @@ fn with_margin(lines: usize) -> CompactConfig {
 }
 
 #[test]
-fn sizes_out_of_range_are_refused(rt: HostRuntime) -> Result<(), TableFault> {
+fn sizes_out_of_range_are_refused(rt: HostRuntime) -> Result<(), Fault> {
     let padded = ascii().set_padding(Sides::new(ENDLESS, NONE, NONE, NONE));
     // a table of three lines is in range, and one of four is not
     let high = with_margin(usize::MAX - 3);
@@ -226,7 +226,7 @@ fn sizes_out_of_range_are_refused(rt: HostRuntime) -> Result<(), TableFault> {
     ];
     for (style, asked) in cases {
         let found = table_of(rt.alloc(), &style, &asked, "ab", &[1]);
-        assert!(rt; matches!(found, Err(TableFault::Range)));
+        assert!(rt; matches!(found, Err(Fault::Range)));
     }
     Ok(())
 }
