@@ -6,3 +6,5 @@ pub mod Rooming
 pub mod Drawing
 pub mod Tabling
 pub mod Keeping
+pub mod Unbroken
+pub mod Sparing

@@ -7,7 +7,7 @@ use Rattle.tabled_steps.specs.Outcomes.{MayRefuse}
 use Rattle.tabled_steps.specs.States.{Outcome, State, Steps, column_count}
 use Rattle.tabled_width.specs.Steps.{Measured}
 
-may_be : {Y : Type 0} (fault : Fault) (P Q : Result Y Fault → Type 0) → ((answer : Result Y Fault) → P answer → Q answer) → MayRefuse fault P → MayRefuse fault Q
+pub may_be : {Y : Type 0} (fault : Fault) (P Q : Result Y Fault → Type 0) → ((answer : Result Y Fault) → P answer → Q answer) → MayRefuse fault P → MayRefuse fault Q
 may_be Memory P Q leads may = tt
 may_be Range P Q leads may = leads (Err Range) may
 may_be Spans P Q leads may = leads (Err Spans) may

@@ -4,10 +4,15 @@ use Rattle.std.specs.Option.{option_or}
 use Rattle.grid_records_measure.specs.TextLines.{text_width}
 use Rattle.tabled_size_wrap.specs.Bytes.{cut_at, wrapped_text}
 use Rattle.tabled_width.specs.Filling.{filling}
+use Rattle.tabled_width.specs.Staying.{stays}
 
 -- a text is broken
 abbrev pub breaking : Bool → ℕ → List ℕ → Option (List ℕ)
 breaking keep_words width text = Some (wrapped_text width keep_words text)
+
+-- the same without those texts that the test of `Staying` finds: they are their own breaking (`laws::texts_that_stay`)
+abbrev pub breaking_others : Bool → ℕ → List ℕ → Option (List ℕ)
+breaking_others keep_words width text = if stays keep_words width text then None else breaking keep_words width text
 
 -- a text that measures more than the width is broken
 abbrev pub wrapping_wider : Bool → ℕ → List ℕ → Option (List ℕ)

@@ -1,6 +1,7 @@
 pub mod Widths
 pub mod Measures
 pub mod Filling
+pub mod Staying
 pub mod Breaking
 pub mod Cutting
 pub mod Keeping

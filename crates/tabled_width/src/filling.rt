@@ -1,6 +1,7 @@
 //! Texts whose lines are filled up to a width.
-ghost use Rattle.std.specs.Prelude.{◌≡◌, ◌++◌, [], ◌∷◌, encode_utf8_all, OnOk, string_bytes};
-ghost use Rattle.std.specs.List.{repeat};
+ghost use Rattle.std.specs.Prelude.{◌≡◌, ◌++◌, [], ◌∷◌, encode_utf8_all, IfOk, OnOk, map, string_bytes};
+ghost use Rattle.std.specs.List.{join_with_byte, repeat};
+ghost use Rattle.grid_records_measure.specs.TextLines.{line_feed, text_lines};
 ghost use Rattle.tabled_width.specs.Filling.{filled_line, filling};
 
 use crate::lines::{LineChange, change_lines};
@@ -21,12 +22,20 @@ impl RoomChange for Filling {
         if get_text_width(text) >= room {
             return Ok(None);
         }
-        let line = FilledLine {
-            width: room,
-            fill: self.fill,
-        };
-        Ok(Some(change_lines(alloc, text, &line)?))
+        Ok(Some(fill_lines(alloc, text, room, self.fill)?))
     }
+}
+
+/// The text with each of its lines filled up to the width. Fails only where allocation fails.
+pub(crate) fn fill_lines(
+    alloc: Global,
+    text: &str,
+    width: usize,
+    fill: char,
+) -> Result<String, AllocError>
+    ensures { IfOk result (λ out. string_bytes out ≡ join_with_byte line_feed (map (filled_line width fill) (text_lines text.now))) }
+{
+    change_lines(alloc, text, &FilledLine { width, fill })
 }
 
 // A line, filled up to a width.

@@ -1,14 +1,15 @@
 //! Cells that are all as wide.
-ghost use Rattle.std.specs.Prelude.{◌≡◌, IfOk, Some, string_bytes, unwrap_or};
+ghost use Rattle.std.specs.Prelude.{◌≡◌, IfOk, Some, string_bytes};
 ghost use Rattle.std.specs.Option.{option_map};
 ghost use Rattle.grid_config_values.specs.declared.entity.Entity.TheVariants.{Global as EveryCell};
+ghost use Rattle.grid_records_traits.specs.Cells.{HasWidth};
 ghost use Rattle.tabled_steps.specs.Changes.{changing};
 ghost use Rattle.tabled_width.specs.Breaking.{cutting_wider, justifying};
 ghost use Rattle.tabled_width.specs.Options.{justified_width};
 ghost use Rattle.tabled_width.specs.Steps.{Measured};
 
 use crate::cells::change_cells;
-use crate::filling::Filling;
+use crate::filling::fill_lines;
 use crate::room::RoomChange;
 use crate::width::Width;
 use grid_config::{ColoredConfig, Entity, Fault};
@@ -83,27 +84,27 @@ impl RoomChange for Justifying {
     ghost fitted = { λ _. justifying };
 
     fn fit(&self, alloc: Global, text: &str, room: usize) -> Result<Option<String>, AllocError> {
-        let filled = Filling { fill: ' ' }.fit(alloc, text, room)?;
-        let cut = cut_wider(alloc, text_or(&filled, text), room)?;
-        Ok(cut.or(filled))
+        let width = get_text_width(text);
+        if width >= room {
+            return cut_measured(alloc, text, width, room);
+        }
+        let filled = fill_lines(alloc, text, room, ' ')?;
+        let cut = cut_measured(alloc, &filled, get_text_width(&filled), room)?;
+        Ok(cut.or(Some(filled)))
     }
 }
 
-// The first text, where there is one, and else the other.
-fn text_or<'a>(first: &'a Option<String>, other: &'a str) -> &'a str
-    ensures { result.now ≡ unwrap_or (option_map string_bytes first.now) other.now }
-{
-    match first {
-        Some(first) => first.as_str(),
-        None => other,
-    }
-}
-
-// The cut of a text that measures more than the width.
-fn cut_wider(alloc: Global, text: &str, width: usize) -> Result<Option<String>, AllocError>
+// The cut of a text that measures so many columns, where they are more than the width.
+fn cut_measured(
+    alloc: Global,
+    text: &str,
+    columns: usize,
+    width: usize,
+) -> Result<Option<String>, AllocError>
+    requires { HasWidth text.now columns }
     ensures { IfOk result (λ out. option_map string_bytes out ≡ cutting_wider width text.now) }
 {
-    if get_text_width(text) <= width {
+    if columns <= width {
         return Ok(None);
     }
     Ok(Some(cut_styled(alloc, text, width)?.into_owned(alloc)?))

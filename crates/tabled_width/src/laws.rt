@@ -1,6 +1,6 @@
 //! Laws: which step each option is, and which sizes it clears; what measurements give; and lists worked
 //! out by hand.
-ghost use Rattle.std.specs.Prelude.{◌≡◌, false, ℕ, List, None, Ok, Result, Some, [], ◌∷◌, ◌++◌, codes};
+ghost use Rattle.std.specs.Prelude.{◌≡◌, Bool, false, true, ℕ, List, None, Ok, Result, Some, [], ◌∷◌, ◌++◌, codes};
 ghost use Rattle.grid_config.specs.Looks.{Look};
 ghost use Rattle.grid_config_values.specs.declared.entity.Entity.{Entity as Cells};
 ghost use Rattle.grid_config_values.specs.declared.entity.Entity.TheVariants.{Global as EveryCell, Row as OneRow};
@@ -18,7 +18,9 @@ ghost use Rattle.tabled_width.specs.Options.{justified_width, truncation, wideni
 ghost use Rattle.tabled_width.specs.Tables.{NarrowsTable, WidensTable};
 ghost use Rattle.tabled_width.specs.Cutting.{Cutting, truncating};
 ghost use Rattle.tabled_width.specs.Rooms.{column_widths, in_room};
-ghost use Rattle.tabled_width.specs.Breaking.{breaking, cutting_wider, justifying, one_then_other, wrapping_wider};
+ghost use Rattle.tabled_size_wrap.specs.Bytes.{wrapped_text};
+ghost use Rattle.tabled_width.specs.Staying.{stays};
+ghost use Rattle.tabled_width.specs.Breaking.{breaking, breaking_others, cutting_wider, justifying, one_then_other, wrapping_wider};
 ghost use Rattle.tabled_width.specs.Filling.{filling};
 ghost use Rattle.tabled_width.specs.declared.min_width.MinWidth.{MinWidth as OneMinWidth};
 ghost use Rattle.tabled_width.specs.declared.truncate.Truncate.{Truncate as OneTruncate};
@@ -93,6 +95,13 @@ pub fn worked_changes()
     ensures first { one_then_other (λ _. Some (codes "ab")) (λ _. None) (codes "b") ≡ Some (codes "ab") }
     ensures second { one_then_other (λ _. None) (λ text. Some (text ++ codes "!")) (codes "b") ≡ Some (codes "b!") }
     ensures none { one_then_other (λ _. None) (λ _. None) (codes "b") ≡ None }
+{}
+
+/// A text that is found to stay where it is broken at a width is its own breaking, so nothing has to be
+/// set: without ESC, and with lines that take at most the width.
+pub fn texts_that_stay()
+    ensures same { (keep_words : Bool) (width : ℕ) (text : List ℕ) → stays keep_words width text ≡ true → wrapped_text width keep_words text ≡ text }
+    ensures others { (keep_words : Bool) (width : ℕ) (text : List ℕ) → stays keep_words width text ≡ false → breaking_others keep_words width text ≡ breaking keep_words width text }
 {}
 
 /// Without a suffix, and as one text, a text that measures more than its room is its cut there, whatever

@@ -15,6 +15,7 @@ mod measures;
 mod min_width;
 mod room;
 mod rooms;
+mod staying;
 mod table;
 mod truncate;
 mod width;

@@ -3,13 +3,14 @@ ghost use Rattle.std.specs.Prelude.{◌≡◌, IfOk, Some, false, string_bytes};
 ghost use Rattle.grid_config_values.specs.declared.entity.Entity.TheVariants.{Global as EveryCell, Row as OneRow};
 ghost use Rattle.tabled_size_wrap.specs.Bytes.{wrapped_text};
 ghost use Rattle.tabled_steps.specs.Changes.{changing};
-ghost use Rattle.tabled_width.specs.Breaking.{breaking, wrapping_wider};
+ghost use Rattle.tabled_width.specs.Breaking.{breaking, breaking_others, wrapping_wider};
 ghost use Rattle.tabled_width.specs.Options.{wrapping};
 ghost use Rattle.tabled_width.specs.Steps.{Measured};
 ghost use Rattle.tabled_width.specs.Tables.{NarrowsTable};
 
 use crate::cells::change_cells;
 use crate::room::RoomChange;
+use crate::staying::stays;
 use crate::table::narrow_table;
 use crate::width::Width;
 use grid_config::{ColoredConfig, Entity, Fault};
@@ -153,16 +154,19 @@ impl<T: FromText, W: Measurement<Width> + Drop, P: Peaker + Drop> TableOption<
     }
 }
 
-// Breaks a text.
+// Breaks a text. One that plainly stays as it is isn't copied.
 #[derive(Drop)]
 struct Breaking {
     keep_words: bool,
 }
 
 impl RoomChange for Breaking {
-    ghost fitted = { λ change. breaking change.keep_words };
+    ghost fitted = { λ change. breaking_others change.keep_words };
 
     fn fit(&self, alloc: Global, text: &str, room: usize) -> Result<Option<String>, AllocError> {
+        if stays(text, room, self.keep_words) {
+            return Ok(None);
+        }
         Ok(Some(wrap_styled(alloc, text, room, self.keep_words)?))
     }
 }

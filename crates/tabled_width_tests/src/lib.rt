@@ -2,4 +2,6 @@
 #![tactic(auto)]
 
 #[cfg(test)]
+mod marked;
+#[cfg(test)]
 mod tests;

@@ -13,5 +13,5 @@ returns-then-get_text_width-room c =
 pub returns : goal.returns
 returns c =
     let text = c.args.text.now in
-    ap Some c.in_ok-change_lines.ensures
+    ap Some c.in_ok-fill_lines.ensures
     ∙ narrow_changes text c.get_text_width.result c.args.room c.get_text_width.ensures (join_with_byte line_feed (map (filled_line c.args.room c.args.self.now.fill) (text_lines text))) c.if-get_text_width-room.false
