@@ -1,4 +1,5 @@
 pub mod AcceptedLemmas
+pub mod ByteLemmas
 pub mod CellLemmas
 pub mod ItemLemmas
 pub mod OneLineLemmas
@@ -16,4 +17,5 @@ pub mod SplitLemmas
 pub mod StreamedLemmas
 pub mod TableLemmas
 pub mod TextLemmas
+pub mod TilingLemmas
 pub mod WorkedLemmas

@@ -1,12 +1,18 @@
 -- The table of a text: what the program writes for it, and what that shows.
-use Rattle.std.specs.Prelude.{ℕ, List, Option, None, false, map, chars, encode_utf8_all}
+use Rattle.std.specs.Prelude.{ℕ, List, Option, None, false, map, chars, encode_utf8_all, flat_map}
 use Rattle.columns_asked.specs.declared.asked.Asked.{Asked}
-use Rattle.columns_asked.specs.Layout.{AskedFits, asked_characters, asked_picture, asked_text, too_wide}
+use Rattle.columns_asked.specs.Asked.{Resize}
+use Rattle.columns_asked.specs.Layout.{AskedFits, asked_characters, asked_picture, asked_text, asked_widths, heights_of, kept_texts, narrowed, resize_in, too_wide}
 use Rattle.columns_options.specs.declared.options.Options.{Options}
 use Rattle.grid_config.specs.Compact.{compact_of}
+use Rattle.grid_config.specs.Looks.{compact_look}
 use Rattle.grid_config.specs.declared.compact.CompactConfig.{CompactConfig}
 use Rattle.grid_config_values.specs.declared.position.Position.{Position}
+use Rattle.papergrid_picture.specs.Blocks.{Grid}
+use Rattle.papergrid_picture.specs.Picture.{Piece, picture_line}
+use Rattle.papergrid_picture.specs.Reading.{part_items}
 use Rattle.papergrid_picture.specs.Shown.{Styled, character_of}
+use Rattle.papergrid_picture.specs.Tables.{in_bytes, table_grid}
 use Rattle.tabled_size_priority.specs.declared.choice.Choice.TheVariants.{None as InTurns}
 use Rattle.columns_run.specs.Rows.{cell_parts, rows_of, stripped}
 
@@ -23,6 +29,33 @@ without_width style = record { width = None; truncate = false; keep_words = fals
 -- the bytes of the table of a text, where each cell is a part of it with its own bytes
 unfoldable pub output_of : Options → List ℕ → List ℕ
 output_of options input = asked_text (compact_of options.style) (asked_of options) (cell_parts input)
+
+-- ---- by its pieces
+
+-- what is done to the cells of a column
+unfoldable pub resize_of : Options → List ℕ → ℕ → Resize
+resize_of options input column =
+    let style = compact_of options.style in
+    let asked = asked_of options in
+    resize_in style asked (narrowed style asked (cell_parts input)) column
+
+-- the texts of the cells once they are resized
+unfoldable pub kept_of : Options → List ℕ → List (List (List ℕ))
+kept_of options input = kept_texts (compact_of options.style) (asked_of options) (cell_parts input)
+
+-- the grid that the table of a text is drawn from: where its lines and their pieces stand
+unfoldable pub grid_of : Options → List ℕ → Grid
+grid_of options input =
+    let style = compact_of options.style in
+    table_grid (compact_look style) (kept_of options input) (λ _. None) (asked_widths style (asked_of options) (cell_parts input)) (heights_of style (kept_of options input))
+
+-- the bytes of a piece: a glyph and a fill have those of their character in each of their columns, and a line of a cell its own
+unfoldable pub piece_bytes : Options → List ℕ → Piece → List ℕ
+piece_bytes options input piece = part_items (in_bytes (compact_look (compact_of options.style)) (kept_of options input)) piece.part
+
+-- line y of the table
+abbrev pub line_bytes : Options → List ℕ → ℕ → List ℕ
+line_bytes options input y = flat_map (piece_bytes options input) (picture_line (grid_of options input) y)
 
 -- ---- with styles
 

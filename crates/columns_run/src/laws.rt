@@ -1,16 +1,25 @@
 //! Laws over the definitions, each the contract of a function that does nothing.
-ghost use Rattle.std.specs.Prelude.{◌≡◌, ◌↔◌, ℕ, ◌<◌, chars, false, true, codes, List, ◌∷◌, [], map, IsUtf8, None, Option, Result, ⊤};
+ghost use Rattle.std.specs.Prelude.{◌≡◌, ◌↔◌, ℕ, ◌<◌, ◌++◌, chars, encode_utf8, false, flat_map, true, codes, List, ◌∷◌, [], map, replicate, slice_index_or, IsUtf8, None, Option, Result, ⊤};
+ghost use Rattle.std.specs.List.{range_with_len};
 ghost use Rattle.std.specs.Str.{encode_utf8_all};
 ghost use Rattle.ansi_scan.specs.Sequences.{Piece, ArePiecesOf, NoneBroken, IsWhole};
 ghost use Rattle.ansi_str.specs.StyledText.{has_escape, strip};
 ghost use Rattle.ansi_str.specs.Matches.{AreMatches};
+ghost use Rattle.columns_asked.specs.Resizing.{resized_text};
 ghost use Rattle.columns_asked.specs.Worked.{cuts, wraps};
 ghost use Rattle.columns_options.specs.Settings.{default_settings};
 ghost use Rattle.columns_options.specs.declared.options.Options.{Options};
 ghost use Rattle.grid_config.specs.Compact.{compact_of};
+ghost use Rattle.grid_config_values.specs.declared.position.Position.{Position as Cell};
+ghost use Rattle.grid_records_measure.specs.TextLines.{text_lines};
+ghost use Rattle.grid_records_traits.specs.Rows.{IsInside, text_at};
+ghost use Rattle.papergrid_picture.specs.Blocks.{Fill, Glyph, TextLine};
+ghost use Rattle.papergrid_picture.specs.Frame.{column_count, line_count, row_count, total_width};
+ghost use Rattle.papergrid_picture.specs.Picture.{Piece as TablePiece, at, picture_line};
 ghost use Rattle.papergrid_picture.specs.Shown.{Styled, in_plain};
-ghost use Rattle.columns_run.specs.Rows.{places};
-ghost use Rattle.columns_run.specs.Layout.{TableFits, asked_of, characters_of, output_of, picture, table_characters, wide_cell, without_width};
+ghost use Rattle.papergrid_picture.specs.Tiling.{IsLineOf, ShowsBlock, Tiles};
+ghost use Rattle.columns_run.specs.Rows.{cell_parts, line_feed, places};
+ghost use Rattle.columns_run.specs.Layout.{TableFits, asked_of, characters_of, grid_of, kept_of, line_bytes, output_of, picture, piece_bytes, resize_of, table_characters, wide_cell, without_width};
 ghost use Rattle.columns_run.specs.Plain.{IsPlain};
 ghost use Rattle.columns_run.specs.TableShown.{ShowsTableOf};
 ghost use Rattle.columns_run.specs.Run.{HasTable, MayRefuse, Serves};
@@ -85,6 +94,34 @@ pub fn without_styles()
     ensures too_wide { (options : Options) (input : List ℕ) (ps : List Piece) → ArePiecesOf input ps → wide_cell options (strip ps) ≡ wide_cell options input }
     ensures output { (options : Options) (input : List ℕ) (ps qs : List Piece) → IsPlain (compact_of options.style) →
         IsUtf8 input → ArePiecesOf input ps → NoneBroken ps → ArePiecesOf (output_of options input) qs → strip qs ≡ output_of options (strip ps) }
+{}
+
+/// The output is drawn by the pieces of a grid: it is the lines of the grid, each the bytes of its pieces and
+/// then a line feed. Where the input has a table, the pieces of each line stand side by side from column 0
+/// to the table's width, with no gap and no overlap. The style is plain.
+pub fn tiling()
+    ensures output { (options : Options) (input : List ℕ) → IsPlain (compact_of options.style) →
+        output_of options input ≡ flat_map (λ y. line_bytes options input y ++ line_feed ∷ []) (range_with_len 0 (line_count (grid_of options input).frame)) }
+    ensures lines { (options : Options) (input : List ℕ) (y : ℕ) → HasTable options input →
+        Tiles 0 (picture_line (grid_of options input) y) (total_width (grid_of options input).frame) }
+{}
+
+/// What the pieces are. In each line of the rectangle of a cell those between its first column and its last
+/// are one line of the cell's block: paddings, what is left free, and between them a line of the cell's text,
+/// with just the bytes that it has there. All other pieces are characters, each in as many columns as it
+/// takes. The cell's text is its part of the input, wrapped or cut where its column gave.
+pub fn cell_lines_keep_their_bytes()
+    ensures blocks { (options : Options) (input : List ℕ) (i j y : ℕ) → HasTable options input →
+        i < row_count (grid_of options input).frame → j < column_count (grid_of options input).frame →
+        IsLineOf (grid_of options input) (at i j) y → ShowsBlock (grid_of options input) (at i j) y }
+    ensures texts { (options : Options) (input : List ℕ) (piece : TablePiece) (cell : Cell) (k : ℕ) → piece.part.content ≡ TextLine cell k →
+        piece_bytes options input piece ≡ slice_index_or (text_lines (text_at (kept_of options input) cell)) k [] }
+    ensures fills { (options : Options) (input : List ℕ) (piece : TablePiece) (c : ℕ) → piece.part.content ≡ Fill c →
+        piece_bytes options input piece ≡ flat_map encode_utf8 (replicate piece.part.width c) }
+    ensures glyphs { (options : Options) (input : List ℕ) (piece : TablePiece) (c : ℕ) → piece.part.content ≡ Glyph c →
+        piece_bytes options input piece ≡ flat_map encode_utf8 (replicate piece.part.width c) }
+    ensures kept { (options : Options) (input : List ℕ) (cell : Cell) → IsInside (cell_parts input) cell →
+        text_at (kept_of options input) cell ≡ resized_text (resize_of options input cell.col) (text_at (cell_parts input) cell) }
 {}
 
 /// An input that has no table is refused by one name and place alone, memory and the reader aside; one that has

@@ -1,0 +1,163 @@
+-- The pieces of each line of a table stand side by side.
+use Rattle.std.proofs.Common.{◌≡◌, ◌&&◌, cond, ℕ, zero, suc, ◌+◌, ◌-◌, ◌<◌, ◌≤◌, nat_lt, Bool, true, false, List, [], ◌∷◌, ◌++◌, Option, None, Some, length, map, take, refl, ap, sym, subst, ◌∙◌, arith}
+use Rattle.std.specs.List.{find, flat_map, range_with_len}
+use Rattle.std.specs.Option.{option_or}
+use Rattle.std.proofs.Math.Path.{fun_ext}
+use Rattle.std.proofs.lemmas.Bool.Decides.{nat_tests}
+use Rattle.std.proofs.lemmas.List.{map-append}
+use Rattle.std.proofs.lemmas.List.Concat.{flat_map-append}
+use Rattle.std.proofs.lemmas.List.Folds.{find-append}
+use Rattle.ansi_scan.specs.Pieces.{pieces}
+use Rattle.columns_asked.specs.Layout.{asked_widths, heights_of, kept_texts, too_wide}
+use Rattle.columns_options.specs.declared.options.Options.{Options}
+use Rattle.columns_table.proofs.NaturalLemmas.{positive-none}
+use Rattle.grid_config.specs.Compact.{Compact, compact_of}
+use Rattle.grid_config.specs.Looks.{compact_look}
+use Rattle.grid_config_spans.proofs.Order.{same_itself}
+use Rattle.grid_config_spans.proofs.Owners.{owner_holds}
+use Rattle.grid_config_spans.proofs.Parting.{good_without}
+use Rattle.grid_config_spans.specs.Owners.{owner}
+use Rattle.grid_config_spans.specs.Spans.{extent_at, single}
+use Rattle.grid_config_spans.specs.declared.extent.Extent.{Extent}
+use Rattle.grid_config_values.specs.Entities.{table_positions}
+use Rattle.grid_config_values.specs.Order.{same_place}
+use Rattle.grid_config_values.specs.declared.position.Position.{Position}
+use Rattle.grid_records_measure.specs.TextLines.{line_measure, shown_lines, text_width, widest}
+use Rattle.grid_records_traits.specs.Rows.{text_at}
+use Rattle.papergrid_fits.proofs.First.{range-at}
+use Rattle.papergrid_picture.proofs.TilingLemmas.{Tiles-picture, rectangle-shown}
+use Rattle.papergrid_picture.specs.Blocks.{Grid, greatest}
+use Rattle.papergrid_picture.specs.CellLines.{cell_measures}
+use Rattle.papergrid_picture.specs.Fitting.{first_too_wide, is_too_wide, need}
+use Rattle.papergrid_picture.specs.Frame.{Frame, block_width, column_count, frame_of, row_count, total_width}
+use Rattle.papergrid_picture.specs.Picture.{at, picture_line, seen}
+use Rattle.papergrid_picture.specs.Tables.{table_grid}
+use Rattle.papergrid_picture.specs.Tiling.{HasGoodSpans, HasRoom, IsLineOf, ShowsBlock, Tiles}
+use Rattle.columns_run.specs.Layout.{asked_of, grid_of, kept_of}
+use Rattle.columns_run.specs.Rows.{cell_parts}
+use Rattle.columns_run.specs.Run.{HasTable}
+use Rattle.columns_run.proofs.CellLemmas.{whole_text}
+use Rattle.columns_run.proofs.TableLemmas.{wide-same}
+
+-- ---- none is found: each fails the test
+
+neither : {X : Type 0} (first second : Option X) → option_or first second ≡ None → (first ≡ None) × (second ≡ None)
+neither None second none = (refl, none)
+neither (Some x) second none = absurd (cc none)
+
+none-both : {X : Type 0} (test : X → Bool) (xs ys : List X) → find test (xs ++ ys) ≡ None → (find test xs ≡ None) × (find test ys ≡ None)
+none-both test xs ys none = neither (find test xs) (find test ys) (sym (find-append test xs ys) ∙ none)
+
+none-here : {X : Type 0} (test : X → Bool) (x : X) (xs : List X) → find test (x ∷ xs) ≡ None → test x ≡ false
+none-here {X} test x xs none = elim (test x) as (λ b. cond b (Some x) (find test xs) ≡ None → b ≡ false) [
+  | true ↦ λ found. absurd (cc found)
+  | false ↦ λ _. refl
+] none
+
+none-passes : (test : Position → Bool) (rows columns i j : ℕ) → i < rows → j < columns → find test (table_positions rows columns) ≡ None → test (at i j) ≡ false
+none-passes test rows columns i j row column none =
+    let in_row = λ (k : ℕ). map (at k) (range_with_len 0 columns) in
+    let parted = ap (flat_map in_row) (range-at i rows row) ∙ flat_map-append in_row (range_with_len 0 i) (i ∷ range_with_len (i + 1) (rows - (i + 1))) in
+    let behind = (none-both test (flat_map in_row (range_with_len 0 i)) (in_row i ++ flat_map in_row (range_with_len (i + 1) (rows - (i + 1)))) (ap (find test) (sym parted) ∙ none)).1 in
+    let here = (none-both test (in_row i) (flat_map in_row (range_with_len (i + 1) (rows - (i + 1)))) behind).0 in
+    let row_parted = ap (map (at i)) (range-at j columns column) ∙ map-append (at i) (range_with_len 0 j) (j ∷ range_with_len (j + 1) (columns - (j + 1))) in
+    let last = (none-both test (map (at i) (range_with_len 0 j)) (at i j ∷ map (at i) (range_with_len (j + 1) (columns - (j + 1)))) (ap (find test) (sym row_parted) ∙ here)).1 in
+    none-here test (at i j) (map (at i) (range_with_len (j + 1) (columns - (j + 1)))) last
+
+-- ---- measures
+
+among-first : (n : ℕ) (lines : List (List ℕ)) → greatest (map line_measure (take n lines)) ≤ widest lines
+among-first zero lines = omega arith
+among-first (suc n) [] = omega arith
+among-first (suc n) (line ∷ lines) = omega (arith, among-first n lines)
+
+-- no line of a cell measures more than the widest
+within-widest : (text : List ℕ) → greatest (cell_measures false false text) ≤ text_width text
+unfolding text_width
+within-widest text = let lines = shown_lines (pieces text) in among-first (length lines) lines
+
+-- ---- single cells
+
+no_spans : (p : Position) → single ≡ extent_at [] p
+unfolding extent_at
+no_spans p = refl
+
+single-extent : (p : Position) → (extent_at [] p).rows ≡ 1 × ((extent_at [] p).columns ≡ 1)
+unfolding extent_at
+single-extent p = (refl, refl)
+
+module _ (style : Compact) (texts : List (List (List ℕ))) (widths heights : List ℕ) where
+  abbrev grid : Grid
+  grid = table_grid (compact_look style) texts (λ _. None) widths heights
+
+  abbrev frame : Frame
+  frame = frame_of (compact_look style) widths heights
+
+  extents : (compact_look style).extent ≡ extent_at []
+  extents = fun_ext no_spans
+
+  good : HasGoodSpans grid []
+  good = record { extents = extents; positive = positive-none; good = good_without (row_count frame) (column_count frame) }
+
+  itself : (i j : ℕ) → owner (extent_at []) (at i j) ≡ at i j
+  itself i j =
+      let held = owner_holds [] (at i j) positive-none in
+      let one = single-extent (owner (extent_at []) (at i j)) in
+      let row : (owner (extent_at []) (at i j)).row ≡ i = omega (arith, held.below, held.above, one.0) in
+      let column : (owner (extent_at []) (at i j)).col ≡ j = omega (arith, held.right, held.left, one.1) in
+      λ k. record { row = row k; col = column k }
+
+  -- each cell is seen at its own place
+  pub seen-itself : (i j : ℕ) → seen grid i j ≡ at i j
+  seen-itself i j = ap (λ (extent : Position → Extent). owner extent (at i j)) extents ∙ itself i j
+
+  module _ (none : first_too_wide (frame_of (compact_look style) widths heights) texts ≡ None) where
+    enough : (i j : ℕ) → i < row_count frame → j < column_count frame →
+        greatest (grid.measures (at i j)) + style.padding.left.size + style.padding.right.size ≤ block_width frame (at i j)
+    enough i j row column =
+        let cell = at i j in
+        let look = compact_look style in
+        let test : is_too_wide frame texts cell ≡ false = none-passes (is_too_wide frame texts) (row_count frame) (column_count frame) i j row column none in
+        let own : same_place (owner look.extent cell) cell ≡ true = ap (λ place. same_place place cell) (seen-itself i j) ∙ same_itself cell in
+        let narrow : nat_lt (block_width frame cell) (need look texts cell) ≡ false = ap (λ b. b && nat_lt (block_width frame cell) (need look texts cell)) (sym own) ∙ test in
+        let needed : need look texts cell ≤ block_width frame cell = grind (arith, nat_tests, narrow) in
+        omega (arith, needed, within-widest (text_at texts cell))
+
+    pub room : HasRoom grid
+    room = record {
+      room = λ i j row column.
+          subst (λ (cell : Position). greatest (grid.measures cell) + style.padding.left.size + style.padding.right.size ≤ block_width frame cell) (sym (seen-itself i j)) (enough i j row column);
+    }
+
+    pub lines-tiled : (y : ℕ) → Tiles 0 (picture_line grid y) (total_width frame)
+    lines-tiled y = Tiles-picture grid [] good room refl y
+
+    pub block-shown : (i j y : ℕ) → i < row_count frame → j < column_count frame → IsLineOf grid (at i j) y → ShowsBlock grid (at i j) y
+    block-shown i j y row column inside =
+        subst (λ (cell : Position). ShowsBlock grid cell y) (seen-itself i j)
+        (rectangle-shown grid [] good room refl i j y row column (subst (λ (cell : Position). IsLineOf grid cell y) (sym (seen-itself i j)) inside))
+
+-- ---- the table of a text
+
+module _ (options : Options) (input : List ℕ) where
+  none-wide : HasTable options input → too_wide (compact_of options.style) (asked_of options) (cell_parts input) ≡ None
+  none-wide has = wide-same options input (whole_text input has.0 has.1) ∙ has.3
+
+  pub tiled : (y : ℕ) → HasTable options input → Tiles 0 (picture_line (grid_of options input) y) (total_width (grid_of options input).frame)
+  unfolding grid_of kept_of too_wide
+  tiled y has =
+      let style = compact_of options.style in
+      let asked = asked_of options in
+      let texts = cell_parts input in
+      let kept = kept_texts style asked texts in
+      lines-tiled style kept (asked_widths style asked texts) (heights_of style kept) (none-wide has) y
+
+  pub shows-block : (i j y : ℕ) → HasTable options input → i < row_count (grid_of options input).frame → j < column_count (grid_of options input).frame
+      → IsLineOf (grid_of options input) (at i j) y → ShowsBlock (grid_of options input) (at i j) y
+  unfolding grid_of kept_of too_wide
+  shows-block i j y has row column inside =
+      let style = compact_of options.style in
+      let asked = asked_of options in
+      let texts = cell_parts input in
+      let kept = kept_texts style asked texts in
+      block-shown style kept (asked_widths style asked texts) (heights_of style kept) (none-wide has) i j y row column inside
