@@ -1,8 +1,9 @@
 //! Tables of arrays of rows.
 use grid_config::Fault;
+use grid_records_traits::IntoRecords;
 use std::alloc::{AllocError, Global};
 use std::test::Fail;
-use tabled_compact::CompactTable;
+use tabled_compact::{CompactTable, RowArray};
 
 // A row of two texts.
 fn pair(alloc: Global) -> Result<[[String; 2]; 1], AllocError> {
@@ -24,9 +25,12 @@ fn text_of_pair(alloc: Global) -> Result<String, Fault> {
     table.to_string(alloc)
 }
 
-// The same table of borrowed texts.
-fn text_of_lent(alloc: Global) -> Result<String, Fault> {
-    let table = CompactTable::from([["a", "bc"]]);
+// The same of an array of two texts of any kind.
+fn text_of<I: RowArray<2, 1> + IntoRecords + Drop>(
+    alloc: Global,
+    rows: I,
+) -> Result<String, Fault> {
+    let table = CompactTable::from(rows);
     table.to_string(alloc)
 }
 
@@ -40,7 +44,7 @@ fn text_of_lines(alloc: Global) -> Result<String, Fault> {
 fn columns_are_as_wide_as_their_texts(rt: HostRuntime) -> Result<(), Fail> {
     let text = "+---+----+\n| a | bc |\n+---+----+";
     assert!(&rt; text_of_pair(rt.alloc())?.as_str() == text);
-    assert!(&rt; text_of_lent(rt.alloc())?.as_str() == text);
+    assert!(&rt; text_of(rt.alloc(), [["a", "bc"]])?.as_str() == text);
     Ok(())
 }
 
