@@ -1,6 +1,7 @@
 //! Laws of the definitions that the contracts cite.
 ghost use Rattle.std.specs.List.{join_with_byte, range_with_len};
-ghost use Rattle.std.specs.Prelude.{◌≡◌, ◌<◌, ◌≤◌, ℕ, Bool, IfSome, String, [], ◌∷◌, List, None, Ok, Option, Some, map, unwrap_or};
+ghost use Rattle.std.specs.Prelude.{◌≡◌, ◌↔◌, ◌<◌, ◌≤◌, ℕ, Bool, IfSome, String, [], ◌∷◌, List, None, Ok, Option, Some, map, true, unwrap_or};
+ghost use Rattle.std.specs.declared.cmp.Ordering.TheVariants.{Equal};
 ghost use Rattle.std.proofs.Common.{Global as Heap};
 ghost use Rattle.ansi_scan.specs.Pieces.{pieces};
 ghost use Rattle.ansi_str.specs.StyledText.{styled};
@@ -11,11 +12,12 @@ ghost use Rattle.grid_records_measure.specs.Cutting.{ShowsCut};
 ghost use Rattle.grid_records_measure.specs.TextLines.{line_feed};
 ghost use Rattle.grid_records_traits.specs.Rows.{IsInside, text_at};
 ghost use Rattle.papergrid_picture.specs.Shown.{IsWholeText};
-ghost use Rattle.tabled.specs.Layout.{batches, multiples};
+ghost use Rattle.tabled.specs.Layout.{batches, multiples, values_left};
 ghost use Rattle.tabled.specs.Narrowed.{GivesOnly, IsPlainlyPrinted, TakesAll, least_total, line_columns};
 ghost use Rattle.tabled.specs.Printing.{printed};
 ghost use Rattle.tabled.specs.Tables.{new_state};
 ghost use Rattle.tabled.specs.Totals.{drawn_height, drawn_line, drawn_width};
+ghost use Rattle.tabled.specs.declared.layout.LayoutIterator.{LayoutIterator as BatchRows};
 ghost use Rattle.tabled_list.specs.Amounts.{width_of};
 ghost use Rattle.tabled_list.specs.Priorities.{shrinks_so};
 ghost use Rattle.tabled_list.specs.Settings.{setting_step};
@@ -33,6 +35,7 @@ ghost use Rattle.tabled_width.specs.Tables.{narrowed};
 ghost use Rattle.tabled_width.specs.declared.truncate.Truncate.{Truncate as OneTruncate};
 ghost use Rattle.tabled_width.specs.declared.wrap.Wrap.{Wrap as OneWrap};
 
+use crate::layout::LayoutIterator;
 use grid_config::ColoredConfig;
 use grid_records_rows::{FromText, VecRecords};
 use tabled_size_dimension::CompleteDimension;
@@ -48,6 +51,16 @@ pub fn batches_by_hand()
     ensures even { multiples (batches 4 2) 2 ≡ 0 ∷ 2 ∷ [] }
     ensures of_nothing { multiples (batches 5 0) 0 ≡ [] }
     ensures no_rows { multiples (batches 0 2) 2 ≡ [] }
+{}
+
+/// `==` of iterators over batches is equality of all their parts, and `cmp` finds the same ones equal. A clone
+/// is the same iterator and is never refused, and one that is made by default gives nothing.
+pub fn iterators_are_compared_and_cloned_whole()
+    ensures equality { (a b : BatchRows) → (⟦<LayoutIterator as PartialEq>⟧.eq a b ≡ true) ↔ (a ≡ b) }
+    ensures order { (a b : BatchRows) → (⟦<LayoutIterator as Ord>⟧.cmp a b ≡ Equal) ↔ (a ≡ b) }
+    ensures clone { (source clone : BatchRows) → ⟦<LayoutIterator as Clone>⟧.is_clone source clone → clone ≡ source }
+    ensures comes { (source : BatchRows) → ⟦<LayoutIterator as Clone>⟧.is_infallible source }
+    ensures at_first { (begun : BatchRows) → ⟦<LayoutIterator as Default>⟧.is_default begun → values_left begun ≡ [] }
 {}
 
 /// The text of a table is its lines, as many as its total height says, with a line feed between each two. Where

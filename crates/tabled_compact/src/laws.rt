@@ -1,5 +1,5 @@
 //! Laws of the definitions that the contracts cite.
-ghost use Rattle.std.specs.Prelude.{◌≡◌, [], ◌∷◌, Some, codes};
+ghost use Rattle.std.specs.Prelude.{◌≡◌, ◌↔◌, [], ◌∷◌, Some, codes, true};
 ghost use Rattle.grid_config.specs.Compact.{Compact, compact_of};
 ghost use Rattle.grid_config.specs.Looks.{compact_look};
 ghost use Rattle.grid_config.specs.declared.compact.CompactConfig.{CompactConfig as CompactSettings};
@@ -12,10 +12,14 @@ ghost use Rattle.tabled_options.specs.declared.style.Style.{Style as OneStyle};
 ghost use Rattle.grid_config_values.specs.declared.entity.Entity.TheVariants.{Global as EveryCell};
 ghost use Rattle.tabled_steps.specs.Looks.{with_borders, with_margin, with_padding};
 ghost use Rattle.tabled_steps.specs.States.{Outcome, State, looking};
-ghost use Rattle.tabled_compact.specs.Tables.{begun, flat_look, shown_rows};
+ghost use Rattle.tabled_compact.specs.Tables.{begun, compacted, flat_look, shown_rows};
+ghost use Rattle.tabled_compact.specs.declared.fault.BuildFault.{BuildFault as OneFault};
+ghost use Rattle.tabled_compact.specs.declared.table.CompactTable.{CompactTable as OneTable};
 
+use crate::fault::BuildFault;
+use crate::table::CompactTable;
 use grid_config::CompactConfig;
-use grid_records_traits::RecordTexts;
+use grid_records_traits::{Dimension, RecordTexts};
 use tabled_options::{Margin, Padding, Style};
 use tabled_steps::{KeptSizes, TableOption};
 
@@ -47,4 +51,20 @@ pub fn options_are_their_steps<R: RecordTexts, D: KeptSizes>()
         looking (with_padding EveryCell (padding_sides padding)) state ≡ outcome }
     ensures whole { (settings : CompactSettings) (state : State) (outcome : Outcome) → ⟦<CompactConfig as TableOption<R, CompactConfig, D>>⟧.step settings state outcome →
         looking (λ _. compact_look (compact_of settings)) state ≡ outcome }
+{}
+
+/// `==` of refusals is equality, and a clone is the same refusal, and is never refused.
+pub fn faults_are_compared_and_cloned_whole()
+    ensures equality { (a b : OneFault) → (⟦<BuildFault as PartialEq>⟧.eq a b ≡ true) ↔ (a ≡ b) }
+    ensures clone { (source clone : OneFault) → ⟦<BuildFault as Clone>⟧.is_clone source clone → clone ≡ source }
+    ensures comes { (source : OneFault) → ⟦<BuildFault as Clone>⟧.is_infallible source }
+{}
+
+/// A clone of a table is the same table, where one of its source has the same rows, and one of its sizes the
+/// same widths.
+pub fn clones_are_the_same<I: RecordTexts + Clone, D: Dimension + Clone>()
+    ensures { ((x y : I) → I.Clone.is_clone x y → I.RecordTexts.rows y ≡ I.RecordTexts.rows x) →
+        ((x y : D) → D.Clone.is_clone x y → D.Dimension.width y ≡ D.Dimension.width x) →
+        (source clone : OneTable I D) → ⟦<CompactTable<I, D> as Clone>⟧.is_clone source clone →
+        compacted I.RecordTexts.rows D.Dimension.width clone ≡ compacted I.RecordTexts.rows D.Dimension.width source }
 {}

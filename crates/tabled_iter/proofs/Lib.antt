@@ -1,3 +1,4 @@
+mod Equality
 mod Measures
 mod Pictures
 mod Shapes

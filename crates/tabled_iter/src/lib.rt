@@ -2,6 +2,7 @@
 #![tactic(auto)]
 
 mod content;
+pub mod laws;
 mod layout;
 mod padded;
 mod printing;
