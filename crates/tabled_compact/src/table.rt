@@ -1,7 +1,7 @@
 //! A table over a source of rows, each printed in one line.
 ghost use Rattle.std.specs.Borrow.{sem};
 ghost use Rattle.std.specs.Io.KnownBytes.{Appends};
-ghost use Rattle.std.specs.Prelude.{◌≡◌, ◌++◌, ◌⊎◌, Err, IfErr, IfOk, IsErrOf, Ok, OnErr, OnOk, Some, string_bytes};
+ghost use Rattle.std.specs.Prelude.{◌≡◌, ◌++◌, ◌⊎◌, [], Err, IfErr, IfOk, IsErrOf, Ok, OnErr, OnOk, Some, string_bytes};
 ghost use Rattle.grid_config.specs.Compact.{compact_of};
 ghost use Rattle.grid_config_values.specs.declared.fault.Fault.TheVariants.{Memory};
 ghost use Rattle.grid_records_traits.specs.Rows.{fitted};
@@ -250,6 +250,7 @@ impl<I: IntoRecords, D: Dimension + Drop> CompactTable<I, D> {
         ensures whole { OnOk result (Appends (W.contents (inner_of writer.old)) (W.contents (inner_of writer.new)) (printed (compacted I.RecordTexts.rows D.width self))) }
         ensures front { IfErr result (λ fault. ¬ (NoTable fault) → AppendsFront (W.contents (inner_of writer.old)) (W.contents (inner_of writer.new)) (printed (compacted I.RecordTexts.rows D.width self))) }
         ensures untouched { IfErr result (λ fault. NoTable fault → writer.new ≡ writer.old) }
+        ensures nothing { printed (compacted I.RecordTexts.rows D.width self) ≡ [] → writer.new ≡ writer.old }
         ensures fits { IfOk result (λ _. Fits (compacted I.RecordTexts.rows D.width self)) }
         ensures table { IfErr result (BuildRefusal (Fits (compacted I.RecordTexts.rows D.width self)) (IsFit (compacted I.RecordTexts.rows D.width self))) }
         ensures write { FailsIff (IsErrOf result BuildFault.Write) writer.old writer.new }

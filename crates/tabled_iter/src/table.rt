@@ -1,6 +1,6 @@
 //! A table over a source of rows that is read once.
 ghost use Rattle.std.specs.Io.KnownBytes.{Appends};
-ghost use Rattle.std.specs.Prelude.{◌≡◌, ◌++◌, ◌⊎◌, Err, IfErr, IfOk, IsErrOf, Ok, OnErr, OnOk, Some, string_bytes};
+ghost use Rattle.std.specs.Prelude.{◌≡◌, ◌++◌, ◌⊎◌, [], Err, IfErr, IfOk, IsErrOf, Ok, OnErr, OnOk, Some, string_bytes};
 ghost use Rattle.grid_config_values.specs.declared.fault.Fault.TheVariants.{Memory};
 ghost use Rattle.tabled_compact.specs.Building.{BuildRefusal, NoTable};
 ghost use Rattle.tabled_iter.specs.Tables.{IsFit, KeepsShape, begun, printed, seen, streamed};
@@ -190,6 +190,7 @@ impl<I: IntoRecords> IterTable<I> {
         ensures whole { OnOk result (Appends (W.contents (inner_of writer.old)) (W.contents (inner_of writer.new)) (printed (streamed I.RecordTexts.rows self))) }
         ensures front { IfErr result (λ fault. ¬ (NoTable fault) → AppendsFront (W.contents (inner_of writer.old)) (W.contents (inner_of writer.new)) (printed (streamed I.RecordTexts.rows self))) }
         ensures untouched { IfErr result (λ fault. NoTable fault → writer.new ≡ writer.old) }
+        ensures nothing { printed (streamed I.RecordTexts.rows self) ≡ [] → writer.new ≡ writer.old }
         ensures fits { OnOk result (IsFit (streamed I.RecordTexts.rows self) (Ok tt)) }
         ensures table { IfErr result (BuildRefusal (IsFit (streamed I.RecordTexts.rows self) (Ok tt)) (IsFit (streamed I.RecordTexts.rows self))) }
         ensures write { FailsIff (IsErrOf result BuildFault.Write) writer.old writer.new }

@@ -1,6 +1,6 @@
 //! A table that is written.
 ghost use Rattle.std.specs.Io.KnownBytes.{Appends};
-ghost use Rattle.std.specs.Prelude.{◌≡◌, IfErr, IsErrOf, Ok, OnOk};
+ghost use Rattle.std.specs.Prelude.{◌≡◌, [], IfErr, IsErrOf, Ok, OnOk};
 ghost use Rattle.tabled.specs.Printing.{IsFit, printed};
 ghost use Rattle.tabled.specs.Tables.{state_of};
 ghost use Rattle.tabled_compact.specs.Building.{BuildRefusal, NoTable};
@@ -22,6 +22,7 @@ impl<T: FromText> Table<T> {
         ensures whole { OnOk result (Appends (W.contents (inner_of writer.old)) (W.contents (inner_of writer.new)) (printed (state_of T.text self.now))) }
         ensures front { IfErr result (λ fault. ¬ (NoTable fault) → AppendsFront (W.contents (inner_of writer.old)) (W.contents (inner_of writer.new)) (printed (state_of T.text self.now))) }
         ensures untouched { IfErr result (λ fault. NoTable fault → writer.new ≡ writer.old) }
+        ensures nothing { printed (state_of T.text self.now) ≡ [] → writer.new ≡ writer.old }
         ensures fits { OnOk result (IsFit (state_of T.text self.now) (Ok tt)) }
         ensures table { IfErr result (BuildRefusal (IsFit (state_of T.text self.now) (Ok tt)) (IsFit (state_of T.text self.now))) }
         ensures write { FailsIff (IsErrOf result BuildFault.Write) writer.old writer.new }
