@@ -3,13 +3,13 @@ use grid_config::{
     AlignmentHorizontal, AlignmentVertical, ColoredConfig, CompactConfig, Entity, Fault, Indent,
     Position, Sides, SpannedConfig,
 };
-use grid_records_rows::{RecordsMut, Text, VecRecords};
-use grid_records_traits::records::{ExactRecords, PeekableRecords, RecordColumns};
+use grid_records_rows::{Text, VecRecords};
+use grid_records_traits::records::PeekableRecords;
 use std::alloc::{AllocError, Global};
 use std::process::Abort;
 use std::test::Fail;
 use tabled::object::{Cell, Columns, Rows, Segment};
-use tabled::{Alignment, Builder, Margin, Padding, Span, Style, Table, TableOption, Width};
+use tabled::{Alignment, Builder, Margin, Padding, Span, Style, Table, TableOption};
 use tabled_options::PaddingExpand;
 use tabled_size_dimension::CompleteDimension;
 
@@ -267,42 +267,6 @@ fn a_cell_takes_rows_or_columns(rt: HostRuntime) -> Result<(), Fail> {
     let a = rt.alloc();
     assert!(&rt; spanned(a, Span::row(2))? == (Some(2), None));
     assert!(&rt; spanned(a, Span::column(2))? == (None, Some(2)));
-    Ok(())
-}
-
-// Replaces the text of the first cell, if there is one.
-fn put_text(records: &mut VecRecords<Text>, text: Text) {
-    if records.count_rows() > 0 && records.count_columns() > 0 {
-        records.set(at(0, 0), text);
-    }
-}
-
-// Keeps a width of three columns, and replaces the text.
-fn replace(alloc: Global, table: &mut Table) -> Result<(), Fault> {
-    table.set(Width::list(alloc, [3])?)?;
-    let text = Text::new(alloc, String::from_str(alloc, "ab")?)?;
-    put_text(table.get_records_mut(), text);
-    Ok(())
-}
-
-// What a table prints whose text was replaced beside the width that it keeps, and once it keeps none.
-fn replaced(alloc: Global) -> Result<(Result<String, Fault>, Result<String, Fault>), Fault> {
-    let mut table = Table::nohead(alloc, ["a"])?;
-    let done = replace(alloc, &mut table);
-    let narrow = table.to_string();
-    table.get_dimension_mut().clear();
-    let wide = table.to_string();
-    let_go(table);
-    done?;
-    Ok((narrow, wide))
-}
-
-#[test]
-fn lent_rows_clear_no_sizes(rt: HostRuntime) -> Result<(), Fail> {
-    let (narrow, wide) = replaced(rt.alloc())?;
-    let room = Fault::Room { row: 0, column: 0 };
-    assert!(&rt; narrow == Err(room));
-    assert!(&rt; wide?.as_str() == "+----+\n| ab |\n+----+");
     Ok(())
 }
 

@@ -6,7 +6,7 @@ use grid_records_traits::records::PeekableRecords;
 use std::alloc::{AllocError, Global};
 use std::process::Abort;
 use std::test::Fail;
-use tabled::{Alignment, Margin, Table, Truncate, Width};
+use tabled::{Alignment, Margin, Table};
 
 /// What a changed table prints.
 pub const TEXT: &str = "<+-----+\n<|   a |\n<+-----+";
@@ -77,26 +77,5 @@ fn last(records: VecRecords<Text>) -> Option<String> {
 fn records_become_rows_of_strings(rt: HostRuntime) -> Result<(), Fail> {
     let a = rt.alloc();
     assert!(&rt; matches!(last(kept(a)?), Some(it) if it.as_str() == "d"));
-    Ok(())
-}
-
-// Whether the option cuts each line of a cell at four columns, and puts the suffix behind it.
-fn cuts(alloc: Global, option: Truncate<'static>) -> Result<bool, Fault> {
-    let mut table = Table::nohead(alloc, ["Hello\nWorld"])?;
-    let done = table.set(option);
-    let text = table.to_string();
-    let_go(table);
-    done?;
-    Ok(text?.as_str() == "+------+\n| He.. |\n| Wo.. |\n+------+")
-}
-
-#[test]
-fn a_copy_cuts_as_its_source_does(rt: HostRuntime) -> Result<(), Fail> {
-    let a = rt.alloc();
-    let source = Width::truncate(8).suffix("..").multiline(true);
-    let copy = source.clone()?;
-    assert!(&rt; copy == source && copy != source.suffix_try_color(true));
-    assert!(&rt; cuts(a, copy)?);
-    assert!(&rt; cuts(a, source)?);
     Ok(())
 }
