@@ -2,6 +2,8 @@ pub mod Writing
 pub mod Numbers
 pub mod Reading
 pub mod Ranges
+pub mod Bits
+pub mod Ordering
 pub mod Merging
 pub mod Kept
 pub mod Lengths

@@ -8,7 +8,7 @@ abbrev pub Each : (ℕ → Type 0) → ℕ → ℕ → Type 0
 Each P low zero = Unit {0}
 Each P low (suc count) = P low × Each P (low + 1) count
 
-each_at : (P : ℕ → Type 0) (low count k : ℕ) → Each P low count → k < count → P (low + k)
+pub each_at : (P : ℕ → Type 0) (low count k : ℕ) → Each P low count → k < count → P (low + k)
 each_at P low zero k each below = absurd (omega arith)
 each_at P low (suc count) zero each below = subst P (omega arith) each.0
 each_at P low (suc count) (suc k) each below =

@@ -2,7 +2,10 @@ pub mod Attributes
 pub mod Rendition
 pub mod Digits
 pub mod Sequences
+pub mod FlagSet
 pub mod Flags
+pub mod Packed
+pub mod Plain
 pub mod Style
 pub mod ColorForms
 pub mod Color

@@ -6,6 +6,7 @@ mod color;
 mod flags;
 pub mod laws;
 mod next;
+mod packed;
 mod parameters;
 mod sequences;
 mod style;

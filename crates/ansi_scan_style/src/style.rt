@@ -4,12 +4,14 @@ ghost use Rattle.std.specs.Option.{option_map};
 ghost use Rattle.ansi_scan_style.specs.Attributes.{IsColor, IsRendition, after_code, is_no_code, plain_attributes};
 ghost use Rattle.ansi_scan_style.specs.Color.{color_of};
 ghost use Rattle.ansi_scan_style.specs.Rendition.{after_parameter, after_parameter_bytes, applied, with_color};
+ghost use Rattle.ansi_scan_style.specs.Plain.{sets_nothing};
 ghost use Rattle.ansi_scan_style.specs.Sequences.{end_parameters, has_ideogram_mark, start_parameters};
 
 use crate::codes::{background_after, font_after, foreground_after, underline_color_after};
 use crate::color::{AnsiColor, Color};
-use crate::flags::Flags;
+use crate::flags::{Flag, Flags};
 use crate::next::{Layer, Next};
+use crate::packed::PackedColor;
 use crate::parameters::{is_reset, number, sgr_parameters};
 use crate::sequences::{
     AnsiSequenceEnd, AnsiSequenceStart, Parameters, code_if, color_parameters, font_parameters,
@@ -22,9 +24,9 @@ use std::marker::Model;
 pub struct Style {
     flags: Flags,
     font: Option<u8>,
-    foreground: Option<AnsiColor>,
-    background: Option<AnsiColor>,
-    underline_color: Option<AnsiColor>,
+    foreground: PackedColor,
+    background: PackedColor,
+    underline_color: PackedColor,
 }
 
 impl Model for Style {
@@ -48,11 +50,11 @@ impl Style {
         ensures { result ≡ plain_attributes }
     {
         Style {
-            flags: Flags::NONE,
+            flags: Flags::none(),
             font: None,
-            foreground: None,
-            background: None,
-            underline_color: None,
+            foreground: PackedColor::none(),
+            background: PackedColor::none(),
+            underline_color: PackedColor::none(),
         }
     }
 
@@ -60,7 +62,17 @@ impl Style {
     pub fn is_plain(&self) -> bool
         ensures { IsTrue result ↔ (self.now ≡ plain_attributes) }
     {
-        *self == Style::plain()
+        self.sets_nothing()
+    }
+
+    fn sets_nothing(&self) -> bool
+        ensures { result ≡ sets_nothing self.now }
+    {
+        self.flags.is_none()
+            && self.font.is_none()
+            && !self.foreground.is_set()
+            && !self.background.is_set()
+            && !self.underline_color.is_set()
     }
 
     /// The style after one sequence `ESC [ .. m`.
@@ -116,15 +128,32 @@ impl Style {
         ensures { result ≡ with_color self layer color }
     {
         match layer {
-            Layer::Foreground => self.foreground = Some(color),
-            Layer::Background => self.background = Some(color),
-            Layer::Underline => self.underline_color = Some(color),
+            Layer::Foreground => self.foreground = PackedColor::new(color),
+            Layer::Background => self.background = PackedColor::new(color),
+            Layer::Underline => self.underline_color = PackedColor::new(color),
         }
         self
     }
 
     // The style after one code of the table.
-    fn after_code(self, code: u8) -> Style
+    fn after_code(mut self, code: u8) -> Style
+        ensures { result ≡ after_code self code }
+    {
+        match code {
+            30..=39 | 90..=97 => {
+                self.foreground = foreground_after(code, self.foreground);
+                self
+            }
+            40..=49 | 100..=107 => {
+                self.background = background_after(code, self.background);
+                self
+            }
+            _ => self.after_other_code(code),
+        }
+    }
+
+    // The style after one code of the table, mostly none of a colour.
+    fn after_other_code(self, code: u8) -> Style
         ensures { result ≡ after_code self code }
     {
         Style {
@@ -157,84 +186,84 @@ impl Style {
     pub fn foreground(&self) -> Option<Color>
         ensures { result ≡ option_map color_of self.now.foreground }
     {
-        self.foreground.map(Color::from)
+        self.foreground.color().map(Color::from)
     }
 
     /// The background, where one is set.
     pub fn background(&self) -> Option<Color>
         ensures { result ≡ option_map color_of self.now.background }
     {
-        self.background.map(Color::from)
+        self.background.color().map(Color::from)
     }
 
     /// Whether bold (code 1) is set.
     pub fn is_bold(&self) -> bool
         ensures { result ≡ self.now.bold }
     {
-        self.flags.bold
+        self.flags.has(Flag::Bold)
     }
 
     /// Whether faint (code 2) is set.
     pub fn is_faint(&self) -> bool
         ensures { result ≡ self.now.faint }
     {
-        self.flags.faint
+        self.flags.has(Flag::Faint)
     }
 
     /// Whether italic (code 3) is set.
     pub fn is_italic(&self) -> bool
         ensures { result ≡ self.now.italic }
     {
-        self.flags.italic
+        self.flags.has(Flag::Italic)
     }
 
     /// Whether underline (code 4, and not the double underline of 21) is set.
     pub fn is_underline(&self) -> bool
         ensures { result ≡ self.now.underline }
     {
-        self.flags.underline
+        self.flags.has(Flag::Underline)
     }
 
     /// Whether slow blink (code 5) is set.
     pub fn is_slow_blink(&self) -> bool
         ensures { result ≡ self.now.slow_blink }
     {
-        self.flags.slow_blink
+        self.flags.has(Flag::SlowBlink)
     }
 
     /// Whether rapid blink (code 6) is set.
     pub fn is_rapid_blink(&self) -> bool
         ensures { result ≡ self.now.rapid_blink }
     {
-        self.flags.rapid_blink
+        self.flags.has(Flag::RapidBlink)
     }
 
     /// Whether inverse (code 7) is set.
     pub fn is_inverse(&self) -> bool
         ensures { result ≡ self.now.inverted }
     {
-        self.flags.inverted
+        self.flags.has(Flag::Inverted)
     }
 
     /// Whether hidden (code 8) is set.
     pub fn is_hide(&self) -> bool
         ensures { result ≡ self.now.hidden }
     {
-        self.flags.hidden
+        self.flags.has(Flag::Hidden)
     }
 
     /// Whether crossed out (code 9) is set.
     pub fn is_crossedout(&self) -> bool
         ensures { result ≡ self.now.crossed_out }
     {
-        self.flags.crossed_out
+        self.flags.has(Flag::CrossedOut)
     }
 
     /// Whether fraktur (code 20) is set.
     pub fn is_fraktur(&self) -> bool
         ensures { result ≡ self.now.fraktur }
     {
-        self.flags.fraktur
+        self.flags.has(Flag::Fraktur)
     }
 
     /// What sets each attribute that is set, in ascending order of the codes.
@@ -242,32 +271,32 @@ impl Style {
         ensures { result ≡ start_parameters self.now }
     {
         [
-            code_if(self.flags.bold, 1),
-            code_if(self.flags.faint, 2),
-            code_if(self.flags.italic, 3),
-            code_if(self.flags.underline, 4),
-            code_if(self.flags.slow_blink, 5),
-            code_if(self.flags.rapid_blink, 6),
-            code_if(self.flags.inverted, 7),
-            code_if(self.flags.hidden, 8),
-            code_if(self.flags.crossed_out, 9),
+            code_if(self.flags.has(Flag::Bold), 1),
+            code_if(self.flags.has(Flag::Faint), 2),
+            code_if(self.flags.has(Flag::Italic), 3),
+            code_if(self.flags.has(Flag::Underline), 4),
+            code_if(self.flags.has(Flag::SlowBlink), 5),
+            code_if(self.flags.has(Flag::RapidBlink), 6),
+            code_if(self.flags.has(Flag::Inverted), 7),
+            code_if(self.flags.has(Flag::Hidden), 8),
+            code_if(self.flags.has(Flag::CrossedOut), 9),
             font_parameters(self.font),
-            code_if(self.flags.fraktur, 20),
-            code_if(self.flags.double_underline, 21),
-            code_if(self.flags.proportional_spacing, 26),
-            color_parameters(Layer::Foreground, self.foreground),
-            color_parameters(Layer::Background, self.background),
-            code_if(self.flags.framed, 51),
-            code_if(self.flags.encircled, 52),
-            code_if(self.flags.overlined, 53),
-            color_parameters(Layer::Underline, self.underline_color),
-            code_if(self.flags.ideogram_underline, 60),
-            code_if(self.flags.ideogram_double_underline, 61),
-            code_if(self.flags.ideogram_overline, 62),
-            code_if(self.flags.ideogram_double_overline, 63),
-            code_if(self.flags.ideogram_stress, 64),
-            code_if(self.flags.superscript, 73),
-            code_if(self.flags.subscript, 74),
+            code_if(self.flags.has(Flag::Fraktur), 20),
+            code_if(self.flags.has(Flag::DoubleUnderline), 21),
+            code_if(self.flags.has(Flag::ProportionalSpacing), 26),
+            color_parameters(Layer::Foreground, self.foreground.color()),
+            color_parameters(Layer::Background, self.background.color()),
+            code_if(self.flags.has(Flag::Framed), 51),
+            code_if(self.flags.has(Flag::Encircled), 52),
+            code_if(self.flags.has(Flag::Overlined), 53),
+            color_parameters(Layer::Underline, self.underline_color.color()),
+            code_if(self.flags.has(Flag::IdeogramUnderline), 60),
+            code_if(self.flags.has(Flag::IdeogramDoubleUnderline), 61),
+            code_if(self.flags.has(Flag::IdeogramOverline), 62),
+            code_if(self.flags.has(Flag::IdeogramDoubleOverline), 63),
+            code_if(self.flags.has(Flag::IdeogramStress), 64),
+            code_if(self.flags.has(Flag::Superscript), 73),
+            code_if(self.flags.has(Flag::Subscript), 74),
         ]
     }
 
@@ -277,21 +306,39 @@ impl Style {
     {
         [
             code_if(self.font.is_some(), 10),
-            code_if(self.flags.bold || self.flags.faint, 22),
-            code_if(self.flags.italic || self.flags.fraktur, 23),
-            code_if(self.flags.underline || self.flags.double_underline, 24),
-            code_if(self.flags.slow_blink || self.flags.rapid_blink, 25),
-            code_if(self.flags.inverted, 27),
-            code_if(self.flags.hidden, 28),
-            code_if(self.flags.crossed_out, 29),
-            code_if(self.foreground.is_some(), 39),
-            code_if(self.background.is_some(), 49),
-            code_if(self.flags.proportional_spacing, 50),
-            code_if(self.flags.framed || self.flags.encircled, 54),
-            code_if(self.flags.overlined, 55),
-            code_if(self.underline_color.is_some(), 59),
+            code_if(
+                self.flags.has(Flag::Bold) || self.flags.has(Flag::Faint),
+                22,
+            ),
+            code_if(
+                self.flags.has(Flag::Italic) || self.flags.has(Flag::Fraktur),
+                23,
+            ),
+            code_if(
+                self.flags.has(Flag::Underline) || self.flags.has(Flag::DoubleUnderline),
+                24,
+            ),
+            code_if(
+                self.flags.has(Flag::SlowBlink) || self.flags.has(Flag::RapidBlink),
+                25,
+            ),
+            code_if(self.flags.has(Flag::Inverted), 27),
+            code_if(self.flags.has(Flag::Hidden), 28),
+            code_if(self.flags.has(Flag::CrossedOut), 29),
+            code_if(self.foreground.is_set(), 39),
+            code_if(self.background.is_set(), 49),
+            code_if(self.flags.has(Flag::ProportionalSpacing), 50),
+            code_if(
+                self.flags.has(Flag::Framed) || self.flags.has(Flag::Encircled),
+                54,
+            ),
+            code_if(self.flags.has(Flag::Overlined), 55),
+            code_if(self.underline_color.is_set(), 59),
             code_if(self.has_ideogram_mark(), 65),
-            code_if(self.flags.superscript || self.flags.subscript, 75),
+            code_if(
+                self.flags.has(Flag::Superscript) || self.flags.has(Flag::Subscript),
+                75,
+            ),
         ]
     }
 
@@ -299,10 +346,10 @@ impl Style {
     fn has_ideogram_mark(&self) -> bool
         ensures { result ≡ has_ideogram_mark self.now }
     {
-        self.flags.ideogram_underline
-            || self.flags.ideogram_double_underline
-            || self.flags.ideogram_overline
-            || self.flags.ideogram_double_overline
-            || self.flags.ideogram_stress
+        self.flags.has(Flag::IdeogramUnderline)
+            || self.flags.has(Flag::IdeogramDoubleUnderline)
+            || self.flags.has(Flag::IdeogramOverline)
+            || self.flags.has(Flag::IdeogramDoubleOverline)
+            || self.flags.has(Flag::IdeogramStress)
     }
 }

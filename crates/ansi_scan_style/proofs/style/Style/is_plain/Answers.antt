@@ -1,9 +1,9 @@
 use Rattle.std.proofs.Common.{sym, ◌∙◌}
-use Rattle.ansi_scan_style.proofs.Equality.{equal_attributes, equal_to_itself}
+use Rattle.ansi_scan_style.proofs.Equality.{plain_from_test, test_from_plain}
 use Rattle.ansi_scan_style.proofs.style.Style.is_plain.Goals as goal
 
 pub returns : goal.returns
 returns c = (
-  λ equal. equal_attributes _ _ (sym c.eq.ensures ∙ equal) ∙ c.plain.ensures,
-  λ plain. c.eq.ensures ∙ equal_to_itself _ _ (plain ∙ sym c.plain.ensures),
+  λ nothing. plain_from_test _ (sym c.sets_nothing.ensures ∙ nothing),
+  λ plain. c.sets_nothing.ensures ∙ test_from_plain _ plain,
 )

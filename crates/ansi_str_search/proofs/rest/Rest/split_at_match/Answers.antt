@@ -1,5 +1,5 @@
 -- The part before the next match, and the rest behind it.
-use Rattle.std.proofs.Common.{rules, ◌≡◌, ◌∙◌, ◌∷◌, [], ◌+◌, ◌≤◌, drop, ap, sym, subst, true, ℕ, List, length, Option, Some, arith}
+use Rattle.std.proofs.Common.{rules, ◌≡◌, ◌∙◌, ◌∷◌, [], ◌+◌, ◌≤◌, drop, ap, sym, subst, true, false, Bool, IsTrue, refl, ℕ, List, length, Option, Some, arith}
 use Rattle.std.specs.Prelude.{unwrap_or, IfSome}
 use Rattle.std.specs.Option.{option_map}
 use Rattle.std.specs.Str.{IsCharBoundary}
@@ -8,6 +8,10 @@ use Rattle.ansi_str_text.specs.StyledText.{strip}
 use Rattle.ansi_str_search.specs.PartsLeft.{passed_over, parts_left}
 use Rattle.ansi_str_search.proofs.RestLemmas.{strip-fits, match-cut, match-fits, last-part, next-part, next_pieces, next_open, pattern-cut, left-no_escape, left-plain, left-shown, shown-behind}
 use Rattle.ansi_str_search.proofs.rest.Rest.split_at_match.Goals as goal
+
+is_true : (b : Bool) → (b ≡ false → ⊥) → IsTrue b
+is_true true other = refl
+is_true false other = absurd (other refl)
 
 pub part-requires : goal.part-requires
 part-requires c =
@@ -68,6 +72,13 @@ invariant_of-self c =
           shown-behind (c.in-Some.n + size) shown self.stripped self.shown bytes (ap (option_map (drop (c.in-Some.n + size))) (sym c.take.ensures.value) ∙ sym c.behind.ensures ∙ e)
           ∙ ap (λ m. drop (m + size) shown) (sym len) ∙ sym (left-shown rest self.place.style k next.rest.now next.style there known);
     }
+
+pub returns-clause-borrows : goal.returns-clause-borrows
+returns-clause-borrows c = λ owned.
+    let self = c.next_match.new.self in
+    is_true c.args.self.styled (λ plain_text.
+    let plain : self.styled ≡ false = c.next_match.ensures.styled ∙ plain_text in
+    c.in_ok-part.ensures.borrows (self.plain plain) (self.no_escape plain) owned)
 
 pub returns-clause-part : goal.returns-clause-part
 returns-clause-part c =

@@ -1,6 +1,6 @@
 use Rattle.ansi_scan_style.specs.Style.{attributes_of}
 use Rattle.ansi_scan_style.proofs.Kept.{IsRendition-values_after}
-use Rattle.ansi_scan_style.proofs.style.Style.after_code.Goals as goal
+use Rattle.ansi_scan_style.proofs.style.Style.after_other_code.Goals as goal
 
 pub invariant_of-result : goal.invariant_of-result
 invariant_of-result c =
