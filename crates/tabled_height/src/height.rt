@@ -1,9 +1,8 @@
 //! The height of a table or of its cells: makers of its options, and sizes that are taken from it.
-ghost use Rattle.std.specs.Prelude.{◌≡◌, ℕ, List, IfOk, Ok};
+ghost use Rattle.std.specs.Prelude.{◌≡◌, IfOk, IsOk, List, Ok, ℕ};
 ghost use Rattle.std.specs.Iterator.{Drains, IsFinite};
 ghost use Rattle.tabled_height.specs.Heights.{fewest_lines, hundredths, most_lines, percent_of_height, row_lines};
 ghost use Rattle.tabled_height.specs.Options.{increase_height, limit_height};
-ghost use Rattle.tabled_steps.specs.Outcomes.{Answers};
 
 use crate::increase::CellHeightIncrease;
 use crate::limit::CellHeightLimit;
@@ -57,7 +56,9 @@ impl Measurement<Height> for Max {
         _alloc: Global,
         records: &R,
         _cfg: &SpannedConfig,
-    ) -> Result<usize, Fault> {
+    ) -> Result<usize, Fault>
+        ensures answers { IsOk result }
+    {
         Ok(most_lines(records))
     }
 }
@@ -72,7 +73,9 @@ impl Measurement<Height> for Min {
         _alloc: Global,
         records: &R,
         _cfg: &SpannedConfig,
-    ) -> Result<usize, Fault> {
+    ) -> Result<usize, Fault>
+        ensures answers { IsOk result }
+    {
         Ok(fewest_lines(records))
     }
 }
@@ -133,7 +136,7 @@ fn row_lines<R: ExactRecords + PeekableRecords>(records: &R, row: usize) -> usiz
 
 // This percentage of the lines, rounded down. Refused as `Range` where the product passes `usize::MAX`.
 fn hundredths(lines: usize, percent: usize) -> Result<usize, Fault>
-    ensures { Answers (λ n. n) result (hundredths percent lines) }
+    ensures { result ≡ hundredths percent lines }
 {
     match lines.checked_mul(percent) {
         Some(product) => Ok(product / 100),

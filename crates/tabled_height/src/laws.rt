@@ -1,5 +1,6 @@
 //! Laws: what the definitions come to by hand, which step each option is, which sizes it clears, and what the measurements are.
-ghost use Rattle.std.specs.Prelude.{◌≡◌, ◌-◌, ◌^◌, ℕ, List, [], ◌∷◌, Err, None, Ok, Result, Some, codes};
+ghost use Rattle.std.specs.Prelude.{◌≡◌, ◌↔◌, ◌-◌, ◌^◌, ℕ, List, [], ◌∷◌, Err, None, Ok, Result, Some, codes, true};
+ghost use Rattle.std.specs.declared.cmp.Ordering.TheVariants.{Equal};
 ghost use Rattle.grid_config_values.specs.declared.entity.Entity.{Entity as Cells};
 ghost use Rattle.grid_config_values.specs.declared.entity.Entity.TheVariants.{Global as EveryCell};
 ghost use Rattle.grid_config_values.specs.Glyphs.{no_borders};
@@ -99,4 +100,25 @@ pub fn measurements_of_heights()
         ⟦<Min as Measurement<Height>>⟧.measures min columns rows look outcome → Ok (fewest_lines columns rows) ≡ outcome }
     ensures hundredths { (percent : Hundredths) (columns : ℕ) (rows : List (List (List ℕ))) (look : Look) (outcome : Result ℕ Refusal) →
         ⟦<Percent as Measurement<Height>>⟧.measures percent columns rows look outcome → percent_of_height percent.0 columns rows look ≡ outcome }
+{}
+
+/// A height list keeps the numbers of its vector.
+pub fn lists_are_made_of_their_heights()
+    ensures { (heights : VecOf ℕ) (list : List ℕ) → ⟦<HeightList as From<Vec<usize>>>⟧.from_gives heights list → list ≡ heights.items }
+{}
+
+/// `==` of options of cells by numbers is equality of the numbers, and `cmp` finds the same ones equal.
+pub fn options_are_compared_whole()
+    ensures increase { (a b : CellIncrease ℕ) → (⟦<CellHeightIncrease<usize> as PartialEq>⟧.eq a b ≡ true) ↔ (a ≡ b) }
+    ensures increase_order { (a b : CellIncrease ℕ) → (⟦<CellHeightIncrease<usize> as Ord>⟧.cmp a b ≡ Equal) ↔ (a ≡ b) }
+    ensures limit { (a b : CellLimit ℕ) → (⟦<CellHeightLimit<usize> as PartialEq>⟧.eq a b ≡ true) ↔ (a ≡ b) }
+    ensures limit_order { (a b : CellLimit ℕ) → (⟦<CellHeightLimit<usize> as Ord>⟧.cmp a b ≡ Equal) ↔ (a ≡ b) }
+{}
+
+/// A clone of an option has the same height and the same priority, where clones of these are the same.
+pub fn clones_are_the_same<W: Clone, P: Clone>()
+    ensures increase { ((x y : W) → W.is_clone x y → y ≡ x) → (source clone : CellIncrease W) → ⟦<CellHeightIncrease<W> as Clone>⟧.is_clone source clone → clone ≡ source }
+    ensures limit { ((x y : W) → W.is_clone x y → y ≡ x) → (source clone : CellLimit W) → ⟦<CellHeightLimit<W> as Clone>⟧.is_clone source clone → clone ≡ source }
+    ensures table_increase { ((x y : W) → W.is_clone x y → y ≡ x) → ((x y : P) → P.is_clone x y → y ≡ x) →
+        (source clone : TableIncrease W P) → ⟦<TableHeightIncrease<W, P> as Clone>⟧.is_clone source clone → table_increase clone ≡ table_increase source }
 {}

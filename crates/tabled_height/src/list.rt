@@ -1,5 +1,5 @@
 //! Heights of rows that are given.
-ghost use Rattle.std.specs.Prelude.{◌≡◌, ℕ, List, IfOk, None};
+ghost use Rattle.std.specs.Prelude.{◌≡◌, IfOk, IsOk, List, None, ℕ};
 ghost use Rattle.std.specs.Iterator.{Drains, IsFinite};
 ghost use Rattle.tabled_height.specs.Steps.{listing_heights};
 
@@ -69,7 +69,9 @@ impl<R: ExactRecords, C: Configuration> TableOption<R, C, CompleteDimension> for
         records: &mut R,
         _cfg: &mut C,
         dims: &mut CompleteDimension,
-    ) -> Result<(), Fault> {
+    ) -> Result<(), Fault>
+        ensures answers { IsOk result }
+    {
         if self.heights.len() >= records.count_rows() {
             dims.set_heights(self.heights);
         }

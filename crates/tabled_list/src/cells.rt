@@ -1,5 +1,5 @@
 //! Settings of cells that have no option of their own.
-ghost use Rattle.std.specs.Prelude.{◌≡◌, Some};
+ghost use Rattle.std.specs.Prelude.{◌≡◌, IsOk, Some};
 ghost use Rattle.grid_config_values.specs.declared.entity.Entity.TheVariants.{Global as EveryCell};
 ghost use Rattle.tabled_list.specs.Looks.{with_cell_setting};
 ghost use Rattle.tabled_steps.specs.States.{looking};
@@ -32,7 +32,9 @@ impl<R: RecordTexts> CellOption<R, ColoredConfig> for CellSetting {
         _records: &mut R,
         cfg: &mut ColoredConfig,
         entity: Entity,
-    ) -> Result<(), Fault> {
+    ) -> Result<(), Fault>
+        ensures all_cells { entity ≡ EveryCell → IsOk result }
+    {
         let config = cfg.spanned_mut();
         match *self {
             CellSetting::AlignHorizontal(value) => config.set_alignment_horizontal(entity, value),

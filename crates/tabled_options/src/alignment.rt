@@ -1,5 +1,5 @@
 //! Where texts stand in their cells.
-ghost use Rattle.std.specs.Prelude.{◌≡◌, Some};
+ghost use Rattle.std.specs.Prelude.{◌≡◌, IsOk, Some};
 ghost use Rattle.grid_config_values.specs.declared.alignment.AlignmentHorizontal.TheVariants.{Center, Left, Right};
 ghost use Rattle.grid_config_values.specs.declared.alignment.AlignmentVertical.TheVariants.{Bottom, Center as Middle, Top};
 ghost use Rattle.grid_config_values.specs.declared.entity.Entity.TheVariants.{Global as EveryCell};
@@ -97,7 +97,9 @@ impl<R: RecordTexts> CellOption<R, ColoredConfig> for Alignment {
         _records: &mut R,
         cfg: &mut ColoredConfig,
         entity: Entity,
-    ) -> Result<(), Fault> {
+    ) -> Result<(), Fault>
+        ensures all_cells { entity ≡ EveryCell → IsOk result }
+    {
         match self.direction {
             Direction::Horizontal(value) => cfg
                 .spanned_mut()
@@ -123,7 +125,9 @@ impl<R: RecordTexts, D: KeptSizes> TableOption<R, ColoredConfig, D> for Alignmen
         records: &mut R,
         cfg: &mut ColoredConfig,
         _dims: &mut D,
-    ) -> Result<(), Fault> {
+    ) -> Result<(), Fault>
+        ensures answers { IsOk result }
+    {
         CellOption::<R, ColoredConfig>::change(&self, alloc, records, cfg, Entity::Global)
     }
 

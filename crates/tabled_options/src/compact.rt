@@ -1,5 +1,5 @@
 //! Options of tables whose cells are all alike.
-ghost use Rattle.std.specs.Prelude.{◌≡◌, Some};
+ghost use Rattle.std.specs.Prelude.{◌≡◌, IsOk, Some};
 ghost use Rattle.grid_config_values.specs.declared.entity.Entity.TheVariants.{Global as EveryCell};
 ghost use Rattle.tabled_options.specs.Options.{margin_sides, padding_sides};
 ghost use Rattle.tabled_options.specs.Styles.{style_borders};
@@ -26,7 +26,9 @@ impl<R: RecordTexts, D: KeptSizes> TableOption<R, CompactConfig, D> for Margin {
         _records: &mut R,
         cfg: &mut CompactConfig,
         _dims: &mut D,
-    ) -> Result<(), Fault> {
+    ) -> Result<(), Fault>
+        ensures answers { IsOk result }
+    {
         *cfg = cfg.set_margin(Sides::from(self));
         Ok(())
     }
@@ -48,7 +50,9 @@ impl<R: RecordTexts, D: KeptSizes> TableOption<R, CompactConfig, D> for Padding 
         _records: &mut R,
         cfg: &mut CompactConfig,
         _dims: &mut D,
-    ) -> Result<(), Fault> {
+    ) -> Result<(), Fault>
+        ensures answers { IsOk result }
+    {
         *cfg = cfg.set_padding(Sides::from(self));
         Ok(())
     }
@@ -70,7 +74,9 @@ impl<R: RecordTexts, D: KeptSizes> TableOption<R, CompactConfig, D> for Style {
         _records: &mut R,
         cfg: &mut CompactConfig,
         _dims: &mut D,
-    ) -> Result<(), Fault> {
+    ) -> Result<(), Fault>
+        ensures answers { IsOk result }
+    {
         *cfg = cfg.set_borders(self.get_borders());
         Ok(())
     }

@@ -1,5 +1,5 @@
 //! Laws: which step each option is, and which sizes it clears.
-ghost use Rattle.std.specs.Prelude.{◌≡◌, Err, Some, true};
+ghost use Rattle.std.specs.Prelude.{◌≡◌, ◌↔◌, Err, Some, true};
 ghost use Rattle.std.specs.declared.cmp.Ordering.TheVariants.{Equal};
 ghost use Rattle.grid_config_values.specs.declared.entity.Entity.{Entity as Cells};
 ghost use Rattle.grid_config_values.specs.declared.entity.Entity.TheVariants.{Global as EveryCell};
@@ -22,7 +22,7 @@ use crate::margin::Margin;
 use crate::padding::Padding;
 use crate::span::Span;
 use crate::style::Style;
-use grid_config::{ColoredConfig, Indent, Sides};
+use grid_config::{ColoredConfig, CompactConfig, Indent, Sides};
 use grid_records_rows::{FromText, VecRecords};
 use grid_records_traits::records::RecordTexts;
 use tabled_steps::{CellOption, KeptSizes, TableOption};
@@ -66,6 +66,19 @@ pub fn options_clear_all_sizes<R: RecordTexts, D: KeptSizes>()
     ensures cell_alignment { (alignment : OneAlignment) → ⟦<Alignment as CellOption<R, ColoredConfig>>⟧.hint alignment ≡ Some EveryCell }
 {}
 
+/// Where all cells are alike, each option of a table is the same step, and after it no size is kept.
+pub fn options_of_like_cells_are_their_steps<R: RecordTexts, D: KeptSizes>()
+    ensures margin { (margin : OneMargin) (state : State) (outcome : Outcome) → ⟦<Margin as TableOption<R, CompactConfig, D>>⟧.step margin state outcome →
+        looking (with_margin (margin_sides margin)) state ≡ outcome }
+    ensures style { (style : OneStyle) (state : State) (outcome : Outcome) → ⟦<Style as TableOption<R, CompactConfig, D>>⟧.step style state outcome →
+        looking (with_borders (style_borders style)) state ≡ outcome }
+    ensures padding { (padding : OnePadding) (state : State) (outcome : Outcome) → ⟦<Padding as TableOption<R, CompactConfig, D>>⟧.step padding state outcome →
+        looking (with_padding EveryCell (padding_sides padding)) state ≡ outcome }
+    ensures margin_hint { (margin : OneMargin) → ⟦<Margin as TableOption<R, CompactConfig, D>>⟧.hint margin ≡ Some EveryCell }
+    ensures style_hint { (style : OneStyle) → ⟦<Style as TableOption<R, CompactConfig, D>>⟧.hint style ≡ Some EveryCell }
+    ensures padding_hint { (padding : OnePadding) → ⟦<Padding as TableOption<R, CompactConfig, D>>⟧.hint padding ≡ Some EveryCell }
+{}
+
 /// A margin and a padding are their four indents.
 pub fn indents_are_made_and_parted()
     ensures margin { (margin : OneMargin) (sides : FourSides OneIndent) → ⟦<Sides<Indent> as From<Margin>>⟧.from_gives margin sides → sides ≡ margin_sides margin }
@@ -79,10 +92,12 @@ pub fn clones_are_the_same()
     ensures margin { (source clone : OneMargin) → ⟦<Margin as Clone>⟧.is_clone source clone → clone ≡ source }
     ensures padding { (source clone : OnePadding) → ⟦<Padding as Clone>⟧.is_clone source clone → clone ≡ source }
     ensures alignment { (source clone : OneAlignment) → ⟦<Alignment as Clone>⟧.is_clone source clone → clone ≡ source }
+    ensures span { (source clone : OneSpan) → ⟦<Span as Clone>⟧.is_clone source clone → clone ≡ source }
+    ensures style { (source clone : OneStyle) → ⟦<Style as Clone>⟧.is_clone source clone → clone ≡ source }
 {}
 
 /// `==` of paddings is equality of their four indents, and `cmp` finds the same ones equal.
 pub fn equal_paddings_are_the_same()
-    ensures equality { (a b : OnePadding) → ⟦<Padding as PartialEq>⟧.eq a b ≡ true → a ≡ b }
-    ensures itself { (a : OnePadding) → ⟦<Padding as PartialEq>⟧.eq a a ≡ true }
+    ensures equality { (a b : OnePadding) → (⟦<Padding as PartialEq>⟧.eq a b ≡ true) ↔ (a ≡ b) }
+    ensures order { (a b : OnePadding) → (⟦<Padding as Ord>⟧.cmp a b ≡ Equal) ↔ (a ≡ b) }
 {}

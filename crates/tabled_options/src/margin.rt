@@ -1,5 +1,5 @@
 //! The margin round a table.
-ghost use Rattle.std.specs.Prelude.{◌≡◌, Some};
+ghost use Rattle.std.specs.Prelude.{◌≡◌, IsOk, Some};
 ghost use Rattle.grid_config_values.specs.declared.entity.Entity.TheVariants.{Global as EveryCell};
 ghost use Rattle.tabled_options.specs.Options.{filled_sides, margin_sides, spaced_sides};
 ghost use Rattle.tabled_steps.specs.Looks.{with_margin};
@@ -77,7 +77,9 @@ impl<R: RecordTexts, D: KeptSizes> TableOption<R, ColoredConfig, D> for Margin {
         _records: &mut R,
         cfg: &mut ColoredConfig,
         _dims: &mut D,
-    ) -> Result<(), Fault> {
+    ) -> Result<(), Fault>
+        ensures answers { IsOk result }
+    {
         cfg.spanned_mut().set_margin(self.indent);
         Ok(())
     }

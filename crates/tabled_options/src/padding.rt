@@ -1,5 +1,5 @@
 //! The padding of cells.
-ghost use Rattle.std.specs.Prelude.{◌≡◌, Some, if◌then◌else◌};
+ghost use Rattle.std.specs.Prelude.{◌≡◌, if◌then◌else◌, IsOk, Some};
 ghost use Rattle.grid_config_values.specs.declared.entity.Entity.TheVariants.{Global as EveryCell};
 ghost use Rattle.tabled_options.specs.Options.{filled_sides, padding_sides, spaced_sides};
 ghost use Rattle.tabled_options.specs.declared.padding.PaddingExpand.TheVariants.{Horizontal, Vertical};
@@ -105,7 +105,9 @@ impl<R: RecordTexts> CellOption<R, ColoredConfig> for Padding {
         _records: &mut R,
         cfg: &mut ColoredConfig,
         entity: Entity,
-    ) -> Result<(), Fault> {
+    ) -> Result<(), Fault>
+        ensures all_cells { entity ≡ EveryCell → IsOk result }
+    {
         cfg.spanned_mut().set_padding(entity, self.indent)
     }
 
@@ -126,7 +128,9 @@ impl<R: RecordTexts, D: KeptSizes> TableOption<R, ColoredConfig, D> for Padding 
         _records: &mut R,
         cfg: &mut ColoredConfig,
         _dims: &mut D,
-    ) -> Result<(), Fault> {
+    ) -> Result<(), Fault>
+        ensures answers { IsOk result }
+    {
         cfg.spanned_mut().set_padding(Entity::Global, self.indent)
     }
 

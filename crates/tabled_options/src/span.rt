@@ -1,7 +1,7 @@
 //! How many columns or rows a cell takes.
-ghost use Rattle.std.specs.Prelude.{◌≡◌, ◌<◌, [], ◌∷◌, IfErr, IfOk, OnErr, OnOk, Some};
+ghost use Rattle.std.specs.Prelude.{◌≡◌, ◌<◌, [], ◌∷◌, Err, IfErr, IfOk, OnErr, OnOk, Some};
 ghost use Rattle.grid_config_values.specs.declared.entity.Entity.TheVariants.{Cell as OneCell, Global as EveryCell};
-ghost use Rattle.grid_config_values.specs.declared.fault.Fault.TheVariants.{Memory};
+ghost use Rattle.grid_config_values.specs.declared.fault.Fault.TheVariants.{Memory, Spans as BadSpan};
 ghost use Rattle.grid_config.specs.Looks.{look_of};
 ghost use Rattle.tabled_options.specs.Spanning.{span_extent, span_size, spanned_at, spanning};
 ghost use Rattle.tabled_steps.specs.Looks.{with_columns, with_extents, with_rows};
@@ -135,7 +135,9 @@ impl<T: FromText> CellOption<VecRecords<T>, ColoredConfig> for Span {
         records: &mut VecRecords<T>,
         cfg: &mut ColoredConfig,
         entity: Entity,
-    ) -> Result<(), Fault> {
+    ) -> Result<(), Fault>
+        ensures zero { span_size self.now ≡ 0 → result ≡ Err BadSpan }
+    {
         if self.size == 0 {
             return Err(Fault::Spans);
         }

@@ -1,5 +1,5 @@
 //! Styles: the glyphs of a table's boundaries.
-ghost use Rattle.std.specs.Prelude.{◌≡◌, Some};
+ghost use Rattle.std.specs.Prelude.{◌≡◌, IsOk, Some};
 ghost use Rattle.grid_config_values.specs.declared.entity.Entity.TheVariants.{Global as EveryCell};
 ghost use Rattle.grid_config_values.specs.Glyphs.{no_borders};
 ghost use Rattle.tabled_glyphs.specs.Glyphs.{ascii, extended, modern};
@@ -72,7 +72,9 @@ impl<R: RecordTexts, D: KeptSizes> TableOption<R, ColoredConfig, D> for Style {
         _records: &mut R,
         cfg: &mut ColoredConfig,
         _dims: &mut D,
-    ) -> Result<(), Fault> {
+    ) -> Result<(), Fault>
+        ensures answers { IsOk result }
+    {
         cfg.spanned_mut().set_borders(self.borders);
         Ok(())
     }

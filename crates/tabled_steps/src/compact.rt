@@ -1,5 +1,5 @@
 //! Settings that are the same for all cells, as options see them, and whole such settings as an option.
-ghost use Rattle.std.specs.Prelude.{◌≡◌, None, Some};
+ghost use Rattle.std.specs.Prelude.{◌≡◌, IsOk, None, Some};
 ghost use Rattle.grid_config.specs.Compact.{compact_of};
 ghost use Rattle.grid_config.specs.Looks.{compact_look};
 ghost use Rattle.grid_config_values.specs.declared.entity.Entity.TheVariants.{Global as EveryCell};
@@ -37,7 +37,9 @@ impl<R: RecordTexts, D: KeptSizes> TableOption<R, CompactConfig, D> for CompactC
         _records: &mut R,
         cfg: &mut CompactConfig,
         _dims: &mut D,
-    ) -> Result<(), Fault> {
+    ) -> Result<(), Fault>
+        ensures answers { IsOk result }
+    {
         *cfg = self;
         Ok(())
     }

@@ -1,5 +1,5 @@
 //! Whole settings as options of a table.
-ghost use Rattle.std.specs.Prelude.{◌≡◌, Ok, Some};
+ghost use Rattle.std.specs.Prelude.{◌≡◌, IsOk, Ok, Some};
 ghost use Rattle.grid_config_values.specs.declared.entity.Entity.TheVariants.{Global as EveryCell};
 ghost use Rattle.grid_config_values.specs.Settings.{value_at};
 ghost use Rattle.grid_config.specs.Compact.{compact_of};
@@ -51,7 +51,9 @@ impl<R: RecordTexts, D: KeptSizes> TableOption<R, ColoredConfig, D> for SpannedC
         _records: &mut R,
         cfg: &mut ColoredConfig,
         _dims: &mut D,
-    ) -> Result<(), Fault> {
+    ) -> Result<(), Fault>
+        ensures answers { IsOk result }
+    {
         let_go(mem::replace(cfg.spanned_mut(), self));
         Ok(())
     }
@@ -96,7 +98,9 @@ impl<R: RecordTexts, D: KeptSizes> TableOption<R, ColoredConfig, D> for ColoredC
         _records: &mut R,
         cfg: &mut ColoredConfig,
         _dims: &mut D,
-    ) -> Result<(), Fault> {
+    ) -> Result<(), Fault>
+        ensures answers { IsOk result }
+    {
         let_go(mem::replace(cfg, self));
         Ok(())
     }

@@ -81,7 +81,8 @@ pub fn one_outcome_settles_to_one()
     ensures { (hint : Option Cells) (step : State → Outcome) (s : State) (outcome : Outcome) → Settles hint (λ s changed. step s ≡ changed) s outcome → settled hint (step s) ≡ outcome }
 {}
 
-/// Whole settings as an option replace the settings, and none but `ColoredConfig` the colours of cells.
+/// Whole settings as an option replace the settings, and none but `ColoredConfig` the colours of cells; and
+/// they clear all sizes.
 pub fn settings_are_their_steps<'a, R: RecordTexts, D: KeptSizes>()
     ensures compact { (settings : CompactSettings) (s : State) (outcome : Outcome) → ⟦<CompactConfig as TableOption<R, ColoredConfig, D>>⟧.step settings s outcome →
         looking (λ _. compact_look (compact_of settings)) s ≡ outcome }
@@ -92,6 +93,9 @@ pub fn settings_are_their_steps<'a, R: RecordTexts, D: KeptSizes>()
     ensures colored { (settings : Coloring) (s : State) (outcome : Outcome) → ⟦<ColoredConfig as TableOption<R, ColoredConfig, D>>⟧.step settings s outcome →
         Ok (record s { look = look_of settings.settings; colors = value_at settings.colors }) ≡ outcome }
     ensures compact_hint { (settings : CompactSettings) → ⟦<CompactConfig as TableOption<R, ColoredConfig, D>>⟧.hint settings ≡ Some EveryCell }
+    ensures alike { (settings : CompactSettings) (s : State) (outcome : Outcome) → ⟦<CompactConfig as TableOption<R, CompactConfig, D>>⟧.step settings s outcome →
+        looking (λ _. compact_look (compact_of settings)) s ≡ outcome }
+    ensures alike_hint { (settings : CompactSettings) → ⟦<CompactConfig as TableOption<R, CompactConfig, D>>⟧.hint settings ≡ Some EveryCell }
     ensures spanned_hint { (settings : Settings) → ⟦<SpannedConfig as TableOption<R, ColoredConfig, D>>⟧.hint settings ≡ Some EveryCell }
     ensures lent_hint { (settings : Bor Settings) → ⟦<&'a SpannedConfig as TableOption<R, ColoredConfig, D>>⟧.hint settings ≡ Some EveryCell }
     ensures colored_hint { (settings : Coloring) → ⟦<ColoredConfig as TableOption<R, ColoredConfig, D>>⟧.hint settings ≡ Some EveryCell }
@@ -101,6 +105,8 @@ pub fn settings_are_their_steps<'a, R: RecordTexts, D: KeptSizes>()
 pub fn what_options_see<A>()
     ensures look { (settings : Coloring) → ⟦<ColoredConfig as Configuration>⟧.look settings ≡ look_of settings.settings }
     ensures colors { (settings : Coloring) (place : Place) → ⟦<ColoredConfig as Configuration>⟧.colors settings place ≡ value_at settings.colors place }
+    ensures alike { (settings : CompactSettings) → ⟦<CompactConfig as Configuration>⟧.look settings ≡ compact_look (compact_of settings) }
+    ensures plain { (settings : CompactSettings) (place : Place) → ⟦<CompactConfig as Configuration>⟧.colors settings place ≡ None }
     ensures sizes { (stored : Stored) → ⟦<CompleteDimension as KeptSizes>⟧.sizes stored ≡ stored }
     ensures number { (n columns : ℕ) (rows : List (List (List ℕ))) (look : Look) (outcome : Result ℕ Refusal) →
         ⟦<usize as Measurement<A>>⟧.measures n columns rows look outcome → Ok n ≡ outcome }

@@ -1,5 +1,5 @@
 //! Sizes that are taken from a table.
-ghost use Rattle.std.specs.Prelude.{◌≡◌, ℕ, List, Result, Ok};
+ghost use Rattle.std.specs.Prelude.{◌≡◌, IsOk, List, Ok, Result, ℕ};
 ghost use Rattle.grid_config_values.specs.declared.fault.Fault.{Fault as Refusal};
 ghost use Rattle.grid_config.specs.Looks.{Look, look_of};
 ghost use Rattle.tabled_steps.specs.Outcomes.{Gives};
@@ -45,7 +45,9 @@ impl<A> Measurement<A> for usize {
         _alloc: Global,
         _records: &R,
         _cfg: &SpannedConfig,
-    ) -> Result<usize, Fault> {
+    ) -> Result<usize, Fault>
+        ensures answers { IsOk result }
+    {
         Ok(*self)
     }
 }

@@ -1,5 +1,5 @@
 //! Lists of widths.
-ghost use Rattle.std.specs.Prelude.{◌≡◌, ℕ, IfOk, List, None, Option};
+ghost use Rattle.std.specs.Prelude.{◌≡◌, IfOk, IsOk, List, None, Option, ℕ};
 ghost use Rattle.std.specs.Iterator.{Drains, IsFinite};
 ghost use Rattle.tabled_width.specs.Steps.{with_width_list};
 
@@ -64,7 +64,9 @@ impl<T: FromText> TableOption<VecRecords<T>, ColoredConfig, CompleteDimension> f
         records: &mut VecRecords<T>,
         _cfg: &mut ColoredConfig,
         dims: &mut CompleteDimension,
-    ) -> Result<(), Fault> {
+    ) -> Result<(), Fault>
+        ensures answers { IsOk result }
+    {
         if self.list.len() >= records.count_columns() {
             dims.set_widths(self.list);
         }

@@ -1,5 +1,5 @@
 //! Widths that are taken from a table.
-ghost use Rattle.std.specs.Prelude.{◌≡◌, ◌*◌, Ok, if◌then◌else◌, max, min};
+ghost use Rattle.std.specs.Prelude.{◌≡◌, ◌*◌, if◌then◌else◌, IsOk, Ok, max, min};
 ghost use Rattle.grid_records_estimate.specs.Estimates.{greatest};
 ghost use Rattle.tabled_steps.specs.Outcomes.{sized};
 ghost use Rattle.tabled_width.specs.Measures.{greatest_least_width, greatest_width, least, percent_of_width, row_widths};
@@ -22,7 +22,9 @@ impl Measurement<Width> for Max {
         _alloc: Global,
         records: &R,
         _cfg: &SpannedConfig,
-    ) -> Result<usize, Fault> {
+    ) -> Result<usize, Fault>
+        ensures answers { IsOk result }
+    {
         let mut widest = 0;
         for row in 0..records.count_rows() {
             widest = greater(widest, greatest_in_row(records, row));
@@ -40,7 +42,9 @@ impl Measurement<Width> for Min {
         _alloc: Global,
         records: &R,
         _cfg: &SpannedConfig,
-    ) -> Result<usize, Fault> {
+    ) -> Result<usize, Fault>
+        ensures answers { IsOk result }
+    {
         let mut widest = 0;
         for row in 0..records.count_rows() {
             widest = greater(widest, least_in_row(records, row));
