@@ -1,6 +1,7 @@
 //! Laws: what the definitions come to by hand, which step each option is, which sizes it clears, and what the measurements are.
 ghost use Rattle.std.specs.Prelude.{◌≡◌, ◌↔◌, ◌-◌, ◌^◌, ℕ, List, [], ◌∷◌, Err, None, Ok, Result, Some, codes, true};
 ghost use Rattle.std.specs.declared.cmp.Ordering.TheVariants.{Equal};
+ghost use Rattle.std.specs.Global.{Vec as VecOf};
 ghost use Rattle.grid_config_values.specs.declared.entity.Entity.{Entity as Cells};
 ghost use Rattle.grid_config_values.specs.declared.entity.Entity.TheVariants.{Global as EveryCell};
 ghost use Rattle.grid_config_values.specs.Glyphs.{no_borders};
