@@ -1,5 +1,5 @@
 //! The height of a table or of its cells: makers of its options, and sizes that are taken from it.
-ghost use Rattle.std.specs.Prelude.{◌≡◌, IfOk, IsOk, List, Ok, ℕ};
+ghost use Rattle.std.specs.Prelude.{◌≡◌, IfOk, List, Ok, ℕ};
 ghost use Rattle.std.specs.Iterator.{Drains, IsFinite};
 ghost use Rattle.tabled_height.specs.Heights.{fewest_lines, hundredths, most_lines, percent_of_height, row_lines};
 ghost use Rattle.tabled_height.specs.Options.{increase_height, limit_height};
@@ -57,7 +57,7 @@ impl Measurement<Height> for Max {
         records: &R,
         _cfg: &SpannedConfig,
     ) -> Result<usize, Fault>
-        ensures answers { IsOk result }
+        ensures { result ≡ Ok (most_lines (R.columns records.now) (R.rows records.now)) }
     {
         Ok(most_lines(records))
     }
@@ -74,7 +74,7 @@ impl Measurement<Height> for Min {
         records: &R,
         _cfg: &SpannedConfig,
     ) -> Result<usize, Fault>
-        ensures answers { IsOk result }
+        ensures { result ≡ Ok (fewest_lines (R.columns records.now) (R.rows records.now)) }
     {
         Ok(fewest_lines(records))
     }

@@ -4,7 +4,8 @@ ghost use Rattle.grid_config_values.specs.declared.fault.Fault.TheVariants.{Memo
 ghost use Rattle.grid_config.specs.Looks.{look_of};
 ghost use Rattle.grid_config_values.specs.declared.entity.Entity.TheVariants.{Global as EveryCell};
 ghost use Rattle.tabled_steps.specs.Looks.{with_borders, with_column_span, with_row_span};
-ghost use Rattle.tabled_steps.specs.States.{looking, positive};
+ghost use Rattle.tabled_steps.specs.States.{Steps, looking, positive, state_with};
+ghost use Rattle.grid_config_values.specs.Settings.{value_at};
 
 use grid_config::{Borders, ColoredConfig, Entity, Fault, Position, SpannedConfig};
 use grid_records_traits::records::RecordTexts;
@@ -26,11 +27,13 @@ impl<R: RecordTexts, D: KeptSizes> TableOption<R, ColoredConfig, D> for Bordered
     fn change(
         self,
         _alloc: Global,
-        _records: &mut R,
+        records: &mut R,
         cfg: &mut ColoredConfig,
-        _dims: &mut D,
+        dims: &mut D,
     ) -> Result<(), Fault>
         ensures answers { IsOk result }
+        ensures step { Steps (λ state outcome. looking (with_borders self.borders) state ≡ outcome) result
+            (state_with (R.rows records.old) (look_of cfg.old.settings) (value_at cfg.old.colors) (D.sizes dims.old)) (state_with (R.rows records.new) (look_of cfg.new.settings) (value_at cfg.new.colors) (D.sizes dims.new)) }
     {
         cfg.spanned_mut().set_borders(self.borders);
         Ok(())
@@ -57,11 +60,13 @@ impl<R: RecordTexts, D: KeptSizes> TableOption<R, ColoredConfig, D> for ColumnsA
     fn change(
         self,
         _alloc: Global,
-        _records: &mut R,
+        records: &mut R,
         cfg: &mut ColoredConfig,
-        _dims: &mut D,
+        dims: &mut D,
     ) -> Result<(), Fault>
         ensures zero { self.size ≡ 0 → result ≡ Err BadSpan }
+        ensures step { Steps (λ state outcome. positive self.size (looking (with_column_span self.pos self.size)) state ≡ outcome) result
+            (state_with (R.rows records.old) (look_of cfg.old.settings) (value_at cfg.old.colors) (D.sizes dims.old)) (state_with (R.rows records.new) (look_of cfg.new.settings) (value_at cfg.new.colors) (D.sizes dims.new)) }
     {
         if self.size == 0 {
             return Err(Fault::Spans);
@@ -90,11 +95,13 @@ impl<R: RecordTexts, D: KeptSizes> TableOption<R, ColoredConfig, D> for RowsAt {
     fn change(
         self,
         _alloc: Global,
-        _records: &mut R,
+        records: &mut R,
         cfg: &mut ColoredConfig,
-        _dims: &mut D,
+        dims: &mut D,
     ) -> Result<(), Fault>
         ensures zero { self.size ≡ 0 → result ≡ Err BadSpan }
+        ensures step { Steps (λ state outcome. positive self.size (looking (with_row_span self.pos self.size)) state ≡ outcome) result
+            (state_with (R.rows records.old) (look_of cfg.old.settings) (value_at cfg.old.colors) (D.sizes dims.old)) (state_with (R.rows records.new) (look_of cfg.new.settings) (value_at cfg.new.colors) (D.sizes dims.new)) }
     {
         if self.size == 0 {
             return Err(Fault::Spans);

@@ -5,7 +5,10 @@ ghost use Rattle.grid_config_values.specs.declared.alignment.AlignmentVertical.T
 ghost use Rattle.grid_config_values.specs.declared.entity.Entity.TheVariants.{Global as EveryCell};
 ghost use Rattle.tabled_options.specs.Options.{with_alignment};
 ghost use Rattle.tabled_steps.specs.Looks.{with_alignment_horizontal, with_alignment_vertical};
-ghost use Rattle.tabled_steps.specs.States.{looking};
+ghost use Rattle.tabled_steps.specs.States.{Steps, looking, state_with};
+ghost use Rattle.grid_config.specs.Looks.{look_of};
+ghost use Rattle.grid_config_values.specs.Settings.{value_at};
+ghost use Rattle.tabled_size_dimension.specs.Stored.{Stored};
 
 use grid_config::{AlignmentHorizontal, AlignmentVertical, ColoredConfig, Entity, Fault};
 use grid_records_traits::records::RecordTexts;
@@ -94,11 +97,13 @@ impl<R: RecordTexts> CellOption<R, ColoredConfig> for Alignment {
     fn change(
         &self,
         _alloc: Global,
-        _records: &mut R,
+        records: &mut R,
         cfg: &mut ColoredConfig,
         entity: Entity,
     ) -> Result<(), Fault>
         ensures all_cells { entity ≡ EveryCell → IsOk result }
+        ensures step { (sizes : Stored) → Steps (λ state outcome. looking (with_alignment self.now entity) state ≡ outcome) result
+            (state_with (R.rows records.old) (look_of cfg.old.settings) (value_at cfg.old.colors) sizes) (state_with (R.rows records.new) (look_of cfg.new.settings) (value_at cfg.new.colors) sizes) }
     {
         match self.direction {
             Direction::Horizontal(value) => cfg
@@ -124,9 +129,11 @@ impl<R: RecordTexts, D: KeptSizes> TableOption<R, ColoredConfig, D> for Alignmen
         alloc: Global,
         records: &mut R,
         cfg: &mut ColoredConfig,
-        _dims: &mut D,
+        dims: &mut D,
     ) -> Result<(), Fault>
         ensures answers { IsOk result }
+        ensures step { Steps (λ state outcome. looking (with_alignment self EveryCell) state ≡ outcome) result
+            (state_with (R.rows records.old) (look_of cfg.old.settings) (value_at cfg.old.colors) (D.sizes dims.old)) (state_with (R.rows records.new) (look_of cfg.new.settings) (value_at cfg.new.colors) (D.sizes dims.new)) }
     {
         CellOption::<R, ColoredConfig>::change(&self, alloc, records, cfg, Entity::Global)
     }

@@ -1,10 +1,12 @@
 //! Options of tables whose cells are all alike.
-ghost use Rattle.std.specs.Prelude.{◌≡◌, IsOk, Some};
+ghost use Rattle.std.specs.Prelude.{◌≡◌, IsOk, None, Some};
 ghost use Rattle.grid_config_values.specs.declared.entity.Entity.TheVariants.{Global as EveryCell};
 ghost use Rattle.tabled_options.specs.Options.{margin_sides, padding_sides};
 ghost use Rattle.tabled_options.specs.Styles.{style_borders};
 ghost use Rattle.tabled_steps.specs.Looks.{with_borders, with_margin, with_padding};
-ghost use Rattle.tabled_steps.specs.States.{looking};
+ghost use Rattle.tabled_steps.specs.States.{Steps, looking, state_with};
+ghost use Rattle.grid_config.specs.Looks.{compact_look};
+ghost use Rattle.grid_config.specs.Compact.{compact_of};
 
 use crate::margin::Margin;
 use crate::padding::Padding;
@@ -23,11 +25,13 @@ impl<R: RecordTexts, D: KeptSizes> TableOption<R, CompactConfig, D> for Margin {
     fn change(
         self,
         _alloc: Global,
-        _records: &mut R,
+        records: &mut R,
         cfg: &mut CompactConfig,
-        _dims: &mut D,
+        dims: &mut D,
     ) -> Result<(), Fault>
         ensures answers { IsOk result }
+        ensures step { Steps (λ state outcome. looking (with_margin (margin_sides self)) state ≡ outcome) result
+            (state_with (R.rows records.old) (compact_look (compact_of cfg.old)) (λ _. None) (D.sizes dims.old)) (state_with (R.rows records.new) (compact_look (compact_of cfg.new)) (λ _. None) (D.sizes dims.new)) }
     {
         *cfg = cfg.set_margin(Sides::from(self));
         Ok(())
@@ -47,11 +51,13 @@ impl<R: RecordTexts, D: KeptSizes> TableOption<R, CompactConfig, D> for Padding 
     fn change(
         self,
         _alloc: Global,
-        _records: &mut R,
+        records: &mut R,
         cfg: &mut CompactConfig,
-        _dims: &mut D,
+        dims: &mut D,
     ) -> Result<(), Fault>
         ensures answers { IsOk result }
+        ensures step { Steps (λ state outcome. looking (with_padding EveryCell (padding_sides self)) state ≡ outcome) result
+            (state_with (R.rows records.old) (compact_look (compact_of cfg.old)) (λ _. None) (D.sizes dims.old)) (state_with (R.rows records.new) (compact_look (compact_of cfg.new)) (λ _. None) (D.sizes dims.new)) }
     {
         *cfg = cfg.set_padding(Sides::from(self));
         Ok(())
@@ -71,11 +77,13 @@ impl<R: RecordTexts, D: KeptSizes> TableOption<R, CompactConfig, D> for Style {
     fn change(
         self,
         _alloc: Global,
-        _records: &mut R,
+        records: &mut R,
         cfg: &mut CompactConfig,
-        _dims: &mut D,
+        dims: &mut D,
     ) -> Result<(), Fault>
         ensures answers { IsOk result }
+        ensures step { Steps (λ state outcome. looking (with_borders (style_borders self)) state ≡ outcome) result
+            (state_with (R.rows records.old) (compact_look (compact_of cfg.old)) (λ _. None) (D.sizes dims.old)) (state_with (R.rows records.new) (compact_look (compact_of cfg.new)) (λ _. None) (D.sizes dims.new)) }
     {
         *cfg = cfg.set_borders(self.get_borders());
         Ok(())

@@ -3,7 +3,9 @@ ghost use Rattle.std.specs.Prelude.{◌≡◌, IsOk, Some};
 ghost use Rattle.grid_config_values.specs.declared.entity.Entity.TheVariants.{Global as EveryCell};
 ghost use Rattle.tabled_options.specs.Options.{filled_sides, margin_sides, spaced_sides};
 ghost use Rattle.tabled_steps.specs.Looks.{with_margin};
-ghost use Rattle.tabled_steps.specs.States.{looking};
+ghost use Rattle.tabled_steps.specs.States.{Steps, looking, state_with};
+ghost use Rattle.grid_config.specs.Looks.{look_of};
+ghost use Rattle.grid_config_values.specs.Settings.{value_at};
 
 use grid_config::{ColoredConfig, Entity, Fault, Indent, Sides};
 use grid_records_traits::records::RecordTexts;
@@ -74,11 +76,13 @@ impl<R: RecordTexts, D: KeptSizes> TableOption<R, ColoredConfig, D> for Margin {
     fn change(
         self,
         _alloc: Global,
-        _records: &mut R,
+        records: &mut R,
         cfg: &mut ColoredConfig,
-        _dims: &mut D,
+        dims: &mut D,
     ) -> Result<(), Fault>
         ensures answers { IsOk result }
+        ensures step { Steps (λ state outcome. looking (with_margin (margin_sides self)) state ≡ outcome) result
+            (state_with (R.rows records.old) (look_of cfg.old.settings) (value_at cfg.old.colors) (D.sizes dims.old)) (state_with (R.rows records.new) (look_of cfg.new.settings) (value_at cfg.new.colors) (D.sizes dims.new)) }
     {
         cfg.spanned_mut().set_margin(self.indent);
         Ok(())

@@ -4,7 +4,10 @@ ghost use Rattle.grid_config_values.specs.declared.entity.Entity.TheVariants.{Gl
 ghost use Rattle.tabled_options.specs.Options.{filled_sides, padding_sides, spaced_sides};
 ghost use Rattle.tabled_options.specs.declared.padding.PaddingExpand.TheVariants.{Horizontal, Vertical};
 ghost use Rattle.tabled_steps.specs.Looks.{with_padding};
-ghost use Rattle.tabled_steps.specs.States.{looking};
+ghost use Rattle.tabled_steps.specs.States.{Steps, looking, state_with};
+ghost use Rattle.grid_config.specs.Looks.{look_of};
+ghost use Rattle.grid_config_values.specs.Settings.{value_at};
+ghost use Rattle.tabled_size_dimension.specs.Stored.{Stored};
 
 use grid_config::{ColoredConfig, Entity, Fault, Indent, Sides};
 use grid_records_traits::records::RecordTexts;
@@ -102,11 +105,13 @@ impl<R: RecordTexts> CellOption<R, ColoredConfig> for Padding {
     fn change(
         &self,
         _alloc: Global,
-        _records: &mut R,
+        records: &mut R,
         cfg: &mut ColoredConfig,
         entity: Entity,
     ) -> Result<(), Fault>
         ensures all_cells { entity ≡ EveryCell → IsOk result }
+        ensures step { (sizes : Stored) → Steps (λ state outcome. looking (with_padding entity (padding_sides self.now)) state ≡ outcome) result
+            (state_with (R.rows records.old) (look_of cfg.old.settings) (value_at cfg.old.colors) sizes) (state_with (R.rows records.new) (look_of cfg.new.settings) (value_at cfg.new.colors) sizes) }
     {
         cfg.spanned_mut().set_padding(entity, self.indent)
     }
@@ -125,11 +130,13 @@ impl<R: RecordTexts, D: KeptSizes> TableOption<R, ColoredConfig, D> for Padding 
     fn change(
         self,
         _alloc: Global,
-        _records: &mut R,
+        records: &mut R,
         cfg: &mut ColoredConfig,
-        _dims: &mut D,
+        dims: &mut D,
     ) -> Result<(), Fault>
         ensures answers { IsOk result }
+        ensures step { Steps (λ state outcome. looking (with_padding EveryCell (padding_sides self)) state ≡ outcome) result
+            (state_with (R.rows records.old) (look_of cfg.old.settings) (value_at cfg.old.colors) (D.sizes dims.old)) (state_with (R.rows records.new) (look_of cfg.new.settings) (value_at cfg.new.colors) (D.sizes dims.new)) }
     {
         cfg.spanned_mut().set_padding(Entity::Global, self.indent)
     }

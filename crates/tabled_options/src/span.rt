@@ -5,10 +5,13 @@ ghost use Rattle.grid_config_values.specs.declared.fault.Fault.TheVariants.{Memo
 ghost use Rattle.grid_config.specs.Looks.{look_of};
 ghost use Rattle.tabled_options.specs.Spanning.{span_extent, span_size, spanned_at, spanning};
 ghost use Rattle.tabled_steps.specs.Looks.{with_columns, with_extents, with_rows};
+ghost use Rattle.tabled_steps.specs.States.{Steps, state_with};
+ghost use Rattle.grid_config_values.specs.Settings.{value_at};
+ghost use Rattle.tabled_size_dimension.specs.Stored.{Stored};
 
 use grid_config::{ColoredConfig, Entity, EntityIterator, Fault, Position, SpannedConfig};
 use grid_records_rows::{FromText, VecRecords};
-use grid_records_traits::records::{ExactRecords, RecordColumns};
+use grid_records_traits::records::{ExactRecords, RecordColumns, RecordTexts};
 use std::alloc::Global;
 use std::mem;
 use tabled_steps::CellOption;
@@ -137,6 +140,8 @@ impl<T: FromText> CellOption<VecRecords<T>, ColoredConfig> for Span {
         entity: Entity,
     ) -> Result<(), Fault>
         ensures zero { span_size self.now ≡ 0 → result ≡ Err BadSpan }
+        ensures step { (sizes : Stored) → Steps (λ state outcome. spanning self.now entity state ≡ outcome) result
+            (state_with (⟦<VecRecords<T> as RecordTexts>⟧.rows records.old) (look_of cfg.old.settings) (value_at cfg.old.colors) sizes) (state_with (⟦<VecRecords<T> as RecordTexts>⟧.rows records.new) (look_of cfg.new.settings) (value_at cfg.new.colors) sizes) }
     {
         if self.size == 0 {
             return Err(Fault::Spans);

@@ -4,7 +4,7 @@ ghost use Rattle.grid_config.specs.Compact.{compact_of};
 ghost use Rattle.grid_config.specs.Looks.{compact_look};
 ghost use Rattle.grid_config_values.specs.declared.entity.Entity.TheVariants.{Global as EveryCell};
 ghost use Rattle.tabled_size_dimension.specs.Stored.{none_stored};
-ghost use Rattle.tabled_steps.specs.States.{looking};
+ghost use Rattle.tabled_steps.specs.States.{Steps, looking, state_with};
 
 use crate::configuration::{Configuration, KeptSizes};
 use crate::option::TableOption;
@@ -34,11 +34,13 @@ impl<R: RecordTexts, D: KeptSizes> TableOption<R, CompactConfig, D> for CompactC
     fn change(
         self,
         _alloc: Global,
-        _records: &mut R,
+        records: &mut R,
         cfg: &mut CompactConfig,
-        _dims: &mut D,
+        dims: &mut D,
     ) -> Result<(), Fault>
         ensures answers { IsOk result }
+        ensures step { Steps (λ state outcome. looking (λ _. compact_look (compact_of self)) state ≡ outcome) result
+            (state_with (R.rows records.old) (compact_look (compact_of cfg.old)) (λ _. None) (D.sizes dims.old)) (state_with (R.rows records.new) (compact_look (compact_of cfg.new)) (λ _. None) (D.sizes dims.new)) }
     {
         *cfg = self;
         Ok(())

@@ -4,7 +4,7 @@ ghost use Rattle.grid_config_values.specs.declared.entity.Entity.TheVariants.{Gl
 ghost use Rattle.grid_config_values.specs.Settings.{value_at};
 ghost use Rattle.grid_config.specs.Compact.{compact_of};
 ghost use Rattle.grid_config.specs.Looks.{compact_look, look_of};
-ghost use Rattle.tabled_steps.specs.States.{looking};
+ghost use Rattle.tabled_steps.specs.States.{Steps, looking, state_with};
 
 use crate::configuration::KeptSizes;
 use crate::option::TableOption;
@@ -48,11 +48,13 @@ impl<R: RecordTexts, D: KeptSizes> TableOption<R, ColoredConfig, D> for SpannedC
     fn change(
         self,
         _alloc: Global,
-        _records: &mut R,
+        records: &mut R,
         cfg: &mut ColoredConfig,
-        _dims: &mut D,
+        dims: &mut D,
     ) -> Result<(), Fault>
         ensures answers { IsOk result }
+        ensures step { Steps (λ state outcome. looking (λ _. look_of self) state ≡ outcome) result
+            (state_with (R.rows records.old) (look_of cfg.old.settings) (value_at cfg.old.colors) (D.sizes dims.old)) (state_with (R.rows records.new) (look_of cfg.new.settings) (value_at cfg.new.colors) (D.sizes dims.new)) }
     {
         let_go(mem::replace(cfg.spanned_mut(), self));
         Ok(())
@@ -95,11 +97,13 @@ impl<R: RecordTexts, D: KeptSizes> TableOption<R, ColoredConfig, D> for ColoredC
     fn change(
         self,
         _alloc: Global,
-        _records: &mut R,
+        records: &mut R,
         cfg: &mut ColoredConfig,
-        _dims: &mut D,
+        dims: &mut D,
     ) -> Result<(), Fault>
         ensures answers { IsOk result }
+        ensures step { Steps (λ state outcome. Ok (record state { look = look_of self.settings; colors = value_at self.colors }) ≡ outcome) result
+            (state_with (R.rows records.old) (look_of cfg.old.settings) (value_at cfg.old.colors) (D.sizes dims.old)) (state_with (R.rows records.new) (look_of cfg.new.settings) (value_at cfg.new.colors) (D.sizes dims.new)) }
     {
         let_go(mem::replace(cfg, self));
         Ok(())

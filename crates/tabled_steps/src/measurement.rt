@@ -1,5 +1,5 @@
 //! Sizes that are taken from a table.
-ghost use Rattle.std.specs.Prelude.{◌≡◌, IsOk, List, Ok, Result, ℕ};
+ghost use Rattle.std.specs.Prelude.{◌≡◌, List, Ok, Result, ℕ};
 ghost use Rattle.grid_config_values.specs.declared.fault.Fault.{Fault as Refusal};
 ghost use Rattle.grid_config.specs.Looks.{Look, look_of};
 ghost use Rattle.tabled_steps.specs.Outcomes.{Gives};
@@ -46,7 +46,7 @@ impl<A> Measurement<A> for usize {
         _records: &R,
         _cfg: &SpannedConfig,
     ) -> Result<usize, Fault>
-        ensures answers { IsOk result }
+        ensures { result ≡ Ok self.now }
     {
         Ok(*self)
     }

@@ -2,10 +2,13 @@
 ghost use Rattle.std.specs.Prelude.{◌≡◌, IfOk, IsOk, List, None, Option, ℕ};
 ghost use Rattle.std.specs.Iterator.{Drains, IsFinite};
 ghost use Rattle.tabled_width.specs.Steps.{with_width_list};
+ghost use Rattle.tabled_steps.specs.States.{Steps, state_with};
+ghost use Rattle.grid_config.specs.Looks.{look_of};
+ghost use Rattle.grid_config_values.specs.Settings.{value_at};
 
 use grid_config::{ColoredConfig, Entity, Fault};
 use grid_records_rows::{FromText, VecRecords};
-use grid_records_traits::records::RecordColumns;
+use grid_records_traits::records::{RecordColumns, RecordTexts};
 use std::alloc::{AllocError, Global};
 use tabled_size_dimension::CompleteDimension;
 use tabled_steps::{KeptSizes, TableOption};
@@ -62,10 +65,12 @@ impl<T: FromText> TableOption<VecRecords<T>, ColoredConfig, CompleteDimension> f
         self,
         _alloc: Global,
         records: &mut VecRecords<T>,
-        _cfg: &mut ColoredConfig,
+        cfg: &mut ColoredConfig,
         dims: &mut CompleteDimension,
     ) -> Result<(), Fault>
         ensures answers { IsOk result }
+        ensures step { Steps (λ state outcome. with_width_list self.list.items state ≡ outcome) result
+            (state_with (⟦<VecRecords<T> as RecordTexts>⟧.rows records.old) (look_of cfg.old.settings) (value_at cfg.old.colors) dims.old) (state_with (⟦<VecRecords<T> as RecordTexts>⟧.rows records.new) (look_of cfg.new.settings) (value_at cfg.new.colors) dims.new) }
     {
         if self.list.len() >= records.count_columns() {
             dims.set_widths(self.list);

@@ -1,5 +1,5 @@
 //! Widths that are taken from a table.
-ghost use Rattle.std.specs.Prelude.{◌≡◌, ◌*◌, if◌then◌else◌, IsOk, Ok, max, min};
+ghost use Rattle.std.specs.Prelude.{◌≡◌, ◌*◌, if◌then◌else◌, Ok, max, min};
 ghost use Rattle.grid_records_estimate.specs.Estimates.{greatest};
 ghost use Rattle.tabled_steps.specs.Outcomes.{sized};
 ghost use Rattle.tabled_width.specs.Measures.{greatest_least_width, greatest_width, least, percent_of_width, row_widths};
@@ -23,7 +23,7 @@ impl Measurement<Width> for Max {
         records: &R,
         _cfg: &SpannedConfig,
     ) -> Result<usize, Fault>
-        ensures answers { IsOk result }
+        ensures { result ≡ Ok (greatest_width (R.columns records.now) (R.ExactRecords.rows records.now)) }
     {
         let mut widest = 0;
         for row in 0..records.count_rows() {
@@ -43,7 +43,7 @@ impl Measurement<Width> for Min {
         records: &R,
         _cfg: &SpannedConfig,
     ) -> Result<usize, Fault>
-        ensures answers { IsOk result }
+        ensures { result ≡ Ok (greatest_least_width (R.columns records.now) (R.ExactRecords.rows records.now)) }
     {
         let mut widest = 0;
         for row in 0..records.count_rows() {
