@@ -4,7 +4,7 @@ use Rattle.grid_config.specs.Looks.{compact_look}
 use Rattle.tabled_steps.specs.States.{state_with}
 use Rattle.tabled_options.proofs.compact.MarginTableOptionCompactConfig.change.Goals as goal
 
-pub returns : goal.returns
-returns g c =
-    ap (λ (compact : Compact). Ok (state_with (g.R.RecordTexts.rows c.args._records.now) (compact_look compact) (λ _. None) (g.D.KeptSizes.sizes c.args._dims.now)))
+pub returns-clause-step : goal.returns-clause-step
+returns-clause-step g c =
+    ap (λ (compact : Compact). Ok (state_with (g.R.RecordTexts.rows c.args.records.now) (compact_look compact) (λ _. None) (g.D.KeptSizes.sizes c.args.dims.now)))
     (sym (c.set_margin.ensures ∙ ap (λ value. record (compact_of c.args.cfg.now) { margin = value }) c.from.ensures))

@@ -3,7 +3,7 @@ use Rattle.tabled_options.specs.Options.{padding_sides}
 use Rattle.tabled_options.proofs.padding.PaddingCellOptionColoredConfig.change.Goals as goal
 use Rattle.tabled_steps.proofs.Setting.{padding_steps}
 
-pub returns : goal.returns
-returns g c = λ sizes.
+pub returns-clause-step : goal.returns-clause-step
+returns-clause-step g c = λ sizes.
     padding_steps c.args.cfg.now.settings c.spanned_mut.result.now c.set_padding.new.self c.spanned_mut.ensures.settings c.args.entity c.set_padding.result (padding_sides c.args.self.now)
-    c.set_padding.ensures.others c.set_padding.ensures.set c.set_padding.ensures.refused c.set_padding.ensures.fault (g.R.RecordTexts.rows c.args._records.now) (value_at c.args.cfg.now.colors) sizes
+    c.set_padding.ensures.others c.set_padding.ensures.set c.set_padding.ensures.refused c.set_padding.ensures.fault (g.R.RecordTexts.rows c.args.records.now) (value_at c.args.cfg.now.colors) sizes

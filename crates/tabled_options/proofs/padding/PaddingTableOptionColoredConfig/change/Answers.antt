@@ -4,7 +4,7 @@ use Rattle.tabled_options.specs.Options.{padding_sides}
 use Rattle.tabled_options.proofs.padding.PaddingTableOptionColoredConfig.change.Goals as goal
 use Rattle.tabled_steps.proofs.Setting.{padding_steps}
 
-pub returns : goal.returns
-returns g c =
+pub returns-clause-step : goal.returns-clause-step
+returns-clause-step g c =
     padding_steps c.args.cfg.now.settings c.spanned_mut.result.now c.set_padding.new.self c.spanned_mut.ensures.settings Global c.set_padding.result (padding_sides c.args.self)
-    c.set_padding.ensures.others c.set_padding.ensures.set c.set_padding.ensures.refused c.set_padding.ensures.fault (g.R.RecordTexts.rows c.args._records.now) (value_at c.args.cfg.now.colors) (g.D.KeptSizes.sizes c.args._dims.now)
+    c.set_padding.ensures.others c.set_padding.ensures.set c.set_padding.ensures.refused c.set_padding.ensures.fault (g.R.RecordTexts.rows c.args.records.now) (value_at c.args.cfg.now.colors) (g.D.KeptSizes.sizes c.args.dims.now)

@@ -8,8 +8,8 @@ use Rattle.tabled_options.specs.Spanning.{spanned_at}
 use Rattle.tabled_options.proofs.Spanning.{spanned_state}
 use Rattle.tabled_options.proofs.span.SpanCellOptionVecRecordsColoredConfig.change.Goals as goal
 
-pub returns : goal.returns
-returns g c = λ sizes.
+pub returns-clause-step : goal.returns-clause-step
+returns-clause-step g c = λ sizes.
     let rows = c.args.records.now.rows.items in
     spanned_state c.args.self.now c.args.entity (texts_of_rows g.T.Cell.text rows) (value_at c.args.cfg.now.colors) sizes c.args.cfg.now.settings _ c.count_rows-rows.result c.count_columns-columns.result
     c.count_rows-rows.ensures (c.count_columns-columns.ensures ∙ sym (count_texts g.T.Cell.text rows)) (grind (arith, nat_tests, c.if-self-eq0.false))
