@@ -44,6 +44,14 @@ pub gives_follow : {X Y : Type 0} (view : X → Y) (result : Result X Fault) (gi
 gives_follow view (Ok x) gives others follows given = follows (Ok (view x)) given
 gives_follow view (Err fault) gives others follows given = may_follow fault gives others (λ f. follows (Err f)) given
 
+-- what is exactly worked out is given
+pub gives_exactly : (result outcome : Result ℕ Fault) → result ≡ outcome → Gives (λ n. n) result (λ other. outcome ≡ other)
+gives_exactly (Ok n) outcome is = sym is
+gives_exactly (Err Memory) outcome is = tt
+gives_exactly (Err Range) outcome is = sym is
+gives_exactly (Err Spans) outcome is = sym is
+gives_exactly (Err (Room row column)) outcome is = sym is
+
 -- ---- a height that is taken from the table
 
 module _ (measures : Measuring) (step : ℕ → State → Outcome → Type 0) (s : State) where
