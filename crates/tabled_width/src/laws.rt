@@ -1,6 +1,8 @@
 //! Laws: which step each option is, and which sizes it clears; what measurements give; and lists worked
 //! out by hand.
-ghost use Rattle.std.specs.Prelude.{◌≡◌, Bool, false, true, ℕ, List, None, Ok, Result, Some, [], ◌∷◌, ◌++◌, codes};
+ghost use Rattle.std.specs.Prelude.{◌≡◌, ◌↔◌, Bool, false, true, ℕ, List, None, Ok, Result, Some, [], ◌∷◌, ◌++◌, codes};
+ghost use Rattle.std.specs.Global.{Vec as VecOf};
+ghost use Rattle.std.specs.declared.cmp.Ordering.TheVariants.{Equal};
 ghost use Rattle.grid_config.specs.Looks.{Look};
 ghost use Rattle.grid_config_values.specs.declared.entity.Entity.{Entity as Cells};
 ghost use Rattle.grid_config_values.specs.declared.entity.Entity.TheVariants.{Global as EveryCell, Row as OneRow};
@@ -37,7 +39,7 @@ use crate::wrap::Wrap;
 use grid_config::ColoredConfig;
 use grid_records_rows::{FromText, VecRecords};
 use tabled_size_dimension::CompleteDimension;
-use tabled_size_priority::Peaker;
+use tabled_size_priority::{Peaker, PriorityNone};
 use tabled_steps::{CellOption, Max, Measurement, Min, Percent, TableOption};
 
 /// A list is the step that keeps its widths, and clears nothing.
@@ -136,4 +138,29 @@ pub fn worked_lists()
     ensures last { least (3 ∷ 5 ∷ 1 ∷ []) ≡ 1 }
     ensures kept { (s : State) → with_width_list (3 ∷ 4 ∷ []) (record s { rows = letters; sizes = none_stored }) ≡ Ok (record s { rows = letters; sizes = record { widths = Some (3 ∷ 4 ∷ []); heights = None } }) }
     ensures shorter { (s : State) → with_width_list (3 ∷ []) (record s { rows = letters }) ≡ Ok (record s { rows = letters }) }
+{}
+
+/// A list of widths is the numbers of its vector.
+pub fn lists_are_made_of_their_widths()
+    ensures { (widths : VecOf ℕ) (list : OneList) → ⟦<WidthList as From<Vec<usize>>>⟧.from_gives widths list → list.list.items ≡ widths.items }
+{}
+
+/// `==` of options by numbers is equality of all that they hold, and `cmp` finds the same ones equal.
+pub fn options_are_compared_whole()
+    ensures widening { (a b : OneMinWidth ℕ ℕ) → (⟦<MinWidth<usize, PriorityNone> as PartialEq>⟧.eq a b ≡ true) ↔ (widening a ≡ widening b) }
+    ensures widening_order { (a b : OneMinWidth ℕ ℕ) → (⟦<MinWidth<usize, PriorityNone> as Ord>⟧.cmp a b ≡ Equal) ↔ (widening a ≡ widening b) }
+    ensures justifying { (a b : OneJustify ℕ) → (⟦<Justify<usize> as PartialEq>⟧.eq a b ≡ true) ↔ (justified_width a ≡ justified_width b) }
+    ensures justifying_order { (a b : OneJustify ℕ) → (⟦<Justify<usize> as Ord>⟧.cmp a b ≡ Equal) ↔ (justified_width a ≡ justified_width b) }
+{}
+
+/// A clone of an option holds the same, where clones of its width and of its priority are the same.
+pub fn clones_are_the_same<'a, W: Clone, P: Clone>()
+    ensures widening { ((x y : W) → W.is_clone x y → y ≡ x) → ((x y : P) → P.is_clone x y → y ≡ x) →
+        (source clone : OneMinWidth W P) → ⟦<MinWidth<W, P> as Clone>⟧.is_clone source clone → widening clone ≡ widening source }
+    ensures breaking { ((x y : W) → W.is_clone x y → y ≡ x) → ((x y : P) → P.is_clone x y → y ≡ x) →
+        (source clone : OneWrap W P) → ⟦<Wrap<W, P> as Clone>⟧.is_clone source clone → wrapping clone ≡ wrapping source }
+    ensures cutting { ((x y : W) → W.is_clone x y → y ≡ x) → ((x y : P) → P.is_clone x y → y ≡ x) →
+        (source clone : OneTruncate W P) → ⟦<Truncate<'a, W, P> as Clone>⟧.is_clone source clone → truncation clone ≡ truncation source }
+    ensures justifying { ((x y : W) → W.is_clone x y → y ≡ x) →
+        (source clone : OneJustify W) → ⟦<Justify<W> as Clone>⟧.is_clone source clone → justified_width clone ≡ justified_width source }
 {}
