@@ -1,14 +1,15 @@
 //! Laws of the definitions that the contracts cite.
 ghost use Rattle.std.specs.List.{join_with_byte, range_with_len};
-ghost use Rattle.std.specs.Prelude.{◌≡◌, ◌↔◌, ◌<◌, ◌≤◌, ℕ, Bool, IfSome, String, [], ◌∷◌, List, None, Ok, Option, Some, map, true, unwrap_or};
+ghost use Rattle.std.specs.Prelude.{◌≡◌, ◌↔◌, ◌<◌, ◌≤◌, ◌-◌, ◌++◌, ℕ, Bool, IfSome, String, [], ◌∷◌, List, None, Ok, Option, Some, chars, length, map, true, unwrap_or};
 ghost use Rattle.std.specs.declared.cmp.Ordering.TheVariants.{Equal};
 ghost use Rattle.std.proofs.Common.{Global as Heap};
 ghost use Rattle.ansi_scan.specs.Pieces.{pieces};
-ghost use Rattle.ansi_str.specs.StyledText.{styled};
+ghost use Rattle.ansi_str.specs.StyledText.{strip, styled};
 ghost use Rattle.grid_config.specs.Settings.{Settings};
 ghost use Rattle.grid_config_values.specs.declared.entity.Entity.TheVariants.{Row as OneRow};
 ghost use Rattle.grid_config_values.specs.declared.position.Position.{Position as Place};
 ghost use Rattle.grid_records_measure.specs.Cutting.{ShowsCut};
+ghost use Rattle.grid_records_measure.specs.Measures.{measure};
 ghost use Rattle.grid_records_measure.specs.TextLines.{line_feed};
 ghost use Rattle.grid_records_traits.specs.Rows.{IsInside, text_at};
 ghost use Rattle.papergrid_picture.specs.Shown.{IsWholeText};
@@ -26,9 +27,11 @@ ghost use Rattle.tabled_list.specs.declared.setting.Setting.TheVariants.{Truncat
 ghost use Rattle.tabled_size_dimension.specs.declared.suffix.SuffixLimit.{SuffixLimit as OneLimit};
 ghost use Rattle.tabled_size_priority.specs.Choices.{IsShrunkByChoice};
 ghost use Rattle.tabled_size_priority.specs.declared.choice.Choice.{Choice as PriorityName};
+ghost use Rattle.tabled_size_wrap.specs.Bytes.{cut_at};
 ghost use Rattle.tabled_size_wrap.specs.Showing.{ShowsWrapped};
 ghost use Rattle.tabled_steps.specs.States.{Settles, State, column_count};
 ghost use Rattle.tabled_width.specs.Breaking.{breaking, cutting_wider};
+ghost use Rattle.tabled_width.specs.Cutting.{Cutting, cut_line, suffix_behind};
 ghost use Rattle.tabled_width.specs.Options.{truncation, wrapping};
 ghost use Rattle.tabled_width.specs.Rooms.{in_room, room};
 ghost use Rattle.tabled_width.specs.Tables.{narrowed};
@@ -75,7 +78,7 @@ pub fn totals_count_lines_and_columns()
 /// What narrower columns make of a text: in its room it is broken or cut, and where it has none it stays. A
 /// broken text shows the lines of the text, each broken by the runs of its characters, whatever their styles,
 /// and a cut one the longest front of its characters that fits; each character in the style that it has in the
-/// text, and U+FFFD in the plain style.
+/// text, and U+FFFD in the plain style. Before a suffix stands such a front at the columns that it leaves.
 pub fn narrowed_texts_show_their_breaks()
     ensures texts { (change : ℕ → List ℕ → Option (List ℕ)) (least widths : List ℕ) (s : State) (place : Place) → IsInside s.rows place → place.col < column_count s.rows →
         let text = text_at s.rows place in
@@ -84,6 +87,9 @@ pub fn narrowed_texts_show_their_breaks()
         IfSome (breaking keep_words width text) (λ bytes. ShowsWrapped width keep_words (styled (pieces text)) (styled (pieces bytes))) }
     ensures cut { (width : ℕ) (text : List ℕ) → IsWholeText text →
         IfSome (cutting_wider width text) (λ bytes. ShowsCut width (pieces text) (pieces bytes)) }
+    ensures before_suffix { (cutting : Cutting) (room : ℕ) (text : List ℕ) → IsWholeText text → 0 < length cutting.suffix →
+        let taken = measure (chars (strip (pieces cutting.suffix))) in taken < room →
+        (cut_line cutting room text ≡ cut_at (room - taken) text ++ suffix_behind cutting (room - taken) text) × ShowsCut (room - taken) (pieces text) (pieces (cut_at (room - taken) text)) }
 {}
 
 /// No line of a table that `Wrap` or `Truncate` has changed takes more columns than were asked for, where its

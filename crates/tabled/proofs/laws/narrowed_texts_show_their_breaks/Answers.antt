@@ -1,4 +1,7 @@
-use Rattle.std.proofs.Common.{None, Some, IfSome, true, false, cond, nat_lt}
+use Rattle.std.proofs.Common.{◌≡◌, ◌==◌, ◌-◌, ◌<◌, ℕ, None, Some, IfSome, true, false, arith, chars, cond, length, nat_lt, refl}
+use Rattle.std.proofs.lemmas.Bool.Decides.{nat_tests}
+use Rattle.ansi_str.specs.StyledText.{strip}
+use Rattle.grid_records_measure.specs.Measures.{measure}
 use Rattle.ansi_scan.specs.Pieces.{pieces}
 use Rattle.ansi_scan.proofs.Existence.{ArePiecesOf-pieces}
 use Rattle.grid_records_measure.specs.Cutting.{ShowsCut}
@@ -28,3 +31,17 @@ returns-clause-cut c = λ width text whole.
       | true ↦ cut-shows width text bytes (pieces text) (pieces bytes) whole.utf8 of_text whole.whole (cut_at-meets width text (pieces text) of_text) (ArePiecesOf-pieces bytes)
       | false ↦ tt
     ]
+
+some-suffix : (n : ℕ) → 0 < n → (n == 0) ≡ false
+some-suffix n some = grind (arith, nat_tests)
+
+has-room : (taken room : ℕ) → taken < room → nat_lt taken room ≡ true
+has-room taken room fits = grind (arith, nat_tests)
+
+pub returns-clause-before_suffix : goal.returns-clause-before_suffix
+returns-clause-before_suffix c = λ cutting room text whole some fits.
+    let of_text = ArePiecesOf-pieces text in
+    let taken = measure (chars (strip (pieces cutting.suffix))) in
+    let bytes = cut_at (room - taken) text in
+    (rw (some-suffix (length cutting.suffix) some) (rw (has-room taken room fits) refl)),
+    cut-shows (room - taken) text bytes (pieces text) (pieces bytes) whole.utf8 of_text whole.whole (cut_at-meets (room - taken) text (pieces text) of_text) (ArePiecesOf-pieces bytes)
