@@ -145,10 +145,12 @@ pub fn lists_are_made_of_their_widths()
     ensures { (widths : VecOf ℕ) (list : OneList) → ⟦<WidthList as From<Vec<usize>>>⟧.from_gives widths list → list.list.items ≡ widths.items }
 {}
 
-/// `==` of options by numbers is equality of all that they hold, and `cmp` finds the same ones equal.
-pub fn options_are_compared_whole()
+/// `==` of options by numbers is equality of all that they hold, of a suffix by its text; and `cmp` of those
+/// without a suffix finds the same ones equal.
+pub fn options_are_compared_whole<'a>()
     ensures widening { (a b : OneMinWidth ℕ ℕ) → (⟦<MinWidth<usize, PriorityNone> as PartialEq>⟧.eq a b ≡ true) ↔ (widening a ≡ widening b) }
     ensures widening_order { (a b : OneMinWidth ℕ ℕ) → (⟦<MinWidth<usize, PriorityNone> as Ord>⟧.cmp a b ≡ Equal) ↔ (widening a ≡ widening b) }
+    ensures cutting { (a b : OneTruncate ℕ ℕ) → (⟦<Truncate<'a, usize, PriorityNone> as PartialEq>⟧.eq a b ≡ true) ↔ (truncation a ≡ truncation b) }
     ensures justifying { (a b : OneJustify ℕ) → (⟦<Justify<usize> as PartialEq>⟧.eq a b ≡ true) ↔ (justified_width a ≡ justified_width b) }
     ensures justifying_order { (a b : OneJustify ℕ) → (⟦<Justify<usize> as Ord>⟧.cmp a b ≡ Equal) ↔ (justified_width a ≡ justified_width b) }
 {}
