@@ -42,6 +42,7 @@ pub returns-clause-before_suffix : goal.returns-clause-before_suffix
 returns-clause-before_suffix c = λ cutting room text whole some fits.
     let of_text = ArePiecesOf-pieces text in
     let taken = measure (chars (strip (pieces cutting.suffix))) in
-    let bytes = cut_at (room - taken) text in
-    (rw (some-suffix (length cutting.suffix) some) (rw (has-room taken room fits) refl)),
-    cut-shows (room - taken) text bytes (pieces text) (pieces bytes) whole.utf8 of_text whole.whole (cut_at-meets (room - taken) text (pieces text) of_text) (ArePiecesOf-pieces bytes)
+    let bytes = cut_at (room - taken) text in (
+      rw (some-suffix (length cutting.suffix) some) (rw (has-room taken room fits) refl),
+      cut-shows (room - taken) text bytes (pieces text) (pieces bytes) whole.utf8 of_text whole.whole (cut_at-meets (room - taken) text (pieces text) of_text) (ArePiecesOf-pieces bytes),
+    )

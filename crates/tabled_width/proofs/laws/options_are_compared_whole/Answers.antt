@@ -1,4 +1,4 @@
-use Rattle.std.proofs.Common.{◌≡◌, ◌&&◌, ℕ, Bool, true, false, nat_eq, refl, ap, ◌∙◌, sym}
+use Rattle.std.proofs.Common.{◌≡◌, ◌&&◌, ℕ, Bool, true, false, refl, ap, ◌∙◌, sym}
 use Rattle.std.proofs.Math.Bool.{beq}
 use Rattle.std.proofs.lemmas.Bool.{and_parts}
 use Rattle.std.specs.Cmp.{unsigned_Decides}
@@ -41,7 +41,8 @@ both : (s t : Bool) → s ≡ true → t ≡ true → (s && t) ≡ true
 both s t p q = ap (λ b. b && t) p ∙ q
 
 pub returns-clause-cutting : goal.returns-clause-cutting
-returns-clause-cutting c = λ a b. ((λ e.
+returns-clause-cutting c = λ a b. (
+  (λ e.
       let widths = and_parts _ _ e in
       let texts = and_parts _ _ widths.1 in
       let limits = and_parts _ _ texts.1 in
@@ -53,13 +54,15 @@ returns-clause-cutting c = λ a b. ((λ e.
           suffix = (pointwise_decides unsigned_Decides a.suffix.now b.suffix.now).0 texts.0 i;
           limit = same-limit a.limit b.limit limits.0 i;
           multiline = same-switch a.multiline b.multiline lines.0 i;
-          try_color = same-switch a.try_color b.try_color colors.0 i
+          try_color = same-switch a.try_color b.try_color colors.0 i;
         };
-        priority = (unsigned_Decides a.priority b.priority).0 colors.1 i
-      }), (λ e.
+        priority = (unsigned_Decides a.priority b.priority).0 colors.1 i;
+      }),
+  (λ e.
       both _ _ ((unsigned_Decides a.width b.width).1 (ap (λ (it : Truncation ℕ ℕ). it.width) e))
       (both _ _ ((pointwise_decides unsigned_Decides a.suffix.now b.suffix.now).1 (ap (λ (it : Truncation ℕ ℕ). it.cutting.suffix) e))
       (both _ _ (ap (limits.eq a.limit) (sym (ap (λ (it : Truncation ℕ ℕ). it.cutting.limit) e)) ∙ limit-itself a.limit)
       (both _ _ (switch-itself a.multiline b.multiline (ap (λ (it : Truncation ℕ ℕ). it.cutting.multiline) e))
       (both _ _ (switch-itself a.try_color b.try_color (ap (λ (it : Truncation ℕ ℕ). it.cutting.try_color) e))
-      ((unsigned_Decides a.priority b.priority).1 (ap (λ (it : Truncation ℕ ℕ). it.priority) e))))))))
+      ((unsigned_Decides a.priority b.priority).1 (ap (λ (it : Truncation ℕ ℕ). it.priority) e))))))),
+)
