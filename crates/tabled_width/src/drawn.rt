@@ -1,10 +1,11 @@
 //! The sizes of a table, and what it takes with them.
-ghost use Rattle.std.specs.Prelude.{◌≡◌, ◌<◌, ◌≤◌, ◌+◌, ◌^◌, IfOk, Ok, length, slice_index, sum};
+ghost use Rattle.std.specs.Prelude.{◌≡◌, ◌<◌, ◌≤◌, ◌+◌, ◌^◌, ℕ, IfErr, IfOk, List, Ok, Result, length, slice_index, sum};
 ghost use Rattle.grid_config.specs.Looks.{look_of};
-ghost use Rattle.tabled_steps.specs.Outcomes.{Answers, all_sized};
-ghost use Rattle.tabled_steps.specs.Sizes.{heights_or, widths_or};
+ghost use Rattle.grid_config_values.specs.declared.fault.Fault.{Fault as Refusal};
+ghost use Rattle.tabled_steps.specs.Outcomes.{◌≫=◌, Answers, MayRefuse, all_sized};
+ghost use Rattle.tabled_steps.specs.Sizes.{heights_or, natural_heights, natural_widths, widths_or};
 ghost use Rattle.tabled_width.specs.Rooms.{column_widths as widths_of_columns, least_widths as least_of};
-ghost use Rattle.tabled_width.specs.Tables.{drawn as drawn_sizes, drawn_with};
+ghost use Rattle.tabled_width.specs.Tables.{Drawn as DrawnSizes, drawn as drawn_sizes, drawn_with};
 ghost use Rattle.tabled_width.specs.Widths.{table_width as width_of};
 
 use crate::columns::table_width;
@@ -40,8 +41,7 @@ impl Drawn {
         ensures columns { IfOk result (λ it. it.columns.items ≡ widths_of_columns (⟦<VecRecords<T> as RecordColumns>⟧.columns records.now) it.widths.items) }
         ensures whole { IfOk result (λ it. it.whole ≡ width_of (look_of cfg.now) it.columns.items) }
     {
-        let widths = widths_or_least(alloc, records, cfg, sizes)?;
-        let heights = heights_or_least(alloc, records, cfg, sizes)?;
+        let (widths, heights) = sizes_or_least(alloc, records, cfg, sizes)?;
         let columns = column_widths(alloc, &widths, records.count_columns())?;
         let whole = table_width(cfg, &columns)?;
         Ok(Drawn {
@@ -98,6 +98,46 @@ pub(crate) fn grown<P: Peaker + Drop>(priority: P, widths: Vec<usize>, by: usize
     let mut priority = priority;
     priority.grow(&mut widths, by);
     widths
+}
+
+// The widths and the heights that are kept, and else the least that hold the texts. Where neither are
+// kept, each text is measured once.
+fn sizes_or_least<T: FromText>(
+    alloc: Global,
+    records: &VecRecords<T>,
+    cfg: &SpannedConfig,
+    sizes: &CompleteDimension,
+) -> Result<(Vec<usize>, Vec<usize>), Fault>
+    ensures widths { IfOk result (λ lists. widths_or sizes.now.widths (look_of cfg.now) (⟦<VecRecords<T> as RecordColumns>⟧.columns records.now) (⟦<VecRecords<T> as RecordTexts>⟧.rows records.now) ≡ Ok lists.0.items) }
+    ensures heights { IfOk result (λ lists. heights_or sizes.now.heights (look_of cfg.now) (⟦<VecRecords<T> as RecordColumns>⟧.columns records.now) (⟦<VecRecords<T> as RecordTexts>⟧.rows records.now) ≡ Ok lists.1.items) }
+    ensures refused { let columns = ⟦<VecRecords<T> as RecordColumns>⟧.columns records.now in let rows = ⟦<VecRecords<T> as RecordTexts>⟧.rows records.now in
+        IfErr result (λ fault. (next : List ℕ → List ℕ → Result DrawnSizes Refusal) →
+        MayRefuse fault (λ outcome. (widths_or sizes.now.widths (look_of cfg.now) columns rows ≫= λ widths. heights_or sizes.now.heights (look_of cfg.now) columns rows ≫= next widths) ≡ outcome)) }
+{
+    if sizes.is_empty() {
+        return least_sizes(alloc, records, cfg);
+    }
+    let widths = widths_or_least(alloc, records, cfg, sizes)?;
+    let heights = heights_or_least(alloc, records, cfg, sizes)?;
+    Ok((widths, heights))
+}
+
+// The least widths and heights that hold the texts, of one reading.
+fn least_sizes<T: FromText>(
+    alloc: Global,
+    records: &VecRecords<T>,
+    cfg: &SpannedConfig,
+) -> Result<(Vec<usize>, Vec<usize>), Fault>
+    ensures widths { IfOk result (λ lists. all_sized (natural_widths (look_of cfg.now) (⟦<VecRecords<T> as RecordColumns>⟧.columns records.now) (⟦<VecRecords<T> as RecordTexts>⟧.rows records.now)) ≡ Ok lists.0.items) }
+    ensures heights { IfOk result (λ lists. all_sized (natural_heights (look_of cfg.now) (⟦<VecRecords<T> as RecordColumns>⟧.columns records.now) (⟦<VecRecords<T> as RecordTexts>⟧.rows records.now)) ≡ Ok lists.1.items) }
+    ensures refused { let columns = ⟦<VecRecords<T> as RecordColumns>⟧.columns records.now in let rows = ⟦<VecRecords<T> as RecordTexts>⟧.rows records.now in
+        IfErr result (λ fault. (next : List ℕ → List ℕ → Result DrawnSizes Refusal) →
+        MayRefuse fault (λ outcome. (all_sized (natural_widths (look_of cfg.now) columns rows) ≫= λ widths. all_sized (natural_heights (look_of cfg.now) columns rows) ≫= next widths) ≡ outcome)) }
+{
+    let (widths, heights) = IterGridDimension::dimension(alloc, records, cfg)?;
+    are_held(&widths);
+    are_held(&heights);
+    Ok((widths, heights))
 }
 
 // The widths that are kept, and else the least that hold the texts.
