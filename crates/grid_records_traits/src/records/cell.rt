@@ -73,11 +73,32 @@ impl Cell for String {
     }
 }
 
+/// What the cell keeps of its text is not found again.
 impl<'a, C: Cell> Cell for &'a C {
     ghost text = { λ cell. C.text cell.now };
 
     fn text(&self) -> &str {
         C::text(self)
+    }
+
+    fn line(&self, alloc: Global, index: usize) -> Result<CowStr<'_>, AllocError> {
+        C::line(self, alloc, index)
+    }
+
+    fn count_lines(&self) -> usize {
+        C::count_lines(self)
+    }
+
+    fn width(&self) -> usize {
+        C::width(self)
+    }
+
+    fn dimension(&self) -> (usize, usize) {
+        C::dimension(self)
+    }
+
+    fn line_width(&self, index: usize) -> usize {
+        C::line_width(self, index)
     }
 }
 

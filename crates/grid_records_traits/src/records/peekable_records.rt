@@ -1,12 +1,14 @@
 //! Records looked up by place.
-ghost use Rattle.std.specs.Prelude.{◌≡◌, IfOk, IsOk, false};
+ghost use Rattle.std.specs.Prelude.{◌≡◌, IfOk, IfSome, IsOk, false};
 ghost use Rattle.std.specs.Cow.{IsOwnedStr, cow_str_bytes};
 ghost use Rattle.ansi_str_text.specs.StyledText.{has_escape};
 ghost use Rattle.grid_records_traits.specs.Cells.{HasLineCount, HasLineWidth, HasWidth, IsLineAt};
-ghost use Rattle.grid_records_traits.specs.Rows.{text_at};
+ghost use Rattle.grid_records_traits.specs.PlainTexts.{plain_texts};
+ghost use Rattle.grid_records_traits.specs.Rows.{row_at, text_at};
 
 use crate::lines::{line_of, line_width_of};
 use crate::records::RecordTexts;
+use crate::records::plain_row::PlainRow;
 use grid_config_values::Position;
 use grid_records_measure::{count_lines, get_text_width};
 use std::alloc::{AllocError, Global};
@@ -48,6 +50,15 @@ pub trait PeekableRecords: RecordTexts {
     {
         line_width_of(self.get_text(pos), line)
     }
+
+    /// The cells of this row, where it is known that each is one line without ESC: `None` says nothing. Who
+    /// reads all cells of a row asks for it first. Does not allocate.
+    fn plain_row(&self, row: usize) -> Option<PlainRow<'_>>
+        ensures { IfSome result (λ cells. plain_texts cells ≡ row_at (Self.rows self.now) row) }
+    {
+        let _row = row;
+        None
+    }
 }
 
 impl<'a, R: PeekableRecords> PeekableRecords for &'a R {
@@ -74,5 +85,9 @@ impl<'a, R: PeekableRecords> PeekableRecords for &'a R {
 
     fn get_line_width(&self, pos: Position, line: usize) -> usize {
         R::get_line_width(self, pos, line)
+    }
+
+    fn plain_row(&self, row: usize) -> Option<PlainRow<'_>> {
+        R::plain_row(self, row)
     }
 }
