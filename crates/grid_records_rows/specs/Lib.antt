@@ -1,5 +1,6 @@
 pub use Rattle.grid_records_traits.specs.Giving
 pub mod Buffering
+pub mod Measured
 pub mod Peeking
 pub mod Sources
 pub use Rattle.grid_records_traits.specs.Rows

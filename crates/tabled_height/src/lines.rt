@@ -1,13 +1,15 @@
 //! Texts that get lines, and texts that keep only their first.
 ghost use Rattle.std.specs.Prelude.{◌≡◌, ◌++◌, IfOk, MatchResult, OnOk, replicate, slice_index, string_bytes};
 ghost use Rattle.std.specs.Cow.{cow_str_bytes};
-ghost use Rattle.std.specs.Option.{option_map};
 ghost use Rattle.grid_config_values.specs.declared.position.Position.{Position as Place};
 ghost use Rattle.grid_records_measure.specs.TextLines.{line_feed};
+ghost use Rattle.grid_records_traits.specs.Rows.{text_at};
 ghost use Rattle.tabled_height.specs.Lines.{first_lines as first_lines_of, limited, raised, with_line};
 
 use grid_config::Position;
-use grid_records_measure::{count_lines, get_lines};
+use grid_records_measure::get_lines;
+use grid_records_rows::Text;
+use grid_records_traits::records::PeekableRecords;
 use std::alloc::{AllocError, Global};
 use std::borrow::CowStr;
 use tabled_steps::TextChange;
@@ -21,17 +23,18 @@ pub(crate) struct Raising {
 impl TextChange for Raising {
     ghost changed = { λ change. raised change.height };
 
-    fn change(
+    fn change<R: PeekableRecords>(
         &self,
         alloc: Global,
-        _pos: Position,
-        text: &str,
-    ) -> Result<Option<String>, AllocError> {
-        let lines = count_lines(text);
+        records: &R,
+        pos: Position,
+    ) -> Result<Option<Text>, AllocError> {
+        let lines = records.count_lines(pos);
         if lines >= self.height {
             return Ok(None);
         }
-        Ok(Some(with_line_feeds(alloc, text, self.height - lines)?))
+        let raised = with_line_feeds(alloc, records.get_text(pos), self.height - lines)?;
+        Ok(Some(Text::new(alloc, raised)?))
     }
 }
 
@@ -63,13 +66,13 @@ pub(crate) struct Limiting {
 impl TextChange for Limiting {
     ghost changed = { λ change. limited change.height };
 
-    fn change(
+    fn change<R: PeekableRecords>(
         &self,
         alloc: Global,
-        _pos: Position,
-        text: &str,
-    ) -> Result<Option<String>, AllocError> {
-        limited_text(alloc, text, self.height)
+        records: &R,
+        pos: Position,
+    ) -> Result<Option<Text>, AllocError> {
+        limited_text(alloc, records, pos, self.height)
     }
 }
 
@@ -82,13 +85,13 @@ pub(crate) struct LimitingRows<'a> {
 impl<'a> TextChange for LimitingRows<'a> {
     ghost changed = { λ change place. limited (slice_index change.heights.now place.row) place };
 
-    fn change(
+    fn change<R: PeekableRecords>(
         &self,
         alloc: Global,
+        records: &R,
         pos: Position,
-        text: &str,
-    ) -> Result<Option<String>, AllocError> {
-        limited_text(alloc, text, height_at(self.heights, pos.row))
+    ) -> Result<Option<Text>, AllocError> {
+        limited_text(alloc, records, pos, height_at(self.heights, pos.row))
     }
 }
 
@@ -99,14 +102,20 @@ fn height_at(heights: &[usize], row: usize) -> usize
     heights.get(row).copied().unwrap_or(0)
 }
 
-// The first lines of a text that has more than `height`.
-fn limited_text(alloc: Global, text: &str, height: usize) -> Result<Option<String>, AllocError>
-    ensures { (place : Place) → IfOk result (λ out. option_map string_bytes out ≡ limited height place text.now) }
+// The first lines of the text at this place, where it has more than `height`.
+fn limited_text<R: PeekableRecords>(
+    alloc: Global,
+    records: &R,
+    pos: Position,
+    height: usize,
+) -> Result<Option<Text>, AllocError>
+    ensures { (place : Place) → IfOk result (λ out. out ≡ limited height place (text_at (R.rows records.now) pos)) }
 {
-    if count_lines(text) <= height {
+    if records.count_lines(pos) <= height {
         return Ok(None);
     }
-    Ok(Some(first_lines(alloc, text, height)?))
+    let first = first_lines(alloc, records.get_text(pos), height)?;
+    Ok(Some(Text::new(alloc, first)?))
 }
 
 // `count` lines of a text from the first on, joined by line feeds.

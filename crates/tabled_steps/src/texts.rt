@@ -1,8 +1,8 @@
 //! Texts of a table that change.
-ghost use Rattle.std.specs.Prelude.{◌≡◌, ℕ, List, Option, IfOk, OnErr, OnOk, length, string_bytes};
-ghost use Rattle.std.specs.Option.{option_map};
+ghost use Rattle.std.specs.Prelude.{◌≡◌, ℕ, List, Option, IfOk, OnErr, OnOk, length};
 ghost use Rattle.grid_config_values.specs.Entities.{covered_positions};
 ghost use Rattle.grid_config_values.specs.declared.position.Position.{Position as Place};
+ghost use Rattle.grid_records_traits.specs.Rows.{text_at};
 ghost use Rattle.tabled_steps.specs.Changes.{AreInside, changed_rows, changes, with_all};
 ghost use Rattle.tabled_steps.specs.States.{column_count};
 
@@ -16,9 +16,15 @@ pub trait TextChange {
     /// What a text at a place becomes; nothing where it stays.
     ghost changed: { Self → Place → List ℕ → Option (List ℕ) };
 
-    /// What the text at this place becomes, and `None` where it stays. Fails only where allocation fails.
-    fn change(&self, alloc: Global, pos: Position, text: &str) -> Result<Option<String>, AllocError>
-        ensures { IfOk result (λ out. option_map string_bytes out ≡ changed self.now pos text.now) };
+    /// What the text at this place becomes, and `None` where it stays. What the records keep of the text
+    /// needs no second reading. Fails only where allocation fails.
+    fn change<R: PeekableRecords>(
+        &self,
+        alloc: Global,
+        records: &R,
+        pos: Position,
+    ) -> Result<Option<Text>, AllocError>
+        ensures { IfOk result (λ out. out ≡ changed self.now pos (text_at (R.rows records.now) pos)) };
 }
 
 /// Changes the texts of the cells that the entity covers. All are worked out before the first is set:
@@ -50,8 +56,8 @@ fn find_changes<T: FromText, X: TextChange>(
 {
     let mut found = Vec::new(alloc);
     for pos in entity.iter(records.count_rows(), records.count_columns()) {
-        if let Some(text) = change.change(alloc, pos, records.get_text(pos))? {
-            found.push((pos, Text::new(alloc, text)?))?;
+        if let Some(text) = change.change(alloc, records, pos)? {
+            found.push((pos, text))?;
         }
     }
     Ok(found)

@@ -8,4 +8,5 @@ pub mod Keeping
 pub mod Rooms
 pub mod Steps
 pub mod Tables
+pub mod Suffixes
 pub mod Options

@@ -9,8 +9,8 @@ ghost use Rattle.tabled_steps.specs.States.{StepsTo, state_with};
 
 use crate::room::RoomChange;
 use grid_config::{Entity, Fault, Position};
-use grid_records_rows::{FromText, VecRecords};
-use grid_records_traits::records::RecordTexts;
+use grid_records_rows::{FromText, Text, VecRecords};
+use grid_records_traits::records::{PeekableRecords, RecordTexts};
 use std::alloc::{AllocError, Global};
 use tabled_steps::{TextChange, change_texts};
 
@@ -40,12 +40,12 @@ struct ToWidth<'a, X> {
 impl<'a, X: RoomChange> TextChange for ToWidth<'a, X> {
     ghost changed = { λ it _ text. X.fitted it.change.now it.width text };
 
-    fn change(
+    fn change<R: PeekableRecords>(
         &self,
         alloc: Global,
-        _pos: Position,
-        text: &str,
-    ) -> Result<Option<String>, AllocError> {
-        self.change.fit(alloc, text, self.width)
+        records: &R,
+        pos: Position,
+    ) -> Result<Option<Text>, AllocError> {
+        self.change.fit(alloc, records, pos, self.width)
     }
 }

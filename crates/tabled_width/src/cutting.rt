@@ -3,41 +3,57 @@ ghost use Rattle.std.specs.Prelude.{◌≡◌, ◌++◌, ◌∷◌, [], IfOk, On
 ghost use Rattle.ansi_scan.specs.StartsAndEnds.{end_bytes, start_bytes};
 ghost use Rattle.tabled_size_wrap.specs.Bytes.{cut_at};
 ghost use Rattle.tabled_width.specs.Cutting.{cut_line, cut_text, filled_by, suffix_behind, truncating, without_room};
-ghost use Rattle.tabled_width.specs.Options.{cutting_of};
+ghost use Rattle.tabled_width.specs.Suffixes.{TakesColumns};
 
 use crate::filling::push_repeated;
 use crate::last::last_style;
 use crate::lines::{LineChange, change_lines};
 use crate::room::RoomChange;
 use ansi_scan::Style;
-use grid_records_measure::{get_char_width, get_line_width, get_text_width};
+use grid_config::Position;
+use grid_records_measure::get_char_width;
+use grid_records_rows::Text;
+use grid_records_traits::records::PeekableRecords;
 use std::alloc::{AllocError, Global};
 use tabled_size_dimension::SuffixLimit;
 use tabled_size_wrap::cut_styled;
 
-/// How texts are cut: what stands after them, what is done where it has no room, whether each line is cut
-/// by itself, and whether the suffix takes the style of the text before it.
+/// How texts are cut: what stands after them and the columns that it takes, what is done where it has no
+/// room, whether each line is cut by itself, and whether the suffix takes the style of the text before it.
 #[derive(Drop)]
 pub(crate) struct Cut<'a> {
     pub(crate) suffix: &'a str,
+    pub(crate) taken: usize,
     pub(crate) limit: SuffixLimit,
     pub(crate) multiline: bool,
     pub(crate) try_color: bool,
+    ghost measured: { TakesColumns suffix.now taken },
 }
 
 // A text that measures more than its room is cut.
 impl<'a> RoomChange for Cut<'a> {
+    ghost use Rattle.tabled_width.specs.Options.{cutting_of};
+
     ghost fitted = { λ cut. truncating (cutting_of cut) };
 
-    fn fit(&self, alloc: Global, text: &str, room: usize) -> Result<Option<String>, AllocError> {
-        if get_text_width(text) <= room {
+    fn fit<R: PeekableRecords>(
+        &self,
+        alloc: Global,
+        records: &R,
+        pos: Position,
+        room: usize,
+    ) -> Result<Option<Text>, AllocError> {
+        if records.get_width(pos) <= room {
             return Ok(None);
         }
-        Ok(Some(self.cut(alloc, text, room)?))
+        let cut = self.cut(alloc, records.get_text(pos), room)?;
+        Ok(Some(Text::new(alloc, cut)?))
     }
 }
 
 impl<'a> Cut<'a> {
+    ghost use Rattle.tabled_width.specs.Options.{cutting_of};
+
     // The text cut to its room, or each of its lines.
     fn cut(&self, alloc: Global, text: &str, room: usize) -> Result<String, AllocError>
         ensures { IfOk result (λ out. string_bytes out ≡ cut_text (cutting_of self.now) room text.now) }
@@ -63,12 +79,11 @@ impl<'a> Cut<'a> {
         if self.suffix.is_empty() {
             return push_cut_at(alloc, out, text, room);
         }
-        let taken = get_line_width(self.suffix);
-        if taken >= room {
+        if self.taken >= room {
             return self.push_without_room(alloc, out, text, room);
         }
-        push_cut_at(alloc, out, text, room - taken)?;
-        self.push_suffix(alloc, out, text, room - taken)
+        push_cut_at(alloc, out, text, room - self.taken)?;
+        self.push_suffix(alloc, out, text, room - self.taken)
     }
 
     // Appends the suffix after the cut of the text at this width.
@@ -115,6 +130,8 @@ struct CutLine<'a, 'b> {
 }
 
 impl<'a, 'b> LineChange for CutLine<'a, 'b> {
+    ghost use Rattle.tabled_width.specs.Options.{cutting_of};
+
     ghost becomes = { λ change line. cut_line (cutting_of change.cut.now) change.room line };
 
     fn push_line(&self, alloc: Global, out: &mut String, line: &str) -> Result<(), AllocError> {

@@ -6,7 +6,10 @@ ghost use Rattle.tabled_width.specs.Filling.{filled_line, filling};
 
 use crate::lines::{LineChange, change_lines};
 use crate::room::RoomChange;
-use grid_records_measure::{get_line_width, get_text_width};
+use grid_config::Position;
+use grid_records_measure::get_line_width;
+use grid_records_rows::Text;
+use grid_records_traits::records::PeekableRecords;
 use std::alloc::{AllocError, Global};
 
 /// Fills the lines of a text that measures less than its room with this character.
@@ -18,11 +21,18 @@ pub(crate) struct Filling {
 impl RoomChange for Filling {
     ghost fitted = { λ change width text. filling change.fill width text };
 
-    fn fit(&self, alloc: Global, text: &str, room: usize) -> Result<Option<String>, AllocError> {
-        if get_text_width(text) >= room {
+    fn fit<R: PeekableRecords>(
+        &self,
+        alloc: Global,
+        records: &R,
+        pos: Position,
+        room: usize,
+    ) -> Result<Option<Text>, AllocError> {
+        if records.get_width(pos) >= room {
             return Ok(None);
         }
-        Ok(Some(fill_lines(alloc, text, room, self.fill)?))
+        let filled = fill_lines(alloc, records.get_text(pos), room, self.fill)?;
+        Ok(Some(Text::new(alloc, filled)?))
     }
 }
 

@@ -1,6 +1,5 @@
 //! Cells that are all as wide.
-ghost use Rattle.std.specs.Prelude.{◌≡◌, IfOk, Some, string_bytes};
-ghost use Rattle.std.specs.Option.{option_map};
+ghost use Rattle.std.specs.Prelude.{◌≡◌, IfOk, Some};
 ghost use Rattle.grid_config_values.specs.declared.entity.Entity.TheVariants.{Global as EveryCell};
 ghost use Rattle.grid_records_traits.specs.Cells.{HasWidth};
 ghost use Rattle.tabled_steps.specs.Changes.{changing};
@@ -12,9 +11,9 @@ use crate::cells::change_cells;
 use crate::filling::fill_lines;
 use crate::room::RoomChange;
 use crate::width::Width;
-use grid_config::{ColoredConfig, Entity, Fault};
-use grid_records_measure::get_text_width;
-use grid_records_rows::{FromText, VecRecords};
+use grid_config::{ColoredConfig, Entity, Fault, Position};
+use grid_records_rows::{FromText, Text, VecRecords};
+use grid_records_traits::records::{Cell, PeekableRecords};
 use std::alloc::{AllocError, Global};
 use tabled_size_dimension::CompleteDimension;
 use tabled_size_wrap::cut_styled;
@@ -83,13 +82,20 @@ struct Justifying;
 impl RoomChange for Justifying {
     ghost fitted = { λ _. justifying };
 
-    fn fit(&self, alloc: Global, text: &str, room: usize) -> Result<Option<String>, AllocError> {
-        let width = get_text_width(text);
+    fn fit<R: PeekableRecords>(
+        &self,
+        alloc: Global,
+        records: &R,
+        pos: Position,
+        room: usize,
+    ) -> Result<Option<Text>, AllocError> {
+        let text = records.get_text(pos);
+        let width = records.get_width(pos);
         if width >= room {
             return cut_measured(alloc, text, width, room);
         }
-        let filled = fill_lines(alloc, text, room, ' ')?;
-        let cut = cut_measured(alloc, &filled, get_text_width(&filled), room)?;
+        let filled = Text::new(alloc, fill_lines(alloc, text, room, ' ')?)?;
+        let cut = cut_measured(alloc, filled.text(), filled.width(), room)?;
         Ok(cut.or(Some(filled)))
     }
 }
@@ -100,12 +106,13 @@ fn cut_measured(
     text: &str,
     columns: usize,
     width: usize,
-) -> Result<Option<String>, AllocError>
+) -> Result<Option<Text>, AllocError>
     requires { HasWidth text.now columns }
-    ensures { IfOk result (λ out. option_map string_bytes out ≡ cutting_wider width text.now) }
+    ensures { IfOk result (λ out. out ≡ cutting_wider width text.now) }
 {
     if columns <= width {
         return Ok(None);
     }
-    Ok(Some(cut_styled(alloc, text, width)?.into_owned(alloc)?))
+    let cut = cut_styled(alloc, text, width)?.into_owned(alloc)?;
+    Ok(Some(Text::new(alloc, cut)?))
 }

@@ -6,6 +6,8 @@ ghost use Rattle.tabled_width.specs.Widths.{table_width};
 
 use crate::room::RoomChange;
 use grid_config::{Position, SpannedConfig};
+use grid_records_rows::Text;
+use grid_records_traits::records::PeekableRecords;
 use std::alloc::{AllocError, Global};
 use tabled_steps::TextChange;
 
@@ -23,14 +25,14 @@ pub(crate) struct InRooms<'a, X> {
 impl<'a, X: RoomChange> TextChange for InRooms<'a, X> {
     ghost changed = { λ it place text. in_room (X.fitted it.change.now) text (room_of (look_of it.cfg.now) it.least.now it.widths.now place) };
 
-    fn change(
+    fn change<R: PeekableRecords>(
         &self,
         alloc: Global,
+        records: &R,
         pos: Position,
-        text: &str,
-    ) -> Result<Option<String>, AllocError> {
+    ) -> Result<Option<Text>, AllocError> {
         match room(self.cfg, self.least, self.widths, pos) {
-            Some(room) => self.change.fit(alloc, text, room),
+            Some(room) => self.change.fit(alloc, records, pos, room),
             None => Ok(None),
         }
     }

@@ -16,6 +16,7 @@ use crate::cutting::Cut;
 use crate::table::narrow_table;
 use crate::width::Width;
 use grid_config::{ColoredConfig, Entity, Fault};
+use grid_records_measure::get_line_width;
 use grid_records_rows::{FromText, VecRecords};
 use std::alloc::{AllocError, Global};
 use std::borrow::CowStr;
@@ -148,6 +149,7 @@ impl<'a, W, P> Truncate<'a, W, P> {
     {
         Cut {
             suffix: self.suffix,
+            taken: get_line_width(self.suffix),
             limit: self.limit,
             multiline: self.multiline,
             try_color: self.try_color,

@@ -13,9 +13,9 @@ use crate::room::RoomChange;
 use crate::staying::stays;
 use crate::table::narrow_table;
 use crate::width::Width;
-use grid_config::{ColoredConfig, Entity, Fault};
-use grid_records_measure::get_text_width;
-use grid_records_rows::{FromText, VecRecords};
+use grid_config::{ColoredConfig, Entity, Fault, Position};
+use grid_records_rows::{FromText, Text, VecRecords};
+use grid_records_traits::records::PeekableRecords;
 use std::alloc::{AllocError, Global};
 use tabled_size_dimension::CompleteDimension;
 use tabled_size_priority::{Peaker, PriorityNone};
@@ -163,11 +163,19 @@ struct Breaking {
 impl RoomChange for Breaking {
     ghost fitted = { λ change. breaking_others change.keep_words };
 
-    fn fit(&self, alloc: Global, text: &str, room: usize) -> Result<Option<String>, AllocError> {
+    fn fit<R: PeekableRecords>(
+        &self,
+        alloc: Global,
+        records: &R,
+        pos: Position,
+        room: usize,
+    ) -> Result<Option<Text>, AllocError> {
+        let text = records.get_text(pos);
         if stays(text, room, self.keep_words) {
             return Ok(None);
         }
-        Ok(Some(wrap_styled(alloc, text, room, self.keep_words)?))
+        let broken = wrap_styled(alloc, text, room, self.keep_words)?;
+        Ok(Some(Text::new(alloc, broken)?))
     }
 }
 
@@ -180,10 +188,17 @@ struct WrappingWider {
 impl RoomChange for WrappingWider {
     ghost fitted = { λ change. wrapping_wider change.keep_words };
 
-    fn fit(&self, alloc: Global, text: &str, room: usize) -> Result<Option<String>, AllocError> {
-        if get_text_width(text) <= room {
+    fn fit<R: PeekableRecords>(
+        &self,
+        alloc: Global,
+        records: &R,
+        pos: Position,
+        room: usize,
+    ) -> Result<Option<Text>, AllocError> {
+        if records.get_width(pos) <= room {
             return Ok(None);
         }
-        Ok(Some(wrap_styled(alloc, text, room, self.keep_words)?))
+        let broken = wrap_styled(alloc, records.get_text(pos), room, self.keep_words)?;
+        Ok(Some(Text::new(alloc, broken)?))
     }
 }
