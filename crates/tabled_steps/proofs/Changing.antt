@@ -102,5 +102,8 @@ module _ (before after : List Change) (change : Change) (rows : List (List (List
       All-weaker (λ (it : Change). IsInside rows it.0) (λ it. IsInside (with_text rows change.0 change.1) it.0) (λ it. kept_inside rows change.0 change.1 it.0) after
       (All-pop (λ (it : Change). IsInside rows it.0) before after (Some change) split inside).0
 
+  pub last_is_inside : AreInside rows before → IsInside rows change.0
+  last_is_inside inside = (All-pop (λ (it : Change). IsInside rows it.0) before after (Some change) split inside).1
+
   pub last_rows : (wanted : List (List (List ℕ))) → with_all before rows ≡ wanted → with_all after (with_text rows change.0 change.1) ≡ wanted
   last_rows wanted whole = sym (last_set after change rows) ∙ ap (λ changes. with_all changes rows) (sym split) ∙ whole

@@ -2,8 +2,12 @@ use Rattle.std.proofs.Common.{◌≡◌, List, ℕ, ap, ◌∙◌, subst, sym}
 use Rattle.grid_records_traits.specs.Rows.{with_text}
 use Rattle.grid_records_traits.specs.Sources.{texts_of_rows}
 use Rattle.tabled_steps.specs.Changes.{AreInside, Change, with_all}
-use Rattle.tabled_steps.proofs.Changing.{last_inside, last_rows}
+use Rattle.tabled_steps.proofs.Changing.{last_inside, last_is_inside, last_rows}
 use Rattle.tabled_steps.proofs.texts.set_all.Goals as goal
+
+pub set-requires : goal.set-requires
+set-requires g c =
+    last_is_inside c.loop-pos.found.items c.pop.new.self.items (c.in-Some.pos, c.in-Some.text) (texts_of_rows g.T.Cell.text c.loop-pos.records.rows.items) c.in-Some.ensures.items c.loop-pos.invariant.inside
 
 pub loop-pos-preserved : goal.loop-pos-preserved
 loop-pos-preserved g c =

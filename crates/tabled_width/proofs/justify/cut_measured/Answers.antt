@@ -11,5 +11,5 @@ returns-then-columns-width c =
 pub returns : goal.returns
 returns c =
     let text = c.args.text.now in
-    ap Some (c.in_ok-into_owned.ensures.ok ∙ c.in_ok-cut_styled.ensures.bytes)
+    ap Some (c.in_ok-new.ensures ∙ c.in_ok-cut.ensures.ok ∙ c.in_ok-cut_styled.ensures.bytes)
     ∙ wide_changes text c.args.columns c.args.width c.requires (cut_at c.args.width text) c.if-columns-width.false

@@ -1,4 +1,4 @@
 use Rattle.tabled_height.proofs.lines.LimitingTextChange.change.Goals as goal
 
 pub returns : goal.returns
-returns c = c.limited_text.ensures c.args._pos
+returns g c = c.limited_text.ensures c.args.pos
