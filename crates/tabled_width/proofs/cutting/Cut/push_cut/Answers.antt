@@ -32,23 +32,23 @@ module _ (cutting : Cutting) (room taken : ℕ) (text : List ℕ) (empty : (leng
       ∙ ap (λ (n : ℕ). if nat_lt n room then cut_at (room - n) text ++ suffix_behind cutting (room - n) text else without_room cutting cutting.limit room text) (sym is)
       ∙ ap (λ (b : Bool). if b then cut_at (room - taken) text ++ suffix_behind cutting (room - taken) text else without_room cutting cutting.limit room text) (full taken room less)
 
-pub returns-then-taken-room : goal.returns-then-taken-room
-returns-then-taken-room c =
+pub returns-then-self-room : goal.returns-then-self-room
+returns-then-self-room c =
     let cutting = cutting_of c.args.self.now in
     let empty : (length cutting.suffix == 0) ≡ false = sym c.if-is_empty.ensures in
-    let taken = c.get_line_width-taken.ensures (pieces cutting.suffix) (ArePiecesOf-pieces cutting.suffix) in
-    subst (λ (bytes : List ℕ). OnOk c.push_without_room.result (string_bytes c.push_without_room.new.out ≡ string_bytes c.args.out.now ++ bytes)) (sym (no_room cutting c.args.room c.get_line_width-taken.result c.args.text.now empty taken c.if-taken-room.true)) c.push_without_room.ensures
+    let taken = c.args.self.now.measured (pieces cutting.suffix) (ArePiecesOf-pieces cutting.suffix) in
+    subst (λ (bytes : List ℕ). OnOk c.push_without_room.result (string_bytes c.push_without_room.new.out ≡ string_bytes c.args.out.now ++ bytes)) (sym (no_room cutting c.args.room c.args.self.now.taken c.args.text.now empty taken c.if-self-room.true)) c.push_without_room.ensures
 
 pub returns : goal.returns
 returns c =
     let cutting = cutting_of c.args.self.now in
     let empty : (length cutting.suffix == 0) ≡ false = sym c.if-is_empty.ensures in
     let room = c.args.room in
-    let width = c.get_line_width-taken.result in
+    let width = c.args.self.now.taken in
     let text = c.args.text.now in
     let before = string_bytes c.args.out.now in
-    let taken = c.get_line_width-taken.ensures (pieces cutting.suffix) (ArePiecesOf-pieces cutting.suffix) in
-    let all = sym (with_suffix cutting room width text empty taken c.if-taken-room.false) in
+    let taken = c.args.self.now.measured (pieces cutting.suffix) (ArePiecesOf-pieces cutting.suffix) in
+    let all = sym (with_suffix cutting room width text empty taken c.if-self-room.false) in
     OnOk-implies c.push_suffix.result
     (λ is. is ∙ ap (λ (bytes : List ℕ). bytes ++ suffix_behind cutting (room - width) text) c.in_ok-push_cut_at.ensures
     ∙ append_assoc before (cut_at (room - width) text) (suffix_behind cutting (room - width) text) ∙ ap (λ (bytes : List ℕ). before ++ bytes) all) c.push_suffix.ensures
