@@ -1,5 +1,6 @@
--- A text of one line without sequences is its own first line.
-use Rattle.std.proofs.Common.{◌≡◌, ◌<◌, ℕ, false, List, [], ◌∷◌, get_or, length, map, take, ap, sym, subst, ◌∙◌, arith}
+-- A text of one line without sequences is its own first line, and so is what a cell with such a text shows.
+use Rattle.std.proofs.Common.{◌≡◌, ◌<◌, ℕ, false, List, [], ◌∷◌, Option, get_or, length, map, take, refl, ap, sym, subst, ◌∙◌, arith}
+use Rattle.std.specs.Prelude.{slice_index}
 use Rattle.std.specs.List.{join_with_byte, slice_split}
 use Rattle.std.proofs.lemmas.List.Splits.{join_with_byte-slice_split}
 use Rattle.std.proofs.Math.Seq.{take-length}
@@ -13,9 +14,16 @@ use Rattle.ansi_str_search.proofs.StdSplits.{split_at_one_byte}
 use Rattle.ansi_str_text.proofs.Stripping.{strip-without_escape}
 use Rattle.grid_records_measure.specs.TextLines.{AreLinesOf, is_line_feed, line_feed, line_measure, shown_lines, text_lines}
 use Rattle.grid_records_measure.proofs.TextLineLemmas.{text_lines-are}
-use Rattle.grid_records_traits.specs.Cells.{HasLineCount, IsLineAt}
+use Rattle.grid_config_colors.specs.Colors.{Color}
+use Rattle.grid_config_values.specs.declared.position.Position.{Position}
+use Rattle.grid_records_traits.specs.Cells.{HasLineCount, HasWidth, IsLineAt}
+use Rattle.grid_records_traits.specs.Rows.{text_at}
+use Rattle.papergrid_picture.specs.Blocks.{greatest}
 use Rattle.papergrid_picture.specs.CellLines.{cell_lines, cell_measures}
+use Rattle.papergrid_print.specs.Flat.{AreFlat, Standing, first_placed, placed}
+use Rattle.papergrid_print.specs.Sheets.{Sheet, bytes_of, grid_of}
 use Rattle.papergrid_print.proofs.CellLineLemmas.{map-same, one-element}
+use Rattle.papergrid_print.proofs.FlatLemmas.{line-is, measured, one-width, widest-is}
 
 -- the lines of a text without ESC are its parts between line feeds
 pub lines-plain : (text : List ℕ) (ps : List Piece) (lines : List (List ℕ)) → has_escape text ≡ false → ArePiecesOf text ps → AreLinesOf ps lines → lines ≡ slice_split is_line_feed text
@@ -52,3 +60,21 @@ module _ (text : List ℕ) (plain : has_escape text ≡ false) where
 
   pub cell_measures-plain : map line_measure (slice_split is_line_feed text) ≡ cell_measures false false text
   cell_measures-plain = ap (map line_measure) (sym (take-length (shown_lines (pieces text)) ∙ shown-plain))
+
+-- ---- such a text in its column
+
+module _ (sheet : Sheet) (flat : AreFlat sheet.settings) (pos : Position) (stands : Standing) where
+  pub plain-placed : (text : List ℕ) (width : ℕ) (color : Option Color) → text ≡ text_at sheet.rows pos → HasLineCount text 1 → HasWidth text width → has_escape text ≡ false → color ≡ sheet.colors pos
+      → placed stands (slice_index sheet.widths pos.col) width width color text ≡ first_placed sheet stands pos
+  plain-placed text width color own counted has plain shade =
+      let column = slice_index sheet.widths pos.col in
+      let measures = (grid_of sheet).measures pos in
+      let line = (bytes_of sheet).line pos 0 in
+      let own_count : HasLineCount (text_at sheet.rows pos) 1 = subst (λ (t : List ℕ). HasLineCount t 1) own counted in
+      let own_width : HasWidth (text_at sheet.rows pos) width = subst (λ (t : List ℕ). HasWidth t width) own has in
+      let own_plain : has_escape (text_at sheet.rows pos) ≡ false = ap has_escape (sym own) ∙ plain in
+      let shown : text ≡ line = own ∙ line-is sheet flat pos (text_at sheet.rows pos) (plain-line (text_at sheet.rows pos) own_plain own_count) in
+      ap (λ t. placed stands column width width color t) shown
+      ∙ (ap (λ n. placed stands column n width color line) (measured sheet flat pos width (one-width (text_at sheet.rows pos) 1 width own_count refl own_width))
+      ∙ (ap (λ n. placed stands column (slice_index measures 0) n color line) (widest-is sheet flat pos width own_width)
+      ∙ ap (λ c. placed stands column (slice_index measures 0) (greatest measures) c line) shade))

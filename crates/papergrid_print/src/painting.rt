@@ -1,5 +1,5 @@
 //! Fills, texts and boundary lines in their colours.
-ghost use Rattle.std.specs.Prelude.{◌≡◌, ◌≤◌, ◌++◌, OnOk, length, map, replicate, string_bytes};
+ghost use Rattle.std.specs.Prelude.{◌≡◌, ◌<◌, ◌≤◌, ◌++◌, OnOk, length, map, replicate, string_bytes};
 ghost use Rattle.std.specs.Option.{option_map};
 ghost use Rattle.grid_config_colors.specs.Colors.{color_of};
 ghost use Rattle.papergrid_picture.specs.Reading.{line_items, same_color};
@@ -17,6 +17,7 @@ pub(crate) struct GlyphRun<'a> {
 }
 
 /// Appends a character `width` times, in its colour. Fails only where allocation fails.
+#[inline(always)]
 pub(crate) fn push_fill(
     out: &mut String,
     character: char,
@@ -28,6 +29,19 @@ pub(crate) fn push_fill(
     if width == 0 {
         return Ok(());
     }
+    push_some(out, character, width, color)
+}
+
+// The same at least once.
+fn push_some(
+    out: &mut String,
+    character: char,
+    width: usize,
+    color: Option<ANSIStr<'_>>,
+) -> Result<(), AllocError>
+    requires { 0 < width }
+    ensures { OnOk result (string_bytes out.new ≡ string_bytes out.old ++ colored (option_map color_of color.entry) (fill_bytes character width)) }
+{
     let Some(_) = color else {
         return push_repeated(out, character, width);
     };

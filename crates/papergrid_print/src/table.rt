@@ -1,7 +1,7 @@
 //! The lines of a table.
 mod line;
 
-ghost use Rattle.std.specs.Prelude.{◌≡◌, ◌++◌, ◌<◌, ◌≤◌, ◌+◌, ◌^◌, ⊤, IfOk, IfSome, List, MatchOption, OnOk, ℕ, [], false, map, length, slice_index, string_bytes};
+ghost use Rattle.std.specs.Prelude.{◌≡◌, ◌++◌, ◌<◌, ◌≤◌, ◌+◌, ◌-◌, ◌*◌, ◌^◌, ⊤, IfOk, IfSome, List, MatchOption, OnOk, ℕ, [], false, map, length, slice_index, string_bytes};
 ghost use Rattle.grid_config_spans.specs.Spans.{AreGood, extent_at};
 ghost use Rattle.papergrid_picture.specs.Frame.{Boundary, Row, boundary_at, line_count, total_width, track_at};
 ghost use Rattle.papergrid_picture.specs.Picture.{boundary_part, parts_of, row_part};
@@ -10,7 +10,8 @@ ghost use Rattle.papergrid_picture.specs.Reading.{line_items};
 ghost use Rattle.grid_config.specs.Looks.{look_of};
 ghost use Rattle.ansi_str.specs.StyledText.{has_escape};
 ghost use Rattle.grid_records_traits.specs.Cells.{HasLineCount, HasLineWidth, HasWidth};
-ghost use Rattle.grid_records_traits.specs.Rows.{text_at};
+ghost use Rattle.grid_records_traits.specs.PlainTexts.{plain_texts};
+ghost use Rattle.grid_records_traits.specs.Rows.{row_at, text_at};
 ghost use Rattle.papergrid_print.specs.Flat.{AreFlat, AreFlatRows, AreMadeFor, IsBetween, behind_text, first_placed, standing_of};
 ghost use Rattle.papergrid_print.specs.Painting.{colored, fill_bytes, glyph_part};
 ghost use Rattle.papergrid_print.specs.Sheets.{GoesOn, IsOpen, IsPrintable, ShowsCell, bytes_of, grid_of, feed_before, line_at, lines_of, place_line, plain_bytes, row_tracks, sheet_of};
@@ -26,7 +27,7 @@ use ansi_str::AnsiStr;
 use grid_config::SpannedConfig;
 use grid_config_colors::ANSIBuf;
 use grid_config_values::{Indent, Position};
-use grid_records_traits::PeekableRecords;
+use grid_records_traits::{PeekableRecords, PlainRow};
 use std::alloc::{AllocError, Global};
 
 /// A table to be printed: its records, its settings, the colours of its cells, and its sizes.
@@ -334,10 +335,40 @@ impl<'a, R: PeekableRecords, C: Colors> Table<'a, R, C> {
         requires columns { 0 < length self.now.widths.now }
         ensures { OnOk result (string_bytes out.new ≡ string_bytes out.old ++ line_at (sheet_of self.now.cfg.now (R.rows self.now.records.now) (C.color self.now.colors.now) self.now.widths.now self.now.heights.now) (Row i) (track_at (row_tracks (sheet_of self.now.cfg.now (R.rows self.now.records.now) (C.color self.now.colors.now) self.now.widths.now self.now.heights.now)) i)) }
     {
+        if let Some(cells) = self.records.plain_row(i) {
+            return self.push_plain_line(out, flat, cells, i);
+        }
         let columns = self.widths.len();
         out.push_str(flat.front())?;
         for j in 0..columns {
             self.push_first_line(alloc, out, flat, Position::new(i, j))?;
+        }
+        Ok(())
+    }
+
+    // The same by these cells of the row, which are each one line without ESC.
+    fn push_plain_line(
+        &self,
+        out: &mut String,
+        flat: &FlatRows<'a>,
+        cells: PlainRow<'_>,
+        i: usize,
+    ) -> Result<(), AllocError>
+        requires flat { AreFlat self.now.cfg.now }
+        requires made { AreFlatRows (look_of self.now.cfg.now) (length self.now.widths.now) flat.now }
+        requires row { i < length self.now.heights.now }
+        requires high { slice_index self.now.heights.now i ≡ 1 }
+        requires columns { 0 < length self.now.widths.now }
+        requires cells { plain_texts cells ≡ row_at (R.rows self.now.records.now) i }
+        ensures { OnOk result (string_bytes out.new ≡ string_bytes out.old ++ line_at (sheet_of self.now.cfg.now (R.rows self.now.records.now) (C.color self.now.colors.now) self.now.widths.now self.now.heights.now) (Row i) (track_at (row_tracks (sheet_of self.now.cfg.now (R.rows self.now.records.now) (C.color self.now.colors.now) self.now.widths.now self.now.heights.now)) i)) }
+    {
+        let columns = self.widths.len();
+        out.push_str(flat.front())?;
+        for j in 0..columns {
+            let cell = cells.cell(j);
+            let (width, measure) = (self.widths[j], cell.width);
+            let color = self.colors.get_color(Position::new(i, j));
+            flat.push_line(out, j, columns, width, measure, measure, color, cell.text)?;
         }
         Ok(())
     }
@@ -481,7 +512,12 @@ impl<'a, R: PeekableRecords, C: Colors> Table<'a, R, C> {
 
     // How many bytes the lines take at least, each of `width` columns: what no memory holds is refused
     // before anything is written.
-    fn room(&self, width: usize) -> usize {
+    fn room(&self, width: usize) -> usize
+        requires printable { IsPrintable (sheet_of self.now.cfg.now (R.rows self.now.records.now) (C.color self.now.colors.now) self.now.widths.now self.now.heights.now) }
+        requires rows { 0 < length self.now.heights.now }
+        requires columns { 0 < length self.now.widths.now }
+        ensures { result ≤ line_count (grid_of (sheet_of self.now.cfg.now (R.rows self.now.records.now) (C.color self.now.colors.now) self.now.widths.now self.now.heights.now)).frame * (width + 1) - 1 }
+    {
         let margin = self.cfg.get_margin();
         let mut lines = margin.top.size.saturating_add(margin.bottom.size);
         for height in self.heights {
@@ -490,6 +526,14 @@ impl<'a, R: PeekableRecords, C: Colors> Table<'a, R, C> {
         lines
             .saturating_mul(width.saturating_add(1))
             .saturating_sub(1)
+    }
+
+    // Makes room for so many bytes, which are no more than the lines take.
+    fn reserve(&self, out: &mut String, size: usize) -> Result<(), AllocError>
+        requires { size ≤ line_count (grid_of (sheet_of self.now.cfg.now (R.rows self.now.records.now) (C.color self.now.colors.now) self.now.widths.now self.now.heights.now)).frame * (total_width (grid_of (sheet_of self.now.cfg.now (R.rows self.now.records.now) (C.color self.now.colors.now) self.now.widths.now self.now.heights.now)).frame + 1) - 1 }
+        ensures { string_bytes out.new ≡ string_bytes out.old }
+    {
+        out.reserve(size)
     }
 
     // Appends all lines of a table with rows and columns to an empty text.
@@ -503,7 +547,7 @@ impl<'a, R: PeekableRecords, C: Colors> Table<'a, R, C> {
         let margin = self.cfg.get_margin();
         let colors = self.cfg.get_margin_color();
         let width = self.total_width();
-        out.reserve(self.room(width))?;
+        self.reserve(out, self.room(width))?;
         self.push_margin(out, 0, margin.top, &colors.top, width)?;
         let y = self.push_rows(alloc, out)?;
         self.push_margin(out, y, margin.bottom, &colors.bottom, width)

@@ -1,17 +1,16 @@
-use Rattle.std.proofs.Common.{◌≡◌, ◌++◌, false, get_or, length, refl, string_bytes, ap, sym, ◌∙◌}
+use Rattle.std.proofs.Common.{◌++◌, ℕ, List, get_or, length, string_bytes, ap, sym, subst, ◌∙◌}
 use Rattle.std.proofs.lemmas.Result.{on_ok_weaker}
 use Rattle.std.specs.Option.{option_map}
 use Rattle.std.specs.Cow.{cow_str_bytes}
-use Rattle.ansi_str.specs.StyledText.{has_escape}
 use Rattle.grid_config_colors.specs.Colors.{color_of}
-use Rattle.grid_records_traits.specs.Cells.{IsLineAt}
+use Rattle.grid_records_traits.specs.Cells.{HasLineCount, HasWidth}
 use Rattle.grid_records_traits.specs.Rows.{text_at}
 use Rattle.papergrid_picture.specs.Blocks.{greatest}
 use Rattle.papergrid_print.specs.Flat.{behind_text, placed, standing_of}
 use Rattle.papergrid_print.specs.Sheets.{bytes_of, grid_of, sheet_of}
 use Rattle.std.specs.Prelude.{slice_index}
-use Rattle.papergrid_print.proofs.FlatLemmas.{line-is, measured, one-width, widest-is}
-use Rattle.papergrid_print.proofs.PlainLineLemmas.{plain-line}
+use Rattle.papergrid_print.proofs.FlatLemmas.{line-is, measured, widest-is}
+use Rattle.papergrid_print.proofs.PlainLineLemmas.{plain-placed}
 use Rattle.papergrid_print.proofs.table.Table.push_first_line.Goals as goal
 
 pub returns : goal.returns
@@ -36,20 +35,13 @@ returns-in-Some g c =
     let sheet = (sheet_of c.args.self.now.cfg.now (g.R.RecordTexts.rows c.args.self.now.records.now) (g.C.Colors.color c.args.self.now.colors.now) c.args.self.now.widths.now c.args.self.now.heights.now) in
     let pos = c.args.pos in
     let out = string_bytes c.args.out.now in
-    let stands = standing_of c.args.flat.now in
-    let width = get_or c.args.self.now.widths.now pos.col 0 in
     let behind = behind_text c.args.flat.now pos.col (length c.args.self.now.widths.now) in
-    let measures = (grid_of sheet).measures pos in
-    let own = text_at sheet.rows pos in
     let widest = c.get_width-widest.result in
-    let color = option_map color_of c.get_color-color.result in
-    let plain : has_escape own ≡ false = ap has_escape (sym c.in-Some.ensures.text) ∙ c.in-Some.ensures.plain in
-    let shown : IsLineAt own 0 own = plain-line own plain c.in-Some.ensures.one in
-    let measure : widest ≡ slice_index measures 0 = measured sheet c.requires.flat pos widest (one-width own 1 widest c.in-Some.ensures.one refl c.get_width-widest.ensures) in
+    let own = text_at sheet.rows pos in
+    let same = c.in-Some.ensures.text in
+    let counted : HasLineCount c.in-Some.text.now 1 = subst (λ (t : List ℕ). HasLineCount t 1) (sym same) c.in-Some.ensures.one in
+    let has : HasWidth c.in-Some.text.now widest = subst (λ (t : List ℕ). HasWidth t widest) (sym same) c.get_width-widest.ensures in
     on_ok_weaker c.push_line.result
     (λ last. last
-    ∙ (ap (λ text. out ++ (placed stands width widest widest color text ++ behind)) (c.in-Some.ensures.text ∙ line-is sheet c.requires.flat pos own shown)
-    ∙ (ap (λ n. out ++ (placed stands width n widest color ((bytes_of sheet).line pos 0) ++ behind)) measure
-    ∙ (ap (λ n. out ++ (placed stands width (slice_index measures 0) n color ((bytes_of sheet).line pos 0) ++ behind)) (widest-is sheet c.requires.flat pos widest c.get_width-widest.ensures)
-    ∙ ap (λ shade. out ++ (placed stands width (slice_index measures 0) (greatest measures) shade ((bytes_of sheet).line pos 0) ++ behind)) c.get_color-color.ensures))))
+    ∙ ap (λ shown. out ++ (shown ++ behind)) (plain-placed sheet c.requires.flat pos (standing_of c.args.flat.now) c.in-Some.text.now widest (option_map color_of c.get_color-color.result) same counted has c.in-Some.ensures.plain c.get_color-color.ensures))
     c.push_line.ensures

@@ -1,0 +1,39 @@
+use Rattle.std.proofs.Common.{◌≡◌, ◌++◌, [], length, string_bytes, ap, refl, sym, ◌∙◌, arith, append_assoc}
+use Rattle.std.specs.Prelude.{slice_index_or}
+use Rattle.std.specs.Option.{option_map}
+use Rattle.grid_config_colors.specs.Colors.{color_of}
+use Rattle.grid_records_traits.specs.Rows.{text_at}
+use Rattle.papergrid_print.specs.Flat.{behind_text, first_placed, standing_of}
+use Rattle.papergrid_picture.specs.Picture.{at}
+use Rattle.papergrid_print.specs.Sheets.{sheet_of}
+use Rattle.papergrid_print.proofs.FlatLemmas.{flat-begins, flat-ends, flat-more}
+use Rattle.papergrid_print.proofs.PlainLineLemmas.{plain-placed}
+use Rattle.papergrid_print.proofs.table.Table.push_plain_line.Goals as goal
+
+pub loop-j-init : goal.loop-j-init
+loop-j-init g c =
+    let sheet = (sheet_of c.args.self.now.cfg.now (g.R.RecordTexts.rows c.args.self.now.records.now) (g.C.Colors.color c.args.self.now.colors.now) c.args.self.now.widths.now c.args.self.now.heights.now) in
+    c.in_ok-push_str.ensures.bytes ∙ ap (λ l. string_bytes c.args.out.now ++ l) (c.front.ensures ∙ flat-begins sheet c.args.i c.args.flat.now c.requires.columns c.requires.made)
+
+pub loop-j-preserved : goal.loop-j-preserved
+loop-j-preserved g c =
+    let sheet = (sheet_of c.args.self.now.cfg.now (g.R.RecordTexts.rows c.args.self.now.records.now) (g.C.Colors.color c.args.self.now.colors.now) c.args.self.now.widths.now c.args.self.now.heights.now) in
+    let i = c.args.i in
+    let j = c.loop-j.j in
+    let out = string_bytes c.loop-j.out in
+    let stands = standing_of c.args.flat.now in
+    let behind = behind_text c.args.flat.now j (length c.args.self.now.widths.now) in
+    let cell = c.cell-cell.result in
+    let own : cell.text.now ≡ text_at sheet.rows (at i j) = c.cell-cell.ensures.text ∙ ap (λ texts. slice_index_or texts j []) c.requires.cells in
+    let shade : option_map color_of c.get_color-color.result ≡ sheet.colors (at i j) = c.get_color-color.ensures ∙ ap sheet.colors c.new.ensures in
+    flat-more sheet c.requires.flat i j c.args.flat.now (string_bytes c.args.out.now) c.requires.row c.loop-j-test.true c.requires.high c.requires.made
+    c.loop-j.invariant refl
+    (c.in_ok-push_line.ensures
+    ∙ (ap (λ shown. out ++ (shown ++ behind)) (plain-placed sheet c.requires.flat (at i j) stands cell.text.now cell.width (option_map color_of c.get_color-color.result) own c.cell-cell.ensures.lines c.cell-cell.ensures.width c.cell-cell.ensures.plain shade)
+    ∙ sym (append_assoc out (first_placed sheet stands (at i j)) behind)))
+
+pub returns : goal.returns
+returns g c =
+    let sheet = (sheet_of c.args.self.now.cfg.now (g.R.RecordTexts.rows c.args.self.now.records.now) (g.C.Colors.color c.args.self.now.colors.now) c.args.self.now.widths.now c.args.self.now.heights.now) in
+    let end : c.loop-j.j ≡ length c.args.self.now.widths.now = omega (arith, c.loop-j-test.false, c.loop-j.auto.j-end) in
+    c.loop-j.invariant ∙ ap (λ l. string_bytes c.args.out.now ++ l) (flat-ends sheet c.args.i c.loop-j.j end)
