@@ -8,19 +8,20 @@ use Rattle.ansi_scan.specs.Sequences.{Piece, ArePiecesOf}
 use Rattle.ansi_scan.specs.Pieces.{pieces}
 use Rattle.ansi_scan.proofs.Existence.{ArePiecesOf-pieces}
 use Rattle.ansi_scan.proofs.Uniqueness.{pieces-ArePiecesOf}
-use Rattle.ansi_str.specs.StyledText.{strip}
+use Rattle.ansi_str.specs.StyledText.{has_escape, strip}
 use Rattle.ansi_str_search.proofs.AllParts.{strip-styled_parts}
 use Rattle.ansi_str_search.proofs.StdSplits.{split_at_one_byte}
 use Rattle.grid_records_measure.specs.TextLines.{is_line_feed, line_feed, widest}
-use Rattle.columns_run.specs.Cells.{Line, shown, line_rows, part_line, rows_shown}
+use Rattle.columns_run.specs.Cells.{Line, byte_line, shown, line_rows, part_line, rows_shown}
+use Rattle.columns_table.specs.Cells.{HasNoEscape}
 use Rattle.columns_table.specs.Records.{IsMeasured, IsOneLine}
 use Rattle.columns_table.specs.Rows.{cut}
-use Rattle.columns_run.specs.Rows.{tab, stripped, places, parts_at, row_parts, cell_parts}
+use Rattle.columns_run.specs.Rows.{tab, stripped, places, parts_at, row_parts, cell_parts, rows_of}
 use Rattle.columns_table.specs.declared.rows.Rows.{Rows}
 use Rattle.columns_run.proofs.ItemLemmas.{AllByRecursion-append, AllByRecursion-map_of}
 use Rattle.columns_run.proofs.CellLemmas.{Fails, closed_rows, slice_split-fails, slice_split-keeps, without_bare_last-keeps}
 use Rattle.columns_table.proofs.RecordLemmas.{only_line}
-use Rattle.columns_run.proofs.PlaceLemmas.{AreMatches-places}
+use Rattle.columns_run.proofs.PlaceLemmas.{AreMatches-places, plain_cells}
 use Rattle.columns_run.proofs.SplitLemmas.{IsWholeText, IsClosedPart, closed-parts_at, whole-closed}
 
 -- ---- what a text without line feed shows
@@ -105,10 +106,26 @@ of_cut P (n ∷ ns) xs whole all =
     let left : sum ns ≡ length (drop n xs) = omega (arith, total, length-drop n xs) in
     subst (AllByRecursion P) (take-append-drop n xs) (AllByRecursion-append P (take n xs) (drop n xs) all.0 (of_cut P ns (drop n xs) left all.1))
 
-pub cells-measured : (text : List ℕ) (rows : Rows) → IsWholeText text → sum (vec_items rows.counts) ≡ length (map shown (vec_items rows.cells)) → rows_shown rows ≡ line_rows text
-    → All IsMeasured (vec_items rows.cells)
+pub cells-measured : (text : List ℕ) (rows : Rows) → IsWholeText text → sum (vec_items rows.counts) ≡ length (map shown rows.cells) → rows_shown rows ≡ line_rows text
+    → All IsMeasured rows.cells
 cells-measured text rows whole counted are =
-    All-from_recursion IsMeasured (vec_items rows.cells)
-    (of_images IsMeasuredLine shown (vec_items rows.cells)
-    (of_cut IsMeasuredLine (vec_items rows.counts) (map shown (vec_items rows.cells)) counted
+    All-from_recursion IsMeasured rows.cells
+    (of_images IsMeasuredLine shown rows.cells
+    (of_cut IsMeasuredLine (vec_items rows.counts) (map shown rows.cells) counted
     (subst (AllByRecursion (AllByRecursion IsMeasuredLine)) (sym are) (rows-measured text whole))))
+
+-- ---- cells of a text without ESC
+
+abbrev LineHasNone : Line → Type 0
+LineHasNone line = has_escape line.items ≡ false
+
+pub cells-plain : (text : List ℕ) (rows : Rows) → has_escape text ≡ false → sum (vec_items rows.counts) ≡ length (map shown rows.cells) → rows_shown rows ≡ map (map byte_line) (rows_of (λ b. b) text)
+    → All HasNoEscape rows.cells
+cells-plain text rows none counted are =
+    All-from_recursion HasNoEscape rows.cells
+    (of_images LineHasNone shown rows.cells
+    (of_cut LineHasNone (vec_items rows.counts) (map shown rows.cells) counted
+    (subst (AllByRecursion (AllByRecursion LineHasNone)) (sym are)
+    (AllByRecursion-map_of (AllByRecursion (λ part. has_escape part ≡ false)) (AllByRecursion LineHasNone) (map byte_line)
+    (λ row each. AllByRecursion-map_of (λ part. has_escape part ≡ false) LineHasNone byte_line (λ part plain. plain) row each)
+    (rows_of (λ b. b) text) (plain_cells text none)))))

@@ -12,7 +12,7 @@ use Rattle.columns_options.specs.declared.options.Options.{Options}
 use Rattle.columns_run.proofs.PartLemmas.{cut-map}
 use Rattle.columns_table.specs.Answers.{HasTable as TextsHaveTable, MayRefuse}
 use Rattle.columns_table.specs.Rows.{cut, row_texts_of}
-use Rattle.columns_table.specs.declared.rows.LineCell.{LineCell}
+use Rattle.columns_table.specs.declared.cells.LineCell.{LineCell}
 use Rattle.columns_table.specs.declared.rows.Rows.{Rows}
 use Rattle.grid_config.specs.Compact.{Compact, compact_of}
 use Rattle.grid_config_values.specs.declared.fault.Fault.{Fault}
@@ -55,7 +55,7 @@ texts-cut counts cells =
     ∙ (λ k. map (λ row. map-map (λ (line : Line). line.items) shown row k) (cut counts cells))
 
 pub texts-are : (rows : Rows) (text : List ℕ) → rows_shown rows ≡ line_rows text → row_texts_of rows ≡ cell_parts text
-texts-are rows text are = sym (texts-cut (vec_items rows.counts) (vec_items rows.cells)) ∙ ap texts_of_lines are ∙ texts-lines text
+texts-are rows text are = sym (texts-cut (vec_items rows.counts) rows.cells) ∙ ap texts_of_lines are ∙ texts-lines text
 
 module _ (options : Options) (text : List ℕ) (whole : IsWholeText text) where
   pub fits-same : AskedFits (compact_of options.style) (asked_of options) (cell_parts text) ≡ TableFits options text

@@ -4,7 +4,7 @@ use Rattle.std.specs.Borrow.{Bor}
 use Rattle.grid_records_measure.specs.Measures.{measure}
 use Rattle.columns_run.specs.Rows.{cell_parts, stripped}
 use Rattle.columns_table.specs.Rows.{cut}
-use Rattle.columns_table.specs.declared.rows.LineCell.{LineCell}
+use Rattle.columns_table.specs.declared.cells.LineCell.{LineCell}
 use Rattle.columns_table.specs.declared.rows.Rows.{Rows}
 
 -- a line: the columns that it measures, and its bytes
@@ -44,4 +44,4 @@ last_is_bare (part ∷ next ∷ parts) = last_is_bare (next ∷ parts)
 
 -- the rows of cells, each of one line
 abbrev pub rows_shown : Rows → List (List Line)
-rows_shown rows = cut (vec_items rows.counts) (map shown (vec_items rows.cells))
+rows_shown rows = cut (vec_items rows.counts) (map shown rows.cells)

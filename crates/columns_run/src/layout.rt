@@ -28,7 +28,12 @@ pub fn styled_table(alloc: Global, options: &Options, text: &str) -> Result<Stri
     let (parts, counts) = cell_parts(alloc, &rows)?;
     let cells = measured(alloc, &parts)?;
     let asked = asked_of(options);
-    Ok(rows_table(alloc, &options.style, &asked, Rows { cells, counts })?)
+    let measured_rows = Rows {
+        cells,
+        counts,
+        plain: false,
+    };
+    Ok(rows_table(alloc, &options.style, &asked, measured_rows)?)
 }
 
 /// The same of a text without ESC, which is read once and not copied.
@@ -38,7 +43,8 @@ pub fn plain_table(alloc: Global, options: &Options, text: &str) -> Result<Strin
     ensures table { IfOk result (λ table. string_bytes table ≡ output_of options.now text.now) }
     ensures faults { IfErr result IsOfInput }
 {
-    let rows = rows_of(alloc, text)?;
+    let mut rows = rows_of(alloc, text)?;
+    rows.plain = true;
     let asked = asked_of(options);
     Ok(rows_table(alloc, &options.style, &asked, rows)?)
 }

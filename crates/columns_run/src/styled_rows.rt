@@ -7,7 +7,7 @@ ghost use Rattle.columns_run.specs.Cells.{bytes, shown, last_is_bare, part_line}
 ghost use Rattle.columns_table.specs.Rows.{cut};
 
 use ansi_str::{AnsiSplit, get_blocks};
-use columns_table::LineCell;
+use columns_table::{LineCell, LineCells};
 use grid_records_measure::get_line_width;
 use std::alloc::{AllocError, Global};
 use std::borrow::CowStr;
@@ -55,10 +55,10 @@ pub fn cell_parts<'a>(
 }
 
 /// The parts as cells, each measured without its sequences.
-pub fn measured<'a>(alloc: Global, parts: &'a [CowStr<'a>]) -> Result<Vec<LineCell<'a>>, AllocError>
-    ensures { IfOk result (λ cells. map shown cells.items ≡ map part_line (map cow_str_bytes parts.now)) }
+pub fn measured<'a>(alloc: Global, parts: &'a [CowStr<'a>]) -> Result<LineCells<'a>, AllocError>
+    ensures { IfOk result (λ cells. map shown cells ≡ map part_line (map cow_str_bytes parts.now)) }
 {
-    let mut cells = Vec::with_capacity(alloc, parts.len())?;
+    let mut cells = LineCells::with_capacity(alloc, parts.len())?;
     for part in parts {
         cells.push(measured_cell(part))?;
     }

@@ -1,6 +1,6 @@
 -- What the loops over rows and their cells know, and the rows that they make.
-use Rattle.std.proofs.Common.{◌≡◌, ℕ, zero, suc, ◌+◌, ◌-◌, ◌<◌, ◌≤◌, All, List, [], ◌∷◌, ◌++◌, Global, Vec, Some, map, length, sum, take, drop, get_or, replicate, slice_index, vec_len, refl, ap, sym, subst, ◌∙◌, arith}
-use Rattle.std.specs.List.{drop-map}
+use Rattle.std.proofs.Common.{◌≡◌, ℕ, zero, suc, ◌+◌, ◌-◌, ◌<◌, ◌≤◌, All, List, [], ◌∷◌, ◌++◌, Global, Vec, Option, None, Some, map, length, sum, take, drop, get_or, replicate, slice_index, vec_len, refl, ap, sym, subst, ◌∙◌, arith}
+use Rattle.std.specs.List.{drop-map, slice_get}
 use Rattle.std.proofs.Math.Seq.{drop-cons}
 use Rattle.std.proofs.lemmas.List.{append_assoc, drop-drop, get_or-drop, map_push}
 use Rattle.std.proofs.lemmas.List.Elements.{All-head}
@@ -12,20 +12,34 @@ use Rattle.grid_records_measure.specs.TextLines.{text_width}
 use Rattle.grid_records_traits.specs.Rows.{fitted, fitted_row}
 use Rattle.grid_records_rows.specs.Sources.{AreEquallyLong}
 use Rattle.columns_asked.specs.Layout.{by_column, paddings, resize_in}
+use Rattle.columns_asked.specs.Asked.{Resize}
 use Rattle.columns_asked.specs.Resizing.{resized_text}
 use Rattle.columns_asked.specs.declared.asked.Asked.{Asked}
 use Rattle.columns_table.specs.Kept.{first_kept, kept_row, resize_to}
 use Rattle.columns_table.specs.Records.{IsMeasured}
 use Rattle.columns_table.specs.Rows.{cell_texts, cut}
-use Rattle.columns_table.specs.declared.rows.LineCell.{LineCell}
+use Rattle.columns_table.specs.declared.cells.LineCell.{LineCell}
 
 -- a measured cell has the width of its text
 pub width-is : (cell : LineCell) → IsMeasured cell → cell.width ≡ text_width cell.text.now
 unfolding text_width
 width-is cell measured = measured.1 (pieces cell.text.now) (ArePiecesOf-pieces cell.text.now)
 
-pub item-measured : (cells : List LineCell) (cell : LineCell) → (0 < length cells) × ((d : LineCell) → cell ≡ get_or cells 0 d) → All IsMeasured cells → IsMeasured cell
-item-measured cells cell is all = subst IsMeasured (sym (is.1 cell)) (all 0 cell is.0)
+-- the first text from a column on is that of the cell there
+pub first-some : (resize : Resize) (cells : List LineCell) (column : ℕ) (cell : LineCell) → slice_get cells column ≡ Some cell
+    → resized_text resize cell.text.now ≡ first_kept resize (cell_texts (drop column cells))
+first-some resize [] column cell is = absurd (cc is)
+first-some resize (first ∷ cells) zero cell is = sym (ap of_found is) where
+  of_found : Option LineCell → List ℕ
+  of_found None = []
+  of_found (Some found) = resized_text resize found.text.now
+first-some resize (first ∷ cells) (suc column) cell is = first-some resize cells column cell is
+
+pub first-none : (resize : Resize) (cells : List LineCell) (column : ℕ) → slice_get cells column ≡ None → [] ≡ first_kept resize (cell_texts (drop column cells))
+first-none resize [] zero none = refl
+first-none resize [] (suc column) none = refl
+first-none resize (first ∷ cells) zero none = absurd (cc none)
+first-none resize (first ∷ cells) (suc column) none = first-none resize cells column none
 
 -- ---- the cells of a row
 
@@ -64,26 +78,19 @@ module _ (asked : Asked) (beside : ℕ) where
 -- ---- the rows
 
 -- a row more
-pub rows-pushed : {R : Type 0} (kept : List (List ℕ) → List (List ℕ)) (text : R → List (List ℕ)) (done : List R) (row : R) (counts : List ℕ) (cells : List LineCell) (start i : ℕ) → i < length counts
-    → text row ≡ kept (cell_texts (take (get_or counts i 0) (drop start cells)))
-    → map text (done ++ row ∷ []) ++ map kept (map cell_texts (cut (drop (i + 1) counts) (drop (start + get_or counts i 0) cells)))
-    ≡ map text done ++ map kept (map cell_texts (cut (drop i counts) (drop start cells)))
-rows-pushed kept text done row counts cells start i below is =
+pub rows-pushed : {R : Type 0} (kept : List (List ℕ) → List (List ℕ)) (text : R → List (List ℕ)) (done : List R) (row : R) (counts : List ℕ) (cells : List LineCell) (i : ℕ) → i < length counts
+    → text row ≡ kept (cell_texts (take (get_or counts i 0) cells))
+    → map text (done ++ row ∷ []) ++ map kept (map cell_texts (cut (drop (i + 1) counts) (drop (get_or counts i 0) cells)))
+    ≡ map text done ++ map kept (map cell_texts (cut (drop i counts) cells))
+rows-pushed kept text done row counts cells i below is =
     let n : ℕ = get_or counts i 0 in
     let next : suc i ≡ i + 1 = omega arith in
-    let rest : List (List (List ℕ)) = map kept (map cell_texts (cut (drop (i + 1) counts) (drop (start + n) cells))) in
+    let rest : List (List (List ℕ)) = map kept (map cell_texts (cut (drop (i + 1) counts) (drop n cells))) in
     ap (λ ts. ts ++ rest) (map_push text done row)
     ∙ append_assoc (map text done) (text row ∷ []) rest
     ∙ ap (λ t. map text done ++ (t ∷ rest)) is
-    ∙ ap (λ m. map text done ++ (kept (cell_texts (take n (drop start cells))) ∷ map kept (map cell_texts (cut (drop m counts) (drop (start + n) cells))))) (sym next)
-    ∙ ap (λ xs. map text done ++ (kept (cell_texts (take n (drop start cells))) ∷ map kept (map cell_texts (cut (drop (suc i) counts) xs)))) (sym (drop-drop n start cells))
-    ∙ ap (λ ns. map text done ++ map kept (map cell_texts (cut ns (drop start cells)))) (sym (drop-cons counts i 0 below))
-
--- what is left of the counts
-pub sum-step : (counts : List ℕ) (i : ℕ) → i < length counts → sum (drop i counts) ≡ get_or counts i 0 + sum (drop (i + 1) counts)
-sum-step counts i below =
-    let next : suc i ≡ i + 1 = omega arith in
-    ap sum (drop-cons counts i 0 below) ∙ sum_by-cons (λ n. n) (get_or counts i 0) (drop (suc i) counts) ∙ ap (λ m. get_or counts i 0 + sum (drop m counts)) next
+    ∙ ap (λ m. map text done ++ (kept (cell_texts (take n cells)) ∷ map kept (map cell_texts (cut (drop m counts) (drop n cells))))) (sym next)
+    ∙ ap (λ ns. map text done ++ map kept (map cell_texts (cut ns cells))) (sym (drop-cons counts i 0 below))
 
 -- rows of one length are equally long
 pub equally-long : {C : Type 0} (n : ℕ) (rows : List (Vec C Global)) → All (λ row. vec_len row ≡ n) rows → AreEquallyLong rows

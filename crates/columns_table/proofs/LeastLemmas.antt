@@ -20,7 +20,7 @@ use Rattle.columns_asked.specs.Layout.{column_count, heights_of, widths_of}
 use Rattle.columns_table.specs.Least.{padded, width_in}
 use Rattle.columns_table.specs.Records.{IsMeasured}
 use Rattle.columns_table.specs.Rows.{cell_texts, cut}
-use Rattle.columns_table.specs.declared.rows.LineCell.{LineCell}
+use Rattle.columns_table.specs.declared.cells.LineCell.{LineCell}
 use Rattle.columns_table.proofs.KeptLemmas.{width-is}
 use Rattle.columns_table.proofs.RecordLemmas.{empty_one_line, get_or-fitted_row}
 use Rattle.columns_table.proofs.SizeLemmas.{columns-cut}
@@ -280,15 +280,13 @@ at-most-greatest (n ∷ ns) zero below = omega arith
 at-most-greatest (n ∷ ns) (suc i) below = let rest = at-most-greatest ns i (omega (arith, below)) in omega (arith, rest)
 
 -- a row more
-pub widest-step : (k : ℕ) (counts : List ℕ) (cells : List LineCell) (start i : ℕ) → i < length counts
-    → greatest (map (width_in k) (cut (drop i counts) (drop start cells)))
-    ≡ max (width_in k (take (get_or counts i 0) (drop start cells))) (greatest (map (width_in k) (cut (drop (i + 1) counts) (drop (start + get_or counts i 0) cells))))
-widest-step k counts cells start i below =
+pub widest-step : (k : ℕ) (counts : List ℕ) (cells : List LineCell) (i : ℕ) → i < length counts
+    → greatest (map (width_in k) (cut (drop i counts) cells)) ≡ max (width_in k (take (get_or counts i 0) cells)) (greatest (map (width_in k) (cut (drop (i + 1) counts) (drop (get_or counts i 0) cells))))
+widest-step k counts cells i below =
     let n : ℕ = get_or counts i 0 in
     let next : suc i ≡ i + 1 = omega arith in
-    ap (λ ns. greatest (map (width_in k) (cut ns (drop start cells)))) (drop-cons counts i 0 below)
-    ∙ ap (λ xs. max (width_in k (take n (drop start cells))) (greatest (map (width_in k) (cut (drop (suc i) counts) xs)))) (drop-drop n start cells)
-    ∙ ap (λ m. max (width_in k (take n (drop start cells))) (greatest (map (width_in k) (cut (drop m counts) (drop (start + n) cells))))) next
+    ap (λ ns. greatest (map (width_in k) (cut ns cells))) (drop-cons counts i 0 below)
+    ∙ ap (λ m. max (width_in k (take n cells)) (greatest (map (width_in k) (cut (drop m counts) (drop n cells))))) next
 
 -- what is written into a vector as a slice
 pub written : (n : ℕ) (new old : List ℕ) → length new ≡ n → take n (new ++ drop (length new) old) ≡ new

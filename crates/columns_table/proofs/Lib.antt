@@ -1,4 +1,5 @@
 pub mod AnswerLemmas
+pub mod CellLemmas
 pub mod KeptLemmas
 pub mod LeastLemmas
 pub mod NarrowedLemmas
@@ -7,3 +8,4 @@ pub mod PlacedLemmas
 pub mod RecordLemmas
 pub mod RoomLemmas
 pub mod SizeLemmas
+pub mod WidenLemmas

@@ -28,7 +28,7 @@ use Rattle.columns_asked.specs.Layout.{column_count, frame_under, heights_of, wi
 use Rattle.columns_table.specs.Answers.{natural_text}
 use Rattle.columns_table.specs.Records.{placed_texts, starts_from}
 use Rattle.columns_table.specs.Rows.{cell_texts}
-use Rattle.columns_table.specs.declared.rows.LineCell.{LineCell}
+use Rattle.columns_table.specs.declared.cells.LineCell.{LineCell}
 use Rattle.columns_table.proofs.PlacedLemmas.{placed-cut}
 use Rattle.columns_table.proofs.SizeLemmas.{columns-cut, cut_texts, height-each, none-high, width-each}
 

@@ -7,11 +7,11 @@ use Rattle.std.proofs.lemmas.List.Elements.{All-drop, All-head, All-tail, All-ta
 use Rattle.std.proofs.lemmas.List.Sums.{sum_by-cons}
 use Rattle.grid_config_values.specs.declared.position.Position.{Position}
 use Rattle.grid_records_traits.specs.Cells.{IsLineAt}
-use Rattle.grid_records_traits.specs.Rows.{text_at}
+use Rattle.grid_records_traits.specs.Rows.{row_at, text_at}
 use Rattle.papergrid_picture.proofs.ShownLemmas.{get_or-map}
 use Rattle.columns_table.specs.Rows.{cut}
 use Rattle.columns_table.specs.Records.{IsMeasured, IsOneLine, IsOnlyLine, placed, placed_texts, starts_from}
-use Rattle.columns_table.specs.declared.rows.LineCell.{LineCell}
+use Rattle.columns_table.specs.declared.cells.LineCell.{LineCell}
 use Rattle.columns_table.proofs.RecordLemmas.{empty_one_line}
 
 abbrev text_of : LineCell → List ℕ
@@ -19,7 +19,7 @@ text_of cell = cell.text.now
 
 -- ---- one row
 
-placed-row : {X : Type 0} (starts : List ℕ) (xs : List X) (i : ℕ) → i < length starts
+pub placed-row : {X : Type 0} (starts : List ℕ) (xs : List X) (i : ℕ) → i < length starts
     → get_or (placed starts xs) i [] ≡ slice_range xs (get_or starts i 0) (get_or starts (i + 1) (length xs))
 placed-row [] xs i below = absurd (omega arith)
 placed-row (start ∷ starts) xs zero below = refl
@@ -27,7 +27,7 @@ placed-row (start ∷ starts) xs (suc i) below =
     let next : suc (i + 1) ≡ suc i + 1 = omega arith in
     placed-row starts xs i (omega arith) ∙ ap (λ k. slice_range xs (get_or starts i 0) (get_or (start ∷ starts) k (length xs))) next
 
-placed-none : {X : Type 0} (starts : List ℕ) (xs : List X) (i : ℕ) → length starts ≤ i → get_or (placed starts xs) i [] ≡ []
+pub placed-none : {X : Type 0} (starts : List ℕ) (xs : List X) (i : ℕ) → length starts ≤ i → get_or (placed starts xs) i [] ≡ []
 placed-none {X} [] xs i past = none i where
   none : (i : ℕ) → get_or {A = List X} [] i [] ≡ []
   none zero = refl
@@ -43,48 +43,21 @@ past-end [] (suc i) d past = refl
 past-end (x ∷ xs) zero d past = absurd (omega arith)
 past-end (x ∷ xs) (suc i) d past = past-end xs i d (omega arith)
 
-length-take : {A : Type 0} (n : ℕ) (xs : List A) → length (take n xs) ≤ n
-length-take zero xs = omega arith
-length-take (suc n) [] = omega arith
-length-take (suc n) (x ∷ xs) = omega (arith, length-take n xs)
+pub row-texts : (starts : List ℕ) (cells : List LineCell) (i : ℕ) → row_at (placed_texts starts cells) i ≡ map text_of (get_or (placed starts cells) i [])
+row-texts starts cells i = get_or-map (map text_of) (placed starts cells) i []
 
 module _ (starts : List ℕ) (cells : List LineCell) (pos : Position) where
-  row-text : text_at (placed_texts starts cells) pos ≡ get_or (map text_of (get_or (placed starts cells) pos.row [])) pos.col []
+  pub row-text : text_at (placed_texts starts cells) pos ≡ get_or (map text_of (get_or (placed starts cells) pos.row [])) pos.col []
   row-text = ap (λ row. get_or row pos.col []) (get_or-map (map text_of) (placed starts cells) pos.row [])
 
-  pub text-no_row : length starts ≤ pos.row → text_at (placed_texts starts cells) pos ≡ []
-  text-no_row past =
-      row-text ∙ ap (λ row. get_or (map text_of row) pos.col []) (placed-none starts cells pos.row past) ∙ past-end [] pos.col [] (omega arith)
-
-  module _ (start end : ℕ) (inside : pos.row < length starts) (begins : start ≡ get_or starts pos.row 0) (ends : end ≡ get_or starts (pos.row + 1) (length cells)) where
-    row-is : get_or (placed starts cells) pos.row [] ≡ slice_range cells start end
-    row-is =
-        placed-row starts cells pos.row inside
-        ∙ ap (λ from. slice_range cells from (get_or starts (pos.row + 1) (length cells))) (sym begins)
-        ∙ ap (slice_range cells start) (sym ends)
-
-    texts-are : map text_of (slice_range cells start end) ≡ take (end - start) (drop start (map text_of cells))
-    texts-are = sym (ap (take (end - start)) (drop-map text_of start cells) ∙ take-map text_of (end - start) (drop start cells))
-
-    pub text-no_cell : end - start ≤ pos.col → text_at (placed_texts starts cells) pos ≡ []
-    text-no_cell past =
-        row-text ∙ ap (λ row. get_or (map text_of row) pos.col []) row-is ∙ ap (λ texts. get_or texts pos.col []) texts-are
-        ∙ past-end (take (end - start) (drop start (map text_of cells))) pos.col [] (omega (arith, past, length-take (end - start) (drop start (map text_of cells))))
-
-    pub text-cell : pos.col < end - start → text_at (placed_texts starts cells) pos ≡ get_or (map text_of cells) (start + pos.col) []
-    text-cell within =
-        row-text ∙ ap (λ row. get_or (map text_of row) pos.col []) row-is ∙ ap (λ texts. get_or texts pos.col []) texts-are
-        ∙ get_or-take (end - start) (drop start (map text_of cells)) pos.col [] within
-        ∙ get_or-drop start (map text_of cells) pos.col []
-
--- each of them is one line
-row-measured : (starts : List ℕ) (cells : List LineCell) (i : ℕ) → All IsMeasured cells → All IsMeasured (get_or (placed starts cells) i [])
-row-measured [] cells i all = none i where
-  none : (i : ℕ) → All IsMeasured (get_or {A = List LineCell} [] i [])
+-- what is true of each cell is true of each in a row
+pub row-keeps : (P : LineCell → Type 0) (starts : List ℕ) (cells : List LineCell) (i : ℕ) → All P cells → All P (get_or (placed starts cells) i [])
+row-keeps P [] cells i all = none i where
+  none : (i : ℕ) → All P (get_or {A = List LineCell} [] i [])
   none zero = λ k d below. absurd (omega arith)
   none (suc i) = λ k d below. absurd (omega arith)
-row-measured (start ∷ starts) cells zero all = All-take IsMeasured (get_or starts 0 (length cells) - start) (drop start cells) (All-drop IsMeasured start cells all)
-row-measured (start ∷ starts) cells (suc i) all = row-measured starts cells i all
+row-keeps P (start ∷ starts) cells zero all = All-take P (get_or starts 0 (length cells) - start) (drop start cells) (All-drop P start cells all)
+row-keeps P (start ∷ starts) cells (suc i) all = row-keeps P starts cells i all
 
 one_in_row : (row : List LineCell) (j : ℕ) → All IsMeasured row → (width : ℕ) × IsOneLine (get_or (map text_of row) j []) width
 one_in_row [] zero all = (0, empty_one_line)
@@ -94,7 +67,7 @@ one_in_row (cell ∷ row) (suc j) all = one_in_row row j (All-tail IsMeasured ce
 
 pub one_line_each : (starts : List ℕ) (cells : List LineCell) (pos : Position) → All IsMeasured cells → (width : ℕ) × IsOneLine (text_at (placed_texts starts cells) pos) width
 one_line_each starts cells pos all =
-    subst (λ text. (width : ℕ) × IsOneLine text width) (sym (row-text starts cells pos)) (one_in_row (get_or (placed starts cells) pos.row []) pos.col (row-measured starts cells pos.row all))
+    subst (λ text. (width : ℕ) × IsOneLine text width) (sym (row-text starts cells pos)) (one_in_row (get_or (placed starts cells) pos.row []) pos.col (row-keeps IsMeasured starts cells pos.row all))
 
 -- a text that is its only line has no other
 pub no-line : (text : List ℕ) (index : ℕ) → 0 < index → IsOnlyLine text → IsLineAt text index []

@@ -25,7 +25,7 @@ use Rattle.papergrid_picture.specs.Frame.{Tracks, frame_of, line_count, thicknes
 use Rattle.papergrid_picture.proofs.FrameLemmas.{range_with_len-more}
 use Rattle.columns_asked.specs.Layout.{column_count, frame_under, heights_of, widths_of}
 use Rattle.columns_table.specs.Rows.{cell_texts, cut}
-use Rattle.columns_table.specs.declared.rows.LineCell.{LineCell}
+use Rattle.columns_table.specs.declared.cells.LineCell.{LineCell}
 
 -- ---- rows cut from a list
 

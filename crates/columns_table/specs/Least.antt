@@ -1,6 +1,6 @@
 -- The least sizes of a table whose cells are one line each.
 use Rattle.std.specs.Prelude.{ℕ, ◌+◌, List, map, slice_index}
-use Rattle.columns_table.specs.declared.rows.LineCell.{LineCell}
+use Rattle.columns_table.specs.declared.cells.LineCell.{LineCell}
 
 -- what the cell of this row in this column measures, and nothing where the row has none
 abbrev pub width_in : ℕ → List LineCell → ℕ

@@ -1,4 +1,6 @@
 pub mod Answers
+pub mod CellRows
+pub mod Cells
 pub mod Kept
 pub mod Least
 pub mod Records

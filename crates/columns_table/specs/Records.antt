@@ -3,7 +3,7 @@ use Rattle.ansi_scan.specs.Sequences.{Piece, ArePiecesOf}
 use Rattle.grid_records_measure.specs.TextLines.{AreLinesOf}
 use Rattle.std.specs.Prelude.{◌≡◌, ℕ, ◌+◌, List, [], ◌∷◌, length, map, slice_index_or, slice_range}
 use Rattle.grid_records_traits.specs.Cells.{HasLineCount, HasWidth}
-use Rattle.columns_table.specs.declared.rows.LineCell.{LineCell}
+use Rattle.columns_table.specs.declared.cells.LineCell.{LineCell}
 
 -- the text is its only line
 abbrev pub IsOnlyLine : List ℕ → Type 0

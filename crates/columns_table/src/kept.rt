@@ -3,11 +3,13 @@ ghost use Rattle.std.specs.Prelude.{◌≡◌, All, IfOk, drop, length, map, sum
 ghost use Rattle.std.specs.Cow.{cow_str_bytes};
 ghost use Rattle.grid_records_traits.specs.Cells.{HasLineCount, HasWidth};
 ghost use Rattle.grid_records_rows.specs.Sources.{AreEquallyLong};
+ghost use Rattle.columns_table.specs.CellRows.{row_cells};
 ghost use Rattle.columns_table.specs.Kept.{first_kept, kept_row, resize_to};
 ghost use Rattle.columns_table.specs.Records.{IsMeasured};
 ghost use Rattle.columns_table.specs.Rows.{cell_texts, row_texts_of};
 
-use crate::rows::{LineCell, Rows};
+use crate::cell_row::CellRow;
+use crate::rows::Rows;
 use columns_asked::{Asked, resized_cell};
 use grid_records_measure::get_text_dimension;
 use grid_records_traits::Cell;
@@ -62,18 +64,16 @@ pub fn kept_rows<'a>(
     widths: &[usize],
     beside: usize,
 ) -> Result<Vec<Vec<KeptCell<'a>>>, AllocError>
-    requires whole { sum rows.now.counts.items ≡ vec_len rows.now.cells }
-    requires measured { All IsMeasured rows.now.cells.items }
+    requires measured { All IsMeasured rows.now.cells }
     ensures texts { IfOk result (λ kept. map (λ row. map (λ cell. cow_str_bytes cell.text) row.items) kept.items ≡ map (kept_row asked.now beside widths.now) (row_texts_of rows.now)) }
     ensures long { IfOk result (λ kept. AreEquallyLong kept.items) }
 {
     let mut kept = Vec::with_capacity(alloc, rows.counts.len())?;
-    let mut start = 0;
+    let mut rest = rows.cells.all();
     for count in &rows.counts {
-        let end = start + *count;
-        let row = &rows.cells[start..end];
+        let (row, behind) = rest.split(*count);
         kept.push(kept_cells(alloc, asked, row, widths, beside)?)?;
-        start = end;
+        rest = behind;
     }
     Ok(kept)
 }
@@ -82,42 +82,36 @@ pub fn kept_rows<'a>(
 fn kept_cells<'a>(
     alloc: Global,
     asked: &Asked,
-    cells: &[LineCell<'a>],
+    row: CellRow<'_, 'a>,
     widths: &[usize],
     beside: usize,
 ) -> Result<Vec<KeptCell<'a>>, AllocError>
-    requires { All IsMeasured cells.now }
-    ensures texts { IfOk result (λ kept. map (λ cell. cow_str_bytes cell.text) kept.items ≡ kept_row asked.now beside widths.now (cell_texts cells.now)) }
+    requires { All IsMeasured (row_cells row) }
+    ensures texts { IfOk result (λ kept. map (λ cell. cow_str_bytes cell.text) kept.items ≡ kept_row asked.now beside widths.now (cell_texts (row_cells row.entry))) }
     ensures long { IfOk result (λ kept. vec_len kept ≡ length widths.now) }
 {
     let mut kept = Vec::with_capacity(alloc, widths.len())?;
     for (column, width) in widths.iter().enumerate() {
         let room = width.saturating_sub(beside);
-        kept.push(first_kept(alloc, asked, cells_from(cells, column), room)?)?;
+        kept.push(kept_cell(alloc, asked, row, column, room)?)?;
     }
     Ok(kept)
 }
 
-// The first cell, resized to its room, and an empty one where there is none.
-fn first_kept<'a>(
+// The cell in this column, resized to its room, and an empty one where there is none.
+fn kept_cell<'a>(
     alloc: Global,
     asked: &Asked,
-    cells: &[LineCell<'a>],
+    row: CellRow<'_, 'a>,
+    column: usize,
     room: usize,
 ) -> Result<KeptCell<'a>, AllocError>
-    requires { All IsMeasured cells.now }
-    ensures { IfOk result (λ kept. cow_str_bytes kept.text ≡ first_kept (resize_to asked.now room) (cell_texts cells.now)) }
+    requires { All IsMeasured (row_cells row) }
+    ensures { IfOk result (λ kept. cow_str_bytes kept.text ≡ first_kept (resize_to asked.now room) (cell_texts (drop column (row_cells row.entry)))) }
 {
-    let text = match cells.first() {
+    let text = match row.get(column) {
         Some(cell) => resized_cell(alloc, asked, cell.text, cell.width, room)?,
         None => CowStr::Borrowed(""),
     };
     Ok(KeptCell::new(text))
-}
-
-// The cells from this column on.
-fn cells_from<'b, 'a>(cells: &'b [LineCell<'a>], column: usize) -> &'b [LineCell<'a>]
-    ensures { result.now ≡ drop column cells.now }
-{
-    &cells[column.min(cells.len())..]
 }

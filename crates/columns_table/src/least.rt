@@ -6,11 +6,13 @@ ghost use Rattle.grid_records_estimate.specs.Collecting.{PassesMax};
 ghost use Rattle.grid_records_estimate.specs.Estimates.{greatest};
 ghost use Rattle.grid_records_estimate.specs.Sizes.{IsRefusal};
 ghost use Rattle.columns_asked.specs.Layout.{heights_of, widths_of};
+ghost use Rattle.columns_table.specs.CellRows.{row_cells};
 ghost use Rattle.columns_table.specs.Least.{padded, width_in};
 ghost use Rattle.columns_table.specs.Records.{IsMeasured};
 ghost use Rattle.columns_table.specs.Rows.{cut, row_texts_of};
 
-use crate::rows::{LineCell, Rows};
+use crate::cell_row::{CellRow, number_at};
+use crate::rows::Rows;
 use grid_config::{CompactConfig, Fault};
 use std::alloc::{AllocError, Global};
 
@@ -21,8 +23,8 @@ pub fn least_sizes(
     rows: &Rows<'_>,
     style: &CompactConfig,
 ) -> Result<(Vec<usize>, Vec<usize>), Fault>
-    requires whole { sum rows.now.counts.items ≡ vec_len rows.now.cells }
-    requires measured { All IsMeasured rows.now.cells.items }
+    requires whole { sum rows.now.counts.items ≡ length rows.now.cells }
+    requires measured { All IsMeasured rows.now.cells }
     ensures widths { IfOk result (λ sizes. sizes.0.items ≡ widths_of (compact_of style.now) (row_texts_of rows.now)) }
     ensures heights { IfOk result (λ sizes. sizes.1.items ≡ heights_of (compact_of style.now) (row_texts_of rows.now)) }
     ensures refused { IfErr result (λ fault. IsRefusal fault
@@ -41,29 +43,29 @@ pub fn least_sizes(
 
 // What the widest cell of each column measures.
 fn widest(alloc: Global, rows: &Rows<'_>) -> Result<Vec<usize>, AllocError>
-    requires { sum rows.now.counts.items ≡ vec_len rows.now.cells }
     ensures long { IfOk result (λ widths. vec_len widths ≡ greatest rows.now.counts.items) }
     ensures each { IfOk result (λ widths. (column : ℕ) →
-        slice_index widths.items column ≡ greatest (map (width_in column) (cut rows.now.counts.items rows.now.cells.items))) }
+        slice_index widths.items column ≡ greatest (map (width_in column) (cut rows.now.counts.items rows.now.cells))) }
 {
     let mut widths = vec![in alloc; 0; greatest(&rows.counts)]?;
-    let mut start = 0;
+    let mut rest = rows.cells.all();
     for count in &rows.counts {
-        let end = start + *count;
-        widen(&mut widths, &rows.cells[start..end]);
-        start = end;
+        let (row, behind) = rest.split(*count);
+        widen(&mut widths, row);
+        rest = behind;
     }
     Ok(widths)
 }
 
 // Raises each width to that of the cell in its column, where it is less.
-fn widen(widths: &mut [usize], cells: &[LineCell<'_>])
-    requires { length cells.now ≤ length widths.old }
+fn widen(widths: &mut [usize], row: CellRow<'_, '_>)
+    requires { length (row_cells row) ≤ length widths.old }
     ensures long { length widths.new ≡ length widths.old }
-    ensures each { (column : ℕ) → slice_index widths.new column ≡ max (slice_index widths.old column) (width_in column cells.now) }
+    ensures each { (column : ℕ) → slice_index widths.new column ≡ max (slice_index widths.old column) (width_in column (row_cells row.entry)) }
 {
-    for (column, cell) in cells.iter().enumerate() {
-        widths[column] = widths[column].max(cell.width);
+    for (column, text) in row.texts.iter().enumerate() {
+        let width = number_at(row.widths, column, text.len());
+        widths[column] = widths[column].max(width);
     }
 }
 

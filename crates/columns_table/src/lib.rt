@@ -1,6 +1,8 @@
 //! The rows of a text as a table, in the width that is asked.
 #![tactic(auto)]
 
+mod cell_row;
+mod cells;
 mod kept;
 mod least;
 mod placed;
@@ -8,5 +10,6 @@ mod rows;
 mod sizes;
 mod table;
 
-pub use rows::{LineCell, Rows};
+pub use cells::{LineCell, LineCells};
+pub use rows::Rows;
 pub use table::rows_table;

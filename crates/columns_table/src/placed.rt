@@ -1,87 +1,74 @@
 //! The cells of a text looked up by their places.
-ghost use Rattle.std.specs.Prelude.{◌≡◌, ◌^◌, ◌<◌, [], All, false, map, slice_index_or, sum};
+ghost use Rattle.std.specs.Prelude.{◌≡◌, ◌^◌, ◌<◌, [], All, IsTrue, false, length, slice_index_or, sum};
 ghost use Rattle.grid_records_traits.specs.Rows.{text_at};
-ghost use Rattle.columns_table.specs.Records.{IsMeasured, placed_texts, starts_from};
+ghost use Rattle.columns_table.specs.CellRows.{row_cells};
+ghost use Rattle.columns_table.specs.Cells.{HasNoEscape};
+ghost use Rattle.columns_table.specs.Records.{IsMeasured, placed, placed_texts, starts_from};
 
-use crate::rows::LineCell;
+use crate::cell_row::{CellRow, number_at};
+use crate::cells::{LineCell, LineCells};
+use crate::rows::Rows;
 use grid_config::Position;
-use grid_records_traits::{ExactRecords, PeekableRecords, RecordColumns, RecordTexts};
+use grid_records_traits::{ExactRecords, PeekableRecords, PlainRow, RecordColumns, RecordTexts};
 use std::alloc::{AllocError, Global};
 use std::borrow::CowStr;
 
 /// Rows of measured cells: all cells, one row after the other, and where the rows begin.
 #[derive(Drop)]
 pub struct PlacedRows<'a> {
-    cells: Vec<LineCell<'a>>,
+    cells: LineCells<'a>,
     starts: Vec<usize>,
+    // How many cells there are.
+    end: usize,
     columns: usize,
-    ghost measured: { All IsMeasured cells.items },
+    plain: bool,
+    ghost whole: { end ≡ length cells },
+    ghost measured: { All IsMeasured cells },
+    ghost no_escapes: { IsTrue plain → All HasNoEscape cells },
 }
 
 impl<'a> PlacedRows<'a> {
-    /// Rows of `columns` columns with these counts of cells. Does not allocate.
-    pub fn new(cells: Vec<LineCell<'a>>, counts: Vec<usize>, columns: usize) -> PlacedRows<'a>
-        requires measured { All IsMeasured cells.items }
-        requires range { sum counts.items < 2 ^ 64 }
+    /// These rows, of `columns` columns. Does not allocate.
+    pub fn new(rows: Rows<'a>, columns: usize) -> PlacedRows<'a>
+        requires measured { All IsMeasured rows.cells }
+        requires plain { IsTrue rows.plain → All HasNoEscape rows.cells }
+        requires whole { sum rows.counts.items ≡ length rows.cells }
         ensures columns { ⟦<PlacedRows<'a> as RecordColumns>⟧.columns result ≡ columns }
-        ensures rows { ⟦<PlacedRows<'a> as RecordTexts>⟧.rows result ≡ placed_texts (starts_from 0 counts.items) cells.entry.items }
+        ensures rows { ⟦<PlacedRows<'a> as RecordTexts>⟧.rows result ≡ placed_texts (starts_from 0 rows.entry.counts.items) rows.entry.cells }
     {
+        let end = rows.cells.len();
         PlacedRows {
-            cells,
-            starts: starts_of(counts),
+            cells: rows.cells,
+            starts: starts_of(rows.counts),
+            end,
             columns,
+            plain: rows.plain,
         }
     }
 
-    // The cell at this place, and an empty one where its row has none. Printing asks for each cell a few
-    // times: hints on it and on what calls it let the look-ups be merged.
+    // The cells of this row, and none where there is no such row.
+    #[inline(always)]
+    fn row(&self, row: usize) -> CellRow<'_, 'a>
+        ensures { row_cells result ≡ slice_index_or (placed self.now.starts.items self.now.cells) row [] }
+    {
+        if row >= self.starts.len() {
+            return self.cells.range(0, 0);
+        }
+        let end = number_at(&self.starts, row + 1, self.end);
+        self.cells.range(self.starts[row], end)
+    }
+
+    // The cell at this place, and an empty one where its row has none. The hints on it and on what calls it
+    // are so that look-ups of one cell can be merged.
     #[inline(always)]
     fn cell(&self, pos: Position) -> LineCell<'a>
-        ensures text { result.text.now ≡ text_at (placed_texts self.now.starts.items self.now.cells.items) pos }
+        ensures text { result.text.now ≡ text_at (placed_texts self.now.starts.items self.now.cells) pos }
         ensures measured { IsMeasured result }
     {
-        if pos.row >= self.starts.len() {
-            return empty();
+        match self.row(pos.row).get(pos.col) {
+            Some(cell) => cell,
+            None => LineCell { text: "", width: 0 },
         }
-        let start = self.starts[pos.row];
-        let end = number_at(&self.starts, pos.row + 1, self.cells.len());
-        if pos.col >= end.saturating_sub(start) {
-            return empty();
-        }
-        cell_at(&self.cells, start + pos.col)
-    }
-}
-
-// A cell without a text.
-fn empty<'a>() -> LineCell<'a>
-    ensures text { result.text.now ≡ [] }
-    ensures measured { IsMeasured result }
-{
-    LineCell { text: "", width: 0 }
-}
-
-// The cell with this number, and after the last an empty one.
-#[inline(always)]
-fn cell_at<'a>(cells: &[LineCell<'a>], index: usize) -> LineCell<'a>
-    requires { All IsMeasured cells.now }
-    ensures text { result.text.now ≡ slice_index_or (map (λ cell. cell.text.now) cells.now) index [] }
-    ensures measured { IsMeasured result }
-{
-    if index < cells.len() {
-        cells[index]
-    } else {
-        empty()
-    }
-}
-
-// The number at this place, and after the last the other one.
-#[inline(always)]
-fn number_at(numbers: &[usize], index: usize, other: usize) -> usize
-    ensures { result ≡ slice_index_or numbers.now index other }
-{
-    match numbers.get(index) {
-        Some(number) => *number,
-        None => other,
     }
 }
 
@@ -100,7 +87,7 @@ fn starts_of(mut counts: Vec<usize>) -> Vec<usize>
 }
 
 impl<'a> RecordTexts for PlacedRows<'a> {
-    ghost rows = { λ rows. placed_texts rows.starts.items rows.cells.items };
+    ghost rows = { λ rows. placed_texts rows.starts.items rows.cells };
 
     ghost may_refuse = { λ _. false };
 }
@@ -147,5 +134,14 @@ impl<'a> PeekableRecords for PlacedRows<'a> {
     #[inline(always)]
     fn get_width(&self, pos: Position) -> usize {
         self.cell(pos).width
+    }
+
+    #[inline(always)]
+    fn plain_row(&self, row: usize) -> Option<PlainRow<'_>> {
+        if !self.plain {
+            return None;
+        }
+        let cells = self.row(row);
+        Some(PlainRow::new(cells.texts, cells.widths))
     }
 }

@@ -1,5 +1,5 @@
 //! How wide and how high a table is.
-ghost use Rattle.std.specs.Prelude.{◌≡◌, All, IfErr, IfOk, OnOk, slice_index, sum, vec_len};
+ghost use Rattle.std.specs.Prelude.{◌≡◌, All, IfErr, IfOk, OnOk, length, slice_index, sum};
 ghost use Rattle.grid_config.specs.Compact.{compact_of};
 ghost use Rattle.grid_config.specs.Looks.{compact_look};
 ghost use Rattle.grid_config_values.specs.declared.fault.Fault.TheVariants.{Range};
@@ -45,8 +45,8 @@ impl Dimension for Sizes {
 /// The least sizes of a table of these rows. Refused as `Range` where its width or height passes
 /// `usize::MAX`, and as `Memory` where allocation fails.
 pub fn sizes_of(alloc: Global, rows: &Rows<'_>, style: &CompactConfig) -> Result<Sizes, Fault>
-    requires whole { sum rows.now.counts.items ≡ vec_len rows.now.cells }
-    requires measured { All IsMeasured rows.now.cells.items }
+    requires whole { sum rows.now.counts.items ≡ length rows.now.cells }
+    requires measured { All IsMeasured rows.now.cells }
     ensures widths { IfOk result (λ sizes. sizes.widths.items ≡ widths_of (compact_of style.now) (row_texts_of rows.now)) }
     ensures heights { IfOk result (λ sizes. sizes.heights.items ≡ heights_of (compact_of style.now) (row_texts_of rows.now)) }
     ensures columns { IfOk result (λ sizes. sizes.columns ≡ table_width (frame_under (compact_of style.now) (row_texts_of rows.now))) }

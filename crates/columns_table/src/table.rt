@@ -1,5 +1,5 @@
 //! The table of rows.
-ghost use Rattle.std.specs.Prelude.{◌≡◌, ◌≢◌, ◌++◌, ◌∷◌, ◌==◌, ◌^◌, ◌<◌, ◌⊎◌, [], All, Err, IfErr, IfOk, None, OnOk, Some, if◌then◌else◌, length, slice_index, string_bytes, sum, vec_len};
+ghost use Rattle.std.specs.Prelude.{◌≡◌, ◌≢◌, ◌++◌, ◌∷◌, ◌==◌, ◌^◌, ◌<◌, ◌⊎◌, [], All, Err, IfErr, IfOk, IsTrue, None, OnOk, Some, if◌then◌else◌, length, slice_index, string_bytes, sum};
 ghost use Rattle.std.specs.Option.{option_map};
 ghost use Rattle.grid_config.specs.Compact.{compact_of};
 ghost use Rattle.grid_config.specs.Looks.{look_of};
@@ -11,6 +11,7 @@ ghost use Rattle.papergrid.specs.Grids.{grid_text};
 ghost use Rattle.papergrid_fits.specs.Tables.{Fits, IsFitsAnswer};
 ghost use Rattle.columns_asked.specs.Layout.{asked_frame, asked_text, frame_under, heights_of, kept_texts, narrow, narrowed, paddings, too_wide, widths_of};
 ghost use Rattle.columns_table.specs.Answers.{HasTable, MayRefuse, natural_text};
+ghost use Rattle.columns_table.specs.Cells.{HasNoEscape};
 ghost use Rattle.columns_table.specs.Records.{IsMeasured};
 ghost use Rattle.columns_table.specs.Rows.{row_texts_of};
 
@@ -32,15 +33,17 @@ use std::alloc::{AllocError, Global};
 /// Nothing where there are no rows. Refused as `Range` where its width or height passes `usize::MAX`,
 /// before its columns give or after; else as `Room` of the first cell, by row, then by column, with a
 /// line that takes more columns than the cell has; and as `Memory` where allocation fails.
-/// Each cell is one line that measures what it says, and the counts are of all cells.
+/// Each cell is one line that measures what it says, and without ESC where the rows are plain; the counts are
+/// of all cells.
 pub fn rows_table(
     alloc: Global,
     style: &CompactConfig,
     asked: &Asked,
     rows: Rows<'_>,
 ) -> Result<String, Fault>
-    requires whole { sum rows.counts.items ≡ vec_len rows.cells }
-    requires measured { All IsMeasured rows.cells.items }
+    requires whole { sum rows.counts.items ≡ length rows.cells }
+    requires measured { All IsMeasured rows.cells }
+    requires plain { IsTrue rows.plain → All HasNoEscape rows.cells }
     ensures table { IfOk result (λ table. string_bytes table ≡ asked_text (compact_of style.now) asked.now (row_texts_of rows.entry)) }
     ensures fits { OnOk result (HasTable (compact_of style.now) asked.now (row_texts_of rows.entry)) }
     ensures refused { IfErr result (MayRefuse (compact_of style.now) asked.now (row_texts_of rows.entry)) }
@@ -86,8 +89,9 @@ fn natural_table(
     rows: Rows<'_>,
     sizes: Sizes,
 ) -> Result<String, Fault>
-    requires whole { sum rows.counts.items ≡ vec_len rows.cells }
-    requires measured { All IsMeasured rows.cells.items }
+    requires whole { sum rows.counts.items ≡ length rows.cells }
+    requires measured { All IsMeasured rows.cells }
+    requires plain { IsTrue rows.plain → All HasNoEscape rows.cells }
     requires widths { sizes.widths.items ≡ widths_of (compact_of style.now) (row_texts_of rows) }
     requires heights { sizes.heights.items ≡ heights_of (compact_of style.now) (row_texts_of rows) }
     requires lines { sizes.lines ≡ line_count (frame_under (compact_of style.now) (row_texts_of rows)) }
@@ -97,8 +101,7 @@ fn natural_table(
     ensures refused { IfErr result (λ fault. fault ≡ Memory) }
 {
     let columns = greatest(&rows.counts);
-    let Rows { cells, counts } = rows;
-    let records = PlacedRows::new(cells, counts, columns);
+    let records = PlacedRows::new(rows, columns);
     let settings = SpannedConfig::from_compact_config(alloc, *style)?;
     let text = text_of_grid(alloc, &records, &settings, sizes);
     end(settings);
@@ -113,8 +116,7 @@ fn narrowed_table(
     rows: Rows<'_>,
     widths: Vec<usize>,
 ) -> Result<String, Fault>
-    requires whole { sum rows.counts.items ≡ vec_len rows.cells }
-    requires measured { All IsMeasured rows.cells.items }
+    requires measured { All IsMeasured rows.cells }
     requires beside { paddings (compact_of style.now) < 2 ^ 64 }
     requires narrowed { narrowed (compact_of style.now) asked.now (row_texts_of rows) ≡ Some widths.items }
     ensures table { IfOk result (λ table. string_bytes table ≡ asked_text (compact_of style.now) asked.now (row_texts_of rows.entry)) }

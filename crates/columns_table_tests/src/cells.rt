@@ -5,7 +5,7 @@ ghost use Rattle.ansi_scan.specs.Sequences.{IsWhole};
 ghost use Rattle.ansi_str_search.specs.Lines.{IsClosedLine};
 ghost use Rattle.columns_table.specs.Records.{IsMeasured};
 
-use columns_table::LineCell;
+use columns_table::{LineCell, LineCells};
 use grid_records_measure::{get_line_width, get_lines};
 use std::alloc::{AllocError, Global};
 use std::borrow::CowStr;
@@ -26,11 +26,11 @@ pub(crate) fn lines_of<'a>(alloc: Global, text: &'a str) -> Result<Vec<CowStr<'a
 pub(crate) fn cells_of<'a>(
     alloc: Global,
     lines: &'a [CowStr<'a>],
-) -> Result<Vec<LineCell<'a>>, AllocError>
+) -> Result<LineCells<'a>, AllocError>
     requires { All IsClosedLine (map cow_str_bytes lines.now) }
-    ensures { IfOk result (λ cells. All IsMeasured cells.items) }
+    ensures { IfOk result (λ cells. All IsMeasured cells) }
 {
-    let mut cells = Vec::with_capacity(alloc, lines.len())?;
+    let mut cells = LineCells::with_capacity(alloc, lines.len())?;
     for line in lines {
         cells.push(cell_of(line))?;
     }

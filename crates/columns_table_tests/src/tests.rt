@@ -2,7 +2,7 @@
 use crate::cells::{cells_of, lines_of, total};
 use ansi_scan::is_whole;
 use columns_asked::Asked;
-use columns_table::{Rows, rows_table};
+use columns_table::{LineCells, Rows, rows_table};
 use grid_config::{Borders, CompactConfig, Fault, Indent, Sides};
 use std::alloc::Global;
 use tabled_size_priority::Choice;
@@ -108,6 +108,12 @@ const TABLES: &[(Way, &str, &[usize], &str)] = &[
         "+---+---+\n| a | b |\n+---+---+\n| c |   |\n+---+---+\n",
     ),
     (
+        Way::Natural,
+        "ab\n\u{1f633}\nc\nd",
+        &[2, 2],
+        "+----+----+\n| ab | \u{1f633} |\n+----+----+\n| c  | d  |\n+----+----+\n",
+    ),
+    (
         Way::Wrap(6),
         "\u{1b}[31m123456\u{1b}[0m",
         &[1],
@@ -177,7 +183,12 @@ fn table_of(
     if total(&counts) != Some(cells.len()) {
         return Err(Fault::Memory);
     }
-    rows_table(alloc, style, asked, Rows { cells, counts })
+    let rows = Rows {
+        cells,
+        counts,
+        plain: false,
+    };
+    rows_table(alloc, style, asked, rows)
 }
 
 #[test]
@@ -195,8 +206,9 @@ fn no_rows_have_no_table(rt: HostRuntime) -> Result<(), Fault> {
     let style = ascii().set_padding(Sides::new(ENDLESS, ENDLESS, ENDLESS, ENDLESS));
     for asked in [NATURAL, wrapped(0), cut(0)] {
         let rows = Rows {
-            cells: Vec::new(rt.alloc()),
+            cells: LineCells::new(rt.alloc()),
             counts: Vec::new(rt.alloc()),
+            plain: false,
         };
         let table = rows_table(rt.alloc(), &style, &asked, rows)?;
         assert_eq!(rt; table.as_str(), "");

@@ -4,26 +4,26 @@ use Rattle.std.proofs.lemmas.List.{length-map}
 use Rattle.columns_run.specs.Rows.{line_feed, tab}
 use Rattle.columns_run.specs.Cells.{Line, shown, byte_line}
 use Rattle.grid_records_measure.specs.Measures.{are_printable}
-use Rattle.columns_table.specs.declared.rows.LineCell.{LineCell}
+use Rattle.columns_table.specs.declared.cells.LineCell.{LineCell}
 use Rattle.columns_run.proofs.PassLemmas.{Pass, AreRows, cell-last, Pass-start, Pass-tab, Pass-line_feed, Pass-printable, Pass-other, Pass-last, Pass-none}
 use Rattle.columns_run.proofs.plain_rows.rows_of.Goals as goal
 use Rattle.columns_run.proofs.plain_rows.rows_of.Goals.{then-is_printable, else-is_printable+in-9+in_ok-push_cell-in-9+then-byte-eq10+in_ok-push-in-9, else-is_printable+in-9+in_ok-push_cell-in-9+else-byte-eq10, else-is_printable+in_default-2, else-is_printable+in_default-2-2}
 use Rattle.columns_run.proofs.plain_rows.rows_of.Goals.{then-count-gt0+in_ok-push_cell+in_ok-push, then-count-gt0-via-then-count-gt0, then-count-gt0-via-else-count-gt0+then-start-text, else-count-gt0+else-start-text}
 
-abbrev lines : Vec LineCell Global → List (Line)
-lines cells = map shown cells.items
+abbrev lines : List LineCell → List (Line)
+lines cells = map shown cells
 
 pub loop-end-init : goal.loop-end-init
 loop-end-init c =
     let text = c.args.text.now in
     subst (λ (counts : List ℕ). Pass text 0 0 0 true counts (lines c.new-cells.result)) (sym c.new-counts.ensures.items)
-    (subst (λ (cells : List LineCell). Pass text 0 0 0 true [] (map shown cells)) (sym c.new-cells.ensures.items) (Pass-start text c.utf8.text))
+    (subst (λ (cells : List LineCell). Pass text 0 0 0 true [] (map shown cells)) (sym c.new-cells.ensures) (Pass-start text c.utf8.text))
 
 pub push_cell-requires : goal.push_cell-requires
 push_cell-requires c = λ plain. ap are_printable c.range.ensures.value ∙ c.loop-end.invariant.printable plain
 
 -- what the arms of the match leave
-joined : (c : goal.Joined-is_printable) (start count : ℕ) (plain : Bool) (counts : Vec ℕ Global) (cells : Vec LineCell Global)
+joined : (c : goal.Joined-is_printable) (start count : ℕ) (plain : Bool) (counts : Vec ℕ Global) (cells : List LineCell)
     → c.if-is_printable.start ≡ start → c.if-is_printable.count ≡ count → c.if-is_printable.plain ≡ plain → c.if-is_printable.counts ≡ counts → c.if-is_printable.cells ≡ cells
     → Pass c.args.text.now (c.loop-end.end + 1) start count plain counts.items (lines cells)
     → Pass c.args.text.now (c.loop-end.end + 1) c.if-is_printable.start c.if-is_printable.count c.if-is_printable.plain c.if-is_printable.counts.items (lines c.if-is_printable.cells)
@@ -31,7 +31,7 @@ joined c start count plain counts cells starts counted plainly ended pushed pass
     let text = c.args.text.now in
     let end = c.loop-end.end + 1 in
     let after = c.if-is_printable in
-    subst (λ (cells : Vec LineCell Global). Pass text end after.start after.count after.plain after.counts.items (lines cells)) (sym pushed)
+    subst (λ (cells : List LineCell). Pass text end after.start after.count after.plain after.counts.items (lines cells)) (sym pushed)
     (subst (λ (counts : Vec ℕ Global). Pass text end after.start after.count after.plain counts.items (lines cells)) (sym ended)
     (subst (λ (plain : Bool). Pass text end after.start after.count plain counts.items (lines cells)) (sym plainly)
     (subst (λ (count : ℕ). Pass text end after.start count plain counts.items (lines cells)) (sym counted)
@@ -84,9 +84,9 @@ rows c =
     let counts = c.loop-end.counts in
     let seen = lines c.loop-end.cells in
     let all : length text ≤ end = omega (arith, ap length c.as_bytes-bytes.ensures.value) in
-    let along : (counts : Vec ℕ Global) (cells : Vec LineCell Global) → c.if-count-gt0.counts ≡ counts → c.if-count-gt0.cells ≡ cells → AreRows text counts.items (lines cells) → AreRows text c.if-count-gt0.counts.items (lines c.if-count-gt0.cells) =
+    let along : (counts : Vec ℕ Global) (cells : List LineCell) → c.if-count-gt0.counts ≡ counts → c.if-count-gt0.cells ≡ cells → AreRows text counts.items (lines cells) → AreRows text c.if-count-gt0.counts.items (lines c.if-count-gt0.cells) =
     λ counts cells ended pushed known.
-    subst (λ (cells : Vec LineCell Global). AreRows text c.if-count-gt0.counts.items (lines cells)) (sym pushed)
+    subst (λ (cells : List LineCell). AreRows text c.if-count-gt0.counts.items (lines cells)) (sym pushed)
     (subst (λ (counts : Vec ℕ Global). AreRows text counts.items (lines cells)) (sym ended) known) in
     elim c.if-count-gt0.branch [
       | then-count-gt0+in_ok-push_cell+in_ok-push w ↦
@@ -98,7 +98,7 @@ rows c =
     ]
 
 pub returns-clause-whole : goal.returns-clause-whole
-returns-clause-whole c = (rows c).whole ∙ length-map c.if-count-gt0.cells.items shown ∙ sym c.if-count-gt0.cells.ok.0
+returns-clause-whole c = (rows c).whole ∙ length-map c.if-count-gt0.cells shown
 
 pub returns-clause-rows : goal.returns-clause-rows
 returns-clause-rows c = (rows c).rows

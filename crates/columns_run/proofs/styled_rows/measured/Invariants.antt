@@ -4,4 +4,4 @@ use Rattle.columns_run.specs.Cells.{part_line, shown}
 use Rattle.columns_run.proofs.styled_rows.measured.Given as goal
 
 abbrev pub invariant-loop-part : goal.invariant-loop-part
-invariant-loop-part l = map shown l.cells.items ≡ map part_line (map cow_str_bytes (take l.part-index l.parts))
+invariant-loop-part l = map shown l.cells ≡ map part_line (map cow_str_bytes (take l.part-index l.parts))

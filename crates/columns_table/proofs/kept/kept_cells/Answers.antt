@@ -1,5 +1,6 @@
 use Rattle.std.proofs.Common.{◌≡◌, ◌+◌, ◌-◌, ◌<◌, ◌++◌, List, length, drop, map, get_or, ap, ◌∙◌, arith}
 use Rattle.std.specs.Cow.{cow_str_bytes}
+use Rattle.columns_table.specs.CellRows.{row_cells}
 use Rattle.columns_table.specs.Kept.{first_kept, kept_row, resize_to}
 use Rattle.columns_table.specs.Rows.{cell_texts}
 use Rattle.columns_table.specs.declared.kept.KeptCell.{KeptCell}
@@ -10,17 +11,15 @@ pub loop-column-preserved : goal.loop-column-preserved
 loop-column-preserved c =
     let asked = c.args.asked.now in
     let widths = c.args.widths.now in
-    let cells = c.args.cells.now in
+    let cells = row_cells c.args.row in
     let column = c.loop-column.column in
     let below : column < length widths = omega (arith, c.loop-column-test.true) in
     let room : c.saturating_sub-room.result ≡ get_or widths column 0 - c.args.beside = c.saturating_sub-room.ensures in
     record {
       texts =
           ap (λ (kept : List KeptCell). map (λ cell. cow_str_bytes cell.text) kept ++ kept_row asked c.args.beside (drop (column + 1) widths) (cell_texts (drop (column + 1) cells))) c.in_ok-push.ensures.items
-          ∙ row-pushed asked c.args.beside (λ (cell : KeptCell). cow_str_bytes cell.text) c.loop-column.kept.items c.in_ok-first_kept.field-0 widths cells column below
-          (c.in_ok-first_kept.ensures
-          ∙ ap (λ room. first_kept (resize_to asked room) (cell_texts c.cells_from.result.now)) room
-          ∙ ap (λ found. first_kept (resize_to asked (get_or widths column 0 - c.args.beside)) (cell_texts found)) c.cells_from.ensures)
+          ∙ row-pushed asked c.args.beside (λ (cell : KeptCell). cow_str_bytes cell.text) c.loop-column.kept.items c.in_ok-kept_cell.field-0 widths cells column below
+          (c.in_ok-kept_cell.ensures ∙ ap (λ room. first_kept (resize_to asked room) (cell_texts (drop column cells))) room)
           ∙ c.loop-column.invariant.texts;
       long = omega (arith, c.in_ok-push.ensures.len, c.loop-column.invariant.long);
     }

@@ -1,6 +1,8 @@
-use Rattle.std.proofs.Common.{◌≡◌, ◌+◌, ◌++◌, All, drop, length, map, sum, vec_items, vec_len}
+use Rattle.std.proofs.Common.{◌≡◌, ◌++◌, All, drop, length, map, vec_items, vec_len}
 use Rattle.std.specs.Cow.{cow_str_bytes}
+use Rattle.columns_table.specs.CellRows.{row_cells}
 use Rattle.columns_table.specs.Kept.{kept_row}
+use Rattle.columns_table.specs.Records.{IsMeasured}
 use Rattle.columns_table.specs.Rows.{cell_texts, cut, row_texts_of}
 use Rattle.columns_table.proofs.kept.kept_rows.Given as goal
 
@@ -8,8 +10,8 @@ use Rattle.columns_table.proofs.kept.kept_rows.Given as goal
 abbrev pub invariant-loop-count : goal.invariant-loop-count
 invariant-loop-count l = record {
   texts : map (λ row. map (λ cell. cow_str_bytes cell.text) (vec_items row)) l.kept.items
-      ++ map (kept_row l.asked l.beside l.widths) (map cell_texts (cut (drop l.count-index l.rows.counts.items) (drop l.start l.rows.cells.items)))
+      ++ map (kept_row l.asked l.beside l.widths) (map cell_texts (cut (drop l.count-index l.rows.counts.items) (row_cells l.rest)))
       ≡ map (kept_row l.asked l.beside l.widths) (row_texts_of l.rows);
-  left : l.start + sum (drop l.count-index l.rows.counts.items) ≡ length l.rows.cells.items;
+  measured : All IsMeasured (row_cells l.rest);
   long : All (λ row. vec_len row ≡ length l.widths) l.kept.items;
 }

@@ -5,4 +5,4 @@ use Rattle.columns_table.proofs.placed.PlacedRowsExactRecords.count_rows.Goals a
 pub returns : goal.returns
 returns c =
     let rows = c.args.self.now in
-    c.len.ensures ∙ rows.starts.ok.0 ∙ sym (length-placed rows.starts.items rows.cells.items)
+    c.len.ensures ∙ rows.starts.ok.0 ∙ sym (length-placed rows.starts.items rows.cells)

@@ -4,5 +4,5 @@ use Rattle.columns_table.proofs.placed.PlacedRowsPeekableRecords.count_lines.Goa
 pub returns : goal.returns
 returns c =
     let rows = c.args.self.now in
-    let one = one_line_each rows.starts.items rows.cells.items c.args._pos rows.measured in
+    let one = one_line_each rows.starts.items rows.cells c.args._pos rows.measured in
     one.1.0

@@ -7,12 +7,12 @@ use Rattle.columns_table.proofs.placed.PlacedRowsPeekableRecords.get_line.Goals 
 pub returns-then-line-gt0-clause-line : goal.returns-then-line-gt0-clause-line
 returns-then-line-gt0-clause-line c =
     let rows = c.args.self.now in
-    let one = one_line_each rows.starts.items rows.cells.items c.args.pos rows.measured in
-    no-line (text_at (placed_texts rows.starts.items rows.cells.items) c.args.pos) c.args.line (omega (arith, c.if-line-gt0.true)) one.1.2
+    let one = one_line_each rows.starts.items rows.cells c.args.pos rows.measured in
+    no-line (text_at (placed_texts rows.starts.items rows.cells) c.args.pos) c.args.line (omega (arith, c.if-line-gt0.true)) one.1.2
 
 pub returns-clause-line : goal.returns-clause-line
 returns-clause-line c =
     let rows = c.args.self.now in
-    let one = one_line_each rows.starts.items rows.cells.items c.args.pos rows.measured in
+    let one = one_line_each rows.starts.items rows.cells c.args.pos rows.measured in
     let first : c.args.line ≡ 0 = omega (arith, c.if-line-gt0.false) in
-    first-line (text_at (placed_texts rows.starts.items rows.cells.items) c.args.pos) c.get_text.result.now c.args.line first c.get_text.ensures one.1.2
+    first-line (text_at (placed_texts rows.starts.items rows.cells) c.args.pos) c.get_text.result.now c.args.line first c.get_text.ensures one.1.2

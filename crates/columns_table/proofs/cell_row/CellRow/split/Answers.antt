@@ -1,0 +1,14 @@
+use Rattle.std.proofs.Common.{◌≡◌, ◌-◌, length, take, refl, ap, ◌∙◌, arith}
+use Rattle.columns_table.specs.CellRows.{row_cells}
+use Rattle.columns_table.proofs.CellLemmas.{behind-cells}
+use Rattle.columns_table.proofs.cell_row.CellRow.split.Goals as goal
+
+pub returns-clause-first : goal.returns-clause-first
+returns-clause-first c =
+    let all : c.args.count - 0 ≡ c.args.count = omega arith in
+    c.new-first.ensures ∙ ap (λ n. take n (row_cells c.args.self)) all
+
+pub returns-clause-behind : goal.returns-clause-behind
+returns-clause-behind c =
+    let row = c.args.self in
+    c.new-behind.ensures ∙ behind-cells row.widths.now row.texts.now c.args.count (length row.texts.now) refl
