@@ -1,7 +1,8 @@
 //! What tables print whose first rows are read ahead, and how they are written.
+use Call::*;
 use grid_config::{CompactConfig, Fault};
 use std::alloc::{AllocError, Global};
-use std::test::Fail;
+use std::process::Abort;
 use tabled_iter::IterTable;
 use tabled_options::{Margin, Padding, Style};
 
@@ -10,11 +11,42 @@ mod refusing;
 mod rows;
 mod writing;
 
+// The proof of a function grows faster than its calls, and most of all with each `?`. So the helpers below
+// end a test where memory is refused, but for those that `tests/memory` needs, and like cases are rows.
+const MEMORY: &str = "memory is refused";
+
 /// Rows of texts.
-pub type Rows = Vec<Vec<&'static str>>;
+pub type Texts = Vec<Vec<&'static str>>;
+
+// What was found of a text.
+fn expect_text(rt: &impl Abort, found: &str, wanted: &str) {
+    assert_eq!(rt; found, wanted);
+}
+
+// What has to hold.
+fn expect(rt: &impl Abort, holds: bool, what: &str) {
+    assert!(rt; holds, "{what}");
+}
+
+// What a call returned.
+fn expect_done(rt: &impl Abort, found: Result<(), Fault>, wanted: Result<(), Fault>) {
+    assert_eq!(rt; found, wanted);
+}
+
+// That a call returned a text.
+fn expect_found(rt: &impl Abort, found: Result<String, Fault>, wanted: &str) {
+    let text = found.expect(rt, "a table is refused");
+    expect_text(rt, text.as_str(), wanted);
+}
+
+// That it was refused for want of memory.
+fn expect_refused(rt: &impl Abort, found: Result<String, Fault>) {
+    let is_refused = matches!(found, Err(Fault::Memory));
+    expect(rt, is_refused, "a table that lacks memory");
+}
 
 /// A table of these rows that no call has changed yet.
-pub fn table(alloc: Global, cells: &[&[&'static str]]) -> Result<IterTable<Rows>, AllocError> {
+pub fn table(alloc: Global, cells: &[&[&'static str]]) -> Result<IterTable<Texts>, AllocError> {
     let mut rows = Vec::new(alloc);
     for texts in cells {
         let mut row = Vec::new(alloc);
@@ -26,208 +58,209 @@ pub fn table(alloc: Global, cells: &[&[&'static str]]) -> Result<IterTable<Rows>
     Ok(IterTable::new(rows))
 }
 
-// What is set of a table.
+// A call that sets how much a table takes of its rows, or how large it is.
 #[derive(Clone, Copy)]
-struct Set {
-    columns: Option<usize>,
-    sniff: Option<usize>,
-    rows: Option<usize>,
-    width: Option<usize>,
-    height: Option<usize>,
+enum Call {
+    Columns(usize),
+    Sniff(usize),
+    Rows(usize),
+    Width(usize),
+    Height(usize),
 }
 
-const NONE: Set = Set {
-    columns: None,
-    sniff: None,
-    rows: None,
-    width: None,
-    height: None,
-};
-
-// Sets it.
-fn with_set(table: &mut IterTable<Rows>, set: Set) {
-    if let Some(count) = set.columns {
-        table.columns(count);
-    }
-    if let Some(count) = set.sniff {
-        table.sniff(count);
-    }
-    if let Some(count) = set.rows {
-        table.rows(count);
-    }
-    if let Some(size) = set.width {
-        table.width(size);
-    }
-    if let Some(size) = set.height {
-        table.height(size);
+fn set(table: &mut IterTable<Texts>, call: Call) {
+    match call {
+        Columns(count) => {
+            table.columns(count);
+        }
+        Sniff(count) => {
+            table.sniff(count);
+        }
+        Rows(count) => {
+            table.rows(count);
+        }
+        Width(size) => {
+            table.width(size);
+        }
+        Height(size) => {
+            table.height(size);
+        }
     }
 }
 
-// Whether a table has this text.
-fn prints(alloc: Global, cells: &[&[&'static str]], set: Set, text: &str) -> Result<bool, Fault> {
-    let mut table = table(alloc, cells)?;
-    with_set(&mut table, set);
-    Ok(table.to_string(alloc)?.as_str() == text)
+fn set_all(table: &mut IterTable<Texts>, calls: &[Call]) {
+    for call in calls {
+        set(table, *call);
+    }
 }
 
-const PAIRS: &[&[&str]] = &[&["First", "row"], &["Second", "row"]];
+// That a table has this text after these calls.
+fn prints(rt: &impl Abort, alloc: Global, cells: &[&[&'static str]], calls: &[Call], text: &str) {
+    let mut table = table(alloc, cells).expect(rt, MEMORY);
+    set_all(&mut table, calls);
+    expect_found(rt, table.to_string(alloc), text);
+}
+
+// The rows of a table.
+type Cells = &'static [&'static [&'static str]];
+
+const PAIRS: Cells = &[&["First", "row"], &["Second", "row"]];
+
+const RAGGED: Cells = &[&["a"], &["b", "c"], &["d", "e", "f"]];
+
+const LINES: Cells = &[&["a\nb"], &["c\nd"]];
+
+const LONGER: Cells = &[&["a"], &["bbbbbb"]];
+
+// Tables, what is set of them, and their texts.
+const PRINTED: &[(Cells, &[Call], &str)] = &[
+    // sniffed rows give the columns and their widths
+    (
+        PAIRS,
+        &[],
+        "+--------+-----+\n| First  | row |\n+--------+-----+\n| Second | row |\n+--------+-----+",
+    ),
+    (
+        PAIRS,
+        &[Sniff(1)],
+        "+-------+-----+\n| First | row |\n+-------+-----+\n| Secon | row |\n+-------+-----+",
+    ),
+    (PAIRS, &[Sniff(0)], ""),
+    (
+        PAIRS,
+        &[Columns(2), Sniff(0)],
+        "+--+--+\n|  |  |\n+--+--+\n|  |  |\n+--+--+",
+    ),
+    (
+        RAGGED,
+        &[Sniff(2)],
+        "+---+---+\n| a |   |\n+---+---+\n| b | c |\n+---+---+\n| d | e |\n+---+---+",
+    ),
+    // a width is set for all columns
+    (
+        PAIRS,
+        &[Columns(4), Width(5)],
+        "+-------+-------+-------+-------+\n| First | row   |       |       |\n+-------+-------+-------+-------+\n| Secon | row   |       |       |\n+-------+-------+-------+-------+",
+    ),
+    (&[&["a\nb"]], &[Width(3)], "+-----+\n| a   |\n+-----+"),
+    // a height is set, or is the one of a sniffed row
+    (
+        LINES,
+        &[Sniff(1)],
+        "+---+\n| a |\n| b |\n+---+\n| c |\n+---+",
+    ),
+    (&[&["a"]], &[Height(2)], "+---+\n| a |\n|   |\n+---+"),
+    (
+        LINES,
+        &[Width(2), Height(2)],
+        "+----+\n| a  |\n| b  |\n+----+\n| c  |\n| d  |\n+----+",
+    ),
+    // rows are kept and sniffed apart
+    (LONGER, &[Rows(1)], "+--------+\n| a      |\n+--------+"),
+    (LONGER, &[Rows(0)], ""),
+    (&[], &[], ""),
+    (&[&[]], &[], ""),
+    // all cells are cut at a width
+    (
+        PAIRS,
+        &[Width(1)],
+        "+---+---+\n| F | r |\n+---+---+\n| S | r |\n+---+---+",
+    ),
+    // only paddings have room without a width, and no line without a height
+    (
+        PAIRS,
+        &[Width(0)],
+        "+--+--+\n|  |  |\n+--+--+\n|  |  |\n+--+--+",
+    ),
+    (&[&["a\nb"]], &[Height(0)], "+---+\n+---+"),
+    // the thumb and its colour take two columns, though each alone takes two
+    (
+        &[&["ab"], &["👍🏿"]],
+        &[Sniff(1)],
+        "+----+\n| ab |\n+----+\n| 👍🏿 |\n+----+",
+    ),
+];
 
 #[test]
-fn sniffed_rows_give_the_columns_and_their_widths(rt: HostRuntime) -> Result<(), Fail> {
-    let a = rt.alloc();
-    let all =
-        "+--------+-----+\n| First  | row |\n+--------+-----+\n| Second | row |\n+--------+-----+";
-    assert!(&rt; prints(a, PAIRS, NONE, all)?);
-    let one = Set {
-        sniff: Some(1),
-        ..NONE
-    };
-    let cut = "+-------+-----+\n| First | row |\n+-------+-----+\n| Secon | row |\n+-------+-----+";
-    assert!(&rt; prints(a, PAIRS, one, cut)?);
-    let none = Set {
-        sniff: Some(0),
-        ..NONE
-    };
-    assert!(&rt; prints(a, PAIRS, none, "")?);
-    let two = Set {
-        columns: Some(2),
-        ..none
-    };
-    let paddings = "+--+--+\n|  |  |\n+--+--+\n|  |  |\n+--+--+";
-    assert!(&rt; prints(a, PAIRS, two, paddings)?);
-    let ragged: &[&[&str]] = &[&["a"], &["b", "c"], &["d", "e", "f"]];
-    let longest = Set {
-        sniff: Some(2),
-        ..NONE
-    };
-    let text = "+---+---+\n| a |   |\n+---+---+\n| b | c |\n+---+---+\n| d | e |\n+---+---+";
-    assert!(&rt; prints(a, ragged, longest, text)?);
-    Ok(())
+fn tables_print_what_is_set(rt: HostRuntime) {
+    for (cells, calls, text) in PRINTED {
+        prints(&rt, rt.alloc(), cells, calls, text);
+    }
 }
 
-#[test]
-fn a_width_is_set_for_all_columns(rt: HostRuntime) -> Result<(), Fail> {
-    let a = rt.alloc();
-    let set = Set {
-        columns: Some(4),
-        width: Some(5),
-        ..NONE
-    };
-    let text =
-        "+-------+-------+-------+-------+\n| First | row   |       |       |\n+-------+-------+-------+-------+\n| Secon | row   |       |       |\n+-------+-------+-------+-------+";
-    assert!(&rt; prints(a, PAIRS, set, text)?);
-    let lines: &[&[&str]] = &[&["a\nb"]];
-    let wide = Set {
-        width: Some(3),
-        ..NONE
-    };
-    assert!(&rt; prints(a, lines, wide, "+-----+\n| a   |\n+-----+")?);
-    Ok(())
-}
+// Spaces at the left, at the right, on top and below.
+type Spaces = (usize, usize, usize, usize);
 
-#[test]
-fn a_height_is_set_or_the_one_of_a_sniffed_row(rt: HostRuntime) -> Result<(), Fail> {
-    let a = rt.alloc();
-    let lines: &[&[&str]] = &[&["a\nb"], &["c\nd"]];
-    let one = Set {
-        sniff: Some(1),
-        ..NONE
-    };
-    let text = "+---+\n| a |\n| b |\n+---+\n| c |\n+---+";
-    assert!(&rt; prints(a, lines, one, text)?);
-    let high = Set {
-        height: Some(2),
-        ..NONE
-    };
-    let text = "+---+\n| a |\n|   |\n+---+";
-    assert!(&rt; prints(a, &[&["a"]], high, text)?);
-    let both = Set {
-        width: Some(2),
-        ..high
-    };
-    let text = "+----+\n| a  |\n| b  |\n+----+\n| c  |\n| d  |\n+----+";
-    assert!(&rt; prints(a, lines, both, text)?);
-    Ok(())
-}
+const MOST: usize = usize::MAX;
 
-#[test]
-fn rows_are_kept_and_sniffed_apart(rt: HostRuntime) -> Result<(), Fail> {
-    let a = rt.alloc();
-    let cells: &[&[&str]] = &[&["a"], &["bbbbbb"]];
-    let one = Set {
-        rows: Some(1),
-        ..NONE
-    };
-    assert!(&rt; prints(a, cells, one, "+--------+\n| a      |\n+--------+")?);
-    let none = Set {
-        rows: Some(0),
-        ..NONE
-    };
-    assert!(&rt; prints(a, cells, none, "")?);
-    assert!(&rt; prints(a, &[], NONE, "")?);
-    assert!(&rt; prints(a, &[&[]], NONE, "")?);
-    Ok(())
-}
+const LEFT: Spaces = (MOST, 1, 0, 0);
 
-// Whether a table with this padding at the left, or on top, is refused as `Range`, or what it is else.
-fn padded(
+const TOP: Spaces = (0, 0, MOST, 0);
+
+// Tables, what is set of them, their padding, and what `fmt` returns, which appends nothing.
+const PADDED: &[(Cells, &[Call], Spaces, Result<(), Fault>)] = &[
+    (PAIRS, &[], LEFT, Err(Fault::Range)),
+    (PAIRS, &[], TOP, Err(Fault::Range)),
+    (PAIRS, &[Rows(0)], LEFT, Ok(())),
+    (&[], &[], TOP, Ok(())),
+    (PAIRS, &[Width(MOST)], (0, 0, 0, 0), Err(Fault::Range)),
+];
+
+fn appends_nothing(
+    rt: &impl Abort,
     alloc: Global,
     cells: &[&[&'static str]],
-    set: Set,
-    padding: Padding,
-) -> Result<Result<bool, Fault>, Fault> {
-    let mut table = table(alloc, cells)?;
-    table.set(alloc, padding)?;
-    with_set(&mut table, set);
-    let mut text = String::from_str(alloc, "before")?;
+    calls: &[Call],
+    spaces: Spaces,
+    wanted: Result<(), Fault>,
+) {
+    let (left, right, top, bottom) = spaces;
+    let mut table = table(alloc, cells).expect(rt, MEMORY);
+    let padded = table.set(alloc, Padding::new(left, right, top, bottom));
+    expect_done(rt, padded, Ok(()));
+    set_all(&mut table, calls);
+    let mut text = String::from_str(alloc, "before").expect(rt, MEMORY);
     let answer = table.fmt(alloc, &mut text);
-    Ok(answer.map(|_done| text.as_str() == "before"))
+    expect_done(rt, answer, wanted);
+    expect_text(rt, text.as_str(), "before");
 }
 
 #[test]
-fn sizes_past_the_range_are_refused(rt: HostRuntime) -> Result<(), Fail> {
-    let a = rt.alloc();
-    let (most, cells) = (usize::MAX, PAIRS);
-    let left = || Padding::new(usize::MAX, 1, 0, 0);
-    assert!(&rt; padded(a, cells, NONE, left())? == Err(Fault::Range));
-    let top = || Padding::new(0, 0, usize::MAX, 0);
-    assert!(&rt; padded(a, cells, NONE, top())? == Err(Fault::Range));
-    let none = Set {
-        rows: Some(0),
-        ..NONE
-    };
-    assert!(&rt; padded(a, cells, none, left())? == Ok(true));
-    assert!(&rt; padded(a, &[], NONE, top())? == Ok(true));
-    let wide = Set {
-        width: Some(most),
-        ..NONE
-    };
-    assert!(&rt; padded(a, cells, wide, Padding::zero())? == Err(Fault::Range));
-    Ok(())
+fn sizes_past_the_range_are_refused(rt: HostRuntime) {
+    for (cells, calls, spaces, wanted) in PADDED {
+        appends_nothing(&rt, rt.alloc(), cells, calls, *spaces, *wanted);
+    }
 }
 
-// A table of one cell, changed by options.
-fn changed(alloc: Global) -> Result<bool, Fault> {
-    let mut table = table(alloc, &[&["a"]])?;
+fn chain(alloc: Global, table: &mut IterTable<Texts>) -> Result<(), Fault> {
     table
         .with(alloc, Style::modern())?
         .with(alloc, Padding::new(0, 1, 0, 1).fill('<', '>', '^', '_'))?
         .with(alloc, Margin::new(1, 0, 0, 0).fill('<', '>', '^', '_'))?;
-    Ok(table.to_string(alloc)?.as_str() == "<┌──┐\n<│a>│\n<│__│\n<└──┘")
+    Ok(())
 }
 
-fn bare(alloc: Global) -> Result<bool, Fault> {
-    let mut table = table(alloc, PAIRS)?;
-    table.set(alloc, CompactConfig::new())?;
-    let copy = table.clone()?;
-    let same = table == copy;
-    let first = table.to_string(alloc)?.as_str() == "First row\nSecondrow";
-    Ok(same && first && copy.to_string(alloc)?.as_str() == "First row\nSecondrow")
+fn change(rt: &impl Abort, alloc: Global) {
+    let mut table = table(alloc, &[&["a"]]).expect(rt, MEMORY);
+    let done = chain(alloc, &mut table);
+    expect_done(rt, done, Ok(()));
+    let text = "<┌──┐\n<│a>│\n<│__│\n<└──┘";
+    expect_found(rt, table.to_string(alloc), text);
+}
+
+fn change_all(rt: &impl Abort, alloc: Global) {
+    let mut table = table(alloc, PAIRS).expect(rt, MEMORY);
+    let done = table.set(alloc, CompactConfig::new());
+    expect_done(rt, done, Ok(()));
+    let copy = table.clone().expect(rt, MEMORY);
+    expect(rt, table == copy, "a copy");
+    let text = "First row\nSecondrow";
+    expect_found(rt, table.to_string(alloc), text);
+    expect_found(rt, copy.to_string(alloc), text);
 }
 
 #[test]
-fn options_change_settings(rt: HostRuntime) -> Result<(), Fail> {
-    assert!(&rt; changed(rt.alloc())?);
-    assert!(&rt; bare(rt.alloc())?);
-    Ok(())
+fn options_change_settings(rt: HostRuntime) {
+    change(&rt, rt.alloc());
+    change_all(&rt, rt.alloc());
 }

@@ -1,6 +1,7 @@
 //! Tables after lists of settings.
 use grid_config::{Fault, Indent, Sides};
 use std::alloc::{AllocError, Global};
+use std::process::Abort;
 use tabled::{Amount, Padding, Setting};
 use tabled_size_priority::Choice;
 
@@ -9,6 +10,20 @@ mod cuts;
 mod printed;
 mod refused;
 mod switches;
+
+// The proof of a function grows faster than its calls, and most of all with each `?`. So the helpers below
+// end a test where a call is refused, but for those that `tests/memory` needs, and a test has few calls.
+const MEMORY: &str = "memory is refused";
+
+// What has to hold.
+fn expect(rt: &impl Abort, holds: bool, what: &str) {
+    assert!(rt; holds, "{what}");
+}
+
+// What was found of a text.
+fn expect_text(rt: &impl Abort, found: &str, wanted: &str) {
+    assert_eq!(rt; found, wanted);
+}
 
 // Lets a value go that has many parts.
 fn let_go<T: Drop>(_value: T) {}

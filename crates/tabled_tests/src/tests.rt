@@ -7,7 +7,6 @@ use grid_records_rows::{Text, VecRecords};
 use grid_records_traits::records::PeekableRecords;
 use std::alloc::{AllocError, Global};
 use std::process::Abort;
-use std::test::Fail;
 use tabled::object::{Cell, Columns, Rows, Segment};
 use tabled::{Alignment, Builder, Margin, Padding, Span, Style, Table, TableOption};
 use tabled_options::PaddingExpand;
@@ -25,11 +24,30 @@ mod writing;
 
 use foreign::{Keeping, Refusing};
 
+// The proof of a function grows faster than its calls, and most of all with each `?`. So the helpers below
+// take what a call returned, end the test where it was refused, and let a table go in one place.
+const REFUSED: &str = "a call is refused";
+
 // Lets a value go that has many parts.
 fn let_go<T: Drop>(_value: T) {}
 
 fn at(row: usize, column: usize) -> Position {
     Position::new(row, column)
+}
+
+// What has to hold.
+fn expect(rt: &impl Abort, holds: bool, what: &str) {
+    assert!(rt; holds, "{what}");
+}
+
+// What was found of a text.
+fn expect_text(rt: &impl Abort, found: &str, wanted: &str) {
+    assert_eq!(rt; found, wanted);
+}
+
+// What a call returned.
+fn expect_done(rt: &impl Abort, found: Result<(), Fault>, wanted: Result<(), Fault>, what: &str) {
+    assert_eq!(rt; found, wanted, "{what}");
 }
 
 // The texts of a table, each after a `|`, and each row ended by a `;`.
@@ -45,57 +63,56 @@ fn texts(alloc: Global, table: &Table) -> Result<String, AllocError> {
     Ok(all)
 }
 
-// Whether the table has `rows` rows and `columns` columns, and these texts.
-fn shows(
-    alloc: Global,
-    table: &Table,
-    rows: usize,
-    columns: usize,
-    wanted: &str,
-) -> Result<bool, AllocError> {
-    let counted = table.shape() == (rows, columns);
-    let emptied = table.is_empty() == (rows == 0 || columns == 0);
-    Ok(counted && emptied && texts(alloc, table)?.as_str() == wanted)
+fn expect_shape(rt: &impl Abort, table: &Table, rows: usize, columns: usize, what: &str) {
+    expect(rt, table.shape() == (rows, columns), what);
+    let is_empty = rows == 0 || columns == 0;
+    expect(rt, table.is_empty() == is_empty, what);
 }
 
-fn holds(
+// That the table was made, has `rows` rows and `columns` columns, and these texts.
+fn expect_texts(
+    rt: &impl Abort,
     alloc: Global,
-    table: Table,
+    made: Result<Table, Fault>,
     rows: usize,
     columns: usize,
     wanted: &str,
-) -> Result<bool, AllocError> {
-    let shown = shows(alloc, &table, rows, columns, wanted);
+) {
+    let table = made.expect(rt, REFUSED);
+    expect_shape(rt, &table, rows, columns, wanted);
+    let found = texts(alloc, &table).expect(rt, REFUSED);
     let_go(table);
-    shown
+    expect_text(rt, found.as_str(), wanted);
+}
+
+fn make(rt: &impl Abort, a: Global) {
+    expect_texts(rt, a, Ok(Table::default(a)), 0, 0, "");
+    expect_texts(rt, a, Table::new(a, ["x"]), 2, 1, "|&str;|x;");
+    let reserved = Table::with_capacity(a, ["x"], 1);
+    expect_texts(rt, a, reserved, 2, 1, "|&str;|x;");
+    let pairs = Table::nohead(a, [("a", 1u8), ("b", 2u8)]);
+    expect_texts(rt, a, pairs, 2, 2, "|a|1;|b|2;");
+}
+
+fn make_by_builders(rt: &impl Abort, a: Global) {
+    let builder = Table::builder(a, ["x"]).expect(rt, REFUSED);
+    let built = Table::from_builder(builder);
+    expect_texts(rt, a, built, 2, 1, "|&str;|x;");
+    let mut builder = Builder::new(a);
+    builder.push_record(["a", "b"]).expect(rt, REFUSED);
+    builder.push_record(["c"]).expect(rt, REFUSED);
+    let built = Table::from_builder(builder);
+    expect_texts(rt, a, built, 2, 2, "|a|b;|c|;");
 }
 
 #[test]
-fn makers_give_the_rows_of_their_source(rt: HostRuntime) -> Result<(), Fail> {
-    let a = rt.alloc();
-    assert!(&rt; holds(a, Table::default(a), 0, 0, "")?);
-    assert!(&rt; holds(a, Table::new(a, ["x"])?, 2, 1, "|&str;|x;")?);
-    assert!(&rt; holds(a, Table::with_capacity(a, ["x"], 1)?, 2, 1, "|&str;|x;")?);
-    assert!(&rt;
-        holds(
-            a,
-            Table::nohead(a, [("a", 1u8), ("b", 2u8)])?,
-            2,
-            2,
-            "|a|1;|b|2;"
-        )?
-    );
-    let built = Table::from_builder(Table::builder(a, ["x"])?)?;
-    assert!(&rt; holds(a, built, 2, 1, "|&str;|x;")?);
-    let mut builder = Builder::new(a);
-    builder.push_record(["a", "b"])?;
-    builder.push_record(["c"])?;
-    assert!(&rt; holds(a, Table::from_builder(builder)?, 2, 2, "|a|b;|c|;")?);
-    Ok(())
+fn makers_give_the_rows_of_their_source(rt: HostRuntime) {
+    make(&rt, rt.alloc());
+    make_by_builders(&rt, rt.alloc());
 }
 
 // Whether the table looks as one that no option has changed yet: ASCII, a column of padding, no sizes.
-fn is_new(table: Table) -> bool {
+fn is_new(table: &Table) -> bool {
     let config = table.get_config();
     let borders = *config.spanned().get_borders() == Style::ascii().get_borders();
     let padding = Sides::from(Padding::new(1, 1, 0, 0));
@@ -103,26 +120,32 @@ fn is_new(table: Table) -> bool {
     let margin = *config.spanned().get_margin() == Sides::filled(Indent::zero());
     let colorless = config.get_colors().get_color(at(0, 0)).is_none();
     let unsized_yet = table.get_dimension().is_empty();
-    let_go(table);
     borders && padded && margin && colorless && unsized_yet
 }
 
-// Whether an option sets such a padding, or margin, or borders.
+// A table of two rows of two texts.
+fn square(rt: &impl Abort, alloc: Global) -> Table {
+    Table::nohead(alloc, [("a", "b"), ("c", "d")]).expect(rt, REFUSED)
+}
+
+// That an option sets such a padding, or margin, or borders.
 fn sets<O: TableOption<VecRecords<Text>, ColoredConfig, CompleteDimension>>(
+    rt: &impl Abort,
     alloc: Global,
     option: O,
     told: fn(&Table) -> bool,
-) -> Result<bool, Fault>
+    what: &str,
+)
 where
     O: Drop,
     requires { IsAlwaysCallable told }
 {
-    let mut table = Table::nohead(alloc, [("a", "b"), ("c", "d")])?;
+    let mut table = square(rt, alloc);
     let done = table.set(option);
     let answer = told(&table);
     let_go(table);
-    done?;
-    Ok(answer)
+    expect_done(rt, done, Ok(()), what);
+    expect(rt, answer, what);
 }
 
 // Whether a table has a margin of four sizes and fills.
@@ -137,81 +160,108 @@ fn has_margin(table: &Table) -> bool {
         )
 }
 
-#[test]
-fn options_set_what_their_values_say(rt: HostRuntime) -> Result<(), Fail> {
-    let a = rt.alloc();
-    assert!(&rt; is_new(Table::nohead(a, ["x"])?));
-    let margin = Margin::new(1, 2, 3, 4).fill('<', '>', '^', '_');
-    assert!(&rt; sets(a, margin.clone()?, has_margin)?);
-    assert!(&rt; sets(a, margin, has_margin)?);
-    let padding = Padding::new(4, 3, 2, 1).fill('<', '>', '^', '_');
-    assert!(&rt;
-        sets(a, padding, |table| {
-            let padding = *table.get_config().spanned().get_padding(at(1, 1));
-            padding
-                == Sides::new(
-                    Indent::new(4, '<'),
-                    Indent::new(3, '>'),
-                    Indent::new(2, '^'),
-                    Indent::new(1, '_')
-                )
-        })?
-    );
-    assert!(&rt;
-        sets(a, Style::modern(), |table| {
-            let borders = *table.get_config().spanned().get_borders();
-            borders.top_intersection == Some('┬') && borders.bottom_right == Some('┘')
-        })?
-    );
-    assert!(&rt;
-        sets(a, Style::extended(), |table| {
-            let borders = *table.get_config().spanned().get_borders();
-            borders.intersection == Some('╬') && borders.left_intersection == Some('╠')
-        })?
-    );
-    assert!(&rt;
-        sets(a, Style::empty(), |table| {
-            !table.get_config().spanned().get_borders().has_left()
-        })?
-    );
-    Ok(())
+// The same of a padding.
+fn has_padding(table: &Table) -> bool {
+    let padding = *table.get_config().spanned().get_padding(at(1, 1));
+    padding
+        == Sides::new(
+            Indent::new(4, '<'),
+            Indent::new(3, '>'),
+            Indent::new(2, '^'),
+            Indent::new(1, '_'),
+        )
 }
 
-// Where texts stand in a cell once one alignment was set after another.
-fn stand(
-    alloc: Global,
-    before: Alignment,
-    option: Alignment,
-) -> Result<(AlignmentHorizontal, AlignmentVertical), Fault> {
-    let mut table = Table::nohead(alloc, [("a", "b"), ("c", "d")])?;
-    let begun = table.set(before);
-    let done = table.set(option);
+fn is_modern(table: &Table) -> bool {
+    let borders = *table.get_config().spanned().get_borders();
+    borders.top_intersection == Some('┬') && borders.bottom_right == Some('┘')
+}
+
+fn is_extended(table: &Table) -> bool {
+    let borders = *table.get_config().spanned().get_borders();
+    borders.intersection == Some('╬') && borders.left_intersection == Some('╠')
+}
+
+fn has_no_left(table: &Table) -> bool {
+    !table.get_config().spanned().get_borders().has_left()
+}
+
+fn set_spaces(rt: &impl Abort, a: Global) {
+    let margin = Margin::new(1, 2, 3, 4).fill('<', '>', '^', '_');
+    let copy = margin.clone().expect(rt, REFUSED);
+    sets(rt, a, copy, has_margin, "a copy of a margin");
+    sets(rt, a, margin, has_margin, "a margin");
+    let padding = Padding::new(4, 3, 2, 1).fill('<', '>', '^', '_');
+    sets(rt, a, padding, has_padding, "a padding");
+}
+
+fn set_styles(rt: &impl Abort, a: Global) {
+    sets(rt, a, Style::modern(), is_modern, "modern");
+    sets(rt, a, Style::extended(), is_extended, "extended");
+    sets(rt, a, Style::empty(), has_no_left, "empty");
+}
+
+#[test]
+fn options_set_what_their_values_say(rt: HostRuntime) {
+    let table = Table::nohead(rt.alloc(), ["x"]).expect(&rt, REFUSED);
+    let answer = is_new(&table);
+    let_go(table);
+    expect(&rt, answer, "a new table");
+    set_spaces(&rt, rt.alloc());
+    set_styles(&rt, rt.alloc());
+}
+
+// Where texts stand in a cell.
+type Places = (AlignmentHorizontal, AlignmentVertical);
+
+fn places_of(table: &Table) -> Places {
     let config = table.get_config().spanned();
-    let places = (
+    (
         config.get_alignment_horizontal(at(1, 0)),
         config.get_alignment_vertical(at(1, 0)),
-    );
+    )
+}
+
+fn expect_places(rt: &impl Abort, found: Places, wanted: Places) {
+    assert_eq!(rt; found, wanted);
+}
+
+// That texts stand there once one alignment was set after another.
+fn stand(rt: &impl Abort, alloc: Global, before: Alignment, option: Alignment, wanted: Places) {
+    let mut table = square(rt, alloc);
+    let begun = table.set(before);
+    let done = table.set(option);
+    let places = places_of(&table);
     let_go(table);
-    begun?;
-    done?;
-    Ok(places)
+    expect_done(rt, begun, Ok(()), "the first alignment");
+    expect_done(rt, done, Ok(()), "the second alignment");
+    expect_places(rt, places, wanted);
+}
+
+fn align_across(rt: &impl Abort, a: Global) {
+    let right = Alignment::right();
+    let left = (AlignmentHorizontal::Left, AlignmentVertical::Top);
+    stand(rt, a, right, Alignment::left(), left);
+    let center = (AlignmentHorizontal::Center, AlignmentVertical::Top);
+    stand(rt, a, right, Alignment::center(), center);
+    let at_right = (AlignmentHorizontal::Right, AlignmentVertical::Bottom);
+    stand(rt, a, right, Alignment::bottom(), at_right);
+}
+
+fn align_down(rt: &impl Abort, a: Global) {
+    let bottom = Alignment::bottom();
+    let at_right = (AlignmentHorizontal::Right, AlignmentVertical::Bottom);
+    stand(rt, a, bottom, Alignment::right(), at_right);
+    let top = (AlignmentHorizontal::Left, AlignmentVertical::Top);
+    stand(rt, a, bottom, Alignment::top(), top);
+    let middle = (AlignmentHorizontal::Left, AlignmentVertical::Center);
+    stand(rt, a, bottom, Alignment::center_vertical(), middle);
 }
 
 #[test]
-fn alignments_set_where_texts_stand(rt: HostRuntime) -> Result<(), Fail> {
-    let a = rt.alloc();
-    let (right, bottom) = (Alignment::right(), Alignment::bottom());
-    let left = (AlignmentHorizontal::Left, AlignmentVertical::Top);
-    assert!(&rt; stand(a, right, Alignment::left())? == left);
-    let center = (AlignmentHorizontal::Center, AlignmentVertical::Top);
-    assert!(&rt; stand(a, right, Alignment::center())? == center);
-    let at_right = (AlignmentHorizontal::Right, AlignmentVertical::Bottom);
-    assert!(&rt; stand(a, right, bottom)? == at_right);
-    assert!(&rt; stand(a, bottom, right)? == at_right);
-    assert!(&rt; stand(a, bottom, Alignment::top())? == left);
-    let middle = (AlignmentHorizontal::Left, AlignmentVertical::Center);
-    assert!(&rt; stand(a, bottom, Alignment::center_vertical())? == middle);
-    Ok(())
+fn alignments_set_where_texts_stand(rt: HostRuntime) {
+    align_across(&rt, rt.alloc());
+    align_down(&rt, rt.alloc());
 }
 
 // Settings of light lines.
@@ -227,130 +277,183 @@ fn has_light_lines(table: &Table) -> bool {
     borders == Style::modern().get_borders()
 }
 
-// Whether settings that are lent give a table light lines.
-fn lends_light_lines(alloc: Global) -> Result<bool, Fault> {
+// Settings that are lent give a table light lines.
+fn lend_light_lines(rt: &impl Abort, alloc: Global) {
     let config = lined(alloc);
-    let answer = sets(alloc, &config, has_light_lines);
+    sets(rt, alloc, &config, has_light_lines, "lent");
     let_go(config);
-    answer
 }
 
 #[test]
-fn settings_are_options(rt: HostRuntime) -> Result<(), Fail> {
+fn settings_are_options(rt: HostRuntime) {
     let a = rt.alloc();
     let plain = CompactConfig::new().set_borders(Style::modern().get_borders());
-    assert!(&rt; sets(a, plain, has_light_lines)?);
-    assert!(&rt; sets(a, lined(a), has_light_lines)?);
-    assert!(&rt; lends_light_lines(a)?);
-    assert!(&rt; sets(a, ColoredConfig::new(lined(a)), has_light_lines)?);
-    assert!(&rt; matches!(Padding::expand(true), PaddingExpand::Horizontal));
-    assert!(&rt; matches!(Padding::expand(false), PaddingExpand::Vertical));
-    Ok(())
+    sets(&rt, a, plain, has_light_lines, "compact");
+    sets(&rt, a, lined(a), has_light_lines, "spanned");
+    lend_light_lines(&rt, a);
+    let colored = ColoredConfig::new(lined(a));
+    sets(&rt, a, colored, has_light_lines, "colored");
+    let wide = matches!(Padding::expand(true), PaddingExpand::Horizontal);
+    let high = matches!(Padding::expand(false), PaddingExpand::Vertical);
+    expect(&rt, wide && high, "what a padding expands");
 }
 
-// How many rows and columns the first cell takes, once it was given a span.
-fn spanned(alloc: Global, span: Span) -> Result<(Option<usize>, Option<usize>), Fault> {
-    let mut table = Table::nohead(alloc, [("a", "b"), ("c", "d")])?;
-    let done = table.set_cells(Cell::new(0, 0), &span);
+// How many rows and columns a cell takes.
+type Extent = (Option<usize>, Option<usize>);
+
+fn extent_of(table: &Table) -> Extent {
     let config = table.get_config().spanned();
-    let taken = (
+    (
         config.get_row_span(at(0, 0)),
         config.get_column_span(at(0, 0)),
-    );
+    )
+}
+
+// That the first cell takes so many, once it was given a span.
+fn expect_extent(rt: &impl Abort, alloc: Global, span: Span, wanted: Extent) {
+    let mut table = square(rt, alloc);
+    let done = table.set_cells(Cell::new(0, 0), &span);
+    let taken = extent_of(&table);
     let_go(table);
-    done?;
-    Ok(taken)
+    expect_done(rt, done, Ok(()), "a span");
+    assert_eq!(rt; taken, wanted);
 }
 
 #[test]
-fn a_cell_takes_rows_or_columns(rt: HostRuntime) -> Result<(), Fail> {
-    let a = rt.alloc();
-    assert!(&rt; spanned(a, Span::row(2))? == (Some(2), None));
-    assert!(&rt; spanned(a, Span::column(2))? == (None, Some(2)));
-    Ok(())
+fn a_cell_takes_rows_or_columns(rt: HostRuntime) {
+    expect_extent(&rt, rt.alloc(), Span::row(2), (Some(2), None));
+    expect_extent(&rt, rt.alloc(), Span::column(2), (None, Some(2)));
 }
 
-// Whether a table whose sizes were kept, and which then had the option, has these kept still.
+// That a table whose sizes were kept has these still, or has not, once the option was set.
 fn keeps<O: TableOption<VecRecords<Text>, ColoredConfig, CompleteDimension> + Drop>(
+    rt: &impl Abort,
     alloc: Global,
     option: O,
-) -> Result<(Result<(), Fault>, bool), Fault> {
-    let mut table = Table::nohead(alloc, ["a"])?;
+    wanted: Result<(), Fault>,
+    is_kept: bool,
+    what: &str,
+) {
+    let mut table = Table::nohead(alloc, ["a"]).expect(rt, REFUSED);
     table.get_dimension_mut().set_widths(Vec::new(alloc));
     let done = table.set(option);
     let kept = !table.get_dimension().is_empty();
     let_go(table);
-    Ok((done, kept))
+    expect_done(rt, done, wanted, what);
+    expect(rt, kept == is_kept, what);
+}
+
+// That it has not.
+fn clears<O: TableOption<VecRecords<Text>, ColoredConfig, CompleteDimension> + Drop>(
+    rt: &impl Abort,
+    alloc: Global,
+    option: O,
+    what: &str,
+) {
+    keeps(rt, alloc, option, Ok(()), false, what);
 }
 
 // The same of settings that are lent.
-fn lent_keeps(alloc: Global) -> Result<(Result<(), Fault>, bool), Fault> {
+fn lent_clears(rt: &impl Abort, alloc: Global) {
     let config = SpannedConfig::new(alloc);
-    let answer = keeps(alloc, &config);
+    clears(rt, alloc, &config, "lent settings");
     let_go(config);
-    answer
+}
+
+fn options_clear(rt: &impl Abort, a: Global) {
+    clears(rt, a, Padding::zero(), "a padding");
+    clears(rt, a, Margin::new(0, 0, 0, 0), "a margin");
+    clears(rt, a, Style::ascii(), "a style");
+    clears(rt, a, Alignment::left(), "an alignment");
+}
+
+fn settings_clear(rt: &impl Abort, a: Global) {
+    clears(rt, a, CompactConfig::new(), "compact settings");
+    clears(rt, a, SpannedConfig::new(a), "spanned settings");
+    lent_clears(rt, a);
+    let colored = ColoredConfig::new(SpannedConfig::new(a));
+    clears(rt, a, colored, "colored settings");
 }
 
 #[test]
-fn a_hint_clears_what_it_names(rt: HostRuntime) -> Result<(), Fail> {
-    let a = rt.alloc();
-    assert!(&rt; keeps(a, Keeping)? == (Ok(()), true));
-    assert!(&rt; keeps(a, Refusing)? == (Err(Fault::Range), true));
-    assert!(&rt; keeps(a, Padding::zero())? == (Ok(()), false));
-    assert!(&rt; keeps(a, Margin::new(0, 0, 0, 0))? == (Ok(()), false));
-    assert!(&rt; keeps(a, Style::ascii())? == (Ok(()), false));
-    assert!(&rt; keeps(a, Alignment::left())? == (Ok(()), false));
-    assert!(&rt; keeps(a, CompactConfig::new())? == (Ok(()), false));
-    assert!(&rt; keeps(a, SpannedConfig::new(a))? == (Ok(()), false));
-    assert!(&rt; lent_keeps(a)? == (Ok(()), false));
-    assert!(&rt; keeps(a, ColoredConfig::new(SpannedConfig::new(a)))? == (Ok(()), false));
-    Ok(())
+fn a_hint_clears_what_it_names(rt: HostRuntime) {
+    keeps(&rt, rt.alloc(), Keeping, Ok(()), true, "no hint");
+    let range = Err(Fault::Range);
+    keeps(&rt, rt.alloc(), Refusing, range, true, "a refusal");
+    options_clear(&rt, rt.alloc());
+    settings_clear(&rt, rt.alloc());
 }
 
-// Where texts stand in the first two cells of the first row, once those of the target are at the right.
-fn aligned(
-    alloc: Global,
-    target: Entity,
-) -> Result<(AlignmentHorizontal, AlignmentHorizontal), Fault> {
-    let mut table = Table::nohead(alloc, [("a", "b")])?;
-    let done = table.set_cells(target, &Alignment::right());
+// Where texts stand in the first two cells of the first row.
+type Pair = (AlignmentHorizontal, AlignmentHorizontal);
+
+fn first_two(table: &Table) -> Pair {
     let config = table.get_config().spanned();
     let first = config.get_alignment_horizontal(at(0, 0));
-    let second = config.get_alignment_horizontal(at(0, 1));
+    (first, config.get_alignment_horizontal(at(0, 1)))
+}
+
+// That they stand there, once those of the target are at the right.
+fn expect_aligned(rt: &impl Abort, alloc: Global, target: Entity, wanted: Pair) {
+    let mut table = Table::nohead(alloc, [("a", "b")]).expect(rt, REFUSED);
+    let done = table.set_cells(target, &Alignment::right());
+    let found = first_two(&table);
     let_go(table);
-    done?;
-    Ok((first, second))
+    expect_done(rt, done, Ok(()), "an alignment");
+    assert_eq!(rt; found, wanted);
 }
 
 #[test]
-fn a_target_is_changed_alone(rt: HostRuntime) -> Result<(), Fail> {
-    let a = rt.alloc();
+fn a_target_is_changed_alone(rt: HostRuntime) {
     let (left, right) = (AlignmentHorizontal::Left, AlignmentHorizontal::Right);
-    assert!(&rt; aligned(a, Segment::all())? == (right, right));
-    assert!(&rt; aligned(a, Columns::first())? == (right, left));
-    assert!(&rt; aligned(a, Columns::one(1))? == (left, right));
-    assert!(&rt; aligned(a, Rows::first())? == (right, right));
-    assert!(&rt; aligned(a, Rows::one(1))? == (left, left));
-    assert!(&rt; aligned(a, Cell::new(0, 1))? == (left, right));
-    Ok(())
+    let targets = [
+        (Segment::all(), (right, right)),
+        (Columns::first(), (right, left)),
+        (Columns::one(1), (left, right)),
+        (Rows::first(), (right, right)),
+        (Rows::one(1), (left, left)),
+        (Cell::new(0, 1), (left, right)),
+    ];
+    for (target, wanted) in targets {
+        expect_aligned(&rt, rt.alloc(), target, wanted);
+    }
 }
 
-// Whether the table prints this text.
-fn prints(table: Table, text: &str) -> Result<bool, Fault> {
+// That the table was made, fits, and prints this text.
+fn prints(rt: &impl Abort, made: Result<Table, Fault>, text: &str) {
+    let table = made.expect(rt, REFUSED);
+    expect_picture(rt, &table, text);
+    let_go(table);
+}
+
+fn expect_picture(rt: &impl Abort, table: &Table, text: &str) {
+    expect_done(rt, table.fits(), Ok(()), text);
+    let printed = table.to_string().expect(rt, REFUSED);
+    expect_text(rt, printed.as_str(), text);
+}
+
+// That it was made, and neither fits nor prints.
+fn refuses(rt: &impl Abort, made: Result<Table, Fault>, fault: Fault) {
+    let table = made.expect(rt, REFUSED);
     let fit = table.fits();
     let printed = table.to_string();
     let_go(table);
-    fit?;
-    Ok(printed?.as_str() == text)
+    expect_done(rt, fit, Err(fault), "whether it fits");
+    expect(rt, printed.is_err(), "what it prints");
 }
 
-// A table of one cell, with its padding, or with a kept width.
+// A table of one cell with this padding.
 fn padded(alloc: Global, padding: Padding) -> Result<Table, Fault> {
     let mut table = Table::nohead(alloc, ["a"])?;
     let done = table.set_cells(Cell::new(0, 0), &padding);
-    if done.is_err() {
+    kept(table, done)
+}
+
+// The table, where the option was accepted.
+fn kept(table: Table, done: Result<(), Fault>) -> Result<Table, Fault> {
+    if let Err(fault) = done {
         let_go(table);
-        return Err(Fault::Memory);
+        return Err(fault);
     }
     Ok(table)
 }
@@ -361,6 +464,7 @@ fn one(alloc: Global, width: usize) -> Result<Vec<usize>, AllocError> {
     Ok(widths)
 }
 
+// A table of one cell with a kept width.
 fn narrow(alloc: Global, text: &str, width: usize) -> Result<Table, Fault> {
     let widths = one(alloc, width)?;
     let mut table = Table::nohead(alloc, [text])?;
@@ -369,16 +473,15 @@ fn narrow(alloc: Global, text: &str, width: usize) -> Result<Table, Fault> {
 }
 
 #[test]
-fn a_table_prints_what_it_is(rt: HostRuntime) -> Result<(), Fail> {
+fn a_table_prints_what_it_is(rt: HostRuntime) {
     let a = rt.alloc();
-    assert!(&rt; prints(Table::default(a), "")?);
-    assert!(&rt; prints(Table::nohead(a, ["a"])?, "+---+\n| a |\n+---+")?);
-    let new = Table::new(a, ["x"])?;
-    assert!(&rt; prints(new, "+------+\n| &str |\n+------+\n| x    |\n+------+")?);
-    let padding = padded(a, Padding::new(1, 1, 1, 0))?;
-    assert!(&rt; prints(padding, "+---+\n|   |\n| a |\n+---+")?);
-    assert!(&rt; prints(narrow(a, "a", 5)?, "+-----+\n| a   |\n+-----+")?);
+    prints(&rt, Ok(Table::default(a)), "");
+    prints(&rt, Table::nohead(a, ["a"]), "+---+\n| a |\n+---+");
+    let text = "+------+\n| &str |\n+------+\n| x    |\n+------+";
+    prints(&rt, Table::new(a, ["x"]), text);
+    let padding = padded(a, Padding::new(1, 1, 1, 0));
+    prints(&rt, padding, "+---+\n|   |\n| a |\n+---+");
+    prints(&rt, narrow(a, "a", 5), "+-----+\n| a   |\n+-----+");
     let room = Fault::Room { row: 0, column: 0 };
-    assert!(&rt; matches!(prints(narrow(a, "Hello", 2)?, ""), Err(fault) if fault == room));
-    Ok(())
+    refuses(&rt, narrow(a, "Hello", 2), room);
 }

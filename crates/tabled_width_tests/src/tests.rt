@@ -4,12 +4,25 @@ use grid_records_rows::{Text, VecRecords, are_equally_long};
 use grid_records_traits::records::{ExactRecords, PeekableRecords, RecordColumns};
 use std::alloc::{AllocError, Global};
 use std::process::Abort;
-use std::test::Fail;
 use tabled_options::Style;
 use tabled_size_dimension::{CompleteDimension, SuffixLimit};
 use tabled_size_priority::PriorityMax;
 use tabled_steps::{CellOption, Max, Measurement, Min, Percent, TableOption};
 use tabled_width::{Justify, MinWidth, Truncate, Width, WidthList, Wrap};
+
+// The proof of a function grows faster than its calls, and most of all with each `?`. So the helpers below
+// end a test where memory is refused, and a test has few calls.
+const MEMORY: &str = "memory is refused";
+
+// What has to hold.
+fn expect(rt: &impl Abort, holds: bool, what: &str) {
+    assert!(rt; holds, "{what}");
+}
+
+// What was found of a text.
+fn expect_text(rt: &impl Abort, found: &str, wanted: &str) {
+    assert_eq!(rt; found, wanted);
+}
 
 // A table: its rows, its settings, and the sizes that it keeps.
 #[derive(Drop)]
@@ -54,13 +67,13 @@ fn ascii(alloc: Global) -> ColoredConfig {
 }
 
 // These rows in that style.
-fn ascii_sheet(alloc: Global, shown: &str) -> Result<Sheet, Fault> {
-    let records = rows_of(alloc, shown)?;
-    Ok(Sheet {
+fn ascii_sheet(rt: &impl Abort, alloc: Global, shown: &str) -> Sheet {
+    let records = rows_of(alloc, shown).expect(rt, MEMORY);
+    Sheet {
         records,
         cfg: ascii(alloc),
         dims: CompleteDimension::default(),
-    })
+    }
 }
 
 // Its rows as they were given, then its widths and its heights, each after a `;`, and `-` where none are kept.
@@ -102,279 +115,261 @@ fn push_sizes(out: &mut String, sizes: Option<&[usize]>) -> Result<(), AllocErro
     Ok(())
 }
 
-// What a table is after an option of it, and what it is after one that is refused.
-fn changed<O: TableOption<VecRecords<Text>, ColoredConfig, CompleteDimension>>(
+// Ends with a table after a change of it, which is as it is shown here.
+fn expect_changed(
+    rt: &impl Abort,
     alloc: Global,
-    sheet: &mut Sheet,
-    option: O,
-) -> Result<String, Fault> {
-    option.change(alloc, &mut sheet.records, &mut sheet.cfg, &mut sheet.dims)?;
-    Ok(shown(alloc, sheet)?)
+    sheet: Sheet,
+    done: Result<(), Fault>,
+    wanted: &str,
+) {
+    let found = shown(alloc, &sheet);
+    let_go(sheet);
+    done.expect(rt, "a change is refused");
+    let found = found.expect(rt, MEMORY);
+    expect_text(rt, found.as_str(), wanted);
 }
 
+// Ends with a table after a change that is refused, which is as it was before, with no sizes kept.
+fn expect_refused(
+    rt: &impl Abort,
+    alloc: Global,
+    sheet: Sheet,
+    done: Result<(), Fault>,
+    fault: Fault,
+    before: &str,
+) {
+    let found = shown(alloc, &sheet);
+    let_go(sheet);
+    assert_eq!(rt; done, Err(fault));
+    let found = found.expect(rt, MEMORY);
+    let rows = found.as_str().strip_suffix(";-;-");
+    expect_text(rt, rows.unwrap_or("sizes are kept"), before);
+}
+
+// What a table is after an option of it.
 fn becomes<O: TableOption<VecRecords<Text>, ColoredConfig, CompleteDimension>>(
+    rt: &impl Abort,
     alloc: Global,
     before: &str,
     option: O,
     after: &str,
-) -> Result<bool, Fault>
+)
 where
     O: Drop,
 {
-    let mut sheet = ascii_sheet(alloc, before)?;
-    let done = changed(alloc, &mut sheet, option);
-    let_go(sheet);
-    Ok(done?.as_str() == after)
+    let mut sheet = ascii_sheet(rt, alloc, before);
+    let done = option.change(alloc, &mut sheet.records, &mut sheet.cfg, &mut sheet.dims);
+    expect_changed(rt, alloc, sheet, done, after);
 }
 
-fn cells_changed<O: CellOption<VecRecords<Text>, ColoredConfig>>(
-    alloc: Global,
-    sheet: &mut Sheet,
-    at: Entity,
-    option: &O,
-) -> Result<String, Fault> {
-    option.change(alloc, &mut sheet.records, &mut sheet.cfg, at)?;
-    Ok(shown(alloc, sheet)?)
-}
-
-// The same of an option of the cells that the entity covers.
+// The same of an option of the cells that the entity covers, which keeps no sizes.
 fn cells_become<O: CellOption<VecRecords<Text>, ColoredConfig>>(
+    rt: &impl Abort,
     alloc: Global,
     before: &str,
     at: Entity,
     option: &O,
     after: &str,
-) -> Result<bool, Fault> {
-    let mut sheet = ascii_sheet(alloc, before)?;
-    let done = cells_changed(alloc, &mut sheet, at, option);
+) {
+    let mut sheet = ascii_sheet(rt, alloc, before);
+    let done = option.change(alloc, &mut sheet.records, &mut sheet.cfg, at);
+    let found = shown(alloc, &sheet);
     let_go(sheet);
-    Ok(done?.as_str().strip_suffix(";-;-") == Some(after))
+    done.expect(rt, "a change is refused");
+    let found = found.expect(rt, MEMORY);
+    let rows = found.as_str().strip_suffix(";-;-");
+    expect_text(rt, rows.unwrap_or("sizes are kept"), after);
 }
 
 const ALL: Entity = Entity::Global;
 
-#[test]
-fn cells_are_cut_with_their_suffix(rt: HostRuntime) -> Result<(), Fail> {
-    let a = rt.alloc();
-    let dots = Truncate::new(4).suffix("...");
-    assert!(&rt; cells_become(a, "Hello", ALL, &dots, "H...")?);
-    assert!(&rt; cells_become(a, "Hello", ALL, &Truncate::new(3).suffix("..."), "...")?);
-    assert!(&rt; cells_become(a, "Hello", ALL, &Truncate::new(2).suffix("..."), "..")?);
-    let left_out = Truncate::new(2)
-        .suffix("...")
-        .suffix_limit(SuffixLimit::Ignore);
-    assert!(&rt; cells_become(a, "Hello", ALL, &left_out, "He")?);
-    Ok(())
+// A cut with a suffix of three dots.
+fn dotted(width: usize) -> Truncate<'static, usize> {
+    Truncate::new(width).suffix("...")
+}
+
+fn cut_suffixes(rt: &impl Abort, a: Global) {
+    cells_become(rt, a, "Hello", ALL, &dotted(4), "H...");
+    cells_become(rt, a, "Hello", ALL, &dotted(3), "...");
+    cells_become(rt, a, "Hello", ALL, &dotted(2), "..");
+}
+
+fn limit_suffixes(rt: &impl Abort, a: Global) {
+    let left_out = dotted(2).suffix_limit(SuffixLimit::Ignore);
+    cells_become(rt, a, "Hello", ALL, &left_out, "He");
+    let replaced = dotted(2).suffix_limit(SuffixLimit::Replace('x'));
+    cells_become(rt, a, "Hello", ALL, &replaced, "xx");
+    let wide = dotted(3).suffix_limit(SuffixLimit::Replace('😳'));
+    cells_become(rt, a, "Hello", ALL, &wide, "😳\u{fffd}");
 }
 
 #[test]
-fn suffixes_without_room_are_replaced(rt: HostRuntime) -> Result<(), Fail> {
-    let a = rt.alloc();
-    let replaced = Truncate::new(2)
-        .suffix("...")
-        .suffix_limit(SuffixLimit::Replace('x'));
-    assert!(&rt; cells_become(a, "Hello", ALL, &replaced, "xx")?);
-    let wide = Truncate::new(3)
-        .suffix("...")
-        .suffix_limit(SuffixLimit::Replace('😳'));
-    assert!(&rt; cells_become(a, "Hello", ALL, &wide, "😳\u{fffd}")?);
-    Ok(())
+fn cells_are_cut_with_their_suffix(rt: HostRuntime) {
+    cut_suffixes(&rt, rt.alloc());
+    limit_suffixes(&rt, rt.alloc());
 }
 
 #[test]
-fn lines_and_columns_are_cut(rt: HostRuntime) -> Result<(), Fail> {
+fn lines_and_columns_are_cut(rt: HostRuntime) {
     let a = rt.alloc();
     let lines = Truncate::new(3).suffix(".").multiline(true);
-    assert!(&rt; cells_become(a, "ab\ncdef|abc", ALL, &lines, "ab.\ncd.|abc")?);
-    assert!(&rt; cells_become(a, "Hello|ab", ALL, &Truncate::new(2).suffix(""), "He|ab")?);
+    cells_become(&rt, a, "ab\ncdef|abc", ALL, &lines, "ab.\ncd.|abc");
+    let bare = Truncate::new(2).suffix("");
+    cells_become(&rt, a, "Hello|ab", ALL, &bare, "He|ab");
     let column = Width::truncate(1).priority(PriorityMax::left());
-    assert!(&rt; cells_become(a, "ab|cd/ef|gh", Entity::Column(1), &column, "ab|c/ef|g")?);
-    Ok(())
+    let second = Entity::Column(1);
+    cells_become(&rt, a, "ab|cd/ef|gh", second, &column, "ab|c/ef|g");
 }
 
 #[test]
-fn a_suffix_takes_the_style_of_the_last_character(rt: HostRuntime) -> Result<(), Fail> {
+fn a_suffix_takes_the_style_of_the_last_character(rt: HostRuntime) {
     let a = rt.alloc();
-    let colored = Truncate::new(4).suffix("...").suffix_try_color(true);
+    let colored = dotted(4).suffix_try_color(true);
     let red = "\u{1b}[31mHello\u{1b}[0m";
-    assert!(&rt;
-        cells_become(
-            a,
-            red,
-            ALL,
-            &colored,
-            "\u{1b}[31mH\u{1b}[39m\u{1b}[31m...\u{1b}[39m"
-        )?
-    );
-    assert!(&rt; cells_become(a, "Hello", ALL, &colored, "H...")?);
-    let plain = Truncate::new(4).suffix("...");
-    assert!(&rt; cells_become(a, red, ALL, &plain, "\u{1b}[31mH\u{1b}[39m...")?);
-    Ok(())
+    let wanted = "\u{1b}[31mH\u{1b}[39m\u{1b}[31m...\u{1b}[39m";
+    cells_become(&rt, a, red, ALL, &colored, wanted);
+    cells_become(&rt, a, "Hello", ALL, &colored, "H...");
+    let wanted = "\u{1b}[31mH\u{1b}[39m...";
+    cells_become(&rt, a, red, ALL, &dotted(4), wanted);
 }
 
 #[test]
-fn cells_are_filled_broken_and_justified(rt: HostRuntime) -> Result<(), Fail> {
+fn cells_are_filled_and_broken(rt: HostRuntime) {
     let a = rt.alloc();
     let filled = Width::increase(3)
         .fill_with('😳')
         .priority(PriorityMax::left());
-    assert!(&rt; cells_become(a, "a\nbc|abc", ALL, &filled, "a😳😳\nbc😳|abc")?);
+    cells_become(&rt, a, "a\nbc|abc", ALL, &filled, "a😳😳\nbc😳|abc");
     let words = Width::wrap(4)
         .keep_words(true)
         .priority(PriorityMax::left());
-    assert!(&rt; cells_become(a, "111 234 1|ab", ALL, &words, "111 \n234 \n1|ab")?);
-    Ok(())
-}
-
-#[test]
-fn some_cells_are_broken(rt: HostRuntime) -> Result<(), Fail> {
-    let a = rt.alloc();
+    cells_become(&rt, a, "111 234 1|ab", ALL, &words, "111 \n234 \n1|ab");
     let first = Entity::Cell(0, 0);
-    assert!(&rt; cells_become(a, "ab|cd/ef|gh", first, &Wrap::new(1), "a\nb|cd/ef|gh")?);
+    cells_become(&rt, a, "ab|cd/ef|gh", first, &Wrap::new(1), "a\nb|cd/ef|gh");
     let red = "\u{1b}[31m12\u{1b}[0m34";
-    assert!(&rt; cells_become(a, red, ALL, &Wrap::new(2), "\u{1b}[31m12\u{1b}[0m\n34")?);
-    assert!(&rt; becomes(a, "a|bcd", Width::justify(2), "a |bc;-;-")?);
-    assert!(&rt; becomes(a, "a|bcd", Justify::max(), "a  |bcd;-;-")?);
-    assert!(&rt; becomes(a, "a|bcd", Justify::min(), "a|b;-;-")?);
-    Ok(())
+    let wanted = "\u{1b}[31m12\u{1b}[0m\n34";
+    cells_become(&rt, a, red, ALL, &Wrap::new(2), wanted);
 }
 
 #[test]
-fn tables_are_wrapped(rt: HostRuntime) -> Result<(), Fail> {
+fn tables_are_justified(rt: HostRuntime) {
     let a = rt.alloc();
-    assert!(&rt; becomes(a, "ab|c", Wrap::new(0), "|;2,2;-")?);
-    assert!(&rt; becomes(a, "aaaa|bb", Wrap::new(11), "aaa\na|b\nb;5,3;-")?);
+    becomes(&rt, a, "a|bcd", Width::justify(2), "a |bc;-;-");
+    becomes(&rt, a, "a|bcd", Justify::max(), "a  |bcd;-;-");
+    becomes(&rt, a, "a|bcd", Justify::min(), "a|b;-;-");
+}
+
+// Tables, the widths that they are wrapped at, and what they become.
+const WRAPPED: &[(&str, usize, &str)] = &[
+    ("ab|c", 0, "|;2,2;-"),
+    ("aaaa|bb", 11, "aaa\na|b\nb;5,3;-"),
+    // those that fit stay
+    ("ab", 6, "ab;4;1"),
+    ("ab", 100, "ab;4;1"),
+    ("&str/Hello World!", 7, "&st\nr/Hel\nlo \nWor\nld!;5;-"),
+    // styles are broken with their texts
+    (
+        "\u{1b}[31m123456\u{1b}[0m",
+        6,
+        "\u{1b}[31m12\u{1b}[39m\n\u{1b}[31m34\u{1b}[39m\n\u{1b}[31m56\u{1b}[0m;4;-",
+    ),
+    (
+        "\u{1b}[31m😳1\u{1b}[0m",
+        5,
+        "\u{fffd}\n\u{1b}[31m1\u{1b}[0m;3;-",
+    ),
+];
+
+#[test]
+fn tables_are_wrapped(rt: HostRuntime) {
+    for (before, width, after) in WRAPPED {
+        becomes(&rt, rt.alloc(), before, Wrap::new(*width), after);
+    }
     let widest = Wrap::new(11).priority(PriorityMax::left());
-    assert!(&rt; becomes(a, "aaaa|bb", widest, "aa\naa|bb;4,4;-")?);
-    Ok(())
-}
-
-#[test]
-fn tables_that_fit_stay(rt: HostRuntime) -> Result<(), Fail> {
-    let a = rt.alloc();
-    assert!(&rt; becomes(a, "ab", Wrap::new(6), "ab;4;1")?);
-    assert!(&rt; becomes(a, "ab", Wrap::new(100), "ab;4;1")?);
-    assert!(&rt;
-        becomes(
-            a,
-            "&str/Hello World!",
-            Wrap::new(7),
-            "&st\nr/Hel\nlo \nWor\nld!;5;-"
-        )?
-    );
+    let text = "aa\naa|bb;4,4;-";
+    becomes(&rt, rt.alloc(), "aaaa|bb", widest, text);
     let words = Wrap::new(8).keep_words(true);
-    assert!(&rt; becomes(a, "111 234 1", words, "111 \n234 \n1;6;-")?);
-    Ok(())
+    let text = "111 \n234 \n1;6;-";
+    becomes(&rt, rt.alloc(), "111 234 1", words, text);
 }
 
-#[test]
-fn styles_are_broken_with_their_texts(rt: HostRuntime) -> Result<(), Fail> {
-    let a = rt.alloc();
+fn cut_tables(rt: &impl Abort, a: Global) {
     let red = "\u{1b}[31m123456\u{1b}[0m";
-    let parts = "\u{1b}[31m12\u{1b}[39m\n\u{1b}[31m34\u{1b}[39m\n\u{1b}[31m56\u{1b}[0m;4;-";
-    assert!(&rt; becomes(a, red, Wrap::new(6), parts)?);
-    let mark = "\u{fffd}\n\u{1b}[31m1\u{1b}[0m;3;-";
-    assert!(&rt; becomes(a, "\u{1b}[31m😳1\u{1b}[0m", Wrap::new(5), mark)?);
-    Ok(())
-}
-
-#[test]
-fn tables_are_cut_and_grown(rt: HostRuntime) -> Result<(), Fail> {
-    let a = rt.alloc();
-    let red = "\u{1b}[31m123456\u{1b}[0m";
-    assert!(&rt; becomes(a, red, Truncate::new(6), "\u{1b}[31m12\u{1b}[39m;4;-")?);
+    let wanted = "\u{1b}[31m12\u{1b}[39m;4;-";
+    becomes(rt, a, red, Truncate::new(6), wanted);
     let wide = "\u{1b}[31m😳😳\u{1b}[39m";
-    assert!(&rt;
-        becomes(
-            a,
-            wide,
-            Truncate::new(7),
-            "\u{1b}[31m😳\u{1b}[39m\u{fffd};5;-"
-        )?
-    );
+    let wanted = "\u{1b}[31m😳\u{1b}[39m\u{fffd};5;-";
+    becomes(rt, a, wide, Truncate::new(7), wanted);
     let dots = Truncate::new(9).suffix(".").priority(PriorityMax::left());
-    assert!(&rt; becomes(a, "Hello|a", dots, ".|a;3,3;-")?);
-    assert!(&rt; becomes(a, "a", MinWidth::new(7), "a;5;1")?);
-    assert!(&rt; becomes(a, "a", MinWidth::new(5), "a;3;1")?);
+    becomes(rt, a, "Hello|a", dots, ".|a;3,3;-");
+}
+
+fn grow_tables(rt: &impl Abort, a: Global) {
+    becomes(rt, a, "a", MinWidth::new(7), "a;5;1");
+    becomes(rt, a, "a", MinWidth::new(5), "a;3;1");
     let widest = MinWidth::new(12).priority(PriorityMax::left());
-    assert!(&rt; becomes(a, "aa|b", widest, "aa|b;6,3;1")?);
-    Ok(())
+    becomes(rt, a, "aa|b", widest, "aa|b;6,3;1");
+}
+
+#[test]
+fn tables_are_cut_and_grown(rt: HostRuntime) {
+    cut_tables(&rt, rt.alloc());
+    grow_tables(&rt, rt.alloc());
 }
 
 // What is left of a table that is made so narrow.
-fn wrapped(alloc: Global, sheet: Sheet, width: usize) -> Result<String, Fault> {
+fn wraps(rt: &impl Abort, alloc: Global, sheet: Sheet, width: usize, wanted: &str) {
     let mut sheet = sheet;
-    let done = changed(alloc, &mut sheet, Wrap::new(width));
-    let_go(sheet);
-    done
+    let done = Wrap::new(width).change(alloc, &mut sheet.records, &mut sheet.cfg, &mut sheet.dims);
+    expect_changed(rt, alloc, sheet, done, wanted);
 }
 
 // Of one whose first cell takes two columns.
-fn wrapped_span(alloc: Global, width: usize) -> Result<String, Fault> {
-    let mut sheet = ascii_sheet(alloc, "abcdef|hidden/g|h")?;
-    let set = sheet
-        .cfg
-        .spanned_mut()
-        .set_column_span(Position::new(0, 0), 2);
-    let done = wrapped(alloc, sheet, width);
-    set?;
-    done
-}
-
-fn two(alloc: Global, first: usize, second: usize) -> Result<Vec<usize>, AllocError> {
-    let mut widths = Vec::new(alloc);
-    widths.push(first)?;
-    widths.push(second)?;
-    Ok(widths)
+fn wrap_a_span(rt: &impl Abort, a: Global) {
+    let mut sheet = ascii_sheet(rt, a, "abcdef|hidden/g|h");
+    let settings = sheet.cfg.spanned_mut();
+    let set = settings.set_column_span(Position::new(0, 0), 2);
+    set.expect(rt, "a span is refused");
+    wraps(rt, a, sheet, 9, "abcde\nf|hidden/g|h;3,3;-");
 }
 
 // Of one whose first column is narrower than its paddings.
-fn wrapped_narrow(alloc: Global, width: usize) -> Result<String, Fault> {
-    let widths = two(alloc, 1, 5)?;
-    let mut sheet = ascii_sheet(alloc, "ab|cdef")?;
+fn wrap_narrow(rt: &impl Abort, a: Global) {
+    let widths = Vec::from_slice(a, &[1, 5]).expect(rt, MEMORY);
+    let mut sheet = ascii_sheet(rt, a, "ab|cdef");
     sheet.dims.set_widths(widths);
-    wrapped(alloc, sheet, width)
+    wraps(rt, a, sheet, 8, "ab|cd\nef;1,4;-");
 }
 
 // Of one without rows.
-fn wrapped_nothing(alloc: Global, width: usize) -> Result<String, Fault> {
+fn wrap_nothing(rt: &impl Abort, a: Global) {
     let sheet = Sheet {
-        records: VecRecords::new(Vec::new(alloc)),
-        cfg: ascii(alloc),
+        records: VecRecords::new(Vec::new(a)),
+        cfg: ascii(a),
         dims: CompleteDimension::default(),
     };
-    wrapped(alloc, sheet, width)
+    wraps(rt, a, sheet, 0, ";-;-");
 }
 
 #[test]
-fn cells_change_in_their_rooms_alone(rt: HostRuntime) -> Result<(), Fail> {
+fn cells_change_in_their_rooms_alone(rt: HostRuntime) {
+    wrap_a_span(&rt, rt.alloc());
+    wrap_narrow(&rt, rt.alloc());
+    wrap_nothing(&rt, rt.alloc());
+}
+
+#[test]
+fn lists_are_kept_and_hints_clear(rt: HostRuntime) {
     let a = rt.alloc();
-    assert!(&rt; wrapped_span(a, 9)?.as_str() == "abcde\nf|hidden/g|h;3,3;-");
-    assert!(&rt; wrapped_narrow(a, 8)?.as_str() == "ab|cd\nef;1,4;-");
-    assert!(&rt; wrapped_nothing(a, 0)?.as_str() == ";-;-");
-    Ok(())
-}
-
-#[test]
-fn lists_are_kept_and_hints_clear(rt: HostRuntime) -> Result<(), Fail> {
-    let a = rt.alloc();
-    assert!(&rt; becomes(a, "a|b", Width::list(a, [5, 4])?, "a|b;5,4;-")?);
-    assert!(&rt; becomes(a, "a|b", WidthList::new(vec![in a; 5]?), "a|b;-;-")?);
-    assert!(&rt; becomes(a, "a|b", WidthList::from_iter(a, [5, 4])?, "a|b;5,4;-")?);
-    assert!(&rt; becomes(a, "a|b", WidthList::from(vec![in a; 5, 4]?), "a|b;5,4;-")?);
-    Ok(())
-}
-
-#[test]
-fn hints_clear_what_changes(rt: HostRuntime) -> Result<(), Fail> {
-    assert!(&rt; table_hint(&Wrap::new(1)) == Some(Entity::Row(0)));
-    assert!(&rt; table_hint(&Truncate::new(1)).is_none());
-    assert!(&rt; table_hint(&MinWidth::new(1)).is_none());
-    assert!(&rt; table_hint(&Justify::new(1)) == Some(ALL));
-    assert!(&rt; cell_hint(&Wrap::new(1)) == Some(ALL));
-    assert!(&rt; cell_hint(&Truncate::new(1)) == Some(ALL));
-    assert!(&rt; cell_hint(&MinWidth::new(1)) == Some(ALL));
-    Ok(())
+    let list = Width::list(a, [5, 4]).expect(&rt, MEMORY);
+    becomes(&rt, a, "a|b", list, "a|b;5,4;-");
+    let one = Vec::from_slice(a, &[5]).expect(&rt, MEMORY);
+    becomes(&rt, a, "a|b", WidthList::new(one), "a|b;-;-");
+    let list = WidthList::from_iter(a, [5, 4]).expect(&rt, MEMORY);
+    becomes(&rt, a, "a|b", list, "a|b;5,4;-");
+    let two = Vec::from_slice(a, &[5, 4]).expect(&rt, MEMORY);
+    becomes(&rt, a, "a|b", WidthList::from(two), "a|b;5,4;-");
 }
 
 fn table_hint<O: TableOption<VecRecords<Text>, ColoredConfig, CompleteDimension>>(
@@ -387,103 +382,126 @@ fn cell_hint<O: CellOption<VecRecords<Text>, ColoredConfig>>(option: &O) -> Opti
     option.hint_change()
 }
 
-fn measured<W: Measurement<Width>>(alloc: Global, before: &str, width: W) -> Result<usize, Fault>
-where
-    W: Drop,
-{
-    let sheet = ascii_sheet(alloc, before)?;
-    let found = width.measure(alloc, &sheet.records, sheet.cfg.spanned());
-    let_go(sheet);
-    found
+fn expect_hint(rt: &impl Abort, found: Option<Entity>, wanted: Option<Entity>) {
+    assert_eq!(rt; found, wanted);
 }
 
-// Whether an option is refused, and the table is as it was.
+#[test]
+fn hints_clear_what_changes(rt: HostRuntime) {
+    let first = Some(Entity::Row(0));
+    expect_hint(&rt, table_hint(&Wrap::new(1)), first);
+    expect_hint(&rt, table_hint(&Truncate::new(1)), None);
+    expect_hint(&rt, table_hint(&MinWidth::new(1)), None);
+    expect_hint(&rt, table_hint(&Justify::new(1)), Some(ALL));
+    expect_hint(&rt, cell_hint(&Wrap::new(1)), Some(ALL));
+    expect_hint(&rt, cell_hint(&Truncate::new(1)), Some(ALL));
+    expect_hint(&rt, cell_hint(&MinWidth::new(1)), Some(ALL));
+}
+
+// That an option is refused, and the table is as it was.
 fn refuses<O: TableOption<VecRecords<Text>, ColoredConfig, CompleteDimension>>(
+    rt: &impl Abort,
     alloc: Global,
     before: &str,
     option: O,
-) -> Result<bool, Fault>
+    fault: Fault,
+)
 where
     O: Drop,
 {
-    let mut sheet = ascii_sheet(alloc, before)?;
-    let refused = changed(alloc, &mut sheet, option).is_err();
-    let left = shown(alloc, &sheet);
-    let_go(sheet);
-    Ok(refused && left?.as_str().strip_suffix(";-;-") == Some(before))
-}
-
-// Whether an option fails where allocation fails, and the table is as it was.
-fn passes_memory<O: TableOption<VecRecords<Text>, ColoredConfig, CompleteDimension>>(
-    alloc: Global,
-    before: &str,
-    option: O,
-) -> Result<bool, Fault>
-where
-    O: Drop,
-{
-    let mut sheet = ascii_sheet(alloc, before)?;
-    let refusal = changed(alloc, &mut sheet, option).err();
-    let left = shown(alloc, &sheet);
-    let_go(sheet);
-    Ok(refusal == Some(Fault::Memory) && left?.as_str().strip_suffix(";-;-") == Some(before))
+    let mut sheet = ascii_sheet(rt, alloc, before);
+    let done = option.change(alloc, &mut sheet.records, &mut sheet.cfg, &mut sheet.dims);
+    expect_refused(rt, alloc, sheet, done, fault, before);
 }
 
 // The same of an option of all cells.
-fn cells_pass_memory<O: CellOption<VecRecords<Text>, ColoredConfig>>(
+fn cells_refuse<O: CellOption<VecRecords<Text>, ColoredConfig>>(
+    rt: &impl Abort,
     alloc: Global,
     before: &str,
     option: &O,
-) -> Result<bool, Fault> {
-    let mut sheet = ascii_sheet(alloc, before)?;
-    let refusal = cells_changed(alloc, &mut sheet, ALL, option).err();
-    let left = shown(alloc, &sheet);
-    let_go(sheet);
-    Ok(refusal == Some(Fault::Memory) && left?.as_str().strip_suffix(";-;-") == Some(before))
+    fault: Fault,
+) {
+    let mut sheet = ascii_sheet(rt, alloc, before);
+    let done = option.change(alloc, &mut sheet.records, &mut sheet.cfg, ALL);
+    expect_refused(rt, alloc, sheet, done, fault, before);
 }
 
 // Fills past what memory holds are not appended one by one until it ends.
 #[test]
-fn fills_past_memory_are_refused_at_once(rt: HostRuntime) -> Result<(), Fail> {
+fn fills_past_memory_are_refused_at_once(rt: HostRuntime) {
     let a = rt.alloc();
     let widest = MinWidth::new(usize::MAX);
-    assert!(&rt; cells_pass_memory(a, "ab|c", &widest)?);
-    assert!(&rt; cells_pass_memory(a, "ab|c\nd", &widest.fill_with('😳'))?);
-    assert!(&rt; passes_memory(a, "ab|c", Justify::new(usize::MAX))?);
-    Ok(())
+    cells_refuse(&rt, a, "ab|c", &widest, Fault::Memory);
+    let filled = widest.fill_with('😳');
+    cells_refuse(&rt, a, "ab|c\nd", &filled, Fault::Memory);
+    refuses(&rt, a, "ab|c", Justify::new(usize::MAX), Fault::Memory);
+}
+
+// That a width of a table is measured so.
+fn measures<W: Measurement<Width>>(
+    rt: &impl Abort,
+    alloc: Global,
+    before: &str,
+    width: W,
+    wanted: Result<usize, Fault>,
+)
+where
+    W: Drop,
+{
+    let sheet = ascii_sheet(rt, alloc, before);
+    let found = width.measure(alloc, &sheet.records, sheet.cfg.spanned());
+    let_go(sheet);
+    assert_eq!(rt; found, wanted);
 }
 
 #[test]
-fn widths_are_measured(rt: HostRuntime) -> Result<(), Fail> {
-    let a = rt.alloc();
-    assert!(&rt; measured(a, "a|bcd/ab|c", 7)? == 7);
-    assert!(&rt; measured(a, "a|bcd/abab|ccc", Max)? == 4);
-    assert!(&rt; measured(a, "a|bcd/abab|ccc", Min)? == 3);
+fn widths_are_measured(rt: HostRuntime) {
+    let (a, rows) = (rt.alloc(), "a|bcd/abab|ccc");
+    measures(&rt, a, "a|bcd/ab|c", 7, Ok(7));
+    measures(&rt, a, rows, Max, Ok(4));
+    measures(&rt, a, rows, Min, Ok(3));
     // 6 and 5 columns, and three boundaries
-    assert!(&rt; measured(a, "a|bcd/abab|ccc", Percent(50))? == 7);
-    assert!(&rt; measured(a, "ab", Percent(usize::MAX)) == Err(Fault::Range));
-    assert!(&rt; refuses(a, "abc", Wrap::new(Percent(usize::MAX)))?);
-    Ok(())
+    measures(&rt, a, rows, Percent(50), Ok(7));
+    let most = Percent(usize::MAX);
+    measures(&rt, a, "ab", most, Err(Fault::Range));
+    refuses(&rt, a, "abc", Wrap::new(most), Fault::Range);
+}
+
+// What a cut leaves of a text that stands in no table.
+fn cuts(rt: &impl Abort, a: Global, text: &str, width: usize, wanted: &str) {
+    let found = Truncate::truncate(a, text, width).expect(rt, MEMORY);
+    expect_text(rt, &found, wanted);
 }
 
 #[test]
-fn texts_are_wrapped_and_cut(rt: HostRuntime) -> Result<(), Fail> {
-    let a = rt.alloc();
-    assert!(&rt; Wrap::wrap(a, "111 234 1", 4, true)?.as_str() == "111 \n234 \n1");
-    assert!(&rt; &*Truncate::truncate(a, "Hello", 2)? == "He");
-    assert!(&rt; &*Truncate::truncate(a, "😳😳", 3)? == "😳\u{fffd}");
-    Ok(())
+fn texts_are_wrapped_and_cut(rt: HostRuntime) {
+    let wrapped = Wrap::wrap(rt.alloc(), "111 234 1", 4, true);
+    let wrapped = wrapped.expect(&rt, MEMORY);
+    expect_text(&rt, wrapped.as_str(), "111 \n234 \n1");
+    cuts(&rt, rt.alloc(), "Hello", 2, "He");
+    cuts(&rt, rt.alloc(), "😳😳", 3, "😳\u{fffd}");
 }
 
-#[test]
-fn options_are_compared(rt: HostRuntime) -> Result<(), Fail> {
-    let a = rt.alloc();
+fn compare_cuts(rt: &impl Abort) {
     let dots = Truncate::new(2).suffix(".");
-    assert!(&rt; dots == Truncate::new(2).suffix(".") && dots != Truncate::new(2));
-    assert!(&rt; Truncate::new(1) < dots);
+    expect(rt, dots == Truncate::new(2).suffix("."), "equal cuts");
+    expect(rt, dots != Truncate::new(2), "other suffixes");
+    expect(rt, Truncate::new(1) < dots, "a lesser cut");
+}
+
+fn compare_widths(rt: &impl Abort) {
     let grown = MinWidth::new(2);
-    assert!(&rt; grown == grown.clone()? && grown < MinWidth::new(3));
-    assert!(&rt; Justify::new(1) < Justify::new(2));
-    assert!(&rt; becomes(a, "ab", Wrap::new(5).clone()?, "a\nb;3;-")?);
-    Ok(())
+    let copy = grown.clone().expect(rt, MEMORY);
+    expect(rt, grown == copy, "a copy");
+    expect(rt, grown < MinWidth::new(3), "a lesser width");
+    expect(rt, Justify::new(1) < Justify::new(2), "a lesser one");
+}
+
+#[test]
+fn options_are_compared(rt: HostRuntime) {
+    compare_cuts(&rt);
+    compare_widths(&rt);
+    let copy = Wrap::new(5).clone().expect(&rt, MEMORY);
+    becomes(&rt, rt.alloc(), "ab", copy, "a\nb;3;-");
 }

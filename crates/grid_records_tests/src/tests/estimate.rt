@@ -1,7 +1,7 @@
 //! Least sizes of tables, totals, and their refusals.
 ghost use Rattle.std.specs.Prelude.{◌<◌};
 
-use super::expect_number;
+use super::{MEMORY, expect_number};
 use grid_config::{Borders, CompactConfig, Entity, Fault, Indent, Position, Sides, SpannedConfig};
 use grid_records_estimate::{
     CompactGridDimension, Estimate, IterGridDimension, PeekableGridDimension,
@@ -9,7 +9,6 @@ use grid_records_estimate::{
 use grid_records_rows::{Dimension, EmptyRecords, Records, VecRecords, are_equally_long};
 use std::alloc::{AllocError, Global};
 use std::process::Abort;
-use std::test::Fail;
 
 // All boundaries are there.
 fn ascii() -> Borders<char> {
@@ -59,23 +58,23 @@ fn rows_of(alloc: Global, columns: usize, cells: &[&str]) -> Result<Vec<Vec<Stri
 }
 
 // The table of these cells, row by row.
-fn table(
-    rt: &impl Abort,
-    alloc: Global,
-    columns: usize,
-    cells: &[&str],
-) -> Result<VecRecords<String>, AllocError>
+fn table(rt: &impl Abort, alloc: Global, columns: usize, cells: &[&str]) -> VecRecords<String>
     requires { 0 < columns }
 {
-    let rows = rows_of(alloc, columns, cells)?;
+    let rows = rows_of(alloc, columns, cells).expect(rt, MEMORY);
     assert!(rt; are_equally_long(&rows));
-    Ok(VecRecords::new(rows))
+    VecRecords::new(rows)
 }
 
 // Drops the settings of a test. They are large, and each place that drops them is proved by itself: so
-// the tests lend them to functions, which return early without them, and end here.
+// the tests lend them to functions, and end here.
 fn end(cfg: SpannedConfig) {
     drop(cfg);
+}
+
+// That a call was accepted.
+fn expect_done(rt: &impl Abort, done: Result<(), Fault>) {
+    assert_eq!(rt; done, Ok(()));
 }
 
 fn expect_sizes(rt: &impl Abort, found: Result<Vec<usize>, Fault>, wanted: &[usize], what: &str) {
@@ -98,6 +97,11 @@ fn expect_total(rt: &impl Abort, found: Result<usize, Fault>, wanted: Result<usi
     assert_eq!(rt; found, wanted);
 }
 
+// That sizes were refused as past the range.
+fn expect_range<T: Drop>(rt: &impl Abort, found: Result<T, Fault>) {
+    assert!(rt; matches!(found, Err(Fault::Range)));
+}
+
 // What an estimate found of a column and of a row.
 fn expect_at<D: Dimension>(rt: &impl Abort, sizes: &D, n: usize, width: usize, height: usize) {
     expect_number(rt, sizes.get_width(n), width, "a column");
@@ -111,14 +115,13 @@ fn expect_estimate<R, C, D: Estimate<R, C> + Dimension>(
     sizes: &mut D,
     records: R,
     cfg: &C,
-) -> Result<(), Fault> {
+) {
     expect_at(rt, sizes, 0, 0, 0);
     expect_at(rt, sizes, 1, 0, 0);
-    sizes.estimate(alloc, records, cfg)?;
+    expect_done(rt, sizes.estimate(alloc, records, cfg));
     expect_at(rt, sizes, 0, 4, 1);
     expect_at(rt, sizes, 1, 3, 3);
     expect_at(rt, sizes, 2, 0, 0);
-    Ok(())
 }
 
 // ---- tables
@@ -126,10 +129,10 @@ fn expect_estimate<R, C, D: Estimate<R, C> + Dimension>(
 // A table whose first cell spans both columns, with all boundaries, a margin and no padding.
 const SHARED: &[&str] = &["abcdefgh", "hidden", "a", "b\nc\nd"];
 
-fn set_shared(cfg: &mut SpannedConfig) -> Result<(), Fault> {
+fn set_shared(rt: &impl Abort, cfg: &mut SpannedConfig) {
     cfg.set_borders(ascii());
     cfg.set_margin(INDENTS);
-    cfg.set_column_span(Position::new(0, 0), 2)
+    expect_done(rt, cfg.set_column_span(Position::new(0, 0), 2));
 }
 
 fn expect_read_once<R: Records + Copy>(
@@ -150,20 +153,15 @@ fn expect_read_once<R: Records + Copy>(
     expect_total(rt, total, Ok(14));
 }
 
-fn read_once(rt: &impl Abort, alloc: Global, cfg: &mut SpannedConfig) -> Result<(), Fault> {
-    let records = table(rt, alloc, 2, SHARED)?;
-    set_shared(cfg)?;
-    expect_read_once(rt, alloc, &records, cfg);
-    let mut sizes = IterGridDimension::default(alloc);
-    expect_estimate(rt, alloc, &mut sizes, &records, cfg)
-}
-
 #[test]
-fn sizes_of_a_table_that_is_read_once(rt: HostRuntime) -> Result<(), Fault> {
+fn sizes_of_a_table_that_is_read_once(rt: HostRuntime) {
+    let records = table(&rt, rt.alloc(), 2, SHARED);
     let mut cfg = SpannedConfig::new(rt.alloc());
-    let outcome = read_once(&rt, rt.alloc(), &mut cfg);
+    set_shared(&rt, &mut cfg);
+    expect_read_once(&rt, rt.alloc(), &records, &cfg);
+    let mut sizes = IterGridDimension::default(rt.alloc());
+    expect_estimate(&rt, rt.alloc(), &mut sizes, &records, &cfg);
     end(cfg);
-    outcome
 }
 
 // ---- compact tables
@@ -186,19 +184,18 @@ fn expect_compact<R: Records + Copy>(
     expect_total(rt, total, Ok(20));
 }
 
-fn expect_padded(rt: &impl Abort, alloc: Global) -> Result<(), AllocError> {
-    let padded = table(rt, alloc, 2, &["ab", "c", "d\ne", "fghij"])?;
+fn expect_padded(rt: &impl Abort, alloc: Global) {
+    let padded = table(rt, alloc, 2, &["ab", "c", "d\ne", "fghij"]);
     let cfg = CompactConfig::new()
         .set_borders(ascii())
         .set_padding(INDENTS);
     expect_compact(rt, alloc, &padded, &cfg);
-    Ok(())
 }
 
-fn estimate_compact(rt: &impl Abort, alloc: Global) -> Result<(), Fault> {
-    let records = table(rt, alloc, 2, &["abcd", "c", "", "fgh\n\n"])?;
+fn estimate_compact(rt: &impl Abort, alloc: Global) {
+    let records = table(rt, alloc, 2, &["abcd", "c", "", "fgh\n\n"]);
     let mut sizes = CompactGridDimension::default(alloc);
-    expect_estimate(rt, alloc, &mut sizes, &records, &CompactConfig::new())
+    expect_estimate(rt, alloc, &mut sizes, &records, &CompactConfig::new());
 }
 
 // The rows and columns of tables without a cell.
@@ -218,13 +215,12 @@ fn expect_empty(rt: &impl Abort, alloc: Global, rows: usize, columns: usize) {
 }
 
 #[test]
-fn sizes_of_compact_tables(rt: HostRuntime) -> Result<(), Fail> {
-    expect_padded(&rt, rt.alloc())?;
-    estimate_compact(&rt, rt.alloc())?;
+fn sizes_of_compact_tables(rt: HostRuntime) {
+    expect_padded(&rt, rt.alloc());
+    estimate_compact(&rt, rt.alloc());
     for (rows, columns) in EMPTY {
         expect_empty(&rt, rt.alloc(), *rows, *columns);
     }
-    Ok(())
 }
 
 // ---- spans
@@ -263,43 +259,35 @@ fn expect_spanned(
     cells: &[&str],
     spans: Spanning,
     wanted: &[usize],
-) -> Result<(), Fault> {
-    let records = table(rt, alloc, 3, cells)?;
+) {
+    let records = table(rt, alloc, 3, cells);
     for (row, col, n) in spans {
-        cfg.set_column_span(Position::new(*row, *col), *n)?;
+        expect_done(rt, cfg.set_column_span(Position::new(*row, *col), *n));
     }
     let widths = IterGridDimension::width(alloc, &records, cfg);
     expect_sizes(rt, widths, wanted, "widths");
-    Ok(())
 }
 
-fn expect_spanned_rows(
-    rt: &impl Abort,
-    alloc: Global,
-    cfg: &mut SpannedConfig,
-) -> Result<(), Fault> {
-    let records = table(rt, alloc, 2, &["a\nb\nc\nd\ne", "f", "hidden", "g"])?;
-    cfg.set_row_span(Position::new(0, 0), 2)?;
+fn expect_spanned_rows(rt: &impl Abort, alloc: Global, cfg: &mut SpannedConfig) {
+    let records = table(rt, alloc, 2, &["a\nb\nc\nd\ne", "f", "hidden", "g"]);
+    expect_done(rt, cfg.set_row_span(Position::new(0, 0), 2));
     let heights = PeekableGridDimension::height(alloc, &records, cfg);
     expect_sizes(rt, heights, &[3, 2], "heights");
     cfg.set_borders(ascii());
     let heights = PeekableGridDimension::height(alloc, &records, cfg);
     expect_sizes(rt, heights, &[2, 2], "heights with boundaries");
-    Ok(())
 }
 
 #[test]
-fn spans_are_shared_out(rt: HostRuntime) -> Result<(), Fault> {
+fn spans_are_shared_out(rt: HostRuntime) {
     for (cells, spans, wanted) in SPANS {
         let mut cfg = SpannedConfig::new(rt.alloc());
-        let outcome = expect_spanned(&rt, rt.alloc(), &mut cfg, cells, spans, wanted);
+        expect_spanned(&rt, rt.alloc(), &mut cfg, cells, spans, wanted);
         end(cfg);
-        outcome?;
     }
     let mut cfg = SpannedConfig::new(rt.alloc());
-    let outcome = expect_spanned_rows(&rt, rt.alloc(), &mut cfg);
+    expect_spanned_rows(&rt, rt.alloc(), &mut cfg);
     end(cfg);
-    outcome
 }
 
 // ---- refusals
@@ -318,41 +306,46 @@ fn expect_refused<R, C, D: Estimate<R, C> + Dimension>(
     expect_at(rt, sizes, 0, 1, 1);
 }
 
-fn refuse_compact(rt: &impl Abort, alloc: Global) -> Result<(), Fault> {
-    let records = table(rt, alloc, 1, &["a"])?;
+fn refuse_padded(rt: &impl Abort, alloc: Global, records: &VecRecords<String>) {
     let cfg = CompactConfig::new();
     let mut sizes = CompactGridDimension::default(alloc);
-    sizes.estimate(alloc, &records, &cfg)?;
+    expect_done(rt, sizes.estimate(alloc, records, &cfg));
     let padded = cfg.set_padding(ENDLESS);
-    expect_refused(rt, alloc, &mut sizes, &records, &padded);
-    let heights = CompactGridDimension::height(alloc, &records, &padded);
+    expect_refused(rt, alloc, &mut sizes, records, &padded);
+    let heights = CompactGridDimension::height(alloc, records, &padded);
     expect_sizes(rt, heights, &[1], "heights");
-    let margin = cfg.set_margin(ENDLESS);
-    let widths = CompactGridDimension::width(alloc, &records, &margin);
-    expect_sizes(rt, widths, &[1], "widths");
-    let total = CompactGridDimension::width_total(alloc, &records, &margin);
-    expect_total(rt, total, Err(Fault::Range));
-    Ok(())
 }
 
-fn refuse_peekable(rt: &impl Abort, alloc: Global, cfg: &mut SpannedConfig) -> Result<(), Fault> {
-    let records = table(rt, alloc, 1, &["a"])?;
+fn refuse_margin(rt: &impl Abort, alloc: Global, records: &VecRecords<String>) {
+    let margin = CompactConfig::new().set_margin(ENDLESS);
+    let widths = CompactGridDimension::width(alloc, records, &margin);
+    expect_sizes(rt, widths, &[1], "widths");
+    let total = CompactGridDimension::width_total(alloc, records, &margin);
+    expect_total(rt, total, Err(Fault::Range));
+}
+
+fn refuse_peekable(
+    rt: &impl Abort,
+    alloc: Global,
+    records: &VecRecords<String>,
+    cfg: &mut SpannedConfig,
+) {
     let mut sizes = PeekableGridDimension::default(alloc);
-    sizes.estimate(alloc, &records, cfg)?;
-    cfg.set_padding(Entity::Global, ENDLESS)?;
-    let width = PeekableGridDimension::width(alloc, &records, cfg);
-    assert!(rt; matches!(width, Err(Fault::Range)));
-    expect_refused(rt, alloc, &mut sizes, &records, cfg);
-    Ok(())
+    expect_done(rt, sizes.estimate(alloc, records, cfg));
+    expect_done(rt, cfg.set_padding(Entity::Global, ENDLESS));
+    let width = PeekableGridDimension::width(alloc, records, cfg);
+    expect_range(rt, width);
+    expect_refused(rt, alloc, &mut sizes, records, cfg);
 }
 
 #[test]
-fn a_refused_estimate_keeps_the_sizes(rt: HostRuntime) -> Result<(), Fault> {
-    refuse_compact(&rt, rt.alloc())?;
+fn a_refused_estimate_keeps_the_sizes(rt: HostRuntime) {
+    let records = table(&rt, rt.alloc(), 1, &["a"]);
+    refuse_padded(&rt, rt.alloc(), &records);
+    refuse_margin(&rt, rt.alloc(), &records);
     let mut cfg = SpannedConfig::new(rt.alloc());
-    let outcome = refuse_peekable(&rt, rt.alloc(), &mut cfg);
+    refuse_peekable(&rt, rt.alloc(), &records, &mut cfg);
     end(cfg);
-    outcome
 }
 
 // As many lines above as there can be.
@@ -378,34 +371,34 @@ const HALF: Sides<Indent> = Sides {
 };
 
 // Two columns that fit apart, and pass `usize::MAX` together.
-fn refuse_sum(rt: &impl Abort, alloc: Global) -> Result<(), Fault> {
-    let records = table(rt, alloc, 2, &["a", "b"])?;
+fn refuse_sum(rt: &impl Abort, alloc: Global) {
+    let records = table(rt, alloc, 2, &["a", "b"]);
     let half = CompactConfig::new().set_padding(HALF);
     let each = usize::MAX / 2 + 2;
     let widths = CompactGridDimension::width(alloc, &records, &half);
     expect_sizes(rt, widths, &[each, each], "widths");
     let total = CompactGridDimension::width_total(alloc, &records, &half);
     expect_total(rt, total, Err(Fault::Range));
-    Ok(())
 }
 
-fn refuse_heights(rt: &impl Abort, alloc: Global, cfg: &mut SpannedConfig) -> Result<(), Fault> {
-    let records = table(rt, alloc, 1, &["a"])?;
-    cfg.set_padding(Entity::Global, TALL)?;
-    let heights = IterGridDimension::height(alloc, &records, cfg);
-    assert!(rt; matches!(heights, Err(Fault::Range)));
-    let total = IterGridDimension::height_total(alloc, &records, cfg);
+fn refuse_heights(
+    rt: &impl Abort,
+    alloc: Global,
+    records: &VecRecords<String>,
+    cfg: &mut SpannedConfig,
+) {
+    expect_done(rt, cfg.set_padding(Entity::Global, TALL));
+    expect_range(rt, IterGridDimension::height(alloc, records, cfg));
+    let total = IterGridDimension::height_total(alloc, records, cfg);
     expect_total(rt, total, Err(Fault::Range));
-    let both = IterGridDimension::dimension(alloc, &records, cfg);
-    assert!(rt; matches!(both, Err(Fault::Range)));
-    Ok(())
+    expect_range(rt, IterGridDimension::dimension(alloc, records, cfg));
 }
 
 #[test]
-fn a_size_past_the_range_is_no_want_of_memory(rt: HostRuntime) -> Result<(), Fault> {
-    refuse_sum(&rt, rt.alloc())?;
+fn a_size_past_the_range_is_no_want_of_memory(rt: HostRuntime) {
+    refuse_sum(&rt, rt.alloc());
+    let records = table(&rt, rt.alloc(), 1, &["a"]);
     let mut cfg = SpannedConfig::new(rt.alloc());
-    let outcome = refuse_heights(&rt, rt.alloc(), &mut cfg);
+    refuse_heights(&rt, rt.alloc(), &records, &mut cfg);
     end(cfg);
-    outcome
 }

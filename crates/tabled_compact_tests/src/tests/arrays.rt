@@ -1,8 +1,9 @@
 //! Tables of arrays of rows.
+use super::expect_text;
 use grid_config::Fault;
 use grid_records_traits::IntoRecords;
 use std::alloc::{AllocError, Global};
-use std::test::Fail;
+use std::process::Abort;
 use tabled_compact::{CompactTable, RowArray};
 
 // A row of two texts.
@@ -40,17 +41,16 @@ fn text_of_lines(alloc: Global) -> Result<String, Fault> {
     table.to_string(alloc)
 }
 
-#[test]
-fn columns_are_as_wide_as_their_texts(rt: HostRuntime) -> Result<(), Fail> {
-    let text = "+---+----+\n| a | bc |\n+---+----+";
-    assert!(&rt; text_of_pair(rt.alloc())?.as_str() == text);
-    assert!(&rt; text_of(rt.alloc(), [["a", "bc"]])?.as_str() == text);
-    Ok(())
+fn expect_found(rt: &impl Abort, found: Result<String, Fault>, wanted: &str) {
+    let text = found.expect(rt, "an array is refused");
+    expect_text(rt, text.as_str(), wanted);
 }
 
 #[test]
-fn a_text_is_as_wide_as_its_widest_line(rt: HostRuntime) -> Result<(), Fail> {
-    let text = text_of_lines(rt.alloc())?;
-    assert!(&rt; text.as_str() == "+-----+\n| a   |\n+-----+\n| e   |\n+-----+");
-    Ok(())
+fn columns_are_as_wide_as_the_widest_line(rt: HostRuntime) {
+    let text = "+---+----+\n| a | bc |\n+---+----+";
+    expect_found(&rt, text_of_pair(rt.alloc()), text);
+    expect_found(&rt, text_of(rt.alloc(), [["a", "bc"]]), text);
+    let text = "+-----+\n| a   |\n+-----+\n| e   |\n+-----+";
+    expect_found(&rt, text_of_lines(rt.alloc()), text);
 }

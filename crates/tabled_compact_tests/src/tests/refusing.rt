@@ -1,12 +1,11 @@
 //! Tables of a source that refuses cells, and tables that are refused memory. `tests/memory` runs
 //! `compact_tables_append_all_or_nothing` with each request for memory refused.
-use super::table as table_of;
+use super::{MEMORY, expect_fault, expect_refused, expect_text, rows_of};
 use grid_config::Fault;
 use grid_records_fakes::RefusedRows;
 use grid_records_traits::IntoRecords;
-use std::alloc::{AllocError, Global};
+use std::alloc::Global;
 use std::process::Abort;
-use std::test::Fail;
 use tabled_compact::{BuildFault, CompactTable};
 use tabled_fakes::StepWriter;
 use tabled_output::Counted;
@@ -43,45 +42,42 @@ fn given(whole: usize) -> RefusedRows {
     RefusedRows::new(2, 2, whole)
 }
 
-// Whether the table of such rows has no text for want of memory, and leaves what a text has.
-fn is_refused(alloc: Global, whole: usize) -> Result<bool, AllocError> {
-    let made = matches!(text_of(alloc, given(whole), 2), Err(Fault::Memory));
-    let mut text = String::from_str(alloc, "before")?;
-    let appended = matches!(
-        append(alloc, given(whole), 2, &mut text),
-        Err(Fault::Memory)
-    );
-    Ok(made && appended && text.as_str() == "before")
+// That the table of such rows has no text for want of memory, and leaves what a text has.
+fn is_refused(rt: &impl Abort, alloc: Global, whole: usize) {
+    expect_refused(rt, text_of(alloc, given(whole), 2), Fault::Memory);
+    let mut text = String::from_str(alloc, "before").expect(rt, MEMORY);
+    let appended = append(alloc, given(whole), 2, &mut text);
+    expect_fault(rt, appended, Fault::Memory);
+    expect_text(rt, text.as_str(), "before");
+}
+
+// That it leaves the writer.
+fn leaves_the_writer(rt: &impl Abort, alloc: Global, whole: usize) {
+    let mut counted = Counted::new(StepWriter::new(alloc, 1, 1));
+    let answer = write(alloc, given(whole), &mut counted);
+    let counts = (counted.failures(), counted.empty_writes());
+    let calls = counted.into_inner().calls;
+    assert_eq!(rt; answer, Err(BuildFault::Table(Fault::Memory)));
+    assert_eq!(rt; (counts, calls), ((0, 0), 0));
 }
 
 #[test]
-fn a_cell_that_is_refused_leaves_the_text(rt: HostRuntime) -> Result<(), Fail> {
+fn a_cell_that_is_refused_leaves_the_text_and_the_writer(rt: HostRuntime) {
     for whole in 0..4 {
-        assert!(&rt; is_refused(rt.alloc(), whole)?);
+        is_refused(&rt, rt.alloc(), whole);
+        leaves_the_writer(&rt, rt.alloc(), whole);
     }
-    Ok(())
 }
 
 #[test]
-fn cells_that_are_given_have_their_text(rt: HostRuntime) -> Result<(), Fail> {
+fn cells_that_are_given_have_their_text(rt: HostRuntime) {
     let all = "+---+---+\n| a | a |\n+---+---+\n| a | a |\n+---+---+";
-    assert!(&rt; text_of(rt.alloc(), given(4), 2)?.as_str() == all);
+    let found = text_of(rt.alloc(), given(4), 2).expect(&rt, MEMORY);
+    expect_text(&rt, found.as_str(), all);
     // the second row is not read
     let first = "+---+---+\n| a | a |\n+---+---+";
-    assert!(&rt; text_of(rt.alloc(), given(2), 1)?.as_str() == first);
-    Ok(())
-}
-
-#[test]
-fn a_cell_that_is_refused_leaves_the_writer(rt: HostRuntime) -> Result<(), Fail> {
-    for whole in 0..4 {
-        let mut counted = Counted::new(StepWriter::new(rt.alloc(), 1, 1));
-        let answer = write(rt.alloc(), given(whole), &mut counted);
-        assert_eq!(&rt; answer, Err(BuildFault::Table(Fault::Memory)));
-        assert_eq!(&rt; (counted.failures(), counted.empty_writes()), (0, 0));
-        assert_eq!(&rt; counted.into_inner().calls, 0);
-    }
-    Ok(())
+    let found = text_of(rt.alloc(), given(2), 1).expect(&rt, MEMORY);
+    expect_text(&rt, found.as_str(), first);
 }
 
 // What stands before a table, and that with the table.
@@ -109,7 +105,8 @@ fn expect_all_or_nothing(
 fn compact_tables_append_all_or_nothing(rt: HostRuntime) -> Result<(), Fault> {
     let mut text = String::from_str(rt.alloc(), BEFORE)?;
     let cells: &[&[&str]] = &[&["a", "b"], &["1", "2"]];
-    let table = table_of(rt.alloc(), cells, 2)?.width(3);
+    let rows = rows_of(rt.alloc(), cells)?;
+    let table = CompactTable::new(rows).columns(2).width(3);
     let outcome = table.fmt(rt.alloc(), &mut text);
     expect_all_or_nothing(&rt, outcome, &text)
 }

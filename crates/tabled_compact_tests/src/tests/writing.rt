@@ -1,76 +1,95 @@
 //! How a table is written.
-use super::{small_of, table};
+use super::{Begun, MEMORY, expect_text, small_of, table};
 use grid_config::Fault;
 use std::alloc::Global;
 use std::process::Abort;
-use std::test::Fail;
 use tabled_compact::BuildFault;
 use tabled_fakes::StepWriter;
 use tabled_output::Counted;
 
 const TEXT: &[u8] = b"+---+\n| a |\n+---+";
 
-// What a table returns that is written to this writer; which counts changed; and that a front of `taken`
-// bytes was taken by `calls` calls.
+// What a write returned, how many failures and empty writes were counted, and how many calls there were.
+type Written = (Result<(), BuildFault>, (u64, u64), usize);
+
+fn expect_answer(rt: &impl Abort, found: Written, wanted: Written) {
+    assert_eq!(rt; found, wanted);
+}
+
+// Writes a table to this writer: that a front of `taken` bytes was taken.
 fn expect_written(
     rt: &impl Abort,
     alloc: Global,
+    table: Begun,
     writer: StepWriter,
-    answer: Result<(), BuildFault>,
-    counts: (u64, u64),
     taken: usize,
-    calls: usize,
-) -> Result<(), Fault> {
+    wanted: Written,
+) {
     let mut counted = Counted::new(writer);
-    let found = small_of(alloc)?.build(alloc, &mut counted);
-    assert_eq!(rt; found, answer);
-    assert_eq!(rt; (counted.failures(), counted.empty_writes()), counts);
+    let answer = table.build(alloc, &mut counted);
+    let counts = (counted.failures(), counted.empty_writes());
     let writer = counted.into_inner();
     assert!(rt; Some(writer.taken.as_slice()) == TEXT.get(..taken));
-    assert_eq!(rt; writer.calls, calls);
-    Ok(())
+    expect_answer(rt, (answer, counts, writer.calls), wanted);
+}
+
+// A writer that takes a byte a call, so many, and fails at the next call, which is the `bad`-th, or takes
+// nothing then.
+fn expect_given_up(rt: &impl Abort, a: Global, taken: usize, bad: usize) {
+    let writer = StepWriter::new(a, 1, bad);
+    let failed = (Err(BuildFault::Write), (1, 0), bad);
+    expect_written(rt, a, small_of(rt, a), writer, taken, failed);
+    let filling = StepWriter::filling(a, 1, taken);
+    let empty = (Err(BuildFault::WriteZero), (0, 1), bad);
+    expect_written(rt, a, small_of(rt, a), filling, taken, empty);
 }
 
 #[test]
-fn a_table_is_written_until_the_writer_gives_up(rt: HostRuntime) -> Result<(), Fail> {
-    let a = rt.alloc();
-    let all = TEXT.len();
-    expect_written(&rt, a, StepWriter::new(a, all, 0), Ok(()), (0, 0), all, 1)?;
-    expect_written(&rt, a, StepWriter::new(a, 1, 0), Ok(()), (0, 0), all, all)?;
+fn a_table_is_written_until_the_writer_gives_up(rt: HostRuntime) {
+    let (a, all) = (rt.alloc(), TEXT.len());
+    let one = (Ok(()), (0, 0), 1);
+    expect_written(
+        &rt,
+        a,
+        small_of(&rt, a),
+        StepWriter::new(a, all, 0),
+        all,
+        one,
+    );
+    let each = (Ok(()), (0, 0), all);
+    expect_written(
+        &rt,
+        a,
+        small_of(&rt, a),
+        StepWriter::new(a, 1, 0),
+        all,
+        each,
+    );
     for bad in 1..TEXT.len() + 1 {
-        let writer = StepWriter::new(a, 1, bad);
-        let failed = Err(BuildFault::Write);
-        expect_written(&rt, a, writer, failed, (1, 0), bad - 1, bad)?;
-        let filling = StepWriter::filling(a, 1, bad - 1);
-        let empty = Err(BuildFault::WriteZero);
-        expect_written(&rt, a, filling, empty, (0, 1), bad - 1, bad)?;
+        expect_given_up(&rt, a, bad - 1, bad);
     }
-    Ok(())
 }
 
 #[test]
-fn a_table_without_a_text_is_not_written(rt: HostRuntime) -> Result<(), Fail> {
+fn a_table_without_a_text_is_not_written(rt: HostRuntime) {
     let a = rt.alloc();
-    let mut counted = Counted::new(StepWriter::new(a, 1, 1));
-    let answer = table(a, &[&["abc"]], 1)?.build(a, &mut counted);
+    let wide = table(&rt, a, &[&["abc"]], 1);
     let room = Fault::Room { row: 0, column: 0 };
-    assert_eq!(&rt; answer, Err(BuildFault::Table(room)));
-    assert_eq!(&rt; counted.failures(), 0);
-    assert_eq!(&rt; counted.into_inner().calls, 0);
-    Ok(())
+    let answer = (Err(BuildFault::Table(room)), (0, 0), 0);
+    expect_written(&rt, a, wide, StepWriter::new(a, 1, 1), 0, answer);
 }
 
-// What a fault prints.
-fn shown(alloc: Global, fault: BuildFault) -> Result<String, Fault> {
-    Ok(format!(in alloc; "{fault}")?)
+// That a fault prints this.
+fn tells(rt: &impl Abort, alloc: Global, fault: BuildFault, wanted: &str) {
+    let found = format!(in alloc; "{fault}").expect(rt, MEMORY);
+    expect_text(rt, found.as_str(), wanted);
 }
 
 #[test]
-fn faults_are_told_in_words(rt: HostRuntime) -> Result<(), Fail> {
+fn faults_are_told_in_words(rt: HostRuntime) {
     let a = rt.alloc();
-    assert!(&rt; shown(a, BuildFault::Write)?.as_str() == "write failed");
-    assert!(&rt; shown(a, BuildFault::WriteZero)?.as_str() == "writer took nothing");
-    let range = format!(in a; "{}", Fault::Range)?;
-    assert!(&rt; shown(a, BuildFault::Table(Fault::Range))?.as_str() == range.as_str());
-    Ok(())
+    tells(&rt, a, BuildFault::Write, "write failed");
+    tells(&rt, a, BuildFault::WriteZero, "writer took nothing");
+    let range = format!(in a; "{}", Fault::Range).expect(&rt, MEMORY);
+    tells(&rt, a, BuildFault::Table(Fault::Range), range.as_str());
 }

@@ -1,74 +1,24 @@
-//! Tables without columns or rows, and content without room.
-use super::{NONE, PAIRS, Rows, Set, prints, table};
+//! Tables without columns or rows.
+use super::{Call, MEMORY, PAIRS, Texts, set, table};
 use std::alloc::Global;
-use std::test::Fail;
+use std::process::Abort;
 use tabled_fakes::StepWriter;
 use tabled_iter::IterTable;
 use tabled_output::Counted;
 
-#[test]
-fn all_cells_are_cut_at_a_width(rt: HostRuntime) -> Result<(), Fail> {
-    let one = Set {
-        width: Some(1),
-        ..NONE
-    };
-    let text = "+---+---+\n| F | r |\n+---+---+\n| S | r |\n+---+---+";
-    assert!(&rt; prints(rt.alloc(), PAIRS, one, text)?);
-    Ok(())
-}
-
-#[test]
-fn only_paddings_have_room_without_a_width(rt: HostRuntime) -> Result<(), Fail> {
-    let none = Set {
-        width: Some(0),
-        ..NONE
-    };
-    let text = "+--+--+\n|  |  |\n+--+--+\n|  |  |\n+--+--+";
-    assert!(&rt; prints(rt.alloc(), PAIRS, none, text)?);
-    Ok(())
-}
-
-#[test]
-fn no_line_has_room_without_a_height(rt: HostRuntime) -> Result<(), Fail> {
-    let none = Set {
-        height: Some(0),
-        ..NONE
-    };
-    assert!(&rt; prints(rt.alloc(), &[&["a\nb"]], none, "+---+\n+---+")?);
-    Ok(())
-}
-
-// The thumb and its colour take two columns, though each alone takes two.
-#[test]
-fn cells_are_cut_by_what_they_measure(rt: HostRuntime) -> Result<(), Fail> {
-    let one = Set {
-        sniff: Some(1),
-        ..NONE
-    };
-    let text = "+----+\n| ab |\n+----+\n| 👍🏿 |\n+----+";
-    assert!(&rt; prints(rt.alloc(), &[&["ab"], &["👍🏿"]], one, text)?);
-    Ok(())
-}
-
-// What the writer of a table returns that prints nothing, and how many calls it had.
-fn calls(alloc: Global, table: IterTable<Rows>) -> (bool, usize) {
+// That a table is written by no call, and the writer would fail.
+fn is_not_written(rt: &impl Abort, alloc: Global, table: IterTable<Texts>) {
     let mut counted = Counted::new(StepWriter::new(alloc, 1, 1));
     let answer = table.build(alloc, &mut counted);
-    (answer.is_ok(), counted.into_inner().calls)
+    assert_eq!(rt; answer, Ok(()));
+    assert_eq!(rt; counted.into_inner().calls, 0);
 }
 
 #[test]
-fn a_table_without_columns_is_written_by_no_call(rt: HostRuntime) -> Result<(), Fail> {
-    let mut none = table(rt.alloc(), PAIRS)?;
-    none.columns(0);
-    assert_eq!(&rt; calls(rt.alloc(), none), (true, 0));
-    Ok(())
-}
-
-#[test]
-fn a_table_without_rows_is_written_by_no_call(rt: HostRuntime) -> Result<(), Fail> {
-    let mut none = table(rt.alloc(), PAIRS)?;
-    none.rows(0);
-    assert_eq!(&rt; calls(rt.alloc(), none), (true, 0));
-    Ok(())
+fn a_table_without_columns_or_rows_is_written_by_no_call(rt: HostRuntime) {
+    for call in [Call::Columns(0), Call::Rows(0)] {
+        let mut none = table(rt.alloc(), PAIRS).expect(&rt, MEMORY);
+        set(&mut none, call);
+        is_not_written(&rt, rt.alloc(), none);
+    }
 }

@@ -1,12 +1,11 @@
 //! Tables of a source that refuses cells, and tables that are refused memory. `tests/memory` runs
 //! `iter_tables_append_all_or_nothing` with each request for memory refused, also of a cell that is cut.
-use super::table as table_of;
+use super::{MEMORY, expect_done, expect_found, expect_refused, expect_text, table as table_of};
 use grid_config::Fault;
 use grid_records_fakes::RefusedRows;
 use grid_records_traits::IntoRecords;
-use std::alloc::{AllocError, Global};
+use std::alloc::Global;
 use std::process::Abort;
-use std::test::Fail;
 use tabled_compact::BuildFault;
 use tabled_fakes::StepWriter;
 use tabled_iter::IterTable;
@@ -66,53 +65,45 @@ fn given(whole: usize) -> RefusedRows {
     RefusedRows::new(2, 2, whole)
 }
 
-// Whether the table of such rows has no text for want of memory, and leaves what a text has.
-fn is_refused(alloc: Global, sniff: usize, whole: usize) -> Result<bool, AllocError> {
-    let made = matches!(text_of(alloc, given(whole), sniff, 2), Err(Fault::Memory));
-    let mut text = String::from_str(alloc, "before")?;
+// That the table of such rows has no text for want of memory, and leaves what a text has.
+fn is_refused(rt: &impl Abort, alloc: Global, sniff: usize, whole: usize) {
+    expect_refused(rt, text_of(alloc, given(whole), sniff, 2));
+    let mut text = String::from_str(alloc, "before").expect(rt, MEMORY);
     let outcome = append(alloc, given(whole), sniff, 2, &mut text);
-    let appended = matches!(outcome, Err(Fault::Memory));
-    Ok(made && appended && text.as_str() == "before")
+    expect_done(rt, outcome, Err(Fault::Memory));
+    expect_text(rt, text.as_str(), "before");
+}
+
+// That it leaves the writer.
+fn leaves_the_writer(rt: &impl Abort, alloc: Global, whole: usize) {
+    let mut counted = Counted::new(StepWriter::new(alloc, 1, 1));
+    let answer = write(alloc, given(whole), &mut counted);
+    let counts = (counted.failures(), counted.empty_writes());
+    let calls = counted.into_inner().calls;
+    assert_eq!(rt; answer, Err(BuildFault::Table(Fault::Memory)));
+    assert_eq!(rt; (counts, calls), ((0, 0), 0));
 }
 
 #[test]
-fn a_cell_that_is_refused_leaves_the_text(rt: HostRuntime) -> Result<(), Fail> {
-    for sniff in 0..3 {
-        for whole in 0..4 {
-            assert!(&rt; is_refused(rt.alloc(), sniff, whole)?);
-        }
+fn a_cell_that_is_refused_leaves_the_text_and_the_writer(rt: HostRuntime) {
+    for whole in 0..4 {
+        is_refused(&rt, rt.alloc(), 0, whole);
+        is_refused(&rt, rt.alloc(), 1, whole);
+        is_refused(&rt, rt.alloc(), 2, whole);
+        leaves_the_writer(&rt, rt.alloc(), whole);
+        // the same of rows that are read at once
+        expect_refused(&rt, text_of_read(rt.alloc(), given(whole)));
     }
-    Ok(())
 }
 
 #[test]
-fn rows_that_are_neither_sniffed_nor_kept_are_not_read(rt: HostRuntime) -> Result<(), Fail> {
-    assert!(&rt; text_of(rt.alloc(), given(4), 1, 2)?.as_str() == TEXT);
+fn rows_that_are_neither_sniffed_nor_kept_are_not_read(rt: HostRuntime) {
+    let a = rt.alloc();
+    expect_found(&rt, text_of(a, given(4), 1, 2), TEXT);
     let first = "+---+---+\n| a | a |\n+---+---+";
-    assert!(&rt; text_of(rt.alloc(), given(2), 1, 1)?.as_str() == first);
-    assert!(&rt; matches!(text_of(rt.alloc(), given(2), 2, 1), Err(Fault::Memory)));
-    Ok(())
-}
-
-#[test]
-fn a_cell_that_is_refused_leaves_the_writer(rt: HostRuntime) -> Result<(), Fail> {
-    for whole in 0..4 {
-        let mut counted = Counted::new(StepWriter::new(rt.alloc(), 1, 1));
-        let answer = write(rt.alloc(), given(whole), &mut counted);
-        assert_eq!(&rt; answer, Err(BuildFault::Table(Fault::Memory)));
-        assert_eq!(&rt; (counted.failures(), counted.empty_writes()), (0, 0));
-        assert_eq!(&rt; counted.into_inner().calls, 0);
-    }
-    Ok(())
-}
-
-#[test]
-fn rows_that_are_read_at_once_are_refused_at_once(rt: HostRuntime) -> Result<(), Fail> {
-    for whole in 0..4 {
-        assert!(&rt; matches!(text_of_read(rt.alloc(), given(whole)), Err(Fault::Memory)));
-    }
-    assert!(&rt; text_of_read(rt.alloc(), given(4))?.as_str() == TEXT);
-    Ok(())
+    expect_found(&rt, text_of(a, given(2), 1, 1), first);
+    expect_refused(&rt, text_of(a, given(2), 2, 1));
+    expect_found(&rt, text_of_read(a, given(4)), TEXT);
 }
 
 // What stands before a table, and that with the table.

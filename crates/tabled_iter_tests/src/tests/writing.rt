@@ -1,62 +1,86 @@
 //! How a table is written.
-use super::table;
+use super::{MEMORY, Texts, table};
 use grid_config::Fault;
 use std::alloc::Global;
 use std::process::Abort;
-use std::test::Fail;
 use tabled_compact::BuildFault;
 use tabled_fakes::StepWriter;
+use tabled_iter::IterTable;
 use tabled_output::Counted;
 
 const TEXT: &[u8] = b"+---+\n| a |\n+---+";
 
-// What a table returns that is written to this writer; which counts changed; and that a front of `taken`
-// bytes was taken by `calls` calls.
+// What a write returned, how many failures and empty writes were counted, and how many calls there were.
+type Written = (Result<(), BuildFault>, (u64, u64), usize);
+
+fn expect_answer(rt: &impl Abort, found: Written, wanted: Written) {
+    assert_eq!(rt; found, wanted);
+}
+
+// Writes a table to this writer: that a front of `taken` bytes was taken.
 fn expect_written(
     rt: &impl Abort,
     alloc: Global,
+    table: IterTable<Texts>,
     writer: StepWriter,
-    answer: Result<(), BuildFault>,
-    counts: (u64, u64),
     taken: usize,
-    calls: usize,
-) -> Result<(), Fault> {
+    wanted: Written,
+) {
     let mut counted = Counted::new(writer);
-    let found = table(alloc, &[&["a"]])?.build(alloc, &mut counted);
-    assert_eq!(rt; found, answer);
-    assert_eq!(rt; (counted.failures(), counted.empty_writes()), counts);
+    let answer = table.build(alloc, &mut counted);
+    let counts = (counted.failures(), counted.empty_writes());
     let writer = counted.into_inner();
     assert!(rt; Some(writer.taken.as_slice()) == TEXT.get(..taken));
-    assert_eq!(rt; writer.calls, calls);
-    Ok(())
+    expect_answer(rt, (answer, counts, writer.calls), wanted);
+}
+
+// A table of one cell.
+fn small_of(rt: &impl Abort, alloc: Global) -> IterTable<Texts> {
+    table(alloc, &[&["a"]]).expect(rt, MEMORY)
+}
+
+// A writer that takes a byte a call, so many, and fails at the next call, which is the `bad`-th, or takes
+// nothing then.
+fn expect_given_up(rt: &impl Abort, a: Global, taken: usize, bad: usize) {
+    let writer = StepWriter::new(a, 1, bad);
+    let failed = (Err(BuildFault::Write), (1, 0), bad);
+    expect_written(rt, a, small_of(rt, a), writer, taken, failed);
+    let filling = StepWriter::filling(a, 1, taken);
+    let empty = (Err(BuildFault::WriteZero), (0, 1), bad);
+    expect_written(rt, a, small_of(rt, a), filling, taken, empty);
 }
 
 #[test]
-fn a_table_is_written_until_the_writer_gives_up(rt: HostRuntime) -> Result<(), Fail> {
-    let a = rt.alloc();
-    let all = TEXT.len();
-    expect_written(&rt, a, StepWriter::new(a, all, 0), Ok(()), (0, 0), all, 1)?;
-    expect_written(&rt, a, StepWriter::new(a, 1, 0), Ok(()), (0, 0), all, all)?;
+fn a_table_is_written_until_the_writer_gives_up(rt: HostRuntime) {
+    let (a, all) = (rt.alloc(), TEXT.len());
+    let one = (Ok(()), (0, 0), 1);
+    expect_written(
+        &rt,
+        a,
+        small_of(&rt, a),
+        StepWriter::new(a, all, 0),
+        all,
+        one,
+    );
+    let each = (Ok(()), (0, 0), all);
+    expect_written(
+        &rt,
+        a,
+        small_of(&rt, a),
+        StepWriter::new(a, 1, 0),
+        all,
+        each,
+    );
     for bad in 1..TEXT.len() + 1 {
-        let writer = StepWriter::new(a, 1, bad);
-        let failed = Err(BuildFault::Write);
-        expect_written(&rt, a, writer, failed, (1, 0), bad - 1, bad)?;
-        let filling = StepWriter::filling(a, 1, bad - 1);
-        let empty = Err(BuildFault::WriteZero);
-        expect_written(&rt, a, filling, empty, (0, 1), bad - 1, bad)?;
+        expect_given_up(&rt, a, bad - 1, bad);
     }
-    Ok(())
 }
 
 #[test]
-fn a_table_without_a_text_is_not_written(rt: HostRuntime) -> Result<(), Fail> {
+fn a_table_without_a_text_is_not_written(rt: HostRuntime) {
     let a = rt.alloc();
-    let mut counted = Counted::new(StepWriter::new(a, 1, 1));
-    let mut wide = table(a, &[&["a"]])?;
+    let mut wide = small_of(&rt, a);
     wide.width(usize::MAX);
-    let answer = wide.build(a, &mut counted);
-    assert_eq!(&rt; answer, Err(BuildFault::Table(Fault::Range)));
-    assert_eq!(&rt; counted.failures(), 0);
-    assert_eq!(&rt; counted.into_inner().calls, 0);
-    Ok(())
+    let answer = (Err(BuildFault::Table(Fault::Range)), (0, 0), 0);
+    expect_written(&rt, a, wide, StepWriter::new(a, 1, 1), 0, answer);
 }

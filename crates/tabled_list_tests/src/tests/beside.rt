@@ -1,6 +1,6 @@
 //! Each setting makes of a table what the option or setter of its name makes of it, and that isn't what
 //! the table was.
-use super::{alone, let_go, outcome, spaced};
+use super::{MEMORY, alone, expect, expect_text, let_go, outcome, spaced};
 use grid_config::{
     AlignmentHorizontal, AlignmentVertical, ColoredConfig, Entity, Fault, Position, SpannedConfig,
 };
@@ -8,7 +8,6 @@ use grid_records_rows::{Text, VecRecords};
 use grid_records_traits::records::PeekableRecords;
 use std::alloc::{AllocError, Global};
 use std::process::Abort;
-use std::test::Fail;
 use tabled::{
     Amount, Builder, CellHeightIncrease, CellHeightLimit, CellOption, HeightList, Justify, Margin,
     Max, Min, MinWidth, Padding, Percent, Setting, Style, Table, TableHeightIncrease,
@@ -69,71 +68,81 @@ fn sample(alloc: Global) -> Result<Table, Fault> {
     Table::from_builder(builder)
 }
 
+// The sample, which is made where there is memory.
+fn begun(rt: &impl Abort, alloc: Global) -> Table {
+    sample(alloc).expect(rt, MEMORY)
+}
+
 // What the sample is after this, which was done to it.
-fn left(alloc: Global, table: Table, done: Result<(), Fault>) -> Result<String, Fault> {
+fn left(rt: &impl Abort, alloc: Global, table: Table, done: Result<(), Fault>) -> String {
     let told = told(alloc, &table);
     let_go(table);
-    done?;
-    Ok(told?)
+    done.expect(rt, "a change is refused");
+    told.expect(rt, MEMORY)
 }
 
-fn listed(alloc: Global, setting: Setting) -> Result<String, Fault> {
-    let settings = alone(alloc, setting)?;
-    let mut table = sample(alloc)?;
+fn listed(rt: &impl Abort, alloc: Global, setting: Setting) -> String {
+    let settings = alone(alloc, setting).expect(rt, MEMORY);
+    let mut table = begun(rt, alloc);
     let done = outcome(table.with_list(&settings));
-    left(alloc, table, done)
+    left(rt, alloc, table, done)
 }
 
-// Whether both made the same of the sample, which isn't the sample.
-fn same(alloc: Global, by_list: &str, by_option: &str) -> Result<bool, Fault> {
-    let before = left(alloc, sample(alloc)?, Ok(()))?;
-    Ok(by_list == by_option && by_list != before.as_str())
+// That both made the same of the sample, which isn't the sample.
+fn same(rt: &impl Abort, alloc: Global, by_list: &str, by_option: &str) {
+    expect_text(rt, by_list, by_option);
+    let before = left(rt, alloc, begun(rt, alloc), Ok(()));
+    expect(rt, by_list != before.as_str(), by_list);
 }
 
 fn is_as<O: TableOption<VecRecords<Text>, ColoredConfig, CompleteDimension>>(
+    rt: &impl Abort,
     alloc: Global,
     setting: Setting,
     option: O,
-) -> Result<bool, Fault>
+)
 where
     O: Drop,
 {
-    let by_list = listed(alloc, setting)?;
-    let mut table = sample(alloc)?;
+    let by_list = listed(rt, alloc, setting);
+    let mut table = begun(rt, alloc);
     let done = table.set(option);
-    let by_option = left(alloc, table, done)?;
-    same(alloc, &by_list, &by_option)
+    let by_option = left(rt, alloc, table, done);
+    same(rt, alloc, &by_list, &by_option);
 }
 
 fn is_as_cells<O: CellOption<VecRecords<Text>, ColoredConfig>>(
+    rt: &impl Abort,
     alloc: Global,
     setting: Setting,
     at: Entity,
     option: &O,
-) -> Result<bool, Fault> {
-    let by_list = listed(alloc, setting)?;
-    let mut table = sample(alloc)?;
+) {
+    let by_list = listed(rt, alloc, setting);
+    let mut table = begun(rt, alloc);
     let done = table.set_cells(at, option);
-    let by_option = left(alloc, table, done)?;
-    same(alloc, &by_list, &by_option)
+    let by_option = left(rt, alloc, table, done);
+    same(rt, alloc, &by_list, &by_option);
 }
 
 fn is_as_setter(
+    rt: &impl Abort,
     alloc: Global,
     setting: Setting,
     set: fn(&mut SpannedConfig) -> Result<(), Fault>,
-) -> Result<bool, Fault>
+)
     requires { IsAlwaysCallable set }
 {
-    let by_list = listed(alloc, setting)?;
-    let mut table = sample(alloc)?;
+    let by_list = listed(rt, alloc, setting);
+    let mut table = begun(rt, alloc);
     let done = set(table.get_config_mut().spanned_mut());
-    let by_option = left(alloc, table, done)?;
-    same(alloc, &by_list, &by_option)
+    let by_option = left(rt, alloc, table, done);
+    same(rt, alloc, &by_list, &by_option);
 }
 
-#[test]
-fn a_table_is_wrapped(rt: HostRuntime) -> Result<(), Fail> {
+// ---- widths
+
+fn wrap_a_table(rt: &impl Abort, a: Global) {
     let (width, keep_words, priority) = (Amount::Exact(20), true, Choice::MaxLeft);
     let setting = Setting::Wrap {
         width,
@@ -141,13 +150,11 @@ fn a_table_is_wrapped(rt: HostRuntime) -> Result<(), Fail> {
         priority,
     };
     let option = Wrap::new(20).keep_words(true).priority(PriorityMax::left());
-    assert!(&rt; is_as(rt.alloc(), setting, option)?);
-    Ok(())
+    is_as(rt, a, setting, option);
 }
 
-#[test]
-fn a_table_is_cut(rt: HostRuntime) -> Result<(), Fail> {
-    let suffix = String::from_str(rt.alloc(), "..")?;
+fn cut_a_table(rt: &impl Abort, a: Global) {
+    let suffix = String::from_str(a, "..").expect(rt, MEMORY);
     let setting = Setting::Truncate {
         width: Amount::Percent(60),
         suffix,
@@ -161,96 +168,87 @@ fn a_table_is_cut(rt: HostRuntime) -> Result<(), Fail> {
         .multiline(true)
         .suffix_try_color(true)
         .priority(PriorityRight::new());
-    assert!(&rt; is_as(rt.alloc(), setting, option)?);
-    Ok(())
+    is_as(rt, a, setting, option);
 }
 
-#[test]
-fn a_table_is_grown(rt: HostRuntime) -> Result<(), Fail> {
+fn widen_a_table(rt: &impl Abort, a: Global) {
     let (width, priority) = (Amount::Exact(60), Choice::MinRight);
     let setting = Setting::MinWidth { width, priority };
     let option = MinWidth::new(60).priority(PriorityMin::right());
-    assert!(&rt; is_as(rt.alloc(), setting, option)?);
-    Ok(())
-}
-
-#[test]
-fn a_table_is_justified(rt: HostRuntime) -> Result<(), Fail> {
+    is_as(rt, a, setting, option);
     let setting = Setting::Justify { width: Amount::Min };
-    assert!(&rt; is_as(rt.alloc(), setting, Justify::new(Min))?);
-    Ok(())
+    is_as(rt, a, setting, Justify::new(Min));
+}
+
+// A list of these sizes.
+fn sizes(rt: &impl Abort, alloc: Global, sizes: &[usize]) -> Vec<usize> {
+    Vec::from_slice(alloc, sizes).expect(rt, MEMORY)
+}
+
+fn list_sizes(rt: &impl Abort, a: Global) {
+    let setting = Setting::WidthList(sizes(rt, a, &[14, 12, 9]));
+    let option = WidthList::new(sizes(rt, a, &[14, 12, 9]));
+    is_as(rt, a, setting, option);
+    let setting = Setting::HeightList(sizes(rt, a, &[2, 3]));
+    let option = HeightList::new(sizes(rt, a, &[2, 3]));
+    is_as(rt, a, setting, option);
 }
 
 #[test]
-fn widths_are_listed(rt: HostRuntime) -> Result<(), Fail> {
-    let a = rt.alloc();
-    let setting = Setting::WidthList(Vec::from_slice(a, &[14, 12, 9])?);
-    let option = WidthList::new(Vec::from_slice(a, &[14, 12, 9])?);
-    assert!(&rt; is_as(a, setting, option)?);
-    Ok(())
+fn a_table_gets_widths(rt: HostRuntime) {
+    wrap_a_table(&rt, rt.alloc());
+    cut_a_table(&rt, rt.alloc());
+    widen_a_table(&rt, rt.alloc());
+    list_sizes(&rt, rt.alloc());
 }
 
-#[test]
-fn heights_are_listed(rt: HostRuntime) -> Result<(), Fail> {
-    let a = rt.alloc();
-    let setting = Setting::HeightList(Vec::from_slice(a, &[2, 3])?);
-    let option = HeightList::new(Vec::from_slice(a, &[2, 3])?);
-    assert!(&rt; is_as(a, setting, option)?);
-    Ok(())
-}
+// ---- heights
 
-#[test]
-fn heights_grow(rt: HostRuntime) -> Result<(), Fail> {
+fn grow_heights(rt: &impl Abort, a: Global) {
     let (height, priority) = (Amount::Percent(150), Choice::MinLeft);
     let setting = Setting::HeightIncrease { height, priority };
     let option = TableHeightIncrease::new(Percent(150)).priority(PriorityMin::left());
-    assert!(&rt; is_as(rt.alloc(), setting, option)?);
-    Ok(())
-}
-
-#[test]
-fn heights_grow_in_turn(rt: HostRuntime) -> Result<(), Fail> {
+    is_as(rt, a, setting, option);
+    // in turn
     let (height, priority) = (Amount::Exact(9), Choice::None);
     let setting = Setting::HeightIncrease { height, priority };
     let option = TableHeightIncrease::new(9).priority(PriorityNone::new());
-    assert!(&rt; is_as(rt.alloc(), setting, option)?);
-    Ok(())
+    is_as(rt, a, setting, option);
 }
 
-#[test]
-fn heights_grow_from_the_first_row(rt: HostRuntime) -> Result<(), Fail> {
+fn grow_or_limit_heights(rt: &impl Abort, a: Global) {
+    // from the first row on
     let (height, priority) = (Amount::Exact(9), Choice::Left);
     let setting = Setting::HeightIncrease { height, priority };
     let option = TableHeightIncrease::new(9).priority(PriorityLeft::new());
-    assert!(&rt; is_as(rt.alloc(), setting, option)?);
-    Ok(())
-}
-
-#[test]
-fn heights_are_limited(rt: HostRuntime) -> Result<(), Fail> {
+    is_as(rt, a, setting, option);
     let (height, priority) = (Amount::Exact(5), Choice::MaxRight);
     let setting = Setting::HeightLimit { height, priority };
     let option = TableHeightLimit::new(5).priority(PriorityMax::right());
-    assert!(&rt; is_as(rt.alloc(), setting, option)?);
-    Ok(())
+    is_as(rt, a, setting, option);
 }
 
 #[test]
-fn cells_are_wrapped(rt: HostRuntime) -> Result<(), Fail> {
+fn a_table_gets_heights(rt: HostRuntime) {
+    grow_heights(&rt, rt.alloc());
+    grow_or_limit_heights(&rt, rt.alloc());
+}
+
+// ---- cells
+
+fn wrap_cells(rt: &impl Abort, a: Global) {
     let (at, width) = (Entity::Column(1), Amount::Exact(3));
     let setting = Setting::CellWrap {
         at,
         width,
         keep_words: false,
     };
-    assert!(&rt; is_as_cells(rt.alloc(), setting, at, &Wrap::new(3))?);
-    Ok(())
+    is_as_cells(rt, a, setting, at, &Wrap::new(3));
 }
 
-#[test]
-fn cells_are_cut(rt: HostRuntime) -> Result<(), Fail> {
+fn cut_cells(rt: &impl Abort, a: Global) {
     let (at, width) = (Entity::Column(1), Amount::Exact(3));
-    let suffix = String::from_str(rt.alloc(), "...")?;
+    let suffix = String::from_str(a, "...").expect(rt, MEMORY);
     let limit = SuffixLimit::Replace('x');
     let setting = Setting::CellTruncate {
         at,
@@ -261,103 +259,71 @@ fn cells_are_cut(rt: HostRuntime) -> Result<(), Fail> {
         try_color: false,
     };
     let option = Truncate::new(3).suffix("...").suffix_limit(limit);
-    assert!(&rt; is_as_cells(rt.alloc(), setting, at, &option)?);
-    Ok(())
+    is_as_cells(rt, a, setting, at, &option);
 }
 
-#[test]
-fn cells_are_filled(rt: HostRuntime) -> Result<(), Fail> {
+fn fill_cells(rt: &impl Abort, a: Global) {
     let (at, width, fill) = (Entity::Row(1), Amount::Max, '.');
     let setting = Setting::CellMinWidth { at, width, fill };
     let option = MinWidth::new(Max).fill_with('.');
-    assert!(&rt; is_as_cells(rt.alloc(), setting, at, &option)?);
-    Ok(())
+    is_as_cells(rt, a, setting, at, &option);
 }
 
-#[test]
-fn cells_get_lines(rt: HostRuntime) -> Result<(), Fail> {
+fn change_lines_of_cells(rt: &impl Abort, a: Global) {
     let (at, height) = (Entity::Cell(1, 0), Amount::Exact(3));
     let setting = Setting::CellHeightIncrease { at, height };
-    assert!(&rt; is_as_cells(rt.alloc(), setting, at, &CellHeightIncrease::new(3))?);
-    Ok(())
-}
-
-#[test]
-fn cells_lose_lines(rt: HostRuntime) -> Result<(), Fail> {
+    is_as_cells(rt, a, setting, at, &CellHeightIncrease::new(3));
     let (at, height) = (Entity::Global, Amount::Exact(1));
     let setting = Setting::CellHeightLimit { at, height };
-    assert!(&rt; is_as_cells(rt.alloc(), setting, at, &CellHeightLimit::new(1))?);
-    Ok(())
+    is_as_cells(rt, a, setting, at, &CellHeightLimit::new(1));
 }
 
 #[test]
-fn cells_are_padded(rt: HostRuntime) -> Result<(), Fail> {
-    let at = Entity::Column(1);
+fn cells_are_changed(rt: HostRuntime) {
+    wrap_cells(&rt, rt.alloc());
+    cut_cells(&rt, rt.alloc());
+    fill_cells(&rt, rt.alloc());
+    change_lines_of_cells(&rt, rt.alloc());
+}
+
+// ---- what stands around texts, and where they stand
+
+#[test]
+fn a_table_gets_spaces_and_borders(rt: HostRuntime) {
+    let (a, at) = (rt.alloc(), Entity::Column(1));
     let setting = Setting::Padding(at, spaced(2, 0, 1, 0));
-    assert!(&rt; is_as_cells(rt.alloc(), setting, at, &Padding::new(2, 0, 1, 0))?);
-    Ok(())
-}
-
-#[test]
-fn a_table_gets_a_margin(rt: HostRuntime) -> Result<(), Fail> {
+    is_as_cells(&rt, a, setting, at, &Padding::new(2, 0, 1, 0));
     let setting = Setting::Margin(spaced(1, 2, 0, 1));
-    assert!(&rt; is_as(rt.alloc(), setting, Margin::new(1, 2, 0, 1))?);
-    Ok(())
-}
-
-#[test]
-fn a_table_gets_borders(rt: HostRuntime) -> Result<(), Fail> {
+    is_as(&rt, a, setting, Margin::new(1, 2, 0, 1));
     let setting = Setting::Borders(Style::modern().get_borders());
-    assert!(&rt; is_as(rt.alloc(), setting, Style::modern())?);
-    Ok(())
+    is_as(&rt, a, setting, Style::modern());
 }
 
 #[test]
-fn texts_are_aligned(rt: HostRuntime) -> Result<(), Fail> {
+fn texts_are_aligned_and_filled_up(rt: HostRuntime) {
+    let a = rt.alloc();
     let setting = Setting::AlignHorizontal(Entity::Column(1), AlignmentHorizontal::Right);
-    let alike = is_as_setter(rt.alloc(), setting, |config| {
+    is_as_setter(&rt, a, setting, |config| {
         config.set_alignment_horizontal(Entity::Column(1), AlignmentHorizontal::Right)
     });
-    assert!(&rt; alike?);
-    Ok(())
-}
-
-#[test]
-fn lines_are_aligned(rt: HostRuntime) -> Result<(), Fail> {
     let setting = Setting::AlignVertical(Entity::Row(0), AlignmentVertical::Bottom);
-    let alike = is_as_setter(rt.alloc(), setting, |config| {
+    is_as_setter(&rt, a, setting, |config| {
         config.set_alignment_vertical(Entity::Row(0), AlignmentVertical::Bottom)
     });
-    assert!(&rt; alike?);
-    Ok(())
-}
-
-#[test]
-fn texts_are_filled_up(rt: HostRuntime) -> Result<(), Fail> {
     let setting = Setting::Justification(Entity::Global, '.');
-    let alike = is_as_setter(rt.alloc(), setting, |config| {
+    is_as_setter(&rt, a, setting, |config| {
         config.set_justification(Entity::Global, '.')
     });
-    assert!(&rt; alike?);
-    Ok(())
 }
 
 #[test]
-fn a_cell_takes_columns(rt: HostRuntime) -> Result<(), Fail> {
+fn a_cell_takes_columns_or_rows(rt: HostRuntime) {
     let setting = Setting::ColumnSpan(Position::new(0, 1), 2);
-    let alike = is_as_setter(rt.alloc(), setting, |config| {
+    is_as_setter(&rt, rt.alloc(), setting, |config| {
         config.set_column_span(Position::new(0, 1), 2)
     });
-    assert!(&rt; alike?);
-    Ok(())
-}
-
-#[test]
-fn a_cell_takes_rows(rt: HostRuntime) -> Result<(), Fail> {
     let setting = Setting::RowSpan(Position::new(0, 2), 2);
-    let alike = is_as_setter(rt.alloc(), setting, |config| {
+    is_as_setter(&rt, rt.alloc(), setting, |config| {
         config.set_row_span(Position::new(0, 2), 2)
     });
-    assert!(&rt; alike?);
-    Ok(())
 }

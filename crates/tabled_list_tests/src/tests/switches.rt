@@ -1,13 +1,14 @@
 //! Settings that are switched on.
-use super::{alone, let_go, outcome};
-use grid_config::{Entity, Fault, Position};
+use super::{MEMORY, alone, let_go, outcome};
+use grid_config::{Entity, Position};
 use std::alloc::Global;
 use std::process::Abort;
-use std::test::Fail;
 use tabled::{Setting, Table};
 
 // Whether the lines of a cell are aligned each by itself, and trimmed at the sides and above.
-fn switched(table: &Table) -> (bool, bool, bool) {
+type Switches = (bool, bool, bool);
+
+fn switched(table: &Table) -> Switches {
     let config = table.get_config().spanned();
     let at = Position::new(0, 0);
     (
@@ -17,32 +18,28 @@ fn switched(table: &Table) -> (bool, bool, bool) {
     )
 }
 
-// The same of the first cell, after this setting.
-fn after(alloc: Global, setting: Setting) -> Result<(bool, bool, bool), Fault> {
-    let settings = alone(alloc, setting)?;
-    let mut table = Table::nohead(alloc, ["a"])?;
+// That these are on of the first cell, after this setting.
+fn switches(rt: &impl Abort, alloc: Global, setting: Setting, wanted: Switches) {
+    let settings = alone(alloc, setting).expect(rt, MEMORY);
+    let mut table = Table::nohead(alloc, ["a"]).expect(rt, "no table is made");
     let done = outcome(table.with_list(&settings));
-    let switched = switched(&table);
+    let found = switched(&table);
     let_go(table);
-    done?;
-    Ok(switched)
+    done.expect(rt, "a setting is refused");
+    assert_eq!(rt; found, wanted);
 }
 
 const FIRST: Entity = Entity::Cell(0, 0);
 
 #[test]
-fn switches_are_set_one_by_one(rt: HostRuntime) -> Result<(), Fail> {
+fn switches_are_set_one_by_one(rt: HostRuntime) {
     let a = rt.alloc();
-    assert!(&rt; after(a, Setting::LineAlignment(FIRST, true))? == (true, false, false));
-    assert!(&rt; after(a, Setting::TrimHorizontal(FIRST, true))? == (false, true, false));
-    assert!(&rt; after(a, Setting::TrimVertical(FIRST, true))? == (false, false, true));
-    Ok(())
-}
-
-#[test]
-fn switches_stay_off_elsewhere(rt: HostRuntime) -> Result<(), Fail> {
-    let a = rt.alloc();
-    let setting = Setting::TrimVertical(Entity::Row(1), true);
-    assert!(&rt; after(a, setting)? == (false, false, false));
-    Ok(())
+    let aligned = Setting::LineAlignment(FIRST, true);
+    switches(&rt, a, aligned, (true, false, false));
+    let at_sides = Setting::TrimHorizontal(FIRST, true);
+    switches(&rt, a, at_sides, (false, true, false));
+    let above = Setting::TrimVertical(FIRST, true);
+    switches(&rt, a, above, (false, false, true));
+    let elsewhere = Setting::TrimVertical(Entity::Row(1), true);
+    switches(&rt, a, elsewhere, (false, false, false));
 }

@@ -1,39 +1,40 @@
 //! Rows in batches.
-use super::let_go;
+use super::{REFUSED, expect, let_go};
 use std::process::Abort;
-use std::test::Fail;
 use tabled::{LayoutIterator, Table};
 
-// Whether just these are given, and then none for good.
-fn gives(batches: LayoutIterator, wanted: &[usize]) -> bool {
+// That just these are given, and then none for good.
+fn gives(rt: &impl Abort, batches: LayoutIterator, wanted: &[usize], what: &str) {
     let mut left = batches;
     for value in wanted {
-        if left.next() != Some(*value) {
-            return false;
-        }
+        expect(rt, left.next() == Some(*value), what);
     }
-    left.next().is_none() && left.next().is_none()
+    expect(rt, left.next().is_none(), what);
+    expect(rt, left.next().is_none(), what);
 }
 
-#[test]
-fn batches_begin_at_each_multiple(rt: HostRuntime) -> Result<(), Fail> {
-    assert!(&rt; gives(LayoutIterator::new(0, 5, 2), &[0, 2, 4]));
-    assert!(&rt; gives(LayoutIterator::new(0, 5, 0), &[]));
-    assert!(&rt; gives(LayoutIterator::new(5, 5, 1), &[]));
-    assert!(&rt; gives(LayoutIterator::new(6, 5, 1), &[]));
-    assert!(&rt; gives(LayoutIterator::new(1, 5, 2), &[0, 2]));
-    let most = usize::MAX;
-    assert!(&rt; gives(LayoutIterator::new(0, most, most), &[0]));
-    assert!(&rt; gives(LayoutIterator::default(), &[]));
-    Ok(())
-}
+const MOST: usize = usize::MAX;
+
+// From which row to which, how many rows a batch has, and where the batches begin.
+const BATCHES: &[(usize, usize, usize, &[usize], &str)] = &[
+    (0, 5, 2, &[0, 2, 4], "by two"),
+    (0, 5, 0, &[], "by none"),
+    (5, 5, 1, &[], "no rows"),
+    (6, 5, 1, &[], "from behind the end"),
+    (1, 5, 2, &[0, 2], "four rows"),
+    (0, MOST, MOST, &[0], "all rows"),
+];
 
 #[test]
-fn each_value_of_names_and_fields_is_a_batch(rt: HostRuntime) -> Result<(), Fail> {
-    let a = rt.alloc();
-    let table = Table::kv(a, [("a", 1u8), ("b", 2u8)])?;
+fn batches_begin_at_each_multiple(rt: HostRuntime) {
+    for (from, to, size, wanted, what) in BATCHES {
+        let batches = LayoutIterator::new(*from, *to, *size);
+        gives(&rt, batches, wanted, what);
+    }
+    gives(&rt, LayoutIterator::default(), &[], "the default");
+    let table = Table::kv(rt.alloc(), [("a", 1u8), ("b", 2u8)]);
+    let table = table.expect(&rt, REFUSED);
     let batches = LayoutIterator::kv_batches::<(&str, u8)>(&table);
     let_go(table);
-    assert!(&rt; gives(batches, &[0, 2]));
-    Ok(())
+    gives(&rt, batches, &[0, 2], "a batch for each value");
 }

@@ -1,9 +1,8 @@
 //! Changes that are chained, beside the same ones made by calls of their own.
-use super::let_go;
+use super::{REFUSED, expect_done, prints};
 use grid_config::Fault;
 use std::alloc::Global;
 use std::process::Abort;
-use std::test::Fail;
 use tabled::object::{Cell, Columns};
 use tabled::{Alignment, Margin, Padding, Style, Table};
 
@@ -27,36 +26,18 @@ fn set_each(table: &mut Table) -> Result<(), Fault> {
     table.set_cells(Cell::new(0, 0), &Padding::new(2, 0, 0, 0))
 }
 
-fn begun(alloc: Global) -> Result<Table, Fault> {
-    Table::nohead(alloc, [("a", "b"), ("cc", "d")])
-}
-
-// The text of the table, where all its changes were accepted.
-fn text_of(table: Table, done: Result<(), Fault>) -> Result<String, Fault> {
-    let text = table.to_string();
-    let_go(table);
-    done?;
-    text
-}
-
-fn chained(alloc: Global) -> Result<String, Fault> {
-    let mut table = begun(alloc)?;
-    let done = chain(&mut table);
-    text_of(table, done)
-}
-
-fn each_set(alloc: Global) -> Result<String, Fault> {
-    let mut table = begun(alloc)?;
-    let done = set_each(&mut table);
-    text_of(table, done)
+fn begun(rt: &impl Abort, alloc: Global) -> Table {
+    Table::nohead(alloc, [("a", "b"), ("cc", "d")]).expect(rt, REFUSED)
 }
 
 const TEXT: &str = "<┌────┬───┐>>\n<│   a│ b │>>\n<├────┼───┤>>\n<│ cc │ d │>>\n<└────┴───┘>>";
 
 #[test]
-fn changes_are_chained(rt: HostRuntime) -> Result<(), Fail> {
-    let a = rt.alloc();
-    assert!(&rt; chained(a)?.as_str() == TEXT);
-    assert!(&rt; each_set(a)?.as_str() == TEXT);
-    Ok(())
+fn changes_are_chained(rt: HostRuntime) {
+    let mut table = begun(&rt, rt.alloc());
+    expect_done(&rt, chain(&mut table), Ok(()), "a chain");
+    prints(&rt, Ok(table), TEXT);
+    let mut table = begun(&rt, rt.alloc());
+    expect_done(&rt, set_each(&mut table), Ok(()), "each change");
+    prints(&rt, Ok(table), TEXT);
 }

@@ -1,11 +1,10 @@
 //! Copies of tables, and of options.
-use super::{at, let_go, narrow, one, prints};
+use super::{REFUSED, at, expect, let_go, narrow, one, prints};
 use grid_config::{Entity, Fault};
 use grid_records_rows::{Text, VecRecords};
 use grid_records_traits::records::PeekableRecords;
-use std::alloc::{AllocError, Global};
+use std::alloc::Global;
 use std::process::Abort;
-use std::test::Fail;
 use tabled::{Alignment, Margin, Table};
 
 /// What a changed table prints.
@@ -25,41 +24,27 @@ pub fn changed(alloc: Global) -> Result<Table, Fault> {
     Ok(table)
 }
 
-// Its copy, after the table itself is gone.
-fn copied(alloc: Global, table: Table) -> Result<Table, AllocError> {
+// That its copy prints this text, after the table itself is gone.
+fn copy_prints(rt: &impl Abort, alloc: Global, made: Result<Table, Fault>, text: &str) {
+    let table = made.expect(rt, REFUSED);
     let copy = table.clone(alloc);
     let_go(table);
-    copy
+    prints(rt, Ok(copy.expect(rt, REFUSED)), text);
 }
 
 #[test]
-fn a_copy_is_the_same_table(rt: HostRuntime) -> Result<(), Fail> {
-    let a = rt.alloc();
-    assert!(&rt; prints(copied(a, changed(a)?)?, TEXT)?);
-    assert!(&rt; prints(copied(a, Table::default(a))?, "")?);
-    Ok(())
+fn a_copy_is_the_same_table(rt: HostRuntime) {
+    copy_prints(&rt, rt.alloc(), changed(rt.alloc()), TEXT);
+    let none = Table::default(rt.alloc());
+    copy_prints(&rt, rt.alloc(), Ok(none), "");
 }
 
-// The records of a table, after it is gone.
-fn kept(alloc: Global) -> Result<VecRecords<Text>, Fault> {
-    let table = Table::nohead(alloc, [("a", "b"), ("c", "d")])?;
+// A copy of the records of a table, after it is gone.
+fn kept(rt: &impl Abort, alloc: Global) -> VecRecords<Text> {
+    let table = Table::nohead(alloc, [("a", "b"), ("c", "d")]).expect(rt, REFUSED);
     let copy = table.get_records().clone(alloc);
     let_go(table);
-    Ok(copy?)
-}
-
-// Whether this is the text of the second row's first cell.
-fn reads(records: VecRecords<Text>, wanted: &str) -> bool {
-    let read = records.get_text(at(1, 0)) == wanted;
-    let_go(records);
-    read
-}
-
-#[test]
-fn a_copy_has_texts_of_its_own(rt: HostRuntime) -> Result<(), Fail> {
-    let a = rt.alloc();
-    assert!(&rt; reads(kept(a)?, "c"));
-    Ok(())
+    copy.expect(rt, REFUSED)
 }
 
 // The last text of all.
@@ -73,9 +58,12 @@ fn last(records: VecRecords<Text>) -> Option<String> {
     Some(cell?.into_string())
 }
 
+// A copy has texts of its own, and its rows become rows of strings.
 #[test]
-fn records_become_rows_of_strings(rt: HostRuntime) -> Result<(), Fail> {
-    let a = rt.alloc();
-    assert!(&rt; matches!(last(kept(a)?), Some(it) if it.as_str() == "d"));
-    Ok(())
+fn records_are_copied(rt: HostRuntime) {
+    let records = kept(&rt, rt.alloc());
+    let is_read = records.get_text(at(1, 0)) == "c";
+    let is_last = matches!(last(records), Some(it) if it.as_str() == "d");
+    expect(&rt, is_read, "the second row's first text");
+    expect(&rt, is_last, "the last text");
 }

@@ -1,40 +1,43 @@
 //! Tables whose changes are refused by what a caller brings.
 use super::copies::{TEXT, changed};
 use super::foreign::Refusing;
-use super::prints;
+use super::{REFUSED, expect_done, prints};
 use grid_config::{ColoredConfig, Entity, Fault};
 use grid_records_rows::{Text, VecRecords};
 use std::alloc::Global;
 use std::process::Abort;
-use std::test::Fail;
 use tabled::object::Cell;
 use tabled::{CellOption, Height, Table, TableOption, Width};
 use tabled_size_dimension::CompleteDimension;
 
-// Whether a change was refused as `Range`, and the table prints what it did, in the width that it keeps.
-fn is_left(table: Table, done: Result<(), Fault>) -> Result<bool, Fault> {
-    let unchanged = prints(table, TEXT)?;
-    Ok(unchanged && done == Err(Fault::Range))
+// That a change was refused as `Range`, and the table prints what it did, in the width that it keeps.
+fn is_left(rt: &impl Abort, table: Table, done: Result<(), Fault>, what: &str) {
+    expect_done(rt, done, Err(Fault::Range), what);
+    prints(rt, Ok(table), TEXT);
 }
 
-// Whether a table stays that refuses this option.
+// That a table stays that refuses this option.
 fn stays<O: TableOption<VecRecords<Text>, ColoredConfig, CompleteDimension> + Drop>(
+    rt: &impl Abort,
     alloc: Global,
     option: O,
-) -> Result<bool, Fault> {
-    let mut table = changed(alloc)?;
+    what: &str,
+) {
+    let mut table = changed(alloc).expect(rt, REFUSED);
     let done = table.set(option);
-    is_left(table, done)
+    is_left(rt, table, done, what);
 }
 
-// Whether a table stays that refuses this option of its cell.
+// That a table stays that refuses this option of its cell.
 fn stays_in_its_cell<O: CellOption<VecRecords<Text>, ColoredConfig>>(
+    rt: &impl Abort,
     alloc: Global,
     option: &O,
-) -> Result<bool, Fault> {
-    let mut table = changed(alloc)?;
+    what: &str,
+) {
+    let mut table = changed(alloc).expect(rt, REFUSED);
     let done = table.set_cells(Cell::new(0, 0), option);
-    is_left(table, done)
+    is_left(rt, table, done, what);
 }
 
 fn chained(table: &mut Table) -> Result<(), Fault> {
@@ -47,36 +50,41 @@ fn modified(table: &mut Table) -> Result<(), Fault> {
     Ok(())
 }
 
-// Whether a table stays that refuses an option of a chain, and then one of its cells.
-fn stays_in_chains(alloc: Global) -> Result<bool, Fault> {
-    let mut table = changed(alloc)?;
+// A table stays that refuses an option of a chain, and then one of its cells.
+fn stay_in_chains(rt: &impl Abort, alloc: Global) {
+    let mut table = changed(alloc).expect(rt, REFUSED);
     let first = chained(&mut table);
     let second = modified(&mut table);
-    Ok(is_left(table, second)? && first == Err(Fault::Range))
+    expect_done(rt, first, Err(Fault::Range), "an option of a chain");
+    is_left(rt, table, second, "an option of cells in a chain");
 }
 
 #[test]
-fn a_refused_option_leaves_the_table(rt: HostRuntime) -> Result<(), Fail> {
-    let a = rt.alloc();
-    assert!(&rt; stays(a, Refusing)?);
-    assert!(&rt; stays_in_its_cell(a, &Refusing)?);
-    assert!(&rt; stays_in_chains(a)?);
-    Ok(())
+fn a_refused_option_leaves_the_table(rt: HostRuntime) {
+    stays(&rt, rt.alloc(), Refusing, "an option");
+    stays_in_its_cell(&rt, rt.alloc(), &Refusing, "an option of a cell");
+    stay_in_chains(&rt, rt.alloc());
+}
+
+fn measure_tables(rt: &impl Abort, a: Global) {
+    stays(rt, a, Width::wrap(Refusing), "wrap");
+    stays(rt, a, Width::truncate(Refusing), "truncate");
+    stays(rt, a, Width::increase(Refusing), "increase");
+    stays(rt, a, Width::justify(Refusing), "justify");
+    stays(rt, a, Height::increase(Refusing), "increase of lines");
+    stays(rt, a, Height::limit(Refusing), "limit of lines");
+}
+
+fn measure_cells(rt: &impl Abort, a: Global) {
+    stays_in_its_cell(rt, a, &Width::wrap(Refusing), "wrap");
+    stays_in_its_cell(rt, a, &Width::truncate(Refusing), "truncate");
+    stays_in_its_cell(rt, a, &Width::increase(Refusing), "increase");
+    stays_in_its_cell(rt, a, &Height::increase(Refusing), "more lines");
+    stays_in_its_cell(rt, a, &Height::limit(Refusing), "fewer lines");
 }
 
 #[test]
-fn a_refused_measurement_leaves_the_table(rt: HostRuntime) -> Result<(), Fail> {
-    let a = rt.alloc();
-    assert!(&rt; stays(a, Width::wrap(Refusing))?);
-    assert!(&rt; stays(a, Width::truncate(Refusing))?);
-    assert!(&rt; stays(a, Width::increase(Refusing))?);
-    assert!(&rt; stays(a, Width::justify(Refusing))?);
-    assert!(&rt; stays(a, Height::increase(Refusing))?);
-    assert!(&rt; stays(a, Height::limit(Refusing))?);
-    assert!(&rt; stays_in_its_cell(a, &Width::wrap(Refusing))?);
-    assert!(&rt; stays_in_its_cell(a, &Width::truncate(Refusing))?);
-    assert!(&rt; stays_in_its_cell(a, &Width::increase(Refusing))?);
-    assert!(&rt; stays_in_its_cell(a, &Height::increase(Refusing))?);
-    assert!(&rt; stays_in_its_cell(a, &Height::limit(Refusing))?);
-    Ok(())
+fn a_refused_measurement_leaves_the_table(rt: HostRuntime) {
+    measure_tables(&rt, rt.alloc());
+    measure_cells(&rt, rt.alloc());
 }

@@ -1,49 +1,36 @@
 //! Tables of names beside fields, of rows of texts, and builders of tables.
-use super::{holds, let_go};
+use super::{REFUSED, expect, expect_texts, let_go};
 use grid_config::Fault;
 use std::alloc::{AllocError, Global};
 use std::process::Abort;
-use std::test::Fail;
 use tabled::{BuildTable, Builder, Table};
 
 #[test]
-fn names_stand_beside_fields(rt: HostRuntime) -> Result<(), Fail> {
+fn names_stand_beside_fields(rt: HostRuntime) {
     let a = rt.alloc();
-    assert!(&rt; holds(a, Table::kv(a, [("a", 1u8)])?, 2, 2, "|&str|a;|u8|1;")?);
-    let two = Table::kv(a, [("a", true), ("b", false)])?;
-    assert!(&rt; holds(a, two, 4, 2, "|&str|a;|bool|true;|&str|b;|bool|false;")?);
-    assert!(&rt; holds(a, Table::kv(a, [None, Some('c')])?, 2, 2, "|char|;|char|c;")?);
-    Ok(())
+    expect_texts(&rt, a, Table::kv(a, [("a", 1u8)]), 2, 2, "|&str|a;|u8|1;");
+    let two = Table::kv(a, [("a", true), ("b", false)]);
+    let text = "|&str|a;|bool|true;|&str|b;|bool|false;";
+    expect_texts(&rt, a, two, 4, 2, text);
+    let some = Table::kv(a, [None, Some('c')]);
+    expect_texts(&rt, a, some, 2, 2, "|char|;|char|c;");
 }
 
 // Two rows; the second is short.
 fn ragged(alloc: Global) -> Result<Vec<Vec<&'static str>>, AllocError> {
-    let mut first = Vec::new(alloc);
-    first.push("a")?;
-    first.push("b")?;
-    let mut second = Vec::new(alloc);
-    second.push("c")?;
-    let mut rows = Vec::new(alloc);
-    rows.push(first)?;
-    rows.push(second)?;
-    Ok(rows)
+    let first = vec![in alloc; "a", "b"]?;
+    let second = vec![in alloc; "c"]?;
+    Ok(vec![in alloc; first, second]?)
 }
 
 #[test]
-fn rows_of_texts_are_filled(rt: HostRuntime) -> Result<(), Fail> {
+fn rows_of_texts_are_filled(rt: HostRuntime) {
     let a = rt.alloc();
-    assert!(&rt; holds(a, Table::from_rows(a, [["x"]])?, 1, 1, "|x;")?);
-    assert!(&rt;
-        holds(
-            a,
-            Table::from_rows(a, [["a", "b"], ["c", ""]])?,
-            2,
-            2,
-            "|a|b;|c|;"
-        )?
-    );
-    assert!(&rt; holds(a, Table::from_rows(a, ragged(a)?)?, 2, 2, "|a|b;|c|;")?);
-    Ok(())
+    expect_texts(&rt, a, Table::from_rows(a, [["x"]]), 1, 1, "|x;");
+    let pairs = Table::from_rows(a, [["a", "b"], ["c", ""]]);
+    expect_texts(&rt, a, pairs, 2, 2, "|a|b;|c|;");
+    let rows = ragged(a).expect(&rt, REFUSED);
+    expect_texts(&rt, a, Table::from_rows(a, rows), 2, 2, "|a|b;|c|;");
 }
 
 // The table of the builder of a table, with one record more.
@@ -60,10 +47,11 @@ fn is_empty(builder: Builder) -> bool {
 }
 
 #[test]
-fn a_table_goes_back_into_a_builder(rt: HostRuntime) -> Result<(), Fail> {
+fn a_table_goes_back_into_a_builder(rt: HostRuntime) {
     let a = rt.alloc();
-    let again = extended(a, Table::from_rows(a, ragged(a)?)?)?;
-    assert!(&rt; holds(a, again, 3, 2, "|a|b;|c|;|d|;")?);
-    assert!(&rt; is_empty(Builder::from_table(a, Table::default(a))?));
-    Ok(())
+    let rows = ragged(a).expect(&rt, REFUSED);
+    let table = Table::from_rows(a, rows).expect(&rt, REFUSED);
+    expect_texts(&rt, a, extended(a, table), 3, 2, "|a|b;|c|;|d|;");
+    let builder = Builder::from_table(a, Table::default(a));
+    expect(&rt, is_empty(builder.expect(&rt, REFUSED)), "no rows");
 }

@@ -1,16 +1,19 @@
 //! How much tables take as a whole.
-use super::{let_go, narrow, prints};
+use super::{REFUSED, kept, let_go, narrow, prints};
 use grid_config::{ANSIBuf, Entity, Fault};
 use std::alloc::Global;
 use std::process::Abort;
-use std::test::Fail;
 use tabled::{Height, Margin, Padding, Table, Width};
 
-// The totals of a table, each as it is answered.
-fn totals(table: Table) -> (Result<usize, Fault>, Result<usize, Fault>) {
-    let both = (table.total_width(), table.total_height());
+// How many columns and lines a table takes, each as it is answered.
+type Totals = (Result<usize, Fault>, Result<usize, Fault>);
+
+// That the table was made, and takes so much.
+fn takes(rt: &impl Abort, made: Result<Table, Fault>, wanted: Totals) {
+    let table = made.expect(rt, REFUSED);
+    let found = (table.total_width(), table.total_height());
     let_go(table);
-    both
+    assert_eq!(rt; found, wanted);
 }
 
 // A table of one cell with this margin.
@@ -27,37 +30,26 @@ fn with_padding(alloc: Global, padding: Padding) -> Result<Table, Fault> {
     kept(table, done)
 }
 
-// The table, where the option was accepted.
-fn kept(table: Table, done: Result<(), Fault>) -> Result<Table, Fault> {
-    if let Err(fault) = done {
-        let_go(table);
-        return Err(fault);
-    }
-    Ok(table)
+#[test]
+fn totals_count_columns_and_lines(rt: HostRuntime) {
+    let a = rt.alloc();
+    takes(&rt, Ok(Table::default(a)), (Ok(0), Ok(0)));
+    takes(&rt, Table::nohead(a, ["a"]), (Ok(5), Ok(3)));
+    takes(&rt, Table::new(a, ["漢\nb"]), (Ok(8), Ok(6)));
+    takes(&rt, narrow(a, "Hello", 2), (Ok(4), Ok(3)));
+    let margin = with_margin(a, Margin::new(1, 2, 3, 4));
+    takes(&rt, margin, (Ok(8), Ok(10)));
 }
 
 #[test]
-fn totals_count_columns_and_lines(rt: HostRuntime) -> Result<(), Fail> {
+fn a_total_past_all_numbers_is_refused_alone(rt: HostRuntime) {
     let a = rt.alloc();
-    assert!(&rt; totals(Table::default(a)) == (Ok(0), Ok(0)));
-    assert!(&rt; totals(Table::nohead(a, ["a"])?) == (Ok(5), Ok(3)));
-    assert!(&rt; totals(Table::new(a, ["漢\nb"])?) == (Ok(8), Ok(6)));
-    assert!(&rt; totals(narrow(a, "Hello", 2)?) == (Ok(4), Ok(3)));
-    assert!(&rt; totals(with_margin(a, Margin::new(1, 2, 3, 4))?) == (Ok(8), Ok(10)));
-    Ok(())
-}
-
-#[test]
-fn a_total_past_all_numbers_is_refused_alone(rt: HostRuntime) -> Result<(), Fail> {
-    let a = rt.alloc();
-    let most = usize::MAX;
-    let wide = Margin::new(most, 0, 0, 0);
-    assert!(&rt; totals(with_margin(a, wide)?) == (Err(Fault::Range), Ok(3)));
-    let high = Margin::new(0, 0, 0, most);
-    assert!(&rt; totals(with_margin(a, high)?) == (Ok(5), Err(Fault::Range)));
-    let padded = Padding::new(0, 0, most, 0);
-    assert!(&rt; totals(with_padding(a, padded)?) == (Ok(3), Err(Fault::Range)));
-    Ok(())
+    let wide = with_margin(a, Margin::new(usize::MAX, 0, 0, 0));
+    takes(&rt, wide, (Err(Fault::Range), Ok(3)));
+    let high = with_margin(a, Margin::new(0, 0, 0, usize::MAX));
+    takes(&rt, high, (Ok(5), Err(Fault::Range)));
+    let padded = with_padding(a, Padding::new(0, 0, usize::MAX, 0));
+    takes(&rt, padded, (Ok(3), Err(Fault::Range)));
 }
 
 // A table of one cell whose colour shows characters of its own.
@@ -66,14 +58,6 @@ fn colored(alloc: Global) -> Result<Table, Fault> {
     let mut table = Table::nohead(alloc, ["a"])?;
     let done = table.get_config_mut().set_color(Entity::Global, color);
     kept(table, done)
-}
-
-#[test]
-fn totals_count_no_texts_of_colours(rt: HostRuntime) -> Result<(), Fail> {
-    let a = rt.alloc();
-    assert!(&rt; totals(colored(a)?) == (Ok(5), Ok(3)));
-    assert!(&rt; prints(colored(a)?, "+---+\n| <a> |\n+---+")?);
-    Ok(())
 }
 
 // Broken at seven columns.
@@ -90,10 +74,12 @@ fn raised(alloc: Global) -> Result<Table, Fault> {
     kept(table, done)
 }
 
+// Texts of colours count for nothing, and the sizes that are kept are those that count.
 #[test]
-fn totals_follow_the_sizes_that_are_kept(rt: HostRuntime) -> Result<(), Fail> {
+fn totals_follow_what_is_printed(rt: HostRuntime) {
     let a = rt.alloc();
-    assert!(&rt; totals(wrapped(a)?) == (Ok(7), Ok(9)));
-    assert!(&rt; totals(raised(a)?) == (Ok(5), Ok(4)));
-    Ok(())
+    takes(&rt, colored(a), (Ok(5), Ok(3)));
+    prints(&rt, colored(a), "+---+\n| <a> |\n+---+");
+    takes(&rt, wrapped(a), (Ok(7), Ok(9)));
+    takes(&rt, raised(a), (Ok(5), Ok(4)));
 }
