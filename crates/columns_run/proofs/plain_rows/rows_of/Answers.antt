@@ -7,7 +7,7 @@ use Rattle.grid_records_measure.specs.Measures.{are_printable}
 use Rattle.columns_table.specs.declared.cells.LineCell.{LineCell}
 use Rattle.columns_run.proofs.PassLemmas.{Pass, AreRows, cell-last, Pass-start, Pass-tab, Pass-line_feed, Pass-printable, Pass-other, Pass-last, Pass-none}
 use Rattle.columns_run.proofs.plain_rows.rows_of.Goals as goal
-use Rattle.columns_run.proofs.plain_rows.rows_of.Goals.{then-is_printable, else-is_printable+in-9+in_ok-push_cell-in-9+then-byte-eq10+in_ok-push-in-9, else-is_printable+in-9+in_ok-push_cell-in-9+else-byte-eq10, else-is_printable+in_default-2, else-is_printable+in_default-2-2}
+use Rattle.columns_run.proofs.plain_rows.rows_of.Goals.{then-is_printable, else-is_printable+in-9+in_ok-push_cell-in-9, then-byte-eq10+in_ok-push-in-9, else-byte-eq10, else-is_printable+in_default-2, else-is_printable+in_default-2-2}
 use Rattle.columns_run.proofs.plain_rows.rows_of.Goals.{then-count-gt0+in_ok-push_cell+in_ok-push, then-count-gt0-via-then-count-gt0, then-count-gt0-via-else-count-gt0+then-start-text, else-count-gt0+else-start-text}
 
 abbrev lines : List LineCell → List (Line)
@@ -37,6 +37,13 @@ joined c start count plain counts cells starts counted plainly ended pushed pass
     (subst (λ (count : ℕ). Pass text end after.start count plain counts.items (lines cells)) (sym counted)
     (subst (λ (start : ℕ). Pass text end start count plain counts.items (lines cells)) (sym starts) pass))))
 
+-- what the arms of the test for a line feed leave
+counted : (text : List ℕ) (end count left : ℕ) (counts ended : Vec ℕ Global) (cells : List LineCell) → left ≡ count → ended ≡ counts → Pass text end end count true counts.items (lines cells)
+    → Pass text end end left true ended.items (lines cells)
+counted text end count left counts ended cells counts_to ends pass =
+    subst (λ (found : Vec ℕ Global). Pass text end end left true found.items (lines cells)) (sym ends)
+    (subst (λ (n : ℕ). Pass text end end n true counts.items (lines cells)) (sym counts_to) pass)
+
 pub loop-end-preserved : goal.loop-end-preserved
 loop-end-preserved c =
     let text = c.args.text.now in
@@ -56,14 +63,17 @@ loop-end-preserved c =
       | then-is_printable w ↦
           joined c start count plain counts cells w.start-is w.count-is w.plain-is w.counts-is w.cells-is
           (Pass-printable text end start count plain counts.items seen below pass (ap (is_in_range 0x20 0x7E) same ∙ sym w.if-is_printable.ensures))
-      | else-is_printable+in-9+in_ok-push_cell-in-9+then-byte-eq10+in_ok-push-in-9 w ↦
-          joined c (end + 1) 0 true w.push.new.self w.push_cell.new.cells w.start-is w.count-is w.plain-is w.counts-is w.cells-is
-          (Pass-line_feed text end start count plain counts.items w.push.new.self.items seen (lines w.push_cell.new.cells) c.utf8.text below pass (omega arith)
-          (w.in_ok-push_cell-in-9.ensures ∙ ap (λ cell. seen ++ byte_line cell ∷ []) w.range.ensures.value) w.in_ok-push-in-9.ensures.items)
-      | else-is_printable+in-9+in_ok-push_cell-in-9+else-byte-eq10 w ↦
-          joined c (end + 1) (count + 1) true counts w.push_cell.new.cells w.start-is w.count-is w.plain-is w.counts-is w.cells-is
-          (Pass-tab text end start count plain counts.items seen (lines w.push_cell.new.cells) c.utf8.text below pass (omega arith)
-          (w.in_ok-push_cell-in-9.ensures ∙ ap (λ cell. seen ++ byte_line cell ∷ []) w.range.ensures.value))
+      | else-is_printable+in-9+in_ok-push_cell-in-9 w ↦
+          joined c (end + 1) w.if-byte-eq10.count true w.if-byte-eq10.counts w.push_cell.new.cells w.start-is w.count-is w.plain-is w.counts-is w.cells-is
+          (let more = w.in_ok-push_cell-in-9.ensures ∙ ap (λ cell. seen ++ byte_line cell ∷ []) w.range.ensures.value in
+          elim w.if-byte-eq10.branch [
+            | then-byte-eq10+in_ok-push-in-9 w' ↦
+                counted text (end + 1) 0 w.if-byte-eq10.count w'.push.new.self w.if-byte-eq10.counts w.push_cell.new.cells w'.count-is w'.counts-is
+                (Pass-line_feed text end start count plain counts.items w'.push.new.self.items seen (lines w.push_cell.new.cells) c.utf8.text below pass (omega arith) more w'.in_ok-push-in-9.ensures.items)
+            | else-byte-eq10 w' ↦
+                counted text (end + 1) (count + 1) w.if-byte-eq10.count counts w.if-byte-eq10.counts w.push_cell.new.cells w'.count-is w'.counts-is
+                (Pass-tab text end start count plain counts.items seen (lines w.push_cell.new.cells) c.utf8.text below pass (omega arith) more)
+          ])
       | else-is_printable+in_default-2 w ↦ joined c start count false counts cells w.start-is w.count-is w.plain-is w.counts-is w.cells-is (other (λ is_tab. omega arith) (λ is_line_feed. omega arith))
       | else-is_printable+in_default-2-2 w ↦ joined c start count false counts cells w.start-is w.count-is w.plain-is w.counts-is w.cells-is (other (λ is_tab. omega arith) (λ is_line_feed. omega arith))
     ]
