@@ -1,7 +1,7 @@
 //! Rows of cells: sources, adapters, and cells that are set.
 ghost use Rattle.std.specs.Iterator.{IsFinite};
 
-use super::{MEMORY, expect, expect_number, expect_text};
+use super::{expect, expect_number, expect_text};
 use grid_config_values::Position;
 use grid_records_rows::{
     BufRecords, Cell, Dimension, EmptyRecords, ExactRecords, IntoRecords, IterRecords,
@@ -11,6 +11,7 @@ use grid_records_rows::{
 use std::alloc::{AllocError, Global};
 use std::borrow::CowStr;
 use std::process::Abort;
+use std::test::Fail;
 
 // The cells of a source, each with a bar after it and a row to a line.
 fn text_of_source<R: IntoRecords>(alloc: Global, records: R) -> Result<String, AllocError> {
@@ -44,14 +45,26 @@ fn push_cells<C: Cell, I: Iterator<Item = Result<C, AllocError>>>(
     out.push('\n')
 }
 
-fn expect_source<R: IntoRecords>(rt: &impl Abort, alloc: Global, records: R, wanted: &str) {
-    let found = text_of_source(alloc, records).expect(rt, MEMORY);
+fn expect_source<R: IntoRecords>(
+    rt: &impl Abort,
+    alloc: Global,
+    records: R,
+    wanted: &str,
+) -> Result<(), AllocError> {
+    let found = text_of_source(alloc, records)?;
     expect_text(rt, found.as_str(), wanted, "a source");
+    Ok(())
 }
 
-fn expect_records<R: Records>(rt: &impl Abort, alloc: Global, records: R, wanted: &str) {
-    let found = text_of_records(alloc, records).expect(rt, MEMORY);
+fn expect_records<R: Records>(
+    rt: &impl Abort,
+    alloc: Global,
+    records: R,
+    wanted: &str,
+) -> Result<(), AllocError> {
+    let found = text_of_records(alloc, records)?;
     expect_text(rt, found.as_str(), wanted, "records");
+    Ok(())
 }
 
 type Row = Vec<&'static str>;
@@ -72,29 +85,29 @@ fn rows_of(alloc: Global, rows: &[&[&'static str]]) -> Result<Vec<Row>, AllocErr
     Ok(found)
 }
 
-fn rows(rt: &impl Abort, alloc: Global, rows: &[&[&'static str]]) -> Vec<Row> {
-    rows_of(alloc, rows).expect(rt, MEMORY)
-}
-
 // ---- sources
 
-fn expect_rows(rt: &impl Abort, alloc: Global) {
-    let rows = rows(rt, alloc, &[&["a", "b"], &["c"]]);
-    expect_source(rt, alloc, rows.as_slice(), "a|b|\nc|\n");
-    expect_source(rt, alloc, rows, "a|b|\nc|\n");
+fn expect_rows(rt: &impl Abort, alloc: Global) -> Result<(), AllocError> {
+    let rows = rows_of(alloc, &[&["a", "b"], &["c"]])?;
+    expect_source(rt, alloc, rows.as_slice(), "a|b|\nc|\n")?;
+    expect_source(rt, alloc, rows, "a|b|\nc|\n")
 }
 
 const PAIRS: &str = "a|b|\nc|d|\ne|f|\n";
 
-fn expect_limited(rt: &impl Abort, alloc: Global) {
-    let rows = rows(rt, alloc, &[&["a", "b"], &["c", "d"], &["e", "f"]]);
+fn expect_arrays(rt: &impl Abort, alloc: Global) -> Result<(), AllocError> {
+    expect_source(rt, alloc, [["a", "b"], ["c", "d"], ["e", "f"]], PAIRS)
+}
+
+fn expect_limited(rt: &impl Abort, alloc: Global) -> Result<(), AllocError> {
+    let rows = rows_of(alloc, &[&["a", "b"], &["c", "d"], &["e", "f"]])?;
     let rows = rows.as_slice();
-    expect_source(rt, alloc, LimitRows::new(rows, 2), "a|b|\nc|d|\n");
-    expect_source(rt, alloc, LimitRows::new(rows, 0), "");
-    expect_source(rt, alloc, LimitColumns::new(rows, 1), "a|\nc|\ne|\n");
-    expect_source(rt, alloc, SkipRows::new(rows, 1), "c|d|\ne|f|\n");
+    expect_source(rt, alloc, LimitRows::new(rows, 2), "a|b|\nc|d|\n")?;
+    expect_source(rt, alloc, LimitRows::new(rows, 0), "")?;
+    expect_source(rt, alloc, LimitColumns::new(rows, 1), "a|\nc|\ne|\n")?;
+    expect_source(rt, alloc, SkipRows::new(rows, 1), "c|d|\ne|f|\n")?;
     let limited = LimitColumns::new(rows, 9);
-    expect_source(rt, alloc, SkipRows::new(limited, 3), "");
+    expect_source(rt, alloc, SkipRows::new(limited, 3), "")
 }
 
 // The same size for each number.
@@ -117,22 +130,22 @@ impl Dimension for Same {
 
 const WIDE: [[&str; 2]; 2] = [["😳😳", "ab"], ["\x1b[31mabcd\x1b[39m", "abc"]];
 
-fn expect_cut(rt: &impl Abort, alloc: Global) {
+fn expect_cut(rt: &impl Abort, alloc: Global) -> Result<(), AllocError> {
     let cut = TruncateContent::new(alloc, WIDE, Same(3));
     let wanted = "😳\u{fffd}|ab|\n\x1b[31mabc\x1b[39m|abc|\n";
-    expect_source(rt, alloc, cut, wanted);
+    expect_source(rt, alloc, cut, wanted)?;
     let sizes = Same(1);
     let cut = TruncateContent::new(alloc, [["ab\ncd"]], &sizes);
-    expect_source(rt, alloc, cut, "a|\n");
+    expect_source(rt, alloc, cut, "a|\n")
 }
 
 #[test]
-fn gives_the_rows_of_sources(rt: HostRuntime) {
-    let arrays = [["a", "b"], ["c", "d"], ["e", "f"]];
-    expect_source(&rt, rt.alloc(), arrays, "a|b|\nc|d|\ne|f|\n");
-    expect_rows(&rt, rt.alloc());
-    expect_limited(&rt, rt.alloc());
-    expect_cut(&rt, rt.alloc());
+fn gives_the_rows_of_sources(rt: HostRuntime) -> Result<(), Fail> {
+    expect_rows(&rt, rt.alloc())?;
+    expect_arrays(&rt, rt.alloc())?;
+    expect_limited(&rt, rt.alloc())?;
+    expect_cut(&rt, rt.alloc())?;
+    Ok(())
 }
 
 // ---- rows that are kept
@@ -156,9 +169,10 @@ fn expect_buffered<R: IntoRecords + Drop>(
     records: R,
     count: usize,
     wanted: &str,
-) {
-    let found = text_of_buffered(alloc, records, count).expect(rt, MEMORY);
+) -> Result<(), AllocError> {
+    let found = text_of_buffered(alloc, records, count)?;
     expect_text(rt, found.as_str(), wanted, "rows that are kept");
+    Ok(())
 }
 
 const ALL: &str = "a|b|\n\nc|\nand\na|b|\n\nc|\n";
@@ -170,18 +184,18 @@ const KEPT: &[(usize, &str)] = &[
     (3, ALL),
 ];
 
-fn keep_rows(rt: &impl Abort, alloc: Global) {
-    let rows = rows(rt, alloc, &[&["a", "b"], &[], &["c"]]);
+fn keep_rows(rt: &impl Abort, alloc: Global) -> Result<(), AllocError> {
+    let rows = rows_of(alloc, &[&["a", "b"], &[], &["c"]])?;
     for (count, wanted) in KEPT {
-        expect_buffered(rt, alloc, rows.as_slice(), *count, wanted);
+        expect_buffered(rt, alloc, rows.as_slice(), *count, wanted)?;
     }
-    expect_buffered(rt, alloc, rows, usize::MAX, ALL);
+    expect_buffered(rt, alloc, rows, usize::MAX, ALL)
 }
 
-fn keep_cut(rt: &impl Abort, alloc: Global) {
+fn keep_cut(rt: &impl Abort, alloc: Global) -> Result<(), AllocError> {
     let source = [["abc", "d"], ["ef", "ghi"], ["j", "k"]];
     let cut = SkipRows::new(TruncateContent::new(alloc, source, Same(2)), 1);
-    expect_buffered(rt, alloc, cut, 1, "ef|gh|\nand\nef|gh|\nj|k|\n");
+    expect_buffered(rt, alloc, cut, 1, "ef|gh|\nand\nef|gh|\nj|k|\n")
 }
 
 fn strings(alloc: Global, texts: &[&str]) -> Result<Vec<Vec<String>>, AllocError> {
@@ -192,49 +206,53 @@ fn strings(alloc: Global, texts: &[&str]) -> Result<Vec<Vec<String>>, AllocError
     Ok(rows)
 }
 
-fn keep_twice(rt: &impl Abort, alloc: Global) {
-    let rows = strings(alloc, &["a", "b", "c"]).expect(rt, MEMORY);
-    let once = BufRecords::new(alloc, rows, 1).expect(rt, MEMORY);
-    expect_buffered(rt, alloc, once, 2, "a|\nb|\nand\na|\nb|\nc|\n");
+fn keep_twice(rt: &impl Abort, alloc: Global) -> Result<(), AllocError> {
+    let once = BufRecords::new(alloc, strings(alloc, &["a", "b", "c"])?, 1)?;
+    expect_buffered(rt, alloc, once, 2, "a|\nb|\nand\na|\nb|\nc|\n")
 }
 
 #[test]
-fn keeps_the_first_rows(rt: HostRuntime) {
-    keep_rows(&rt, rt.alloc());
-    keep_cut(&rt, rt.alloc());
-    keep_twice(&rt, rt.alloc());
-    let empty = EmptyRecords::new(2, 1);
-    expect_buffered(&rt, rt.alloc(), empty, 1, "|\nand\n|\n|\n");
+fn keeps_the_first_rows(rt: HostRuntime) -> Result<(), Fail> {
+    keep_rows(&rt, rt.alloc())?;
+    keep_cut(&rt, rt.alloc())?;
+    keep_twice(&rt, rt.alloc())?;
+    expect_buffered(
+        &rt,
+        rt.alloc(),
+        EmptyRecords::new(2, 1),
+        1,
+        "|\nand\n|\n|\n",
+    )?;
+    Ok(())
 }
 
 // ---- records
 
-fn fit_rows(rt: &impl Abort, alloc: Global, rows: &[Row]) {
+fn fit_rows(rt: &impl Abort, alloc: Global, rows: &[Row]) -> Result<(), AllocError> {
     // the hint is wrong, and decides nothing
     let records = IterRecords::new(rows, 2, Some(7));
     expect_number(rt, records.count_columns(), 2, "columns");
     expect(rt, records.hint_count_rows() == Some(7), "the hint");
-    expect_records(rt, alloc, &records, "a|b|\n||\nd||\n");
-    expect_records(rt, alloc, records, "a|b|\n||\nd||\n");
-    let source = IterRecords::new(rows, 2, None);
-    expect_source(rt, alloc, source, "a|b|c|\n\nd|\n");
+    expect_records(rt, alloc, &records, "a|b|\n||\nd||\n")?;
+    expect_records(rt, alloc, records, "a|b|\n||\nd||\n")?;
+    expect_source(rt, alloc, IterRecords::new(rows, 2, None), "a|b|c|\n\nd|\n")
 }
 
-fn have_empty_rows(rt: &impl Abort, alloc: Global) {
+fn have_empty_rows(rt: &impl Abort, alloc: Global) -> Result<(), AllocError> {
     let records = EmptyRecords::new(2, 3);
     expect_number(rt, records.count_rows(), 2, "rows");
     expect_number(rt, records.count_columns(), 3, "columns");
-    expect_records(rt, alloc, records, "|||\n|||\n");
-    expect_source(rt, alloc, EmptyRecords::default(), "");
+    expect_records(rt, alloc, records, "|||\n|||\n")?;
+    expect_source(rt, alloc, EmptyRecords::default(), "")
 }
 
 #[test]
-fn fits_rows_to_the_column_count(rt: HostRuntime) {
-    let rows = rows(&rt, rt.alloc(), &[&["a", "b", "c"], &[], &["d"]]);
-    fit_rows(&rt, rt.alloc(), rows.as_slice());
-    let none = IterRecords::new(rows, 0, None);
-    expect_records(&rt, rt.alloc(), none, "\n\n\n");
-    have_empty_rows(&rt, rt.alloc());
+fn fits_rows_to_the_column_count(rt: HostRuntime) -> Result<(), Fail> {
+    let rows = rows_of(rt.alloc(), &[&["a", "b", "c"], &[], &["d"]])?;
+    fit_rows(&rt, rt.alloc(), rows.as_slice())?;
+    expect_records(&rt, rt.alloc(), IterRecords::new(rows, 0, None), "\n\n\n")?;
+    have_empty_rows(&rt, rt.alloc())?;
+    Ok(())
 }
 
 // ---- tables
@@ -254,76 +272,71 @@ fn expect_at<R: PeekableRecords>(
     );
 }
 
-// One line of the first cell, and its columns.
-fn expect_first<R: PeekableRecords>(
-    rt: &impl Abort,
-    alloc: Global,
-    records: &R,
-    line: usize,
-    wanted: &str,
-    width: usize,
-) {
-    let first = Position::new(0, 0);
-    let found = records.get_line(alloc, first, line).expect(rt, MEMORY);
-    expect_text(rt, found.as_str(), wanted, "a line");
-    expect_number(rt, records.get_line_width(first, line), width, wanted);
-}
-
 // The first cell, `a` over `漢b`, and how many rows there are.
-fn expect_shape<R: PeekableRecords + ExactRecords>(
+fn expect_shape<R: PeekableRecords + ExactRecords + Drop>(
     rt: &impl Abort,
     alloc: Global,
-    records: &R,
+    records: R,
     rows: usize,
-) {
+) -> Result<(), AllocError> {
     let first = Position::new(0, 0);
     expect_number(rt, records.count_rows(), rows, "rows");
-    expect_at(rt, records, 0, 0, "a\n漢b");
+    expect_text(rt, records.get_text(first), "a\n漢b", "the first cell");
     expect_number(rt, records.count_lines(first), 2, "lines");
     expect_number(rt, records.get_width(first), 3, "columns");
-    expect_first(rt, alloc, records, 0, "a", 1);
-    expect_first(rt, alloc, records, 1, "漢b", 3);
+    expect_number(rt, records.get_line_width(first, 0), 1, "the first line");
+    expect_number(rt, records.get_line_width(first, 1), 3, "the second");
     expect_number(rt, records.get_line_width(first, 2), 0, "no line");
+    let line = records.get_line(alloc, first, 0)?;
+    expect_text(rt, line.as_str(), "a", "the first line");
+    let line = records.get_line(alloc, first, 1)?;
+    expect_text(rt, line.as_str(), "漢b", "the second line");
+    Ok(())
 }
 
-fn look_up(rt: &impl Abort, alloc: Global) {
-    let rows = rows(rt, alloc, &[&["a\n漢b", "b"], &["c", "d"]]);
+fn look_up(rt: &impl Abort, alloc: Global) -> Result<(), AllocError> {
+    let rows = rows_of(alloc, &[&["a\n漢b", "b"], &["c", "d"]])?;
     assert!(rt; are_equally_long(rows.as_slice()));
     let records = VecRecords::new(rows);
     expect_number(rt, (&records).count_columns(), 2, "columns");
     expect_at(rt, &records, 1, 0, "c");
     expect_at(rt, &records, 1, 2, "");
     expect_at(rt, &records, 2, 0, "");
-    expect_shape(rt, alloc, &&records, 2);
-    let wanted = "a\n漢b|b|\nc|d|\n";
-    expect_records(rt, alloc, &records, wanted);
-    expect_records(rt, alloc, PeekedRecords::new(&records), wanted);
-    expect_records(rt, alloc, records, wanted);
+    expect_shape(rt, alloc, &records, 2)?;
+    expect_records(rt, alloc, &records, "a\n漢b|b|\nc|d|\n")?;
+    expect_records(rt, alloc, PeekedRecords::new(&records), "a\n漢b|b|\nc|d|\n")?;
+    expect_records(rt, alloc, records, "a\n漢b|b|\nc|d|\n")
 }
 
-fn text(rt: &impl Abort, alloc: Global, shown: &str) -> Text {
-    let string = String::from_str(alloc, shown).expect(rt, MEMORY);
-    Text::new(alloc, string).expect(rt, MEMORY)
+fn text(alloc: Global, shown: &str) -> Result<Text, AllocError> {
+    Text::new(alloc, String::from_str(alloc, shown)?)
 }
 
-// A row of two texts, the second of which is set.
+fn look_up_text(rt: &impl Abort, alloc: Global) -> Result<(), AllocError> {
+    let rows = vec![in alloc; vec![in alloc; text(alloc, "a\n漢b")?]?]?;
+    assert!(rt; are_equally_long(rows.as_slice()));
+    expect_shape(rt, alloc, &VecRecords::new(rows), 1)
+}
+
 fn set_text(rt: &impl Abort, alloc: Global) -> Result<(), AllocError> {
-    let cells = vec![in alloc; text(rt, alloc, "a\n漢b"), text(rt, alloc, "b")]?;
+    let cells = vec![in alloc; text(alloc, "a")?, text(alloc, "b")?]?;
     let rows = vec![in alloc; cells]?;
     assert!(rt; are_equally_long(rows.as_slice()));
     let mut records = VecRecords::new(rows);
-    records.set(Position::new(0, 1), text(rt, alloc, "c"));
+    records.set(Position::new(0, 1), text(alloc, "c")?);
+    expect_at(rt, &records, 0, 0, "a");
     expect_at(rt, &records, 0, 1, "c");
-    expect_shape(rt, alloc, &&records, 1);
     Ok(())
 }
 
 #[test]
-fn looks_up_cells(rt: HostRuntime) -> Result<(), AllocError> {
-    look_up(&rt, rt.alloc());
-    let rows = rows(&rt, rt.alloc(), &[&["a", "b"], &["c"]]);
+fn looks_up_cells(rt: HostRuntime) -> Result<(), Fail> {
+    look_up(&rt, rt.alloc())?;
+    look_up_text(&rt, rt.alloc())?;
+    set_text(&rt, rt.alloc())?;
+    let rows = rows_of(rt.alloc(), &[&["a", "b"], &["c"]])?;
     expect(&rt, !are_equally_long(rows.as_slice()), "other lengths");
-    set_text(&rt, rt.alloc())
+    Ok(())
 }
 
 // ---- cells
@@ -335,13 +348,13 @@ fn expect_lines<C: Cell>(
     cell: &C,
     width: usize,
     wanted: &[(&str, usize)],
-) {
+) -> Result<(), AllocError> {
     expect_number(rt, cell.count_lines(), wanted.len(), "lines");
     expect_number(rt, cell.width(), width, "a cell");
     for (index, (line, width)) in wanted.iter().enumerate() {
-        expect_line(rt, alloc, cell, index, line, *width);
+        expect_line(rt, alloc, cell, index, line, *width)?;
     }
-    expect_line(rt, alloc, cell, wanted.len(), "", 0);
+    expect_line(rt, alloc, cell, wanted.len(), "", 0)
 }
 
 fn expect_line<C: Cell>(
@@ -351,31 +364,33 @@ fn expect_line<C: Cell>(
     index: usize,
     wanted: &str,
     width: usize,
-) {
-    let found = cell.line(alloc, index).expect(rt, MEMORY);
+) -> Result<(), AllocError> {
+    let found = cell.line(alloc, index)?;
     expect_text(rt, found.as_str(), wanted, "a line");
     expect_number(rt, cell.line_width(index), width, wanted);
+    Ok(())
 }
 
 const STYLED: &[(&str, usize)] = &[("\x1b[1ma\x1b[22m", 1), ("\x1b[1mbc\x1b[22m", 2)];
 
 const OWNED: &[(&str, usize)] = &[("表", 2), ("", 0)];
 
-fn expect_owned(rt: &impl Abort, alloc: Global) {
-    let owned = String::from_str(alloc, "表\n").expect(rt, MEMORY);
-    expect_lines(rt, alloc, &owned, 2, OWNED);
-    let text = Text::new(alloc, owned).expect(rt, MEMORY);
-    expect_lines(rt, alloc, &&text, 2, OWNED);
+fn expect_owned(rt: &impl Abort, alloc: Global) -> Result<(), AllocError> {
+    let owned = String::from_str(alloc, "表\n")?;
+    expect_lines(rt, alloc, &owned, 2, OWNED)?;
+    let text = Text::new(alloc, owned)?;
+    expect_lines(rt, alloc, &&text, 2, OWNED)
 }
 
 #[test]
-fn cells_have_lines(rt: HostRuntime) {
-    expect_lines(&rt, rt.alloc(), &"\x1b[1ma\nbc", 2, STYLED);
-    expect_owned(&rt, rt.alloc());
+fn cells_have_lines(rt: HostRuntime) -> Result<(), Fail> {
+    expect_lines(&rt, rt.alloc(), &"\x1b[1ma\nbc", 2, STYLED)?;
+    expect_owned(&rt, rt.alloc())?;
     let none: Option<&str> = None;
-    expect_lines(&rt, rt.alloc(), &none, 0, &[("", 0)]);
-    expect_lines(&rt, rt.alloc(), &Some("x"), 1, &[("x", 1)]);
+    expect_lines(&rt, rt.alloc(), &none, 0, &[("", 0)])?;
+    expect_lines(&rt, rt.alloc(), &Some("x"), 1, &[("x", 1)])?;
     // a line of plain text is a borrow
-    let line = "a\nb".line(rt.alloc(), 1).expect(&rt, MEMORY);
+    let line = "a\nb".line(rt.alloc(), 1)?;
     expect(&rt, matches!(&line, CowStr::Borrowed(_)), "a borrow");
+    Ok(())
 }
