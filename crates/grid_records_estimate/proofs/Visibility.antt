@@ -47,3 +47,10 @@ module _ (spans : List (Position × Extent)) (place : Position) where
     step : (b : Bool) → list_any hides spans ≡ b → false ≡ not (list_any hides spans)
     step true e = sym (ap not e)
     step false e = absurd (false≢true (h.1 (visible-from-test e)))
+
+  -- the test is true of the cells that are seen
+  pub is_visible-exact : IsTrue (is_visible spans place) ↔ IsVisible spans place
+  is_visible-exact = (λ on. visible-from-test (none-hides (list_any hides spans) on), λ visible. ap not (test-from-visible visible spans)) where
+    none-hides : (b : Bool) → not b ≡ true → b ≡ false
+    none-hides true on = absurd (false≢true on)
+    none-hides false on = refl

@@ -1,14 +1,17 @@
 //! Laws of the definitions that the other contracts cite.
-ghost use Rattle.std.specs.Prelude.{◌≡◌, ◌<◌, ◌⊎◌, ℕ, List, length, [], ◌∷◌, true, false, slice_index};
+ghost use Rattle.std.specs.Prelude.{◌≡◌, ◌<◌, ◌⊎◌, ◌↔◌, IsTrue, ℕ, List, length, [], ◌∷◌, true, false, slice_index};
 ghost use Rattle.grid_config.specs.Compact.{Compact as CompactSettings};
 ghost use Rattle.grid_config.specs.Settings.{Settings as TableSettings, StartsWith, compact_start};
+ghost use Rattle.grid_config_spans.specs.Spans.{IsVisible};
+ghost use Rattle.grid_config_spans.specs.declared.extent.Extent.{Extent};
+ghost use Rattle.grid_config_values.specs.declared.position.Position.{Position as Cell};
 ghost use Rattle.grid_records_traits.specs.Rows.{fitted};
 ghost use Rattle.grid_records_estimate.specs.Estimates.{Axis as TableAxis, track_sizes};
 ghost use Rattle.grid_records_estimate.specs.Collecting.{PassesMax};
 ghost use Rattle.grid_records_estimate.specs.Kept.{Kept as KeptSizes, least_sizes};
 ghost use Rattle.grid_records_estimate.specs.Room.{LeaveRoom};
 ghost use Rattle.grid_records_estimate.specs.Sizes.{height_total, table_heights, table_widths, width_total};
-ghost use Rattle.grid_records_estimate.specs.Sizing.{Sizing as TableSizing, column_axis, compact_sizing, row_axis, sizing_of};
+ghost use Rattle.grid_records_estimate.specs.Sizing.{Sizing as TableSizing, column_axis, compact_sizing, is_visible, row_axis, sizing_of};
 ghost use Rattle.grid_records_estimate.specs.Totals.{total};
 ghost use Rattle.grid_records_estimate.specs.Worked.{table};
 
@@ -36,6 +39,12 @@ pub fn worked_estimates()
 pub fn worked_totals()
     ensures with_margins { total (4 ∷ 3 ∷ []) 3 1 2 ≡ 13 }
     ensures empty { total [] 1 5 6 ≡ 0 }
+{}
+
+/// Sizes and spans see the same cells: the test by which sizes are worked out is true of exactly the cells
+/// that no other cell's rectangle holds.
+pub fn sizes_see_what_spans_see()
+    ensures { (spans : List (Cell × Extent)) (place : Cell) → IsTrue (is_visible spans place) ↔ IsVisible spans place }
 {}
 
 /// An estimate of a table with rows has a width for each column, and one of a table with columns a height
