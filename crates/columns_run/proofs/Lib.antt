@@ -4,6 +4,7 @@ pub mod CellLemmas
 pub mod ItemLemmas
 pub mod OneLineLemmas
 pub mod PartLemmas
+pub mod PieceLemmas
 pub mod PassLemmas
 pub mod PictureLemmas
 pub mod PlaceLemmas

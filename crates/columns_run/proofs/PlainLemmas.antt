@@ -14,14 +14,17 @@ use Rattle.grid_config_values.specs.declared.sides.Indent.{Indent}
 use Rattle.grid_config_values.specs.declared.sides.Sides.{Sides}
 use Rattle.grid_records_measure.specs.PlainCharacters.{is_one_column}
 use Rattle.grid_records_measure.proofs.PlainLemmas.{one-column}
-use Rattle.papergrid_picture.specs.Shown.{IsBare, IsShown, OnEachSide, WritesNothing}
+use Rattle.papergrid_picture.specs.Shown.{IsBare, IsShown, OnEachSide, ShowsOnly, WritesNothing}
 use Rattle.papergrid_picture.proofs.ShownLemmas.{IsShown-space}
 use Rattle.columns_run.specs.Plain.{ArePlain, GlyphsAre, IsPlain, IsPlainCharacter, are_borders_uncolored, are_sides_uncolored, are_three_uncolored, is_uncolored}
 use Rattle.columns_options.specs.Settings.{default_settings}
 
 -- a plain character is shown
-shown-plain : (c : ℕ) → IsPlainCharacter c → IsShown c
+pub shown-plain : (c : ℕ) → IsPlainCharacter c → IsShown c
 shown-plain c is = record { scalar = is.scalar; no_escape = λ same. let clash : true ≡ false = sym (ap is_control same) ∙ is.no_control in cc clash }
+
+pub plain-space : IsPlainCharacter 0x20
+plain-space = record { scalar = refl; one_column = one-column 0x20 refl; no_control = refl }
 
 if-shown : (glyph : Option ℕ) → IfSome glyph IsPlainCharacter → IfSome glyph IsShown
 if-shown None is = tt
@@ -99,8 +102,8 @@ row-none Between = refl
 row-none Last = refl
 
 -- glyphs by their places
-module _ (borders : Borders ℕ) (are : GlyphsAre IsPlainCharacter borders) where
-  crossing-plain : (row column : BoundaryKind) → IfSome (crossing borders row column) IsPlainCharacter
+module _ (P : ℕ → Type 0) (borders : Borders ℕ) (are : GlyphsAre P borders) where
+  crossing-plain : (row column : BoundaryKind) → IfSome (crossing borders row column) P
   crossing-plain First First = are.0.0
   crossing-plain First Between = are.0.1
   crossing-plain First Last = are.0.2
@@ -111,15 +114,27 @@ module _ (borders : Borders ℕ) (are : GlyphsAre IsPlainCharacter borders) wher
   crossing-plain Last Between = are.2.1
   crossing-plain Last Last = are.2.2
 
-  along-plain : (kind : BoundaryKind) → IfSome (along_column borders kind) IsPlainCharacter
+  along-plain : (kind : BoundaryKind) → IfSome (along_column borders kind) P
   along-plain First = are.3.0
   along-plain Between = are.3.1
   along-plain Last = are.3.2
 
-  row-plain : (kind : BoundaryKind) → IfSome (in_row borders kind) IsPlainCharacter
+  row-plain : (kind : BoundaryKind) → IfSome (in_row borders kind) P
   row-plain First = are.4.0
   row-plain Between = are.4.1
   row-plain Last = are.4.2
+
+-- a style shows nothing but its characters, and spaces
+pub shown-only : (P : ℕ → Type 0) (style : Compact) → GlyphsAre P style.borders → OnEachSide (λ indent. P indent.fill) style.margin → OnEachSide (λ indent. P indent.fill) style.padding → P 0x20
+    → ShowsOnly P (compact_look style)
+shown-only P style glyphs margin padding space = record {
+  crossings = crossing-plain P style.borders glyphs;
+  along_columns = along-plain P style.borders glyphs;
+  in_rows = row-plain P style.borders glyphs;
+  margins = margin;
+  paddings = λ _. padding;
+  justification = λ _. space;
+}
 
 -- a plain style shows nothing but its characters
 pub bare : (style : Compact) → IsPlain style → IsBare (compact_look style)
@@ -129,9 +144,9 @@ bare style plain =
     let none = plain.uncolored.borders in
     record {
       shown = record {
-        crossings = λ row column. if-shown (crossing style.borders row column) (crossing-plain style.borders plain.glyphs row column);
-        along_columns = λ kind. if-shown (along_column style.borders kind) (along-plain style.borders plain.glyphs kind);
-        in_rows = λ kind. if-shown (in_row style.borders kind) (row-plain style.borders plain.glyphs kind);
+        crossings = λ row column. if-shown (crossing style.borders row column) (crossing-plain IsPlainCharacter style.borders plain.glyphs row column);
+        along_columns = λ kind. if-shown (along_column style.borders kind) (along-plain IsPlainCharacter style.borders plain.glyphs kind);
+        in_rows = λ kind. if-shown (in_row style.borders kind) (row-plain IsPlainCharacter style.borders plain.glyphs kind);
         margins = sides-shown style.margin plain.margin;
         paddings = λ _. sides-shown style.padding plain.padding;
         justification = λ _. IsShown-space;
@@ -280,3 +295,13 @@ default-plain =
       padding = (space, space, space, space);
       uncolored = record { margin = refl; padding = refl; borders = refl };
     }
+
+-- the characters of the default style take one column in every text
+pub default-narrow : ShowsOnly (λ c. IsShown c × (is_one_column c ≡ true)) (compact_look default_settings)
+default-narrow =
+    let dash : IsShown 0x2d × (is_one_column 0x2d ≡ true) = (shown-plain 0x2d (plain-ascii 0x2d refl refl refl), refl) in
+    let bar : IsShown 0x7c × (is_one_column 0x7c ≡ true) = (shown-plain 0x7c (plain-ascii 0x7c refl refl refl), refl) in
+    let plus : IsShown 0x2b × (is_one_column 0x2b ≡ true) = (shown-plain 0x2b (plain-ascii 0x2b refl refl refl), refl) in
+    let space : IsShown 0x20 × (is_one_column 0x20 ≡ true) = (IsShown-space, refl) in
+    shown-only (λ c. IsShown c × (is_one_column c ≡ true)) default_settings
+    ((plus, plus, plus), (plus, plus, plus), (plus, plus, plus), (dash, dash, dash), (bar, bar, bar)) (space, space, space, space) (space, space, space, space) space

@@ -1,5 +1,6 @@
 -- The table of a text: what the program writes for it, and what that shows.
 use Rattle.std.specs.Prelude.{ℕ, List, Option, None, false, map, chars, encode_utf8_all, flat_map}
+use Rattle.ansi_str_text.specs.Characters.{shown_chars}
 use Rattle.columns_asked.specs.declared.asked.Asked.{Asked}
 use Rattle.columns_asked.specs.Asked.{Resize}
 use Rattle.columns_asked.specs.Layout.{AskedFits, asked_characters, asked_picture, asked_text, asked_widths, heights_of, kept_texts, narrowed, resize_in, too_wide}
@@ -8,7 +9,8 @@ use Rattle.grid_config.specs.Compact.{compact_of}
 use Rattle.grid_config.specs.Looks.{compact_look}
 use Rattle.grid_config.specs.declared.compact.CompactConfig.{CompactConfig}
 use Rattle.grid_config_values.specs.declared.position.Position.{Position}
-use Rattle.papergrid_picture.specs.Blocks.{Grid}
+use Rattle.grid_records_measure.specs.Measures.{columns, measure}
+use Rattle.papergrid_picture.specs.Blocks.{Content, Fill, Glyph, Grid, TextLine}
 use Rattle.papergrid_picture.specs.Picture.{Piece, picture_line}
 use Rattle.papergrid_picture.specs.Reading.{part_items}
 use Rattle.papergrid_picture.specs.Shown.{Styled, character_of}
@@ -52,6 +54,16 @@ grid_of options input =
 -- the bytes of a piece: a glyph and a fill have those of their character in each of their columns, and a line of a cell its own
 unfoldable pub piece_bytes : Options → List ℕ → Piece → List ℕ
 piece_bytes options input piece = part_items (in_bytes (compact_look (compact_of options.style)) (kept_of options input)) piece.part
+
+-- the columns of what content shows: a glyph and a fill have those of their characters, one by one, and a line of a cell what it
+-- measures as one text
+abbrev pub content_columns : Content → List ℕ → ℕ
+content_columns (Fill c) bytes = columns (shown_chars bytes)
+content_columns (Glyph c) bytes = columns (shown_chars bytes)
+content_columns (TextLine cell k) bytes = measure (shown_chars bytes)
+
+unfoldable pub piece_columns : Options → List ℕ → Piece → ℕ
+piece_columns options input piece = content_columns piece.part.content (piece_bytes options input piece)
 
 -- line y of the table
 abbrev pub line_bytes : Options → List ℕ → ℕ → List ℕ

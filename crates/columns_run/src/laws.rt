@@ -1,9 +1,10 @@
 //! Laws over the definitions, each the contract of a function that does nothing.
-ghost use Rattle.std.specs.Prelude.{◌≡◌, ◌↔◌, ℕ, ◌<◌, ◌++◌, chars, encode_utf8, false, flat_map, true, codes, List, ◌∷◌, [], map, replicate, slice_index_or, IsUtf8, None, Option, Result, ⊤};
+ghost use Rattle.std.specs.Prelude.{◌≡◌, ◌↔◌, ℕ, ◌<◌, ◌++◌, All, chars, encode_utf8, false, flat_map, true, codes, List, ◌∷◌, [], map, replicate, slice_index_or, IsUtf8, None, Option, Result, ⊤};
 ghost use Rattle.std.specs.List.{range_with_len};
 ghost use Rattle.std.specs.Str.{encode_utf8_all};
 ghost use Rattle.ansi_scan.specs.Sequences.{Piece, ArePiecesOf, NoneBroken, IsWhole};
 ghost use Rattle.ansi_str.specs.StyledText.{has_escape, strip};
+ghost use Rattle.ansi_str_text.specs.Characters.{shown_chars};
 ghost use Rattle.ansi_str.specs.Matches.{AreMatches};
 ghost use Rattle.columns_asked.specs.Resizing.{resized_text};
 ghost use Rattle.columns_asked.specs.Worked.{cuts, wraps};
@@ -11,6 +12,7 @@ ghost use Rattle.columns_options.specs.Settings.{default_settings};
 ghost use Rattle.columns_options.specs.declared.options.Options.{Options};
 ghost use Rattle.grid_config.specs.Compact.{compact_of};
 ghost use Rattle.grid_config_values.specs.declared.position.Position.{Position as Cell};
+ghost use Rattle.grid_records_measure.specs.Measures.{measure};
 ghost use Rattle.grid_records_measure.specs.TextLines.{text_lines};
 ghost use Rattle.grid_records_traits.specs.Rows.{IsInside, text_at};
 ghost use Rattle.papergrid_picture.specs.Blocks.{Fill, Glyph, TextLine};
@@ -19,7 +21,7 @@ ghost use Rattle.papergrid_picture.specs.Picture.{Piece as TablePiece, at, pictu
 ghost use Rattle.papergrid_picture.specs.Shown.{Styled, in_plain};
 ghost use Rattle.papergrid_picture.specs.Tiling.{IsLineOf, ShowsBlock, Tiles};
 ghost use Rattle.columns_run.specs.Rows.{cell_parts, line_feed, places};
-ghost use Rattle.columns_run.specs.Layout.{TableFits, asked_of, characters_of, grid_of, kept_of, line_bytes, output_of, picture, piece_bytes, resize_of, table_characters, wide_cell, without_width};
+ghost use Rattle.columns_run.specs.Layout.{TableFits, asked_of, characters_of, grid_of, kept_of, line_bytes, output_of, picture, piece_bytes, piece_columns, resize_of, table_characters, wide_cell, without_width};
 ghost use Rattle.columns_run.specs.Plain.{IsPlain};
 ghost use Rattle.columns_run.specs.TableShown.{ShowsTableOf};
 ghost use Rattle.columns_run.specs.Run.{HasTable, MayRefuse, Serves};
@@ -122,6 +124,16 @@ pub fn cell_lines_keep_their_bytes()
         piece_bytes options input piece ≡ flat_map encode_utf8 (replicate piece.part.width c) }
     ensures kept { (options : Options) (input : List ℕ) (cell : Cell) → IsInside (cell_parts input) cell →
         text_at (kept_of options input) cell ≡ resized_text (resize_of options input cell.col) (text_at (cell_parts input) cell) }
+{}
+
+/// Each piece takes just the columns that it stands on: a line of a cell measures so many, and the characters
+/// of a glyph or a fill take them one by one. In the style of `Options::new` these measure so many as one
+/// text too. The style is plain, and the input a whole text.
+pub fn measured_pieces()
+    ensures each { (options : Options) (input : List ℕ) (y : ℕ) → IsPlain (compact_of options.style) → IsUtf8 input → IsWhole input →
+        All (λ piece. piece_columns options input piece ≡ piece.part.width) (picture_line (grid_of options input) y) }
+    ensures default_style { (options : Options) (input : List ℕ) (y : ℕ) → compact_of options.style ≡ default_settings → IsUtf8 input → IsWhole input →
+        All (λ piece. measure (shown_chars (piece_bytes options input piece)) ≡ piece.part.width) (picture_line (grid_of options input) y) }
 {}
 
 /// An input that has no table is refused by one name and place alone, memory and the reader aside; one that has
