@@ -22,7 +22,8 @@ pub(crate) fn is_too_wide<R: PeekableRecords, D: Dimension>(
     requires { pos.col + (extent_at cfg.now.spans pos).columns ≤ columns }
     ensures { result ≡ is_too_wide (sized cfg.now (D.width dims.now) (D.height dims.now) columns 0) (R.rows records.now) pos }
 {
-    cfg.owner(pos) == pos && needs_more(records, cfg, dims, columns, pos)
+    // Who is seen there is asked last, since it costs most and few cells need more than they have.
+    needs_more(records, cfg, dims, columns, pos) && cfg.owner(pos) == pos
 }
 
 // Whether the cell needs more columns than its rectangle has.

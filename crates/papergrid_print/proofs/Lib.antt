@@ -3,6 +3,7 @@ pub mod CellLineLemmas
 mod LineLemmas
 mod BoundaryLemmas
 pub mod OwnerLemmas
+mod SeenLemmas
 mod PlaceLemmas
 mod OpenLemmas
 mod TableLemmas

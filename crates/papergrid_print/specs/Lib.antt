@@ -4,6 +4,7 @@ pub mod Painting
 pub mod Spaces
 pub mod BlockLines
 pub mod Boundaries
+pub mod Seen
 pub mod Sheets
 pub mod Axes
 pub mod Flat

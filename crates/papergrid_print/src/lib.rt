@@ -9,6 +9,7 @@ mod flat;
 mod glyphs;
 mod painting;
 mod print;
+mod seen;
 mod single;
 mod spaced;
 mod table;

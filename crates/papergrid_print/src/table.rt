@@ -1,8 +1,9 @@
 //! The lines of a table.
 mod line;
+mod seeing;
 
 ghost use Rattle.std.specs.Prelude.{◌≡◌, ◌++◌, ◌<◌, ◌≤◌, ◌+◌, ◌-◌, ◌*◌, ◌^◌, ⊤, IfOk, IfSome, List, MatchOption, OnOk, ℕ, [], false, map, length, slice_index, string_bytes};
-ghost use Rattle.grid_config_spans.specs.Spans.{AreGood, extent_at};
+ghost use Rattle.grid_config_spans.specs.Spans.{AreGood, ArePositive, extent_at};
 ghost use Rattle.papergrid_picture.specs.Frame.{Boundary, Row, boundary_at, line_count, total_width, track_at};
 ghost use Rattle.papergrid_picture.specs.Picture.{boundary_part, parts_of, row_part};
 ghost use Rattle.papergrid_picture.specs.Blocks.{Part};
@@ -14,6 +15,7 @@ ghost use Rattle.grid_records_traits.specs.PlainTexts.{plain_texts};
 ghost use Rattle.grid_records_traits.specs.Rows.{row_at, text_at};
 ghost use Rattle.papergrid_print.specs.Flat.{AreFlat, AreFlatRows, AreMadeFor, IsBetween, behind_text, first_placed, standing_of};
 ghost use Rattle.papergrid_print.specs.Painting.{colored, fill_bytes, glyph_part};
+ghost use Rattle.papergrid_print.specs.Seen.{AreSeen, AreSeenAbove, AreSeenOn};
 ghost use Rattle.papergrid_print.specs.Sheets.{GoesOn, IsOpen, IsPrintable, ShowsCell, bytes_of, grid_of, feed_before, line_at, lines_of, place_line, plain_bytes, row_tracks, sheet_of};
 
 use crate::block::{OpenCell, block_line, push_blank, push_block_line, push_indent};
@@ -23,6 +25,7 @@ use crate::extents::{Axis, stretch, thickness};
 use crate::flat::{FlatRows, are_flat};
 use crate::glyphs::{push_along, push_behind, push_corner, push_upright};
 use crate::painting::{GlyphRun, push_glyphs};
+use crate::seen::{SeenCell, kept_at};
 use ansi_str::AnsiStr;
 use grid_config::SpannedConfig;
 use grid_config_colors::ANSIBuf;
@@ -45,17 +48,19 @@ impl<'a, R: PeekableRecords, C: Colors> Table<'a, R, C> {
     fn push_row_part(
         &self,
         out: &mut String,
+        owners: &[SeenCell],
         cells: &[Option<OpenCell<'a>>],
         i: usize,
         j: usize,
         y: usize,
     ) -> Result<(), AllocError>
+        requires seen { AreSeen self.now.cfg.now.spans (length self.now.widths.now) i owners.now }
         requires is_open { IsOpen (sheet_of self.now.cfg.now (R.rows self.now.records.now) (C.color self.now.colors.now) self.now.widths.now self.now.heights.now) i cells.now }
         requires wide { length cells.now ≡ length self.now.widths.now }
         requires column { j < length self.now.widths.now }
         ensures { OnOk result (string_bytes out.new ≡ string_bytes out.old ++ (let sheet = sheet_of self.now.cfg.now (R.rows self.now.records.now) (C.color self.now.colors.now) self.now.widths.now self.now.heights.now in plain_bytes sheet (parts_of (row_part (grid_of sheet) i y j)))) }
     {
-        if self.cfg.owner(Position::new(i, j)).col != j {
+        if kept_at(owners, i, j).col != j {
             return Ok(());
         }
         push_upright(out, self.cfg, j, self.widths.len())?;
@@ -72,10 +77,12 @@ impl<'a, R: PeekableRecords, C: Colors> Table<'a, R, C> {
     fn push_row_line(
         &self,
         out: &mut String,
+        owners: &[SeenCell],
         cells: &[Option<OpenCell<'a>>],
         i: usize,
         y: usize,
     ) -> Result<(), AllocError>
+        requires seen { AreSeen self.now.cfg.now.spans (length self.now.widths.now) i owners.now }
         requires is_open { IsOpen (sheet_of self.now.cfg.now (R.rows self.now.records.now) (C.color self.now.colors.now) self.now.widths.now self.now.heights.now) i cells.now }
         requires wide { length cells.now ≡ length self.now.widths.now }
         ensures { OnOk result (string_bytes out.new ≡ string_bytes out.old ++ line_at (sheet_of self.now.cfg.now (R.rows self.now.records.now) (C.color self.now.colors.now) self.now.widths.now self.now.heights.now) (Row i) y) }
@@ -85,7 +92,7 @@ impl<'a, R: PeekableRecords, C: Colors> Table<'a, R, C> {
         let colors = self.cfg.get_margin_color();
         push_indent(out, &margin.left, &colors.left)?;
         for j in 0..columns {
-            self.push_row_part(out, cells, i, j, y)?;
+            self.push_row_part(out, owners, cells, i, j, y)?;
         }
         push_upright(out, self.cfg, columns, columns)?;
         push_indent(out, &margin.right, &colors.right)
@@ -97,11 +104,13 @@ impl<'a, R: PeekableRecords, C: Colors> Table<'a, R, C> {
         &self,
         out: &mut String,
         runs: &mut Vec<GlyphRun<'a>>,
+        owners: &[SeenCell],
         cells: &[Option<OpenCell<'a>>],
         i: usize,
         j: usize,
         y: usize,
     ) -> Result<(), AllocError>
+        requires seen { AreSeenOn self.now.cfg.now.spans (length self.now.widths.now) i owners.now }
         requires goes_on { GoesOn (sheet_of self.now.cfg.now (R.rows self.now.records.now) (C.color self.now.colors.now) self.now.widths.now self.now.heights.now) i cells.now }
         requires wide { length cells.now ≡ length self.now.widths.now }
         requires column { j < length self.now.widths.now }
@@ -110,7 +119,7 @@ impl<'a, R: PeekableRecords, C: Colors> Table<'a, R, C> {
             ≡ string_bytes out.old ++ line_items (bytes_of sheet) (map glyph_part runs.old.items ++ (parts_of (boundary_part (grid_of sheet) i y j) ++ rest))) }
     {
         let rows = self.heights.len();
-        let owner = self.cfg.owner(Position::new(i, j));
+        let owner = kept_at(owners, i, j);
         if owner.row >= i {
             push_corner(runs, self.cfg, i, rows, j, self.widths.len())?;
             return push_along(runs, self.cfg, i, rows, self.widths[j]);
@@ -133,10 +142,12 @@ impl<'a, R: PeekableRecords, C: Colors> Table<'a, R, C> {
         &self,
         out: &mut String,
         runs: &mut Vec<GlyphRun<'a>>,
+        owners: &[SeenCell],
         cells: &[Option<OpenCell<'a>>],
         i: usize,
         y: usize,
     ) -> Result<(), AllocError>
+        requires seen { AreSeenOn self.now.cfg.now.spans (length self.now.widths.now) i owners.now }
         requires goes_on { GoesOn (sheet_of self.now.cfg.now (R.rows self.now.records.now) (C.color self.now.colors.now) self.now.widths.now self.now.heights.now) i cells.now }
         requires wide { length cells.now ≡ length self.now.widths.now }
         ensures { OnOk result (string_bytes out.new ≡ string_bytes out.old ++ line_at (sheet_of self.now.cfg.now (R.rows self.now.records.now) (C.color self.now.colors.now) self.now.widths.now self.now.heights.now) (Boundary i) y) }
@@ -147,7 +158,7 @@ impl<'a, R: PeekableRecords, C: Colors> Table<'a, R, C> {
         push_indent(out, &margin.left, &colors.left)?;
         runs.clear();
         for j in 0..columns {
-            self.push_boundary_part(out, runs, cells, i, j, y)?;
+            self.push_boundary_part(out, runs, owners, cells, i, j, y)?;
         }
         push_corner(runs, self.cfg, i, self.heights.len(), columns, columns)?;
         push_glyphs(out, runs)?;
@@ -160,10 +171,12 @@ impl<'a, R: PeekableRecords, C: Colors> Table<'a, R, C> {
         out: &mut String,
         runs: &mut Vec<GlyphRun<'a>>,
         between: &Option<String>,
+        owners: &[SeenCell],
         cells: &[Option<OpenCell<'a>>],
         i: usize,
         y: usize,
     ) -> Result<(), AllocError>
+        requires seen { AreSeenOn self.now.cfg.now.spans (length self.now.widths.now) i owners.now }
         requires between { MatchOption between.now ⊤ (λ text. IsBetween (sheet_of self.now.cfg.now (R.rows self.now.records.now) (C.color self.now.colors.now) self.now.widths.now self.now.heights.now) (string_bytes text)) }
         requires goes_on { GoesOn (sheet_of self.now.cfg.now (R.rows self.now.records.now) (C.color self.now.colors.now) self.now.widths.now self.now.heights.now) i cells.now }
         requires wide { length cells.now ≡ length self.now.widths.now }
@@ -174,17 +187,19 @@ impl<'a, R: PeekableRecords, C: Colors> Table<'a, R, C> {
                 return out.push_str(text);
             }
         }
-        self.push_boundary_line(out, runs, cells, i, y)
+        self.push_boundary_line(out, runs, owners, cells, i, y)
     }
 
     // Appends the lines of row `i`, from line `y` of the table on. Returns the line after them.
     fn push_row(
         &self,
         out: &mut String,
+        owners: &[SeenCell],
         cells: &[Option<OpenCell<'a>>],
         i: usize,
         y: usize,
     ) -> Result<usize, AllocError>
+        requires seen { AreSeen self.now.cfg.now.spans (length self.now.widths.now) i owners.now }
         requires is_open { IsOpen (sheet_of self.now.cfg.now (R.rows self.now.records.now) (C.color self.now.colors.now) self.now.widths.now self.now.heights.now) i cells.now }
         requires wide { length cells.now ≡ length self.now.widths.now }
         requires row { i < length self.now.heights.now }
@@ -197,7 +212,7 @@ impl<'a, R: PeekableRecords, C: Colors> Table<'a, R, C> {
         let end = y + self.heights[i];
         for line in y..end {
             push_feed(out, line)?;
-            self.push_row_line(out, cells, i, line)?;
+            self.push_row_line(out, owners, cells, i, line)?;
         }
         Ok(end)
     }
@@ -209,10 +224,12 @@ impl<'a, R: PeekableRecords, C: Colors> Table<'a, R, C> {
         out: &mut String,
         runs: &mut Vec<GlyphRun<'a>>,
         between: &Option<String>,
+        owners: &[SeenCell],
         cells: &[Option<OpenCell<'a>>],
         i: usize,
         y: usize,
     ) -> Result<usize, AllocError>
+        requires seen { AreSeenOn self.now.cfg.now.spans (length self.now.widths.now) i owners.now }
         requires between { MatchOption between.now ⊤ (λ text. IsBetween (sheet_of self.now.cfg.now (R.rows self.now.records.now) (C.color self.now.colors.now) self.now.widths.now self.now.heights.now) (string_bytes text)) }
         requires goes_on { GoesOn (sheet_of self.now.cfg.now (R.rows self.now.records.now) (C.color self.now.colors.now) self.now.widths.now self.now.heights.now) i cells.now }
         requires wide { length cells.now ≡ length self.now.widths.now }
@@ -227,7 +244,7 @@ impl<'a, R: PeekableRecords, C: Colors> Table<'a, R, C> {
             return Ok(y);
         }
         push_feed(out, y)?;
-        self.push_boundary_again(out, runs, between, cells, i, y)?;
+        self.push_boundary_again(out, runs, between, owners, cells, i, y)?;
         Ok(y + 1)
     }
 
@@ -262,10 +279,13 @@ impl<'a, R: PeekableRecords, C: Colors> Table<'a, R, C> {
     fn open_row(
         &self,
         alloc: Global,
+        owners: &[SeenCell],
         cells: &mut [Option<OpenCell<'a>>],
         i: usize,
         y: usize,
     ) -> Result<(), AllocError>
+        requires seen { AreSeen self.now.cfg.now.spans (length self.now.widths.now) i owners.now }
+        requires positive { ArePositive self.now.cfg.now.spans }
         requires goes_on { GoesOn (sheet_of self.now.cfg.now (R.rows self.now.records.now) (C.color self.now.colors.now) self.now.widths.now self.now.heights.now) i cells.old }
         requires wide { length cells.old ≡ length self.now.widths.now }
         requires row { i < length self.now.heights.now }
@@ -279,7 +299,7 @@ impl<'a, R: PeekableRecords, C: Colors> Table<'a, R, C> {
     {
         for j in 0..self.widths.len() {
             let pos = Position::new(i, j);
-            if self.cfg.owner(pos) == pos {
+            if kept_at(owners, i, j) == pos {
                 cells[j] = Some(self.open_cell(alloc, pos, y)?);
             }
         }
@@ -387,7 +407,7 @@ impl<'a, R: PeekableRecords, C: Colors> Table<'a, R, C> {
             return Ok(None);
         }
         let mut text = String::new(alloc);
-        self.push_boundary_line(&mut text, runs, cells, 1, 0)?;
+        self.push_boundary_line(&mut text, runs, &[], cells, 1, 0)?;
         Ok(Some(text))
     }
 
@@ -397,10 +417,13 @@ impl<'a, R: PeekableRecords, C: Colors> Table<'a, R, C> {
         alloc: Global,
         out: &mut String,
         flat: &Option<FlatRows<'a>>,
+        owners: &[SeenCell],
         cells: &mut [Option<OpenCell<'a>>],
         i: usize,
         y: usize,
     ) -> Result<usize, AllocError>
+        requires seen { AreSeen self.now.cfg.now.spans (length self.now.widths.now) i owners.now }
+        requires positive { ArePositive self.now.cfg.now.spans }
         requires made { AreMadeFor self.now.cfg.now (length self.now.widths.now) flat.now }
         requires goes_on { GoesOn (sheet_of self.now.cfg.now (R.rows self.now.records.now) (C.color self.now.colors.now) self.now.widths.now self.now.heights.now) i cells.old }
         requires wide { length cells.old ≡ length self.now.widths.now }
@@ -423,8 +446,8 @@ impl<'a, R: PeekableRecords, C: Colors> Table<'a, R, C> {
                 return Ok(y + 1);
             }
         }
-        self.open_row(alloc, cells, i, y)?;
-        self.push_row(out, cells, i, y)
+        self.open_row(alloc, owners, cells, i, y)?;
+        self.push_row(out, owners, cells, i, y)
     }
 
     // Appends the lines of a margin, from line `y` of the table on. Each takes `width` columns.
@@ -472,8 +495,11 @@ impl<'a, R: PeekableRecords, C: Colors> Table<'a, R, C> {
         flat: &Option<FlatRows<'a>>,
         between: &Option<String>,
         runs: &mut Vec<GlyphRun<'a>>,
+        owners: &mut [SeenCell],
         cells: &mut [Option<OpenCell<'a>>],
     ) -> Result<usize, AllocError>
+        requires positive { ArePositive self.now.cfg.now.spans }
+        requires seen { AreSeenAbove self.now.cfg.now.spans (length self.now.widths.now) 0 owners.old }
         requires some { 0 < length self.now.widths.now }
         requires good { AreGood self.now.cfg.now.spans (length self.now.heights.now) (length self.now.widths.now) }
         requires lines { track_at (row_tracks (sheet_of self.now.cfg.now (R.rows self.now.records.now) (C.color self.now.colors.now) self.now.widths.now self.now.heights.now)) (length self.now.heights.now) < 2 ^ 64 }
@@ -487,10 +513,11 @@ impl<'a, R: PeekableRecords, C: Colors> Table<'a, R, C> {
     {
         let mut y = self.cfg.get_margin().top.size;
         for i in 0..self.heights.len() {
-            y = self.push_boundary(out, runs, between, cells, i, y)?;
-            y = self.push_next_row(alloc, out, flat, cells, i, y)?;
+            self.see_row(owners, i);
+            y = self.push_boundary(out, runs, between, owners, cells, i, y)?;
+            y = self.push_next_row(alloc, out, flat, owners, cells, i, y)?;
         }
-        self.push_boundary(out, runs, between, cells, self.heights.len(), y)
+        self.push_boundary(out, runs, between, &[], cells, self.heights.len(), y)
     }
 
     // The same, with what is made once.
@@ -506,8 +533,17 @@ impl<'a, R: PeekableRecords, C: Colors> Table<'a, R, C> {
         let flat = self.flat_rows(alloc)?;
         let mut runs = Vec::new(alloc);
         let mut cells = closed_cells(alloc, self.widths.len())?;
+        let mut owners = self.none_seen(alloc)?;
         let between = self.between_line(alloc, &mut runs, &cells)?;
-        self.push_all_rows(alloc, out, &flat, &between, &mut runs, &mut cells)
+        self.push_all_rows(
+            alloc,
+            out,
+            &flat,
+            &between,
+            &mut runs,
+            &mut owners,
+            &mut cells,
+        )
     }
 
     // How many bytes the lines take at least, each of `width` columns: what no memory holds is refused

@@ -1,8 +1,9 @@
 //! One line of a table, without those before it.
 ghost use Rattle.std.specs.Prelude.{◌≡◌, ◌++◌, ◌<◌, ◌≤◌, ◌+◌, ◌^◌, ℕ, IfOk, OnOk, length, string_bytes};
-ghost use Rattle.grid_config_spans.specs.Spans.{AreGood};
+ghost use Rattle.grid_config_spans.specs.Spans.{AreGood, ArePositive};
 ghost use Rattle.papergrid_picture.specs.Frame.{Boundary, boundary_at, track_at};
 ghost use Rattle.papergrid_picture.specs.Picture.{seen};
+ghost use Rattle.papergrid_print.specs.Seen.{AreSeen};
 ghost use Rattle.papergrid_print.specs.Sheets.{IsPrintable, ShowsAt, grid_of, line_at, place_line, row_tracks, sheet_of};
 ghost use Rattle.papergrid_print.specs.Single.{IsOpenAbove};
 
@@ -10,7 +11,7 @@ use super::Table;
 use crate::block::{OpenCell, push_blank};
 use crate::colors::Colors;
 use crate::extents::{Axis, stretch, thickness};
-use grid_config_values::Position;
+use crate::seen::{SeenCell, kept_at};
 use grid_records_traits::PeekableRecords;
 use std::alloc::{AllocError, Global};
 
@@ -36,11 +37,14 @@ impl<'a, R: PeekableRecords, C: Colors> Table<'a, R, C> {
     fn cell_at(
         &self,
         alloc: Global,
+        owners: &[SeenCell],
         i: usize,
         j: usize,
         start: usize,
         before: usize,
     ) -> Result<Option<OpenCell<'a>>, AllocError>
+        requires seen { AreSeen self.now.cfg.now.spans (length self.now.widths.now) i owners.now }
+        requires positive { 0 < length self.now.widths.now → ArePositive self.now.cfg.now.spans }
         requires rows { before ≤ length self.now.heights.now }
         requires boundary { i ≤ length self.now.heights.now }
         requires column { j < length self.now.widths.now }
@@ -52,7 +56,7 @@ impl<'a, R: PeekableRecords, C: Colors> Table<'a, R, C> {
         ensures open { IfOk result (λ kept. let sheet = sheet_of self.now.cfg.now (R.rows self.now.records.now) (C.color self.now.colors.now) self.now.widths.now self.now.heights.now in
             (seen (grid_of sheet) i j).row < before → (seen (grid_of sheet) i j).col ≡ j → ShowsAt sheet (seen (grid_of sheet) i j) kept) }
     {
-        let pos = self.cfg.owner(Position::new(i, j));
+        let pos = kept_at(owners, i, j);
         if pos.row >= before {
             return Ok(None);
         }
@@ -68,10 +72,13 @@ impl<'a, R: PeekableRecords, C: Colors> Table<'a, R, C> {
     fn cells_at(
         &self,
         alloc: Global,
+        owners: &[SeenCell],
         i: usize,
         start: usize,
         before: usize,
     ) -> Result<Vec<Option<OpenCell<'a>>>, AllocError>
+        requires seen { AreSeen self.now.cfg.now.spans (length self.now.widths.now) i owners.now }
+        requires positive { 0 < length self.now.widths.now → ArePositive self.now.cfg.now.spans }
         requires rows { before ≤ length self.now.heights.now }
         requires boundary { i ≤ length self.now.heights.now }
         requires start { start ≡ boundary_at (row_tracks (sheet_of self.now.cfg.now (R.rows self.now.records.now) (C.color self.now.colors.now) self.now.widths.now self.now.heights.now)) i }
@@ -84,7 +91,7 @@ impl<'a, R: PeekableRecords, C: Colors> Table<'a, R, C> {
     {
         let mut cells = Vec::new(alloc);
         for j in 0..self.widths.len() {
-            cells.push(self.cell_at(alloc, i, j, start, before)?)?;
+            cells.push(self.cell_at(alloc, owners, i, j, start, before)?)?;
         }
         Ok(cells)
     }
@@ -104,9 +111,10 @@ impl<'a, R: PeekableRecords, C: Colors> Table<'a, R, C> {
         requires columns { boundary_at (grid_of (sheet_of self.now.cfg.now (R.rows self.now.records.now) (C.color self.now.colors.now) self.now.widths.now self.now.heights.now)).frame.columns (length self.now.widths.now) < 2 ^ 64 }
         ensures { OnOk result (string_bytes out.new ≡ string_bytes out.old ++ line_at (sheet_of self.now.cfg.now (R.rows self.now.records.now) (C.color self.now.colors.now) self.now.widths.now self.now.heights.now) (Boundary i) y) }
     {
-        let cells = self.cells_at(alloc, i, y, i)?;
+        let owners = self.seen_in_row(alloc, i)?;
+        let cells = self.cells_at(alloc, &owners, i, y, i)?;
         let mut runs = Vec::new(alloc);
-        self.push_boundary_line(out, &mut runs, &cells, i, y)
+        self.push_boundary_line(out, &mut runs, &owners, &cells, i, y)
     }
 
     // Appends line `y`, which shows row `i` or the boundary before it; that boundary begins in line
@@ -131,8 +139,9 @@ impl<'a, R: PeekableRecords, C: Colors> Table<'a, R, C> {
         if y < self.top_of(i, i, start) {
             return self.push_boundary_at(alloc, out, i, y);
         }
-        let cells = self.cells_at(alloc, i, start, i + 1)?;
-        self.push_row_line(out, &cells, i, y)
+        let owners = self.seen_in_row(alloc, i)?;
+        let cells = self.cells_at(alloc, &owners, i, start, i + 1)?;
+        self.push_row_line(out, &owners, &cells, i, y)
     }
 
     // Appends line `y`, which shows the last row boundary or the bottom margin; the rows end before line

@@ -1,12 +1,17 @@
-use Rattle.std.proofs.Common.{◌≡◌, ◌<◌, ◌≤◌, ◌++◌, length, string_bytes, refl, ap, ◌∙◌, arith}
+use Rattle.std.proofs.Common.{◌<◌, ◌++◌, [], length, refl, ap, ◌∙◌, arith}
 use Rattle.papergrid_picture.specs.Frame.{Boundary}
 use Rattle.papergrid_print.specs.Sheets.{line_at, sheet_of}
 use Rattle.papergrid_print.proofs.FlatLemmas.{between-same, none-goes-on}
+use Rattle.papergrid_print.proofs.SeenLemmas.{none-seen, seen-on}
 use Rattle.papergrid_print.proofs.table.Table.between_line.Goals as goal
 
 pub push_boundary_line-requires-clause-goes_on : goal.push_boundary_line-requires-clause-goes_on
 push_boundary_line-requires-clause-goes_on g c =
     none-goes-on (sheet_of c.args.self.now.cfg.now (g.R.RecordTexts.rows c.args.self.now.records.now) (g.C.Colors.color c.args.self.now.colors.now) c.args.self.now.widths.now c.args.self.now.heights.now) (c.if-not-has_no_spans.ensures.0 refl) 1 c.args.cells.now
+
+pub push_boundary_line-requires-clause-seen : goal.push_boundary_line-requires-clause-seen
+push_boundary_line-requires-clause-seen g c =
+    seen-on c.args.self.now.cfg.now.spans (length c.args.self.now.widths.now) 1 [] (none-seen c.args.self.now.cfg.now.spans (length c.args.self.now.widths.now) 1 (c.if-not-has_no_spans.ensures.0 refl))
 
 pub returns : goal.returns
 returns g c = λ i y some below.

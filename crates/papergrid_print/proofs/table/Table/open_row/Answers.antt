@@ -1,6 +1,8 @@
-use Rattle.std.proofs.Common.{◌≡◌, ◌<◌, ◌+◌, length, refl, sym, ◌∙◌, arith}
+use Rattle.std.proofs.Common.{◌≡◌, ◌<◌, length, refl, ap, sym, ◌∙◌, arith}
+use Rattle.grid_config_spans.specs.Owners.{owner}
+use Rattle.grid_config_spans.specs.Spans.{extent_at}
 use Rattle.papergrid_print.specs.Sheets.{IsOpen, sheet_of}
-use Rattle.papergrid_print.proofs.OpenLemmas.{IsOpening, open-goes-on, opens, stays}
+use Rattle.papergrid_print.proofs.OpenLemmas.{open-goes-on, opens, stays}
 use Rattle.papergrid_print.proofs.table.Table.open_row.Goals.{then-eq+in_ok-open_cell+in-Some-1, then-eq+in_ok-open_cell+in-None-1, else-eq}
 use Rattle.papergrid_print.proofs.table.Table.open_row.Goals as goal
 
@@ -10,13 +12,14 @@ loop-j-init g c = record { wide = refl; before = λ k none. absurd (omega (arith
 pub loop-j-preserved : goal.loop-j-preserved
 loop-j-preserved g c =
     let below : c.loop-j.j < length c.loop-j.cells = omega (arith, c.loop-j-test.true, c.loop-j.invariant.wide, c.requires.wide) in
+    let owned : c.kept_at.result ≡ owner (extent_at c.args.self.now.cfg.now.spans) c.new-pos.result = c.kept_at.ensures ∙ (c.requires.seen c.loop-j.j (omega (arith, c.loop-j-test.true)) ∙ ap (owner (extent_at c.args.self.now.cfg.now.spans)) (sym c.new-pos.ensures)) in
     elim c.if-eq.branch [
-      | then-eq+in_ok-open_cell+in-Some-1 w ↦ opens (sheet_of c.args.self.now.cfg.now (g.R.RecordTexts.rows c.args.self.now.records.now) (g.C.Colors.color c.args.self.now.colors.now) c.args.self.now.widths.now c.args.self.now.heights.now) c.args.i c.loop-j.j c.args.cells.now c.loop-j.cells c.if-eq.cells w.in_ok-open_cell.field-0 c.new-pos.result c.owner.result
-          c.loop-j.invariant c.owner.ensures.positive below c.new-pos.ensures c.owner.ensures.first (sym c.eq.ensures ∙ w.if-eq.true) w.in_ok-open_cell.ensures w.cells-is
-      | then-eq+in_ok-open_cell+in-None-1 w ↦ opens (sheet_of c.args.self.now.cfg.now (g.R.RecordTexts.rows c.args.self.now.records.now) (g.C.Colors.color c.args.self.now.colors.now) c.args.self.now.widths.now c.args.self.now.heights.now) c.args.i c.loop-j.j c.args.cells.now c.loop-j.cells c.if-eq.cells w.in_ok-open_cell.field-0 c.new-pos.result c.owner.result
-          c.loop-j.invariant c.owner.ensures.positive below c.new-pos.ensures c.owner.ensures.first (sym c.eq.ensures ∙ w.if-eq.true) w.in_ok-open_cell.ensures w.cells-is
-      | else-eq w ↦ stays (sheet_of c.args.self.now.cfg.now (g.R.RecordTexts.rows c.args.self.now.records.now) (g.C.Colors.color c.args.self.now.colors.now) c.args.self.now.widths.now c.args.self.now.heights.now) c.args.i c.loop-j.j c.args.cells.now c.loop-j.cells c.if-eq.cells c.new-pos.result c.owner.result
-          c.loop-j.invariant c.owner.ensures.positive c.requires.goes_on c.new-pos.ensures c.owner.ensures.first (sym c.eq.ensures ∙ w.if-eq.false) w.cells-is
+      | then-eq+in_ok-open_cell+in-Some-1 w ↦ opens (sheet_of c.args.self.now.cfg.now (g.R.RecordTexts.rows c.args.self.now.records.now) (g.C.Colors.color c.args.self.now.colors.now) c.args.self.now.widths.now c.args.self.now.heights.now) c.args.i c.loop-j.j c.args.cells.now c.loop-j.cells c.if-eq.cells w.in_ok-open_cell.field-0 c.new-pos.result c.kept_at.result
+          c.loop-j.invariant c.requires.positive below c.new-pos.ensures owned (sym c.eq.ensures ∙ w.if-eq.true) w.in_ok-open_cell.ensures w.cells-is
+      | then-eq+in_ok-open_cell+in-None-1 w ↦ opens (sheet_of c.args.self.now.cfg.now (g.R.RecordTexts.rows c.args.self.now.records.now) (g.C.Colors.color c.args.self.now.colors.now) c.args.self.now.widths.now c.args.self.now.heights.now) c.args.i c.loop-j.j c.args.cells.now c.loop-j.cells c.if-eq.cells w.in_ok-open_cell.field-0 c.new-pos.result c.kept_at.result
+          c.loop-j.invariant c.requires.positive below c.new-pos.ensures owned (sym c.eq.ensures ∙ w.if-eq.true) w.in_ok-open_cell.ensures w.cells-is
+      | else-eq w ↦ stays (sheet_of c.args.self.now.cfg.now (g.R.RecordTexts.rows c.args.self.now.records.now) (g.C.Colors.color c.args.self.now.colors.now) c.args.self.now.widths.now c.args.self.now.heights.now) c.args.i c.loop-j.j c.args.cells.now c.loop-j.cells c.if-eq.cells c.new-pos.result c.kept_at.result
+          c.loop-j.invariant c.requires.positive c.requires.goes_on c.new-pos.ensures owned (sym c.eq.ensures ∙ w.if-eq.false) w.cells-is
     ]
 
 pub returns-clause-is_open : goal.returns-clause-is_open

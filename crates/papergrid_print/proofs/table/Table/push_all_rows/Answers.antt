@@ -1,7 +1,6 @@
-use Rattle.std.proofs.Common.{◌≡◌, ◌<◌, ◌≤◌, ◌+◌, List, Option, length, ap, sym, subst, ◌∙◌, arith}
-use Rattle.std.proofs.lemmas.List.{with_items_is}
-use Rattle.papergrid_print.specs.Sheets.{GoesOn, sheet_of}
-use Rattle.papergrid_print.specs.declared.block.OpenCell.{OpenCell}
+use Rattle.std.proofs.Common.{length, ◌∙◌, arith}
+use Rattle.papergrid_print.specs.Sheets.{sheet_of}
+use Rattle.papergrid_print.proofs.SeenLemmas.{none-seen-below}
 use Rattle.papergrid_print.proofs.TableLemmas.{row-within}
 use Rattle.papergrid_print.proofs.table.Table.push_all_rows.Goals as goal
 
@@ -16,5 +15,10 @@ loop-i-preserved g c =
       line = c.in_ok-y-2.ensures.end;
       lines = c.in_ok-y-2.ensures.lines;
       wide = c.in_ok-y-2.ensures.wide ∙ c.loop-i.invariant.wide;
+      above = c.see_row.ensures.above;
       goes_on = c.in_ok-y-2.ensures.goes_on;
     }
+
+pub push_boundary-requires-2-clause-seen : goal.push_boundary-requires-2-clause-seen
+push_boundary-requires-2-clause-seen g c =
+    none-seen-below c.args.self.now.cfg.now.spans (length c.args.self.now.heights.now) (length c.args.self.now.widths.now) c.requires.positive c.requires.good

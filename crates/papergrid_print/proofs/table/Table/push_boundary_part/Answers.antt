@@ -1,23 +1,23 @@
-use Rattle.std.proofs.Common.{◌≡◌, ◌<◌, ◌≤◌, ◌-◌, ◌∙◌, ◌++◌, ap, sym, length, string_bytes, arith, get_or}
+use Rattle.std.proofs.Common.{◌≡◌, ◌<◌, ◌≤◌, ◌-◌, ◌∙◌, ap, sym, subst, length, string_bytes, arith}
 use Rattle.std.proofs.lemmas.Result.{on_ok_weaker}
 use Rattle.grid_config.specs.Looks.{look_of}
 use Rattle.grid_config_values.specs.declared.position.Position.{Position}
-use Rattle.grid_config_spans.specs.Owners.{owner}
-use Rattle.grid_config_spans.specs.Spans.{extent_at}
 use Rattle.papergrid_picture.specs.Picture.{seen}
 use Rattle.papergrid_print.specs.BlockLines.{line_kind}
 use Rattle.papergrid_print.specs.Shown.{measures_of}
+use Rattle.papergrid_print.specs.Seen.{IsSameAbove}
 use Rattle.papergrid_print.specs.Sheets.{ShowsCell, grid_of, sheet_of}
 use Rattle.papergrid_print.proofs.LineLemmas.{kept-shows}
 use Rattle.papergrid_print.proofs.BoundaryLemmas.{closed-part, on_ok_both, open-part}
+use Rattle.papergrid_print.proofs.SeenLemmas.{same-above, same-below}
 use Rattle.papergrid_print.proofs.table.Table.push_boundary_part.Goals as goal
 
 pub returns-then-owner-i : goal.returns-then-owner-i
 returns-then-owner-i g c =
     let sheet = sheet_of c.args.self.now.cfg.now (g.R.RecordTexts.rows c.args.self.now.records.now) (g.C.Colors.color c.args.self.now.colors.now) c.args.self.now.widths.now c.args.self.now.heights.now in
     let pos = seen (grid_of sheet) c.args.i c.args.j in
-    let is_seen : c.owner-owner.result ≡ pos = c.owner-owner.ensures.first ∙ ap (owner (extent_at c.args.self.now.cfg.now.spans)) c.new.ensures in
-    let from : c.args.i ≤ pos.row = grind (arith, ap (λ (p : Position). p.row) is_seen, c.if-owner-i.true) in
+    let kept : IsSameAbove c.args.i c.kept_at-owner.result pos = subst (λ (p : Position). IsSameAbove c.args.i p pos) (sym c.kept_at-owner.ensures) (c.requires.seen c.args.j c.requires.column) in
+    let from : c.args.i ≤ pos.row = same-below c.args.i c.kept_at-owner.result pos kept (omega (arith, c.if-owner-i.true)) in
     on_ok_weaker c.push_along.result
     (λ added. closed-part sheet c.args.i c.args.j c.args.y (string_bytes c.args.out.now) c.args.runs.now.items c.push_corner.new.runs.items c.push_along.new.runs.items from c.in_ok-push_corner.ensures added)
     c.push_along.ensures
@@ -27,7 +27,8 @@ returns-in-Some g c =
     let sheet = sheet_of c.args.self.now.cfg.now (g.R.RecordTexts.rows c.args.self.now.records.now) (g.C.Colors.color c.args.self.now.colors.now) c.args.self.now.widths.now c.args.self.now.heights.now in
     let cell = c.in-Some.cell in
     let pos = seen (grid_of sheet) c.args.i c.args.j in
-    let is_seen : c.owner-owner.result ≡ pos = c.owner-owner.ensures.first ∙ ap (owner (extent_at c.args.self.now.cfg.now.spans)) c.new.ensures in
+    let kept : IsSameAbove c.args.i c.kept_at-owner.result pos = subst (λ (p : Position). IsSameAbove c.args.i p pos) (sym c.kept_at-owner.ensures) (c.requires.seen c.args.j c.requires.column) in
+    let is_seen : c.kept_at-owner.result ≡ pos = same-above c.args.i c.kept_at-owner.result pos kept (omega (arith, c.if-owner-i.false)) in
     let above : pos.row < c.args.i = grind (arith, ap (λ (p : Position). p.row) is_seen, c.if-owner-i.false) in
     let first : pos.col ≡ c.args.j = grind (arith, ap (λ (p : Position). p.col) is_seen, c.if-owner-j.false) in
     let below : c.args.j < length c.args.cells.now = omega (arith, c.requires.wide, c.requires.column) in

@@ -21,7 +21,7 @@ pub push_row_line-requires-clause-is_open : goal.push_row_line-requires-clause-i
 push_row_line-requires-clause-is_open g c = λ j inside first.
     let sheet = sheet_of c.args.self.now.cfg.now (g.R.RecordTexts.rows c.args.self.now.records.now) (g.C.Colors.color c.args.self.now.colors.now) c.args.self.now.widths.now c.args.self.now.heights.now in
     let under : (seen (grid_of sheet) c.args.i j).row < c.args.i + 1 = omega (arith, c.in_ok-cells.ensures.above j inside) in
-    subst (λ (cells : List (Option OpenCell)). ShowsAt sheet (seen (grid_of sheet) c.args.i j) (get_or cells j None)) (sym c.deref.ensures.value) (c.in_ok-cells.ensures.open j inside under first)
+    subst (λ (cells : List (Option OpenCell)). ShowsAt sheet (seen (grid_of sheet) c.args.i j) (get_or cells j None)) (sym c.deref-3.ensures.value) (c.in_ok-cells.ensures.open j inside under first)
 
 pub returns : goal.returns
 returns g c =

@@ -1,9 +1,7 @@
-use Rattle.std.proofs.Common.{◌≡◌, ◌<◌, ◌∙◌, ◌++◌, ap, sym, length, string_bytes, arith, get_or}
+use Rattle.std.proofs.Common.{◌≡◌, ◌<◌, ◌∙◌, ◌++◌, ap, length, string_bytes, arith}
 use Rattle.std.proofs.lemmas.Result.{on_ok_weaker}
 use Rattle.grid_config.specs.Looks.{look_of}
 use Rattle.grid_config_values.specs.declared.position.Position.{Position}
-use Rattle.grid_config_spans.specs.Owners.{owner}
-use Rattle.grid_config_spans.specs.Spans.{extent_at}
 use Rattle.papergrid_picture.specs.Picture.{seen}
 use Rattle.papergrid_print.specs.BlockLines.{alone_bytes, line_kind}
 use Rattle.papergrid_print.specs.Shown.{measures_of}
@@ -16,8 +14,8 @@ returns-in-Some g c =
     let sheet = sheet_of c.args.self.now.cfg.now (g.R.RecordTexts.rows c.args.self.now.records.now) (g.C.Colors.color c.args.self.now.colors.now) c.args.self.now.widths.now c.args.self.now.heights.now in
     let cell = c.in-Some.cell in
     let pos = seen (grid_of sheet) c.args.i c.args.j in
-    let is_seen : c.owner.result ≡ pos = c.owner.ensures.first ∙ ap (owner (extent_at c.args.self.now.cfg.now.spans)) c.new.ensures in
-    let first : pos.col ≡ c.args.j = grind (arith, ap (λ (p : Position). p.col) is_seen, c.if-owner-j.false) in
+    let is_seen : c.kept_at.result ≡ pos = c.kept_at.ensures ∙ c.requires.seen c.args.j c.requires.column in
+    let first : pos.col ≡ c.args.j = grind (arith, ap (λ (p : Position). p.col) is_seen, c.if-kept_at-j.false) in
     let below : c.args.j < length c.args.cells.now = omega (arith, c.requires.wide, c.requires.column) in
     let shows : ShowsCell sheet pos cell = kept-shows sheet pos c.args.cells.now c.args.j cell c.index-cells-j.result below (c.requires.is_open c.args.j c.requires.column first) c.index-cells-j.is c.in-Some.is in
     on_ok_weaker c.push_block_line.result
