@@ -31,7 +31,7 @@ use Rattle.papergrid_picture.specs.Reading.{line_items, painted, part_items}
 use Rattle.papergrid_picture.proofs.FrameLemmas.{boundary-behind, boundary-next}
 use Rattle.papergrid_print.specs.BlockLines.{kind_at, line_kind, line_parts}
 use Rattle.papergrid_print.specs.Boundaries.{upright_bytes}
-use Rattle.papergrid_print.specs.Flat.{AreFlat, AreFlatRows, behind_boundary, first_cell, first_placed, left_margin, left_padding, placed, right_margin, right_padding, spaced_text, standing, standing_of}
+use Rattle.papergrid_print.specs.Flat.{AreFlat, AreFlatRows, behind_boundary, first_cell, first_placed, left_margin, left_padding, placed, right_margin, right_padding, row_front, spaced_text, standing, standing_of}
 use Rattle.papergrid_print.specs.Painting.{colored, fill_bytes}
 use Rattle.papergrid_print.specs.Sheets.{GoesOn, Sheet, bytes_of, grid_of, line_at, plain_bytes, row_tracks}
 use Rattle.papergrid_print.specs.declared.block.BlockLine.TheVariants.{Text, Below, Outside}
@@ -184,7 +184,7 @@ module _ (sheet : Sheet) where
 
   -- a row up to column boundary j, and what stands behind that
   abbrev pub flat_start : ℕ → ℕ → List ℕ
-  flat_start i j = left_margin look ++ (row_start sheet i (track_at (row_tracks sheet) i) j ++ (upright_bytes look j (length sheet.widths) ++ behind_boundary look j (length sheet.widths)))
+  flat_start i j = row_front sheet i j
 
   pub flat-begins : (i : ℕ) (rows : FlatRows) → 0 < length sheet.widths → AreFlatRows look (length sheet.widths) rows → string_bytes rows.front ≡ flat_start i 0
   flat-begins i rows some are =

@@ -10,4 +10,5 @@ mod TableLemmas
 pub mod FlatLemmas
 mod PlainLineLemmas
 mod SpaceLemmas
+mod EmptyRowLemmas
 mod SingleLemmas

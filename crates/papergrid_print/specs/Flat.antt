@@ -1,5 +1,6 @@
 -- Rows of one line, where the cells of a table have the same settings: what stands between their texts is the same in each.
-use Rattle.std.specs.Prelude.{◌≡◌, ⊤, ◌<◌, ℕ, ◌+◌, ◌-◌, ◌==◌, Bool, false, List, [], ◌++◌, Option, MatchOption, drop, length, slice_index, string_bytes, if◌then◌else◌}
+use Rattle.std.specs.Prelude.{◌≡◌, ⊤, ◌<◌, ℕ, ◌+◌, ◌-◌, ◌==◌, Bool, false, List, [], ◌∷◌, ◌++◌, Option, MatchOption, None, drop, flat_map, length, slice_index, string_bytes, if◌then◌else◌}
+use Rattle.std.specs.List.{range_with_len}
 use Rattle.std.specs.Option.{option_map}
 use Rattle.grid_config_values.specs.declared.alignment.AlignmentHorizontal.{AlignmentHorizontal}
 use Rattle.grid_config_values.specs.declared.position.Position.{Position}
@@ -8,11 +9,13 @@ use Rattle.grid_config_colors.specs.Colors.{Color, color_of}
 use Rattle.grid_config.specs.Looks.{Look, look_of}
 use Rattle.grid_config.specs.Settings.{AreUniform, Settings}
 use Rattle.papergrid_picture.specs.Blocks.{free_left, greatest}
-use Rattle.papergrid_picture.specs.Frame.{Boundary}
-use Rattle.papergrid_picture.specs.Picture.{at}
+use Rattle.papergrid_picture.specs.Frame.{Boundary, track_at}
+use Rattle.papergrid_picture.specs.Picture.{at, parts_of, row_part}
 use Rattle.papergrid_print.specs.Boundaries.{upright_bytes}
 use Rattle.papergrid_print.specs.Painting.{colored, fill_bytes}
-use Rattle.papergrid_print.specs.Sheets.{Sheet, bytes_of, grid_of, line_at}
+use Rattle.papergrid_print.specs.Sheets.{Sheet, bytes_of, grid_of, line_at, plain_bytes, row_tracks}
+use Rattle.papergrid_print.specs.declared.empty_row.EmptyRow.{EmptyRow}
+use Rattle.papergrid_print.specs.declared.empty_row.Room.{Room}
 use Rattle.papergrid_print.specs.declared.flat.FlatRows.{FlatRows}
 use Rattle.papergrid_print.specs.declared.spaced.Spaced.{Spaced}
 
@@ -106,9 +109,58 @@ first_placed sheet stands cell =
 abbrev pub behind_text : FlatRows → ℕ → ℕ → List ℕ
 behind_text rows j columns = if j + 1 == columns then spaced_text rows.back else spaced_text rows.between
 
--- rows of one line that were made for a table with these settings and `columns` columns, where its settings allow it
-abbrev pub AreMadeFor : Settings → ℕ → Option FlatRows → Type 0
-AreMadeFor settings columns made = MatchOption made ⊤ (λ rows. AreFlat settings × AreFlatRows (look_of settings) columns rows)
+-- row i up to column boundary j, that boundary, and what stands after it
+abbrev pub row_front : Sheet → ℕ → ℕ → List ℕ
+row_front sheet i j =
+    let look = look_of sheet.settings in
+    let columns = length sheet.widths in
+    left_margin look ++ (plain_bytes sheet (parts_of (flat_map (row_part (grid_of sheet) i (track_at (row_tracks sheet) i)) (range_with_len 0 j))) ++ (upright_bytes look j columns ++ behind_boundary look j columns))
+
+-- ---- the line of a row of empty cells
+
+-- the paddings beside texts, and what stands between two of these and after the last
+pub record Joints : Type 0 where
+  pub left : ℕ
+  pub right : ℕ
+  pub between : List ℕ
+  pub back : List ℕ
+
+abbrev pub joints_of : FlatRows → Joints
+joints_of rows = record { left = rows.left; right = rows.right; between = spaced_text rows.between; back = spaced_text rows.back }
+
+module _ (joints : Joints) where
+  -- how many columns a text has in a column of this width
+  abbrev pub room_in : ℕ → ℕ
+  room_in width = width - joints.left - joints.right
+
+  -- what stands after the text in column j of `columns`
+  abbrev pub joint_behind : ℕ → ℕ → List ℕ
+  joint_behind j columns = if j + 1 == columns then joints.back else joints.between
+
+  -- the line from the room in column j of `columns` on, where these widths are left: spaces, and what stands after them
+  abbrev pub empty_from : ℕ → ℕ → List ℕ → List ℕ
+  empty_from columns j [] = []
+  empty_from columns j (width ∷ widths) = fill_bytes 0x20 (room_in width) ++ (joint_behind j columns ++ empty_from columns (j + 1) widths)
+
+  -- the rooms in it
+  abbrev pub rooms_from : ℕ → ℕ → List ℕ → List Room
+  rooms_from columns j [] = []
+  rooms_from columns j (width ∷ widths) =
+      record { width = room_in width; rest = length (empty_from columns j (width ∷ widths)) } ∷ rooms_from columns (j + 1) widths
+
+-- the line of a row of empty cells in columns of these widths, where spaces in no colour fill what texts leave free
+pub record IsEmptyRow (rows : FlatRows) (widths : List ℕ) (empty : EmptyRow) : Type 0 where
+  pub fill : rows.fill ≡ 0x20
+  pub color : rows.fill_color ≡ None
+  pub line : string_bytes empty.line ≡ string_bytes rows.front ++ empty_from (joints_of rows) (length widths) 0 widths
+  pub rooms : empty.rooms.items ≡ rooms_from (joints_of rows) (length widths) 0 widths
+
+abbrev pub HasEmptyRow : List ℕ → FlatRows → Type 0
+HasEmptyRow widths rows = MatchOption rows.empty ⊤ (IsEmptyRow rows widths)
+
+-- rows of one line that were made for a table with these settings and columns of these widths, where its settings allow it
+abbrev pub AreMadeFor : Settings → List ℕ → Option FlatRows → Type 0
+AreMadeFor settings widths made = MatchOption made ⊤ (λ rows. AreFlat settings × AreFlatRows (look_of settings) (length widths) rows × HasEmptyRow widths rows)
 
 -- the bytes are the line of each row boundary between two rows
 abbrev pub IsBetween : Sheet → List ℕ → Type 0

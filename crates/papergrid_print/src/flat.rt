@@ -1,14 +1,16 @@
 //! Rows of one line, where all cells of a table have the same settings: what stands between their texts
 //! is made once.
-ghost use Rattle.std.specs.Prelude.{◌≡◌, ◌<◌, ◌++◌, IfOk, IsTrue, OnOk, string_bytes};
+ghost use Rattle.std.specs.Prelude.{◌≡◌, ⊤, ◌<◌, ◌++◌, ℕ, IfOk, IsTrue, MatchOption, None, OnOk, length, string_bytes};
 ghost use Rattle.std.specs.Option.{option_map};
-ghost use Rattle.grid_config.specs.Looks.{look_of};
+ghost use Rattle.grid_config.specs.Looks.{Look, look_of};
 ghost use Rattle.grid_config_colors.specs.Colors.{color_of};
+ghost use Rattle.papergrid_picture.specs.Blocks.{free_left};
 ghost use Rattle.papergrid_print.specs.Boundaries.{upright_bytes};
-ghost use Rattle.papergrid_print.specs.Flat.{AreFlat, AreFlatRows, behind_text, placed, spaced_text, standing_of};
+ghost use Rattle.papergrid_print.specs.Flat.{AreFlat, AreFlatRows, HasEmptyRow, IsEmptyRow, behind_text, empty_from, joints_of, placed, room_in, rooms_from, spaced_text, standing_of};
 ghost use Rattle.papergrid_print.specs.Painting.{colored, fill_bytes};
 
 use crate::block::{borrowed, free_left, push_indent};
+use crate::empty_row::{EmptyRow, Room};
 use crate::glyphs::push_upright;
 use crate::painting::{push_fill, push_text};
 use crate::spaced::Spaced;
@@ -33,6 +35,7 @@ pub(crate) struct FlatRows<'a> {
     fill_color: Option<ANSIStr<'a>>,
     alignment: AlignmentHorizontal,
     line_alignment: bool,
+    empty: Option<EmptyRow>,
 }
 
 /// Whether all cells are known to have the same settings, and none spans several rows or columns, is
@@ -50,13 +53,15 @@ pub(crate) fn are_flat(cfg: &SpannedConfig) -> bool
 }
 
 impl<'a> FlatRows<'a> {
-    /// That of a table of `columns` columns. Fails only where allocation fails.
+    /// That of a table of `columns` columns, without the line of a row of empty cells. Fails only where
+    /// allocation fails.
     pub(crate) fn new(
         alloc: Global,
         cfg: &'a SpannedConfig,
         columns: usize,
     ) -> Result<FlatRows<'a>, AllocError>
-        ensures { IfOk result (λ rows. AreFlatRows (look_of cfg.now) columns rows) }
+        ensures rows { IfOk result (λ rows. AreFlatRows (look_of cfg.now) columns rows) }
+        ensures empty { IfOk result (λ rows. rows.empty ≡ None) }
     {
         let (margin, margin_color) = (cfg.get_margin(), cfg.get_margin_color());
         let (padding, padding_color) = (cfg.get_padding(FIRST), cfg.get_padding_color(FIRST));
@@ -77,7 +82,92 @@ impl<'a> FlatRows<'a> {
             fill_color: borrowed(cfg.get_justification_color(FIRST)),
             alignment: cfg.get_alignment_horizontal(FIRST),
             line_alignment: cfg.get_line_alignment(FIRST),
+            empty: None,
         })
+    }
+
+    /// The same with the line of a row of empty cells, for columns of these widths, where spaces in no
+    /// colour fill what texts leave free. Fails only where allocation fails.
+    pub(crate) fn with_empty_row(
+        self,
+        alloc: Global,
+        widths: &[usize],
+    ) -> Result<FlatRows<'a>, AllocError>
+        ensures rows { IfOk result (λ rows. (look : Look) (columns : ℕ) → AreFlatRows look columns self.entry → AreFlatRows look columns rows) }
+        ensures empty { IfOk result (λ rows. HasEmptyRow widths.now rows) }
+    {
+        let mut rows = self;
+        rows.empty = rows.empty_row(alloc, widths)?;
+        Ok(rows)
+    }
+
+    // The line of a row of empty cells.
+    fn empty_row(&self, alloc: Global, widths: &[usize]) -> Result<Option<EmptyRow>, AllocError>
+        ensures { IfOk result (λ made. MatchOption made ⊤ (IsEmptyRow self.now widths.now)) }
+    {
+        if self.fill != ' ' || self.fill_color.is_some() {
+            return Ok(None);
+        }
+        let line = self.empty_line(alloc, widths)?;
+        let rest = line.len() - self.front.len();
+        let rooms = self.rooms(alloc, widths, rest)?;
+        Ok(Some(EmptyRow { line, rooms }))
+    }
+
+    // Its bytes.
+    fn empty_line(&self, alloc: Global, widths: &[usize]) -> Result<String, AllocError>
+        ensures { IfOk result (λ line. string_bytes line ≡ string_bytes self.now.front ++ empty_from (joints_of self.now) (length widths.now) 0 widths.now) }
+    {
+        let mut line = String::new(alloc);
+        line.push_str(&self.front)?;
+        for j in 0..widths.len() {
+            let room = self.room(widths[j]);
+            self.behind(j, widths.len()).push_behind(&mut line, room)?;
+        }
+        Ok(line)
+    }
+
+    // The rooms in it, where `rest` bytes stand after its front.
+    fn rooms(
+        &self,
+        alloc: Global,
+        widths: &[usize],
+        mut rest: usize,
+    ) -> Result<Vec<Room>, AllocError>
+        requires { rest ≡ length (empty_from (joints_of self.now) (length widths.now) 0 widths.now) }
+        ensures { IfOk result (λ rooms. rooms.items ≡ rooms_from (joints_of self.now) (length widths.now) 0 widths.now) }
+    {
+        let mut rooms = Vec::new(alloc);
+        for j in 0..widths.len() {
+            let width = self.room(widths[j]);
+            rooms.push(Room { width, rest })?;
+            rest = rest - width - self.behind(j, widths.len()).len();
+        }
+        Ok(rooms)
+    }
+
+    // How many columns a text has in a column of this width.
+    #[inline(always)]
+    fn room(&self, width: usize) -> usize
+        ensures { result ≡ room_in (joints_of self.now) width }
+    {
+        width.saturating_sub(self.left).saturating_sub(self.right)
+    }
+
+    /// The line of a row of empty cells, where it was made.
+    #[inline(always)]
+    pub(crate) fn empty(&self) -> &Option<EmptyRow>
+        ensures { result.now ≡ self.now.empty }
+    {
+        &self.empty
+    }
+
+    /// How many of the columns that a text leaves free stand before it.
+    #[inline(always)]
+    pub(crate) fn indent(&self, free: usize) -> usize
+        ensures { result ≡ free_left self.now.alignment free }
+    {
+        free_left(self.alignment, free)
     }
 
     /// What stands before the first text of a row.
@@ -118,7 +208,7 @@ impl<'a> FlatRows<'a> {
         requires { j < columns }
         ensures { OnOk result (string_bytes out.new ≡ string_bytes out.old ++ (placed (standing_of self.now) width measure widest (option_map color_of color.entry) line.now ++ behind_text self.now j columns)) }
     {
-        let room = width.saturating_sub(self.left).saturating_sub(self.right);
+        let room = self.room(width);
         let aligned = if self.line_alignment { measure } else { widest };
         let indent = free_left(self.alignment, room.saturating_sub(aligned));
         let rest = room.saturating_sub(indent).saturating_sub(measure);

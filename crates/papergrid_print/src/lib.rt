@@ -4,6 +4,7 @@
 mod block;
 mod cell_lines;
 pub mod colors;
+mod empty_row;
 mod extents;
 mod flat;
 mod glyphs;

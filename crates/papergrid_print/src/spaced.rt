@@ -17,7 +17,7 @@ pub(crate) struct Spaced {
 }
 
 impl Spaced {
-    ghost use Rattle.std.specs.Prelude.{◌≡◌, ◌++◌, IfOk, OnOk};
+    ghost use Rattle.std.specs.Prelude.{◌≡◌, ◌++◌, IfOk, OnOk, length};
     ghost use Rattle.papergrid_print.specs.Flat.{spaced_text};
     ghost use Rattle.papergrid_print.specs.Painting.{fill_bytes};
 
@@ -32,6 +32,13 @@ impl Spaced {
             text: spaced,
             spaces: SPACES,
         })
+    }
+
+    /// How many bytes the text has.
+    pub(crate) fn len(&self) -> usize
+        ensures { result ≡ length (spaced_text self.now) }
+    {
+        self.text.len() - self.spaces
     }
 
     /// Appends `spaces` spaces and the text. Fails only where allocation fails.

@@ -1,5 +1,6 @@
 //! The lines of a table.
 mod line;
+mod plain;
 mod seeing;
 
 ghost use Rattle.std.specs.Prelude.{◌≡◌, ◌++◌, ◌<◌, ◌≤◌, ◌+◌, ◌-◌, ◌*◌, ◌^◌, ⊤, IfOk, IfSome, List, MatchOption, OnOk, ℕ, [], false, map, length, slice_index, string_bytes};
@@ -13,7 +14,7 @@ ghost use Rattle.ansi_str.specs.StyledText.{has_escape};
 ghost use Rattle.grid_records_traits.specs.Cells.{HasLineCount, HasLineWidth, HasWidth};
 ghost use Rattle.grid_records_traits.specs.PlainTexts.{plain_texts};
 ghost use Rattle.grid_records_traits.specs.Rows.{row_at, text_at};
-ghost use Rattle.papergrid_print.specs.Flat.{AreFlat, AreFlatRows, AreMadeFor, IsBetween, behind_text, first_placed, standing_of};
+ghost use Rattle.papergrid_print.specs.Flat.{AreFlat, AreFlatRows, AreMadeFor, HasEmptyRow, IsBetween, behind_text, first_placed, standing_of};
 ghost use Rattle.papergrid_print.specs.Painting.{colored, fill_bytes, glyph_part};
 ghost use Rattle.papergrid_print.specs.Seen.{AreSeen, AreSeenAbove, AreSeenOn};
 ghost use Rattle.papergrid_print.specs.Sheets.{GoesOn, IsOpen, IsPrintable, ShowsCell, bytes_of, grid_of, feed_before, line_at, lines_of, place_line, plain_bytes, row_tracks, sheet_of};
@@ -32,6 +33,10 @@ use grid_config_colors::ANSIBuf;
 use grid_config_values::{Indent, Position};
 use grid_records_traits::{PeekableRecords, PlainRow};
 use std::alloc::{AllocError, Global};
+
+// From how many rows on the line of a row of empty cells is made. It is one line beside all those that are
+// printed.
+const MANY_ROWS: usize = 8;
 
 /// A table to be printed: its records, its settings, the colours of its cells, and its sizes.
 #[derive(Drop)]
@@ -308,12 +313,16 @@ impl<'a, R: PeekableRecords, C: Colors> Table<'a, R, C> {
 
     // What rows of one line have in common, where all cells have the same settings.
     fn flat_rows(&self, alloc: Global) -> Result<Option<FlatRows<'a>>, AllocError>
-        ensures { IfOk result (λ made. AreMadeFor self.now.cfg.now (length self.now.widths.now) made) }
+        ensures { IfOk result (λ made. AreMadeFor self.now.cfg.now self.now.widths.now made) }
     {
         if !are_flat(self.cfg) {
             return Ok(None);
         }
-        Ok(Some(FlatRows::new(alloc, self.cfg, self.widths.len())?))
+        let rows = FlatRows::new(alloc, self.cfg, self.widths.len())?;
+        if self.heights.len() < MANY_ROWS {
+            return Ok(Some(rows));
+        }
+        Ok(Some(rows.with_empty_row(alloc, self.widths)?))
     }
 
     // Appends the first line of the cell at this place, and what stands after it.
@@ -350,6 +359,7 @@ impl<'a, R: PeekableRecords, C: Colors> Table<'a, R, C> {
     ) -> Result<(), AllocError>
         requires flat { AreFlat self.now.cfg.now }
         requires made { AreFlatRows (look_of self.now.cfg.now) (length self.now.widths.now) flat.now }
+        requires empty { HasEmptyRow self.now.widths.now flat.now }
         requires row { i < length self.now.heights.now }
         requires high { slice_index self.now.heights.now i ≡ 1 }
         requires columns { 0 < length self.now.widths.now }
@@ -362,33 +372,6 @@ impl<'a, R: PeekableRecords, C: Colors> Table<'a, R, C> {
         out.push_str(flat.front())?;
         for j in 0..columns {
             self.push_first_line(alloc, out, flat, Position::new(i, j))?;
-        }
-        Ok(())
-    }
-
-    // The same by these cells of the row, which are each one line without ESC.
-    fn push_plain_line(
-        &self,
-        out: &mut String,
-        flat: &FlatRows<'a>,
-        cells: PlainRow<'_>,
-        i: usize,
-    ) -> Result<(), AllocError>
-        requires flat { AreFlat self.now.cfg.now }
-        requires made { AreFlatRows (look_of self.now.cfg.now) (length self.now.widths.now) flat.now }
-        requires row { i < length self.now.heights.now }
-        requires high { slice_index self.now.heights.now i ≡ 1 }
-        requires columns { 0 < length self.now.widths.now }
-        requires cells { plain_texts cells ≡ row_at (R.rows self.now.records.now) i }
-        ensures { OnOk result (string_bytes out.new ≡ string_bytes out.old ++ line_at (sheet_of self.now.cfg.now (R.rows self.now.records.now) (C.color self.now.colors.now) self.now.widths.now self.now.heights.now) (Row i) (track_at (row_tracks (sheet_of self.now.cfg.now (R.rows self.now.records.now) (C.color self.now.colors.now) self.now.widths.now self.now.heights.now)) i)) }
-    {
-        let columns = self.widths.len();
-        out.push_str(flat.front())?;
-        for j in 0..columns {
-            let cell = cells.cell(j);
-            let (width, measure) = (self.widths[j], cell.width);
-            let color = self.colors.get_color(Position::new(i, j));
-            flat.push_line(out, j, columns, width, measure, measure, color, cell.text)?;
         }
         Ok(())
     }
@@ -424,7 +407,7 @@ impl<'a, R: PeekableRecords, C: Colors> Table<'a, R, C> {
     ) -> Result<usize, AllocError>
         requires seen { AreSeen self.now.cfg.now.spans (length self.now.widths.now) i owners.now }
         requires positive { ArePositive self.now.cfg.now.spans }
-        requires made { AreMadeFor self.now.cfg.now (length self.now.widths.now) flat.now }
+        requires made { AreMadeFor self.now.cfg.now self.now.widths.now flat.now }
         requires goes_on { GoesOn (sheet_of self.now.cfg.now (R.rows self.now.records.now) (C.color self.now.colors.now) self.now.widths.now self.now.heights.now) i cells.old }
         requires wide { length cells.old ≡ length self.now.widths.now }
         requires row { i < length self.now.heights.now }
@@ -504,7 +487,7 @@ impl<'a, R: PeekableRecords, C: Colors> Table<'a, R, C> {
         requires good { AreGood self.now.cfg.now.spans (length self.now.heights.now) (length self.now.widths.now) }
         requires lines { track_at (row_tracks (sheet_of self.now.cfg.now (R.rows self.now.records.now) (C.color self.now.colors.now) self.now.widths.now self.now.heights.now)) (length self.now.heights.now) < 2 ^ 64 }
         requires columns { boundary_at (grid_of (sheet_of self.now.cfg.now (R.rows self.now.records.now) (C.color self.now.colors.now) self.now.widths.now self.now.heights.now)).frame.columns (length self.now.widths.now) < 2 ^ 64 }
-        requires made { AreMadeFor self.now.cfg.now (length self.now.widths.now) flat.now }
+        requires made { AreMadeFor self.now.cfg.now self.now.widths.now flat.now }
         requires between { MatchOption between.now ⊤ (λ text. IsBetween (sheet_of self.now.cfg.now (R.rows self.now.records.now) (C.color self.now.colors.now) self.now.widths.now self.now.heights.now) (string_bytes text)) }
         requires wide { length cells.old ≡ length self.now.widths.now }
         requires above { string_bytes out.old ≡ lines_of (sheet_of self.now.cfg.now (R.rows self.now.records.now) (C.color self.now.colors.now) self.now.widths.now self.now.heights.now) (boundary_at (row_tracks (sheet_of self.now.cfg.now (R.rows self.now.records.now) (C.color self.now.colors.now) self.now.widths.now self.now.heights.now)) 0) }

@@ -11,9 +11,7 @@ use Rattle.papergrid_print.proofs.PlainLineLemmas.{plain-placed}
 use Rattle.papergrid_print.proofs.table.Table.push_plain_line.Goals as goal
 
 pub loop-j-init : goal.loop-j-init
-loop-j-init g c =
-    let sheet = (sheet_of c.args.self.now.cfg.now (g.R.RecordTexts.rows c.args.self.now.records.now) (g.C.Colors.color c.args.self.now.colors.now) c.args.self.now.widths.now c.args.self.now.heights.now) in
-    c.in_ok-push_str.ensures.bytes ∙ ap (λ l. string_bytes c.args.out.now ++ l) (c.front.ensures ∙ flat-begins sheet c.args.i c.args.flat.now c.requires.columns c.requires.made)
+loop-j-init g c = c.in_ok-first.ensures.front
 
 pub loop-j-preserved : goal.loop-j-preserved
 loop-j-preserved g c =
@@ -35,5 +33,5 @@ loop-j-preserved g c =
 pub returns : goal.returns
 returns g c =
     let sheet = (sheet_of c.args.self.now.cfg.now (g.R.RecordTexts.rows c.args.self.now.records.now) (g.C.Colors.color c.args.self.now.colors.now) c.args.self.now.widths.now c.args.self.now.heights.now) in
-    let end : c.loop-j.j ≡ length c.args.self.now.widths.now = omega (arith, c.loop-j-test.false, c.loop-j.auto.j-end) in
+    let end : c.loop-j.j ≡ length c.args.self.now.widths.now = omega (arith, c.loop-j-test.false, c.loop-j.auto.j-end, c.in_ok-first.ensures.inside) in
     c.loop-j.invariant ∙ ap (λ l. string_bytes c.args.out.now ++ l) (flat-ends sheet c.args.i c.loop-j.j end)

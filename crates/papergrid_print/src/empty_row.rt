@@ -1,0 +1,41 @@
+//! The line of a row of empty cells, over which the texts of a row are written.
+ghost use Rattle.std.specs.Prelude.{◌≡◌, ◌+◌, ◌<◌, ◌^◌, OnOk, string_bytes};
+ghost use Rattle.std.specs.List.{replace_range};
+ghost use Rattle.std.specs.String.Boundary.{IsSplitPoint};
+
+use std::alloc::AllocError;
+
+/// Where the text of a column may stand in the line of a row of empty cells: in `width` columns, which
+/// begin `rest` bytes before the end of the line.
+#[derive(Clone, Copy)]
+pub(crate) struct Room {
+    pub(crate) width: usize,
+    pub(crate) rest: usize,
+}
+
+/// The line of a row of empty cells, and the room of each column in it.
+#[derive(Drop)]
+pub(crate) struct EmptyRow {
+    pub(crate) line: String,
+    pub(crate) rooms: Vec<Room>,
+}
+
+/// Writes a text over the `width` bytes from `start` on. Fails only where allocation fails.
+#[inline(always)]
+pub(crate) fn write_over(
+    out: &mut String,
+    start: usize,
+    width: usize,
+    text: &str,
+) -> Result<(), AllocError>
+    requires range { start + width < 2 ^ 64 }
+    requires start { IsSplitPoint (string_bytes out.old) start }
+    requires end { IsSplitPoint (string_bytes out.old) (start + width) }
+    ensures { OnOk result (string_bytes out.new ≡ replace_range (string_bytes out.old) start (start + width) text.now) }
+{
+    // Where the text is as long as what it stands for, nothing behind it moves.
+    if text.len() == width {
+        return out.replace_range(start..start + text.len(), text);
+    }
+    out.replace_range(start..start + width, text)
+}

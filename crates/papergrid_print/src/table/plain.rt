@@ -1,0 +1,113 @@
+//! The line of a row of cells that are each one line without ESC.
+ghost use Rattle.std.specs.Prelude.{◌≡◌, ◌++◌, ◌<◌, ◌≤◌, IfOk, OnOk, length, slice_index, string_bytes};
+ghost use Rattle.grid_config.specs.Looks.{look_of};
+ghost use Rattle.grid_records_traits.specs.PlainTexts.{plain_texts};
+ghost use Rattle.grid_records_traits.specs.Rows.{row_at};
+ghost use Rattle.papergrid_picture.specs.Frame.{Row, track_at};
+ghost use Rattle.papergrid_print.specs.Flat.{AreFlat, AreFlatRows, HasEmptyRow, IsEmptyRow, row_front};
+ghost use Rattle.papergrid_print.specs.Sheets.{line_at, row_tracks, sheet_of};
+
+use super::Table;
+use crate::colors::Colors;
+use crate::empty_row::{EmptyRow, write_over};
+use crate::flat::FlatRows;
+use grid_config_values::Position;
+use grid_records_traits::{PeekableRecords, PlainRow};
+use std::alloc::AllocError;
+
+impl<'a, R: PeekableRecords, C: Colors> Table<'a, R, C> {
+    /// Appends the line of row `i`, which has but one, by these cells of it, which are each one line without
+    /// ESC.
+    pub(super) fn push_plain_line(
+        &self,
+        out: &mut String,
+        flat: &FlatRows<'a>,
+        cells: PlainRow<'_>,
+        i: usize,
+    ) -> Result<(), AllocError>
+        requires flat { AreFlat self.now.cfg.now }
+        requires made { AreFlatRows (look_of self.now.cfg.now) (length self.now.widths.now) flat.now }
+        requires empty { HasEmptyRow self.now.widths.now flat.now }
+        requires row { i < length self.now.heights.now }
+        requires high { slice_index self.now.heights.now i ≡ 1 }
+        requires columns { 0 < length self.now.widths.now }
+        requires cells { plain_texts cells ≡ row_at (R.rows self.now.records.now) i }
+        ensures { OnOk result (string_bytes out.new ≡ string_bytes out.old ++ line_at (sheet_of self.now.cfg.now (R.rows self.now.records.now) (C.color self.now.colors.now) self.now.widths.now self.now.heights.now) (Row i) (track_at (row_tracks (sheet_of self.now.cfg.now (R.rows self.now.records.now) (C.color self.now.colors.now) self.now.widths.now self.now.heights.now)) i)) }
+    {
+        let columns = self.widths.len();
+        let first = self.push_front(out, flat, cells, i)?;
+        for j in first..columns {
+            let cell = cells.cell(j);
+            let (width, measure) = (self.widths[j], cell.width);
+            let color = self.colors.get_color(Position::new(i, j));
+            flat.push_line(out, j, columns, width, measure, measure, color, cell.text)?;
+        }
+        Ok(())
+    }
+
+    // Appends what stands before the text in the column that is returned, or the line, where that is the
+    // number of columns.
+    #[inline(always)]
+    fn push_front(
+        &self,
+        out: &mut String,
+        flat: &FlatRows<'a>,
+        cells: PlainRow<'_>,
+        i: usize,
+    ) -> Result<usize, AllocError>
+        requires flat { AreFlat self.now.cfg.now }
+        requires made { AreFlatRows (look_of self.now.cfg.now) (length self.now.widths.now) flat.now }
+        requires row { i < length self.now.heights.now }
+        requires high { slice_index self.now.heights.now i ≡ 1 }
+        requires columns { 0 < length self.now.widths.now }
+        requires cells { plain_texts cells ≡ row_at (R.rows self.now.records.now) i }
+        requires empty { HasEmptyRow self.now.widths.now flat.now }
+        ensures front { IfOk result (λ column. string_bytes out.new ≡ string_bytes out.old ++ row_front (sheet_of self.now.cfg.now (R.rows self.now.records.now) (C.color self.now.colors.now) self.now.widths.now self.now.heights.now) i column) }
+        ensures inside { IfOk result (λ column. column ≤ length self.now.widths.now) }
+    {
+        match flat.empty() {
+            Some(empty) => self.push_over(out, flat, empty, cells, i),
+            None => {
+                out.push_str(flat.front())?;
+                Ok(0)
+            }
+        }
+    }
+
+    // The same by the line of a row of empty cells: each text is written over its room there, up to the
+    // first that is in a colour or has no room.
+    #[inline(always)]
+    fn push_over(
+        &self,
+        out: &mut String,
+        flat: &FlatRows<'a>,
+        empty: &EmptyRow,
+        cells: PlainRow<'_>,
+        i: usize,
+    ) -> Result<usize, AllocError>
+        requires flat { AreFlat self.now.cfg.now }
+        requires made { AreFlatRows (look_of self.now.cfg.now) (length self.now.widths.now) flat.now }
+        requires row { i < length self.now.heights.now }
+        requires high { slice_index self.now.heights.now i ≡ 1 }
+        requires columns { 0 < length self.now.widths.now }
+        requires cells { plain_texts cells ≡ row_at (R.rows self.now.records.now) i }
+        requires empty { IsEmptyRow flat.now self.now.widths.now empty.now }
+        ensures front { IfOk result (λ column. string_bytes out.new ≡ string_bytes out.old ++ row_front (sheet_of self.now.cfg.now (R.rows self.now.records.now) (C.color self.now.colors.now) self.now.widths.now self.now.heights.now) i column) }
+        ensures inside { IfOk result (λ column. column ≤ length self.now.widths.now) }
+    {
+        out.push_str(&empty.line)?;
+        let columns = self.widths.len();
+        for j in 0..columns {
+            let (cell, room) = (cells.cell(j), empty.rooms[j]);
+            let color = self.colors.get_color(Position::new(i, j));
+            let start = out.len() - room.rest;
+            if color.is_some() || room.width < cell.width {
+                out.truncate(start);
+                return Ok(j);
+            }
+            let indent = flat.indent(room.width - cell.width);
+            write_over(out, start + indent, cell.width, cell.text)?;
+        }
+        Ok(columns)
+    }
+}
