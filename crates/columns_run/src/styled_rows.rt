@@ -5,6 +5,7 @@ ghost use Rattle.std.specs.Cow.{cow_str_bytes};
 ghost use Rattle.columns_run.specs.Rows.{stripped, tab, parts_at, row_parts};
 ghost use Rattle.columns_run.specs.Cells.{bytes, shown, last_is_bare, part_line};
 ghost use Rattle.columns_table.specs.Rows.{cut};
+ghost use Rattle.grid_records_measure.specs.Measures.{are_printable};
 
 use ansi_str::{AnsiSplit, get_blocks};
 use columns_table::{LineCell, LineCells};
@@ -69,10 +70,22 @@ pub fn measured<'a>(alloc: Global, parts: &'a [CowStr<'a>]) -> Result<LineCells<
 fn measured_cell(part: &str) -> LineCell<'_>
     ensures { shown result ≡ part_line part.now }
 {
-    LineCell {
-        text: part,
-        width: get_line_width(part),
-    }
+    // a byte takes a column where all are printable, as in most cells
+    let width = if is_printable(part) {
+        part.len()
+    } else {
+        get_line_width(part)
+    };
+    LineCell { text: part, width }
+}
+
+/// Whether each byte is printable ASCII.
+fn is_printable(text: &str) -> bool
+    ensures { result ≡ are_printable text.now }
+{
+    text.as_bytes()
+        .iter()
+        .all(|byte| matches!(*byte, b' '..=b'~'))
 }
 
 /// Appends the parts of a text at a character. There is at least one part.
