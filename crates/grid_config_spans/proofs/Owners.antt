@@ -1,32 +1,30 @@
 -- The cell that is seen at a place: what it is, and that a search among the spans finds it.
-use Rattle.std.proofs.Common.{◌≡◌, ◌≢◌, ◌==◌, ◌+◌, ◌<◌, ◌≤◌, ℕ, zero, suc, Bool, true, false, not, ◌&&◌, List, [], ◌∷◌, ◌++◌, map, flat_map, Option, None, Some, refl, sym, ap, subst, ◌∙◌, unwrap_or, ◌⊎◌, inl, inr, IsTrue, is_none, ◌↔◌, arith}
+use Rattle.std.proofs.Common.{◌≡◌, ◌≢◌, ◌==◌, ◌+◌, ◌-◌, ◌*◌, ◌<◌, ◌≤◌, ℕ, zero, suc, Bool, true, false, not, ◌&&◌, List, [], ◌∷◌, ◌++◌, map, flat_map, Option, None, Some, refl, sym, ap, subst, ◌∙◌, unwrap_or, ◌⊎◌, inl, inr, IsTrue, is_none, ◌↔◌, arith}
 use Rattle.std.proofs.lemmas.Bool.{and_parts}
 use Rattle.std.proofs.lemmas.Bool.Decides.{nat_tests}
+use Rattle.std.proofs.Math.Nat.{mul-le-mul_right}
 use Rattle.std.specs.List.{All, AllByRecursion, filter, find, list_any, range_with_len}
 use Rattle.std.specs.List.Sorted.{IsStrictlySortedBy}
 use Rattle.std.specs.Map.{lookup}
 use Rattle.std.specs.Option.{option_map}
 use Rattle.std.specs.Ordering.{is_gt, is_le}
+use Rattle.std.specs.BTreeMap.Range.{range_contains}
+use Rattle.std.specs.declared.ops.Bound.TheVariants.{Included, Unbounded}
 use Rattle.std.specs.declared.cmp.Ordering.TheVariants.{Less}
 use Rattle.grid_config_values.specs.declared.position.Position.{Position}
 use Rattle.grid_config_values.specs.Entities.{table_positions}
 use Rattle.grid_config_values.specs.Order.{position_cmp, same_place}
 use Rattle.grid_config_spans.specs.declared.extent.Extent.{Extent}
-use Rattle.grid_config_spans.specs.Owners.{hides, owner}
+use Rattle.grid_config_spans.specs.Owners.{InRows, IsFirst, UpTo, hides, owner}
 use Rattle.grid_config_spans.specs.Rectangles.{Holds}
-use Rattle.grid_config_spans.specs.Search.{begun_between, holds, holds_in}
+use Rattle.grid_config_spans.specs.Search.{begins_before, begins_from, holds}
 use Rattle.grid_config_spans.specs.Spans.{AreGood, ArePositive, IsInTable, IsVisible, extent_at, single}
 use Rattle.grid_config_spans.proofs.Order.{is_le_cmp, same_position, same_itself}
-use Rattle.grid_config_spans.proofs.Visible.{Kept, NotKept, begins_between, extent_kept, found_in_search, holder_is_before, holds_shown, holds_tested, first_passes, kept_or_single, not_before_itself, single_holds}
+use Rattle.grid_config_spans.proofs.Visible.{Kept, NotKept, any_from_lookup, extent_kept, holds_shown, holds_tested, first_passes, kept_or_single, le_from_not_gt, single_holds}
 use Rattle.grid_config_spans.proofs.Good.{is_false}
 use Rattle.grid_config_spans.proofs.Parting.{holder_is_visible, in_table_before, visible_apart, visible_without}
 
 -- ---- the first place that passes
-
--- of some places none passes, or this is the first of those that do
-abbrev IsFirst : (Position → Bool) → (Position → Type 0) → Option Position → Type 0
-IsFirst test among None = (p : Position) → among p → test p ≡ false
-IsFirst test among (Some first) = (test first ≡ true) × among first × ((p : Position) → among p → test p ≡ true → is_le (position_cmp first p) ≡ true)
 
 both_ways : (a b : Position) → is_le (position_cmp a b) ≡ true → is_le (position_cmp b a) ≡ true → a ≡ b
 both_ways a b le ge =
@@ -83,10 +81,6 @@ at row col = record { row = row; col = col }
 abbrev InRow : ℕ → ℕ → ℕ → Position → Type 0
 InRow row col n p = (p.row ≡ row) × (col ≤ p.col) × (p.col < col + n)
 
--- from a row on, in so many columns
-abbrev InRows : ℕ → ℕ → ℕ → Position → Type 0
-InRows columns row n p = (row ≤ p.row) × (p.row < row + n) × (p.col < columns)
-
 first_alone : (test : Position → Bool) (x : Position) → IsFirst test (λ p. p ≡ x) (find test (x ∷ []))
 first_alone test x = elim (test x) as (λ b. test x ≡ b → IsFirst test (λ p. p ≡ x) (find test (x ∷ []))) [
   | true ↦ λ e. rw e (e, refl, λ p same passes. rw same (is_le_cmp x x ∙ grind (arith, nat_tests)))
@@ -121,10 +115,6 @@ first_in_rows test columns row (suc n) =
     (λ p here. (omega (arith, here.0), omega (arith, here.0), omega (arith, here.2)))
     (λ p there. (omega (arith, there.0), omega (arith, there.1), there.2))
     (first_in_row test row 0 columns) (first_in_rows test columns (row + 1) n))
-
--- where another cell that holds the place may be
-abbrev UpTo : Position → Position → Type 0
-UpTo place p = InRows (place.col + 1) 0 (place.row + 1) p
 
 first_of_table : (extent : Position → Extent) (place : Position) → IsFirst (hides extent place) (UpTo place) (find (hides extent place) (table_positions (place.row + 1) (place.col + 1)))
 first_of_table extent place = first_in_rows (hides extent place) (place.col + 1) 0 (place.row + 1)
@@ -223,12 +213,8 @@ owner_single place = elim (is_owned (λ _. single) place) [
 
 -- ---- the search among the spans
 
-find_of_filter : {X : Type 0} (picks test : X → Bool) (xs : List X) → find test (filter picks xs) ≡ find (λ x. picks x && test x) xs
-find_of_filter picks test [] = refl
-find_of_filter picks test (x ∷ xs) = grind (arith, find_of_filter picks test xs)
-
 -- what is found passes, and has what all have
-found_passes : {X : Type 0} (P : X → Type 0) (test : X → Bool) (xs : List X) (found : X) → All P xs → find test xs ≡ Some found → (test found ≡ true) × P found
+pub found_passes : {X : Type 0} (P : X → Type 0) (test : X → Bool) (xs : List X) (found : X) → All P xs → find test xs ≡ Some found → (test found ≡ true) × P found
 found_passes P test [] found all is = cc
 found_passes P test (x ∷ xs) found all is = elim (test x) as (λ b. test x ≡ b → (test found ≡ true) × P found) [
   | true ↦ λ passes.
@@ -285,61 +271,129 @@ found_first test (span ∷ spans) found ordered is p extent kept passes = elim (
       ] refl
 ] refl
 
-module _ (spans : List (Position × Extent)) (first place : Position) (from : (anchor : Position) → Holds anchor (extent_at spans anchor) place → is_gt (position_cmp first anchor) ≡ false)
-    (kept : All (λ span. lookup (same_place span.0) spans ≡ Some span.1) (begun_between first place spans)) (ordered : IsStrictlySortedBy position_cmp (map (λ span. span.0) spans)) where
-  abbrev is_holder : Position × Extent → Bool
-  is_holder span = begins_between first place span && holds_in place span
+differs : (p place : Position) → p ≢ place → same_place p place ≡ false
+differs p place other = is_false (same_place p place) (λ same. other (same_position p place same))
 
-  differs : (p : Position) → p ≢ place → same_place p place ≡ false
-  differs p other = is_false (same_place p place) (λ same. other (same_position p place same))
+-- what hides another place is kept
+hider_kept : (spans : List (Position × Extent)) (place p : Position) → hides (extent_at spans) place p ≡ true → (extent : Extent) × (lookup (same_place p) spans ≡ Some extent)
+hider_kept spans place p passes =
+    let shown = hides_shown (extent_at spans) place p passes in
+    elim (kept_or_single spans p) [
+      | Kept extent found is ↦ (extent, found)
+      | NotKept is ↦ absurd (shown.1 (single_holds p place (subst (λ (e : Extent). Holds p e place) is shown.0)))
+    ]
 
-  none_found : find (holds_in place) (begun_between first place spans) ≡ None → IsFirst (hides (extent_at spans) place) (UpTo place) None
-  none_found none p there = is_false (hides (extent_at spans) place p) (λ passes.
-      let shown = hides_shown (extent_at spans) place p passes in
-      elim (kept_or_single spans p) [
-        | Kept extent found is ↦
-            let some = found_in_search spans first place p extent found (from p shown.0) (subst (λ (e : Extent). Holds p e place) is shown.0) (differs p shown.1) in
-            grind (arith, some, none_passes (holds_in place) (begun_between first place spans) none)
-        | NotKept is ↦ shown.1 (single_holds p place (subst (λ (e : Extent). Holds p e place) is shown.0))
-      ])
+module _ (spans : List (Position × Extent)) (place : Position) where
+  -- no cell that begins before this place hides the other one
+  abbrev pub NoneBefore : Position → Type 0
+  NoneBefore from = (p : Position) → hides (extent_at spans) place p ≡ true → is_le (position_cmp from p) ≡ true
 
-  one_found : (span : Position × Extent) → find (holds_in place) (begun_between first place spans) ≡ Some span → IsFirst (hides (extent_at spans) place) (UpTo place) (Some span.0)
-  one_found span is =
-      let of_all : find is_holder spans ≡ Some span = sym (find_of_filter (begins_between first place) (holds_in place) spans) ∙ is in
-      let has = found_passes (λ s. lookup (same_place s.0) spans ≡ Some s.1) (holds_in place) (begun_between first place spans) span kept is in
-      let begins = (and_parts (begins_between first place span) (holds_in place span) (found_passes (λ _. Unit {0}) is_holder spans span (λ k d lt. tt) of_all).0).0 in
-      let held : Holds span.0 (extent_at spans span.0) place = subst (λ (e : Extent). Holds span.0 e place) (sym (extent_kept spans span.0 span.1 has.1)) (holds_shown span.0 span.1 place has.0) in (
-        hides_tested (extent_at spans) place span.0 held (differs span.0 (λ same. not_before_itself first place span same begins)),
-        up_to (extent_at spans span.0) place span.0 held,
-        λ p there passes.
-            let shown = hides_shown (extent_at spans) place p passes in
-            elim (kept_or_single spans p) [
-              | Kept extent found is_extent ↦
-                  let holds_it = subst (λ (e : Extent). Holds p e place) is_extent shown.0 in
-                  let both : is_holder (p, extent) ≡ true = grind (arith, holder_is_before first place p extent (from p shown.0) holds_it (differs p shown.1), holds_tested p extent place holds_it) in
-                  found_first is_holder spans span ordered of_all p extent found both
-              | NotKept is_extent ↦ absurd (shown.1 (single_holds p place (subst (λ (e : Extent). Holds p e place) is_extent shown.0)))
-            ],
-      )
+  pub none_before_first : (first : Position) → ((anchor : Position) → Holds anchor (extent_at spans anchor) place → is_gt (position_cmp first anchor) ≡ false) → NoneBefore first
+  none_before_first first from p passes = le_from_not_gt (position_cmp first p) (from p (hides_shown (extent_at spans) place p passes).0)
 
-  search_first : (found : Option (Position × Extent)) → find (holds_in place) (begun_between first place spans) ≡ found → IsFirst (hides (extent_at spans) place) (UpTo place) (option_map (λ (span : Position × Extent). span.0) found)
-  search_first None is = none_found is
-  search_first (Some span) is = one_found span is
+  module _ (ordered : IsStrictlySortedBy position_cmp (map (λ span. span.0) spans)) (from : Position) (none : NoneBefore from) where
+    -- what is found from there on begins before all that hide the place
+    found_before : (span : Position × Extent) → find (begins_from from) spans ≡ Some span → NoneBefore span.0
+    found_before span is p passes =
+        let has = hider_kept spans place p passes in
+        found_first (begins_from from) spans span ordered is p has.0 has.1 (none p passes)
 
-  -- the first that the search finds, and else the place, is the owner
-  pub owner_found : (result : Option Position) → result ≡ option_map (λ (span : Position × Extent). span.0) (find (holds_in place) (begun_between first place spans)) → unwrap_or result place ≡ owner (extent_at spans) place
-  owner_found result is =
-      ap (λ o. unwrap_or o place) (is ∙ first_unique (hides (extent_at spans) place) (UpTo place) _ _ (search_first (find (holds_in place) (begun_between first place spans)) refl) (first_of_table (extent_at spans) place))
+    pub none_left : find (begins_from from) spans ≡ None → IsFirst (hides (extent_at spans) place) (UpTo place) None
+    none_left is p there = is_false (hides (extent_at spans) place p) (λ passes.
+        let has = hider_kept spans place p passes in
+        grind (arith, any_from_lookup (begins_from from) spans p has.0 has.1 (none p passes), none_passes (begins_from from) spans is))
+
+    pub none_hides_before : (span : Position × Extent) → find (begins_from from) spans ≡ Some span → begins_before span.0 place ≡ false → IsFirst (hides (extent_at spans) place) (UpTo place) None
+    none_hides_before span is past p there = is_false (hides (extent_at spans) place p) (λ passes.
+        let shown = hides_shown (extent_at spans) place p passes in
+        let order = sym (is_le_cmp span.0 p) ∙ found_before span is p passes in
+        grind (arith, nat_tests, order, past, shown.0.below, shown.0.right, differs p place shown.1))
+
+    pub found_hides : (span : Position × Extent) → find (begins_from from) spans ≡ Some span → lookup (same_place span.0) spans ≡ Some span.1 → begins_before span.0 place ≡ true → holds span.0 span.1 place ≡ true → IsFirst (hides (extent_at spans) place) (UpTo place) (Some span.0)
+    found_hides span is kept before holds_it =
+        let held : Holds span.0 (extent_at spans span.0) place = subst (λ (e : Extent). Holds span.0 e place) (sym (extent_kept spans span.0 span.1 kept)) (holds_shown span.0 span.1 place holds_it) in
+        let other : same_place span.0 place ≡ false = grind (arith, nat_tests, before) in (
+          hides_tested (extent_at spans) place span.0 held other,
+          up_to (extent_at spans span.0) place span.0 held,
+          λ p there passes. found_before span is p passes,
+        )
+
+    pub none_before_next : (span : Position × Extent) (next : Position) → find (begins_from from) spans ≡ Some span → lookup (same_place span.0) spans ≡ Some span.1 → holds span.0 span.1 place ≡ false
+        → ((p : Position) → begins_before span.0 p ≡ true → Holds p (extent_at spans p) place → is_le (position_cmp next p) ≡ true) → NoneBefore next
+    none_before_next span next is kept fails past p passes =
+        let shown = hides_shown (extent_at spans) place p passes in
+        let other : same_place p span.0 ≡ false = is_false (same_place p span.0) (λ same.
+        let holds_it : Holds span.0 span.1 place = subst (λ (e : Extent). Holds span.0 e place) (extent_kept spans span.0 span.1 kept) (subst (λ (q : Position). Holds q (extent_at spans q) place) (same_position p span.0 same) shown.0) in
+        grind (arith, fails, holds_tested span.0 span.1 place holds_it)) in
+        let order = sym (is_le_cmp span.0 p) ∙ found_before span is p passes in
+        past p (grind (arith, nat_tests, order, other)) shown.0
+
+  -- the first that holds the place, and else the place, is the owner
+  pub owner_found : (result : Option Position) → IsFirst (hides (extent_at spans) place) (UpTo place) result → unwrap_or result place ≡ owner (extent_at spans) place
+  owner_found result first = ap (λ o. unwrap_or o place) (first_unique (hides (extent_at spans) place) (UpTo place) _ _ first (first_of_table (extent_at spans) place))
 
   -- nothing is found exactly where the place is visible
-  pub search_decides : (result : Option Position) → result ≡ option_map (λ (span : Position × Extent). span.0) (find (holds_in place) (begun_between first place spans)) → IsTrue (is_none result) ↔ IsVisible spans place
-  search_decides result is = decided result (subst (IsFirst (hides (extent_at spans) place) (UpTo place)) (sym is) (search_first (find (holds_in place) (begun_between first place spans)) refl))
-    where
-      decided : (r : Option Position) → IsFirst (hides (extent_at spans) place) (UpTo place) r → IsTrue (is_none r) ↔ IsVisible spans place
-      decided None none = (λ _. none_hides (extent_at spans) place none, λ _. refl)
-      decided (Some a) found = (
-        λ h. cc,
-        λ seen.
-            let shown = hides_shown (extent_at spans) place a found.0 in
-            absurd (shown.1 (seen a shown.0)),
-      )
+  pub search_decides : (result : Option Position) → IsFirst (hides (extent_at spans) place) (UpTo place) result → IsTrue (is_none result) ↔ IsVisible spans place
+  search_decides None none = (λ _. none_hides (extent_at spans) place none, λ _. refl)
+  search_decides (Some a) found = (
+    λ h. cc,
+    λ seen.
+        let shown = hides_shown (extent_at spans) place a found.0 in
+        absurd (shown.1 (seen a shown.0)),
+  )
+
+-- ---- what is passed over
+
+-- the search goes on behind what it found
+pub goes_on : (from anchor next : Position) → is_le (position_cmp from anchor) ≡ true → begins_before anchor next ≡ true → begins_before from next ≡ true
+goes_on from anchor next behind further = let order = sym (is_le_cmp from anchor) ∙ behind in grind (arith, nat_tests, order, further)
+
+-- what is left of rows of so many columns
+abbrev pub left_of : Position → Position → ℕ
+left_of pos from = (pos.row - from.row) * (pos.col + 1) + (pos.col - from.col)
+
+pub less_left : (pos from next : Position) → begins_before from next ≡ true → next.row ≤ pos.row → next.col ≤ pos.col → left_of pos next < left_of pos from
+less_left pos from next before row col = elim (from.row == next.row) as (λ b. (from.row == next.row) ≡ b → left_of pos next < left_of pos from) [
+  | true ↦ λ same.
+      let rows : from.row ≡ next.row = grind (arith, nat_tests, same) in
+      let cols : from.col < next.col = grind (arith, nat_tests, same, before) in
+      omega (arith, ap (λ n. (pos.row - n) * (pos.col + 1)) rows, cols, col)
+  | false ↦ λ other.
+      let rows : from.row < next.row = grind (arith, nat_tests, other, before) in
+      let fewer : (pos.row - next.row) + 1 ≤ pos.row - from.row = omega (arith, rows, row) in
+      let less : ((pos.row - next.row) + 1) * (pos.col + 1) ≤ (pos.row - from.row) * (pos.col + 1) = mul-le-mul_right (pos.col + 1) fewer in
+      omega (arith, less, col)
+] refl
+
+module _ (anchor p place : Position) (extent : Extent) (most : ℕ) (held : Holds p extent place) (bounded : extent.columns ≤ most) (behind : begins_before anchor p ≡ true) where
+  pub past_left : anchor.col < place.col - (most - 1) → is_le (position_cmp (at anchor.row (place.col - (most - 1))) p) ≡ true
+  past_left left = is_le_cmp (at anchor.row (place.col - (most - 1))) p ∙ grind (arith, nat_tests, left, behind, bounded, held.right, held.left)
+
+  pub past_itself : is_le (position_cmp (at anchor.row (anchor.col + 1)) p) ≡ true
+  past_itself = is_le_cmp (at anchor.row (anchor.col + 1)) p ∙ grind (arith, nat_tests, behind)
+
+  pub past_row : place.col ≤ anchor.col → is_le (position_cmp (at (anchor.row + 1) (place.col - (most - 1))) p) ≡ true
+  past_row right = is_le_cmp (at (anchor.row + 1) (place.col - (most - 1))) p ∙ grind (arith, nat_tests, right, behind, bounded, held.right, held.left)
+
+-- what a filter keeps first is found, where both tests are the same
+pub found_in_head : {X : Type 0} (picks test : X → Bool) → ((x : X) → picks x ≡ test x) → (xs ys : List X) (x : X) → filter picks xs ≡ x ∷ ys → find test xs ≡ Some x
+found_in_head picks test same [] ys x is = cc
+found_in_head picks test same (y ∷ xs) ys x is = elim (picks y) as (λ b. picks y ≡ b → find test (y ∷ xs) ≡ Some x) [
+  | true ↦ λ passes. grind (arith, passes, is, same y)
+  | false ↦ λ fails.
+      let rest : filter picks xs ≡ x ∷ ys = grind (arith, is, fails) in
+      grind (arith, fails, same y, found_in_head picks test same xs ys x rest)
+] refl
+
+pub found_in_none : {X : Type 0} (picks test : X → Bool) → ((x : X) → picks x ≡ test x) → (xs : List X) → filter picks xs ≡ [] → find test xs ≡ None
+found_in_none picks test same [] is = refl
+found_in_none picks test same (y ∷ xs) is = elim (picks y) as (λ b. picks y ≡ b → find test (y ∷ xs) ≡ None) [
+  | true ↦ λ passes. absurd (grind (arith, passes, is))
+  | false ↦ λ fails.
+      let rest : filter picks xs ≡ [] = grind (arith, is, fails) in
+      grind (arith, fails, same y, found_in_none picks test same xs rest)
+] refl
+
+-- of spans that are picked by where they begin alone
+pub same_range : (from : Position) (span : Position × Extent) → range_contains position_cmp (Included from) Unbounded span.0 ≡ begins_from from span
+same_range from span = grind arith

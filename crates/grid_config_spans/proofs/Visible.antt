@@ -75,28 +75,10 @@ pub any_of_filter : {X : Type 0} (picks test : X → Bool) (xs : List X) → lis
 any_of_filter picks test [] = refl
 any_of_filter picks test (x ∷ xs) = grind (arith, any_of_filter picks test xs)
 
-le_from_not_gt : (o : Ordering) → is_gt o ≡ false → is_le o ≡ true
+pub le_from_not_gt : (o : Ordering) → is_gt o ≡ false → is_le o ≡ true
 le_from_not_gt Less e = refl
 le_from_not_gt Equal e = refl
 le_from_not_gt Greater e = cc
-
--- whether a span begins at the first place or behind it, and before the end
-abbrev pub begins_between : Position → Position → Position × Extent → Bool
-begins_between first end span = range_contains position_cmp (Included first) (Excluded end) span.0
-
--- what holds another place begins before it
-pub holder_is_before : (first place anchor : Position) (extent : Extent) → is_gt (position_cmp first anchor) ≡ false → Holds anchor extent place → same_place anchor place ≡ false →
-    begins_between first place (anchor, extent) ≡ true
-holder_is_before first place anchor extent from h other =
-    let below : is_le (position_cmp place anchor) ≡ false = is_le_cmp place anchor ∙ grind (arith, nat_tests, h.below, h.right) in
-    grind (arith, le_from_not_gt (position_cmp first anchor) from, below)
-
--- a place doesn't begin before itself
-pub not_before_itself : (first place : Position) (span : Position × Extent) → span.0 ≡ place → begins_between first place span ≡ true → ⊥
-not_before_itself first place span same between =
-    let here : is_le (position_cmp place span.0) ≡ true = rw same (is_le_cmp place place ∙ grind (arith, nat_tests)) in
-    let there : is_le (position_cmp place span.0) ≡ false = grind (arith, between) in
-    grind (arith, here, there)
 
 nothing_kept : (spans : List (Position × Extent)) (place : Position) → lookup (same_place place) spans ≡ None → extent_at spans place ≡ single
 unfolding extent_at
@@ -112,11 +94,3 @@ kept_or_single spans place = elim (lookup (same_place place) spans) as (λ found
   | None ↦ λ none. NotKept (nothing_kept spans place none)
   | Some extent ↦ λ found. Kept extent found (extent_kept spans place extent found)
 ] refl
-
-module _ (spans : List (Position × Extent)) (first place : Position) where
-  pub found_in_search : (anchor : Position) (extent : Extent) → lookup (same_place anchor) spans ≡ Some extent → is_gt (position_cmp first anchor) ≡ false → Holds anchor extent place →
-      same_place anchor place ≡ false → list_any (holds_in place) (begun_between first place spans) ≡ true
-  found_in_search anchor extent found from held other =
-      let both : begins_between first place (anchor, extent) && holds_in place (anchor, extent) ≡ true =
-      grind (arith, holder_is_before first place anchor extent from held other, holds_tested anchor extent place held) in
-      any_of_filter (begins_between first place) (holds_in place) spans ∙ any_from_lookup (λ span. begins_between first place span && holds_in place span) spans anchor extent found both

@@ -1,6 +1,7 @@
 -- What a search among the spans looks at.
-use Rattle.std.specs.Prelude.{ℕ, ◌+◌, Bool, ◌&&◌, ◌||◌, not, max, if◌then◌else◌, List, nat_le, nat_lt}
+use Rattle.std.specs.Prelude.{ℕ, ◌+◌, ◌==◌, Bool, ◌&&◌, ◌||◌, not, max, if◌then◌else◌, List, nat_le, nat_lt}
 use Rattle.std.specs.List.{list_any}
+use Rattle.std.specs.Ordering.{is_le}
 use Rattle.std.specs.BTreeMap.Range.{entries_between}
 use Rattle.std.specs.declared.ops.Bound.TheVariants.{Included, Excluded}
 use Rattle.grid_config_values.specs.declared.position.Position.{Position}
@@ -18,6 +19,14 @@ holds_in place span = holds span.0 span.1 place
 -- the spans that begin at the first place or after it, and before the end
 abbrev pub begun_between : Position → Position → List (Position × Extent) → List (Position × Extent)
 begun_between first end spans = entries_between position_cmp (Included first) (Excluded end) spans
+
+-- whether a span begins at this place or after it
+abbrev pub begins_from : Position → Position × Extent → Bool
+begins_from from span = is_le (position_cmp from span.0)
+
+-- whether a place is before another one, by row, then by column
+abbrev pub begins_before : Position → Position → Bool
+begins_before a b = nat_lt a.row b.row || (a.row == b.row && nat_lt a.col b.col)
 
 abbrev pub is_in_table : ℕ → ℕ → Position → Bool
 is_in_table rows columns place = nat_lt place.row rows && nat_lt place.col columns

@@ -1,17 +1,16 @@
 //! The cells that span several columns or rows.
-ghost use Rattle.std.specs.Prelude.{false, ◌≡◌, ◌≢◌, ◌+◌, ◌≤◌, ◌<◌, ◌↔◌, [], if◌then◌else◌, ◌==◌, IsOk, IsTrue, IfErr, IfOk, IfSome, OnErr, OnOk, map, None, Some, Err, Ok};
+ghost use Rattle.std.specs.Prelude.{false, true, ◌≡◌, ◌≢◌, ◌+◌, ◌≤◌, ◌<◌, ◌↔◌, [], if◌then◌else◌, ◌==◌, IsOk, IsTrue, IfErr, IfOk, IfSome, OnErr, OnOk, map, None, Some, Err, Ok};
 ghost use Rattle.grid_config_values.specs.declared.fault.Fault.TheVariants.{Memory, Spans as BadSpan};
 ghost use Rattle.std.specs.List.{All, find, list_all, list_any};
 ghost use Rattle.std.specs.List.Sorted.{IsStrictlySortedBy};
 ghost use Rattle.std.specs.Map.{lookup};
-ghost use Rattle.std.specs.Option.{option_map};
-ghost use Rattle.std.specs.Ordering.{is_gt};
+ghost use Rattle.std.specs.Ordering.{is_gt, is_le};
 ghost use Rattle.grid_config_values.specs.declared.position.Position.{Position as Place};
 ghost use Rattle.grid_config_values.specs.Order.{position_cmp, same_place};
 ghost use Rattle.grid_config_spans.specs.declared.extent.Extent.{Extent as Size};
-ghost use Rattle.grid_config_spans.specs.Owners.{owner};
+ghost use Rattle.grid_config_spans.specs.Owners.{IsFirst, UpTo, hides, owner};
 ghost use Rattle.grid_config_spans.specs.Rectangles.{Holds};
-ghost use Rattle.grid_config_spans.specs.Search.{begun_between, holds_in, is_good_span, is_met_by, is_other, search_end};
+ghost use Rattle.grid_config_spans.specs.Search.{begins_before, begins_from, begun_between, is_good_span, is_met_by, is_other, search_end};
 ghost use Rattle.grid_config_spans.specs.Spans.{AreGood, ArePositive, IsVisible, SetsColumns, SetsExtent, SetsRows, extent_at, single};
 
 use crate::extent::Extent;
@@ -217,19 +216,56 @@ impl Spans {
         ) && extent.meets(anchor, *other, *size))
     }
 
-    // Where the first rectangle begins that holds this place, of those that begin before it, and not
-    // before the first place.
+    // Where the first rectangle begins that holds this place, of those of other cells; none of them begins
+    // before the first place. Of each row those are looked at that may reach the column of the place.
     fn holder_from(&self, first: Position, pos: Position) -> Option<Position>
-        requires { is_gt (position_cmp first pos) ≡ false }
-        ensures found { result ≡ option_map (λ span. span.0) (find (holds_in pos) (begun_between first pos self.now)) }
-        ensures kept { All (λ span. lookup (same_place span.0) self.now ≡ Some span.1) (begun_between first pos self.now) }
+        requires { (anchor : Place) → Holds anchor (extent_at self.now anchor) pos → is_gt (position_cmp first anchor) ≡ false }
+        ensures found { IsFirst (hides (extent_at self.now) pos) (UpTo pos) result }
+        ensures positive { ArePositive self.now }
+    {
+        let mut from = first;
+        while let Some((anchor, extent)) = self.next_from(from) {
+            if !begins_before(anchor, pos) {
+                return None;
+            }
+            if extent.holds(anchor, pos) {
+                return Some(anchor);
+            }
+            from = self.passed(anchor, pos);
+        }
+        None
+    }
+
+    // The first of the spans that begin at this place or after it.
+    fn next_from(&self, from: Position) -> Option<(Position, Extent)>
+        ensures found { result ≡ find (begins_from from) self.now }
+        ensures kept { IfSome result (λ span. lookup (same_place span.0) self.now ≡ Some span.1) }
         ensures ordered { IsStrictlySortedBy position_cmp (map (λ span. span.0) self.now) }
         ensures positive { ArePositive self.now }
     {
-        self.extents
-            .range(first..pos)
-            .find(|(anchor, extent)| extent.holds(**anchor, pos))
-            .map(|(anchor, _)| *anchor)
+        match self.extents.range(from..).next() {
+            Some((anchor, extent)) => Some((*anchor, *extent)),
+            None => None,
+        }
+    }
+
+    // Behind the cell at this anchor, which doesn't hold `pos` and begins before it, no rectangle that
+    // begins before this place holds `pos`.
+    fn passed(&self, anchor: Position, pos: Position) -> Position
+        requires { begins_before anchor pos ≡ true }
+        ensures none { (p : Place) → begins_before anchor p ≡ true → Holds p (extent_at self.now p) pos → is_le (position_cmp result p) ≡ true }
+        ensures further { begins_before anchor result ≡ true }
+        ensures row { result.row ≤ pos.row }
+        ensures column { result.col ≤ pos.col }
+    {
+        let least = pos.col.saturating_sub(self.most_columns - 1);
+        if anchor.col < least {
+            return Position::new(anchor.row, least);
+        }
+        if anchor.col < pos.col {
+            return Position::new(anchor.row, anchor.col + 1);
+        }
+        Position::new(anchor.row + 1, least)
     }
 
     // No rectangle that begins before this place holds `pos`.
@@ -274,6 +310,13 @@ fn span_of(n: usize) -> Option<usize>
     ensures several { IfSome result (λ k. 1 < k) }
 {
     if n == 1 { None } else { Some(n) }
+}
+
+// Whether this place is before another one, by row, then by column.
+fn begins_before(a: Position, b: Position) -> bool
+    ensures { result ≡ begins_before a b }
+{
+    a.row < b.row || (a.row == b.row && a.col < b.col)
 }
 
 // Whether this is another place than the anchor, and in the table.

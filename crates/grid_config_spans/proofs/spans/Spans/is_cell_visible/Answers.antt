@@ -7,4 +7,4 @@ pub returns : goal.returns
 returns c =
     let same : c.is_none.result ≡ is_none c.holder_from.result = grind (arith, c.is_none.ensures) in
     subst (λ b. IsTrue b ↔ IsVisible c.args.self.now c.args.pos) (sym same)
-    (search_decides c.args.self.now c.first_that_may_hold.result c.args.pos c.first_that_may_hold.ensures.before c.holder_from.ensures.kept c.holder_from.ensures.ordered c.holder_from.result c.holder_from.ensures.found)
+    (search_decides c.args.self.now c.args.pos c.holder_from.result c.holder_from.ensures.found)

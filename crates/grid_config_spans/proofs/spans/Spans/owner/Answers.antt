@@ -4,5 +4,4 @@ use Rattle.grid_config_spans.proofs.spans.Spans.owner.Goals as goal
 
 pub returns-clause-first : goal.returns-clause-first
 returns-clause-first c =
-    c.unwrap_or.ensures
-    ∙ owner_found c.args.self.now c.first_that_may_hold.result c.args.pos c.first_that_may_hold.ensures.before c.holder_from.ensures.kept c.holder_from.ensures.ordered c.holder_from.result c.holder_from.ensures.found
+    c.unwrap_or.ensures ∙ owner_found c.args.self.now c.args.pos c.holder_from.result c.holder_from.ensures.found
