@@ -1,5 +1,5 @@
 //! The line of a row of empty cells, over which the texts of a row are written.
-ghost use Rattle.std.specs.Prelude.{◌≡◌, ◌+◌, ◌<◌, ◌^◌, OnOk, string_bytes};
+ghost use Rattle.std.specs.Prelude.{◌≡◌, ◌+◌, ◌<◌, ◌^◌, OnOk, length, string_bytes};
 ghost use Rattle.std.specs.List.{replace_range};
 ghost use Rattle.std.specs.String.Boundary.{IsSplitPoint};
 
@@ -20,22 +20,14 @@ pub(crate) struct EmptyRow {
     pub(crate) rooms: Vec<Room>,
 }
 
-/// Writes a text over the `width` bytes from `start` on. Fails only where allocation fails.
-#[inline(always)]
-pub(crate) fn write_over(
-    out: &mut String,
-    start: usize,
-    width: usize,
-    text: &str,
-) -> Result<(), AllocError>
-    requires range { start + width < 2 ^ 64 }
+/// Writes a text over as many bytes, from `start` on. Fails only where allocation fails.
+// It stands apart, so that the compiler sees once for all that nothing behind the text moves.
+#[inline(never)]
+pub(crate) fn write_over(out: &mut String, start: usize, text: &str) -> Result<(), AllocError>
+    requires range { start + length text.now < 2 ^ 64 }
     requires start { IsSplitPoint (string_bytes out.old) start }
-    requires end { IsSplitPoint (string_bytes out.old) (start + width) }
-    ensures { OnOk result (string_bytes out.new ≡ replace_range (string_bytes out.old) start (start + width) text.now) }
+    requires end { IsSplitPoint (string_bytes out.old) (start + length text.now) }
+    ensures { OnOk result (string_bytes out.new ≡ replace_range (string_bytes out.old) start (start + length text.now) text.now) }
 {
-    // Where the text is as long as what it stands for, nothing behind it moves.
-    if text.len() == width {
-        return out.replace_range(start..start + text.len(), text);
-    }
-    out.replace_range(start..start + width, text)
+    out.replace_range(start..start + text.len(), text)
 }

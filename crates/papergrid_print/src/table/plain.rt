@@ -75,7 +75,7 @@ impl<'a, R: PeekableRecords, C: Colors> Table<'a, R, C> {
     }
 
     // The same by the line of a row of empty cells: each text is written over its room there, up to the
-    // first that is in a colour or has no room.
+    // first that is in a colour, takes other than its bytes, or has no room.
     #[inline(always)]
     fn push_over(
         &self,
@@ -99,14 +99,16 @@ impl<'a, R: PeekableRecords, C: Colors> Table<'a, R, C> {
         let columns = self.widths.len();
         for j in 0..columns {
             let (cell, room) = (cells.cell(j), empty.rooms[j]);
-            let color = self.colors.get_color(Position::new(i, j));
+            let pos = Position::new(i, j);
+            let color = self.colors.get_color(pos);
             let start = out.len() - room.rest;
-            if color.is_some() || room.width < cell.width {
+            let width = cell.text.len();
+            if color.is_some() || cell.width != width || room.width < width {
                 out.truncate(start);
                 return Ok(j);
             }
-            let indent = flat.indent(room.width - cell.width);
-            write_over(out, start + indent, cell.width, cell.text)?;
+            let indent = flat.indent(room.width - width);
+            write_over(out, start + indent, cell.text)?;
         }
         Ok(columns)
     }

@@ -1,4 +1,4 @@
-use Rattle.std.proofs.Common.{◌≡◌, ◌+◌, ◌<◌, ◌++◌, ◌∷◌, [], drop, get_or, length, ap, sym, ◌∙◌, arith, append_assoc}
+use Rattle.std.proofs.Common.{◌≡◌, ◌+◌, ◌++◌, ◌∷◌, [], drop, get_or, length, ap, sym, ◌∙◌, arith, append_assoc}
 use Rattle.papergrid_print.specs.Flat.{empty_from, joints_of, room_in, rooms_from}
 use Rattle.papergrid_print.specs.declared.empty_row.Room.{Room}
 use Rattle.papergrid_print.proofs.EmptyRowLemmas.{length-more, rooms-more}

@@ -1,4 +1,4 @@
-use Rattle.std.proofs.Common.{◌≡◌, ◌≤◌, ◌<◌, ◌+◌, ◌++◌, Option, Some, get_or, length, string_bytes, ap, sym, subst, ◌∙◌, arith}
+use Rattle.std.proofs.Common.{◌≡◌, ◌≤◌, ◌<◌, ◌+◌, ◌++◌, Option, Some, get_or, string_bytes, ap, sym, subst, ◌∙◌, arith}
 use Rattle.papergrid_picture.specs.Frame.{Row, boundary_at, track_at}
 use Rattle.papergrid_print.specs.Flat.{AreMadeFor}
 use Rattle.papergrid_print.specs.Sheets.{line_at, lines_of, row_tracks, sheet_of}

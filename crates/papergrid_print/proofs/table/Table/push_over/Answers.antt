@@ -1,16 +1,16 @@
-use Rattle.std.proofs.Common.{◌≡◌, ◌+◌, ◌-◌, ◌<◌, ◌≤◌, ◌++◌, ◌∷◌, [], None, drop, get_or, length, take, string_bytes, ap, sym, ◌∙◌, arith}
+use Rattle.std.proofs.Common.{◌≡◌, ◌-◌, ◌≤◌, ◌++◌, [], None, drop, get_or, length, string_bytes, ap, subst, sym, ◌∙◌, arith, ℕ}
 use Rattle.std.specs.Prelude.{slice_index_or}
 use Rattle.std.specs.Option.{option_map}
 use Rattle.grid_config_colors.specs.Colors.{color_of}
+use Rattle.grid_records_traits.specs.Cells.{HasWidth}
 use Rattle.grid_records_traits.specs.Rows.{text_at}
 use Rattle.papergrid_picture.specs.Blocks.{free_left}
 use Rattle.papergrid_picture.specs.Picture.{at}
-use Rattle.papergrid_print.specs.Flat.{empty_from, first_placed, joint_behind, joints_of, placed, room_in, row_front, standing_of}
+use Rattle.papergrid_print.specs.Flat.{empty_from, first_placed, joints_of, room_in, row_front, standing_of}
 use Rattle.papergrid_print.specs.Painting.{fill_bytes}
 use Rattle.papergrid_print.specs.Sheets.{sheet_of}
 use Rattle.papergrid_print.specs.declared.empty_row.Room.{Room}
 use Rattle.papergrid_print.proofs.EmptyRowLemmas.{length-rooms, none-of, placed-plain, rest-inside, room-of, split-begin, split-behind, split-text, taken, text-inside, text-over, written-more}
-use Rattle.papergrid_print.proofs.FlatLemmas.{flat-begins}
 use Rattle.papergrid_print.proofs.PlainLineLemmas.{plain-placed}
 use Rattle.papergrid_print.proofs.table.Table.push_over.Goals as goal
 
@@ -73,8 +73,8 @@ overflow_add-start g c =
     let wide : room.width ≡ room_in (joints_of rows) (get_or widths j 0) = ap (λ (r : Room). r.width) is in
     let left : room.rest ≡ length (empty_from (joints_of rows) (length widths) j (drop j widths)) = ap (λ (r : Room). r.rest) is in
     let counted : c.len.result ≡ length (string_bytes c.loop-j.out) = c.len.ensures ∙ c.loop-j.out.bytes.ok.0 in
-    let fits : c.cell-cell.result.width ≤ room.width = omega (arith, c.if-room-cell.false) in
-    omega (arith, text-inside rows widths before j c.loop-j-test.true c.loop-j.invariant room wide left c.len.result counted c.cell-cell.result.width fits c.indent-indent.result c.indent-indent.ensures, c.len.type_inv)
+    let fits : length c.cell-cell.result.text.now ≤ room.width = omega (arith, c.if-room-width.false) in
+    omega (arith, text-inside rows widths before j c.loop-j-test.true c.loop-j.invariant room wide left c.len.result counted (length c.cell-cell.result.text.now) fits c.indent-indent.result c.indent-indent.ensures, c.len.type_inv)
 
 pub write_over-requires-clause-range : goal.write_over-requires-clause-range
 write_over-requires-clause-range g c =
@@ -88,8 +88,8 @@ write_over-requires-clause-range g c =
     let wide : room.width ≡ room_in (joints_of rows) (get_or widths j 0) = ap (λ (r : Room). r.width) is in
     let left : room.rest ≡ length (empty_from (joints_of rows) (length widths) j (drop j widths)) = ap (λ (r : Room). r.rest) is in
     let counted : c.len.result ≡ length (string_bytes c.loop-j.out) = c.len.ensures ∙ c.loop-j.out.bytes.ok.0 in
-    let fits : c.cell-cell.result.width ≤ room.width = omega (arith, c.if-room-cell.false) in
-    omega (arith, text-inside rows widths before j c.loop-j-test.true c.loop-j.invariant room wide left c.len.result counted c.cell-cell.result.width fits c.indent-indent.result c.indent-indent.ensures, c.len.type_inv)
+    let fits : length c.cell-cell.result.text.now ≤ room.width = omega (arith, c.if-room-width.false) in
+    omega (arith, text-inside rows widths before j c.loop-j-test.true c.loop-j.invariant room wide left c.len.result counted (length c.cell-cell.result.text.now) fits c.indent-indent.result c.indent-indent.ensures, c.len.type_inv)
 
 pub write_over-requires-clause-start : goal.write_over-requires-clause-start
 write_over-requires-clause-start g c =
@@ -103,8 +103,8 @@ write_over-requires-clause-start g c =
     let wide : room.width ≡ room_in (joints_of rows) (get_or widths j 0) = ap (λ (r : Room). r.width) is in
     let left : room.rest ≡ length (empty_from (joints_of rows) (length widths) j (drop j widths)) = ap (λ (r : Room). r.rest) is in
     let counted : c.len.result ≡ length (string_bytes c.loop-j.out) = c.len.ensures ∙ c.loop-j.out.bytes.ok.0 in
-    let fits : c.cell-cell.result.width ≤ room.width = omega (arith, c.if-room-cell.false) in
-    split-text rows widths before j c.loop-j-test.true c.loop-j.invariant room wide left c.len.result counted c.cell-cell.result.width fits c.indent-indent.result c.indent-indent.ensures
+    let fits : length c.cell-cell.result.text.now ≤ room.width = omega (arith, c.if-room-width.false) in
+    split-text rows widths before j c.loop-j-test.true c.loop-j.invariant room wide left c.len.result counted (length c.cell-cell.result.text.now) fits c.indent-indent.result c.indent-indent.ensures
 
 pub write_over-requires-clause-end : goal.write_over-requires-clause-end
 write_over-requires-clause-end g c =
@@ -118,8 +118,8 @@ write_over-requires-clause-end g c =
     let wide : room.width ≡ room_in (joints_of rows) (get_or widths j 0) = ap (λ (r : Room). r.width) is in
     let left : room.rest ≡ length (empty_from (joints_of rows) (length widths) j (drop j widths)) = ap (λ (r : Room). r.rest) is in
     let counted : c.len.result ≡ length (string_bytes c.loop-j.out) = c.len.ensures ∙ c.loop-j.out.bytes.ok.0 in
-    let fits : c.cell-cell.result.width ≤ room.width = omega (arith, c.if-room-cell.false) in
-    split-behind rows widths before j c.loop-j-test.true c.loop-j.invariant room wide left c.len.result counted c.cell-cell.result.width fits c.indent-indent.result c.indent-indent.ensures
+    let fits : length c.cell-cell.result.text.now ≤ room.width = omega (arith, c.if-room-width.false) in
+    split-behind rows widths before j c.loop-j-test.true c.loop-j.invariant room wide left c.len.result counted (length c.cell-cell.result.text.now) fits c.indent-indent.result c.indent-indent.ensures
 
 pub loop-j-preserved : goal.loop-j-preserved
 loop-j-preserved g c =
@@ -133,7 +133,7 @@ loop-j-preserved g c =
     let wide : room.width ≡ room_in (joints_of rows) (get_or widths j 0) = ap (λ (r : Room). r.width) is in
     let left : room.rest ≡ length (empty_from (joints_of rows) (length widths) j (drop j widths)) = ap (λ (r : Room). r.rest) is in
     let counted : c.len.result ≡ length (string_bytes c.loop-j.out) = c.len.ensures ∙ c.loop-j.out.bytes.ok.0 in
-    let fits : c.cell-cell.result.width ≤ room.width = omega (arith, c.if-room-cell.false) in
+    let fits : length c.cell-cell.result.text.now ≤ room.width = omega (arith, c.if-room-width.false) in
     let sheet = (sheet_of c.args.self.now.cfg.now (g.R.RecordTexts.rows c.args.self.now.records.now) (g.C.Colors.color c.args.self.now.colors.now) c.args.self.now.widths.now c.args.self.now.heights.now) in
     let i = c.args.i in
     let cell = c.cell-cell.result in
@@ -141,14 +141,18 @@ loop-j-preserved g c =
     let pos = at i j in
     let own : cell.text.now ≡ text_at sheet.rows pos = c.cell-cell.ensures.text ∙ ap (λ texts. slice_index_or texts j []) c.requires.cells in
     let none : c.get_color-color.result ≡ None = none-of c.get_color-color.result (sym c.is_some.ensures ∙ c.if-is_some.false) in
-    let shade : None ≡ sheet.colors pos = ap (option_map color_of) (sym none) ∙ (c.get_color-color.ensures ∙ ap sheet.colors c.new.ensures) in
+    let shade : None ≡ sheet.colors pos = ap (option_map color_of) (sym none) ∙ (c.get_color-color.ensures ∙ ap sheet.colors c.new-pos.ensures) in
     let column = get_or widths j 0 in
-    let shown : fill_bytes 0x20 indent ++ (cell.text.now ++ fill_bytes 0x20 (room.width - indent - cell.width)) ≡ first_placed sheet (standing_of rows) pos =
-    ap (λ n. fill_bytes 0x20 n ++ (cell.text.now ++ fill_bytes 0x20 (room.width - n - cell.width))) c.indent-indent.ensures
-    ∙ (ap (λ n. fill_bytes 0x20 (free_left rows.alignment (n - cell.width)) ++ (cell.text.now ++ fill_bytes 0x20 (n - free_left rows.alignment (n - cell.width) - cell.width))) wide
-    ∙ (sym (placed-plain rows c.requires.empty.fill c.requires.empty.color column cell.width cell.text.now)
-    ∙ plain-placed sheet c.requires.flat pos (standing_of rows) cell.text.now cell.width None own c.cell-cell.ensures.lines c.cell-cell.ensures.width c.cell-cell.ensures.plain shade)) in
+    let text = cell.text.now in
+    let width = length text in
+    let takes : cell.width ≡ width = omega (arith, c.if-cell-width.false) in
+    let has : HasWidth text width = subst (λ (n : ℕ). HasWidth text n) takes c.cell-cell.ensures.width in
+    let shown : fill_bytes 0x20 indent ++ (text ++ fill_bytes 0x20 (room.width - indent - width)) ≡ first_placed sheet (standing_of rows) pos =
+    ap (λ n. fill_bytes 0x20 n ++ (text ++ fill_bytes 0x20 (room.width - n - width))) c.indent-indent.ensures
+    ∙ (ap (λ n. fill_bytes 0x20 (free_left rows.alignment (n - width)) ++ (text ++ fill_bytes 0x20 (n - free_left rows.alignment (n - width) - width))) wide
+    ∙ (sym (placed-plain rows c.requires.empty.fill c.requires.empty.color column width text)
+    ∙ plain-placed sheet c.requires.flat pos (standing_of rows) text width None own c.cell-cell.ensures.lines has c.cell-cell.ensures.plain shade)) in
     written-more sheet c.requires.flat rows c.requires.made i j (string_bytes c.args.out.now)
-    (fill_bytes 0x20 indent ++ (cell.text.now ++ fill_bytes 0x20 (room.width - indent - cell.width)))
+    (fill_bytes 0x20 indent ++ (text ++ fill_bytes 0x20 (room.width - indent - width)))
     c.requires.row c.loop-j-test.true c.requires.high shown
-    (c.in_ok-write_over.ensures ∙ text-over rows widths before j c.loop-j-test.true c.loop-j.invariant room wide left c.len.result counted c.cell-cell.result.width fits c.indent-indent.result c.indent-indent.ensures cell.text.now)
+    (c.in_ok-write_over.ensures ∙ text-over rows widths before j c.loop-j-test.true c.loop-j.invariant room wide left c.len.result counted width fits indent c.indent-indent.ensures text)

@@ -6,7 +6,7 @@ use Rattle.grid_records_traits.specs.Rows.{text_at}
 use Rattle.papergrid_print.specs.Flat.{behind_text, first_placed, standing_of}
 use Rattle.papergrid_picture.specs.Picture.{at}
 use Rattle.papergrid_print.specs.Sheets.{sheet_of}
-use Rattle.papergrid_print.proofs.FlatLemmas.{flat-begins, flat-ends, flat-more}
+use Rattle.papergrid_print.proofs.FlatLemmas.{flat-ends, flat-more}
 use Rattle.papergrid_print.proofs.PlainLineLemmas.{plain-placed}
 use Rattle.papergrid_print.proofs.table.Table.push_plain_line.Goals as goal
 
