@@ -1,16 +1,17 @@
 -- The boundaries of rows show what the picture shows.
-use Rattle.std.proofs.Common.{◌≡◌, ℕ, ◌+◌, ◌-◌, ◌<◌, ◌≤◌, Bool, true, false, cond, List, [], ◌∷◌, ◌++◌, length, map, get_or, refl, ap, sym, ◌∙◌, arith, append_assoc, append-nil, flat_map}
+use Rattle.std.proofs.Common.{◌≡◌, ℕ, ◌+◌, ◌-◌, ◌<◌, ◌≤◌, Bool, true, false, cond, List, [], ◌∷◌, ◌++◌, Option, length, map, get_or, refl, ap, sym, ◌∙◌, arith, append_assoc, append-nil, flat_map}
 use Rattle.std.specs.Prelude.{◌==◌, Err, Ok, OnOk, Result, nat_lt, unwrap_or}
 use Rattle.std.specs.List.{range_with_len}
 use Rattle.std.proofs.lemmas.Bool.Decides.{nat_tests}
 use Rattle.std.proofs.lemmas.List.Concat.{flat_map-append}
 use Rattle.grid_config_values.specs.declared.position.Position.{Position}
 use Rattle.grid_config_values.specs.Glyphs.{boundary_kind, crossing, has_column_boundary}
+use Rattle.grid_config_colors.specs.Colors.{Color}
 use Rattle.grid_config.specs.Looks.{Look, look_of}
 use Rattle.papergrid_picture.specs.Frame.{Boundary, block_width, boundary_at}
-use Rattle.papergrid_picture.specs.Blocks.{Glyph, Part, fill}
-use Rattle.papergrid_picture.specs.Picture.{along, blank, block_pieces, boundary_part, corner, laid, parts_of, seen}
-use Rattle.papergrid_picture.specs.Reading.{line_items}
+use Rattle.papergrid_picture.specs.Blocks.{Glyph, Part, fill, text_line}
+use Rattle.papergrid_picture.specs.Picture.{Piece, along, blank, block_pieces, boundary_part, corner, laid, parts_of, seen}
+use Rattle.papergrid_picture.specs.Reading.{line_items, painted, part_items}
 use Rattle.papergrid_picture.proofs.FrameLemmas.{range_with_len-more}
 use Rattle.papergrid_picture.proofs.ReadingLemmas.{all_plain, ends_plain-all, line_items-before, line_items-behind, line_items-cons, line_items_no_texts, line_items_plain, no_texts, own_items, starts_plain}
 use Rattle.papergrid_print.specs.BlockLines.{alone_bytes, is_outside, line_kind, line_parts}

@@ -10,18 +10,18 @@ use Rattle.std.proofs.lemmas.List.FromFn.{get_or-map-range_with_len, length-map-
 use Rattle.grid_config_values.specs.declared.position.Position.{Position}
 use Rattle.grid_config_values.specs.Glyphs.{boundary_kind, has_column_boundary, in_row}
 use Rattle.grid_config_colors.specs.Colors.{Color, color_of}
-use Rattle.grid_config.specs.Looks.{look_of}
+use Rattle.grid_config.specs.Looks.{Look, look_of}
 use Rattle.papergrid_picture.specs.Frame.{Row, block_height, block_width, boundary_at, column_count, frame_of, track_at}
-use Rattle.papergrid_picture.specs.Blocks.{TextLine, Part, Grid, block, fill, free_above, free_left, greatest, text_line}
+use Rattle.papergrid_picture.specs.Blocks.{Content, Fill, Glyph, TextLine, Part, Grid, block, fill, free_above, free_left, greatest, text_line}
 use Rattle.papergrid_picture.specs.Picture.{Piece, across, blank, block_pieces, laid, parts_of, row_part, upright, seen}
 use Rattle.papergrid_picture.specs.Reading.{line_items, painted, part_items}
 use Rattle.papergrid_picture.proofs.FrameLemmas.{range_with_len-more}
 use Rattle.papergrid_picture.proofs.ReadingLemmas.{all_plain, all_plain-append, line_items_plain}
-use Rattle.papergrid_print.specs.BlockLines.{alone_bytes, kind_at, line_kind, line_parts, part_bytes, text_of}
+use Rattle.papergrid_print.specs.BlockLines.{alone, alone_bytes, content_bytes, kind_at, line_kind, line_parts, part_bytes, text_of}
 use Rattle.papergrid_print.specs.Boundaries.{upright_bytes}
-use Rattle.papergrid_print.specs.Painting.{colored, fill_bytes}
+use Rattle.papergrid_print.specs.Painting.{bare, colored, fill_bytes}
 use Rattle.papergrid_print.specs.Sheets.{Sheet, ShowsAt, ShowsCell, bytes_of, grid_of, line_at, plain_bytes}
-use Rattle.papergrid_print.specs.Shown.{measures_of}
+use Rattle.papergrid_print.specs.Shown.{measures_of, texts_of}
 use Rattle.papergrid_print.specs.declared.block.BlockLine.{BlockLine}
 use Rattle.papergrid_print.specs.declared.block.BlockLine.TheVariants.{Above, Text, Below, Outside}
 use Rattle.papergrid_print.specs.declared.block.OpenCell.{OpenCell}

@@ -1,13 +1,13 @@
 -- The cells that go on from row to row.
-use Rattle.std.proofs.Common.{◌≡◌, ◌==◌, true, false, ℕ, ◌+◌, ◌<◌, ◌≤◌, List, inl, inr, refl, ap, subst, arith}
+use Rattle.std.proofs.Common.{◌≡◌, ◌==◌, true, false, ◌≢◌, ℕ, ◌+◌, ◌<◌, ◌≤◌, List, [], Option, None, inl, inr, length, get_or, refl, ap, sym, subst, ◌∙◌, arith}
 use Rattle.std.proofs.lemmas.Bool.{cases_lt}
 use Rattle.std.proofs.lemmas.Bool.Decides.{nat_tests}
 use Rattle.grid_config_values.specs.declared.position.Position.{Position}
 use Rattle.grid_config_spans.specs.declared.extent.Extent.{Extent}
 use Rattle.grid_config_spans.specs.Owners.{owner}
-use Rattle.grid_config_spans.specs.Rectangles.{IsInside}
-use Rattle.grid_config_spans.specs.Spans.{AreGood, ArePositive, IsAnchor, extent_at}
-use Rattle.grid_config_spans.proofs.Owners.{Itself, Held, is_owned, owner_holds, owner_goes_on}
+use Rattle.grid_config_spans.specs.Rectangles.{Holds, IsInside}
+use Rattle.grid_config_spans.specs.Spans.{AreGood, ArePositive, IsAnchor, IsInTable, extent_at, single}
+use Rattle.grid_config_spans.proofs.Owners.{IsOwned, Itself, Held, is_owned, owner_holds, owner_goes_on}
 use Rattle.papergrid_picture.specs.Picture.{at}
 
 -- the owner of a place is no lower and no further right

@@ -1,11 +1,11 @@
 -- How wide a table is, and what its margins show.
-use Rattle.std.proofs.Common.{◌≡◌, ◌==◌, ◌||◌, ℕ, ◌+◌, ◌-◌, ◌<◌, ◌≤◌, true, false, [], ◌∷◌, Option, if◌then◌else◌, nat_lt, length, refl, ap, ◌∙◌, arith, append-nil}
+use Rattle.std.proofs.Common.{◌≡◌, ◌==◌, ◌||◌, ℕ, ◌+◌, ◌-◌, ◌^◌, ◌<◌, ◌≤◌, Bool, true, false, List, [], ◌∷◌, ◌++◌, Option, if◌then◌else◌, nat_lt, length, refl, ap, sym, subst, ◌∙◌, arith, append-nil}
 use Rattle.std.proofs.lemmas.Bool.Decides.{nat_tests}
 use Rattle.grid_config_colors.specs.Colors.{Color}
 use Rattle.grid_config.specs.Looks.{look_of}
-use Rattle.papergrid_picture.specs.Blocks.{fill}
+use Rattle.papergrid_picture.specs.Blocks.{Part, fill}
 use Rattle.papergrid_picture.specs.Fitting.{table_width}
-use Rattle.papergrid_picture.specs.Frame.{Tracks, boundary_at, line_count, stretch, thickness, total_width, track_at}
+use Rattle.papergrid_picture.specs.Frame.{Outside, Tracks, boundary_at, line_count, place, stretch, thickness, total_width, track_at}
 use Rattle.papergrid_picture.specs.Picture.{margin_line, parts_of}
 use Rattle.papergrid_picture.specs.Reading.{line_items}
 use Rattle.papergrid_picture.proofs.FrameLemmas.{boundary-behind, boundary-bounded, boundary-first, boundary-next, place-above, place-below}

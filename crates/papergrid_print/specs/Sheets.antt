@@ -1,5 +1,5 @@
 -- A table that is printed, and the cells that are seen in the row at hand.
-use Rattle.std.specs.Prelude.{◌≡◌, ◌==◌, if◌then◌else◌, ◌<◌, ℕ, List, [], Option, None, MatchOption, flat_map, length, slice_index_or, encode_utf8}
+use Rattle.std.specs.Prelude.{◌≡◌, ◌==◌, if◌then◌else◌, ◌<◌, ◌^◌, ◌++◌, ℕ, List, [], Option, None, MatchOption, flat_map, length, slice_index_or, encode_utf8}
 use Rattle.std.specs.Option.{option_map}
 use Rattle.grid_config_values.specs.declared.position.Position.{Position}
 use Rattle.grid_config_colors.specs.Colors.{Color, color_of}
@@ -10,8 +10,8 @@ use Rattle.grid_records_traits.specs.Rows.{text_at}
 use Rattle.papergrid_picture.specs.Blocks.{Grid, Part}
 use Rattle.papergrid_picture.specs.CellLines.{cell_lines}
 use Rattle.papergrid_picture.specs.Fitting.{InRange}
-use Rattle.papergrid_picture.specs.Frame.{Place, place, Tracks, block_height, block_width, track_at}
-use Rattle.papergrid_picture.specs.Picture.{parts_of, pieces_at, seen}
+use Rattle.papergrid_picture.specs.Frame.{Place, place, Tracks, block_height, block_width, boundary_at, track_at}
+use Rattle.papergrid_picture.specs.Picture.{Piece, parts_of, pieces_at, seen}
 use Rattle.papergrid_picture.specs.Reading.{Reading, grid_lines, line_items, painted, part_items}
 use Rattle.papergrid_picture.specs.Tables.{in_bytes, table_grid}
 use Rattle.papergrid_print.specs.Shown.{measures_of, texts_of}

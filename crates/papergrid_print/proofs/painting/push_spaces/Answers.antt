@@ -1,4 +1,4 @@
-use Rattle.std.proofs.Common.{◌++◌, ◌∙◌, ap, string_bytes}
+use Rattle.std.proofs.Common.{◌≡◌, ◌++◌, ◌∙◌, ap, string_bytes}
 use Rattle.papergrid_print.proofs.PaintingLemmas.{spaces-front}
 use Rattle.papergrid_print.proofs.painting.push_spaces.Goals as goal
 

@@ -1,4 +1,4 @@
-use Rattle.std.proofs.Common.{rules, ◌≡◌, ◌∙◌, false, ap, sym}
+use Rattle.std.proofs.Common.{rules, ◌≡◌, ◌∙◌, Bool, false, true, ap, sym}
 use Rattle.ansi_str.specs.StyledText.{has_escape}
 use Rattle.papergrid_picture.specs.CellLines.{cell_lines, cell_measures}
 use Rattle.papergrid_print.proofs.PlainLineLemmas.{cell_lines-plain, cell_measures-plain}

@@ -1,4 +1,4 @@
-use Rattle.std.proofs.Common.{◌<◌, ◌++◌, length, refl, ap, ◌∙◌, arith}
+use Rattle.std.proofs.Common.{◌≡◌, ◌<◌, ◌≤◌, ◌++◌, length, string_bytes, refl, ap, ◌∙◌, arith}
 use Rattle.papergrid_picture.specs.Frame.{Boundary}
 use Rattle.papergrid_print.specs.Sheets.{line_at, sheet_of}
 use Rattle.papergrid_print.proofs.FlatLemmas.{between-same, none-goes-on}

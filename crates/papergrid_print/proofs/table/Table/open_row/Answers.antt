@@ -1,6 +1,6 @@
-use Rattle.std.proofs.Common.{◌<◌, length, refl, sym, ◌∙◌, arith}
+use Rattle.std.proofs.Common.{◌≡◌, ◌<◌, ◌+◌, length, refl, sym, ◌∙◌, arith}
 use Rattle.papergrid_print.specs.Sheets.{IsOpen, sheet_of}
-use Rattle.papergrid_print.proofs.OpenLemmas.{open-goes-on, opens, stays}
+use Rattle.papergrid_print.proofs.OpenLemmas.{IsOpening, open-goes-on, opens, stays}
 use Rattle.papergrid_print.proofs.table.Table.open_row.Goals.{then-eq+in_ok-open_cell+in-Some-1, then-eq+in_ok-open_cell+in-None-1, else-eq}
 use Rattle.papergrid_print.proofs.table.Table.open_row.Goals as goal
 

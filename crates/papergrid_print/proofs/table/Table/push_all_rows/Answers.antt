@@ -1,5 +1,7 @@
-use Rattle.std.proofs.Common.{◌∙◌, arith}
-use Rattle.papergrid_print.specs.Sheets.{sheet_of}
+use Rattle.std.proofs.Common.{◌≡◌, ◌<◌, ◌≤◌, ◌+◌, List, Option, length, ap, sym, subst, ◌∙◌, arith}
+use Rattle.std.proofs.lemmas.List.{with_items_is}
+use Rattle.papergrid_print.specs.Sheets.{GoesOn, sheet_of}
+use Rattle.papergrid_print.specs.declared.block.OpenCell.{OpenCell}
 use Rattle.papergrid_print.proofs.TableLemmas.{row-within}
 use Rattle.papergrid_print.proofs.table.Table.push_all_rows.Goals as goal
 

@@ -1,4 +1,5 @@
-use Rattle.std.proofs.Common.{◌≡◌, ◌∙◌, true, sym, string_bytes}
+use Rattle.std.proofs.Common.{◌≡◌, ◌∙◌, true, sym, string_bytes, arith}
+use Rattle.std.proofs.lemmas.Bool.Decides.{nat_tests}
 use Rattle.papergrid_print.specs.Sheets.{row_tracks, sheet_of}
 use Rattle.papergrid_print.proofs.PlaceLemmas.{boundary-more}
 use Rattle.papergrid_print.proofs.table.Table.push_boundary.Goals as goal

@@ -3,6 +3,7 @@ use Rattle.std.proofs.lemmas.Result.{on_ok_weaker}
 use Rattle.grid_config_colors.specs.Colors.{Color}
 use Rattle.grid_config_values.specs.declared.sides.Indent.{Indent}
 use Rattle.grid_config_values.specs.declared.sides.Sides.{Sides}
+use Rattle.papergrid_picture.specs.Blocks.{Part}
 use Rattle.papergrid_picture.specs.Picture.{boundary_part, parts_of}
 use Rattle.papergrid_picture.specs.Reading.{line_items}
 use Rattle.papergrid_print.specs.Painting.{bare, colored, fill_bytes, glyph_part}

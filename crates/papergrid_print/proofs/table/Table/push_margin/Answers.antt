@@ -1,4 +1,4 @@
-use Rattle.std.proofs.Common.{◌≡◌, ◌+◌, ◌∙◌, ◌++◌, ap, sym, string_bytes, arith, refl}
+use Rattle.std.proofs.Common.{◌≡◌, ◌+◌, ◌<◌, ◌≤◌, ◌∙◌, ◌++◌, ap, sym, string_bytes, arith, refl}
 use Rattle.papergrid_picture.specs.Frame.{place}
 use Rattle.papergrid_print.specs.Sheets.{lines_of, row_tracks, sheet_of}
 use Rattle.papergrid_print.proofs.PlaceLemmas.{line-more}

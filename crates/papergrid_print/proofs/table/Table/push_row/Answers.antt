@@ -1,4 +1,4 @@
-use Rattle.std.proofs.Common.{◌≡◌, ◌+◌, ◌<◌, ◌≤◌, ◌∙◌, ap, get_or, string_bytes, arith}
+use Rattle.std.proofs.Common.{◌≡◌, ◌+◌, ◌<◌, ◌≤◌, ◌∙◌, ap, sym, get_or, length, string_bytes, arith}
 use Rattle.papergrid_picture.specs.Frame.{boundary_at, track_at}
 use Rattle.papergrid_print.specs.Sheets.{lines_of, row_tracks, sheet_of}
 use Rattle.papergrid_print.proofs.PlaceLemmas.{row-end, row-fits, row-more}

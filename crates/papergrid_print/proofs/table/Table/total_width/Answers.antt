@@ -1,4 +1,4 @@
-use Rattle.std.proofs.Common.{ap, arith}
+use Rattle.std.proofs.Common.{◌≡◌, ◌+◌, ◌<◌, ap, arith}
 use Rattle.papergrid_print.specs.Sheets.{sheet_of}
 use Rattle.papergrid_print.proofs.TableLemmas.{width-is}
 use Rattle.papergrid_print.proofs.table.Table.total_width.Goals as goal
