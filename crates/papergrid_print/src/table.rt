@@ -12,8 +12,7 @@ ghost use Rattle.papergrid_picture.specs.Reading.{line_items};
 ghost use Rattle.grid_config.specs.Looks.{look_of};
 ghost use Rattle.ansi_str.specs.StyledText.{has_escape};
 ghost use Rattle.grid_records_traits.specs.Cells.{HasLineCount, HasLineWidth, HasWidth};
-ghost use Rattle.grid_records_traits.specs.PlainTexts.{plain_texts};
-ghost use Rattle.grid_records_traits.specs.Rows.{row_at, text_at};
+ghost use Rattle.grid_records_traits.specs.Rows.{text_at};
 ghost use Rattle.papergrid_print.specs.Flat.{AreFlat, AreFlatRows, AreMadeFor, HasEmptyRow, IsBetween, behind_text, first_placed, standing_of};
 ghost use Rattle.papergrid_print.specs.Painting.{colored, fill_bytes, glyph_part};
 ghost use Rattle.papergrid_print.specs.Seen.{AreSeen, AreSeenAbove, AreSeenOn};
@@ -31,7 +30,7 @@ use ansi_str::AnsiStr;
 use grid_config::SpannedConfig;
 use grid_config_colors::ANSIBuf;
 use grid_config_values::{Indent, Position};
-use grid_records_traits::{PeekableRecords, PlainRow};
+use grid_records_traits::PeekableRecords;
 use std::alloc::{AllocError, Global};
 
 // From how many rows on the line of a row of empty cells is made. It is one line beside all those that are
