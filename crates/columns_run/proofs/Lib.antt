@@ -1,7 +1,10 @@
 pub mod AcceptedLemmas
+pub mod BoundLemmas
 pub mod ByteLemmas
 pub mod CellLemmas
+pub mod EndLemmas
 pub mod ItemLemmas
+pub mod NestedLemmas
 pub mod OneLineLemmas
 pub mod PartLemmas
 pub mod PieceLemmas
@@ -19,4 +22,5 @@ pub mod StreamedLemmas
 pub mod TableLemmas
 pub mod TextLemmas
 pub mod TilingLemmas
+pub mod WalkLemmas
 pub mod WorkedLemmas

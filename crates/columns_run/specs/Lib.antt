@@ -1,4 +1,5 @@
 pub mod Cells
+pub mod Ends
 pub mod Fault
 pub mod TableShown
 pub mod Layout

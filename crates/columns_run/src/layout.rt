@@ -8,7 +8,7 @@ ghost use Rattle.columns_run.specs.Run.{MayAnswer};
 
 use crate::fault::RunFault;
 use crate::plain_rows::rows_of;
-use crate::styled_rows::{cell_parts, measured, row_parts, texts};
+use crate::styled_rows::{cell_parts, measured};
 use columns_asked::Asked;
 use columns_options::Options;
 use columns_table::{Rows, rows_table};
@@ -23,9 +23,7 @@ pub fn styled_table(alloc: Global, options: &Options, text: &str) -> Result<Stri
     ensures table { IfOk result (λ table. string_bytes table ≡ output_of options.now text.now) }
     ensures faults { IfErr result IsOfInput }
 {
-    let lines = row_parts(alloc, text)?;
-    let rows = texts(alloc, &lines)?;
-    let (parts, counts) = cell_parts(alloc, &rows)?;
+    let (parts, counts) = cell_parts(alloc, text)?;
     let cells = measured(alloc, &parts)?;
     let asked = asked_of(options);
     let measured_rows = Rows {

@@ -3,8 +3,7 @@ use Rattle.std.proofs.lemmas.List.{length-map}
 use Rattle.std.specs.Cow.{cow_str_bytes}
 use Rattle.columns_run.proofs.PartLemmas.{cut-map}
 use Rattle.columns_table.specs.Rows.{cut}
-use Rattle.columns_run.specs.Rows.{tab, parts_at}
-use Rattle.columns_run.specs.Cells.{bytes, line_rows, part_line, rows_shown}
+use Rattle.columns_run.specs.Cells.{line_rows, part_line, rows_shown}
 use Rattle.columns_run.proofs.CellLemmas.{whole_text}
 use Rattle.columns_run.proofs.OneLineLemmas.{cells-measured}
 use Rattle.columns_run.proofs.TableLemmas.{has-table, output-is, refused}
@@ -14,12 +13,9 @@ use Rattle.columns_run.proofs.layout.styled_table.Goals.{In_ok-cells}
 -- the cells are those of the text
 are : (c : In_ok-cells) → rows_shown (record { cells = c.in_ok-cells.cells; counts = c.in_ok-parts.counts; plain = false }) ≡ line_rows c.args.text.now
 are c =
-    ap (cut c.in_ok-parts.counts.items) (c.in_ok-cells.ensures ∙ ap (λ found. map part_line (map cow_str_bytes found)) c.deref-3.ensures.value)
+    ap (cut c.in_ok-parts.counts.items) (c.in_ok-cells.ensures ∙ ap (λ found. map part_line (map cow_str_bytes found)) c.deref.ensures.value)
     ∙ cut-map part_line c.in_ok-parts.counts.items (map cow_str_bytes c.in_ok-parts.parts.items)
-    ∙ ap (map (map part_line)) (
-    c.in_ok-parts.ensures.cells
-    ∙ ap (λ rows. map (parts_at tab) (map bytes rows)) c.deref-2.ensures.value
-    ∙ ap (map (parts_at tab)) (c.in_ok-rows.ensures ∙ ap (map cow_str_bytes) c.deref.ensures.value ∙ c.in_ok-lines.ensures))
+    ∙ ap (map (map part_line)) c.in_ok-parts.ensures.cells
 
 pub rows_table-requires-clause-measured : goal.rows_table-requires-clause-measured
 rows_table-requires-clause-measured c =
@@ -29,7 +25,7 @@ rows_table-requires-clause-measured c =
     let cells = c.in_ok-cells.cells in
     cells-measured text (record { cells = cells; counts = counts; plain = false }) (whole_text text c.utf8.text c.requires)
     (c.in_ok-parts.ensures.whole ∙ parts.ok.0 ∙ sym (length-map parts.items cow_str_bytes) ∙ sym (length-map (map cow_str_bytes parts.items) part_line)
-    ∙ sym (ap (λ xs. length xs) (c.in_ok-cells.ensures ∙ ap (λ found. map part_line (map cow_str_bytes found)) c.deref-3.ensures.value)))
+    ∙ sym (ap (λ xs. length xs) (c.in_ok-cells.ensures ∙ ap (λ found. map part_line (map cow_str_bytes found)) c.deref.ensures.value)))
     (are (goal.at.rows_table-requires-clause-measured c).In_ok-cells)
 
 pub returns-in_err-rows_table-clause-answers : goal.returns-in_err-rows_table-clause-answers
