@@ -79,6 +79,7 @@ impl<'a> LineCells<'a> {
     }
 
     // Appends a cell, and keeps what it measures.
+    #[inline(always)]
     fn push_with_width(&mut self, cell: LineCell<'a>) -> Result<(), AllocError>
         ensures { OnOk result (self.new ≡ self.old ++ cell.entry ∷ []) }
     {
@@ -105,6 +106,7 @@ impl<'a> LineCells<'a> {
 }
 
 // Gives each text its bytes for its columns where it has none.
+#[inline(always)]
 fn give_widths(widths: &mut Vec<usize>, texts: &[&str]) -> Result<(), AllocError>
     requires within { length widths.old.items ≤ length texts.now }
     ensures within { length widths.new.items ≤ length texts.now }
