@@ -56,6 +56,7 @@ fn is_printable(byte: u8) -> bool
 }
 
 /// Appends a cell, measured. Where it is `plain`, it has printable ASCII alone, and a byte takes a column.
+#[inline(always)]
 fn push_cell<'a>(cells: &mut LineCells<'a>, text: &'a str, plain: bool) -> Result<(), AllocError>
     requires { IsTrue plain → IsTrue (are_printable text.now) }
     ensures { OnOk result (map shown cells.new ≡ map shown cells.old ++ byte_line text.now ∷ []) }
