@@ -6,7 +6,6 @@ mod fault;
 mod input;
 pub mod laws;
 mod layout;
-mod measuring;
 mod plain_rows;
 mod running;
 mod style;

@@ -5,8 +5,8 @@ ghost use Rattle.columns_run.specs.Rows.{rows_of};
 ghost use Rattle.columns_run.specs.Cells.{shown, byte_line, rows_shown};
 ghost use Rattle.grid_records_measure.specs.Measures.{are_printable};
 
-use crate::measuring::text_columns;
 use columns_table::{LineCell, LineCells, Rows};
+use grid_records_measure::get_string_width;
 use std::alloc::{AllocError, Global};
 
 /// The rows of a text, each cell measured once. They borrow the text, and it fails only where allocation fails.
@@ -64,7 +64,7 @@ fn push_cell<'a>(cells: &mut LineCells<'a>, text: &'a str, plain: bool) -> Resul
     let width = if plain {
         text.len()
     } else {
-        text_columns(text)
+        get_string_width(text)
     };
     cells.push(LineCell { text, width })?;
     Ok(())

@@ -11,6 +11,6 @@ returns c =
     let text = c.args.text.now in
     let before = c.args.cells.now in
     let width : c.if-plain.width ≡ measure (chars text) =
-    elim c.if-plain.branch [ then-plain w ↦ w.width-is ∙ sym (measure-printable text (c.requires w.if-plain.true)) | else-plain w ↦ w.width-is ∙ w.text_columns-width.ensures ] in
+    elim c.if-plain.branch [ then-plain w ↦ w.width-is ∙ sym (measure-printable text (c.requires w.if-plain.true)) | else-plain w ↦ w.width-is ∙ w.get_string_width-width.ensures ] in
     ap (map shown) c.in_ok-push.ensures ∙ map_push shown before (record { text = c.args.text; width = c.if-plain.width })
     ∙ ap (λ n. map shown before ++ record { measure = n; items = text } ∷ []) width
