@@ -5,7 +5,9 @@ use Rattle.std.specs.BTreeMap.{BTreeMap, Updates, is_at}
 use Rattle.grid_config_values.specs.declared.position.Position.{Position}
 use Rattle.grid_config_values.specs.Order.{position_cmp, same_place}
 use Rattle.grid_config_spans.specs.declared.extent.Extent.{Extent}
-use Rattle.grid_config_spans.specs.Spans.{IsBounded, SetsExtent, extent_at, single}
+use Rattle.grid_config_spans.specs.declared.spans.Spans.TheInside.{Inside}
+use Rattle.grid_config_spans.specs.Clear.{NoneIsSingle}
+use Rattle.grid_config_spans.specs.Spans.{ArePositive, IsBounded, SetsExtent, extent_at, single}
 use Rattle.grid_config_spans.proofs.Order.{is_eq_cmp}
 
 -- a look-up by the order is one by the place
@@ -54,3 +56,9 @@ module _ (old new : BTreeMap Position Extent) (pos : Position) (set : Option Ext
     columns = λ p. grind (arith, extent_changed p, bounded.columns p);
     kept = kept_changed bounded.kept kept_here;
   }
+
+pub positive_if_bounded : (fields : Inside) → IsBounded fields → ArePositive fields.extents.entries
+positive_if_bounded fields bounded place = ((bounded.rows place).0, (bounded.columns place).0)
+
+pub none_single_if_bounded : (fields : Inside) → IsBounded fields → NoneIsSingle fields.extents.entries
+none_single_if_bounded fields bounded span has = bounded.kept span.0 span.1 has

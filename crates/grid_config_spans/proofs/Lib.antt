@@ -4,3 +4,4 @@ pub mod Visible
 pub mod Good
 pub mod Parting
 pub mod Owners
+pub mod Lasts

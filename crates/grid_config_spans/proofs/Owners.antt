@@ -1,12 +1,11 @@
 -- The cell that is seen at a place: what it is, and that a search among the spans finds it.
-use Rattle.std.proofs.Common.{◌≡◌, ◌≢◌, ◌==◌, ◌+◌, ◌-◌, ◌*◌, ◌<◌, ◌≤◌, ℕ, zero, suc, Bool, true, false, not, ◌&&◌, List, [], ◌∷◌, ◌++◌, map, flat_map, Option, None, Some, refl, sym, ap, subst, ◌∙◌, unwrap_or, ◌⊎◌, inl, inr, IsTrue, is_none, ◌↔◌, arith}
+use Rattle.std.proofs.Common.{◌≡◌, ◌≢◌, ◌==◌, ◌+◌, ◌-◌, ◌*◌, ◌<◌, ◌≤◌, ℕ, zero, suc, Bool, true, false, not, List, [], ◌∷◌, ◌++◌, map, flat_map, Option, None, Some, refl, sym, ap, subst, ◌∙◌, unwrap_or, ◌⊎◌, inl, inr, IsTrue, is_none, ◌↔◌, arith}
 use Rattle.std.proofs.lemmas.Bool.{and_parts}
 use Rattle.std.proofs.lemmas.Bool.Decides.{nat_tests}
 use Rattle.std.proofs.Math.Nat.{mul-le-mul_right}
 use Rattle.std.specs.List.{All, AllByRecursion, filter, find, list_any, range_with_len}
 use Rattle.std.specs.List.Sorted.{IsStrictlySortedBy}
 use Rattle.std.specs.Map.{lookup}
-use Rattle.std.specs.Option.{option_map}
 use Rattle.std.specs.Ordering.{is_gt, is_le}
 use Rattle.std.specs.BTreeMap.Range.{range_contains}
 use Rattle.std.specs.declared.ops.Bound.TheVariants.{Included, Unbounded}
@@ -228,7 +227,7 @@ found_passes P test (x ∷ xs) found all is = elim (test x) as (λ b. test x ≡
     some_same : Some x ≡ Some found → x ≡ found
     some_same e = ap (λ o. unwrap_or o x) e
 
-none_passes : {X : Type 0} (test : X → Bool) (xs : List X) → find test xs ≡ None → list_any test xs ≡ false
+pub none_passes : {X : Type 0} (test : X → Bool) (xs : List X) → find test xs ≡ None → list_any test xs ≡ false
 none_passes test [] none = refl
 none_passes test (x ∷ xs) none = elim (test x) as (λ b. test x ≡ b → list_any test (x ∷ xs) ≡ false) [
   | true ↦ λ passes. absurd (grind (arith, none, passes))
@@ -248,7 +247,7 @@ at_kept P (span ∷ spans) place extent all found = elim (same_place place span.
 ] refl
 
 -- of spans in order the one that is found begins before all others that pass
-found_first : (test : Position × Extent → Bool) (spans : List (Position × Extent)) (found : Position × Extent) → IsStrictlySortedBy position_cmp (map (λ span. span.0) spans) → find test spans ≡ Some found →
+pub found_first : (test : Position × Extent → Bool) (spans : List (Position × Extent)) (found : Position × Extent) → IsStrictlySortedBy position_cmp (map (λ span. span.0) spans) → find test spans ≡ Some found →
     (p : Position) (extent : Extent) → lookup (same_place p) spans ≡ Some extent → test (p, extent) ≡ true → is_le (position_cmp found.0 p) ≡ true
 unfolding IsStrictlySortedBy
 found_first test [] found ordered is p extent kept passes = cc

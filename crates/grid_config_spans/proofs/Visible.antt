@@ -1,20 +1,18 @@
 -- A search among the spans finds what holds a place.
-use Rattle.std.proofs.Common.{◌≡◌, suc, Bool, true, false, ◌&&◌, List, [], ◌∷◌, Option, None, Some, refl, sym, ap, subst, ◌∙◌, unwrap_or, arith}
+use Rattle.std.proofs.Common.{◌≡◌, suc, Bool, true, false, List, [], ◌∷◌, Option, None, Some, refl, sym, ap, subst, unwrap_or, arith}
 use Rattle.std.proofs.lemmas.Bool.Decides.{nat_tests}
-use Rattle.std.specs.List.{All, filter, list_any}
+use Rattle.std.specs.List.{All, list_any}
 use Rattle.std.specs.Map.{lookup}
 use Rattle.std.specs.Ordering.{is_gt, is_le}
-use Rattle.std.specs.BTreeMap.Range.{range_contains}
-use Rattle.std.specs.declared.ops.Bound.TheVariants.{Included, Excluded}
 use Rattle.std.specs.declared.cmp.Ordering.{Ordering}
 use Rattle.std.specs.declared.cmp.Ordering.TheVariants.{Less, Equal, Greater}
 use Rattle.grid_config_values.specs.declared.position.Position.{Position}
-use Rattle.grid_config_values.specs.Order.{position_cmp, same_place}
+use Rattle.grid_config_values.specs.Order.{same_place}
 use Rattle.grid_config_spans.specs.declared.extent.Extent.{Extent}
 use Rattle.grid_config_spans.specs.Rectangles.{Holds}
-use Rattle.grid_config_spans.specs.Search.{begun_between, holds, holds_in}
+use Rattle.grid_config_spans.specs.Search.{holds}
 use Rattle.grid_config_spans.specs.Spans.{extent_at, single}
-use Rattle.grid_config_spans.proofs.Order.{is_le_cmp, same_position}
+use Rattle.grid_config_spans.proofs.Order.{same_position}
 
 pub holds_shown : (anchor : Position) (extent : Extent) (place : Position) → holds anchor extent place ≡ true → Holds anchor extent place
 holds_shown anchor extent place e = record {
@@ -39,13 +37,27 @@ single_holds anchor place h =
     let cols : anchor.col ≡ place.col = omega (arith, h.right, h.left) in
     λ i. record { row = rows i; col = cols i }
 
-pub first_passes : (test : Position × Extent → Bool) (span : Position × Extent) (place : Position) (extent : Extent) → same_place place span.0 ≡ true →
-    Some span.1 ≡ Some extent → test (place, extent) ≡ true → test span ≡ true
-first_passes test span place extent same found passes =
+same_span : (span : Position × Extent) (place : Position) (extent : Extent) → same_place place span.0 ≡ true → Some span.1 ≡ Some extent → span ≡ (place, extent)
+same_span span place extent same found =
     let place_is = same_position place span.0 same in
     let extent_is : span.1 ≡ extent = ap (λ (o : Option Extent). unwrap_or o extent) found in
-    let span_is : (place, extent) ≡ span = λ i. (place_is i, sym extent_is i) in
-    subst (λ (s : Position × Extent). test s ≡ true) span_is passes
+    λ i. (sym place_is i, extent_is i)
+
+pub first_passes : (test : Position × Extent → Bool) (span : Position × Extent) (place : Position) (extent : Extent) → same_place place span.0 ≡ true →
+    Some span.1 ≡ Some extent → test (place, extent) ≡ true → test span ≡ true
+first_passes test span place extent same found passes = subst (λ (s : Position × Extent). test s ≡ true) (sym (same_span span place extent same found)) passes
+
+-- what all spans have, each that is kept has
+pub all_at : (P : Position × Extent → Type 0) (spans : List (Position × Extent)) (span : Position × Extent) → All P spans → lookup (same_place span.0) spans ≡ Some span.1 → P span
+all_at P [] span all found = cc
+all_at P (first ∷ spans) span all found = elim (same_place span.0 first.0) as (λ b. same_place span.0 first.0 ≡ b → P span) [
+  | true ↦ λ same.
+      let here : Some first.1 ≡ Some span.1 = grind (arith, found, same) in
+      subst P (same_span first span.0 span.1 same here) (all 0 first (omega arith))
+  | false ↦ λ other.
+      let there : lookup (same_place span.0) spans ≡ Some span.1 = grind (arith, found, other) in
+      all_at P spans span (λ k d lt. all (suc k) d (omega arith)) there
+] refl
 
 -- a test that holds of what is kept at a place holds of one of the spans
 pub any_from_lookup : (test : Position × Extent → Bool) (spans : List (Position × Extent)) (place : Position) (extent : Extent) →
@@ -59,21 +71,6 @@ any_from_lookup test (span ∷ spans) place extent found passes = elim (same_pla
       let there : lookup (same_place place) spans ≡ Some extent = grind (arith, found, other) in
       grind (arith, any_from_lookup test spans place extent there passes)
 ] refl
-
--- where a test holds of one of the spans, it is kept at its place
-pub lookup_from_any : (test : Position × Extent → Bool) (all spans : List (Position × Extent)) → All (λ span. lookup (same_place span.0) all ≡ Some span.1) spans →
-    list_any test spans ≡ true → (span : Position × Extent) × (lookup (same_place span.0) all ≡ Some span.1) × (test span ≡ true)
-lookup_from_any test all [] kept e = cc
-lookup_from_any test all (span ∷ spans) kept e = elim (test span) as (λ b. test span ≡ b → (span : Position × Extent) × (lookup (same_place span.0) all ≡ Some span.1) × (test span ≡ true)) [
-  | true ↦ λ passes. (span, kept 0 span (omega arith), passes)
-  | false ↦ λ fails.
-      let rest : list_any test spans ≡ true = grind (arith, e, fails) in
-      lookup_from_any test all spans (λ k d lt. kept (suc k) d (omega arith)) rest
-] refl
-
-pub any_of_filter : {X : Type 0} (picks test : X → Bool) (xs : List X) → list_any test (filter picks xs) ≡ list_any (λ x. picks x && test x) xs
-any_of_filter picks test [] = refl
-any_of_filter picks test (x ∷ xs) = grind (arith, any_of_filter picks test xs)
 
 pub le_from_not_gt : (o : Ordering) → is_gt o ≡ false → is_le o ≡ true
 le_from_not_gt Less e = refl

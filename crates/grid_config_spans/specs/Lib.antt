@@ -1,4 +1,5 @@
 pub mod Rectangles
 pub mod Spans
 pub mod Search
+pub mod Clear
 pub mod Owners

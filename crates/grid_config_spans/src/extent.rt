@@ -1,8 +1,6 @@
 //! How many rows and columns a cell takes.
-ghost use Rattle.std.specs.Prelude.{◌≡◌, ◌+◌, ◌≤◌, ◌&&◌, false};
-ghost use Rattle.std.specs.Ordering.{is_gt};
-ghost use Rattle.grid_config_values.specs.Order.{position_cmp};
-ghost use Rattle.grid_config_spans.specs.Search.{holds, is_in_table, is_inside, meets, search_end};
+ghost use Rattle.std.specs.Prelude.{◌≡◌, ◌&&◌};
+ghost use Rattle.grid_config_spans.specs.Search.{holds, is_in_table, is_inside, meets};
 
 use grid_config_values::Position;
 
@@ -49,19 +47,5 @@ impl Extent {
         // the first place that may be in both
         let corner = Position::new(anchor.row.max(other.row), anchor.col.max(other.col));
         self.holds(anchor, corner) && extent.holds(other, corner)
-    }
-
-    // No rectangle that begins here or after it meets this one, where it begins after it too.
-    pub(crate) fn search_end(self, anchor: Position) -> Position
-        requires rows { anchor.row + self.rows ≤ usize.MAX }
-        requires columns { anchor.col + self.columns ≤ usize.MAX }
-        ensures end { result ≡ search_end anchor self }
-        ensures forward { is_gt (position_cmp anchor result) ≡ false }
-    {
-        if self.rows <= 1 {
-            Position::new(anchor.row, anchor.col + self.columns)
-        } else {
-            Position::new(anchor.row + self.rows, 0)
-        }
     }
 }

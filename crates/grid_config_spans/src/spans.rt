@@ -1,16 +1,17 @@
 //! The cells that span several columns or rows.
 ghost use Rattle.std.specs.Prelude.{false, true, ◌≡◌, ◌≢◌, ◌+◌, ◌≤◌, ◌<◌, ◌↔◌, [], if◌then◌else◌, ◌==◌, IsOk, IsTrue, IfErr, IfOk, IfSome, OnErr, OnOk, map, None, Some, Err, Ok};
 ghost use Rattle.grid_config_values.specs.declared.fault.Fault.TheVariants.{Memory, Spans as BadSpan};
-ghost use Rattle.std.specs.List.{All, find, list_all, list_any};
+ghost use Rattle.std.specs.List.{find};
 ghost use Rattle.std.specs.List.Sorted.{IsStrictlySortedBy};
 ghost use Rattle.std.specs.Map.{lookup};
 ghost use Rattle.std.specs.Ordering.{is_gt, is_le};
 ghost use Rattle.grid_config_values.specs.declared.position.Position.{Position as Place};
 ghost use Rattle.grid_config_values.specs.Order.{position_cmp, same_place};
 ghost use Rattle.grid_config_spans.specs.declared.extent.Extent.{Extent as Size};
+ghost use Rattle.grid_config_spans.specs.Clear.{Has, IsClear, IsClearFrom, IsClearIn, IsLastLeftOf, IsMet, IsMetIn, NoneIsSingle};
 ghost use Rattle.grid_config_spans.specs.Owners.{IsFirst, UpTo, hides, owner};
 ghost use Rattle.grid_config_spans.specs.Rectangles.{Holds};
-ghost use Rattle.grid_config_spans.specs.Search.{begins_before, begins_from, begun_between, is_good_span, is_met_by, is_other, search_end};
+ghost use Rattle.grid_config_spans.specs.Search.{begins_before, begins_from};
 ghost use Rattle.grid_config_spans.specs.Spans.{AreGood, ArePositive, IsVisible, SetsColumns, SetsExtent, SetsRows, extent_at, single};
 
 use crate::extent::Extent;
@@ -171,29 +172,28 @@ impl Spans {
 
     /// Whether in a table of `rows` rows and `columns` columns the rectangle of each cell that spans
     /// several stays inside the table, and no two of them share a place. Cells outside the table don't
-    /// count. Each cell takes at least one row and one column.
+    /// count. Each cell takes at least one row and one column. Looks for each span at one other in each
+    /// of its rows in which one begins.
     pub fn spans_are_good(&self, rows: usize, columns: usize) -> bool
         ensures good { IsTrue result ↔ AreGood self.now rows columns }
         ensures positive { ArePositive self.now }
     {
-        self.all_are_good(rows, columns)
+        for (anchor, extent) in self.extents.iter() {
+            if !self.is_clear(*anchor, *extent, rows, columns) {
+                return false;
+            }
+        }
+        true
     }
 
-    // The same, by a test of each.
-    fn all_are_good(&self, rows: usize, columns: usize) -> bool
-        ensures all { result ≡ list_all (is_good_span self.now rows columns) self.now }
-        ensures kept { All (λ span. lookup (same_place span.0) self.now ≡ Some span.1) self.now }
-        ensures spans { (p : Place) (e : Size) → lookup (same_place p) self.now ≡ Some e → e ≢ single }
-        ensures positive { ArePositive self.now }
-    {
-        self.extents.iter().all(|(anchor, extent)| self.is_good_span(
-            *anchor, *extent, rows, columns,
-        ))
-    }
-
-    // Whether this one is not in the table, or inside it and meets none that begins after it.
-    fn is_good_span(&self, anchor: Position, extent: Extent, rows: usize, columns: usize) -> bool
-        ensures { result ≡ is_good_span self.now rows columns (anchor, extent) }
+    // Whether this one is not in the table, or inside it and met in none of its rows by the last there.
+    // Where that holds of each, no two meet: one that reaches across the last of its row meets that one.
+    fn is_clear(&self, anchor: Position, extent: Extent, rows: usize, columns: usize) -> bool
+        requires one { Has self.now (anchor, extent) }
+        requires positive { ArePositive self.now }
+        requires several { NoneIsSingle self.now }
+        ensures clear { IsTrue result → IsClear self.now rows columns (anchor, extent) }
+        ensures bad { result ≡ false → AreGood self.now rows columns → ⊥ }
     {
         if anchor.row >= rows || anchor.col >= columns {
             return true;
@@ -201,19 +201,64 @@ impl Spans {
         if !extent.is_inside(anchor, rows, columns) {
             return false;
         }
-        !self.is_met(anchor, extent, rows, columns)
+        !self.is_met(anchor, extent)
     }
 
-    // Whether another one in the table, which begins after this one, meets it.
-    fn is_met(&self, anchor: Position, extent: Extent, rows: usize, columns: usize) -> bool
+    // Whether in one of its rows the last that begins left of its right end is another one that meets it.
+    fn is_met(&self, anchor: Position, extent: Extent) -> bool
         requires rows { anchor.row + extent.rows ≤ usize.MAX }
         requires columns { anchor.col + extent.columns ≤ usize.MAX }
-        ensures { result ≡ list_any (is_met_by rows columns anchor extent)
-            (begun_between anchor (search_end anchor extent) self.now) }
+        ensures met { IsTrue result → IsMet self.now anchor extent }
+        ensures clear { result ≡ false → IsClearFrom self.now anchor extent (anchor.row + extent.rows) }
     {
-        self.extents.range(anchor..extent.search_end(anchor)).any(|(other, size)| is_other(
-            anchor, *other, rows, columns,
-        ) && extent.meets(anchor, *other, *size))
+        let end = anchor.row + extent.rows;
+        let mut row = anchor.row;
+        while row < end {
+            if self.is_met_in(row, anchor, extent) {
+                return true;
+            }
+            row = self.next_row(row + 1, end);
+        }
+        false
+    }
+
+    // Whether in this row the last that begins left of its right end is another one that meets it.
+    fn is_met_in(&self, row: usize, anchor: Position, extent: Extent) -> bool
+        requires { anchor.col + extent.columns ≤ usize.MAX }
+        ensures met { IsTrue result → IsMetIn self.now anchor extent row }
+        ensures clear { result ≡ false → IsClearIn self.now anchor extent row }
+    {
+        match self.last_left_of(Position::new(row, anchor.col + extent.columns)) {
+            Some((other, size)) => other != anchor && extent.meets(anchor, other, size),
+            None => false,
+        }
+    }
+
+    // The last of the spans that begin in the row of this place, left of it.
+    fn last_left_of(&self, place: Position) -> Option<(Position, Extent)>
+        ensures { IsLastLeftOf self.now place result }
+    {
+        let (anchor, extent) = self.extents.range(..place).next_back()?;
+        if anchor.row == place.row {
+            return Some((*anchor, *extent));
+        }
+        None
+    }
+
+    // The first row from this one on in which a span begins, and the end where there is none before it.
+    fn next_row(&self, from: usize, end: usize) -> usize
+        requires { from ≤ end }
+        ensures further { from ≤ result }
+        ensures within { result ≤ end }
+        ensures none { (span : Place × Size) → Has self.now span → from ≤ span.0.row → result ≤ span.0.row }
+    {
+        if from == end {
+            return end;
+        }
+        match self.next_from(Position::new(from, 0)) {
+            Some((anchor, _)) => anchor.row.min(end),
+            None => end,
+        }
     }
 
     // Where the first rectangle begins that holds this place, of those of other cells; none of them begins
@@ -317,11 +362,4 @@ fn begins_before(a: Position, b: Position) -> bool
     ensures { result ≡ begins_before a b }
 {
     a.row < b.row || (a.row == b.row && a.col < b.col)
-}
-
-// Whether this is another place than the anchor, and in the table.
-fn is_other(anchor: Position, other: Position, rows: usize, columns: usize) -> bool
-    ensures { result ≡ is_other rows columns anchor other }
-{
-    other != anchor && other.row < rows && other.col < columns
 }

@@ -278,6 +278,37 @@ const GOOD: &[(&str, &[Set], &[(usize, usize)], &[(usize, usize)])] = &[
         &[],
         &[(2, 3)],
     ),
+    (
+        // it is not the last of its row that begins before the end of the high one
+        "one behind another reaches into a high one",
+        &[Columns(1, 0, 3), Rows(1, 1, 2), Rows(0, 2, 2)],
+        &[],
+        &[(3, 3)],
+    ),
+    (
+        "a high one beside others, and behind its last row",
+        &[
+            Rows(0, 2, 1000),
+            Columns(0, 0, 2),
+            Columns(700, 0, 2),
+            Columns(999, 3, 2),
+            Columns(1000, 1, 3),
+        ],
+        &[(1001, 5)],
+        &[],
+    ),
+    (
+        "one reaches into the last row of a high one",
+        &[Rows(0, 2, 1000), Columns(700, 0, 2), Columns(999, 1, 2)],
+        &[],
+        &[(1000, 3)],
+    ),
+    (
+        "one begins in the last column and the last row of another",
+        &[Columns(0, 0, 3), Rows(0, 0, 3), Rows(2, 2, 2)],
+        &[],
+        &[(4, 3)],
+    ),
 ];
 
 #[test]

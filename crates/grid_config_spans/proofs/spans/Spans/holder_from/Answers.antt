@@ -1,4 +1,4 @@
-use Rattle.std.proofs.Common.{◌≡◌, ◌∙◌, Bool, true, sym}
+use Rattle.std.proofs.Common.{◌≡◌, ◌∙◌, true, sym}
 use Rattle.std.specs.Ordering.{is_le}
 use Rattle.grid_config_values.specs.Order.{position_cmp}
 use Rattle.grid_config_spans.proofs.Owners.{found_hides, found_passes, goes_on, less_left, none_before_next, none_hides_before, none_left}
