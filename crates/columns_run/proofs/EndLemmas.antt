@@ -65,7 +65,7 @@ stop_tests b false false false e f g stop =
     let both : true ≡ false = sym (ap (λ x. not x && (not (b == tab) && not (b == line_feed))) e ∙ ap (λ x. not x && not (b == line_feed)) f ∙ ap not g) ∙ stop in cc both
 
 module _ (rest : List ℕ) (k : ℕ) (is_run : k ≡ prefix_len is_cell_text rest) where
-  run-within : k ≤ text_len rest
+  pub run-within : k ≤ text_len rest
   run-within = omega (arith, is_run, cell_run rest)
 
   run-fits : k ≤ length rest

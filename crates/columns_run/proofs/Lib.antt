@@ -3,6 +3,7 @@ pub mod BoundLemmas
 pub mod ByteLemmas
 pub mod CellLemmas
 pub mod EndLemmas
+pub mod GatherLemmas
 pub mod ItemLemmas
 pub mod NestedLemmas
 pub mod OneLineLemmas
@@ -23,4 +24,5 @@ pub mod TableLemmas
 pub mod TextLemmas
 pub mod TilingLemmas
 pub mod WalkLemmas
+pub mod WholeLemmas
 pub mod WorkedLemmas

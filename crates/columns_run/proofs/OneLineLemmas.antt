@@ -13,7 +13,6 @@ use Rattle.ansi_str_search.proofs.AllParts.{strip-styled_parts}
 use Rattle.ansi_str_search.proofs.StdSplits.{split_at_one_byte}
 use Rattle.grid_records_measure.specs.TextLines.{is_line_feed, line_feed, widest}
 use Rattle.columns_run.specs.Cells.{Line, byte_line, shown, line_rows, part_line, rows_shown}
-use Rattle.columns_table.specs.Cells.{HasNoEscape}
 use Rattle.columns_table.specs.Records.{IsMeasured, IsOneLine}
 use Rattle.columns_table.specs.Rows.{cut}
 use Rattle.columns_run.specs.Rows.{tab, stripped, places, parts_at, row_parts, cell_parts, rows_of}
@@ -113,19 +112,3 @@ cells-measured text rows whole counted are =
     (of_images IsMeasuredLine shown rows.cells
     (of_cut IsMeasuredLine (vec_items rows.counts) (map shown rows.cells) counted
     (subst (AllByRecursion (AllByRecursion IsMeasuredLine)) (sym are) (rows-measured text whole))))
-
--- ---- cells of a text without ESC
-
-abbrev LineHasNone : Line → Type 0
-LineHasNone line = has_escape line.items ≡ false
-
-pub cells-plain : (text : List ℕ) (rows : Rows) → has_escape text ≡ false → sum (vec_items rows.counts) ≡ length (map shown rows.cells) → rows_shown rows ≡ map (map byte_line) (rows_of (λ b. b) text)
-    → All HasNoEscape rows.cells
-cells-plain text rows none counted are =
-    All-from_recursion HasNoEscape rows.cells
-    (of_images LineHasNone shown rows.cells
-    (of_cut LineHasNone (vec_items rows.counts) (map shown rows.cells) counted
-    (subst (AllByRecursion (AllByRecursion LineHasNone)) (sym are)
-    (AllByRecursion-map_of (AllByRecursion (λ part. has_escape part ≡ false)) (AllByRecursion LineHasNone) (map byte_line)
-    (λ row each. AllByRecursion-map_of (λ part. has_escape part ≡ false) LineHasNone byte_line (λ part plain. plain) row each)
-    (rows_of (λ b. b) text) (plain_cells text none)))))

@@ -1,5 +1,5 @@
 -- What the pass over the bytes of a text knows before each byte, and how a byte changes it.
-use Rattle.std.proofs.Common.{◌≡◌, ℕ, ◌+◌, ◌-◌, ◌<◌, ◌≤◌, ◌&&◌, Bool, true, false, List, [], ◌∷◌, ◌++◌, map, length, sum, take, drop, get_or, refl, ap, sym, ◌∙◌, arith, length-append, length-drop}
+use Rattle.std.proofs.Common.{◌≡◌, ◌≢◌, ℕ, zero, suc, ◌+◌, ◌-◌, ◌<◌, ◌≤◌, ◌==◌, ◌&&◌, ◌||◌, not, nat_lt, Bool, true, false, List, [], ◌∷◌, ◌++◌, map, length, sum, take, drop, get_or, refl, ap, sym, subst, ◌∙◌, arith, length-append, length-drop}
 use Rattle.std.specs.Prelude.{slice_range, IsUtf8}
 use Rattle.std.specs.Int.{is_in_range}
 use Rattle.std.specs.Str.{IsCharBoundary}
@@ -7,6 +7,12 @@ use Rattle.std.proofs.lemmas.Str.{IsCharBoundary-start, IsCharBoundary-after_asc
 use Rattle.std.proofs.lemmas.Bool.Decides.{nat_tests}
 use Rattle.std.proofs.lemmas.List.Folds.{list_all-append}
 use Rattle.std.proofs.lemmas.List.{drop_more, drop_all, take_all, take_more, get_or-drop}
+use Rattle.std.proofs.lemmas.Bool.{and_parts}
+use Rattle.ansi_scan.specs.Sequences.{escape, is_plain}
+use Rattle.memchr.specs.Find.{is_byte3}
+use Rattle.ansi_str_text.specs.StyledText.{has_escape}
+use Rattle.ansi_str_text.proofs.LastLemmas.{has_escape-drop, has_escape-none}
+use Rattle.columns_run.specs.Ends.{is_cell_byte, is_cell_text}
 use Rattle.columns_run.specs.Rows.{line_feed, tab, rows_of}
 use Rattle.columns_run.specs.Cells.{Line, byte_line}
 use Rattle.columns_table.specs.Rows.{cut}
@@ -128,6 +134,71 @@ pub Pass-other : (text : List ℕ) (end start count : ℕ) (plain : Bool) (count
     → (get_or text end 0 ≡ tab → ⊥) → (get_or text end 0 ≡ line_feed → ⊥) → Pass text (end + 1) start count false counts lines
 Pass-other text end start count plain counts lines below pass no_tab no_line_feed =
     Pass-within text end start count plain false counts lines below pass no_tab no_line_feed (λ h. cc)
+
+-- bytes of the present cell
+cell_text : (b : ℕ) → is_cell_text b ≡ true → (b ≢ escape) × (b ≢ tab) × (b ≢ line_feed)
+cell_text b is =
+    let parts = and_parts (is_plain b) (is_cell_byte b) is in
+    let others = and_parts (not (b == tab)) (not (b == line_feed)) parts.1 in
+    (λ same. grind (arith, nat_tests), λ same. grind (arith, nat_tests), λ same. grind (arith, nat_tests))
+
+-- a byte that is not looked for
+pub not-sought : (b : ℕ) → (is_byte3 tab line_feed escape b ≡ true → ⊥) → is_cell_text b ≡ true
+not-sought b other = by (b == tab) (b == line_feed) (b == escape) refl refl refl
+  where
+    by : (is_tab is_feed is_escape : Bool) → (b == tab) ≡ is_tab → (b == line_feed) ≡ is_feed → (b == escape) ≡ is_escape → is_cell_text b ≡ true
+    by true is_feed is_escape e f g = absurd (other (ap (λ t. (t || b == line_feed) || b == escape) e))
+    by false true is_escape e f g = absurd (other (ap (λ t. (t || b == line_feed) || b == escape) e ∙ ap (λ t. t || b == escape) f))
+    by false false true e f g = absurd (other (ap (λ t. (t || b == line_feed) || b == escape) e ∙ ap (λ t. t || b == escape) f ∙ g))
+    by false false false e f g =
+        ap (λ t. not t && (not (b == tab) && not (b == line_feed))) g ∙ ap (λ t. not t && not (b == line_feed)) e ∙ ap not f
+
+pub Pass-text : (text : List ℕ) (end size start count : ℕ) (plain : Bool) (counts : List ℕ) (lines : List (Line)) → end + size ≤ length text → Pass text end start count plain counts lines
+    → ((k : ℕ) → end ≤ k → k < end + size → is_cell_text (get_or text k 0) ≡ true) → Pass text (end + size) start count false counts lines
+Pass-text text end zero start count plain counts lines fits pass each =
+    let none : end ≡ end + 0 = omega arith in
+    subst (λ n. Pass text n start count false counts lines) none
+    (record { ordered = pass.ordered; few = pass.few; boundary = pass.boundary; printable = λ h. cc h; whole = pass.whole; rows = pass.rows })
+Pass-text text end (suc size) start count plain counts lines fits pass each =
+    let more : end + 1 + size ≡ end + suc size = omega arith in
+    let here : end < end + suc size = omega arith in
+    let below : end < length text = omega (arith, fits) in
+    let is = cell_text (get_or text end 0) (each end (omega arith) here) in
+    subst (λ n. Pass text n start count false counts lines) more
+    (Pass-text text (end + 1) size start count false counts lines (omega (arith, fits))
+    (Pass-other text end start count plain counts lines below pass is.1 is.2)
+    (λ k low high. each k (omega (arith, low)) (omega (arith, high))))
+
+-- ---- no ESC so far
+
+-- none of the bytes before `end` is ESC
+abbrev pub Clear : List ℕ → ℕ → Type 0
+Clear text end = (k : ℕ) → k < end → get_or text k 0 ≢ escape
+
+pub Clear-start : (text : List ℕ) → Clear text 0
+Clear-start text = λ k below. absurd (omega (arith, below))
+
+pub Clear-text : (text : List ℕ) (end to : ℕ) → Clear text end → ((k : ℕ) → end ≤ k → k < to → get_or text k 0 ≢ escape) → Clear text to
+Clear-text text end to clear each = λ k below. by k below (nat_lt k end) refl
+  where
+    by : (k : ℕ) → k < to → (before : Bool) → nat_lt k end ≡ before → get_or text k 0 ≢ escape
+    by k below true e = clear k (grind (arith, nat_tests))
+    by k below false e = let low : end ≤ k = grind (arith, nat_tests) in each k low below
+
+pub Clear-more : (text : List ℕ) (end : ℕ) → Clear text end → get_or text end 0 ≢ escape → Clear text (end + 1)
+Clear-more text end clear here = Clear-text text end (end + 1) clear (λ k low below. let same : end ≡ k = omega (arith, low, below) in subst (λ n. get_or text n 0 ≢ escape) same here)
+
+pub Clear-size : (text : List ℕ) (end size : ℕ) → Clear text end → ((k : ℕ) → end ≤ k → k < end + size → is_cell_text (get_or text k 0) ≡ true) → Clear text (end + size)
+Clear-size text end size clear each = Clear-text text end (end + size) clear (λ k low below. (cell_text (get_or text k 0) (each k low below)).0)
+
+pub Clear-all : (text : List ℕ) (end : ℕ) → length text ≤ end → Clear text end → has_escape text ≡ false
+Clear-all text end all clear = has_escape-none text (λ k below. clear k (omega (arith, below, all)))
+
+pub escape-stands : (text : List ℕ) (end : ℕ) → end < length text → get_or text end 0 ≡ escape → ¬ (has_escape text ≡ false)
+escape-stands text end below here = λ none.
+    let found : has_escape (get_or text end 0 ∷ drop (end + 1) text) ≡ false = ap has_escape (sym (drop_more text end 0 below)) ∙ has_escape-drop end text none in
+    let true_is_false : true ≡ false = sym (ap (λ b. (b == escape) || has_escape (drop (end + 1) text)) here) ∙ found in
+    cc true_is_false
 
 -- ---- the end
 

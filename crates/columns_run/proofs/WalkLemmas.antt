@@ -5,7 +5,7 @@ use Rattle.std.specs.List.{prefix_len}
 use Rattle.std.proofs.lemmas.Bool.Decides.{nat_tests}
 use Rattle.std.proofs.lemmas.List.{drop-append-le, drop_all}
 use Rattle.std.proofs.lemmas.List.Sums.{prefix_len-le-length}
-use Rattle.ansi_scan.specs.Sequences.{Piece, joined, EachStands, NoneBroken, is_plain}
+use Rattle.ansi_scan.specs.Sequences.{Piece, joined, EachStands, IsWhole, is_plain}
 use Rattle.ansi_scan.specs.Joining.{is_text_kind}
 use Rattle.ansi_scan.specs.Pieces.{pieces, text_len}
 use Rattle.ansi_scan.specs.Attributes.{Attributes, plain_attributes}
@@ -28,6 +28,7 @@ use Rattle.columns_table.specs.Rows.{cut}
 use Rattle.columns_run.proofs.RowLemmas.{cut-append, cut-more, sum-more}
 use Rattle.columns_run.proofs.EndLemmas.{shown_first, shown_none}
 use Rattle.columns_run.proofs.BoundLemmas.{cells_from, cells_from-pass, cells_from-start}
+use Rattle.columns_run.proofs.WholeLemmas.{pieces-whole}
 
 -- ---- the sequences at a place are passed on the way behind it
 
@@ -154,18 +155,18 @@ pub record Walked (text rest : List ℕ) (style : Attributes) (end : List ℕ) (
   pub ends : EndsCell rest style end end_style
   pub counted : before ≡ sum counts
   pub fits : before ≤ length cells
-  pub rows : cut counts cells ++ cells_from (part_at text) (drop before cells) place place (stripped rest) ≡ cell_parts text
+  pub rows : IsWhole text → cut counts cells ++ cells_from (part_at text) (drop before cells) place place (stripped rest) ≡ cell_parts text
 
-pub Walked-start : (text rest : List ℕ) (style : Attributes) (end : List ℕ) (end_style : Attributes) → NoneBroken (pieces text) → rest ≡ text → style ≡ plain_attributes → EndsCell rest style end end_style
+pub Walked-start : (text rest : List ℕ) (style : Attributes) (end : List ℕ) (end_style : Attributes) → rest ≡ text → style ≡ plain_attributes → EndsCell rest style end end_style
     → Walked text rest style end end_style [] 0 []
-Walked-start text rest style end end_style whole is_rest is_style ends = record {
+Walked-start text rest style end end_style is_rest is_style ends = record {
   place = 0;
   there = ap pieces is_rest ∙ sym (from-none (pieces text));
   known = is_style ∙ ap (style_after_all plain_attributes) (sym (before-none (pieces text)));
   ends = ends;
   counted = refl;
   fits = omega arith;
-  rows = ap (λ bytes. cells_from (part_at text) [] 0 0 (stripped bytes)) is_rest ∙ cells_from-start text whole;
+  rows = λ whole. ap (λ bytes. cells_from (part_at text) [] 0 0 (stripped bytes)) is_rest ∙ cells_from-start text (pieces-whole text whole);
 }
 
 module _ (text rest : List ℕ) (style : Attributes) (end : List ℕ) (end_style : Attributes) (counts : List ℕ) (before : ℕ) (cells : List (List ℕ)) (walked : Walked text rest style end end_style counts before cells) where
@@ -264,7 +265,7 @@ module _ (text rest : List ℕ) (style : Attributes) (end : List ℕ) (end_style
           ends = next_ends;
           counted = walked.counted;
           fits = omega (arith, fits, ap length is, length-append cells (cell ∷ []));
-          rows =
+          rows = λ whole.
               ap (λ found. cut counts found ++ at_next (drop before found)) is
               ∙ ap (λ rows. rows ++ at_next (drop before (cells ++ cell ∷ []))) (cut-append counts cells (cell ∷ []) within)
               ∙ ap (λ row. cut counts cells ++ at_next row) (drop-append-le before cells (cell ∷ []) fits)
@@ -273,7 +274,7 @@ module _ (text rest : List ℕ) (style : Attributes) (end : List ℕ) (end_style
               ∙ ap (λ t. cond t ((drop before cells ++ cell ∷ []) ∷ at_next []) (cond (slice_index end 0 == tab) (at_next (drop before cells ++ cell ∷ [])) (cells_from (part_at text) (drop before cells) walked.place (walked.place + size + 1) (stripped next)))) (sym other)
               ∙ ap (cells_from (part_at text) (drop before cells) walked.place (walked.place + size)) (sym left)
               ∙ sym ahead)
-              ∙ walked.rows;
+              ∙ walked.rows whole;
         }
 
     -- a cell that a line feed ends
@@ -293,7 +294,7 @@ module _ (text rest : List ℕ) (style : Attributes) (end : List ℕ) (end_style
           ends = next_ends;
           counted = (let total : length pushed ≡ sum ended = omega (arith, ap sum ends, sum-more counts (length pushed - before), all) in total);
           fits = none;
-          rows =
+          rows = λ whole.
               ap (λ row. cut ended pushed ++ at_next row) (drop_all (length pushed) pushed none)
               ∙ ap (λ found. cut found pushed ++ at_next []) ends
               ∙ ap (λ rows. rows ++ at_next []) (ended-cut counts before pushed cells cell is walked.counted fits all)
@@ -302,7 +303,7 @@ module _ (text rest : List ℕ) (style : Attributes) (end : List ℕ) (end_style
               ap (λ t. cond t ((drop before cells ++ cell ∷ []) ∷ at_next []) (cond (slice_index end 0 == tab) (at_next (drop before cells ++ cell ∷ [])) (cells_from (part_at text) (drop before cells) walked.place (walked.place + size + 1) (stripped next)))) (sym same)
               ∙ ap (cells_from (part_at text) (drop before cells) walked.place (walked.place + size)) (sym left)
               ∙ sym ahead)
-              ∙ walked.rows;
+              ∙ walked.rows whole;
         }
 
   -- ---- the end of the text
@@ -321,16 +322,16 @@ module _ (text rest : List ℕ) (style : Attributes) (end : List ℕ) (end_style
     size-within : size ≤ length (stripped rest)
     size-within = prefix_len-le-length is_cell_byte (stripped rest)
 
-    last-rows : (empty : Bool) → (length (drop before cells) + (walked.place + size - walked.place) == 0) ≡ empty → cut counts cells ++ (if empty then [] else (drop before cells ++ cell ∷ []) ∷ []) ≡ cell_parts text
-    last-rows empty e =
+    last-rows : IsWhole text → (empty : Bool) → (length (drop before cells) + (walked.place + size - walked.place) == 0) ≡ empty → cut counts cells ++ (if empty then [] else (drop before cells ++ cell ∷ []) ∷ []) ≡ cell_parts text
+    last-rows whole empty e =
         ap (λ t. cut counts cells ++ (if t then [] else (drop before cells ++ cell ∷ []) ∷ [])) (sym e)
         ∙ ap (λ bytes. cut counts cells ++ cells_from (part_at text) (drop before cells) walked.place (walked.place + size) bytes) (sym none-left)
         ∙ ap (λ rows. cut counts cells ++ rows) (sym ahead)
-        ∙ walked.rows
+        ∙ walked.rows whole
 
-    pub Walked-last : (pushed : List (List ℕ)) (ended : List ℕ) → pushed ≡ cells ++ cell ∷ [] → ended ≡ counts ++ (length pushed - before) ∷ [] → 0 < length cells - before + length (stripped rest)
+    pub Walked-last : IsWhole text → (pushed : List (List ℕ)) (ended : List ℕ) → pushed ≡ cells ++ cell ∷ [] → ended ≡ counts ++ (length pushed - before) ∷ [] → 0 < length cells - before + length (stripped rest)
         → (sum ended ≡ length pushed) × (cut ended pushed ≡ cell_parts text)
-    Walked-last pushed ended is ends some =
+    Walked-last text_whole pushed ended is ends some =
         let fits = walked.fits in
         let counted = walked.counted in
         let all = size-all in
@@ -339,16 +340,16 @@ module _ (text rest : List ℕ) (style : Attributes) (end : List ℕ) (end_style
         let more : 0 < length (drop before cells) + (walked.place + size - walked.place) = omega (arith, length-drop before cells, all, some) in
         let test : (length (drop before cells) + (walked.place + size - walked.place) == 0) ≡ false = grind (arith, nat_tests) in (
           (let whole : sum ended ≡ length pushed = omega (arith, ap sum ends, sum-more counts (length pushed - before), total) in whole),
-          ap (λ found. cut found pushed) ends ∙ ended-cut counts before pushed cells cell is walked.counted fits total ∙ last-rows false test,
+          ap (λ found. cut found pushed) ends ∙ ended-cut counts before pushed cells cell is walked.counted fits total ∙ last-rows text_whole false test,
         )
 
-    pub Walked-none : length cells ≤ before → length (stripped rest) ≡ 0 → (sum counts ≡ length cells) × (cut counts cells ≡ cell_parts text)
-    Walked-none full none =
+    pub Walked-none : IsWhole text → length cells ≤ before → length (stripped rest) ≡ 0 → (sum counts ≡ length cells) × (cut counts cells ≡ cell_parts text)
+    Walked-none text_whole full none =
         let fits = walked.fits in
         let counted = walked.counted in
         let within = size-within in
         let no_more : length (drop before cells) + (walked.place + size - walked.place) ≡ 0 = omega (arith, length-drop before cells, within, none, full) in
         let test : (length (drop before cells) + (walked.place + size - walked.place) == 0) ≡ true = eq-eqb (length (drop before cells) + (walked.place + size - walked.place)) 0 no_more in (
           (let whole : sum counts ≡ length cells = omega (arith, fits, counted, full) in whole),
-          sym (append-nil (cut counts cells)) ∙ last-rows true test,
+          sym (append-nil (cut counts cells)) ∙ last-rows text_whole true test,
         )

@@ -6,3 +6,4 @@ pub mod Layout
 pub mod Plain
 pub mod Rows
 pub mod Run
+pub mod Styled

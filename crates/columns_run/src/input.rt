@@ -7,9 +7,9 @@ ghost use Rattle.columns_run.specs.Fault.{IsOfReading};
 ghost use Rattle.tabled_output.specs.Streams.{ConsumesSome};
 
 use crate::fault::RunFault;
+use simdutf8::compat;
 use std::alloc::Global;
 use std::io::Read;
-use std::str;
 use tabled_output::Counted;
 
 // How many bytes one read asks for.
@@ -57,7 +57,7 @@ pub fn text_of(bytes: &[u8]) -> Result<&str, RunFault>
     ensures err { IfErr result (λ fault. ¬ (IsUtf8 bytes.now)
         × (fault ≡ RunFault.NotUtf8 (utf8_valid_len bytes.now))) }
 {
-    str::from_utf8(bytes).map_err(|error| RunFault::NotUtf8 {
+    compat::from_utf8(bytes).map_err(|error| RunFault::NotUtf8 {
         at: error.valid_up_to(),
     })
 }

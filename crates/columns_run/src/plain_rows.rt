@@ -1,51 +1,72 @@
 //! The rows and cells of a text, which borrow it.
-ghost use Rattle.std.specs.Prelude.{◌≡◌, [], ◌∷◌, ◌++◌, length, map, sum, IfOk, OnOk, IsTrue};
+ghost use Rattle.std.specs.Prelude.{◌≡◌, ◌≤◌, ◌<◌, ◌↔◌, ℕ, true, false, chars, length, map, slice_index, sum, IfOk, IfSome, IsSome, IsTrue};
 ghost use Rattle.std.specs.Int.{is_in_range};
+ghost use Rattle.ansi_str_text.specs.StyledText.{has_escape};
 ghost use Rattle.columns_run.specs.Rows.{rows_of};
-ghost use Rattle.columns_run.specs.Cells.{shown, byte_line, rows_shown};
-ghost use Rattle.grid_records_measure.specs.Measures.{are_printable};
+ghost use Rattle.columns_run.specs.Cells.{byte_line, rows_shown};
+ghost use Rattle.columns_run.specs.Ends.{is_cell_text};
+ghost use Rattle.grid_records_measure.specs.Measures.{are_printable, measure};
 
-use columns_table::{LineCell, LineCells, Rows};
+use columns_table::{CellEnd, CellEnds, LineCells, Rows};
 use grid_records_measure::get_string_width;
+use memchr::memchr3;
 use std::alloc::{AllocError, Global};
 
-/// The rows of a text, each cell measured once. They borrow the text, and it fails only where allocation fails.
-pub fn rows_of<'a>(alloc: Global, text: &'a str) -> Result<Rows<'a>, AllocError>
-    ensures whole { IfOk result (λ rows. sum rows.counts.items ≡ length rows.cells) }
-    ensures rows { IfOk result (λ rows. rows_shown rows ≡ map (map byte_line) (rows_of (λ b. b) text.now)) }
+/// ESCAPE (ECMA-48, 8.3.48).
+const ESC: u8 = 0x1b;
+
+/// The rows of a text without ESC, each cell measured once, and none of a text that has one. They borrow the
+/// text, which is read once, and it fails only where allocation fails.
+pub fn rows_of<'a>(alloc: Global, text: &'a str) -> Result<Option<Rows<'a>>, AllocError>
+    ensures plain { IfOk result (λ found. IsSome found ↔ (has_escape text.now ≡ false)) }
+    ensures whole { IfOk result (λ found. IfSome found (λ rows. sum rows.counts.items ≡ length rows.cells)) }
+    ensures rows { IfOk result (λ found. IfSome found (λ rows. rows_shown rows ≡ map (map byte_line) (rows_of (λ b. b) text.now))) }
 {
-    let mut cells = LineCells::new(alloc);
+    let mut ends = CellEnds::new(alloc)?;
     let mut counts = Vec::new(alloc);
-    let mut count = 0;
-    let mut start = 0;
+    let (mut count, mut start, mut end) = (0, 0, 0);
     let mut plain = true;
     let bytes = text.as_bytes();
-    for (end, byte) in bytes.iter().enumerate() {
-        match *byte {
-            byte if is_printable(byte) => {}
+    while end < bytes.len() {
+        match bytes[end] {
+            byte if is_printable(byte) => end += 1,
             b'\t' | b'\n' => {
-                push_cell(&mut cells, &text[start..end], plain)?;
+                ends.push(cell_end(&text[start..end], end, plain))?;
                 count += 1;
-                start = end + 1;
-                plain = true;
-                if *byte == b'\n' {
+                if bytes[end] == b'\n' {
                     counts.push(count)?;
                     count = 0;
                 }
+                end += 1;
+                start = end;
+                plain = true;
             }
-            _ => plain = false,
+            ESC => return Ok(None),
+            _ => {
+                plain = false;
+                end = text_end(bytes, end + 1);
+            }
         }
     }
     // A last row without characters is none.
     if count > 0 || start < text.len() {
-        push_cell(&mut cells, &text[start..], plain)?;
+        ends.push(cell_end(&text[start..], end, plain))?;
         counts.push(count + 1)?;
     }
-    Ok(Rows {
-        cells,
-        counts,
-        plain: false,
-    })
+    let cells = LineCells::of(text, ends);
+    Ok(Some(Rows { cells, counts }))
+}
+
+/// Where the first tab, line feed or ESC stands from `start` on; the end where there is none.
+fn text_end(bytes: &[u8], start: usize) -> usize
+    requires { start ≤ length bytes.now }
+    ensures within { (start ≤ result) × (result ≤ length bytes.now) }
+    ensures text { (k : ℕ) → start ≤ k → k < result → is_cell_text (slice_index bytes.now k) ≡ true }
+{
+    match memchr3(b'\t', b'\n', ESC, &bytes[start..]) {
+        Some(size) => start + size,
+        None => bytes.len(),
+    }
 }
 
 /// Whether a byte is a printable ASCII character, which takes one column.
@@ -55,17 +76,17 @@ fn is_printable(byte: u8) -> bool
     matches!(byte, b' '..=b'~')
 }
 
-/// Appends a cell, measured. Where it is `plain`, it has printable ASCII alone, and a byte takes a column.
+/// A cell with this text, measured, that ends here. Where it is `plain`, it has printable ASCII alone, and a byte
+/// takes a column.
 #[inline(always)]
-fn push_cell<'a>(cells: &mut LineCells<'a>, text: &'a str, plain: bool) -> Result<(), AllocError>
+fn cell_end(text: &str, end: usize, plain: bool) -> CellEnd
     requires { IsTrue plain → IsTrue (are_printable text.now) }
-    ensures { OnOk result (map shown cells.new ≡ map shown cells.old ++ byte_line text.now ∷ []) }
+    ensures { result ≡ record { end = end; width = measure (chars text.now) } }
 {
     let width = if plain {
         text.len()
     } else {
         get_string_width(text)
     };
-    cells.push(LineCell { text, width })?;
-    Ok(())
+    CellEnd { end, width }
 }

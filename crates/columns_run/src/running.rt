@@ -11,9 +11,7 @@ ghost use Rattle.columns_run.specs.Run.{MayAnswer, Serves, LeavesAlone, HasReadA
 
 use crate::fault::RunFault;
 use crate::input::{read_all, text_of};
-use crate::layout::{plain_table, styled_table};
-use ansi_scan::first_broken;
-use ansi_str::AnsiStr;
+use crate::layout::text_table;
 use columns_options::Options;
 use grid_config::CompactConfig;
 use std::alloc::Global;
@@ -128,12 +126,5 @@ fn table_of(alloc: Global, options: &Options, bytes: &[u8]) -> Result<String, Ru
     ensures table { IfOk result (λ table. string_bytes table ≡ output_of options.now bytes.now) }
     ensures faults { IfErr result IsOfInput }
 {
-    let text = text_of(bytes)?;
-    if !text.ansi_has_any() {
-        return plain_table(alloc, options, text);
-    }
-    if let Some(at) = first_broken(text) {
-        return Err(RunFault::Escape { at });
-    }
-    styled_table(alloc, options, text)
+    text_table(alloc, options, text_of(bytes)?)
 }

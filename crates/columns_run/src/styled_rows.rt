@@ -1,80 +1,122 @@
 //! The rows and cells of a text with escape sequences: its parts at line feeds, and their parts at tabs. Each part opens
 //! and ends its own styles. A part of a part is one part of the text, so one walk finds the cells.
-ghost use Rattle.std.specs.Prelude.{◌≡◌, ◌<◌, ◌==◌, ℕ, drop, length, map, slice_index, sum, vec_len, IfOk};
-ghost use Rattle.std.specs.Cow.{cow_str_bytes};
+ghost use Rattle.std.specs.Prelude.{◌≡◌, ◌<◌, ◌==◌, ◌↔◌, ◌++◌, ℕ, List, chars, drop, length, slice_index, string_bytes, sum, IfOk, IfSome, IsNone, IsSome, OnOk};
 ghost use Rattle.std.specs.List.{prefix_len};
 ghost use Rattle.ansi_scan.specs.Sequences.{IsWhole};
 ghost use Rattle.ansi_scan.specs.Pieces.{pieces};
 ghost use Rattle.ansi_str_search.specs.Walking.{AreFirstAndRest};
-ghost use Rattle.columns_run.specs.Rows.{line_feed, stripped, cell_parts};
-ghost use Rattle.columns_run.specs.Cells.{shown, part_line};
+ghost use Rattle.columns_run.specs.Rows.{line_feed, stripped};
+ghost use Rattle.columns_run.specs.Cells.{line_rows};
 ghost use Rattle.columns_run.specs.Ends.{is_cell_text, EndsCell};
+ghost use Rattle.columns_run.specs.Styled.{AddsCell, cell_lines, part_between};
+ghost use Rattle.columns_table.specs.Ends.{AreCellEnds};
 ghost use Rattle.columns_table.specs.Rows.{cut};
-ghost use Rattle.grid_records_measure.specs.Measures.{are_printable};
+ghost use Rattle.grid_records_measure.specs.Measures.{are_printable, measure};
 
 use ansi_scan::Kind;
 use ansi_str::get_blocks;
 use ansi_str_search::{Place, begins_with_escape, split_item};
-use columns_table::{LineCell, LineCells};
+use columns_table::{CellEnd, CellEnds};
 use grid_records_measure::get_line_width;
 use std::alloc::{AllocError, Global};
-use std::borrow::CowStr;
 
 /// ESCAPE (ECMA-48, 8.3.48).
 const ESC: u8 = 0x1b;
 
-/// The cells of all rows, one row after the other, and how many each row has: the parts at tabs of the parts at line
-/// feeds, but for a last row that shows nothing.
-pub fn cell_parts<'a>(
-    alloc: Global,
-    text: &'a str,
-) -> Result<(Vec<CowStr<'a>>, Vec<usize>), AllocError>
-    requires { IsWhole text.now }
-    ensures whole { IfOk result (λ found. sum found.1.items ≡ vec_len found.0) }
-    ensures cells { IfOk result (λ found. cut found.1.items (map cow_str_bytes found.0.items) ≡ cell_parts text.now) }
+/// Cells with their own styles opened and ended, one behind the other in a text of their own, each before a line
+/// feed.
+#[derive(Drop)]
+pub struct StyledCells {
+    /// The text that they stand in.
+    pub text: String,
+    /// Where each of them ends there.
+    pub ends: CellEnds,
+    /// How many each row has.
+    pub counts: Vec<usize>,
+}
+
+/// The cells of all rows: the parts at tabs of the parts at line feeds, but for a last row that shows nothing. None
+/// where the text is not whole.
+pub fn styled_cells(alloc: Global, text: &str) -> Result<Option<StyledCells>, AllocError>
+    ensures whole { IfOk result (λ found. IsSome found ↔ IsWhole text.now) }
+    ensures fit { IfOk result (λ found. IfSome found (λ cells. AreCellEnds (string_bytes cells.text) cells.ends)) }
+    ensures long { IfOk result (λ found. IfSome found (λ cells. sum cells.counts.items ≡ length cells.ends)) }
+    ensures cells { IfOk result (λ found. IfSome found (λ cells. cut cells.counts.items (cell_lines cells) ≡ line_rows text.now)) }
 {
-    let mut cells = Vec::new(alloc);
-    let mut counts = Vec::new(alloc);
-    // how many cells stand before the row
-    let mut before = 0;
+    let mut found = StyledCells {
+        text: String::new(alloc),
+        ends: CellEnds::new(alloc)?,
+        counts: Vec::new(alloc),
+    };
+    let mut count = 0;
     let mut place = Place::start_of(text);
-    let mut end = cell_end(&place);
+    let Some(mut end) = cell_end(&place) else {
+        return Ok(None);
+    };
     while !end.rest.is_empty() {
-        cells.push(place.part_to(alloc, &end)?)?;
+        push_cell(alloc, &mut found, &place, &end)?;
+        count += 1;
         if begins_with_line_feed(end.rest) {
-            counts.push(cells.len() - before)?;
-            before = cells.len();
+            found.counts.push(count)?;
+            count = 0;
         }
         place = Place {
             rest: behind_separator(end.rest),
             style: end.style,
         };
-        end = cell_end(&place);
+        end = match cell_end(&place) {
+            Some(end) => end,
+            None => return Ok(None),
+        };
     }
     // A last row that shows nothing is none.
-    if cells.len() > before || !is_bare(place.rest) {
-        cells.push(place.part_to(alloc, &end)?)?;
-        counts.push(cells.len() - before)?;
+    if count > 0 || !is_bare(place.rest) {
+        push_cell(alloc, &mut found, &place, &end)?;
+        found.counts.push(count + 1)?;
     }
-    Ok((cells, counts))
+    Ok(Some(found))
 }
 
-/// Where the cell that begins here ends, behind the sequences there.
-fn cell_end<'a>(place: &Place<'a>) -> Place<'a>
-    ensures { EndsCell place.now.rest.now place.now.style result.rest.now result.style }
+/// Appends what stands from here to the end as a cell, measured.
+fn push_cell<'a>(
+    alloc: Global,
+    cells: &mut StyledCells,
+    place: &Place<'a>,
+    end: &Place<'a>,
+) -> Result<(), AllocError>
+    requires { (slice : List ℕ) × (place.now.rest.now ≡ slice ++ end.now.rest.now) }
+    ensures cells { OnOk result (AddsCell cells.old cells.new (part_between place.now.rest.now place.now.style end.now.rest.now end.now.style)) }
+    ensures counts { cells.new.counts ≡ cells.old.counts }
+{
+    let part = place.part_to(alloc, end)?;
+    let width = part_width(&part);
+    cells.text.push_str(&part)?;
+    let end = cells.text.len();
+    cells.ends.push(CellEnd { end, width })?;
+    cells.text.push_str("\n")?;
+    Ok(())
+}
+
+/// Where the cell that begins here ends, behind the sequences there; nowhere where one of them is broken.
+fn cell_end<'a>(place: &Place<'a>) -> Option<Place<'a>>
+    ensures cell { IfSome result (λ end. EndsCell place.now.rest.now place.now.style end.rest.now end.style) }
+    ensures whole { IfSome result (λ end. IsWhole end.rest.now → IsWhole place.now.rest.now) }
+    ensures broken { IsNone result → ¬ IsWhole place.now.rest.now }
 {
     let mut end = Place {
         rest: past_text(place.rest),
         style: place.style,
     };
     while begins_with_escape(end.rest) {
-        let behind = past_sequence(&end);
+        let Some(behind) = past_sequence(&end) else {
+            return None;
+        };
         end = Place {
             rest: past_text(behind.rest),
             style: behind.style,
         };
     }
-    end
+    Some(end)
 }
 
 /// The text behind the first bytes, before a sequence, a tab or a line feed.
@@ -96,23 +138,23 @@ fn text_size(text: &str) -> usize
     text.len()
 }
 
-/// Behind the sequence that stands here.
-fn past_sequence<'a>(place: &Place<'a>) -> Place<'a>
+/// Behind the sequence that stands here; nowhere where it is broken.
+fn past_sequence<'a>(place: &Place<'a>) -> Option<Place<'a>>
     requires { 0 < length place.now.rest.now }
-    ensures first { AreFirstAndRest place.now.style (pieces place.now.rest.now) result.style (pieces result.rest.now) }
-    ensures shorter { length result.rest.now < length place.now.rest.now }
+    ensures first { IfSome result (λ behind. AreFirstAndRest place.now.style (pieces place.now.rest.now) behind.style (pieces behind.rest.now)) }
+    ensures shorter { IfSome result (λ behind. length behind.rest.now < length place.now.rest.now) }
+    ensures whole { IfSome result (λ behind. IsWhole place.now.rest.now ↔ IsWhole behind.rest.now) }
+    ensures broken { IsNone result → ¬ IsWhole place.now.rest.now }
 {
     let Some((kind, bytes, rest)) = split_item(place.rest) else {
-        return Place {
-            rest: place.rest,
-            style: place.style,
-        };
+        return None;
     };
     let style = match kind {
+        Kind::Broken => return None,
         Kind::Sgr => place.style.apply(bytes),
         _ => place.style,
     };
-    Place { rest, style }
+    Some(Place { rest, style })
 }
 
 /// Behind the tab or the line feed that stands first.
@@ -131,28 +173,16 @@ fn begins_with_line_feed(text: &str) -> bool
     text.as_bytes()[0] == b'\n'
 }
 
-/// The parts as cells, each measured without its sequences.
-pub fn measured<'a>(alloc: Global, parts: &'a [CowStr<'a>]) -> Result<LineCells<'a>, AllocError>
-    ensures { IfOk result (λ cells. map shown cells ≡ map part_line (map cow_str_bytes parts.now)) }
-{
-    let mut cells = LineCells::with_capacity(alloc, parts.len())?;
-    for part in parts {
-        cells.push(measured_cell(part))?;
-    }
-    Ok(cells)
-}
-
-/// The part as a cell.
-fn measured_cell(part: &str) -> LineCell<'_>
-    ensures { shown result ≡ part_line part.now }
+/// The columns of a part, without its sequences.
+fn part_width(part: &str) -> usize
+    ensures { result ≡ measure (chars (stripped part.now)) }
 {
     // a byte takes a column where all are printable, as in most cells
-    let width = if is_printable(part) {
+    if is_printable(part) {
         part.len()
     } else {
         get_line_width(part)
-    };
-    LineCell { text: part, width }
+    }
 }
 
 /// Whether each byte is printable ASCII.

@@ -1,9 +1,9 @@
 -- Where each cell takes one column and one row, a column is as wide as its widest cell needs; and where each is one line, all rows are as high.
-use Rattle.std.proofs.Common.{◌≡◌, ◌==◌, ◌&&◌, ◌≢◌, ℕ, zero, suc, ◌+◌, ◌-◌, ◌<◌, ◌≤◌, max, min, All, Bool, true, false, if◌then◌else◌, List, [], ◌∷◌, ◌++◌, map, length, sum, take, drop, replicate, get_or, slice_index, refl, ap, sym, subst, ◌∙◌, arith}
+use Rattle.std.proofs.Common.{◌≡◌, ◌==◌, ◌&&◌, ℕ, zero, suc, ◌+◌, ◌-◌, ◌<◌, ◌≤◌, max, All, Bool, true, false, if◌then◌else◌, List, [], ◌∷◌, ◌++◌, map, length, sum, take, drop, replicate, get_or, refl, ap, sym, ◌∙◌, arith}
 use Rattle.std.specs.List.{filter, flat_map, fold, range_with_len}
 use Rattle.std.proofs.lemmas.Bool.Decides.{nat_tests}
 use Rattle.std.proofs.Math.Seq.{drop-cons, take-append_seam}
-use Rattle.std.proofs.lemmas.List.{drop-drop, get_or-map, length-map}
+use Rattle.std.proofs.lemmas.List.{get_or-map, length-map}
 use Rattle.std.proofs.lemmas.List.Elements.{All-drop, All-take}
 use Rattle.std.proofs.lemmas.Simd.{map-map}
 use Rattle.ansi_scan.specs.Pieces.{pieces}
@@ -14,7 +14,6 @@ use Rattle.grid_records_estimate.specs.Estimates.{Axis, greatest, least_size, le
 use Rattle.grid_records_estimate.specs.Sizes.{table_heights, table_widths}
 use Rattle.grid_records_estimate.specs.Sizing.{column_axis, compact_sizing, place, row_axis}
 use Rattle.grid_records_measure.specs.TextLines.{text_height, text_width}
-use Rattle.grid_records_traits.specs.Cells.{HasLineCount}
 use Rattle.grid_records_traits.specs.Rows.{fitted, fitted_row, text_at}
 use Rattle.columns_asked.specs.Layout.{column_count, heights_of, widths_of}
 use Rattle.columns_table.specs.Least.{padded, width_in}

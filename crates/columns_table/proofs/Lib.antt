@@ -1,5 +1,7 @@
 pub mod AnswerLemmas
 pub mod CellLemmas
+pub mod EndLemmas
+pub mod KeptEndLemmas
 pub mod KeptLemmas
 pub mod LeastLemmas
 pub mod NarrowedLemmas
@@ -8,4 +10,5 @@ pub mod PlacedLemmas
 pub mod RecordLemmas
 pub mod RoomLemmas
 pub mod SizeLemmas
+pub mod StartLemmas
 pub mod WidenLemmas

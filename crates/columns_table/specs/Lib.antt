@@ -1,7 +1,9 @@
 pub mod Answers
 pub mod CellRows
 pub mod Cells
+pub mod Ends
 pub mod Kept
+pub mod KeptEnds
 pub mod Least
 pub mod Records
 pub mod Rows

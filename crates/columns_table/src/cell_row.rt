@@ -1,37 +1,56 @@
 //! Cells that stand side by side.
-ghost use Rattle.std.specs.Prelude.{◌≡◌, ◌≤◌, length, slice_index_or, slice_range};
+ghost use Rattle.std.specs.Prelude.{◌≡◌, ◌≤◌, ◌<◌, ◌+◌, ◌-◌, length, slice_index, slice_index_or, slice_range};
+ghost use Rattle.grid_records_traits.specs.PlainRows.{AreStarts};
 
 use crate::cells::LineCell;
 
-/// Some cells: their texts, and the columns that these take, from the first on. Behind the last of the
-/// columns a text takes its bytes.
+/// Some cells of a text: where each begins and where one more would, and the columns that they take, from the
+/// first on. Behind the last of the columns a cell takes its bytes.
 #[derive(Clone, Copy)]
 pub(crate) struct CellRow<'b, 'a> {
-    pub texts: &'b [&'a str],
+    pub text: &'a str,
+    pub starts: &'b [usize],
     pub widths: &'b [usize],
-    ghost within: { length widths.now ≤ length texts.now },
+    ghost begun: { AreStarts text.now starts.now },
+    ghost within: { length widths.now ≤ length starts.now - 1 },
 }
 
 impl<'b, 'a> CellRow<'b, 'a> {
-    ghost use Rattle.std.specs.Prelude.{◌≡◌, ◌≤◌, drop, length, slice_get, slice_range, take};
-    ghost use Rattle.columns_table.specs.Cells.{cells_of};
+    ghost use Rattle.std.specs.Prelude.{◌≡◌, ◌≤◌, ◌<◌, ◌+◌, ◌-◌, drop, length, slice_get, slice_range, take};
+    ghost use Rattle.std.specs.Option.{option_map};
+    ghost use Rattle.grid_records_traits.specs.PlainRows.{AreStarts, texts_at};
+    ghost use Rattle.columns_table.specs.Cells.{anywhere, cells_of};
     ghost use Rattle.columns_table.specs.CellRows.{row_cells};
+    ghost use Rattle.columns_table.specs.Least.{width_in};
 
-    /// The cells of these texts and columns from `start` on before `end`, as far as there are any.
+    /// The cells of the text that begin at these places, with these columns, from `start` on before `end`, as
+    /// far as there are any.
     #[inline(always)]
     pub(crate) fn new(
-        texts: &'b [&'a str],
+        text: &'a str,
+        starts: &'b [usize],
         widths: &'b [usize],
         start: usize,
         end: usize,
     ) -> CellRow<'b, 'a>
-        requires { length widths.now ≤ length texts.now }
-        ensures { row_cells result ≡ slice_range (cells_of widths.now texts.now) start end }
+        requires begun { AreStarts text.now starts.now }
+        requires within { length widths.now ≤ length starts.now - 1 }
+        ensures { row_cells result ≡ slice_range (cells_of widths.now (texts_at text.now starts.now)) start end }
     {
         CellRow {
-            texts: part(texts, start, end),
+            text,
+            starts: starts_part(starts, start, end),
             widths: part(widths, start, end),
         }
+    }
+
+    /// How many cells there are.
+    #[inline(always)]
+    pub(crate) fn len(self) -> usize
+        ensures cells { result ≡ length (row_cells self.entry) }
+        ensures places { result ≡ length self.entry.starts.now - 1 }
+    {
+        self.starts.len().saturating_sub(1)
     }
 
     /// The first `count` cells, as far as there are any, and those behind them.
@@ -40,24 +59,55 @@ impl<'b, 'a> CellRow<'b, 'a> {
         ensures first { row_cells result.0 ≡ take count (row_cells self.entry) }
         ensures behind { row_cells result.1 ≡ drop count (row_cells self.entry) }
     {
-        let first = CellRow::new(self.texts, self.widths, 0, count);
-        let behind = CellRow::new(self.texts, self.widths, count, self.texts.len());
+        let (text, starts, widths) = (self.text, self.starts, self.widths);
+        let first = CellRow::new(text, starts, widths, 0, count);
+        let behind = CellRow::new(text, starts, widths, count, starts.len());
         (first, behind)
     }
 
     /// The cell in this column.
     #[inline(always)]
     pub(crate) fn get(self, column: usize) -> Option<LineCell<'a>>
-        ensures { result ≡ slice_get (row_cells self.entry) column }
+        ensures { option_map anywhere result ≡ slice_get (row_cells self.entry) column }
     {
-        match self.texts.get(column) {
-            Some(text) => Some(LineCell {
-                text: *text,
-                width: number_at(self.widths, column, text.len()),
-            }),
-            None => None,
+        if column >= self.len() {
+            return None;
         }
+        let text = text_at(self.text, self.starts, column);
+        Some(LineCell {
+            text,
+            width: number_at(self.widths, column, text.len()),
+        })
     }
+
+    /// The columns that the cell in this column takes.
+    #[inline(always)]
+    pub(crate) fn width(self, column: usize) -> usize
+        requires { column + 1 < length self.starts.now }
+        ensures { result ≡ width_in column (row_cells self.entry) }
+    {
+        let bytes = self.starts[column + 1] - 1 - self.starts[column];
+        number_at(self.widths, column, bytes)
+    }
+}
+
+// The text that begins at the place with this number, up to one byte before the next place.
+#[inline(always)]
+fn text_at<'a>(text: &'a str, starts: &[usize], index: usize) -> &'a str
+    requires begun { AreStarts text.now starts.now }
+    requires below { index + 1 < length starts.now }
+    ensures { result.now ≡ slice_range text.now (slice_index starts.now index) (slice_index starts.now (index + 1) - 1) }
+{
+    &text[starts[index]..starts[index + 1] - 1]
+}
+
+// The places where the cells from `start` on before `end` begin, and where one more would.
+#[inline(always)]
+fn starts_part(starts: &[usize], start: usize, end: usize) -> &[usize]
+    ensures { result.now ≡ slice_range starts.now start (end + 1) }
+{
+    let end = end.min(starts.len());
+    part(starts, start, end + 1)
 }
 
 // The items from `start` on before `end`, as far as there are any.

@@ -11,7 +11,7 @@ ghost use Rattle.columns_table.specs.Least.{padded, width_in};
 ghost use Rattle.columns_table.specs.Records.{IsMeasured};
 ghost use Rattle.columns_table.specs.Rows.{cut, row_texts_of};
 
-use crate::cell_row::{CellRow, number_at};
+use crate::cell_row::CellRow;
 use crate::rows::Rows;
 use grid_config::{CompactConfig, Fault};
 use std::alloc::{AllocError, Global};
@@ -63,9 +63,8 @@ fn widen(widths: &mut [usize], row: CellRow<'_, '_>)
     ensures long { length widths.new ≡ length widths.old }
     ensures each { (column : ℕ) → slice_index widths.new column ≡ max (slice_index widths.old column) (width_in column (row_cells row.entry)) }
 {
-    for (column, text) in row.texts.iter().enumerate() {
-        let width = number_at(row.widths, column, text.len());
-        widths[column] = widths[column].max(width);
+    for column in 0..row.len() {
+        widths[column] = widths[column].max(row.width(column));
     }
 }
 

@@ -3,6 +3,7 @@
 
 mod cell_row;
 mod cells;
+mod ends;
 mod kept;
 mod least;
 mod placed;
@@ -11,5 +12,6 @@ mod sizes;
 mod table;
 
 pub use cells::{LineCell, LineCells};
+pub use ends::{CellEnd, CellEnds};
 pub use rows::Rows;
 pub use table::rows_table;

@@ -1,8 +1,7 @@
 //! The cells of a text looked up by their places.
-ghost use Rattle.std.specs.Prelude.{◌≡◌, ◌^◌, ◌<◌, [], All, IsTrue, false, length, slice_index_or, sum};
+ghost use Rattle.std.specs.Prelude.{◌≡◌, ◌^◌, ◌<◌, [], All, false, length, slice_index_or, sum};
 ghost use Rattle.grid_records_traits.specs.Rows.{text_at};
 ghost use Rattle.columns_table.specs.CellRows.{row_cells};
-ghost use Rattle.columns_table.specs.Cells.{HasNoEscape};
 ghost use Rattle.columns_table.specs.Records.{IsMeasured, placed, placed_texts, starts_from};
 
 use crate::cell_row::{CellRow, number_at};
@@ -21,17 +20,14 @@ pub struct PlacedRows<'a> {
     // How many cells there are.
     end: usize,
     columns: usize,
-    plain: bool,
     ghost whole: { end ≡ length cells },
     ghost measured: { All IsMeasured cells },
-    ghost no_escapes: { IsTrue plain → All HasNoEscape cells },
 }
 
 impl<'a> PlacedRows<'a> {
     /// These rows, of `columns` columns. Does not allocate.
     pub fn new(rows: Rows<'a>, columns: usize) -> PlacedRows<'a>
         requires measured { All IsMeasured rows.cells }
-        requires plain { IsTrue rows.plain → All HasNoEscape rows.cells }
         requires whole { sum rows.counts.items ≡ length rows.cells }
         ensures columns { ⟦<PlacedRows<'a> as RecordColumns>⟧.columns result ≡ columns }
         ensures rows { ⟦<PlacedRows<'a> as RecordTexts>⟧.rows result ≡ placed_texts (starts_from 0 rows.entry.counts.items) rows.entry.cells }
@@ -42,7 +38,6 @@ impl<'a> PlacedRows<'a> {
             starts: starts_of(rows.counts),
             end,
             columns,
-            plain: rows.plain,
         }
     }
 
@@ -138,10 +133,7 @@ impl<'a> PeekableRecords for PlacedRows<'a> {
 
     #[inline(always)]
     fn plain_row(&self, row: usize) -> Option<PlainRow<'_>> {
-        if !self.plain {
-            return None;
-        }
         let cells = self.row(row);
-        Some(PlainRow::new(cells.texts, cells.widths))
+        Some(PlainRow::new(cells.text, cells.starts, cells.widths))
     }
 }

@@ -6,6 +6,4 @@ use crate::cells::LineCells;
 pub struct Rows<'a> {
     pub cells: LineCells<'a>,
     pub counts: Vec<usize>,
-    /// Whether it is known that no cell has an ESC.
-    pub plain: bool,
 }

@@ -1,5 +1,5 @@
 //! The table of rows.
-ghost use Rattle.std.specs.Prelude.{◌≡◌, ◌≢◌, ◌++◌, ◌∷◌, ◌==◌, ◌^◌, ◌<◌, ◌⊎◌, [], All, Err, IfErr, IfOk, IsTrue, None, OnOk, Some, if◌then◌else◌, length, slice_index, string_bytes, sum};
+ghost use Rattle.std.specs.Prelude.{◌≡◌, ◌≢◌, ◌++◌, ◌∷◌, ◌==◌, ◌^◌, ◌<◌, ◌⊎◌, [], All, Err, IfErr, IfOk, None, OnOk, Some, if◌then◌else◌, length, slice_index, string_bytes, sum};
 ghost use Rattle.std.specs.Option.{option_map};
 ghost use Rattle.grid_config.specs.Compact.{compact_of};
 ghost use Rattle.grid_config.specs.Looks.{look_of};
@@ -11,7 +11,6 @@ ghost use Rattle.papergrid.specs.Grids.{grid_text};
 ghost use Rattle.papergrid_fits.specs.Tables.{Fits, IsFitsAnswer};
 ghost use Rattle.columns_asked.specs.Layout.{asked_frame, asked_text, frame_under, heights_of, kept_texts, narrow, narrowed, paddings, too_wide, widths_of};
 ghost use Rattle.columns_table.specs.Answers.{HasTable, MayRefuse, natural_text};
-ghost use Rattle.columns_table.specs.Cells.{HasNoEscape};
 ghost use Rattle.columns_table.specs.Records.{IsMeasured};
 ghost use Rattle.columns_table.specs.Rows.{row_texts_of};
 
@@ -33,8 +32,7 @@ use std::alloc::{AllocError, Global};
 /// Nothing where there are no rows. Refused as `Range` where its width or height passes `usize::MAX`,
 /// before its columns give or after; else as `Room` of the first cell, by row, then by column, with a
 /// line that takes more columns than the cell has; and as `Memory` where allocation fails.
-/// Each cell is one line that measures what it says, and without ESC where the rows are plain; the counts are
-/// of all cells.
+/// Each cell is one line that measures what it says; the counts are of all cells.
 pub fn rows_table(
     alloc: Global,
     style: &CompactConfig,
@@ -43,7 +41,6 @@ pub fn rows_table(
 ) -> Result<String, Fault>
     requires whole { sum rows.counts.items ≡ length rows.cells }
     requires measured { All IsMeasured rows.cells }
-    requires plain { IsTrue rows.plain → All HasNoEscape rows.cells }
     ensures table { IfOk result (λ table. string_bytes table ≡ asked_text (compact_of style.now) asked.now (row_texts_of rows.entry)) }
     ensures fits { OnOk result (HasTable (compact_of style.now) asked.now (row_texts_of rows.entry)) }
     ensures refused { IfErr result (MayRefuse (compact_of style.now) asked.now (row_texts_of rows.entry)) }
@@ -91,7 +88,6 @@ fn natural_table(
 ) -> Result<String, Fault>
     requires whole { sum rows.counts.items ≡ length rows.cells }
     requires measured { All IsMeasured rows.cells }
-    requires plain { IsTrue rows.plain → All HasNoEscape rows.cells }
     requires widths { sizes.widths.items ≡ widths_of (compact_of style.now) (row_texts_of rows) }
     requires heights { sizes.heights.items ≡ heights_of (compact_of style.now) (row_texts_of rows) }
     requires lines { sizes.lines ≡ line_count (frame_under (compact_of style.now) (row_texts_of rows)) }

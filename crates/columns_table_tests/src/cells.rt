@@ -1,11 +1,12 @@
 //! Rows of measured cells, made of the lines of a text.
-ghost use Rattle.std.specs.Prelude.{◌≡◌, All, IfOk, IfSome, map, sum};
+ghost use Rattle.std.specs.Prelude.{◌≡◌, All, IfOk, IfSome, map, string_bytes, sum};
 ghost use Rattle.std.specs.Cow.{cow_str_bytes};
 ghost use Rattle.ansi_scan.specs.Sequences.{IsWhole};
 ghost use Rattle.ansi_str_search.specs.Lines.{IsClosedLine};
+ghost use Rattle.columns_table.specs.Ends.{AreCellEnds, cells_in};
 ghost use Rattle.columns_table.specs.Records.{IsMeasured};
 
-use columns_table::{LineCell, LineCells};
+use columns_table::{CellEnd, CellEnds};
 use grid_records_measure::{get_line_width, get_lines};
 use std::alloc::{AllocError, Global};
 use std::borrow::CowStr;
@@ -22,30 +23,27 @@ pub(crate) fn lines_of<'a>(alloc: Global, text: &'a str) -> Result<Vec<CowStr<'a
     Ok(lines)
 }
 
-/// A cell of each line.
-pub(crate) fn cells_of<'a>(
+/// The lines one behind the other, each ended by a line feed, and where they end as cells.
+pub(crate) fn written(
     alloc: Global,
-    lines: &'a [CowStr<'a>],
-) -> Result<LineCells<'a>, AllocError>
+    lines: &[CowStr<'_>],
+) -> Result<(String, CellEnds), AllocError>
     requires { All IsClosedLine (map cow_str_bytes lines.now) }
-    ensures { IfOk result (λ cells. All IsMeasured cells) }
+    ensures fit { IfOk result (λ made. AreCellEnds (string_bytes made.0) made.1) }
+    ensures measured { IfOk result (λ made. All IsMeasured (cells_in (string_bytes made.0) made.1)) }
 {
-    let mut cells = LineCells::with_capacity(alloc, lines.len())?;
+    let mut text = String::new(alloc);
+    let mut ends = CellEnds::new(alloc)?;
     for line in lines {
-        cells.push(cell_of(line))?;
+        text.push_str(line)?;
+        let end = text.len();
+        ends.push(CellEnd {
+            end,
+            width: get_line_width(line),
+        })?;
+        text.push_str("\n")?;
     }
-    Ok(cells)
-}
-
-// The line as a cell.
-fn cell_of(line: &str) -> LineCell<'_>
-    requires { IsClosedLine line.now }
-    ensures { IsMeasured result }
-{
-    LineCell {
-        text: line,
-        width: get_line_width(line),
-    }
+    Ok((text, ends))
 }
 
 /// The sum of the numbers, where it is no more than `usize::MAX`.

@@ -1,8 +1,8 @@
 //! Tables worked out by hand, and rows that have none.
-use crate::cells::{cells_of, lines_of, total};
+use crate::cells::{lines_of, total, written};
 use ansi_scan::is_whole;
 use columns_asked::Asked;
-use columns_table::{LineCells, Rows, rows_table};
+use columns_table::{CellEnds, LineCells, Rows, rows_table};
 use grid_config::{Borders, CompactConfig, Fault, Indent, Sides};
 use std::alloc::Global;
 use tabled_size_priority::Choice;
@@ -178,7 +178,8 @@ fn table_of(
         return Err(Fault::Memory);
     }
     let lines = lines_of(alloc, text)?;
-    let cells = cells_of(alloc, &lines)?;
+    let (joined, ends) = written(alloc, &lines)?;
+    let cells = LineCells::of(&joined, ends);
     let counts = counts.to_vec(alloc)?;
     if total(&counts) != Some(cells.len()) {
         return Err(Fault::Memory);
@@ -186,7 +187,6 @@ fn table_of(
     let rows = Rows {
         cells,
         counts,
-        plain: false,
     };
     rows_table(alloc, style, asked, rows)
 }
@@ -206,9 +206,8 @@ fn no_rows_have_no_table(rt: HostRuntime) -> Result<(), Fault> {
     let style = ascii().set_padding(Sides::new(ENDLESS, ENDLESS, ENDLESS, ENDLESS));
     for asked in [NATURAL, wrapped(0), cut(0)] {
         let rows = Rows {
-            cells: LineCells::new(rt.alloc()),
+            cells: LineCells::of("", CellEnds::new(rt.alloc())?),
             counts: Vec::new(rt.alloc()),
-            plain: false,
         };
         let table = rows_table(rt.alloc(), &style, &asked, rows)?;
         assert_eq!(rt; table.as_str(), "");

@@ -1,21 +1,38 @@
--- Rows whose cells are each one line without ESC.
-use Rattle.std.specs.Borrow.{Bor}
-use Rattle.std.specs.Prelude.{◌≡◌, ℕ, List, [], false, length, map, slice_index_or}
-use Rattle.ansi_str_text.specs.StyledText.{has_escape}
-use Rattle.grid_records_traits.specs.Cells.{HasLineCount, HasWidth}
+-- Rows whose cells are each one line that stands as it is in its text.
+use Rattle.std.specs.Prelude.{ℕ, ◌+◌, ◌-◌, ◌<◌, List, [], ◌∷◌, length, slice_index, slice_index_or, slice_range}
+use Rattle.std.specs.Str.{IsCharBoundary}
+use Rattle.grid_records_traits.specs.Cells.{HasLineCount, HasWidth, IsLineAt}
 
--- the texts that are lent
-abbrev pub lent_texts : List (Bor (List ℕ)) → List (List ℕ)
-lent_texts texts = map (λ text. text.now) texts
+-- ---- texts that stand one behind the other in a text, parted by one byte each
+
+-- the texts of which the first begins at `start`, and the others at the other places
+abbrev pub texts_from : List ℕ → ℕ → List ℕ → List (List ℕ)
+texts_from text start [] = []
+texts_from text start (next ∷ starts) = slice_range text start (next - 1) ∷ texts_from text next starts
+
+-- the texts that begin at these places, each up to one byte before the next place; at the last place none begins
+abbrev pub texts_at : List ℕ → List ℕ → List (List ℕ)
+texts_at text [] = []
+texts_at text (start ∷ starts) = texts_from text start starts
+
+-- what begins at `start` and ends one byte before `next` is a text
+abbrev pub IsTextAt : List ℕ → ℕ → ℕ → Type 0
+IsTextAt text start next = (start < next) × IsCharBoundary text start × IsCharBoundary text (next - 1)
+
+-- at each of these places but the last a text begins
+abbrev pub AreStarts : List ℕ → List ℕ → Type 0
+AreStarts text starts = (i : ℕ) → i + 1 < length starts → IsTextAt text (slice_index starts i) (slice_index starts (i + 1))
+
+-- ---- of one line each
 
 -- the columns of the text with this number: its bytes, where none are given for it
 abbrev pub width_of : List (List ℕ) → List ℕ → ℕ → ℕ
 width_of texts widths column = slice_index_or widths column (length (slice_index_or texts column []))
 
--- the text is one line without ESC and takes so many columns
+-- the text is one line, which is all of it, and takes so many columns
 abbrev pub IsPlainText : List ℕ → ℕ → Type 0
-IsPlainText text width = HasLineCount text 1 × HasWidth text width × (has_escape text ≡ false)
+IsPlainText text width = HasLineCount text 1 × HasWidth text width × IsLineAt text 0 text
 
--- each text is one line without ESC, and takes its columns
+-- each text is such a line, and takes its columns
 abbrev pub ArePlain : List (List ℕ) → List ℕ → Type 0
 ArePlain texts widths = (column : ℕ) → IsPlainText (slice_index_or texts column []) (width_of texts widths column)

@@ -61,19 +61,19 @@ module _ (text : List ℕ) (plain : has_escape text ≡ false) where
   pub cell_measures-plain : map line_measure (slice_split is_line_feed text) ≡ cell_measures false false text
   cell_measures-plain = ap (map line_measure) (sym (take-length (shown_lines (pieces text)) ∙ shown-plain))
 
--- ---- such a text in its column
+-- ---- a text that is its own first line, in its column
 
 module _ (sheet : Sheet) (flat : AreFlat sheet.settings) (pos : Position) (stands : Standing) where
-  pub plain-placed : (text : List ℕ) (width : ℕ) (color : Option Color) → text ≡ text_at sheet.rows pos → HasLineCount text 1 → HasWidth text width → has_escape text ≡ false → color ≡ sheet.colors pos
+  pub plain-placed : (text : List ℕ) (width : ℕ) (color : Option Color) → text ≡ text_at sheet.rows pos → HasLineCount text 1 → HasWidth text width → IsLineAt text 0 text → color ≡ sheet.colors pos
       → placed stands (slice_index sheet.widths pos.col) width width color text ≡ first_placed sheet stands pos
-  plain-placed text width color own counted has plain shade =
+  plain-placed text width color own counted has first shade =
       let column = slice_index sheet.widths pos.col in
       let measures = (grid_of sheet).measures pos in
       let line = (bytes_of sheet).line pos 0 in
       let own_count : HasLineCount (text_at sheet.rows pos) 1 = subst (λ (t : List ℕ). HasLineCount t 1) own counted in
       let own_width : HasWidth (text_at sheet.rows pos) width = subst (λ (t : List ℕ). HasWidth t width) own has in
-      let own_plain : has_escape (text_at sheet.rows pos) ≡ false = ap has_escape (sym own) ∙ plain in
-      let shown : text ≡ line = own ∙ line-is sheet flat pos (text_at sheet.rows pos) (plain-line (text_at sheet.rows pos) own_plain own_count) in
+      let own_first : IsLineAt (text_at sheet.rows pos) 0 text = subst (λ (t : List ℕ). IsLineAt t 0 text) own first in
+      let shown : text ≡ line = line-is sheet flat pos text own_first in
       ap (λ t. placed stands column width width color t) shown
       ∙ (ap (λ n. placed stands column n width color line) (measured sheet flat pos width (one-width (text_at sheet.rows pos) 1 width own_count refl own_width))
       ∙ (ap (λ n. placed stands column (slice_index measures 0) n color line) (widest-is sheet flat pos width own_width)

@@ -51,8 +51,8 @@ pub trait PeekableRecords: RecordTexts {
         line_width_of(self.get_text(pos), line)
     }
 
-    /// The cells of this row, where it is known that each is one line without ESC: `None` says nothing. Who
-    /// reads all cells of a row asks for it first. Does not allocate.
+    /// The cells of this row, where it is known that each is one line, which is its whole text: `None` says
+    /// nothing. Who reads all cells of a row asks for it first. Does not allocate.
     fn plain_row(&self, row: usize) -> Option<PlainRow<'_>>
         ensures { IfSome result (λ cells. plain_texts cells ≡ row_at (Self.rows self.now) row) }
     {

@@ -1,14 +1,18 @@
-//! Cells of a row that are each one line without ESC.
+//! Cells of a row that are each one line, which stands as it is in the text.
 ghost use Rattle.std.specs.Prelude.{◌≡◌, [], slice_index_or};
-ghost use Rattle.grid_records_traits.specs.PlainRows.{ArePlain, lent_texts};
+ghost use Rattle.grid_records_traits.specs.PlainRows.{ArePlain, AreStarts, texts_at};
 
-/// The cells of a row, of which each is one line without ESC: their texts, and the columns that each takes.
-/// Where no columns are given for a cell, it takes as many as it has bytes.
+/// The cells of a row, of which each is one line that is its whole text, as a text without ESC is, and one that
+/// opens and ends its own styles. They stand one behind the other in a text, parted by one byte each: kept are
+/// where each begins and where one more would, and the columns that each takes. Where no columns are given for a
+/// cell, it takes as many as it has bytes.
 #[derive(Clone, Copy)]
 pub struct PlainRow<'a> {
-    texts: &'a [&'a str],
+    text: &'a str,
+    starts: &'a [usize],
     widths: &'a [usize],
-    ghost plain: { ArePlain (lent_texts texts.now) widths.now },
+    ghost begun: { AreStarts text.now starts.now },
+    ghost plain: { ArePlain (texts_at text.now starts.now) widths.now },
 }
 
 /// A cell of such a row.
@@ -21,18 +25,22 @@ pub struct PlainCell<'a> {
 }
 
 impl<'a> PlainRow<'a> {
-    ghost use Rattle.std.specs.Prelude.{false};
-    ghost use Rattle.ansi_str_text.specs.StyledText.{has_escape};
-    ghost use Rattle.grid_records_traits.specs.Cells.{HasLineCount, HasWidth};
+    ghost use Rattle.grid_records_traits.specs.Cells.{HasLineCount, HasWidth, IsLineAt};
     ghost use Rattle.grid_records_traits.specs.PlainTexts.{plain_texts};
 
-    /// The row of these texts, which take these columns. Does not allocate.
+    /// The row of the cells that begin at these places of the text, each up to one byte before the next
+    /// place, and take these columns. Does not allocate.
     #[inline(always)]
-    pub fn new(texts: &'a [&'a str], widths: &'a [usize]) -> PlainRow<'a>
-        requires { ArePlain (lent_texts texts.now) widths.now }
-        ensures { plain_texts result ≡ lent_texts texts.now }
+    pub fn new(text: &'a str, starts: &'a [usize], widths: &'a [usize]) -> PlainRow<'a>
+        requires begun { AreStarts text.now starts.now }
+        requires plain { ArePlain (texts_at text.now starts.now) widths.now }
+        ensures { plain_texts result ≡ texts_at text.now starts.now }
     {
-        PlainRow { texts, widths }
+        PlainRow {
+            text,
+            starts,
+            widths,
+        }
     }
 
     /// The cell with this number, and after the last an empty one. Does not allocate.
@@ -41,9 +49,9 @@ impl<'a> PlainRow<'a> {
         ensures text { result.text.now ≡ slice_index_or (plain_texts self.now) column [] }
         ensures lines { HasLineCount result.text.now 1 }
         ensures width { HasWidth result.text.now result.width }
-        ensures plain { has_escape result.text.now ≡ false }
+        ensures line { IsLineAt result.text.now 0 result.text.now }
     {
-        let text = text_at(self.texts, column);
+        let text = text_at(self.text, self.starts, column);
         PlainCell {
             text,
             width: width_at(self.widths, column, text.len()),
@@ -53,13 +61,14 @@ impl<'a> PlainRow<'a> {
 
 // The text with this number, and after the last the empty one.
 #[inline(always)]
-fn text_at<'a>(texts: &[&'a str], index: usize) -> &'a str
-    ensures { result.now ≡ slice_index_or (lent_texts texts.now) index [] }
+fn text_at<'a>(text: &'a str, starts: &[usize], index: usize) -> &'a str
+    requires { AreStarts text.now starts.now }
+    ensures { result.now ≡ slice_index_or (texts_at text.now starts.now) index [] }
 {
-    match texts.get(index) {
-        Some(text) => text,
-        None => "",
+    if index >= starts.len().saturating_sub(1) {
+        return "";
     }
+    &text[starts[index]..starts[index + 1] - 1]
 }
 
 // The columns with this number, and where there are none so many.

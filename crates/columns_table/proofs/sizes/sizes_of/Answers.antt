@@ -1,4 +1,4 @@
-use Rattle.std.proofs.Common.{◌≡◌, ℕ, ◌⊎◌, inl, inr, List, subst, ◌∙◌}
+use Rattle.std.proofs.Common.{◌≡◌, ℕ, inr, List, subst, ◌∙◌}
 use Rattle.std.specs.Prelude.{IfErr, IfOk, OnOk}
 use Rattle.std.proofs.lemmas.Result.{IfErr-weaker, IfOk-weaker}
 use Rattle.grid_config.specs.Compact.{Compact, compact_of}

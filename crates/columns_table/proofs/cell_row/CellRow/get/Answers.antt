@@ -1,18 +1,22 @@
-use Rattle.std.proofs.Common.{Some, ap, sym, ◌∙◌}
-use Rattle.std.proofs.lemmas.Option.{slice_get-get_or, slice_get_past}
-use Rattle.columns_table.proofs.CellLemmas.{get-none, get-some, made}
+use Rattle.std.proofs.Common.{◌+◌, ◌<◌, ◌≤◌, Some, length, ap, sym, ◌∙◌, arith}
+use Rattle.std.proofs.lemmas.Option.{slice_get_past}
+use Rattle.grid_records_traits.specs.PlainRows.{texts_at}
+use Rattle.columns_table.specs.Cells.{cell_of}
+use Rattle.columns_table.specs.CellRows.{row_cells}
+use Rattle.columns_table.proofs.CellLemmas.{get-some}
+use Rattle.columns_table.proofs.StartLemmas.{slice_get-texts}
 use Rattle.columns_table.proofs.cell_row.CellRow.get.Goals as goal
 
-pub returns-in-Some : goal.returns-in-Some
-returns-in-Some c =
-    let row = c.args.self in
-    let text = c.in-Some.text.now in
-    let look = c.in-Some.ensures.lookup in
-    ap (λ width. Some (made text width)) c.number_at.ensures
-    ∙ sym (get-some row.widths.now row.texts.now c.args.column text (slice_get-get_or row.texts.now c.args.column text look.3.0 ∙ ap (λ found. Some found) (sym look.1)))
+pub returns-then-column-len : goal.returns-then-column-len
+returns-then-column-len c =
+    let past : length (row_cells c.args.self) ≤ c.args.column = omega (arith, c.if-column-len.true, c.len.ensures.cells) in
+    sym (slice_get_past (row_cells c.args.self) c.args.column past)
 
-pub returns-in-None : goal.returns-in-None
-returns-in-None c =
+pub returns : goal.returns
+returns c =
     let row = c.args.self in
-    let look = c.in-None.ensures.lookup in
-    sym (get-none row.widths.now row.texts.now c.args.column (slice_get_past row.texts.now c.args.column look.3))
+    let texts = texts_at row.text.now row.starts.now in
+    let text = c.text_at-text.result.now in
+    let below : c.args.column + 1 < length row.starts.now = omega (arith, c.if-column-len.false, c.len.ensures.places) in
+    ap (λ width. Some (cell_of text width)) c.number_at.ensures
+    ∙ sym (get-some row.widths.now texts c.args.column text (slice_get-texts row.text.now row.starts.now c.args.column below ∙ ap (λ found. Some found) (sym c.text_at-text.ensures)))

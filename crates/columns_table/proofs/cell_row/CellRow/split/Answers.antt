@@ -1,4 +1,6 @@
-use Rattle.std.proofs.Common.{◌≡◌, ◌-◌, length, take, refl, ap, ◌∙◌, arith}
+use Rattle.std.proofs.Common.{◌≡◌, ◌-◌, take, ap, ◌∙◌, arith}
+use Rattle.grid_records_traits.specs.PlainRows.{texts_at}
+use Rattle.grid_records_traits.proofs.StartLemmas.{length-texts_at}
 use Rattle.columns_table.specs.CellRows.{row_cells}
 use Rattle.columns_table.proofs.CellLemmas.{behind-cells}
 use Rattle.columns_table.proofs.cell_row.CellRow.split.Goals as goal
@@ -11,4 +13,4 @@ returns-clause-first c =
 pub returns-clause-behind : goal.returns-clause-behind
 returns-clause-behind c =
     let row = c.args.self in
-    c.new-behind.ensures ∙ behind-cells row.widths.now row.texts.now c.args.count (length row.texts.now) refl
+    c.new-behind.ensures ∙ behind-cells row.widths.now (texts_at row.text.now row.starts.now) c.args.count _ (omega (arith, length-texts_at row.text.now row.starts.now))

@@ -1,4 +1,4 @@
-use Rattle.std.proofs.Common.{◌≡◌, ◌≤◌, ◌-◌, List, length, ◌∙◌, arith}
+use Rattle.std.proofs.Common.{◌-◌, ◌∙◌, arith}
 use Rattle.std.proofs.lemmas.List.{take_all}
 use Rattle.columns_table.proofs.cells.LineCells.all.Goals as goal
 

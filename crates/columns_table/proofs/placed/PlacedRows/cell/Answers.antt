@@ -1,7 +1,8 @@
-use Rattle.std.proofs.Common.{◌≡◌, All, None, Some, List, [], get_or, map, ap, sym, subst, ◌∙◌}
+use Rattle.std.proofs.Common.{ap, sym, ◌∙◌}
 use Rattle.std.specs.List.{slice_get}
+use Rattle.std.specs.Option.{option_map}
+use Rattle.columns_table.specs.Cells.{anywhere}
 use Rattle.columns_table.specs.Records.{IsMeasured}
-use Rattle.columns_table.specs.declared.cells.LineCell.{LineCell}
 use Rattle.columns_table.proofs.CellLemmas.{each-some, text-none, text-some}
 use Rattle.columns_table.proofs.PlacedLemmas.{row-keeps, row-text}
 use Rattle.columns_table.proofs.RecordLemmas.{empty_one_line}
@@ -11,19 +12,19 @@ pub returns-in-Some-clause-text : goal.returns-in-Some-clause-text
 returns-in-Some-clause-text c =
     let rows = c.args.self.now in
     sym (row-text rows.starts.items rows.cells c.args.pos
-    ∙ text-some _ c.args.pos.col c.in-Some.cell (ap (λ cells. slice_get cells c.args.pos.col) (sym c.row.ensures) ∙ sym c.get.ensures ∙ c.in-Some.is))
+    ∙ text-some _ c.args.pos.col (anywhere c.in-Some.cell) (ap (λ cells. slice_get cells c.args.pos.col) (sym c.row.ensures) ∙ sym c.get.ensures ∙ ap (option_map anywhere) c.in-Some.is))
 
 pub returns-in-Some-clause-measured : goal.returns-in-Some-clause-measured
 returns-in-Some-clause-measured c =
     let rows = c.args.self.now in
-    each-some IsMeasured _ c.args.pos.col c.in-Some.cell (ap (λ cells. slice_get cells c.args.pos.col) (sym c.row.ensures) ∙ sym c.get.ensures ∙ c.in-Some.is)
+    each-some IsMeasured _ c.args.pos.col (anywhere c.in-Some.cell) (ap (λ cells. slice_get cells c.args.pos.col) (sym c.row.ensures) ∙ sym c.get.ensures ∙ ap (option_map anywhere) c.in-Some.is)
     (row-keeps IsMeasured rows.starts.items rows.cells c.args.pos.row rows.measured)
 
 pub returns-in-None-clause-text : goal.returns-in-None-clause-text
 returns-in-None-clause-text c =
     let rows = c.args.self.now in
     sym (row-text rows.starts.items rows.cells c.args.pos
-    ∙ text-none _ c.args.pos.col (ap (λ cells. slice_get cells c.args.pos.col) (sym c.row.ensures) ∙ sym c.get.ensures ∙ c.in-None.is))
+    ∙ text-none _ c.args.pos.col (ap (λ cells. slice_get cells c.args.pos.col) (sym c.row.ensures) ∙ sym c.get.ensures ∙ ap (option_map anywhere) c.in-None.is))
 
 pub returns-in-None-clause-measured : goal.returns-in-None-clause-measured
 returns-in-None-clause-measured c = empty_one_line

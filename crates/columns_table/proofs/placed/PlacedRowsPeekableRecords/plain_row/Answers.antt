@@ -1,25 +1,25 @@
-use Rattle.std.proofs.Common.{◌≡◌, All, List, [], length, map, get_or, ap, sym, subst, ◌∙◌}
-use Rattle.columns_table.specs.Cells.{HasNoEscape}
-use Rattle.columns_table.specs.CellRows.{row_cells}
+use Rattle.std.proofs.Common.{◌≤◌, All, length, map, ap, sym, subst, ◌∙◌, arith}
+use Rattle.grid_records_traits.specs.PlainRows.{texts_at}
+use Rattle.grid_records_traits.proofs.StartLemmas.{length-texts_at}
 use Rattle.columns_table.specs.Records.{IsMeasured}
-use Rattle.columns_table.specs.declared.cells.LineCell.{LineCell}
 use Rattle.columns_table.proofs.CellLemmas.{plain-cells, texts-cells}
 use Rattle.columns_table.proofs.PlacedLemmas.{row-keeps, row-texts}
 use Rattle.columns_table.proofs.placed.PlacedRowsPeekableRecords.plain_row.Goals as goal
 
-pub new-requires : goal.new-requires
-new-requires c =
+pub new-requires-clause-plain : goal.new-requires-clause-plain
+new-requires-clause-plain c =
     let rows = c.args.self.now in
     let cells = c.row-cells.result in
-    plain-cells cells.widths.now cells.texts.now cells.within
+    let texts = texts_at cells.text.now cells.starts.now in
+    let within : length cells.widths.now ≤ length texts = omega (arith, cells.within, length-texts_at cells.text.now cells.starts.now) in
+    plain-cells cells.widths.now texts within
     (subst (All IsMeasured) (sym c.row-cells.ensures) (row-keeps IsMeasured rows.starts.items rows.cells c.args.row rows.measured))
-    (subst (All HasNoEscape) (sym c.row-cells.ensures) (row-keeps HasNoEscape rows.starts.items rows.cells c.args.row (rows.no_escapes c.if-not-self.false)))
 
 pub returns : goal.returns
 returns c =
     let rows = c.args.self.now in
     let cells = c.row-cells.result in
     c.new.ensures
-    ∙ sym (texts-cells cells.widths.now cells.texts.now)
+    ∙ sym (texts-cells cells.widths.now (texts_at cells.text.now cells.starts.now))
     ∙ ap (map (λ cell. cell.text.now)) c.row-cells.ensures
     ∙ sym (row-texts rows.starts.items rows.cells c.args.row)

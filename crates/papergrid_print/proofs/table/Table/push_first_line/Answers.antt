@@ -10,7 +10,7 @@ use Rattle.papergrid_print.specs.Flat.{behind_text, placed, standing_of}
 use Rattle.papergrid_print.specs.Sheets.{bytes_of, grid_of, sheet_of}
 use Rattle.std.specs.Prelude.{slice_index}
 use Rattle.papergrid_print.proofs.FlatLemmas.{line-is, measured, widest-is}
-use Rattle.papergrid_print.proofs.PlainLineLemmas.{plain-placed}
+use Rattle.papergrid_print.proofs.PlainLineLemmas.{plain-line, plain-placed}
 use Rattle.papergrid_print.proofs.table.Table.push_first_line.Goals as goal
 
 pub returns : goal.returns
@@ -43,5 +43,5 @@ returns-in-Some g c =
     let has : HasWidth c.in-Some.text.now widest = subst (λ (t : List ℕ). HasWidth t widest) (sym same) c.get_width-widest.ensures in
     on_ok_weaker c.push_line.result
     (λ last. last
-    ∙ ap (λ shown. out ++ (shown ++ behind)) (plain-placed sheet c.requires.flat pos (standing_of c.args.flat.now) c.in-Some.text.now widest (option_map color_of c.get_color-color.result) same counted has c.in-Some.ensures.plain c.get_color-color.ensures))
+    ∙ ap (λ shown. out ++ (shown ++ behind)) (plain-placed sheet c.requires.flat pos (standing_of c.args.flat.now) c.in-Some.text.now widest (option_map color_of c.get_color-color.result) same counted has (plain-line c.in-Some.text.now c.in-Some.ensures.plain counted) c.get_color-color.ensures))
     c.push_line.ensures

@@ -151,7 +151,7 @@ loop-j-preserved g c =
     ap (λ n. fill_bytes 0x20 n ++ (text ++ fill_bytes 0x20 (room.width - n - width))) c.indent-indent.ensures
     ∙ (ap (λ n. fill_bytes 0x20 (free_left rows.alignment (n - width)) ++ (text ++ fill_bytes 0x20 (n - free_left rows.alignment (n - width) - width))) wide
     ∙ (sym (placed-plain rows c.requires.empty.fill c.requires.empty.color column width text)
-    ∙ plain-placed sheet c.requires.flat pos (standing_of rows) text width None own c.cell-cell.ensures.lines has c.cell-cell.ensures.plain shade)) in
+    ∙ plain-placed sheet c.requires.flat pos (standing_of rows) text width None own c.cell-cell.ensures.lines has c.cell-cell.ensures.line shade)) in
     written-more sheet c.requires.flat rows c.requires.made i j (string_bytes c.args.out.now)
     (fill_bytes 0x20 indent ++ (text ++ fill_bytes 0x20 (room.width - indent - width)))
     c.requires.row c.loop-j-test.true c.requires.high shown

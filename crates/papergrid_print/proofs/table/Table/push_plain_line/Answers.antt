@@ -27,7 +27,7 @@ loop-j-preserved g c =
     flat-more sheet c.requires.flat i j c.args.flat.now (string_bytes c.args.out.now) c.requires.row c.loop-j-test.true c.requires.high c.requires.made
     c.loop-j.invariant refl
     (c.in_ok-push_line.ensures
-    ∙ (ap (λ shown. out ++ (shown ++ behind)) (plain-placed sheet c.requires.flat (at i j) stands cell.text.now cell.width (option_map color_of c.get_color-color.result) own c.cell-cell.ensures.lines c.cell-cell.ensures.width c.cell-cell.ensures.plain shade)
+    ∙ (ap (λ shown. out ++ (shown ++ behind)) (plain-placed sheet c.requires.flat (at i j) stands cell.text.now cell.width (option_map color_of c.get_color-color.result) own c.cell-cell.ensures.lines c.cell-cell.ensures.width c.cell-cell.ensures.line shade)
     ∙ sym (append_assoc out (first_placed sheet stands (at i j)) behind)))
 
 pub returns : goal.returns

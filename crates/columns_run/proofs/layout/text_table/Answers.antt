@@ -2,7 +2,7 @@ use Rattle.std.proofs.Common.{rules, sym, ◌∙◌}
 use Rattle.std.proofs.lemmas.List.{length-map}
 use Rattle.columns_run.specs.Cells.{shown}
 use Rattle.columns_run.proofs.CellLemmas.{whole_text}
-use Rattle.columns_run.proofs.OneLineLemmas.{cells-measured, cells-plain}
+use Rattle.columns_run.proofs.OneLineLemmas.{cells-measured}
 use Rattle.columns_run.proofs.PlaceLemmas.{IsWhole-without_escape}
 use Rattle.columns_run.proofs.TableLemmas.{has-table, line_rows-plain, output-is, refused}
 use Rattle.columns_run.proofs.layout.plain_table.Goals as goal
@@ -12,11 +12,6 @@ rows_table-requires-clause-measured c =
     let text = c.args.text.now in
     let rows = c.in_ok-rows.rows in
     cells-measured text rows (whole_text text c.utf8.text (IsWhole-without_escape text c.requires)) (c.in_ok-rows.ensures.whole ∙ sym (length-map rows.cells shown)) (c.in_ok-rows.ensures.rows ∙ line_rows-plain text c.requires)
-
-pub rows_table-requires-clause-plain : goal.rows_table-requires-clause-plain
-rows_table-requires-clause-plain c = λ plain.
-    let rows = c.in_ok-rows.rows in
-    cells-plain c.args.text.now rows c.requires (c.in_ok-rows.ensures.whole ∙ sym (length-map rows.cells shown)) c.in_ok-rows.ensures.rows
 
 pub returns-in_err-rows_table-clause-answers : goal.returns-in_err-rows_table-clause-answers
 returns-in_err-rows_table-clause-answers c =

@@ -1,0 +1,101 @@
+//! Where the cells of a text end.
+ghost use Rattle.std.specs.Prelude.{◌≡◌, ◌+◌, ◌<◌, OnOk, length};
+ghost use Rattle.columns_table.specs.KeptEnds.{ends_of};
+
+use std::alloc::{AllocError, Global};
+use std::marker::Model;
+
+/// Where a cell of a text ends, and the columns that it takes.
+#[derive(Clone, Copy)]
+pub struct CellEnd {
+    pub end: usize,
+    pub width: usize,
+}
+
+/// Where cells end that stand one behind the other in a text, parted by one byte each. In a contract it is
+/// the list of their ends. A cell takes 8 bytes as long as each takes as many columns as it has bytes, and
+/// 16 from the first other cell on.
+#[derive(Drop)]
+pub struct CellEnds {
+    // Where each cell begins, the first at the start of the text, and where one more would.
+    pub(crate) starts: Vec<usize>,
+    // The columns that the cells take, from the first on. Behind the last of them a cell takes its bytes.
+    pub(crate) widths: Vec<usize>,
+}
+
+impl Model for CellEnds {
+    ghost use Rattle.std.specs.Prelude.{◌<◌, List, length};
+    ghost use Rattle.columns_table.specs.declared.ends.CellEnd.{CellEnd};
+    ghost use Rattle.columns_table.specs.KeptEnds.{AreFromStart, ends_of};
+
+    ghost Value = { List CellEnd };
+
+    ghost view = { λ ends. ends_of ends.widths.items ends.starts.items };
+
+    ghost invariant = { λ ends. (length ends.widths.items < length ends.starts.items) × AreFromStart ends.starts.items };
+}
+
+impl CellEnds {
+    ghost use Rattle.std.specs.Prelude.{◌≡◌, ◌<◌, [], ◌∷◌, ◌++◌, IfOk, OnOk};
+
+    /// No cells. Fails only where allocation fails.
+    pub fn new(alloc: Global) -> Result<CellEnds, AllocError>
+        ensures { IfOk result (λ ends. ends ≡ []) }
+    {
+        CellEnds::with_capacity(alloc, 0)
+    }
+
+    /// No cells, with room for `cells` of them. Fails only where allocation fails.
+    pub fn with_capacity(alloc: Global, cells: usize) -> Result<CellEnds, AllocError>
+        ensures { IfOk result (λ ends. ends ≡ []) }
+    {
+        let mut starts = Vec::with_capacity(alloc, cells.saturating_add(1))?;
+        starts.push(0)?;
+        Ok(CellEnds {
+            starts,
+            widths: Vec::new(alloc),
+        })
+    }
+
+    /// Appends the end of a cell, which no text has behind all its bytes. Fails only where allocation fails.
+    #[inline(always)]
+    pub fn push(&mut self, cell: CellEnd) -> Result<(), AllocError>
+        requires { cell.end < usize.MAX }
+        ensures { OnOk result (self.new ≡ self.old ++ cell ∷ []) }
+    {
+        let start = self.starts[self.starts.len() - 1];
+        if self.widths.is_empty() && cell.width == cell.end.saturating_sub(start) {
+            self.starts.push(cell.end + 1)?;
+            return Ok(());
+        }
+        self.push_with_width(cell)
+    }
+
+    // Appends the end of a cell, and keeps the columns that it takes.
+    #[inline(always)]
+    fn push_with_width(&mut self, cell: CellEnd) -> Result<(), AllocError>
+        requires { cell.end < usize.MAX }
+        ensures { OnOk result (self.new ≡ self.old ++ cell ∷ []) }
+    {
+        give_widths(&mut self.widths, &self.starts)?;
+        self.starts.push(cell.end + 1)?;
+        self.widths.push(cell.width)?;
+        Ok(())
+    }
+}
+
+// Gives each cell its bytes for its columns where it has none.
+#[inline(always)]
+fn give_widths(widths: &mut Vec<usize>, starts: &[usize]) -> Result<(), AllocError>
+    requires within { length widths.old.items < length starts.now }
+    ensures within { length widths.new.items < length starts.now }
+    ensures all { OnOk result (length widths.new.items + 1 ≡ length starts.now) }
+    ensures same { ends_of widths.new.items starts.now ≡ ends_of widths.old.items starts.now }
+{
+    while widths.len() < starts.len() - 1 {
+        let cell = widths.len();
+        let end = starts[cell + 1].saturating_sub(1);
+        widths.push(end.saturating_sub(starts[cell]))?;
+    }
+    Ok(())
+}
