@@ -157,7 +157,7 @@ module _ (text : List ℕ) (utf8 : IsUtf8 text) where
 
 -- ---- the styled characters of the parts
 
-empty_range : {X : Type 0} (n : ℕ) (xs : List X) → slice_range xs n n ≡ []
+pub empty_range : {X : Type 0} (n : ℕ) (xs : List X) → slice_range xs n n ≡ []
 empty_range n xs = let none : n - n ≡ 0 = omega arith in ap (λ m. take m (drop n xs)) none
 
 -- a list from one of its elements on
