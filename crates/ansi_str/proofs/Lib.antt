@@ -11,4 +11,6 @@ pub mod KeptSlices
 pub mod EditLemmas
 pub mod EditLaws
 pub mod WholeEdits
+pub mod EditUtf8
+pub mod EditSlices
 pub mod RisingPlaces

@@ -33,7 +33,7 @@ module _ (text : List ℕ) (ps : List Piece) (of_text : ArePiecesOf text ps) (wh
   IsWhole-kept : (a b : ℕ) (left : List ℕ) → left ≡ kept a b ps → IsWhole left
   IsWhole-kept a b left same = subst IsWhole (sym same) (IsWhole-all (kept a b ps) (λ qs of_left. kept_whole a b text ps qs of_text whole of_left))
 
-  LeavesOf-whole : (edit : Edit) (left : List ℕ) → LeavesOf edit ps left → IsWhole left
+  pub LeavesOf-whole : (edit : Edit) (left : List ℕ) → LeavesOf edit ps left → IsWhole left
   LeavesOf-whole (Cut start end) left leaves =
       subst IsWhole (sym leaves.1) (IsWhole-all (cut_part start end ps) (λ qs of_left. (cut-closed text ps qs start end leaves.0.ordered of_text whole of_left).none_broken))
   LeavesOf-whole (Left mid) left leaves =

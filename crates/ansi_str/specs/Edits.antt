@@ -1,13 +1,15 @@
 -- Edits of a text, each of what the one before it left.
-use Rattle.std.specs.Prelude.{◌≡◌, ℕ, min, List, [], ◌∷◌, length, slice_get, Some, None, ◌⊎◌}
+use Rattle.std.specs.Prelude.{◌≡◌, ◌≤◌, ◌-◌, ℕ, min, List, [], ◌∷◌, ◌++◌, length, slice_get, Some, None, ◌⊎◌}
+use Rattle.std.specs.Str.{IsUtf8}
 use Rattle.ansi_scan.specs.Sequences.{Piece, ArePiecesOf}
+use Rattle.ansi_scan.specs.Attributes.{Attributes}
 use Rattle.ansi_str.specs.declared.edits.Edit.{Edit}
 use Rattle.ansi_str.specs.declared.edits.Edit.TheVariants.{Cut, Left, Right, Part, Prefix, Suffix, Trim}
-use Rattle.ansi_str.specs.StyledText.{strip}
+use Rattle.ansi_str.specs.StyledText.{strip, styled}
 use Rattle.ansi_str.specs.Cuts.{AreGoodBounds, IsGoodBound, cut_part, parts_at}
-use Rattle.ansi_str.specs.Matches.{AreMatches, split_bounds, styled_parts}
+use Rattle.ansi_str.specs.Matches.{AreMatches, split_bounds, styled_parts, styled_slice}
 use Rattle.ansi_str.specs.Searches.{BeginsWith, EndsWith}
-use Rattle.ansi_str.specs.Keeping.{IsTrimmed, without_end, without_front}
+use Rattle.ansi_str.specs.Keeping.{IsTrimmed, IsTrimmedAt, without_end, without_front}
 
 -- the two parts at a place; a place past the end counts as the end
 abbrev pub sides : ℕ → List Piece → List (List ℕ)
@@ -62,3 +64,39 @@ TakeInTurn (edit ∷ edits) text left = (next : List ℕ) × TakesTo edit text n
 abbrev pub OneFails : List Edit → List ℕ → Type 0
 OneFails [] text = ⊥
 OneFails (edit ∷ edits) text = FailsAt edit text ⊎ ((next : List ℕ) × TakesTo edit text next × OneFails edits next)
+
+-- ---- what an edit leaves shows
+
+-- the edit leaves the text from place a to place b: those of a cut, the bounds of that part of a split, or
+-- where `trim` leaves it
+abbrev pub LeavesFromTo : Edit → List Piece → ℕ → ℕ → Type 0
+LeavesFromTo (Cut start end) pieces a b = (a ≡ start) × (b ≡ end)
+LeavesFromTo (Left mid) pieces a b = (a ≡ 0) × (b ≡ min mid (length (strip pieces)))
+LeavesFromTo (Right mid) pieces a b = (a ≡ min mid (length (strip pieces))) × (b ≡ length (strip pieces))
+LeavesFromTo (Part pattern index) pieces a b =
+    (matches : List ℕ) × AreMatches pattern.now (strip pieces) matches
+    × (slice_get (split_bounds pattern.now (strip pieces) matches) index ≡ Some (a, b))
+LeavesFromTo (Prefix prefix) pieces a b = (a ≡ length prefix.now) × (b ≡ length (strip pieces))
+LeavesFromTo (Suffix suffix) pieces a b = (a ≡ 0) × (b ≡ length (strip pieces) - length suffix.now)
+LeavesFromTo Trim pieces a b = IsTrimmedAt (strip pieces) a b
+
+-- what is left shows the characters of the pieces, each in its style, between the two places that the edit tells
+pub record ShowsItsSlice (edit : Edit) (pieces left : List Piece) : Type 0 where
+  pub start : ℕ
+  pub end : ℕ
+  pub ordered : start ≤ end
+  pub told : LeavesFromTo edit pieces start end
+  pub shown : styled left ≡ styled_slice pieces start end
+
+-- the pattern, prefix or suffix of an edit is UTF-8, as each `&str` is
+abbrev pub IsInUtf8 : Edit → Type 0
+IsInUtf8 (Part pattern index) = IsUtf8 pattern.now
+IsInUtf8 (Prefix prefix) = IsUtf8 prefix.now
+IsInUtf8 (Suffix suffix) = IsUtf8 suffix.now
+IsInUtf8 _ = Unit {0}
+
+-- these styled characters stand one after another among those
+pub record StandAmong (part whole : List (ℕ × Attributes)) : Type 0 where
+  pub before : List (ℕ × Attributes)
+  pub behind : List (ℕ × Attributes)
+  pub parted : whole ≡ before ++ (part ++ behind)

@@ -1,9 +1,11 @@
 //! Laws of the definitions that the other contracts cite.
 
-ghost use Rattle.std.specs.Prelude.{◌≡◌, ◌≤◌, ◌-◌, ℕ, List, [], ◌∷◌, ◌++◌, chars, codes, length, slice_range, take, ◌↔◌, Bool, IsTrue, MatchOption, Option, is_some, None, Some, ◌⊎◌, true};
+ghost use Rattle.std.specs.Prelude.{All, ◌≡◌, ◌≤◌, ◌-◌, ℕ, List, [], ◌∷◌, ◌++◌, chars, codes, length, slice_range, take, ◌↔◌, Bool, IsTrue, MatchOption, Option, is_some, None, Some, ◌⊎◌, true};
+ghost use Rattle.std.specs.Borrow.{Bor};
 ghost use Rattle.std.specs.Str.{IsCharBoundary, IsUtf8, trim};
 ghost use Rattle.ansi_scan.specs.Sequences.{Piece, ArePiecesOf, IsWhole, NoneBroken, joined};
-ghost use Rattle.ansi_scan.specs.Attributes.{plain_attributes};
+ghost use Rattle.ansi_scan.specs.Attributes.{after_code, plain_attributes};
+ghost use Rattle.ansi_scan.specs.Pieces.{pieces as pieces_of};
 ghost use Rattle.ansi_str.specs.StyledText.{IsClosed, strip, style_after_all, styled, styled_from};
 ghost use Rattle.ansi_str.specs.Cuts.{AreGoodBounds, IsGoodBound, cut_part, later_part, parts_at};
 ghost use Rattle.ansi_str.specs.Walking.{from_text, sequences};
@@ -13,15 +15,17 @@ ghost use Rattle.ansi_str.specs.WorkedCuts.{black_word, half_red_text, red_text,
 ghost use Rattle.ansi_str.specs.Searches.{BeginsWith, EndsWith};
 ghost use Rattle.ansi_str.specs.Keeping.{IsTrimmed, kept, sequences_among, without_end, without_front};
 ghost use Rattle.ansi_str.specs.declared.edits.Edit.{Edit as OneEdit};
-ghost use Rattle.ansi_str.specs.Edits.{OneFails, TakeInTurn};
+ghost use Rattle.ansi_str.specs.Edits.{IsInUtf8, OneFails, ShowsItsSlice, StandAmong, TakeInTurn, TakesTo};
+ghost use Rattle.ansi_str.specs.Matches.{styled_slice};
 ghost use Rattle.ansi_str.specs.Equality.{AreSame};
 
 use crate::edits::Edit;
 pub use ansi_str_search::laws::{
     closed_lines_join, cut_at_places, nothing_to_strip, one_list_of_matches,
     parts_are_closed_texts, parts_are_slices, parts_are_stripped_slices, parts_in_order,
-    parts_show_their_slices, split_as_std, split_at_one_byte, split_shows_its_slices,
-    starts_and_ends_as_texts, stripped_once, worked_parts, worked_splits,
+    parts_show_their_slices, split_as_std, split_at_nothing, split_at_one_byte,
+    split_between_characters, split_shows_its_slices, starts_and_ends_as_texts, stripped_once,
+    worked_parts, worked_splits,
 };
 pub use ansi_str_text::laws::{blocks_in_order, clones_of_blocks_are_the_same};
 
@@ -164,6 +168,31 @@ pub fn edits_in_turn()
     ensures not_both { (edits : List OneEdit) (text left : List ℕ) →
         TakeInTurn edits text left → ¬ (OneFails edits text) }
     ensures whole { (edits : List OneEdit) (text left : List ℕ) → IsWhole text → TakeInTurn edits text left → IsWhole left }
+{}
+
+/// What an edit leaves of a whole text in UTF-8 is in UTF-8 and shows a slice of the characters that the
+/// text shows, each in its style: from one place to another, as the edit tells them. So what edits in turn
+/// leave shows some of these characters, one after another.
+pub fn edits_show_slices()
+    ensures one { (edit : OneEdit) (text left : List ℕ) (pieces of_left : List Piece) → IsInUtf8 edit → IsUtf8 text →
+        ArePiecesOf text pieces → NoneBroken pieces → TakesTo edit text left → ArePiecesOf left of_left →
+        ShowsItsSlice edit pieces of_left }
+    ensures utf8 { (edits : List OneEdit) (text left : List ℕ) → All IsInUtf8 edits → IsUtf8 text →
+        TakeInTurn edits text left → IsUtf8 left }
+    ensures in_turn { (edits : List OneEdit) (text left : List ℕ) (pieces of_left : List Piece) → All IsInUtf8 edits → IsUtf8 text →
+        ArePiecesOf text pieces → NoneBroken pieces → TakeInTurn edits text left → ArePiecesOf left of_left →
+        StandAmong (styled of_left) (styled pieces) }
+{}
+
+/// An edit worked out by hand: of two red characters and a plain one, what is left behind the first shows
+/// the second in red and the third as it is.
+pub fn worked_edits()
+    ensures before { ArePiecesOf (codes "\u{1b}[31mab\u{1b}[0mc") red_text }
+    ensures taken { (prefix : Bor (List ℕ)) → prefix.now ≡ codes "a" →
+        TakesTo (OneEdit.Prefix prefix) (codes "\u{1b}[31mab\u{1b}[0mc") (codes "\u{1b}[31mb\u{1b}[0mc") }
+    ensures slice { styled_slice red_text 1 3 ≡ (0x62, after_code plain_attributes 31) ∷ (0x63, plain_attributes) ∷ [] }
+    ensures shown { styled (pieces_of (codes "\u{1b}[31mb\u{1b}[0mc")) ≡
+        (0x62, after_code plain_attributes 31) ∷ (0x63, plain_attributes) ∷ [] }
 {}
 
 /// `==` of edits is equality, all of their parts compared, texts by their bytes.

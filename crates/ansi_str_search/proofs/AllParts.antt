@@ -46,7 +46,7 @@ pub bounds-in_order : (pattern text matches : List ℕ) → AreMatches pattern t
     → All (λ bound. (bound.0 ≤ bound.1) × (bound.1 ≤ length text)) (split_bounds pattern text matches)
 bounds-in_order pattern text matches are = All-from_recursion (IsWithin text) (split_bounds pattern text matches) (bounds-within pattern text matches are)
 
-map-same : {A B : Type 0} (P : A → Type 0) (f g : A → B) (xs : List A) → ((x : A) → P x → f x ≡ g x) → AllByRecursion P xs → map f xs ≡ map g xs
+pub map-same : {A B : Type 0} (P : A → Type 0) (f g : A → B) (xs : List A) → ((x : A) → P x → f x ≡ g x) → AllByRecursion P xs → map f xs ≡ map g xs
 map-same P f g [] same all = refl
 map-same P f g (x ∷ xs) same all = ap (λ y. y ∷ map f xs) (same x all.0) ∙ ap (λ ys. g x ∷ ys) (map-same P f g xs same all.1)
 

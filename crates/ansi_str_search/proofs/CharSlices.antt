@@ -19,7 +19,7 @@ use Rattle.ansi_str_search.proofs.CutLemmas.{with_style, styled_from-text, style
 
 -- ---- how many characters are shown
 
-length-styled_from : (style : Attributes) (ps : List Piece) → EachUtf8 ps → length (styled_from style ps) ≡ length (chars (strip ps))
+pub length-styled_from : (style : Attributes) (ps : List Piece) → EachUtf8 ps → length (styled_from style ps) ≡ length (chars (strip ps))
 length-styled_from style [] each = ap length (sym chars-nil)
 length-styled_from style (p ∷ ps) each =
     let here = chars (text_of p) in
@@ -114,7 +114,7 @@ take-styled style n ps each boundary =
 
 -- ---- between two places
 
-take-parts : (a b : ℕ) (bytes : List ℕ) → a ≤ b → a ≤ length bytes → take b bytes ≡ take a bytes ++ take (b - a) (drop a bytes)
+pub take-parts : (a b : ℕ) (bytes : List ℕ) → a ≤ b → a ≤ length bytes → take b bytes ≡ take a bytes ++ take (b - a) (drop a bytes)
 take-parts a b bytes ordered fits =
     let front : length (take a bytes) ≡ a = omega (arith, length-take a bytes) in
     let sum : b ≡ length (take a bytes) + (b - a) = omega arith in

@@ -20,6 +20,8 @@ pub mod RestLemmas
 pub mod Landing
 pub mod AllParts
 pub mod CharSlices
+pub mod SplitSlices
+pub mod EmptyPattern
 pub mod WorkedLemmas
 pub mod ByteParts
 pub mod SearchLemmas

@@ -101,7 +101,7 @@ IsUtf8-IsSgr bytes sgr =
 abbrev IsRead : List ℕ → Type 0
 IsRead bytes = IsSome (sgr_parameters bytes)
 
-EachUtf8-renditions : (sequences : List (List ℕ)) → All IsRead sequences → EachUtf8 (renditions sequences)
+pub EachUtf8-renditions : (sequences : List (List ℕ)) → All IsRead sequences → EachUtf8 (renditions sequences)
 EachUtf8-renditions [] all = tt
 EachUtf8-renditions (bytes ∷ others) all =
     (IsUtf8-IsSgr bytes (IsSgr-if_read bytes (All-head IsRead bytes others all)), EachUtf8-renditions others (All-tail IsRead bytes others all))

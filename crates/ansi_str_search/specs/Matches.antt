@@ -1,7 +1,9 @@
 -- Where a pattern matches in a text, and the parts that the matches leave, as Rust's `str::split` has them.
-use Rattle.std.specs.Prelude.{◌≡◌, ◌<◌, ◌≤◌, ℕ, ◌+◌, max, List, [], ◌∷◌, ◌++◌, length, drop, map, slice_range}
+use Rattle.std.specs.Prelude.{◌≡◌, ◌<◌, ◌≤◌, ℕ, ◌+◌, max, List, [], ◌∷◌, ◌++◌, chars, length, take, drop, map, slice_range}
 use Rattle.std.specs.Str.{IsCharBoundary}
 use Rattle.ansi_scan.specs.Sequences.{Piece}
+use Rattle.ansi_scan.specs.Attributes.{Attributes}
+use Rattle.ansi_str_text.specs.StyledText.{strip, styled}
 use Rattle.ansi_str_search.specs.Parts.{split_part}
 
 -- the pattern stands in the text at this place, where a character begins or the text ends
@@ -46,3 +48,13 @@ text_parts text bounds = map (λ bound. slice_range text bound.0 bound.1) bounds
 -- the parts of styled text
 abbrev pub styled_parts : List Piece → List (ℕ × ℕ) → List (List ℕ)
 styled_parts pieces bounds = map (λ bound. split_part bound.0 bound.1 pieces) bounds
+
+-- a character of the text begins, or the text ends, where a part begins and where it ends
+abbrev pub IsCutBetweenCharacters : List ℕ → (ℕ × ℕ) → Type 0
+IsCutBetweenCharacters text bound = IsCharBoundary text bound.0 × IsCharBoundary text bound.1
+
+-- the characters that pieces show from place a to place b, each with its style: as many are passed over as
+-- stand before a, and the last is the last one before b
+abbrev pub styled_slice : List Piece → ℕ → ℕ → List (ℕ × Attributes)
+styled_slice pieces a b =
+    slice_range (styled pieces) (length (chars (take a (strip pieces)))) (length (chars (take b (strip pieces))))

@@ -1,6 +1,6 @@
 //! Laws of the definitions that the other contracts cite.
 
-ghost use Rattle.std.specs.Prelude.{All, ◌≡◌, ◌<◌, ◌≤◌, ◌-◌, ◌==◌, ℕ, List, [], ◌∷◌, ◌++◌, chars, codes, drop, false, length, map, slice_range, take, true};
+ghost use Rattle.std.specs.Prelude.{All, ◌≡◌, ◌<◌, ◌≤◌, ◌-◌, ◌==◌, ℕ, List, [], ◌∷◌, ◌++◌, chars, codes, drop, encode_utf8, false, length, map, slice_range, take, true};
 ghost use Rattle.std.specs.Borrow.{Bor};
 ghost use Rattle.std.specs.Iterator.{AlwaysYields};
 ghost use Rattle.std.specs.List.{join_with_byte, slice_split};
@@ -14,7 +14,7 @@ ghost use Rattle.ansi_scan.specs.Attributes.{Attributes, IsRendition, plain_attr
 ghost use Rattle.ansi_str_text.specs.StyledText.{IsClosed, has_escape, strip, style_after_all, styled, styled_from};
 ghost use Rattle.ansi_scan.specs.StartsAndEnds.{start_bytes, end_bytes};
 ghost use Rattle.ansi_str_search.specs.Parts.{before_place, dressed, from_place, split_part, through_place};
-ghost use Rattle.ansi_str_search.specs.Matches.{AreMatches, split_bounds, styled_parts, text_parts};
+ghost use Rattle.ansi_str_search.specs.Matches.{AreMatches, IsCutBetweenCharacters, split_bounds, styled_parts, styled_slice, text_parts};
 ghost use Rattle.ansi_str_search.specs.Lines.{IsClosedLine, IsClosedText};
 ghost use Rattle.ansi_str_search.specs.WorkedParts.{SplitsInto, black_text, two_lines};
 
@@ -127,6 +127,37 @@ pub fn split_shows_its_slices()
         ArePiecesOf text pieces → NoneBroken pieces → AreMatches (c ∷ []) (strip pieces) matches →
         map (λ part. styled (pieces_of part)) (styled_parts pieces (split_bounds (c ∷ []) (strip pieces) matches)) ≡
         slice_split (λ x. x.0 == c) (styled pieces) }
+{}
+
+/// A text in UTF-8 that is split at a pattern in UTF-8, of any number of bytes or none, is cut between
+/// characters. So each part of a whole text shows the slice of the characters that the text shows, each
+/// in its style.
+pub fn split_between_characters()
+    ensures bounds { (pattern text matches : List ℕ) → IsUtf8 text → IsUtf8 pattern → AreMatches pattern text matches →
+        All (IsCutBetweenCharacters text) (split_bounds pattern text matches) }
+    ensures stripped { (pattern text : List ℕ) (pieces : List Piece) (matches : List ℕ) → IsUtf8 text → IsUtf8 pattern →
+        ArePiecesOf text pieces → AreMatches pattern (strip pieces) matches →
+        All (IsCutBetweenCharacters (strip pieces)) (split_bounds pattern (strip pieces) matches) }
+    ensures shown { (pattern text : List ℕ) (pieces : List Piece) (matches : List ℕ) → IsUtf8 text → IsUtf8 pattern →
+        ArePiecesOf text pieces → NoneBroken pieces → AreMatches pattern (strip pieces) matches →
+        map (λ part. styled (pieces_of part)) (styled_parts pieces (split_bounds pattern (strip pieces) matches)) ≡
+        map (λ bound. styled_slice pieces bound.0 bound.1) (split_bounds pattern (strip pieces) matches) }
+{}
+
+/// At the empty pattern a text in UTF-8 is split into an empty part, each of its characters by itself,
+/// and an empty part. So the parts of a whole text show nothing, one character each in its style, and
+/// nothing.
+pub fn split_at_nothing()
+    ensures parts { (text matches : List ℕ) → IsUtf8 text → AreMatches [] text matches →
+        text_parts text (split_bounds [] text matches) ≡ [] ∷ (map encode_utf8 (chars text) ++ [] ∷ []) }
+    ensures stripped { (text : List ℕ) (pieces : List Piece) (matches : List ℕ) → IsUtf8 text →
+        ArePiecesOf text pieces → NoneBroken pieces → AreMatches [] (strip pieces) matches →
+        map (λ part. strip (pieces_of part)) (styled_parts pieces (split_bounds [] (strip pieces) matches)) ≡
+        [] ∷ (map encode_utf8 (chars (strip pieces)) ++ [] ∷ []) }
+    ensures shown { (text : List ℕ) (pieces : List Piece) (matches : List ℕ) → IsUtf8 text →
+        ArePiecesOf text pieces → NoneBroken pieces → AreMatches [] (strip pieces) matches →
+        map (λ part. styled (pieces_of part)) (styled_parts pieces (split_bounds [] (strip pieces) matches)) ≡
+        [] ∷ (map (λ x. x ∷ []) (styled pieces) ++ [] ∷ []) }
 {}
 
 /// Closed lines that are joined by line feeds are the parts of the text when it is split at the line feed.

@@ -1,0 +1,12 @@
+-- Lemmas of `EditSlices`.
+use Rattle.ansi_str.proofs.EditSlices.{TakesTo-shows, TakeInTurn-utf8, TakeInTurn-shows}
+use Rattle.ansi_str.proofs.laws.edits_show_slices.Goals as goal
+
+pub returns-clause-one : goal.returns-clause-one
+returns-clause-one c = TakesTo-shows
+
+pub returns-clause-utf8 : goal.returns-clause-utf8
+returns-clause-utf8 c = TakeInTurn-utf8
+
+pub returns-clause-in_turn : goal.returns-clause-in_turn
+returns-clause-in_turn c = TakeInTurn-shows

@@ -1,0 +1,12 @@
+-- The lemmas of `EmptyPattern`.
+use Rattle.ansi_str_search.proofs.EmptyPattern.{text_parts-nothing, stripped-nothing, styled-nothing}
+use Rattle.ansi_str_search.proofs.laws.split_at_nothing.Goals as goal
+
+pub returns-clause-parts : goal.returns-clause-parts
+returns-clause-parts c = λ text matches utf8 are. text_parts-nothing text utf8 matches are
+
+pub returns-clause-stripped : goal.returns-clause-stripped
+returns-clause-stripped c = λ text pieces matches utf8 of_text whole are. stripped-nothing text pieces utf8 of_text whole matches are
+
+pub returns-clause-shown : goal.returns-clause-shown
+returns-clause-shown c = λ text pieces matches utf8 of_text whole are. styled-nothing text pieces utf8 of_text whole matches are

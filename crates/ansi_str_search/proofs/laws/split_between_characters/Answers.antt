@@ -1,0 +1,13 @@
+-- The lemmas of `SplitSlices`.
+use Rattle.ansi_str_search.proofs.SplitSlices.{All-between_characters, IsUtf8-stripped, styled-parts}
+use Rattle.ansi_str_search.proofs.laws.split_between_characters.Goals as goal
+
+pub returns-clause-bounds : goal.returns-clause-bounds
+returns-clause-bounds c = All-between_characters
+
+pub returns-clause-stripped : goal.returns-clause-stripped
+returns-clause-stripped c = λ pattern text pieces matches utf8 pattern_utf8 of_text are.
+    All-between_characters pattern _ matches (IsUtf8-stripped text pieces utf8 of_text) pattern_utf8 are
+
+pub returns-clause-shown : goal.returns-clause-shown
+returns-clause-shown c = styled-parts
