@@ -14,6 +14,7 @@ use Rattle.ansi_scan_style.specs.declared.next.Layer.TheVariants.{Foreground, Ba
 use Rattle.ansi_scan.specs.Sequences.{Piece}
 use Rattle.ansi_scan.specs.Attributes.{Attributes, plain_attributes, after_code, is_font_code, is_foreground_code, is_background_code}
 use Rattle.ansi_scan.specs.Rendition.{number, Effect, OfCode, OfColor, effects, with_color, after_effect, after_parameters, after_parameter_bytes, sgr_parameters, applied}
+use Rattle.ansi_scan_style.proofs.Table.{some_if, some_unless}
 use Rattle.ansi_str_text.specs.StyledText.{style_by, style_after, style_after_all}
 use Rattle.grid_config_colors.specs.Clearing.{code_of_effect, codes_in, codes_by, codes_of, Attribute, all_attributes, is_clearing, ClearsEach}
 
@@ -148,13 +149,6 @@ flag_steps is_set sets clearing clears all by_code left = record {
   apart = λ code h. apart_flag sets clearing code clears all h;
 }
 
--- whether a value is there, where a code sets it, clears it or leaves it
-some_if : {V : Type 0} (sets clears : Bool) (value : V) (was : Option V)
-    → is_some (if sets then Some value else (if clears then None else was)) ≡ (if sets then true else (if clears then false else is_some was))
-some_if true clears value was = refl
-some_if false true value was = refl
-some_if false false value was = refl
-
 abbrev is_foreground_layer : Layer → Bool
 is_foreground_layer Foreground = true
 is_foreground_layer Background = false
@@ -214,10 +208,6 @@ background_steps = record {
   by_color = background_color;
   apart = apart_background;
 }
-
-some_unless : {V : Type 0} (clears : Bool) (was : Option V) → is_some (if clears then None else was) ≡ (if clears then false else is_some was)
-some_unless true was = refl
-some_unless false was = refl
 
 underline_steps : Steps (λ a. is_some a.underline_color) (λ code. false) 59 is_underline_layer
 underline_steps = record {
