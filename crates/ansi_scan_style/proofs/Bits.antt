@@ -1,5 +1,5 @@
 -- The word of the attributes that are set or not.
-use Rattle.std.proofs.Common.{◌≡◌, ℕ, zero, suc, ◌+◌, ◌*◌, ◌/◌, ◌%◌, ◌^◌, ◌<◌, min, max, Bool, true, false, cond, not, ◌&&◌, ◌||◌, ◌==◌, if◌then◌else◌, List, [], ◌∷◌, get_or, length, refl, ap, sym, ◌∙◌, subst, arith}
+use Rattle.std.proofs.Common.{◌≡◌, ℕ, zero, suc, ◌*◌, ◌^◌, ◌<◌, min, max, Bool, true, false, cond, not, ◌&&◌, ◌||◌, ◌==◌, if◌then◌else◌, List, get_or, refl, ap, sym, ◌∙◌, subst, arith}
 use Rattle.std.specs.Prelude.{bit_and, bit_or}
 use Rattle.std.specs.Int.{bit_at}
 use Rattle.std.specs.Simd.Lanes.{mask_l}

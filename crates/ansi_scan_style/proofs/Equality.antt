@@ -1,5 +1,5 @@
 -- `==` of styles, as it is derived, is equality of all attributes.
-use Rattle.std.proofs.Common.{◌≡◌, ℕ, Bool, true, false, not, ◌&&◌, Option, None, Some, List, [], ◌∷◌, ◌==◌, refl, ap, ◌∙◌, sym, subst}
+use Rattle.std.proofs.Common.{◌≡◌, ℕ, Bool, true, not, ◌&&◌, Option, None, Some, List, [], ◌∷◌, ◌==◌, refl, ap, ◌∙◌, sym, subst}
 use Rattle.std.proofs.lemmas.Bool.{and_parts, eqb-true}
 use Rattle.std.specs.contracts.prelude.OptionPartialEq.TheImpl.{ghosts as option_ghosts}
 use Rattle.std.specs.contracts.prelude.U8PartialEq.TheImpl.{ghosts as u8_ghosts, dict as u8_dict}

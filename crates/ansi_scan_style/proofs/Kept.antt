@@ -8,11 +8,9 @@ use Rattle.ansi_scan_style.specs.declared.color.AnsiColor.{AnsiColor}
 use Rattle.ansi_scan_style.specs.declared.color.AnsiColor.TheVariants.{Bit4, Bit8, Bit24}
 use Rattle.ansi_scan_style.specs.declared.next.Layer.{Layer}
 use Rattle.ansi_scan_style.specs.declared.next.Layer.TheVariants.{Foreground, Background, Underline}
-use Rattle.ansi_scan_style.specs.declared.next.Next.{Next}
-use Rattle.ansi_scan_style.specs.declared.next.Next.TheVariants.{Code, Form, Index, Red, Green, Blue, Nothing}
 use Rattle.ansi_scan_style.specs.Attributes.{Attributes, plain_attributes, after_code, font_after, foreground_after, background_after, underline_color_after, is_font_code, is_foreground_code, is_background_code, is_no_code, IsColor, IsRendition}
 use Rattle.std.specs.Char.{is_ascii_digit}
-use Rattle.ansi_scan_style.specs.Rendition.{with_digit, number, with_color, next_after, next_after_code, next_after_form, after_parameter, reading_after, after_parameters, after_parameter_bytes, sgr_parameters, applied}
+use Rattle.ansi_scan_style.specs.Rendition.{with_digit, number, Effect, OfCode, layer_of, effects, effects_of_color, effects_of_index, effects_of_rgb, with_color, after_effect, after_parameters, after_parameter_bytes, sgr_parameters, applied}
 
 pub IsRendition-plain : IsRendition plain_attributes
 unfolding plain_attributes
@@ -71,61 +69,9 @@ IsRendition-with_color a Underline color fits r = record {
 
 pub ruleset kept = (IsRendition-plain, IsRendition-after_code, IsRendition-with_color)
 
--- the numbers of a colour that is being read go up to 255
-abbrev pub NumbersFit : Next → Type 0
-NumbersFit Code = Unit {0}
-NumbersFit (Form layer) = Unit {0}
-NumbersFit (Index layer) = Unit {0}
-NumbersFit (Red layer) = Unit {0}
-NumbersFit (Green layer r) = r < 256
-NumbersFit (Blue layer r g) = (r < 256) × (g < 256)
-NumbersFit Nothing = Unit {0}
-
-NumbersFit-next_after_code : (code : ℕ) → NumbersFit (next_after_code code)
-NumbersFit-next_after_code code =
-    elim (code == 38) as (λ b. NumbersFit (if b then Form Foreground else (if code == 48 then Form Background else (if code == 58 then Form Underline else Code)))) [
-      | true ↦ tt
-      | false ↦ elim (code == 48) as (λ b. NumbersFit (if b then Form Background else (if code == 58 then Form Underline else Code))) [
-        | true ↦ tt
-        | false ↦ elim (code == 58) as (λ b. NumbersFit (if b then Form Underline else Code)) [ true ↦ tt | false ↦ tt ]
-      ]
-    ]
-
-NumbersFit-next_after_form : (layer : Layer) (form : ℕ) → NumbersFit (next_after_form layer form)
-NumbersFit-next_after_form layer form =
-    elim (form == 5) as (λ b. NumbersFit (if b then Index layer else (if form == 2 then Red layer else Nothing))) [
-      | true ↦ tt
-      | false ↦ elim (form == 2) as (λ b. NumbersFit (if b then Red layer else Nothing)) [ true ↦ tt | false ↦ tt ]
-    ]
-
-abbrev pub IsByteIf : Option ℕ → Type 0
+-- a parameter that is a number is a byte
+abbrev IsByteIf : Option ℕ → Type 0
 IsByteIf o = IfSome o (λ n. n < 256)
-
-NumbersFit-next_after : (next : Next) (parameter : Option ℕ) → NumbersFit next → IsByteIf parameter → NumbersFit (next_after next parameter)
-NumbersFit-next_after Code None fit byte = tt
-NumbersFit-next_after Code (Some code) fit byte = NumbersFit-next_after_code code
-NumbersFit-next_after (Form layer) None fit byte = tt
-NumbersFit-next_after (Form layer) (Some form) fit byte = NumbersFit-next_after_form layer form
-NumbersFit-next_after (Index layer) None fit byte = tt
-NumbersFit-next_after (Index layer) (Some n) fit byte = tt
-NumbersFit-next_after (Red layer) None fit byte = tt
-NumbersFit-next_after (Red layer) (Some r) fit byte = byte
-NumbersFit-next_after (Green layer r) None fit byte = tt
-NumbersFit-next_after (Green layer r) (Some g) fit byte = (fit, byte)
-NumbersFit-next_after (Blue layer r g) None fit byte = tt
-NumbersFit-next_after (Blue layer r g) (Some b) fit byte = tt
-NumbersFit-next_after Nothing None fit byte = tt
-NumbersFit-next_after Nothing (Some n) fit byte = tt
-
-IsRendition-after_parameter : (a : Attributes) (next : Next) (parameter : Option ℕ) → IsRendition a → NumbersFit next → IsByteIf parameter → IsRendition (after_parameter a next parameter)
-IsRendition-after_parameter a next None r fit byte = r
-IsRendition-after_parameter a Code (Some code) r fit byte = IsRendition-after_code a code r
-IsRendition-after_parameter a (Form layer) (Some form) r fit byte = r
-IsRendition-after_parameter a (Index layer) (Some n) r fit byte = IsRendition-with_color a layer (Bit8 n) byte r
-IsRendition-after_parameter a (Red layer) (Some n) r fit byte = r
-IsRendition-after_parameter a (Green layer red) (Some g) r fit byte = r
-IsRendition-after_parameter a (Blue layer red g) (Some b) r fit byte = IsRendition-with_color a layer (Bit24 red g b) (fit.0, fit.1, byte) r
-IsRendition-after_parameter a Nothing (Some n) r fit byte = r
 
 IsByteIf-if : (b : Bool) (n : ℕ) → IsByteIf (if b && nat_le n 255 then Some n else None)
 IsByteIf-if false n = tt
@@ -138,18 +84,60 @@ IsByteIf-if true n = elim (nat_le n 255) as (λ t. (nat_le n 255 ≡ t) → IsBy
 IsByteIf-number : (parameter : List ℕ) → IsByteIf (number parameter)
 IsByteIf-number parameter = IsByteIf-if (list_all is_ascii_digit parameter) (fold with_digit 0 parameter)
 
-IsRendition-fold : (reading : Attributes × Next) (parts : List (List ℕ)) → IsRendition reading.0 → NumbersFit reading.1 → IsRendition (fold reading_after reading (map number parts)).0
-IsRendition-fold reading [] r fit = r
-IsRendition-fold reading (part ∷ parts) r fit =
-    IsRendition-fold (reading_after reading (number part)) parts
-    (IsRendition-after_parameter reading.0 reading.1 (number part) r fit (IsByteIf-number part))
-    (NumbersFit-next_after reading.1 (number part) fit (IsByteIf-number part))
+-- the same of each of the parameters
+abbrev AreBytes : List (Option ℕ) → Type 0
+AreBytes [] = Unit {0}
+AreBytes (parameter ∷ others) = IsByteIf parameter × AreBytes others
+
+AreBytes-numbers : (parts : List (List ℕ)) → AreBytes (map number parts)
+AreBytes-numbers [] = tt
+AreBytes-numbers (part ∷ parts) = (IsByteIf-number part, AreBytes-numbers parts)
+
+mutual
+  IsRendition-effects : (a : Attributes) (parameters : List (Option ℕ)) → IsRendition a → AreBytes parameters → IsRendition (fold after_effect a (effects parameters))
+  IsRendition-effects a [] r bytes = r
+  IsRendition-effects a (None ∷ others) r bytes = IsRendition-effects a others r bytes.1
+  IsRendition-effects a (Some code ∷ others) r bytes =
+      elim (layer_of code) as (λ o. IsRendition (fold after_effect a (elim o as (λ p. List Effect) [ None ↦ OfCode code ∷ effects others | Some layer ↦ effects_of_color layer others ]))) [
+        | None ↦ IsRendition-effects (after_code a code) others (IsRendition-after_code a code r) bytes.1
+        | Some layer ↦ IsRendition-effects_of_color a layer others r bytes.1
+      ]
+
+  IsRendition-effects_of_color : (a : Attributes) (layer : Layer) (parameters : List (Option ℕ)) → IsRendition a → AreBytes parameters → IsRendition (fold after_effect a (effects_of_color layer parameters))
+  IsRendition-effects_of_color a layer [] r bytes = r
+  IsRendition-effects_of_color a layer (None ∷ others) r bytes = r
+  IsRendition-effects_of_color a layer (Some form ∷ others) r bytes =
+      elim (form == 5) as (λ t. IsRendition (fold after_effect a (if t then effects_of_index layer others else (if form == 2 then effects_of_rgb layer others else [])))) [
+        | true ↦ IsRendition-effects_of_index a layer others r bytes.1
+        | false ↦ elim (form == 2) as (λ t. IsRendition (fold after_effect a (if t then effects_of_rgb layer others else []))) [
+          | true ↦ IsRendition-effects_of_rgb a layer others r bytes.1
+          | false ↦ r
+        ]
+      ]
+
+  IsRendition-effects_of_index : (a : Attributes) (layer : Layer) (parameters : List (Option ℕ)) → IsRendition a → AreBytes parameters → IsRendition (fold after_effect a (effects_of_index layer parameters))
+  IsRendition-effects_of_index a layer [] r bytes = r
+  IsRendition-effects_of_index a layer (None ∷ others) r bytes = r
+  IsRendition-effects_of_index a layer (Some n ∷ others) r bytes =
+      IsRendition-effects (with_color a layer (Bit8 n)) others (IsRendition-with_color a layer (Bit8 n) bytes.0 r) bytes.1
+
+  IsRendition-effects_of_rgb : (a : Attributes) (layer : Layer) (parameters : List (Option ℕ)) → IsRendition a → AreBytes parameters → IsRendition (fold after_effect a (effects_of_rgb layer parameters))
+  IsRendition-effects_of_rgb a layer [] r bytes = r
+  IsRendition-effects_of_rgb a layer (None ∷ others) r bytes = r
+  IsRendition-effects_of_rgb a layer (Some red ∷ []) r bytes = r
+  IsRendition-effects_of_rgb a layer (Some red ∷ None ∷ others) r bytes = r
+  IsRendition-effects_of_rgb a layer (Some red ∷ Some g ∷ []) r bytes = r
+  IsRendition-effects_of_rgb a layer (Some red ∷ Some g ∷ None ∷ others) r bytes = r
+  IsRendition-effects_of_rgb a layer (Some red ∷ Some g ∷ Some b ∷ others) r bytes =
+      IsRendition-effects (with_color a layer (Bit24 red g b)) others
+      (IsRendition-with_color a layer (Bit24 red g b) (bytes.0, bytes.1.0, bytes.1.1.0) r) bytes.1.1.1
 
 IsRendition-after_parameter_bytes : (a : Attributes) (parameters : Option (List ℕ)) → IsRendition a → IsRendition (after_parameter_bytes a parameters)
 unfolding after_parameters
 IsRendition-after_parameter_bytes a None r = r
 IsRendition-after_parameter_bytes a (Some parameters) r =
-    IsRendition-fold (a, Code) (slice_split (λ byte. byte == 59) parameters) r tt
+    let parts = slice_split (λ byte. byte == 59) parameters in
+    IsRendition-effects a (map number parts) r (AreBytes-numbers parts)
 
 -- what a sequence leaves
 pub IsRendition-applied : (a : Attributes) (bytes : List ℕ) → IsRendition a → IsRendition (applied a bytes)

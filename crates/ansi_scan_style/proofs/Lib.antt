@@ -11,3 +11,4 @@ pub mod Forms
 pub mod Effects
 pub mod Equality
 pub mod Names
+pub mod Table

@@ -1,11 +1,11 @@
 -- A sequence of a start or an end, read.
-use Rattle.std.proofs.Common.{◌≡◌, ℕ, ◌-◌, ◌<◌, ◌≤◌, Bool, true, ◌&&◌, Option, None, Some, List, [], ◌∷◌, ◌++◌, refl, ap, ◌∙◌, arith, fold, map, length, length-append, nat_lt, not, ◌||◌, ◌==◌}
+use Rattle.std.proofs.Common.{◌≡◌, ℕ, ◌-◌, ◌<◌, ◌≤◌, Bool, true, false, ◌&&◌, Option, None, Some, List, [], ◌∷◌, ◌++◌, refl, ap, ◌∙◌, arith, fold, map, length, length-append, nat_lt, not, ◌==◌}
 use Rattle.std.proofs.lemmas.List.Elements.{All-nil, All-cons, All-append}
 use Rattle.std.specs.Prelude.{All, IsSome, is_some, IsTrue, slice_index, slice_range}
 use Rattle.std.specs.List.{list_all, slice_split}
 use Rattle.std.specs.Fmt.{decimal}
 use Rattle.std.proofs.lemmas.Grind.{common_steps}
-use Rattle.std.proofs.lemmas.Bool.{and_parts, ltb-true}
+use Rattle.std.proofs.lemmas.Bool.{and_parts, ltb-true, not-true}
 use Rattle.std.proofs.lemmas.Bool.Decides.{nat_tests}
 use Rattle.std.proofs.lemmas.List.Folds.{list_all-append}
 use Rattle.std.proofs.lemmas.List.Splits.{slice_split_at, slice_split_none}
@@ -17,6 +17,8 @@ use Rattle.ansi_scan_style.specs.declared.sequences.Parameters.{Parameters}
 use Rattle.ansi_scan_style.specs.declared.sequences.Parameters.TheVariants.{Code, Indexed, Direct}
 use Rattle.ansi_scan_style.specs.Attributes.{Attributes, after_code}
 use Rattle.ansi_scan_style.specs.Rendition.{is_numeric, sgr_parameters, number, with_color, after_parameters, after_parameter_bytes, applied}
+use Rattle.ansi_scan_style.specs.ColorForms.{is_color_code}
+use Rattle.ansi_scan_style.proofs.Forms.{after_parameters-nil, after_parameters-code}
 use Rattle.ansi_scan_style.specs.Sequences.{layer_code, parameter_bytes, sequence_bytes, sequence_if, sequences_of}
 
 -- the cut at each `;`
@@ -35,7 +37,7 @@ numbers_of-cons n rest fits =
 
 -- a code after which no colour follows
 abbrev pub stands_alone : ℕ → Bool
-stands_alone code = nat_lt code 256 && not (code == 38 || code == 48 || code == 58)
+stands_alone code = nat_lt code 256 && not (is_color_code code)
 
 -- the numbers fit, and a code stands alone
 abbrev pub IsReadable : Parameters → Type 0
@@ -44,7 +46,10 @@ IsReadable (Indexed layer n) = n < 256
 IsReadable (Direct layer r g b) = (r < 256) × (g < 256) × (b < 256)
 
 pub code_fits : (code : ℕ) → IsTrue (stands_alone code) → code < 256
-code_fits code alone = ltb-true code 256 (and_parts (nat_lt code 256) (not (code == 38 || code == 48 || code == 58)) alone).0
+code_fits code alone = ltb-true code 256 (and_parts (nat_lt code 256) (not (is_color_code code)) alone).0
+
+no_color_code : (code : ℕ) → IsTrue (stands_alone code) → is_color_code code ≡ false
+no_color_code code alone = not-true (is_color_code code) (and_parts (nat_lt code 256) (not (is_color_code code)) alone).1
 
 -- the attributes after the sequence of these parameters
 abbrev pub after_given : Attributes → Parameters → Attributes
@@ -69,14 +74,13 @@ after_direct a Foreground r g b = refl
 after_direct a Background r g b = refl
 after_direct a Underline r g b = refl
 
-after_single : (a : Attributes) (code : ℕ) → after_parameters a (Some code ∷ []) ≡ after_code a code
-unfolding after_parameters
-after_single a code = refl
+after_single : (a : Attributes) (code : ℕ) → IsTrue (stands_alone code) → after_parameters a (Some code ∷ []) ≡ after_code a code
+after_single a code alone = after_parameters-code a code [] (no_color_code code alone) ∙ after_parameters-nil (after_code a code)
 
 -- what the bytes of the parameters are read as
 after_parameters-parameter_bytes : (a : Attributes) (p : Parameters) → IsReadable p → after_parameters a (numbers_of (parameter_bytes p)) ≡ after_given a p
 after_parameters-parameter_bytes a (Code code) fits =
-    ap (after_parameters a) (numbers_of-decimal code (code_fits code fits)) ∙ after_single a code
+    ap (after_parameters a) (numbers_of-decimal code (code_fits code fits)) ∙ after_single a code fits
 after_parameters-parameter_bytes a (Indexed layer n) fits =
     ap (after_parameters a) (numbers_of-cons (layer_code layer) (53 ∷ 59 ∷ decimal n) (layer_code_fits layer)
     ∙ ap (λ rest. Some (layer_code layer) ∷ Some 5 ∷ rest) (numbers_of-decimal n fits))

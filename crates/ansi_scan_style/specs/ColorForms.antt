@@ -1,4 +1,5 @@
--- The colours that stand after 38, 48 and 58, looked for at the front of what follows.
+-- The colours that stand after 38, 48 and 58, looked for at the front of what follows: the words of the law
+-- that says of each first parameter what it does.
 use Rattle.std.specs.Prelude.{ℕ, Bool, ◌||◌, Option, None, Some, List, ◌∷◌, ◌==◌, if◌then◌else◌}
 use Rattle.ansi_scan_style.specs.declared.color.AnsiColor.{AnsiColor}
 use Rattle.ansi_scan_style.specs.declared.color.AnsiColor.TheVariants.{Bit8, Bit24}

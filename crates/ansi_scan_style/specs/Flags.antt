@@ -1,5 +1,5 @@
 -- The attributes that are set or not, and the word whose bits they are.
-use Rattle.std.specs.Prelude.{ℕ, Bool, false, not, ◌||◌, ◌==◌, None, List, [], ◌∷◌}
+use Rattle.std.specs.Prelude.{ℕ, Bool, not, ◌||◌, ◌==◌, None, List, [], ◌∷◌}
 use Rattle.std.specs.Int.{bit_at}
 use Rattle.std.specs.Simd.Lanes.{mask_l}
 use Rattle.ansi_scan_style.specs.declared.flags.Flag.{Flag}

@@ -1,5 +1,6 @@
 pub mod Attributes
 pub mod Rendition
+pub mod NextParameter
 pub mod Digits
 pub mod Sequences
 pub mod FlagSet

@@ -1,6 +1,6 @@
 -- How a sequence SELECT GRAPHIC RENDITION is read (ECMA-48, 8.3.117): the bytes `ESC [`, parameters,
 -- and `m`.
-use Rattle.std.specs.Prelude.{ℕ, ◌+◌, ◌-◌, ◌*◌, Bool, ◌&&◌, Option, None, Some, List, map, fold, length, slice_index, slice_range, nat_le, ◌==◌, if◌then◌else◌}
+use Rattle.std.specs.Prelude.{ℕ, ◌+◌, ◌-◌, ◌*◌, Bool, ◌&&◌, Option, None, Some, List, [], ◌∷◌, map, fold, length, slice_index, slice_range, nat_le, ◌==◌, if◌then◌else◌}
 use Rattle.std.specs.List.{list_all, slice_split}
 use Rattle.std.specs.Int.{is_in_range}
 use Rattle.std.specs.Char.{is_ascii_digit}
@@ -8,8 +8,6 @@ use Rattle.ansi_scan_style.specs.declared.color.AnsiColor.{AnsiColor}
 use Rattle.ansi_scan_style.specs.declared.color.AnsiColor.TheVariants.{Bit8, Bit24}
 use Rattle.ansi_scan_style.specs.declared.next.Layer.{Layer}
 use Rattle.ansi_scan_style.specs.declared.next.Layer.TheVariants.{Foreground, Background, Underline}
-use Rattle.ansi_scan_style.specs.declared.next.Next.{Next}
-use Rattle.ansi_scan_style.specs.declared.next.Next.TheVariants.{Code, Form, Index, Red, Green, Blue, Nothing}
 use Rattle.ansi_scan_style.specs.Attributes.{Attributes, after_code}
 
 -- a parameter byte that is a digit, `:` or `;`, 5.4.2
@@ -33,55 +31,55 @@ abbrev pub number : List ℕ → Option ℕ
 number parameter = let n = fold with_digit 0 parameter in
     if list_all is_ascii_digit parameter && nat_le n 255 then Some n else None
 
--- what comes after 38, 48 and 58, and after any other code
-abbrev pub next_after_code : ℕ → Next
-next_after_code code = if code == 38 then Form Foreground
-    else (if code == 48 then Form Background else (if code == 58 then Form Underline else Code))
+-- what parameters do: what a code of the table does, or set a colour that is given by numbers
+pub data Effect : Type 0 where
+  OfCode : ℕ → Effect
+  OfColor : Layer → AnsiColor → Effect
 
--- what comes after 5 and 2
-abbrev pub next_after_form : Layer → ℕ → Next
-next_after_form layer form =
-    if form == 5 then Index layer else (if form == 2 then Red layer else Nothing)
+-- 38, 48 and 58: what the colour that comes next is given to
+abbrev pub layer_of : ℕ → Option Layer
+layer_of code = if code == 38 then Some Foreground
+    else (if code == 48 then Some Background else (if code == 58 then Some Underline else None))
 
--- what the parameter after this one is, where a parameter that is no number up to 255 is `None`
-abbrev pub next_after : Next → Option ℕ → Next
-next_after Code None = Code
-next_after Code (Some code) = next_after_code code
-next_after (Form layer) None = Nothing
-next_after (Form layer) (Some form) = next_after_form layer form
-next_after (Index layer) None = Nothing
-next_after (Index layer) (Some n) = Code
-next_after (Red layer) None = Nothing
-next_after (Red layer) (Some r) = Green layer r
-next_after (Green layer r) None = Nothing
-next_after (Green layer r) (Some g) = Blue layer r g
-next_after (Blue layer r g) None = Nothing
-next_after (Blue layer r g) (Some b) = Code
-next_after Nothing parameter = Nothing
+abbrev mutual
+  -- the effects of parameters in order; one that is no number up to 255 is `None`, and has none
+  pub effects : List (Option ℕ) → List Effect
+  effects [] = []
+  effects (None ∷ others) = effects others
+  effects (Some code ∷ others) = elim (layer_of code) [
+    | None ↦ OfCode code ∷ effects others
+    | Some layer ↦ effects_of_color layer others
+  ]
+
+  -- the same behind 38, 48 and 58: a colour, `5;n` or `2;r;g;b`, and what follows it; where no colour comes,
+  -- nothing more has an effect
+  pub effects_of_color : Layer → List (Option ℕ) → List Effect
+  effects_of_color layer (Some form ∷ others) =
+      if form == 5 then effects_of_index layer others else (if form == 2 then effects_of_rgb layer others else [])
+  effects_of_color layer others = []
+
+  -- behind 5: one number
+  pub effects_of_index : Layer → List (Option ℕ) → List Effect
+  effects_of_index layer (Some n ∷ others) = OfColor layer (Bit8 n) ∷ effects others
+  effects_of_index layer others = []
+
+  -- behind 2: red, green and blue
+  pub effects_of_rgb : Layer → List (Option ℕ) → List Effect
+  effects_of_rgb layer (Some r ∷ Some g ∷ Some b ∷ others) = OfColor layer (Bit24 r g b) ∷ effects others
+  effects_of_rgb layer others = []
 
 abbrev pub with_color : Attributes → Layer → AnsiColor → Attributes
 with_color a Foreground color = record a { foreground = Some color }
 with_color a Background color = record a { background = Some color }
 with_color a Underline color = record a { underline_color = Some color }
 
--- the attributes after a parameter: a code, or the last number of a colour
-abbrev pub after_parameter : Attributes → Next → Option ℕ → Attributes
-after_parameter a next None = a
-after_parameter a Code (Some code) = after_code a code
-after_parameter a (Form layer) (Some form) = a
-after_parameter a (Index layer) (Some n) = with_color a layer (Bit8 n)
-after_parameter a (Red layer) (Some r) = a
-after_parameter a (Green layer r) (Some g) = a
-after_parameter a (Blue layer r g) (Some b) = with_color a layer (Bit24 r g b)
-after_parameter a Nothing (Some n) = a
+abbrev pub after_effect : Attributes → Effect → Attributes
+after_effect a (OfCode code) = after_code a code
+after_effect a (OfColor layer color) = with_color a layer color
 
--- the attributes after one parameter after the other, where the first is a code
-abbrev pub reading_after : Attributes × Next → Option ℕ → Attributes × Next
-reading_after reading parameter =
-    (after_parameter reading.0 reading.1 parameter, next_after reading.1 parameter)
-
+-- the attributes after one effect after the other
 unfoldable pub after_parameters : Attributes → List (Option ℕ) → Attributes
-after_parameters a parameters = (fold reading_after (a, Code) parameters).0
+after_parameters a parameters = fold after_effect a (effects parameters)
 
 -- the same where there are parameters, parted by `;`
 abbrev pub after_parameter_bytes : Attributes → Option (List ℕ) → Attributes

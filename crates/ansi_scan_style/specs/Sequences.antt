@@ -1,6 +1,6 @@
--- The sequences that begin and end a style.
-use Rattle.std.specs.Prelude.{ℕ, Bool, ◌||◌, Option, None, Some, is_some, List, [], ◌∷◌, ◌++◌, codes, if◌then◌else◌}
-use Rattle.std.specs.List.{concat, flat_map}
+-- The sequences that begin and end a style, and the table of codes that they follow from.
+use Rattle.std.specs.Prelude.{ℕ, ◌==◌, Bool, true, false, ◌||◌, Option, None, Some, is_some, List, [], ◌∷◌, ◌++◌, map, fold, codes, if◌then◌else◌}
+use Rattle.std.specs.List.{concat, filter, flat_map}
 use Rattle.std.specs.Fmt.{decimal}
 use Rattle.ansi_scan_style.specs.declared.color.AnsiColor.{AnsiColor}
 use Rattle.ansi_scan_style.specs.declared.color.AnsiColor.TheVariants.{Bit4, Bit8, Bit24}
@@ -8,7 +8,7 @@ use Rattle.ansi_scan_style.specs.declared.next.Layer.{Layer}
 use Rattle.ansi_scan_style.specs.declared.next.Layer.TheVariants.{Foreground, Background, Underline}
 use Rattle.ansi_scan_style.specs.declared.sequences.Parameters.{Parameters}
 use Rattle.ansi_scan_style.specs.declared.sequences.Parameters.TheVariants.{Code, Indexed, Direct}
-use Rattle.ansi_scan_style.specs.Attributes.{Attributes}
+use Rattle.ansi_scan_style.specs.Attributes.{Attributes, is_font_code, is_foreground_code, is_background_code, is_no_code}
 
 -- the code that gives a colour by numbers to what it stands for
 abbrev pub layer_code : Layer → ℕ
@@ -42,37 +42,115 @@ color_parameters layer (Some (Bit4 code)) = Some (Code code)
 color_parameters layer (Some (Bit8 n)) = Some (Indexed layer n)
 color_parameters layer (Some (Bit24 r g b)) = Some (Direct layer r g b)
 
--- what sets each attribute that is set, in ascending order of the codes, where the colours stand at
--- 38, 48 and 58
+-- ---- the table of codes, a row for each attribute
+
+-- whether the attribute is set, the codes that set it alone, what a start writes for it, and the code that
+-- clears it
+pub record CodeRow : Type 0 where
+  pub is_set : Attributes → Bool
+  pub sets : ℕ → Bool
+  pub start : Attributes → Option Parameters
+  pub clears : ℕ
+
+-- an attribute without a value: the code that sets it, and the one that clears it
+abbrev pub flag_row : (Attributes → Bool) → ℕ → ℕ → CodeRow
+flag_row is_set code clears =
+    record { is_set = is_set; sets = λ n. n == code; start = λ a. code_if (is_set a) code; clears = clears }
+
+abbrev pub font_row : CodeRow
+font_row = record {
+  is_set = λ a. is_some a.font;
+  sets = is_font_code;
+  start = λ a. font_parameters a.font;
+  clears = 10;
+}
+
+abbrev pub foreground_row : CodeRow
+foreground_row = record {
+  is_set = λ a. is_some a.foreground;
+  sets = is_foreground_code;
+  start = λ a. color_parameters Foreground a.foreground;
+  clears = 39;
+}
+
+abbrev pub background_row : CodeRow
+background_row = record {
+  is_set = λ a. is_some a.background;
+  sets = is_background_code;
+  start = λ a. color_parameters Background a.background;
+  clears = 49;
+}
+
+abbrev pub underline_color_row : CodeRow
+underline_color_row = record {
+  is_set = λ a. is_some a.underline_color;
+  sets = is_no_code;
+  start = λ a. color_parameters Underline a.underline_color;
+  clears = 59;
+}
+
+-- in ascending order of the codes that set, where the colours stand at 38, 48 and 58
+abbrev pub code_rows : List CodeRow
+code_rows =
+    flag_row (λ a. a.bold) 1 22
+    ∷ flag_row (λ a. a.faint) 2 22
+    ∷ flag_row (λ a. a.italic) 3 23
+    ∷ flag_row (λ a. a.underline) 4 24
+    ∷ flag_row (λ a. a.slow_blink) 5 25
+    ∷ flag_row (λ a. a.rapid_blink) 6 25
+    ∷ flag_row (λ a. a.inverted) 7 27
+    ∷ flag_row (λ a. a.hidden) 8 28
+    ∷ flag_row (λ a. a.crossed_out) 9 29
+    ∷ font_row
+    ∷ flag_row (λ a. a.fraktur) 20 23
+    ∷ flag_row (λ a. a.double_underline) 21 24
+    ∷ flag_row (λ a. a.proportional_spacing) 26 50
+    ∷ foreground_row
+    ∷ background_row
+    ∷ flag_row (λ a. a.framed) 51 54
+    ∷ flag_row (λ a. a.encircled) 52 54
+    ∷ flag_row (λ a. a.overlined) 53 55
+    ∷ underline_color_row
+    ∷ flag_row (λ a. a.ideogram_underline) 60 65
+    ∷ flag_row (λ a. a.ideogram_double_underline) 61 65
+    ∷ flag_row (λ a. a.ideogram_overline) 62 65
+    ∷ flag_row (λ a. a.ideogram_double_overline) 63 65
+    ∷ flag_row (λ a. a.ideogram_stress) 64 65
+    ∷ flag_row (λ a. a.superscript) 73 75
+    ∷ flag_row (λ a. a.subscript) 74 75
+    ∷ []
+
+-- whether an attribute is set after a code: one that sets it, the one that clears it or 0, which clears all,
+-- or any other
+abbrev pub is_set_after : CodeRow → ℕ → Bool → Bool
+is_set_after row code was_set =
+    if row.sets code then true else (if code == row.clears || code == 0 then false else was_set)
+
+-- the codes that clear, ascending, each once
+abbrev pub clearing_codes : List ℕ
+clearing_codes =
+    10 ∷ 22 ∷ 23 ∷ 24 ∷ 25 ∷ 27 ∷ 28 ∷ 29 ∷ 39 ∷ 49 ∷ 50 ∷ 54 ∷ 55 ∷ 59 ∷ 65 ∷ 75 ∷ []
+
+abbrev pub rows_cleared_by : ℕ → List CodeRow
+rows_cleared_by code = filter (λ row. row.clears == code) code_rows
+
+-- the attribute of one of these rows is set
+abbrev pub any_set : Attributes → List CodeRow → Bool
+any_set a [] = false
+any_set a (row ∷ others) = fold (λ found other. found || other.is_set a) (row.is_set a) others
+
+-- what sets each attribute that is set
 abbrev pub start_parameters : Attributes → List (Option Parameters)
-start_parameters a =
-    code_if a.bold 1 ∷ code_if a.faint 2 ∷ code_if a.italic 3 ∷ code_if a.underline 4
-    ∷ code_if a.slow_blink 5 ∷ code_if a.rapid_blink 6 ∷ code_if a.inverted 7 ∷ code_if a.hidden 8
-    ∷ code_if a.crossed_out 9 ∷ font_parameters a.font ∷ code_if a.fraktur 20
-    ∷ code_if a.double_underline 21 ∷ code_if a.proportional_spacing 26
-    ∷ color_parameters Foreground a.foreground ∷ color_parameters Background a.background
-    ∷ code_if a.framed 51 ∷ code_if a.encircled 52 ∷ code_if a.overlined 53
-    ∷ color_parameters Underline a.underline_color
-    ∷ code_if a.ideogram_underline 60 ∷ code_if a.ideogram_double_underline 61
-    ∷ code_if a.ideogram_overline 62 ∷ code_if a.ideogram_double_overline 63
-    ∷ code_if a.ideogram_stress 64 ∷ code_if a.superscript 73 ∷ code_if a.subscript 74 ∷ []
+start_parameters a = map (λ row. row.start a) code_rows
+
+-- what clears each attribute that is set
+abbrev pub end_parameters : Attributes → List (Option Parameters)
+end_parameters a = map (λ code. code_if (any_set a (rows_cleared_by code)) code) clearing_codes
 
 -- one of the five marks is set that 65 clears
 abbrev pub has_ideogram_mark : Attributes → Bool
 has_ideogram_mark a = a.ideogram_underline || a.ideogram_double_underline || a.ideogram_overline
     || a.ideogram_double_overline || a.ideogram_stress
-
--- what clears each attribute that is set, in ascending order of the codes
-abbrev pub end_parameters : Attributes → List (Option Parameters)
-end_parameters a =
-    code_if (is_some a.font) 10 ∷ code_if (a.bold || a.faint) 22 ∷ code_if (a.italic || a.fraktur) 23
-    ∷ code_if (a.underline || a.double_underline) 24 ∷ code_if (a.slow_blink || a.rapid_blink) 25
-    ∷ code_if a.inverted 27 ∷ code_if a.hidden 28 ∷ code_if a.crossed_out 29
-    ∷ code_if (is_some a.foreground) 39 ∷ code_if (is_some a.background) 49
-    ∷ code_if a.proportional_spacing 50 ∷ code_if (a.framed || a.encircled) 54
-    ∷ code_if a.overlined 55 ∷ code_if (is_some a.underline_color) 59
-    ∷ code_if (has_ideogram_mark a) 65
-    ∷ code_if (a.superscript || a.subscript) 75 ∷ []
 
 -- the sequences of those that are there
 abbrev pub sequence_if : Option Parameters → List (List ℕ)

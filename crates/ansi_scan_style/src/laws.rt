@@ -1,8 +1,8 @@
 //! Laws of the definitions that the other contracts cite.
 
-ghost use Rattle.std.specs.Prelude.{◌≡◌, ◌≢◌, ◌<◌, ◌≤◌, ◌↔◌, ℕ, All, IsSome, IsTrue, codes, false, true, List, Option, None, Some, [], ◌∷◌, ◌++◌, fold, length};
+ghost use Rattle.std.specs.Prelude.{◌≡◌, ◌≢◌, ◌==◌, ◌<◌, ◌≤◌, ◌↔◌, ℕ, All, IsSome, IsTrue, codes, false, true, List, Option, None, Some, [], ◌∷◌, ◌++◌, fold, length};
 ghost use Rattle.std.specs.Fmt.{decimal};
-ghost use Rattle.std.specs.List.{concat, list_all};
+ghost use Rattle.std.specs.List.{AllByRecursion, concat, filter, list_all, list_any, range_with_len};
 ghost use Rattle.std.specs.declared.cmp.Ordering.TheVariants.{Equal};
 ghost use Rattle.ansi_scan_style.specs.declared.color.AnsiColor.{AnsiColor as OneAnsiColor};
 ghost use Rattle.ansi_scan_style.specs.declared.color.Color.{Color as OneColor};
@@ -13,7 +13,7 @@ ghost use Rattle.ansi_scan_style.specs.Color.{color_of};
 ghost use Rattle.ansi_scan_style.specs.Rendition.{after_parameters, applied, is_numeric, number, sgr_parameters};
 ghost use Rattle.ansi_scan_style.specs.ColorForms.{after_color, color_at_front, is_color_code};
 ghost use Rattle.ansi_scan_style.specs.Equality.{compared, equal};
-ghost use Rattle.ansi_scan_style.specs.Sequences.{layer_code, start_sequences, start_bytes, end_sequences, end_bytes};
+ghost use Rattle.ansi_scan_style.specs.Sequences.{clearing_codes, code_rows, is_set_after, layer_code, start_sequences, start_bytes, end_sequences, end_bytes};
 
 use crate::RESET_ALL;
 use crate::color::{AnsiColor, Color};
@@ -23,6 +23,13 @@ use crate::style::Style;
 pub fn start_reads_as_its_style()
     ensures from_plain { (a : Attributes) → IsRendition a → fold applied plain_attributes (start_sequences a) ≡ a }
     ensures from_itself { (a : Attributes) → IsRendition a → fold applied a (start_sequences a) ≡ a }
+{}
+
+/// The table of codes: each attribute is set and cleared by the codes of its row, and every other code
+/// leaves it; the codes that clear are those of the rows.
+pub fn codes_follow_the_table()
+    ensures codes { (a : Attributes) (code : ℕ) → AllByRecursion (λ row. row.is_set (after_code a code) ≡ is_set_after row code (row.is_set a)) code_rows }
+    ensures clearing { clearing_codes ≡ filter (λ code. list_any (λ row. row.clears == code) code_rows) (range_with_len 0 256) }
 {}
 
 /// An end clears its style.

@@ -1,6 +1,6 @@
 //! What the next parameter of a sequence is: a code, or a part of a colour.
 ghost use Rattle.std.specs.Prelude.{◌≡◌};
-ghost use Rattle.ansi_scan_style.specs.Rendition.{next_after};
+ghost use Rattle.ansi_scan_style.specs.NextParameter.{next_after};
 
 /// What a colour of its own is given to.
 #[derive(Clone, Copy, Debug, PartialEq, Eq)]

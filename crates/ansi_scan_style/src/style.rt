@@ -3,7 +3,8 @@ ghost use Rattle.std.specs.Prelude.{◌≡◌, ◌↔◌, IsTrue, Some};
 ghost use Rattle.std.specs.Option.{option_map};
 ghost use Rattle.ansi_scan_style.specs.Attributes.{IsColor, IsRendition, after_code, is_no_code, plain_attributes};
 ghost use Rattle.ansi_scan_style.specs.Color.{color_of};
-ghost use Rattle.ansi_scan_style.specs.Rendition.{after_parameter, after_parameter_bytes, applied, with_color};
+ghost use Rattle.ansi_scan_style.specs.NextParameter.{after_parameter};
+ghost use Rattle.ansi_scan_style.specs.Rendition.{after_parameter_bytes, applied, with_color};
 ghost use Rattle.ansi_scan_style.specs.Plain.{sets_nothing};
 ghost use Rattle.ansi_scan_style.specs.Sequences.{end_parameters, has_ideogram_mark, start_parameters};
 

@@ -1,6 +1,6 @@
 -- Each attribute follows the codes that set and clear it, whatever was set before.
 use Rattle.std.proofs.Common.{◌≡◌, ℕ, Bool, true, false, ◌||◌, Option, None, Some, List, [], ◌∷◌, ◌++◌, map, fold, refl, ap, sym, ◌∙◌, arith, ◌==◌, if◌then◌else◌}
-use Rattle.std.specs.Prelude.{IsTrue, is_some}
+use Rattle.std.specs.Prelude.{IsTrue, is_some, flat_map}
 use Rattle.std.specs.List.{AllByRecursion, list_any, slice_split}
 use Rattle.std.proofs.lemmas.Bool.{false≢true}
 use Rattle.std.proofs.lemmas.Bool.Decides.{nat_tests}
@@ -8,16 +8,15 @@ use Rattle.std.proofs.lemmas.List.Folds.{list_any-append}
 use Rattle.ansi_scan.specs.declared.items.Kind.{Kind}
 use Rattle.ansi_scan.specs.declared.items.Kind.TheVariants.{Text, Sgr, Csi, Osc, Esc, Str, Broken}
 use Rattle.ansi_scan_style.specs.declared.color.AnsiColor.{AnsiColor}
-use Rattle.ansi_scan_style.specs.declared.color.AnsiColor.TheVariants.{Bit4, Bit8, Bit24}
+use Rattle.ansi_scan_style.specs.declared.color.AnsiColor.TheVariants.{Bit4}
 use Rattle.ansi_scan_style.specs.declared.next.Layer.{Layer}
 use Rattle.ansi_scan_style.specs.declared.next.Layer.TheVariants.{Foreground, Background, Underline}
-use Rattle.ansi_scan_style.specs.declared.next.Next.{Next}
-use Rattle.ansi_scan_style.specs.declared.next.Next.TheVariants.{Code, Form, Index, Red, Green, Blue, Nothing}
 use Rattle.ansi_scan.specs.Sequences.{Piece}
 use Rattle.ansi_scan.specs.Attributes.{Attributes, plain_attributes, after_code, is_font_code, is_foreground_code, is_background_code}
-use Rattle.ansi_scan.specs.Rendition.{number, with_color, next_after, after_parameter, reading_after, after_parameters, after_parameter_bytes, sgr_parameters, applied}
+use Rattle.ansi_scan.specs.Rendition.{number, Effect, OfCode, OfColor, effects, with_color, after_effect, after_parameters, after_parameter_bytes, sgr_parameters, applied}
+use Rattle.ansi_scan_style.proofs.Table.{some_if, some_unless}
 use Rattle.ansi_str_text.specs.StyledText.{style_by, style_after, style_after_all}
-use Rattle.grid_config_colors.specs.Clearing.{code_here, codes_from, codes_in, codes_by, codes_of, Attribute, all_attributes, is_clearing, ClearsEach}
+use Rattle.grid_config_colors.specs.Clearing.{code_of_effect, codes_in, codes_by, codes_of, Attribute, all_attributes, is_clearing, ClearsEach}
 
 -- an attribute, after a change of the style in which these codes are read: what was set before decides only
 -- where no code clears it
@@ -92,27 +91,21 @@ module _ (is_set : Attributes → Bool) (sets : ℕ → Bool) (clearing : ℕ) (
     cleared = λ h. absurd (false≢true h);
   }
 
-  parameter_follows : (next : Next) (parameter : Option ℕ) → Follows is_set (is_clearing clearing) (code_here next parameter) (λ a. after_parameter a next parameter)
-  parameter_follows next None = nothing_follows is_set (is_clearing clearing)
-  parameter_follows Code (Some code) = code_follows code
-  parameter_follows (Form layer) (Some n) = nothing_follows is_set (is_clearing clearing)
-  parameter_follows (Index layer) (Some n) = color_follows layer (Bit8 n)
-  parameter_follows (Red layer) (Some n) = nothing_follows is_set (is_clearing clearing)
-  parameter_follows (Green layer r) (Some n) = nothing_follows is_set (is_clearing clearing)
-  parameter_follows (Blue layer r g) (Some n) = color_follows layer (Bit24 r g n)
-  parameter_follows Nothing (Some n) = nothing_follows is_set (is_clearing clearing)
+  effect_follows : (effect : Effect) → Follows is_set (is_clearing clearing) (code_of_effect effect) (λ a. after_effect a effect)
+  effect_follows (OfCode code) = code_follows code
+  effect_follows (OfColor layer color) = color_follows layer color
 
-  parameters_follow : (next : Next) (parameters : List (Option ℕ)) → Follows is_set (is_clearing clearing) (codes_from next parameters) (λ a. (fold reading_after (a, next) parameters).0)
-  parameters_follow next [] = nothing_follows is_set (is_clearing clearing)
-  parameters_follow next (parameter ∷ parameters) =
-      both_follow is_set (is_clearing clearing) (code_here next parameter) (codes_from (next_after next parameter) parameters)
-      (λ a. after_parameter a next parameter) (λ a. (fold reading_after (a, next_after next parameter) parameters).0)
-      (parameter_follows next parameter) (parameters_follow (next_after next parameter) parameters)
+  effects_follow : (all : List Effect) → Follows is_set (is_clearing clearing) (flat_map code_of_effect all) (λ a. fold after_effect a all)
+  effects_follow [] = nothing_follows is_set (is_clearing clearing)
+  effects_follow (effect ∷ others) =
+      both_follow is_set (is_clearing clearing) (code_of_effect effect) (flat_map code_of_effect others)
+      (λ a. after_effect a effect) (λ a. fold after_effect a others)
+      (effect_follows effect) (effects_follow others)
 
   bytes_follow : (parameters : Option (List ℕ)) → Follows is_set (is_clearing clearing) (codes_in parameters) (λ a. after_parameter_bytes a parameters)
   unfolding after_parameters
   bytes_follow None = nothing_follows is_set (is_clearing clearing)
-  bytes_follow (Some parameters) = parameters_follow Code (map number (slice_split (λ byte. byte == 59) parameters))
+  bytes_follow (Some parameters) = effects_follow (effects (map number (slice_split (λ byte. byte == 59) parameters)))
 
   piece_follows : (kind : Kind) (bytes : List ℕ) → Follows is_set (is_clearing clearing) (codes_by kind bytes) (λ a. style_by a kind bytes)
   unfolding applied
@@ -155,13 +148,6 @@ flag_steps is_set sets clearing clears all by_code left = record {
   by_color = flag_color is_set left;
   apart = λ code h. apart_flag sets clearing code clears all h;
 }
-
--- whether a value is there, where a code sets it, clears it or leaves it
-some_if : {V : Type 0} (sets clears : Bool) (value : V) (was : Option V)
-    → is_some (if sets then Some value else (if clears then None else was)) ≡ (if sets then true else (if clears then false else is_some was))
-some_if true clears value was = refl
-some_if false true value was = refl
-some_if false false value was = refl
 
 abbrev is_foreground_layer : Layer → Bool
 is_foreground_layer Foreground = true
@@ -222,10 +208,6 @@ background_steps = record {
   by_color = background_color;
   apart = apart_background;
 }
-
-some_unless : {V : Type 0} (clears : Bool) (was : Option V) → is_some (if clears then None else was) ≡ (if clears then false else is_some was)
-some_unless true was = refl
-some_unless false was = refl
 
 underline_steps : Steps (λ a. is_some a.underline_color) (λ code. false) 59 is_underline_layer
 underline_steps = record {

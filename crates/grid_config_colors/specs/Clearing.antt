@@ -1,34 +1,23 @@
 -- What it is, attribute by attribute, that sequences clear a style.
-use Rattle.std.specs.Prelude.{ℕ, ◌==◌, Bool, ◌||◌, Option, None, Some, is_some, List, [], ◌∷◌, ◌++◌, map, flat_map, IsTrue}
+use Rattle.std.specs.Prelude.{ℕ, ◌==◌, Bool, ◌||◌, Option, None, Some, List, [], ◌∷◌, map, flat_map, IsTrue}
 use Rattle.std.specs.List.{AllByRecursion, list_any, slice_split}
 use Rattle.ansi_scan.specs.declared.items.Kind.{Kind}
 use Rattle.ansi_scan.specs.declared.items.Kind.TheVariants.{Text, Sgr, Csi, Osc, Esc, Str, Broken}
-use Rattle.ansi_scan_style.specs.declared.next.Next.{Next}
-use Rattle.ansi_scan_style.specs.declared.next.Next.TheVariants.{Code, Form, Index, Red, Green, Blue, Nothing}
 use Rattle.ansi_scan.specs.Sequences.{Piece}
 use Rattle.ansi_scan.specs.Attributes.{Attributes}
-use Rattle.ansi_scan.specs.Rendition.{number, next_after, sgr_parameters}
+use Rattle.ansi_scan.specs.StartsAndEnds.{code_rows}
+use Rattle.ansi_scan.specs.Rendition.{number, Effect, OfCode, OfColor, effects, sgr_parameters}
 
--- the code that a parameter is, where `next` says what it is: the numbers of a colour are none
-abbrev pub code_here : Next → Option ℕ → List ℕ
-code_here next None = []
-code_here Code (Some code) = code ∷ []
-code_here (Form layer) (Some n) = []
-code_here (Index layer) (Some n) = []
-code_here (Red layer) (Some n) = []
-code_here (Green layer r) (Some n) = []
-code_here (Blue layer r g) (Some n) = []
-code_here Nothing (Some n) = []
-
--- the codes among parameters
-abbrev pub codes_from : Next → List (Option ℕ) → List ℕ
-codes_from next [] = []
-codes_from next (parameter ∷ parameters) = code_here next parameter ++ codes_from (next_after next parameter) parameters
+-- the code that an effect is, if any: a colour that is given by numbers is none
+abbrev pub code_of_effect : Effect → List ℕ
+code_of_effect (OfCode code) = code ∷ []
+code_of_effect (OfColor layer color) = []
 
 -- the codes among parameters that are parted by `;`
 abbrev pub codes_in : Option (List ℕ) → List ℕ
 codes_in None = []
-codes_in (Some parameters) = codes_from Code (map number (slice_split (λ byte. byte == 59) parameters))
+codes_in (Some parameters) =
+    flat_map code_of_effect (effects (map number (slice_split (λ byte. byte == 59) parameters)))
 
 -- the codes of a piece: those of SELECT GRAPHIC RENDITION
 abbrev pub codes_by : Kind → List ℕ → List ℕ
@@ -43,40 +32,13 @@ codes_by Broken bytes = []
 abbrev pub codes_of : List Piece → List ℕ
 codes_of pieces = flat_map (λ piece. codes_by piece.kind piece.bytes) pieces
 
--- an attribute: whether it is set, and the code that clears it (ECMA-48, 8.3.117; 59 and 75 by the custom
--- of terminals)
+-- an attribute: whether it is set, and the code that clears it
 abbrev pub Attribute : Type 0
 Attribute = (Attributes → Bool) × ℕ
 
+-- those of the table of codes
 abbrev pub all_attributes : List Attribute
-all_attributes =
-    (λ a. a.bold, 22)
-    ∷ (λ a. a.faint, 22)
-    ∷ (λ a. a.italic, 23)
-    ∷ (λ a. a.underline, 24)
-    ∷ (λ a. a.slow_blink, 25)
-    ∷ (λ a. a.rapid_blink, 25)
-    ∷ (λ a. a.inverted, 27)
-    ∷ (λ a. a.hidden, 28)
-    ∷ (λ a. a.crossed_out, 29)
-    ∷ (λ a. is_some a.font, 10)
-    ∷ (λ a. a.fraktur, 23)
-    ∷ (λ a. a.double_underline, 24)
-    ∷ (λ a. a.proportional_spacing, 50)
-    ∷ (λ a. is_some a.foreground, 39)
-    ∷ (λ a. is_some a.background, 49)
-    ∷ (λ a. a.framed, 54)
-    ∷ (λ a. a.encircled, 54)
-    ∷ (λ a. a.overlined, 55)
-    ∷ (λ a. is_some a.underline_color, 59)
-    ∷ (λ a. a.ideogram_underline, 65)
-    ∷ (λ a. a.ideogram_double_underline, 65)
-    ∷ (λ a. a.ideogram_overline, 65)
-    ∷ (λ a. a.ideogram_double_overline, 65)
-    ∷ (λ a. a.ideogram_stress, 65)
-    ∷ (λ a. a.superscript, 75)
-    ∷ (λ a. a.subscript, 75)
-    ∷ []
+all_attributes = map (λ row. (row.is_set, row.clears)) code_rows
 
 -- a code clears what this code clears: it is that code, or 0, which clears all
 abbrev pub is_clearing : ℕ → ℕ → Bool

@@ -1,4 +1,4 @@
-use Rattle.std.proofs.Common.{◌≡◌, ◌^◌, ◌<◌, ℕ, List, ap, sym, ◌∙◌, subst}
+use Rattle.std.proofs.Common.{◌≡◌, ◌^◌, ◌<◌, ap, sym, ◌∙◌, subst}
 use Rattle.std.specs.Prelude.{bit_and, bit_or}
 use Rattle.ansi_scan_style.specs.Flags.{word_of, flags_in}
 use Rattle.ansi_scan_style.proofs.Bits.{word_of-flags_in, word_after-lt, flags_in-word_after, word_after}
