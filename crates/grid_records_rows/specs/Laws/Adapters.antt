@@ -6,7 +6,7 @@ use Rattle.std.specs.Iterator.{Count, IsFinite, SkipsThenYields, Yields, at_most
 use Rattle.std.specs.Iterator.Adapters.{skip_count, skip_source, skip_steps, take_count, take_source, take_steps}
 use Rattle.std.specs.declared.iter.Skip.{Skip}
 use Rattle.std.specs.declared.iter.Take.{Take}
-use Rattle.grid_records_traits.specs.Giving.{Gives, GivesCells, GivesEach, GivesRows, GivesTexts}
+use Rattle.grid_records_traits.specs.Giving.{Gives, GivesCells, GivesEach, GivesTexts}
 use Rattle.grid_records_rows.specs.Sources.{GivesTaken}
 
 each_taken : {S A B : Type 0} (steps : S → Option A → S → Type 0) (tie : A → B → Type 0) (n : ℕ) (s : Take S) (ys : List B) → take_count s ≡ n →
@@ -130,9 +130,9 @@ each_limited steps inside limit_of tie wanted limit follows s (texts ∷ rows) i
 -- all rows of a source, of each the first cells
 pub limited_rows_give : {R S C E F : Type 0} {row_can : R → Type 0} {row_left : R → Count} {can : S → Type 0} {left : S → Count} {may_refuse : Bool} {rows : List (List (List ℕ))}
     (row_steps : R → Option S → R → Type 0) (steps : S → Option (Result C E) → S → Type 0) (text : C → List ℕ) (rows_of : F → R) (limit_of : F → ℕ) (s : F) →
-    GivesRows row_can row_left row_steps can left steps text may_refuse (rows_of s) rows →
-    GivesRows (λ s. row_can (rows_of s)) (λ s. row_left (rows_of s)) (λ s r t. (limit_of t ≡ limit_of s) × GivesTaken row_steps (limit_of s) (rows_of s) r (rows_of t))
-    (λ cells. can (take_source cells)) (λ cells. count_min (at_most (take_count cells)) (left (take_source cells))) (take_steps steps) text may_refuse s (map (take (limit_of s)) rows)
+    Gives row_can row_left row_steps (GivesTexts can left steps text may_refuse) (rows_of s) rows →
+    Gives (λ s. row_can (rows_of s)) (λ s. row_left (rows_of s)) (λ s r t. (limit_of t ≡ limit_of s) × GivesTaken row_steps (limit_of s) (rows_of s) r (rows_of t))
+    (GivesTexts (λ cells. can (take_source cells)) (λ cells. count_min (at_most (take_count cells)) (left (take_source cells))) (take_steps steps) text may_refuse) s (map (take (limit_of s)) rows)
 limited_rows_give {rows = rows} row_steps steps text rows_of limit_of s gives =
     record {
       can_next = gives.can_next;

@@ -6,7 +6,7 @@ use Rattle.grid_records_traits.specs.Cells.{text_or_empty}
 use Rattle.grid_records_rows.specs.Fitting.{FitsCell, FitsOne, GivesFitted}
 use Rattle.grid_records_rows.specs.declared.records.into_records.fitted.FittedCells.{FittedCells}
 use Rattle.grid_records_rows.specs.declared.records.into_records.fitted.FittedRows.{FittedRows}
-use Rattle.grid_records_traits.specs.Giving.{GivesCells, GivesEach, GivesRows, GivesTexts, HasEnded}
+use Rattle.grid_records_traits.specs.Giving.{Gives, GivesCells, GivesEach, GivesTexts, HasEnded}
 use Rattle.grid_records_traits.specs.Rows.{fitted, fitted_row}
 
 -- the same, text by text
@@ -127,9 +127,9 @@ each_fitted steps tie wanted n follows s (texts ∷ rows) is gives = (
 -- and where they are given, so are those
 pub gives_fitted_rows : {S Row C E : Type 0} (row_steps : S → Option Row → S → Type 0) (steps : Row → Option (Result C E) → Row → Type 0) (text : C → List ℕ)
     {row_can : S → Type 0} {row_left : S → Count} {can : Row → Type 0} {left : Row → Count} {may_refuse : Bool} {rows : List (List (List ℕ))} (s : FittedRows S) →
-    GivesRows row_can row_left row_steps can left steps text may_refuse s.rows rows →
-    GivesRows (λ s. row_can s.rows) (λ s. row_left s.rows) (GivesFitted row_steps)
-    (λ cells. IfSome cells.cells can) (λ cells. at_most cells.left) (FitsCell steps) (text_or_empty text) may_refuse s (fitted s.columns rows)
+    Gives row_can row_left row_steps (GivesTexts can left steps text may_refuse) s.rows rows →
+    Gives (λ s. row_can s.rows) (λ s. row_left s.rows) (GivesFitted row_steps)
+    (GivesTexts (λ cells. IfSome cells.cells can) (λ cells. at_most cells.left) (FitsCell steps) (text_or_empty text) may_refuse) s (fitted s.columns rows)
 gives_fitted_rows row_steps steps text {may_refuse = may_refuse} {rows = rows} s gives =
     record {
       can_next = gives.can_next;

@@ -13,7 +13,7 @@ use Rattle.grid_records_measure.specs.Cutting.{IsCutAt, cut_bytes}
 use Rattle.grid_records_measure.specs.Filling.{behind_front, front}
 use Rattle.grid_records_measure.specs.TextLines.{text_width}
 use Rattle.grid_records_measure.proofs.FillingLemmas.{IsLongestFront-front, IsLongestFront-unique}
-use Rattle.grid_records_traits.specs.Giving.{GivesCells, GivesEach, GivesRows, GivesTexts, HasEnded}
+use Rattle.grid_records_traits.specs.Giving.{Gives, GivesCells, GivesEach, GivesTexts, HasEnded}
 use Rattle.grid_records_rows.specs.Truncating.{GivesTruncated, GivesTruncatedRow, IsTruncated, cut_text, next_column, text_of_truncated, truncated_row, truncated_rows, truncated_text}
 use Rattle.grid_records_rows.specs.declared.records.into_records.truncate_content.Truncated.{Truncated}
 use Rattle.grid_records_rows.specs.declared.records.into_records.truncate_content.TruncatedCells.{TruncatedCells}
@@ -87,10 +87,10 @@ each_truncated_row steps tie wanted width d follows s (texts ∷ rows) same give
 -- all rows of a source, cut
 pub truncated_rows_give : {R S C E D : Type 0} {row_can : R → Type 0} {row_left : R → Count} {can : S → Type 0} {left : S → Count} {may_refuse : Bool} {rows : List (List (List ℕ))}
     (row_steps : R → Option S → R → Type 0) (steps : S → Option (Result C E) → S → Type 0) (text : C → List ℕ) (width : D → ℕ → ℕ) (s : TruncatedRows R D) →
-    GivesRows row_can row_left row_steps can left steps text may_refuse s.rows rows →
-    GivesRows (λ s. row_can s.rows) (λ s. row_left s.rows) (GivesTruncatedRow row_steps)
-    (λ cells. IfSome cells.cells can) (λ cells. of_rest left (at_most 0) cells.cells) (GivesTruncated steps text width)
-    (text_of_truncated text) true s (truncated_rows (width s.dimension) rows)
+    Gives row_can row_left row_steps (GivesTexts can left steps text may_refuse) s.rows rows →
+    Gives (λ s. row_can s.rows) (λ s. row_left s.rows) (GivesTruncatedRow row_steps)
+    (GivesTexts (λ cells. IfSome cells.cells can) (λ cells. of_rest left (at_most 0) cells.cells) (GivesTruncated steps text width)
+    (text_of_truncated text) true) s (truncated_rows (width s.dimension) rows)
 truncated_rows_give {may_refuse = may_refuse} {rows = rows} row_steps steps text width s gives =
     record {
       can_next = gives.can_next;
