@@ -1,22 +1,19 @@
 -- Sizings that say the same of each cell give the same sizes.
-use Rattle.std.proofs.Common.{◌≡◌, ◌+◌, ◌∙◌, ◌↔◌, ℕ, Bool, IsTrue, List, [], ap, length, refl, subst, sym}
+use Rattle.std.proofs.Common.{◌≡◌, ◌+◌, ◌∙◌, ℕ, List, [], ap, length, refl, subst, sym}
 use Rattle.std.proofs.Math.Path.{fun_ext}
 use Rattle.grid_config.specs.Compact.{Compact}
 use Rattle.grid_config.specs.Glyphs.{boundary_count, boundary_kind, has_column_boundary, has_row_boundary}
-use Rattle.grid_config.specs.Looks.{Look, compact_look, look_of}
+use Rattle.grid_config.specs.Looks.{compact_look, look_of}
 use Rattle.grid_config.specs.Settings.{Settings}
 use Rattle.grid_config_spans.specs.Rectangles.{Holds}
-use Rattle.grid_config_spans.specs.Spans.{IsVisible, extent_at, single}
+use Rattle.grid_config_spans.specs.Spans.{extent_at, single}
 use Rattle.grid_config_spans.specs.declared.extent.Extent.{Extent}
-use Rattle.grid_config_values.specs.declared.borders.Borders.{Borders}
 use Rattle.grid_config_values.specs.declared.position.Position.{Position}
-use Rattle.grid_config_values.specs.declared.sides.Indent.{Indent}
-use Rattle.grid_config_values.specs.declared.sides.Sides.{Sides}
 use Rattle.grid_records_measure.specs.TextLines.{text_height, text_width}
 use Rattle.grid_records_traits.specs.Rows.{fitted, text_at}
 use Rattle.grid_records_estimate.specs.Alike.{AreAlike, HaveSameSizes}
-use Rattle.grid_records_estimate.specs.Estimates.{Axis, track_sizes}
-use Rattle.grid_records_estimate.specs.Sizes.{height_total, table_heights, table_widths, width_total}
+use Rattle.grid_records_estimate.specs.Estimates.{track_sizes}
+use Rattle.grid_records_estimate.specs.Sizes.{table_heights, table_widths}
 use Rattle.grid_records_estimate.specs.Sizing.{Sizing, column_axis, compact_sizing, is_visible, place, row_axis, sizing_of}
 use Rattle.grid_records_estimate.specs.Totals.{total}
 use Rattle.grid_records_estimate.proofs.Visibility.{is_visible-decides, is_visible-exact}

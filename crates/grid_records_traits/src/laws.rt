@@ -38,7 +38,7 @@ pub fn cells_answer_by_their_texts()
         width ≡ line_measure (line_at (shown_lines (pieces_of text)) index) }
 {}
 
-/// And what these functions give is what is told of the text, so each text has one answer.
+/// What the functions of a text give may be told of its lines: with `cells_answer_by_their_texts`, that alone.
 pub fn texts_have_their_answers()
     ensures line { (text : List ℕ) (index : ℕ) → IsLineAt text index (line_at (text_lines text) index) }
     ensures count { (text : List ℕ) → HasLineCount text (length (text_lines text)) }
