@@ -10,5 +10,5 @@ pub use grid_records_measure::laws::{
 pub use grid_records_rows::laws::{truncated_texts_are_cuts, vectors_count_what_they_hold};
 pub use grid_records_traits::laws::{
     cells_answer_by_their_texts, cells_have_their_texts, references_have_the_same_rows,
-    references_have_the_same_sizes,
+    references_have_the_same_sizes, texts_have_their_answers,
 };
