@@ -9,4 +9,5 @@ pub use Rattle.grid_records_rows.specs.Rows
 pub use Rattle.grid_records_rows.specs.Cells
 pub use Rattle.grid_records_estimate.specs.Estimates
 pub use Rattle.grid_records_estimate.specs.Sizes
+pub use Rattle.grid_records_estimate.specs.Alike
 pub use Rattle.grid_records_estimate.specs.Totals

@@ -16,4 +16,5 @@ pub mod TableLemmas
 pub mod SizeLemmas
 pub mod Members
 pub mod RoomLemmas
+pub mod AlikeLemmas
 pub mod CompactLemmas

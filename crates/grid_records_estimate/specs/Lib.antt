@@ -6,4 +6,5 @@ pub mod Collecting
 pub mod Sizing
 pub mod Reading
 pub mod Sizes
+pub mod Alike
 pub mod Kept

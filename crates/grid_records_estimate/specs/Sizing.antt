@@ -19,7 +19,8 @@ use Rattle.grid_records_estimate.specs.Estimates.{Axis}
 
 -- ---- settings
 
--- the settings that sizes follow from
+-- the settings that sizes follow from: what is left of their look when all else is forgotten, but for the order of the
+-- spans, by which no size changes (`laws::sizes_follow_from_looks`)
 pub record Sizing : Type 0 where
   pub margin : Sides Indent
   pub borders : Borders ℕ

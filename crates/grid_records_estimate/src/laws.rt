@@ -1,11 +1,13 @@
 //! Laws of the definitions that the other contracts cite.
 ghost use Rattle.std.specs.Prelude.{◌≡◌, ◌<◌, ◌⊎◌, ◌↔◌, IsTrue, ℕ, List, length, [], ◌∷◌, true, false, slice_index};
 ghost use Rattle.grid_config.specs.Compact.{Compact as CompactSettings};
+ghost use Rattle.grid_config.specs.Looks.{compact_look, look_of};
 ghost use Rattle.grid_config.specs.Settings.{Settings as TableSettings, StartsWith, compact_start};
 ghost use Rattle.grid_config_spans.specs.Spans.{IsVisible};
 ghost use Rattle.grid_config_spans.specs.declared.extent.Extent.{Extent};
 ghost use Rattle.grid_config_values.specs.declared.position.Position.{Position as Cell};
 ghost use Rattle.grid_records_traits.specs.Rows.{fitted};
+ghost use Rattle.grid_records_estimate.specs.Alike.{AreAlike, HaveSameSizes};
 ghost use Rattle.grid_records_estimate.specs.Estimates.{Axis as TableAxis, track_sizes};
 ghost use Rattle.grid_records_estimate.specs.Collecting.{PassesMax};
 ghost use Rattle.grid_records_estimate.specs.Kept.{Kept as KeptSizes, least_sizes};
@@ -73,6 +75,15 @@ pub fn estimates_keep_the_least_sizes<R: Records, C: Sizing>()
         PassesMax (table_widths (C.sizing cfg) (R.columns records) (R.rows records)) ⊎ PassesMax (table_heights (C.sizing cfg) (R.columns records) (R.rows records)) }
     ensures width { (sizes : KeptSizes) (column : ℕ) → ⟦<GridDimension<C> as Dimension>⟧.width sizes column ≡ slice_index sizes.widths column }
     ensures height { (sizes : KeptSizes) (row : ℕ) → ⟦<GridDimension<C> as Dimension>⟧.height sizes row ≡ slice_index sizes.heights row }
+{}
+
+/// The sizes and the totals of a table follow from the look of its settings alone: from what they say of
+/// each cell, and not from the order or the form in which spans and paddings are kept.
+pub fn sizes_follow_from_looks()
+    ensures cells { (a b : TableSizing) → AreAlike a b → HaveSameSizes a b }
+    ensures settings { (a b : TableSettings) → look_of a ≡ look_of b → HaveSameSizes (sizing_of a) (sizing_of b) }
+    ensures compact { (settings : TableSettings) (compact : CompactSettings) →
+        look_of settings ≡ compact_look compact → HaveSameSizes (sizing_of settings) (compact_sizing compact) }
 {}
 
 /// A compact table has the sizes and the totals of a table whose settings begin as the compact ones,

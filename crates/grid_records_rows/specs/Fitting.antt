@@ -1,10 +1,14 @@
 -- Rows of as many cells.
-use Rattle.std.specs.Prelude.{◌≡◌, ◌+◌, ◌<◌, ℕ, Err, MatchOption, MatchResult, None, Ok, Option, Result, Some}
+use Rattle.std.specs.Prelude.{◌≡◌, ◌+◌, ◌<◌, Err, MatchOption, MatchResult, None, Ok, Option, Result, Some}
+use Rattle.grid_records_rows.specs.declared.records.into_records.fitted.FittedCells.{FittedCells}
+use Rattle.grid_records_rows.specs.declared.records.into_records.fitted.FittedRows.{FittedRows}
 
--- a call gives the cells of the next row, and how many are wanted
-abbrev pub GivesFitted : {S Row Cells : Type 0} → (S → Option Row → S → Type 0) → ℕ → S → Option Cells → (Cells → Option Row) → (Cells → ℕ) → S → Type 0
-GivesFitted {Row = Row} steps columns s found cells_of left_of t =
-    MatchOption found (steps s None t) (λ cells. (row : Row) × steps s (Some row) t × (cells_of cells ≡ Some row) × (left_of cells ≡ columns))
+-- a call gives the cells of the next row, of which as many are wanted as of any
+abbrev pub GivesFitted : {S Row : Type 0} → (S → Option Row → S → Type 0) → FittedRows S → Option (FittedCells Row) → FittedRows S → Type 0
+GivesFitted {Row = Row} steps before found after =
+    (after.columns ≡ before.columns)
+    × MatchOption found (steps before.rows None after.rows)
+    (λ cells. (row : Row) × steps before.rows (Some row) after.rows × (cells.cells ≡ Some row) × (cells.left ≡ before.columns))
 
 -- the result is none where the row has ended or ends now, and else its next cell
 abbrev pub FitsOne : {S C E : Type 0} → (S → Option (Result C E) → S → Type 0) → Option S → Option C → Option S → Type 0
@@ -14,8 +18,8 @@ FitsOne {S} steps before answer after =
 
 -- a call gives the next cell of the row, or none where the row has ended, as long as one is wanted; where the row
 -- refuses instead, so does the call, and no further cell is wanted. Where none is wanted it stays where it is
-abbrev pub FitsCell : {S C E : Type 0} → (S → Option (Result C E) → S → Type 0) → Option S → ℕ → Option (Result (Option C) E) → Option S → ℕ → Type 0
-FitsCell {S} steps before left found after rest =
-    MatchOption found ((left ≡ 0) × (rest ≡ left) × (after ≡ before))
-    (λ answer. MatchResult answer (λ cell. (rest + 1 ≡ left) × FitsOne steps before cell after)
-    (λ refusal. (0 < left) × (rest ≡ 0) × (s : S) × (t : S) × (before ≡ Some s) × (after ≡ Some t) × steps s (Some (Err refusal)) t))
+abbrev pub FitsCell : {S C E : Type 0} → (S → Option (Result C E) → S → Type 0) → FittedCells S → Option (Result (Option C) E) → FittedCells S → Type 0
+FitsCell {S} steps before found after =
+    MatchOption found ((before.left ≡ 0) × (after.left ≡ before.left) × (after.cells ≡ before.cells))
+    (λ answer. MatchResult answer (λ cell. (after.left + 1 ≡ before.left) × FitsOne steps before.cells cell after.cells)
+    (λ refusal. (0 < before.left) × (after.left ≡ 0) × (s : S) × (t : S) × (before.cells ≡ Some s) × (after.cells ≡ Some t) × steps s (Some (Err refusal)) t))

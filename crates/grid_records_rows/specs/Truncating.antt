@@ -7,6 +7,8 @@ use Rattle.grid_records_measure.specs.Filling.{behind_front, front}
 use Rattle.grid_records_measure.specs.TextLines.{text_width}
 use Rattle.grid_records_rows.specs.declared.records.into_records.truncate_content.Truncated.{Truncated}
 use Rattle.grid_records_rows.specs.declared.records.into_records.truncate_content.Truncated.TheVariants.{Cut, Whole}
+use Rattle.grid_records_rows.specs.declared.records.into_records.truncate_content.TruncatedCells.{TruncatedCells}
+use Rattle.grid_records_rows.specs.declared.records.into_records.truncate_content.TruncatedRows.{TruncatedRows}
 
 -- the cut of a text at a width: its longest front that fits, and a replacement character for each column that is lacking
 abbrev pub cut_text : ℕ → List ℕ → List ℕ
@@ -41,17 +43,21 @@ IsTruncated text width given answer =
     (λ cell. MatchResult given (λ whole. text_of_truncated text cell ≡ truncated_text width (text whole)) (λ _. ⊥))
     (λ _. MatchResult given (λ whole. width < text_width (text whole)) (λ _. Unit {0}))
 
--- a call returns what is left of the next cell, as long as the row has one; after a refusal there is none
-abbrev pub GivesTruncated : {S C E : Type 0} → (S → Option (Result C E) → S → Type 0) → (C → List ℕ) → (ℕ → ℕ) → ℕ → Option S → Option (Result (Truncated C) E) → Option S → ℕ → Type 0
-GivesTruncated {S = S} {C = C} {E = E} steps text width column cells found cells_then column_then =
-    MatchOption found
-    ((column_then ≡ column) × MatchOption cells (cells_then ≡ None) (λ s. (t : S) × steps s None t × (cells_then ≡ Some t)))
+-- a call returns what is left of the next cell, cut at the width of its column, as long as the row has one; after a refusal
+-- there is none
+abbrev pub GivesTruncated : {S C E D : Type 0} → (S → Option (Result C E) → S → Type 0) → (C → List ℕ) → (D → ℕ → ℕ) → TruncatedCells S D → Option (Result (Truncated C) E) → TruncatedCells S D → Type 0
+GivesTruncated {S = S} {C = C} {E = E} steps text width before found after =
+    (after.dimension ≡ before.dimension)
+    × MatchOption found
+    ((after.column ≡ before.column) × MatchOption before.cells (after.cells ≡ None) (λ s. (t : S) × steps s None t × (after.cells ≡ Some t)))
     (λ answer.
-    (s : S) × (t : S) × (given : Result C E) × (cells ≡ Some s) × steps s (Some given) t × IsTruncated text (width column) given answer
-    × MatchResult answer (λ _. (cells_then ≡ Some t) × (column_then ≡ next_column column)) (λ _. cells_then ≡ None))
+    (s : S) × (t : S) × (given : Result C E) × (before.cells ≡ Some s) × steps s (Some given) t
+    × IsTruncated text (width before.dimension before.column) given answer
+    × MatchResult answer (λ _. (after.cells ≡ Some t) × (after.column ≡ next_column before.column)) (λ _. after.cells ≡ None))
 
 -- a call gives the next row, from its first column on
-abbrev pub GivesTruncatedRow : {S Cells D Row : Type 0} → (S → Option Row → S → Type 0) → D → S → Option Cells → (Cells → Option Row) → (Cells → D) → (Cells → ℕ) → S → Type 0
-GivesTruncatedRow {Row = Row} steps dimension s found cells_of dimension_of column_of t =
-    MatchOption found (steps s None t)
-    (λ cells. (row : Row) × steps s (Some row) t × (cells_of cells ≡ Some row) × (dimension_of cells ≡ dimension) × (column_of cells ≡ 0))
+abbrev pub GivesTruncatedRow : {S Row D : Type 0} → (S → Option Row → S → Type 0) → TruncatedRows S D → Option (TruncatedCells Row D) → TruncatedRows S D → Type 0
+GivesTruncatedRow {Row = Row} steps before found after =
+    (after.dimension ≡ before.dimension)
+    × MatchOption found (steps before.rows None after.rows)
+    (λ cells. (row : Row) × steps before.rows (Some row) after.rows × (cells.cells ≡ Some row) × (cells.dimension ≡ before.dimension) × (cells.column ≡ 0))

@@ -1,6 +1,7 @@
 -- Iterators that give a list, and iterators that give rows of texts.
 use Rattle.std.specs.Prelude.{◌≡◌, ◌+◌, ℕ, Bool, true, List, [], ◌∷◌, MatchOption, MatchResult, Option, None, Some, Result, Ok, Err, drop}
 use Rattle.std.specs.Iterator.{Count, IsFinite}
+use Rattle.std.specs.declared.iter.Iterator.{Ghosts as Calls}
 
 -- nothing comes any more
 abbrev pub HasEnded : {S A : Type 0} → (S → Option A → S → Type 0) → S → Type 0
@@ -33,10 +34,11 @@ pub record GivesTexts {S C E : Type 0} (can : S → Type 0) (left : S → Count)
   pub ends : IsFinite (left s)
   pub each : GivesCells steps text may_refuse s row
 
--- the first iterator gives iterators that give the cells of the rows
-abbrev pub GivesRows : {R S C E : Type 0} → (R → Type 0) → (R → Count) → (R → Option S → R → Type 0) → (S → Type 0) → (S → Count) → (S → Option (Result C E) → S → Type 0) → (C → List ℕ) → Bool → R → List (List (List ℕ)) → Type 0
-GivesRows row_can row_left row_steps can left steps text may_refuse r rows =
-    Gives row_can row_left row_steps (GivesTexts can left steps text may_refuse) r rows
+-- an iterator over rows gives iterators over cells, which give the cells of the rows
+abbrev pub GivesRows : {R S C E : Type 0} → Calls R S → Calls S (Result C E) → (C → List ℕ) → Bool → R → List (List (List ℕ)) → Type 0
+GivesRows of_rows of_cells text may_refuse r rows =
+    Gives of_rows.can_next of_rows.remaining of_rows.next_gives
+    (GivesTexts of_cells.can_next of_cells.remaining of_cells.next_gives text may_refuse) r rows
 
 -- of the rows that were left the first is gone, and whether a cell may be refused stays
 abbrev pub HasPassedOne : List (List (List ℕ)) → Bool → List (List (List ℕ)) → Bool → Type 0

@@ -37,3 +37,11 @@ pub fn cells_answer_by_their_texts()
     ensures line_width { (text : List ℕ) (index width : ℕ) → HasLineWidth text index width →
         width ≡ line_measure (line_at (shown_lines (pieces_of text)) index) }
 {}
+
+/// What the functions of a text give may be told of its lines: with `cells_answer_by_their_texts`, that alone.
+pub fn texts_have_their_answers()
+    ensures line { (text : List ℕ) (index : ℕ) → IsLineAt text index (line_at (text_lines text) index) }
+    ensures count { (text : List ℕ) → HasLineCount text (length (text_lines text)) }
+    ensures width { (text : List ℕ) → HasWidth text (text_width text) }
+    ensures line_width { (text : List ℕ) (index : ℕ) → HasLineWidth text index (line_measure (line_at (shown_lines (pieces_of text)) index)) }
+{}

@@ -10,7 +10,7 @@ use Rattle.std.specs.Vec.Iter.{into_iter_len, into_iter_steps}
 use Rattle.std.specs.declared.alloc.AllocError.{AllocError}
 use Rattle.std.specs.declared.vec.IntoIter.{IntoIter}
 use Rattle.grid_records_rows.specs.Buffering.{GivesBuffered, of_rest}
-use Rattle.grid_records_traits.specs.Giving.{GivesCells, GivesEach, GivesRows, GivesTexts, HasEnded, HasPassedOne}
+use Rattle.grid_records_traits.specs.Giving.{Gives, GivesCells, GivesEach, GivesTexts, HasEnded, HasPassedOne}
 use Rattle.grid_records_traits.specs.Giving.{AnswersCell, GivesCellsOf}
 use Rattle.grid_records_traits.specs.Sources.{items_left, texts_of_rows}
 use Rattle.grid_records_traits.specs.Laws.Given.{vec_gives, vec_goes, vec_stays, vec_stops}
@@ -115,18 +115,18 @@ both_end a b = elim a.bounded as (λ v. T v → T b.bounded → T (cond v b.boun
 
 module _ {R S C E : Type 0} {can : R → Type 0} {left : R → Count} {steps : R → Option S → R → Type 0} {cell_can : S → Type 0} {cell_left : S → Count} {cell_steps : S → Option (Result C E) → S → Type 0} {text : C → List ℕ} where
   -- every rest gives what is left of it
-  pub rest_gives : (refuses : R → Bool) (rows : R → List (List (List ℕ))) (r : Option R) → ((it : R) → GivesRows can left steps cell_can cell_left cell_steps text (refuses it) it (rows it)) →
-      (it : R) → r ≡ Some it → GivesRows can left steps cell_can cell_left cell_steps text (of_rest refuses false r) it (of_rest rows [] r)
+  pub rest_gives : (refuses : R → Bool) (rows : R → List (List (List ℕ))) (r : Option R) → ((it : R) → Gives can left steps (GivesTexts cell_can cell_left cell_steps text (refuses it)) it (rows it)) →
+      (it : R) → r ≡ Some it → Gives can left steps (GivesTexts cell_can cell_left cell_steps text (of_rest refuses false r)) it (of_rest rows [] r)
   rest_gives refuses rows None each it is = absurd (cc is)
   rest_gives refuses rows (Some other) each it is =
       let same : other ≡ it = cc is in
-      subst (λ v. GivesRows can left steps cell_can cell_left cell_steps text (refuses other) v (rows other)) same (each other)
+      subst (λ v. Gives can left steps (GivesTexts cell_can cell_left cell_steps text (refuses other)) v (rows other)) same (each other)
 
-  rest_can : {may_refuse : Bool} (zs : List (List (List ℕ))) (r : Option R) → ((it : R) → r ≡ Some it → GivesRows can left steps cell_can cell_left cell_steps text may_refuse it zs) → IfSome r can
+  rest_can : {may_refuse : Bool} (zs : List (List (List ℕ))) (r : Option R) → ((it : R) → r ≡ Some it → Gives can left steps (GivesTexts cell_can cell_left cell_steps text may_refuse) it zs) → IfSome r can
   rest_can zs None gives = tt
   rest_can zs (Some it) gives = (gives it refl).can_next
 
-  rest_ends : {may_refuse : Bool} (zs : List (List (List ℕ))) (r : Option R) → ((it : R) → r ≡ Some it → GivesRows can left steps cell_can cell_left cell_steps text may_refuse it zs) →
+  rest_ends : {may_refuse : Bool} (zs : List (List (List ℕ))) (r : Option R) → ((it : R) → r ≡ Some it → Gives can left steps (GivesTexts cell_can cell_left cell_steps text may_refuse) it zs) →
       IsFinite (of_rest left (at_most 0) r)
   rest_ends zs None gives = tt
   rest_ends zs (Some it) gives = (gives it refl).ends
@@ -137,11 +137,11 @@ pub buffered_rows_give : {T R K Cells Rest F : Type 0} (text : T → List ℕ) {
     {rest_may : R → Type 0} {rest_left : R → Count} {rest_cell_can : Rest → Type 0} {rest_cell_left : Rest → Count}
     (inside : K → IntoIter (Vec T Global) Global) (cells_of : Cells → IntoIter T Global) (kept_of : F → K) (rest_of : F → Option R) →
     ((row : Vec T Global) (it : IntoIter T Global) → becomes row it → items_left it ≡ vec_items row) → (refuses : R → Bool) (rest_rows : R → List (List (List ℕ))) (s : F) →
-    ((it : R) → GivesRows rest_may rest_left rest_steps rest_cell_can rest_cell_left rest_cells text (refuses it) it (rest_rows it)) →
-    GivesRows (λ s. IfSome (rest_of s) rest_may) (λ s. count_add (at_most (into_iter_len (inside (kept_of s)))) (of_rest rest_left (at_most 0) (rest_of s)))
+    ((it : R) → Gives rest_may rest_left rest_steps (GivesTexts rest_cell_can rest_cell_left rest_cells text (refuses it)) it (rest_rows it)) →
+    Gives (λ s. IfSome (rest_of s) rest_may) (λ s. count_add (at_most (into_iter_len (inside (kept_of s)))) (of_rest rest_left (at_most 0) (rest_of s)))
     (λ s r t. GivesBuffered (λ s r t. GivesCellsOf into_iter_steps becomes (inside s) r cells_of (inside t)) rest_steps (kept_of s) (rest_of s) r (kept_of t) (rest_of t))
-    (λ cells. MatchEither cells (λ _. Unit {0}) rest_cell_can) (either (λ cells. at_most (into_iter_len (cells_of cells))) rest_cell_left)
-    (either_steps (λ s r t. AnswersCell into_iter_steps (cells_of s) r (cells_of t)) rest_cells) text (of_rest refuses false (rest_of s)) s
+    (GivesTexts (λ cells. MatchEither cells (λ _. Unit {0}) rest_cell_can) (either (λ cells. at_most (into_iter_len (cells_of cells))) rest_cell_left)
+    (either_steps (λ s r t. AnswersCell into_iter_steps (cells_of s) r (cells_of t)) rest_cells) text (of_rest refuses false (rest_of s))) s
     (texts_of_rows text (items_left (inside (kept_of s))) ++ of_rest rest_rows [] (rest_of s))
 buffered_rows_give text {becomes = becomes} {rest_steps = rest_steps} {rest_cells = rest_cells} {rest_left = rest_left} inside cells_of kept_of rest_of became refuses rest_rows s rest =
     let zs = of_rest rest_rows [] (rest_of s) in

@@ -4,7 +4,9 @@ use Rattle.std.specs.Prelude.{Err, IfSome, MatchOption, None, Ok, Option, Result
 use Rattle.std.specs.Iterator.{Count, at_most}
 use Rattle.grid_records_traits.specs.Cells.{text_or_empty}
 use Rattle.grid_records_rows.specs.Fitting.{FitsCell, FitsOne, GivesFitted}
-use Rattle.grid_records_traits.specs.Giving.{GivesCells, GivesEach, GivesRows, GivesTexts, HasEnded}
+use Rattle.grid_records_rows.specs.declared.records.into_records.fitted.FittedCells.{FittedCells}
+use Rattle.grid_records_rows.specs.declared.records.into_records.fitted.FittedRows.{FittedRows}
+use Rattle.grid_records_traits.specs.Giving.{Gives, GivesCells, GivesEach, GivesTexts, HasEnded}
 use Rattle.grid_records_traits.specs.Rows.{fitted, fitted_row}
 
 -- the same, text by text
@@ -58,83 +60,80 @@ module _ {S C E : Type 0} (steps : S → Option (Result C E) → S → Type 0) (
       let next = gives.1 cell step.1 (subst (λ v. steps v (Some (Ok cell)) step.1) same step.4) in
       record { rest = step.1; is = step.3; same = next.0; gives = next.1 }
 
-  module _ {F : Type 0} (cells_of : F → Option S) (left_of : F → ℕ) where
-    -- where no cell is wanted, none comes
-    over : (s : F) → left_of s ≡ 0 → HasEnded {A = Result (Option C) E} (λ s r t. FitsCell steps (cells_of s) (left_of s) r (cells_of t) (left_of t)) s
-    over s none (Ok cell) t step = omega (arith, step.0, none)
-    over s none (Err refusal) t step = omega (arith, step.0, none)
+  -- where no cell is wanted, none comes
+  over : (s : FittedCells S) → s.left ≡ 0 → HasEnded (FitsCell steps) s
+  over s none (Ok cell) t step = omega (arith, step.0, none)
+  over s none (Err refusal) t step = omega (arith, step.0, none)
 
-    blanks : (n : ℕ) (s : F) → cells_of s ≡ None → left_of s ≡ n →
-        GivesCells (λ s r t. FitsCell steps (cells_of s) (left_of s) r (cells_of t) (left_of t)) (text_or_empty text) may_refuse s (replicate n [])
-    unfolding One
-    blanks zero s none left = over s left
-    blanks (suc n) s none left = (
-      λ t step. omega (arith, step.0, left),
-      λ cell t step.
-          let next = blank (cells_of s) (cells_of t) cell none step.1 in
-          (ap (text_or_empty text) next.0, blanks n t next.1 (omega (arith, step.0, left))),
-      λ refusal t step. absurd (cc (none, step.4)),
-    )
+  blanks : (n : ℕ) (s : FittedCells S) → s.cells ≡ None → s.left ≡ n → GivesCells (FitsCell steps) (text_or_empty text) may_refuse s (replicate n [])
+  unfolding One
+  blanks zero s none left = over s left
+  blanks (suc n) s none left = (
+    λ t step. omega (arith, step.0, left),
+    λ cell t step.
+        let next = blank s.cells t.cells cell none step.1 in
+        (ap (text_or_empty text) next.0, blanks n t next.1 (omega (arith, step.0, left))),
+    λ refusal t step. absurd (cc (none, step.4)),
+  )
 
-    fits : (n : ℕ) (row : List (List ℕ)) (s : F) (it : S) → cells_of s ≡ Some it → left_of s ≡ n → GivesCells steps text may_refuse it row →
-        GivesCells (λ s r t. FitsCell steps (cells_of s) (left_of s) r (cells_of t) (left_of t)) (text_or_empty text) may_refuse s (fit n row)
-    unfolding One fit
-    fits zero row s it is left gives = over s left
-    fits (suc n) [] s it is left gives = (
-      λ t step. omega (arith, step.0, left),
-      λ cell t step.
-          let next = ended (cells_of s) (cells_of t) cell it is gives step.1 in
-          (ap (text_or_empty text) next.0, blanks n t next.1 (omega (arith, step.0, left))),
-      λ refusal t step.
-          let same : step.2 ≡ it = cc (is, step.4) in
-          absurd (gives (Err refusal) step.3 (subst (λ v. steps v (Some (Err refusal)) step.3) same step.6)),
-    )
-    fits (suc n) (wanted ∷ row) s it is left gives = (
-      λ t step. omega (arith, step.0, left),
-      λ cell t step.
-          let next = goes (cells_of s) (cells_of t) cell it wanted row is gives step.1 in
-          (next.same, fits n row t next.rest next.is (omega (arith, step.0, left)) next.gives),
-      λ refusal t step.
-          let same : step.2 ≡ it = cc (is, step.4) in
-          let next = gives.2 refusal step.3 (subst (λ v. steps v (Some (Err refusal)) step.3) same step.6) in
-          (next.0, over t step.1),
-    )
+  fits : (n : ℕ) (row : List (List ℕ)) (s : FittedCells S) (it : S) → s.cells ≡ Some it → s.left ≡ n → GivesCells steps text may_refuse it row →
+      GivesCells (FitsCell steps) (text_or_empty text) may_refuse s (fit n row)
+  unfolding One fit
+  fits zero row s it is left gives = over s left
+  fits (suc n) [] s it is left gives = (
+    λ t step. omega (arith, step.0, left),
+    λ cell t step.
+        let next = ended s.cells t.cells cell it is gives step.1 in
+        (ap (text_or_empty text) next.0, blanks n t next.1 (omega (arith, step.0, left))),
+    λ refusal t step.
+        let same : step.2 ≡ it = cc (is, step.4) in
+        absurd (gives (Err refusal) step.3 (subst (λ v. steps v (Some (Err refusal)) step.3) same step.6)),
+  )
+  fits (suc n) (wanted ∷ row) s it is left gives = (
+    λ t step. omega (arith, step.0, left),
+    λ cell t step.
+        let next = goes s.cells t.cells cell it wanted row is gives step.1 in
+        (next.same, fits n row t next.rest next.is (omega (arith, step.0, left)) next.gives),
+    λ refusal t step.
+        let same : step.2 ≡ it = cc (is, step.4) in
+        let next = gives.2 refusal step.3 (subst (λ v. steps v (Some (Err refusal)) step.3) same step.6) in
+        (next.0, over t step.1),
+  )
 
-    -- a row of which n cells are wanted
-    pub gives_fitted : {can : S → Type 0} {left : S → Count} (s : F) (it : S) (n : ℕ) (row : List (List ℕ)) → cells_of s ≡ Some it → left_of s ≡ n → GivesTexts can left steps text may_refuse it row →
-        GivesTexts (λ s. IfSome (cells_of s) can) (λ s. at_most (left_of s)) (λ s r t. FitsCell steps (cells_of s) (left_of s) r (cells_of t) (left_of t)) (text_or_empty text) may_refuse s (fitted_row n row)
-    gives_fitted {can} {left} s it n row is count gives =
-        record {
-          can_next = subst (λ v. IfSome v can) (sym is) gives.can_next;
-          ends = tt;
-          each = subst (λ v. GivesCells (λ s r t. FitsCell steps (cells_of s) (left_of s) r (cells_of t) (left_of t)) (text_or_empty text) may_refuse s v) (fit-fitted_row n row) (fits n row s it is count gives.each);
-        }
+  -- a row of which n cells are wanted
+  pub gives_fitted : {can : S → Type 0} {left : S → Count} (s : FittedCells S) (it : S) (n : ℕ) (row : List (List ℕ)) → s.cells ≡ Some it → s.left ≡ n → GivesTexts can left steps text may_refuse it row →
+      GivesTexts (λ s. IfSome s.cells can) (λ s. at_most s.left) (FitsCell steps) (text_or_empty text) may_refuse s (fitted_row n row)
+  gives_fitted {can} {left} s it n row is count gives =
+      record {
+        can_next = subst (λ v. IfSome v can) (sym is) gives.can_next;
+        ends = tt;
+        each = subst (λ v. GivesCells (FitsCell steps) (text_or_empty text) may_refuse s v) (fit-fitted_row n row) (fits n row s it is count gives.each);
+      }
 
 -- the rows of which n cells are wanted
-pub each_fitted : {R S Row Cells : Type 0} (steps : S → Option Row → S → Type 0) (inside : R → S) (columns_of : R → ℕ) (cells_of : Cells → Option Row) (left_of : Cells → ℕ)
-    (tie : Row → List (List ℕ) → Type 0) (wanted : Cells → List (List ℕ) → Type 0) (n : ℕ) →
-    ((row : Row) (cells : Cells) (texts : List (List ℕ)) → tie row texts → cells_of cells ≡ Some row → left_of cells ≡ n → wanted cells (fitted_row n texts)) →
-    (s : R) (rows : List (List (List ℕ))) → columns_of s ≡ n → GivesEach steps tie (inside s) rows →
-    GivesEach (λ s r t. (columns_of t ≡ columns_of s) × GivesFitted steps (columns_of s) (inside s) r cells_of left_of (inside t)) wanted s (map (fitted_row n) rows)
-each_fitted steps inside columns_of cells_of left_of tie wanted n follows s [] is gives = λ cells t step. gives step.1.0 (inside t) step.1.1
-each_fitted steps inside columns_of cells_of left_of tie wanted n follows s (texts ∷ rows) is gives = (
-  λ t step. gives.0 (inside t) step.1,
+pub each_fitted : {S Row : Type 0} (steps : S → Option Row → S → Type 0)
+    (tie : Row → List (List ℕ) → Type 0) (wanted : FittedCells Row → List (List ℕ) → Type 0) (n : ℕ) →
+    ((row : Row) (cells : FittedCells Row) (texts : List (List ℕ)) → tie row texts → cells.cells ≡ Some row → cells.left ≡ n → wanted cells (fitted_row n texts)) →
+    (s : FittedRows S) (rows : List (List (List ℕ))) → s.columns ≡ n → GivesEach steps tie s.rows rows →
+    GivesEach (GivesFitted steps) wanted s (map (fitted_row n) rows)
+each_fitted steps tie wanted n follows s [] is gives = λ cells t step. gives step.1.0 t.rows step.1.1
+each_fitted steps tie wanted n follows s (texts ∷ rows) is gives = (
+  λ t step. gives.0 t.rows step.1,
   λ cells t step.
-      let next = gives.1 step.1.0 (inside t) step.1.1 in
-      (follows step.1.0 cells texts next.0 step.1.2 (step.1.3 ∙ is), each_fitted steps inside columns_of cells_of left_of tie wanted n follows t rows (step.0 ∙ is) next.1),
+      let next = gives.1 step.1.0 t.rows step.1.1 in
+      (follows step.1.0 cells texts next.0 step.1.2 (step.1.3 ∙ is), each_fitted steps tie wanted n follows t rows (step.0 ∙ is) next.1),
 )
 
 -- and where they are given, so are those
-pub gives_fitted_rows : {R S Row Cells C E : Type 0} (row_steps : S → Option Row → S → Type 0) (steps : Row → Option (Result C E) → Row → Type 0) (text : C → List ℕ)
-    (inside : R → S) (columns_of : R → ℕ) (cells_of : Cells → Option Row) (left_of : Cells → ℕ)
-    {row_can : S → Type 0} {row_left : S → Count} {can : Row → Type 0} {left : Row → Count} {may_refuse : Bool} {rows : List (List (List ℕ))} (s : R) →
-    GivesRows row_can row_left row_steps can left steps text may_refuse (inside s) rows →
-    GivesRows (λ s. row_can (inside s)) (λ s. row_left (inside s)) (λ s r t. (columns_of t ≡ columns_of s) × GivesFitted row_steps (columns_of s) (inside s) r cells_of left_of (inside t))
-    (λ cells. IfSome (cells_of cells) can) (λ cells. at_most (left_of cells)) (λ s r t. FitsCell steps (cells_of s) (left_of s) r (cells_of t) (left_of t)) (text_or_empty text) may_refuse s (fitted (columns_of s) rows)
-gives_fitted_rows row_steps steps text inside columns_of cells_of left_of {may_refuse = may_refuse} {rows = rows} s gives =
+pub gives_fitted_rows : {S Row C E : Type 0} (row_steps : S → Option Row → S → Type 0) (steps : Row → Option (Result C E) → Row → Type 0) (text : C → List ℕ)
+    {row_can : S → Type 0} {row_left : S → Count} {can : Row → Type 0} {left : Row → Count} {may_refuse : Bool} {rows : List (List (List ℕ))} (s : FittedRows S) →
+    Gives row_can row_left row_steps (GivesTexts can left steps text may_refuse) s.rows rows →
+    Gives (λ s. row_can s.rows) (λ s. row_left s.rows) (GivesFitted row_steps)
+    (GivesTexts (λ cells. IfSome cells.cells can) (λ cells. at_most cells.left) (FitsCell steps) (text_or_empty text) may_refuse) s (fitted s.columns rows)
+gives_fitted_rows row_steps steps text {may_refuse = may_refuse} {rows = rows} s gives =
     record {
       can_next = gives.can_next;
       ends = gives.ends;
-      each = each_fitted row_steps inside columns_of cells_of left_of _ _ (columns_of s)
-          (λ row cells texts given is count. gives_fitted steps text may_refuse cells_of left_of cells row (columns_of s) texts is count given) s rows refl gives.each;
+      each = each_fitted row_steps _ _ s.columns
+          (λ row cells texts given is count. gives_fitted steps text may_refuse cells row s.columns texts is count given) s rows refl gives.each;
     }

@@ -13,9 +13,11 @@ use Rattle.grid_records_measure.specs.Cutting.{IsCutAt, cut_bytes}
 use Rattle.grid_records_measure.specs.Filling.{behind_front, front}
 use Rattle.grid_records_measure.specs.TextLines.{text_width}
 use Rattle.grid_records_measure.proofs.FillingLemmas.{IsLongestFront-front, IsLongestFront-unique}
-use Rattle.grid_records_traits.specs.Giving.{GivesCells, GivesEach, GivesRows, GivesTexts, HasEnded}
+use Rattle.grid_records_traits.specs.Giving.{Gives, GivesCells, GivesEach, GivesTexts, HasEnded}
 use Rattle.grid_records_rows.specs.Truncating.{GivesTruncated, GivesTruncatedRow, IsTruncated, cut_text, next_column, text_of_truncated, truncated_row, truncated_rows, truncated_text}
 use Rattle.grid_records_rows.specs.declared.records.into_records.truncate_content.Truncated.{Truncated}
+use Rattle.grid_records_rows.specs.declared.records.into_records.truncate_content.TruncatedCells.{TruncatedCells}
+use Rattle.grid_records_rows.specs.declared.records.into_records.truncate_content.TruncatedRows.{TruncatedRows}
 
 -- a text has one cut at a width
 pub cut-unique : (width : ℕ) (text bytes : List ℕ) → IsCutAt width (pieces text) bytes → bytes ≡ cut_text width text
@@ -27,32 +29,29 @@ cut-unique width text bytes cut =
     (ap (λ v. v ++ cut.1) (sym kept) ∙ sym cut.2.parted ∙ longest.parted) in
     cut.3 ∙ ap (λ v. cut_bytes width (pieces text) v cut.1) kept ∙ ap (λ v. cut_bytes width (pieces text) (front width 0 characters) v) left
 
-module _ {S C E D F : Type 0} (steps : S → Option (Result C E) → S → Type 0) (text : C → List ℕ) (may_refuse : Bool) (width : D → ℕ → ℕ) (inside : F → Option S) (dimension_of : F → D) (column_of : F → ℕ) where
-  abbrev Steps : F → Option (Result (Truncated C) E) → F → Type 0
-  Steps s r t = (dimension_of t ≡ dimension_of s) × GivesTruncated steps text (width (dimension_of s)) (column_of s) (inside s) r (inside t) (column_of t)
-
+module _ {S C E D : Type 0} (steps : S → Option (Result C E) → S → Type 0) (text : C → List ℕ) (may_refuse : Bool) (width : D → ℕ → ℕ) where
   -- the cell that came, of which this is left
   came : (s t : S) (given : Result C E) (cell : Truncated C) (w : ℕ) → steps s (Some given) t → IsTruncated text w given (Ok cell) →
       (whole : C) × steps s (Some (Ok whole)) t × (text_of_truncated text cell ≡ truncated_text w (text whole))
   came s t (Ok whole) cell w step is = (whole, step, is)
   came s t (Err _) cell w step never = absurd never
 
-  ended_truncated : (s : F) → inside s ≡ None → HasEnded Steps s
+  ended_truncated : (s : TruncatedCells S D) → s.cells ≡ None → HasEnded (GivesTruncated steps text width) s
   ended_truncated s none = λ answer t step. cc (none, step.1.3)
 
-  each_truncated : (d : D) (column : ℕ) (row : List (List ℕ)) (s : F) (it : S) → dimension_of s ≡ d → column_of s ≡ column → inside s ≡ Some it → GivesCells steps text may_refuse it row →
-      GivesCells Steps (text_of_truncated text) true s (truncated_row (width d) column row)
+  each_truncated : (d : D) (column : ℕ) (row : List (List ℕ)) (s : TruncatedCells S D) (it : S) → s.dimension ≡ d → s.column ≡ column → s.cells ≡ Some it → GivesCells steps text may_refuse it row →
+      GivesCells (GivesTruncated steps text width) (text_of_truncated text) true s (truncated_row (width d) column row)
   each_truncated d column [] s it same at is gives = λ answer t step.
       let first : step.1.0 ≡ it = cc (is, step.1.3) in
       gives step.1.2 step.1.1 (subst (λ v. steps v (Some step.1.2) step.1.1) first step.1.4)
   each_truncated d column (wanted ∷ row) s it same at is gives = (
     λ t step.
-        let last = subst (λ v. MatchOption v (inside t ≡ None) (λ s. (u : S) × steps s None u × (inside t ≡ Some u))) is step.1.1 in
+        let last = subst (λ v. MatchOption v (t.cells ≡ None) (λ s. (u : S) × steps s None u × (t.cells ≡ Some u))) is step.1.1 in
         gives.0 last.0 last.1,
     λ cell t step.
         let first : step.1.0 ≡ it = cc (is, step.1.3) in
-        let wide : width (dimension_of s) (column_of s) ≡ width d column = ap (λ v. width v (column_of s)) same ∙ ap (width d) at in
-        let found = came it step.1.1 step.1.2 cell (width (dimension_of s) (column_of s)) (subst (λ v. steps v (Some step.1.2) step.1.1) first step.1.4) step.1.5 in
+        let wide : width s.dimension s.column ≡ width d column = ap (λ v. width v s.column) same ∙ ap (width d) at in
+        let found = came it step.1.1 step.1.2 cell (width s.dimension s.column) (subst (λ v. steps v (Some step.1.2) step.1.1) first step.1.4) step.1.5 in
         let next = gives.1 found.0 step.1.1 found.1 in (
           found.2 ∙ ap (λ v. truncated_text v (text found.0)) wide ∙ ap (truncated_text (width d column)) next.0,
           each_truncated d (next_column column) row t step.1.1 (step.0 ∙ same) (step.1.6.1 ∙ ap next_column at) step.1.6.0 next.1,
@@ -61,8 +60,8 @@ module _ {S C E D F : Type 0} (steps : S → Option (Result C E) → S → Type 
   )
 
   -- the cells of a row, from its first column on
-  gives_truncated : {can : S → Type 0} {left : S → Count} (d : D) (row : List (List ℕ)) (s : F) (it : S) → dimension_of s ≡ d → column_of s ≡ 0 → inside s ≡ Some it → GivesTexts can left steps text may_refuse it row →
-      GivesTexts (λ s. IfSome (inside s) can) (λ s. of_rest left (at_most 0) (inside s)) Steps (text_of_truncated text) true s (truncated_row (width d) 0 row)
+  gives_truncated : {can : S → Type 0} {left : S → Count} (d : D) (row : List (List ℕ)) (s : TruncatedCells S D) (it : S) → s.dimension ≡ d → s.column ≡ 0 → s.cells ≡ Some it → GivesTexts can left steps text may_refuse it row →
+      GivesTexts (λ s. IfSome s.cells can) (λ s. of_rest left (at_most 0) s.cells) (GivesTruncated steps text width) (text_of_truncated text) true s (truncated_row (width d) 0 row)
   gives_truncated {can} {left} d row s it same at is gives = record {
     can_next = subst (λ v. IfSome v can) (sym is) gives.can_next;
     ends = subst (λ v. IsFinite (of_rest left (at_most 0) v)) (sym is) gives.ends;
@@ -70,37 +69,34 @@ module _ {S C E D F : Type 0} (steps : S → Option (Result C E) → S → Type 
   }
 
 -- the rows
-each_truncated_row : {R S Row Cells D : Type 0} (steps : S → Option Row → S → Type 0) (inside : R → S) (dimension_in : R → D) (cells_of : Cells → Option Row) (dimension_of : Cells → D) (column_of : Cells → ℕ)
-    (tie : Row → List (List ℕ) → Type 0) (wanted : Cells → List (List ℕ) → Type 0) (width : ℕ → ℕ) (d : D) →
-    ((row : Row) (cells : Cells) (texts : List (List ℕ)) → tie row texts → dimension_of cells ≡ d → column_of cells ≡ 0 → cells_of cells ≡ Some row → wanted cells (truncated_row width 0 texts)) →
-    (s : R) (rows : List (List (List ℕ))) → dimension_in s ≡ d → GivesEach steps tie (inside s) rows →
-    GivesEach (λ s r t. (dimension_in t ≡ dimension_in s) × GivesTruncatedRow steps (dimension_in s) (inside s) r cells_of dimension_of column_of (inside t)) wanted s (map (truncated_row width 0) rows)
-each_truncated_row steps inside dimension_in cells_of dimension_of column_of tie wanted width d follows s [] same gives = λ cells t step. gives step.1.0 (inside t) step.1.1
-each_truncated_row steps inside dimension_in cells_of dimension_of column_of tie wanted width d follows s (texts ∷ rows) same gives = (
-  λ t step. gives.0 (inside t) step.1,
+each_truncated_row : {S Row D : Type 0} (steps : S → Option Row → S → Type 0)
+    (tie : Row → List (List ℕ) → Type 0) (wanted : TruncatedCells Row D → List (List ℕ) → Type 0) (width : ℕ → ℕ) (d : D) →
+    ((row : Row) (cells : TruncatedCells Row D) (texts : List (List ℕ)) → tie row texts → cells.dimension ≡ d → cells.column ≡ 0 → cells.cells ≡ Some row → wanted cells (truncated_row width 0 texts)) →
+    (s : TruncatedRows S D) (rows : List (List (List ℕ))) → s.dimension ≡ d → GivesEach steps tie s.rows rows →
+    GivesEach (GivesTruncatedRow steps) wanted s (map (truncated_row width 0) rows)
+each_truncated_row steps tie wanted width d follows s [] same gives = λ cells t step. gives step.1.0 t.rows step.1.1
+each_truncated_row steps tie wanted width d follows s (texts ∷ rows) same gives = (
+  λ t step. gives.0 t.rows step.1,
   λ cells t step.
-      let next = gives.1 step.1.0 (inside t) step.1.1 in (
+      let next = gives.1 step.1.0 t.rows step.1.1 in (
         follows step.1.0 cells texts next.0 (step.1.3 ∙ same) step.1.4 step.1.2,
-        each_truncated_row steps inside dimension_in cells_of dimension_of column_of tie wanted width d follows t rows (step.0 ∙ same) next.1,
+        each_truncated_row steps tie wanted width d follows t rows (step.0 ∙ same) next.1,
       ),
 )
 
 -- all rows of a source, cut
-pub truncated_rows_give : {R S C E Cells D F : Type 0} {row_can : R → Type 0} {row_left : R → Count} {can : S → Type 0} {left : S → Count} {may_refuse : Bool} {rows : List (List (List ℕ))}
-    (row_steps : R → Option S → R → Type 0) (steps : S → Option (Result C E) → S → Type 0) (text : C → List ℕ) (width : D → ℕ → ℕ)
-    (rows_of : F → R) (dimension_in : F → D) (cells_of : Cells → Option S) (dimension_of : Cells → D) (column_of : Cells → ℕ) (s : F) →
-    GivesRows row_can row_left row_steps can left steps text may_refuse (rows_of s) rows →
-    GivesRows {E = E} (λ s. row_can (rows_of s)) (λ s. row_left (rows_of s))
-    (λ s r t. (dimension_in t ≡ dimension_in s) × GivesTruncatedRow row_steps (dimension_in s) (rows_of s) r cells_of dimension_of column_of (rows_of t))
-    (λ cells. IfSome (cells_of cells) can) (λ cells. of_rest left (at_most 0) (cells_of cells))
-    (λ s r t. (dimension_of t ≡ dimension_of s) × GivesTruncated steps text (width (dimension_of s)) (column_of s) (cells_of s) r (cells_of t) (column_of t))
-    (text_of_truncated text) true s (truncated_rows (width (dimension_in s)) rows)
-truncated_rows_give {may_refuse = may_refuse} {rows = rows} row_steps steps text width rows_of dimension_in cells_of dimension_of column_of s gives =
+pub truncated_rows_give : {R S C E D : Type 0} {row_can : R → Type 0} {row_left : R → Count} {can : S → Type 0} {left : S → Count} {may_refuse : Bool} {rows : List (List (List ℕ))}
+    (row_steps : R → Option S → R → Type 0) (steps : S → Option (Result C E) → S → Type 0) (text : C → List ℕ) (width : D → ℕ → ℕ) (s : TruncatedRows R D) →
+    Gives row_can row_left row_steps (GivesTexts can left steps text may_refuse) s.rows rows →
+    Gives (λ s. row_can s.rows) (λ s. row_left s.rows) (GivesTruncatedRow row_steps)
+    (GivesTexts (λ cells. IfSome cells.cells can) (λ cells. of_rest left (at_most 0) cells.cells) (GivesTruncated steps text width)
+    (text_of_truncated text) true) s (truncated_rows (width s.dimension) rows)
+truncated_rows_give {may_refuse = may_refuse} {rows = rows} row_steps steps text width s gives =
     record {
       can_next = gives.can_next;
       ends = gives.ends;
-      each = each_truncated_row row_steps rows_of dimension_in cells_of dimension_of column_of _ _ (width (dimension_in s)) (dimension_in s)
-          (λ row cells texts given same at is. gives_truncated steps text may_refuse width cells_of dimension_of column_of (dimension_in s) texts cells row same at is given) s rows refl gives.each;
+      each = each_truncated_row row_steps _ _ (width s.dimension) s.dimension
+          (λ row cells texts given same at is. gives_truncated steps text may_refuse width s.dimension texts cells row same at is given) s rows refl gives.each;
     }
 
 -- a text that measures at most `width` columns stays

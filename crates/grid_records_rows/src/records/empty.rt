@@ -45,7 +45,7 @@ impl IntoRecords for EmptyRecords {
 
     ghost may_refuse_left = { λ _. false };
 
-    ghost gives = { λ s. record { can_next = tt; ends = tt; each = each_empty_row (λ s. s.left) (λ s. s.columns) (λ cells. cells.left) _ s.columns s.left (λ cells is. record { can_next = tt; ends = tt; each = each_empty_text _ (λ s. s.left) false s.columns cells is }) s refl refl } };
+    ghost gives = { λ s. record { can_next = tt; ends = tt; each = each_empty_row _ s.columns s.left (λ cells is. record { can_next = tt; ends = tt; each = each_empty_text _ false s.columns cells is }) s refl refl } };
 
     ghost passes = { λ s t _ step. (passed_same t.left s.left (replicate s.columns []) (replicate t.columns []) step.0 (ap (λ n. replicate n []) step.1), refl) };
 
@@ -98,7 +98,7 @@ pub struct EmptyRows {
 impl Iterator for EmptyRows {
     type Item = EmptyCells;
 
-    ghost next_gives = { λ s r t. GivesEmptyCells s.left s.columns r (λ cells. cells.left) t.left t.columns };
+    ghost next_gives = { GivesEmptyCells };
 
     ghost remaining = { λ s. at_most s.left };
 
@@ -120,7 +120,7 @@ pub struct EmptyCells {
 impl Iterator for EmptyCells {
     type Item = Result<&'static str, AllocError>;
 
-    ghost next_gives = { λ s r t. GivesEmptyText s.left r t.left };
+    ghost next_gives = { GivesEmptyText };
 
     ghost remaining = { λ s. at_most s.left };
 

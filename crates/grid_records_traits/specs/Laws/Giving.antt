@@ -2,7 +2,7 @@
 use Rattle.std.proofs.Common.{◌≡◌, ℕ, List, [], ◌∷◌, ap, arith, length, refl, subst, map, Bool, false}
 use Rattle.std.specs.Prelude.{MatchOption, MatchResult, None, Ok, Err, Option, Result, Some}
 use Rattle.std.specs.Iterator.{Count, IsFinite}
-use Rattle.grid_records_traits.specs.Giving.{Gives, GivesCells, GivesEach, GivesRows, GivesTexts}
+use Rattle.grid_records_traits.specs.Giving.{Gives, GivesCells, GivesEach, GivesTexts}
 use Rattle.grid_records_traits.specs.Giving.{AnswersCell, GivesCellsOf, GivesRow, GivesText, TakesOne}
 
 -- a call gave an item tied to the first that was left, and left the others, or none where none was left
@@ -106,9 +106,9 @@ gives_list {can = can} {left = left} {steps = steps} {tie = tie} {s = s} same gi
 
 -- and the same of rows, where as many may be refused
 pub gives_rows : {R S C E : Type 0} {row_can : R → Type 0} {row_left : R → Count} {row_steps : R → Option S → R → Type 0} {can : S → Type 0} {left : S → Count} {steps : S → Option (Result C E) → S → Type 0} {text : C → List ℕ} {r : R}
-    (before after : Bool) (ys zs : List (List (List ℕ))) → before ≡ after → ys ≡ zs → GivesRows row_can row_left row_steps can left steps text before r ys → GivesRows row_can row_left row_steps can left steps text after r zs
+    (before after : Bool) (ys zs : List (List (List ℕ))) → before ≡ after → ys ≡ zs → Gives row_can row_left row_steps (GivesTexts can left steps text before) r ys → Gives row_can row_left row_steps (GivesTexts can left steps text after) r zs
 gives_rows {row_can = row_can} {row_left = row_left} {row_steps = row_steps} {can = can} {left = left} {steps = steps} {text = text} {r = r} before after ys zs same is gives =
-    subst (λ v. GivesRows row_can row_left row_steps can left steps text v r zs) same (subst (λ v. GivesRows row_can row_left row_steps can left steps text before r v) is gives)
+    subst (λ v. Gives row_can row_left row_steps (GivesTexts can left steps text v) r zs) same (subst (λ v. Gives row_can row_left row_steps (GivesTexts can left steps text before) r v) is gives)
 
 -- the cells of a row
 module _ {S C : Type 0} (E : Type 0) (text : C → List ℕ) (left_of : S → ℕ) (texts_of : S → List (List ℕ)) where

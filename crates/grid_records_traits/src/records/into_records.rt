@@ -31,7 +31,7 @@ pub trait IntoRecords: RecordTexts {
         ensures refuses { may_refuse_left result ≡ Self.may_refuse self };
 
     /// At any time an iterator over rows gives those that it has left.
-    ghost gives: { (s : Self.IterRows) → GivesRows Self.IterRows.can_next Self.IterRows.remaining Self.IterRows.next_gives Self.IterColumns.can_next Self.IterColumns.remaining Self.IterColumns.next_gives Self.Cell.text (may_refuse_left s) s (rows_left s) };
+    ghost gives: { (s : Self.IterRows) → GivesRows Self.IterRows.Iterator Self.IterColumns.Iterator Self.Cell.text (may_refuse_left s) s (rows_left s) };
 
     /// The row that it gave is left no more, and all others are.
     ghost passes: { (s t : Self.IterRows) (cells : Self.IterColumns) → Self.IterRows.next_gives s (Some cells) t → HasPassedOne (rows_left s) (may_refuse_left s) (rows_left t) (may_refuse_left t) };

@@ -46,7 +46,7 @@ impl<I: IntoRecords> IntoRecords for Fitted<I> {
 
     ghost may_refuse_left = { λ s. I.may_refuse_left s.rows };
 
-    ghost gives = { λ s. gives_fitted_rows I.IterRows.next_gives I.IterColumns.next_gives I.Cell.text (λ s. s.rows) (λ s. s.columns) (λ cells. cells.cells) (λ cells. cells.left) s (I.gives s.rows) };
+    ghost gives = { λ s. gives_fitted_rows I.IterRows.next_gives I.IterColumns.next_gives I.Cell.text s (I.gives s.rows) };
 
     ghost passes = { λ s t _ step. let passed = I.passes s.rows t.rows step.1.0 step.1.1 in (passed_made fitted_row _ _ _ _ step.0 passed.0, passed.1) };
 
@@ -73,7 +73,7 @@ where
 
     ghost can_next = { λ s. I.can_next s.rows };
 
-    ghost next_gives = { λ s r t. (t.columns ≡ s.columns) × GivesFitted I.next_gives s.columns s.rows r (λ cells. cells.cells) (λ cells. cells.left) t.rows };
+    ghost next_gives = { GivesFitted I.next_gives };
 
     ghost remaining = { λ s. I.remaining s.rows };
 
@@ -98,7 +98,7 @@ impl<C, I: Iterator<Item = Result<C, AllocError>>> Iterator for FittedCells<I> {
 
     ghost can_next = { λ s. IfSome s.cells I.can_next };
 
-    ghost next_gives = { λ s r t. FitsCell I.next_gives s.cells s.left r t.cells t.left };
+    ghost next_gives = { FitsCell I.next_gives };
 
     ghost remaining = { λ s. at_most s.left };
 

@@ -43,7 +43,7 @@ impl<I: IntoRecords> IntoRecords for LimitColumns<I> {
 
     ghost may_refuse_left = { λ s. I.may_refuse_left s.rows };
 
-    ghost gives = { λ s. limited_rows_give I.IterRows.next_gives I.IterColumns.next_gives I.Cell.text (λ s. s.rows) (λ s. s.limit) s (I.gives s.rows) };
+    ghost gives = { λ s. limited_rows_give I.IterRows.next_gives I.IterColumns.next_gives I.Cell.text s (I.gives s.rows) };
 
     ghost passes = { λ s t cells step. let passed = I.passes s.rows t.rows (take_source cells) step.1.0 in (passed_made take _ _ _ _ step.0 passed.0, passed.1) };
 
@@ -70,7 +70,7 @@ where
 
     ghost can_next = { λ s. I.can_next s.rows };
 
-    ghost next_gives = { λ s r t. (t.limit ≡ s.limit) × GivesTaken I.next_gives s.limit s.rows r t.rows };
+    ghost next_gives = { GivesTaken I.next_gives };
 
     ghost remaining = { λ s. I.remaining s.rows };
 

@@ -53,7 +53,7 @@ impl<I: IntoRecords, D: Dimension + Copy> IntoRecords for TruncateContent<I, D> 
 
     ghost may_refuse_left = { λ _. true };
 
-    ghost gives = { λ s. truncated_rows_give I.IterRows.next_gives I.IterColumns.next_gives I.Cell.text D.width (λ s. s.rows) (λ s. s.dimension) (λ cells. cells.cells) (λ cells. cells.dimension) (λ cells. cells.column) s (I.gives s.rows) };
+    ghost gives = { λ s. truncated_rows_give I.IterRows.next_gives I.IterColumns.next_gives I.Cell.text D.width s (I.gives s.rows) };
 
     ghost passes = { λ s t cells step. (passed_made (λ d. truncated_row (D.width d) 0) _ _ _ _ step.0 (I.passes s.rows t.rows step.1.0 step.1.1).0, refl) };
 
@@ -114,7 +114,7 @@ where
 
     ghost can_next = { λ s. I.can_next s.rows };
 
-    ghost next_gives = { λ s r t. (t.dimension ≡ s.dimension) × GivesTruncatedRow I.next_gives s.dimension s.rows r (λ cells. cells.cells) (λ cells. cells.dimension) (λ cells. cells.column) t.rows };
+    ghost next_gives = { GivesTruncatedRow I.next_gives };
 
     ghost remaining = { λ s. I.remaining s.rows };
 
@@ -144,7 +144,7 @@ impl<C: Cell, D: Dimension + Copy, I: Iterator<Item = Result<C, AllocError>>> It
 
     ghost can_next = { λ s. IfSome s.cells I.can_next };
 
-    ghost next_gives = { λ s r t. (t.dimension ≡ s.dimension) × GivesTruncated I.next_gives C.text (D.width s.dimension) s.column s.cells r t.cells t.column };
+    ghost next_gives = { GivesTruncated I.next_gives C.text D.width };
 
     ghost remaining = { λ s. of_rest I.remaining (at_most 0) s.cells };
 

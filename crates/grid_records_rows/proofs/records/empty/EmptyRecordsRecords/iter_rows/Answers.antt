@@ -11,7 +11,7 @@ returns c =
     (record {
       can_next = search rules;
       ends = search rules;
-      each = each_empty_row (λ s. s.left) (λ s. s.columns) (λ cells. cells.left) _ c.args.self.columns c.args.self.rows
-          (λ cells is. record { can_next = search rules; ends = search rules; each = each_empty_text AllocError (λ s. s.left) false c.args.self.columns cells is })
+      each = each_empty_row _ c.args.self.columns c.args.self.rows
+          (λ cells is. record { can_next = search rules; ends = search rules; each = each_empty_text AllocError false c.args.self.columns cells is })
           _ refl refl;
     })

@@ -6,5 +6,5 @@ use Rattle.grid_records_rows.proofs.records.iter_records.RefIterRecordsRecords.i
 pub returns : goal.returns
 returns g c =
     gives_rows _ _ _ _ (c.iter_rows.ensures.refuses ∙ c.new.ensures.refuses) (c.iter_rows.ensures.rows ∙ c.new.ensures.rows)
-    (gives_fitted_rows g.I.IterRows.Iterator.next_gives g.I.IterColumns.Iterator.next_gives g.I.Cell.Cell.text (λ s. s.rows) (λ s. s.columns) (λ cells. cells.cells) (λ cells. cells.left)
+    (gives_fitted_rows g.I.IterRows.Iterator.next_gives g.I.IterColumns.Iterator.next_gives g.I.Cell.Cell.text
     c.iter_rows.result (g.met.I.IntoRecords.gives c.iter_rows.result.rows))
