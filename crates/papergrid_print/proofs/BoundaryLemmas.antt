@@ -13,15 +13,15 @@ use Rattle.papergrid_picture.specs.Picture.{along, blank, block_pieces, boundary
 use Rattle.papergrid_picture.specs.Reading.{line_items}
 use Rattle.papergrid_picture.proofs.FrameLemmas.{range_with_len-more}
 use Rattle.papergrid_picture.proofs.ReadingLemmas.{all_plain, ends_plain-all, line_items-before, line_items-behind, line_items-cons, line_items_no_texts, line_items_plain, no_texts, own_items, starts_plain}
-use Rattle.papergrid_print.specs.BlockLines.{alone_bytes, is_outside, line_kind, line_parts}
-use Rattle.papergrid_print.specs.Boundaries.{along_parts, corner_parts}
-use Rattle.papergrid_print.specs.Painting.{bare, colored, fill_bytes, glyph_part}
+use Rattle.papergrid_cells.specs.BlockLines.{alone_bytes, is_outside, line_kind, line_parts}
+use Rattle.papergrid_cells.specs.Boundaries.{along_parts, corner_parts}
+use Rattle.papergrid_cells.specs.Painting.{bare, colored, fill_bytes, glyph_part}
 use Rattle.papergrid_print.specs.Sheets.{Sheet, ShowsCell, bytes_of, grid_of, line_at, plain_bytes}
-use Rattle.papergrid_print.specs.Shown.{measures_of}
-use Rattle.papergrid_print.specs.declared.block.BlockLine.{BlockLine}
-use Rattle.papergrid_print.specs.declared.block.BlockLine.TheVariants.{Above, Text, Below, Outside}
-use Rattle.papergrid_print.specs.declared.block.OpenCell.{OpenCell}
-use Rattle.papergrid_print.specs.declared.painting.GlyphRun.{GlyphRun}
+use Rattle.papergrid_cells.specs.Shown.{measures_of}
+use Rattle.papergrid_cells.specs.declared.block.BlockLine.{BlockLine}
+use Rattle.papergrid_cells.specs.declared.block.BlockLine.TheVariants.{Above, Text, Below, Outside}
+use Rattle.papergrid_cells.specs.declared.block.OpenCell.{OpenCell}
+use Rattle.papergrid_cells.specs.declared.painting.GlyphRun.{GlyphRun}
 use Rattle.papergrid_print.proofs.LineLemmas.{across-parts, alone-same, block-parts, painted-bare, parts_of-append, plain-line}
 
 glyphs-only : (runs : List GlyphRun) → no_texts (map glyph_part runs) ≡ true

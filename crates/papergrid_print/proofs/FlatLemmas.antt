@@ -29,15 +29,16 @@ use Rattle.papergrid_picture.specs.Frame.{Boundary, Row, Tracks, block_height, b
 use Rattle.papergrid_picture.specs.Picture.{Piece, across, along, at, blank, block_pieces, boundary_part, corner, edge, laid, parts_of, row_part, seen, upright}
 use Rattle.papergrid_picture.specs.Reading.{line_items, painted, part_items}
 use Rattle.papergrid_picture.proofs.FrameLemmas.{boundary-behind, boundary-next}
-use Rattle.papergrid_print.specs.BlockLines.{kind_at, line_kind, line_parts}
-use Rattle.papergrid_print.specs.Boundaries.{upright_bytes}
-use Rattle.papergrid_print.specs.Flat.{AreFlat, AreFlatRows, behind_boundary, first_cell, first_placed, left_margin, left_padding, placed, right_margin, right_padding, row_front, spaced_text, standing, standing_of}
-use Rattle.papergrid_print.specs.Painting.{colored, fill_bytes}
+use Rattle.papergrid_cells.specs.BlockLines.{kind_at, line_kind, line_parts}
+use Rattle.papergrid_cells.specs.Boundaries.{upright_bytes}
+use Rattle.papergrid_cells.specs.Flat.{AreFlat, AreFlatRows, behind_boundary, first_cell, left_margin, left_padding, placed, right_margin, right_padding, spaced_text, standing, standing_of}
+use Rattle.papergrid_print.specs.FlatSheets.{first_placed, row_front}
+use Rattle.papergrid_cells.specs.Painting.{colored, fill_bytes}
 use Rattle.papergrid_print.specs.Sheets.{GoesOn, Sheet, bytes_of, grid_of, line_at, plain_bytes, row_tracks}
-use Rattle.papergrid_print.specs.declared.block.BlockLine.TheVariants.{Text, Below, Outside}
-use Rattle.papergrid_print.specs.declared.block.OpenCell.{OpenCell}
-use Rattle.papergrid_print.specs.declared.flat.FlatRows.{FlatRows}
-use Rattle.papergrid_print.proofs.CellLineLemmas.{map-same}
+use Rattle.papergrid_cells.specs.declared.block.BlockLine.TheVariants.{Text, Below, Outside}
+use Rattle.papergrid_cells.specs.declared.block.OpenCell.{OpenCell}
+use Rattle.papergrid_cells.specs.declared.flat.FlatRows.{FlatRows}
+use Rattle.papergrid_cells.proofs.CellLineLemmas.{map-same}
 use Rattle.papergrid_print.proofs.LineLemmas.{block-line, painted-bare, parts_of-append, parts_of-laid, row-line, row_start, row_start-more, upright-bytes}
 
 -- ---- the first line of a block

@@ -1,5 +1,3 @@
-pub mod PaintingLemmas
-pub mod CellLineLemmas
 mod LineLemmas
 mod BoundaryLemmas
 pub mod OwnerLemmas
@@ -8,7 +6,5 @@ mod PlaceLemmas
 mod OpenLemmas
 mod TableLemmas
 pub mod FlatLemmas
-mod PlainLineLemmas
-mod SpaceLemmas
-mod EmptyRowLemmas
+mod PlacedLemmas
 mod SingleLemmas

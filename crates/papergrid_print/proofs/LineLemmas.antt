@@ -17,14 +17,14 @@ use Rattle.papergrid_picture.specs.Picture.{Piece, across, blank, block_pieces, 
 use Rattle.papergrid_picture.specs.Reading.{line_items, painted, part_items}
 use Rattle.papergrid_picture.proofs.FrameLemmas.{range_with_len-more}
 use Rattle.papergrid_picture.proofs.ReadingLemmas.{all_plain, all_plain-append, line_items_plain}
-use Rattle.papergrid_print.specs.BlockLines.{alone_bytes, kind_at, line_kind, line_parts, part_bytes, text_of}
-use Rattle.papergrid_print.specs.Boundaries.{upright_bytes}
-use Rattle.papergrid_print.specs.Painting.{colored, fill_bytes}
+use Rattle.papergrid_cells.specs.BlockLines.{alone_bytes, kind_at, line_kind, line_parts, part_bytes, text_of}
+use Rattle.papergrid_cells.specs.Boundaries.{upright_bytes}
+use Rattle.papergrid_cells.specs.Painting.{colored, fill_bytes}
 use Rattle.papergrid_print.specs.Sheets.{Sheet, ShowsAt, ShowsCell, bytes_of, grid_of, line_at, plain_bytes}
-use Rattle.papergrid_print.specs.Shown.{measures_of}
-use Rattle.papergrid_print.specs.declared.block.BlockLine.{BlockLine}
-use Rattle.papergrid_print.specs.declared.block.BlockLine.TheVariants.{Above, Text, Below, Outside}
-use Rattle.papergrid_print.specs.declared.block.OpenCell.{OpenCell}
+use Rattle.papergrid_cells.specs.Shown.{measures_of}
+use Rattle.papergrid_cells.specs.declared.block.BlockLine.{BlockLine}
+use Rattle.papergrid_cells.specs.declared.block.BlockLine.TheVariants.{Above, Text, Below, Outside}
+use Rattle.papergrid_cells.specs.declared.block.OpenCell.{OpenCell}
 
 -- ---- pieces and their parts
 

@@ -10,7 +10,7 @@ use Rattle.grid_config_spans.specs.Spans.{AreGood, ArePositive, extent_at}
 use Rattle.grid_config_spans.proofs.Order.{same_position}
 use Rattle.papergrid_picture.specs.Picture.{at, seen}
 use Rattle.papergrid_print.specs.Sheets.{GoesOn, IsOpen, Sheet, ShowsAt, ShowsCell, grid_of}
-use Rattle.papergrid_print.specs.declared.block.OpenCell.{OpenCell}
+use Rattle.papergrid_cells.specs.declared.block.OpenCell.{OpenCell}
 use Rattle.papergrid_print.proofs.OwnerLemmas.{goes-on, owner-before}
 
 module _ (sheet : Sheet) where

@@ -11,7 +11,7 @@ use Rattle.papergrid_picture.specs.Frame.{Boundary, Frame, Place, boundary_at, c
 use Rattle.papergrid_picture.specs.Picture.{at, seen}
 use Rattle.papergrid_picture.proofs.FrameLemmas.{boundary-behind, place-boundary}
 use Rattle.papergrid_print.specs.Sheets.{Sheet, ShowsAt, grid_of, line_at, place_line, row_tracks}
-use Rattle.papergrid_print.specs.declared.block.OpenCell.{OpenCell}
+use Rattle.papergrid_cells.specs.declared.block.OpenCell.{OpenCell}
 use Rattle.papergrid_print.proofs.OwnerLemmas.{owner-before}
 use Rattle.papergrid_print.proofs.PlaceLemmas.{boundary-absent, boundary-there}
 

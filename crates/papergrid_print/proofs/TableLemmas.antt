@@ -10,7 +10,7 @@ use Rattle.papergrid_picture.specs.Picture.{margin_line, parts_of}
 use Rattle.papergrid_picture.specs.Reading.{line_items}
 use Rattle.papergrid_picture.proofs.FrameLemmas.{boundary-behind, boundary-bounded, boundary-first, boundary-next, place-above, place-below}
 use Rattle.papergrid_picture.proofs.ReadingLemmas.{line_items-cons, own_items}
-use Rattle.papergrid_print.specs.Painting.{colored, fill_bytes}
+use Rattle.papergrid_cells.specs.Painting.{colored, fill_bytes}
 use Rattle.papergrid_print.specs.Sheets.{IsPrintable, Sheet, bytes_of, grid_of, line_at, place_line, row_tracks}
 use Rattle.papergrid_print.proofs.LineLemmas.{painted-bare}
 

@@ -1,11 +1,5 @@
-pub mod Lines
-pub mod Shown
-pub mod Painting
-pub mod Spaces
-pub mod BlockLines
-pub mod Boundaries
 pub mod Seen
 pub mod Sheets
 pub mod Axes
-pub mod Flat
+pub mod FlatSheets
 pub mod Single

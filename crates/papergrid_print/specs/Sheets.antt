@@ -14,8 +14,8 @@ use Rattle.papergrid_picture.specs.Frame.{Place, place, Tracks, block_height, bl
 use Rattle.papergrid_picture.specs.Picture.{parts_of, pieces_at, seen}
 use Rattle.papergrid_picture.specs.Reading.{Reading, grid_lines, line_items, painted, part_items}
 use Rattle.papergrid_picture.specs.Tables.{in_bytes, table_grid}
-use Rattle.papergrid_print.specs.Shown.{measures_of, texts_of}
-use Rattle.papergrid_print.specs.declared.block.OpenCell.{OpenCell}
+use Rattle.papergrid_cells.specs.Shown.{measures_of, texts_of}
+use Rattle.papergrid_cells.specs.declared.block.OpenCell.{OpenCell}
 
 -- a line feed stands before each line but the first
 abbrev pub feed_before : ℕ → List ℕ

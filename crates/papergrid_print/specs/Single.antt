@@ -2,7 +2,7 @@
 use Rattle.std.specs.Prelude.{◌≡◌, ◌<◌, ℕ, List, Option, None, length, slice_index_or}
 use Rattle.papergrid_picture.specs.Picture.{seen}
 use Rattle.papergrid_print.specs.Sheets.{Sheet, ShowsAt, grid_of}
-use Rattle.papergrid_print.specs.declared.block.OpenCell.{OpenCell}
+use Rattle.papergrid_cells.specs.declared.block.OpenCell.{OpenCell}
 
 -- each cell that is seen in row i, begins above row `before` and begins in column j is kept there
 abbrev pub IsOpenAbove : Sheet → ℕ → ℕ → List (Option OpenCell) → Type 0

@@ -13,24 +13,24 @@ ghost use Rattle.grid_config.specs.Looks.{look_of};
 ghost use Rattle.ansi_str.specs.StyledText.{has_escape};
 ghost use Rattle.grid_records_traits.specs.Cells.{HasLineCount, HasLineWidth, HasWidth};
 ghost use Rattle.grid_records_traits.specs.Rows.{text_at};
-ghost use Rattle.papergrid_print.specs.Flat.{AreFlat, AreFlatRows, AreMadeFor, HasEmptyRow, IsBetween, behind_text, first_placed, standing_of};
-ghost use Rattle.papergrid_print.specs.Painting.{colored, fill_bytes, glyph_part};
+ghost use Rattle.papergrid_cells.specs.Flat.{AreFlat, AreFlatRows, AreMadeFor, HasEmptyRow, behind_text, standing_of};
+ghost use Rattle.papergrid_print.specs.FlatSheets.{IsBetween, first_placed};
+ghost use Rattle.papergrid_cells.specs.Painting.{colored, fill_bytes, glyph_part};
 ghost use Rattle.papergrid_print.specs.Seen.{AreSeen, AreSeenAbove, AreSeenOn};
 ghost use Rattle.papergrid_print.specs.Sheets.{GoesOn, IsOpen, IsPrintable, ShowsCell, bytes_of, grid_of, feed_before, line_at, lines_of, place_line, plain_bytes, row_tracks, sheet_of};
 
-use crate::block::{OpenCell, block_line, push_blank, push_block_line, push_indent};
-use crate::cell_lines::read_cell;
 use crate::colors::Colors;
 use crate::extents::{Axis, stretch, thickness};
-use crate::flat::{FlatRows, are_flat};
-use crate::glyphs::{push_along, push_behind, push_corner, push_upright};
-use crate::painting::{GlyphRun, push_glyphs};
 use crate::seen::{SeenCell, kept_at};
 use ansi_str::AnsiStr;
 use grid_config::SpannedConfig;
 use grid_config_colors::ANSIBuf;
 use grid_config_values::{Indent, Position};
 use grid_records_traits::PeekableRecords;
+use papergrid_cells::{
+    FlatRows, GlyphRun, OpenCell, are_flat, block_line, push_along, push_behind, push_blank,
+    push_block_line, push_corner, push_glyphs, push_indent, push_upright, read_cell,
+};
 use std::alloc::{AllocError, Global};
 
 // From how many rows on the line of a row of empty cells is made. It is one line beside all those that are

@@ -8,11 +8,11 @@ ghost use Rattle.papergrid_print.specs.Sheets.{IsPrintable, ShowsAt, grid_of, li
 ghost use Rattle.papergrid_print.specs.Single.{IsOpenAbove};
 
 use super::Table;
-use crate::block::{OpenCell, push_blank};
 use crate::colors::Colors;
 use crate::extents::{Axis, stretch, thickness};
 use crate::seen::{SeenCell, kept_at};
 use grid_records_traits::PeekableRecords;
+use papergrid_cells::{OpenCell, push_blank};
 use std::alloc::{AllocError, Global};
 
 impl<'a, R: PeekableRecords, C: Colors> Table<'a, R, C> {

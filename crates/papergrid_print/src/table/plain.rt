@@ -4,15 +4,15 @@ ghost use Rattle.grid_config.specs.Looks.{look_of};
 ghost use Rattle.grid_records_traits.specs.PlainTexts.{plain_texts};
 ghost use Rattle.grid_records_traits.specs.Rows.{row_at};
 ghost use Rattle.papergrid_picture.specs.Frame.{Row, track_at};
-ghost use Rattle.papergrid_print.specs.Flat.{AreFlat, AreFlatRows, HasEmptyRow, IsEmptyRow, row_front};
+ghost use Rattle.papergrid_cells.specs.Flat.{AreFlat, AreFlatRows, HasEmptyRow, IsEmptyRow};
+ghost use Rattle.papergrid_print.specs.FlatSheets.{row_front};
 ghost use Rattle.papergrid_print.specs.Sheets.{line_at, row_tracks, sheet_of};
 
 use super::Table;
 use crate::colors::Colors;
-use crate::empty_row::{EmptyRow, write_over};
-use crate::flat::FlatRows;
 use grid_config_values::Position;
 use grid_records_traits::{PeekableRecords, PlainRow};
+use papergrid_cells::{EmptyRow, FlatRows, write_over};
 use std::alloc::AllocError;
 
 impl<'a, R: PeekableRecords, C: Colors> Table<'a, R, C> {

@@ -5,8 +5,8 @@ use Rattle.grid_config_values.specs.declared.sides.Indent.{Indent}
 use Rattle.grid_config_values.specs.declared.sides.Sides.{Sides}
 use Rattle.papergrid_picture.specs.Picture.{boundary_part, parts_of}
 use Rattle.papergrid_picture.specs.Reading.{line_items}
-use Rattle.papergrid_print.specs.Painting.{bare, colored, fill_bytes, glyph_part}
-use Rattle.papergrid_print.specs.declared.painting.GlyphRun.{GlyphRun}
+use Rattle.papergrid_cells.specs.Painting.{bare, colored, fill_bytes, glyph_part}
+use Rattle.papergrid_cells.specs.declared.painting.GlyphRun.{GlyphRun}
 use Rattle.papergrid_print.specs.Sheets.{bytes_of, grid_of, sheet_of}
 use Rattle.papergrid_print.proofs.BoundaryLemmas.{boundary-line, boundary_start, boundary_start-more}
 use Rattle.papergrid_print.proofs.table.Table.push_boundary_line.Goals as goal

@@ -3,7 +3,7 @@ use Rattle.std.specs.List.{range_with_len}
 use Rattle.papergrid_picture.specs.Blocks.{Part}
 use Rattle.papergrid_picture.specs.Picture.{boundary_part, parts_of}
 use Rattle.papergrid_picture.specs.Reading.{line_items}
-use Rattle.papergrid_print.specs.Painting.{glyph_part}
+use Rattle.papergrid_cells.specs.Painting.{glyph_part}
 use Rattle.papergrid_print.specs.Sheets.{bytes_of, grid_of, sheet_of}
 use Rattle.papergrid_print.proofs.table.Table.push_boundary_line.Given as goal
 

@@ -3,8 +3,8 @@ use Rattle.std.proofs.lemmas.Result.{on_ok_weaker}
 use Rattle.grid_config.specs.Looks.{look_of}
 use Rattle.grid_config_values.specs.declared.position.Position.{Position}
 use Rattle.papergrid_picture.specs.Picture.{seen}
-use Rattle.papergrid_print.specs.BlockLines.{line_kind}
-use Rattle.papergrid_print.specs.Shown.{measures_of}
+use Rattle.papergrid_cells.specs.BlockLines.{line_kind}
+use Rattle.papergrid_cells.specs.Shown.{measures_of}
 use Rattle.papergrid_print.specs.Seen.{IsSameAbove}
 use Rattle.papergrid_print.specs.Sheets.{ShowsCell, grid_of, sheet_of}
 use Rattle.papergrid_print.proofs.LineLemmas.{kept-shows}

@@ -6,11 +6,12 @@ use Rattle.grid_config_colors.specs.Colors.{color_of}
 use Rattle.grid_records_traits.specs.Cells.{HasLineCount, HasWidth}
 use Rattle.grid_records_traits.specs.Rows.{text_at}
 use Rattle.papergrid_picture.specs.Blocks.{greatest}
-use Rattle.papergrid_print.specs.Flat.{behind_text, placed, standing_of}
+use Rattle.papergrid_cells.specs.Flat.{behind_text, placed, standing_of}
 use Rattle.papergrid_print.specs.Sheets.{bytes_of, grid_of, sheet_of}
 use Rattle.std.specs.Prelude.{slice_index}
 use Rattle.papergrid_print.proofs.FlatLemmas.{line-is, measured, widest-is}
-use Rattle.papergrid_print.proofs.PlainLineLemmas.{plain-line, plain-placed}
+use Rattle.papergrid_cells.proofs.PlainLineLemmas.{plain-line}
+use Rattle.papergrid_print.proofs.PlacedLemmas.{plain-placed}
 use Rattle.papergrid_print.proofs.table.Table.push_first_line.Goals as goal
 
 pub returns : goal.returns

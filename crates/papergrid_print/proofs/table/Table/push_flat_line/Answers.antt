@@ -1,5 +1,6 @@
 use Rattle.std.proofs.Common.{◌≡◌, ◌++◌, length, string_bytes, ap, refl, sym, ◌∙◌, arith, append_assoc}
-use Rattle.papergrid_print.specs.Flat.{behind_text, first_placed, standing_of}
+use Rattle.papergrid_cells.specs.Flat.{behind_text, standing_of}
+use Rattle.papergrid_print.specs.FlatSheets.{first_placed}
 use Rattle.papergrid_picture.specs.Picture.{at}
 use Rattle.papergrid_print.specs.Sheets.{sheet_of}
 use Rattle.papergrid_print.proofs.FlatLemmas.{flat-begins, flat-ends, flat-more}

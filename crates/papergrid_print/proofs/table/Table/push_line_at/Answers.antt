@@ -4,7 +4,7 @@ use Rattle.papergrid_picture.specs.Frame.{Boundary, Row, track_at}
 use Rattle.papergrid_picture.specs.Picture.{seen}
 use Rattle.papergrid_picture.proofs.FrameLemmas.{boundary-next, place-row}
 use Rattle.papergrid_print.specs.Sheets.{ShowsAt, grid_of, row_tracks, sheet_of}
-use Rattle.papergrid_print.specs.declared.block.OpenCell.{OpenCell}
+use Rattle.papergrid_cells.specs.declared.block.OpenCell.{OpenCell}
 use Rattle.papergrid_print.proofs.SingleLemmas.{boundary-shown, line-shown}
 use Rattle.papergrid_print.proofs.table.Table.push_line_at.Goals as goal
 

@@ -1,7 +1,7 @@
 use Rattle.std.proofs.Common.{◌≤◌, ◌++◌, ◌∙◌, ap, sym, length, string_bytes, arith}
 use Rattle.std.proofs.lemmas.Result.{on_ok_weaker}
 use Rattle.papergrid_picture.specs.Frame.{Boundary, track_at}
-use Rattle.papergrid_print.specs.Painting.{colored, fill_bytes}
+use Rattle.papergrid_cells.specs.Painting.{colored, fill_bytes}
 use Rattle.papergrid_print.specs.Sheets.{row_tracks, sheet_of}
 use Rattle.papergrid_print.proofs.SingleLemmas.{boundary-shown, line-shown}
 use Rattle.papergrid_print.proofs.TableLemmas.{below-shows, top-within}

@@ -1,6 +1,6 @@
 use Rattle.std.proofs.Common.{◌≤◌, ◌+◌, ◌-◌, ◌*◌, length, ap, subst, sym, ◌∙◌, arith}
 use Rattle.papergrid_picture.specs.Frame.{line_count, track_at}
-use Rattle.papergrid_print.specs.Painting.{colored, fill_bytes}
+use Rattle.papergrid_cells.specs.Painting.{colored, fill_bytes}
 use Rattle.papergrid_print.specs.Sheets.{grid_of, row_tracks, sheet_of}
 use Rattle.papergrid_print.proofs.TableLemmas.{below-shows, top-within}
 use Rattle.papergrid_print.proofs.table.Table.push_lines.Goals as goal

@@ -1,8 +1,8 @@
 use Rattle.std.proofs.Common.{◌≡◌, ◌≤◌, ◌<◌, ◌+◌, ◌++◌, Option, Some, get_or, string_bytes, ap, sym, subst, ◌∙◌, arith}
 use Rattle.papergrid_picture.specs.Frame.{Row, boundary_at, track_at}
-use Rattle.papergrid_print.specs.Flat.{AreMadeFor}
+use Rattle.papergrid_cells.specs.Flat.{AreMadeFor}
 use Rattle.papergrid_print.specs.Sheets.{line_at, lines_of, row_tracks, sheet_of}
-use Rattle.papergrid_print.specs.declared.flat.FlatRows.{FlatRows}
+use Rattle.papergrid_cells.specs.declared.flat.FlatRows.{FlatRows}
 use Rattle.papergrid_print.proofs.FlatLemmas.{none-goes-on}
 use Rattle.papergrid_print.proofs.PlaceLemmas.{row-end, row-fits, row-more}
 use Rattle.papergrid_print.proofs.table.Table.push_next_row.Goals as goal

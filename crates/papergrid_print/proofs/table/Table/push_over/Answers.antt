@@ -6,12 +6,13 @@ use Rattle.grid_records_traits.specs.Cells.{HasWidth}
 use Rattle.grid_records_traits.specs.Rows.{text_at}
 use Rattle.papergrid_picture.specs.Blocks.{free_left}
 use Rattle.papergrid_picture.specs.Picture.{at}
-use Rattle.papergrid_print.specs.Flat.{empty_from, first_placed, joints_of, room_in, row_front, standing_of}
-use Rattle.papergrid_print.specs.Painting.{fill_bytes}
+use Rattle.papergrid_cells.specs.Flat.{empty_from, joints_of, room_in, standing_of}
+use Rattle.papergrid_print.specs.FlatSheets.{first_placed, row_front}
+use Rattle.papergrid_cells.specs.Painting.{fill_bytes}
 use Rattle.papergrid_print.specs.Sheets.{sheet_of}
-use Rattle.papergrid_print.specs.declared.empty_row.Room.{Room}
-use Rattle.papergrid_print.proofs.EmptyRowLemmas.{length-rooms, none-of, placed-plain, rest-inside, room-of, split-begin, split-behind, split-text, taken, text-inside, text-over, written-more}
-use Rattle.papergrid_print.proofs.PlainLineLemmas.{plain-placed}
+use Rattle.papergrid_cells.specs.declared.empty_row.Room.{Room}
+use Rattle.papergrid_cells.proofs.EmptyRowLemmas.{length-rooms, none-of, placed-plain, rest-inside, room-of, split-begin, split-behind, split-text, taken, text-inside, text-over}
+use Rattle.papergrid_print.proofs.PlacedLemmas.{plain-placed, written-more}
 use Rattle.papergrid_print.proofs.table.Table.push_over.Goals as goal
 
 pub index-requires : goal.index-requires

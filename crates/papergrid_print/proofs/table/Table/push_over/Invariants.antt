@@ -1,5 +1,6 @@
 use Rattle.std.proofs.Common.{◌≡◌, ◌++◌, drop, length, string_bytes}
-use Rattle.papergrid_print.specs.Flat.{empty_from, joints_of, row_front}
+use Rattle.papergrid_cells.specs.Flat.{empty_from, joints_of}
+use Rattle.papergrid_print.specs.FlatSheets.{row_front}
 use Rattle.papergrid_print.specs.Sheets.{sheet_of}
 use Rattle.papergrid_print.proofs.table.Table.push_over.Given as goal
 

@@ -3,11 +3,12 @@ use Rattle.std.specs.Prelude.{slice_index_or}
 use Rattle.std.specs.Option.{option_map}
 use Rattle.grid_config_colors.specs.Colors.{color_of}
 use Rattle.grid_records_traits.specs.Rows.{text_at}
-use Rattle.papergrid_print.specs.Flat.{behind_text, first_placed, standing_of}
+use Rattle.papergrid_cells.specs.Flat.{behind_text, standing_of}
+use Rattle.papergrid_print.specs.FlatSheets.{first_placed}
 use Rattle.papergrid_picture.specs.Picture.{at}
 use Rattle.papergrid_print.specs.Sheets.{sheet_of}
 use Rattle.papergrid_print.proofs.FlatLemmas.{flat-ends, flat-more}
-use Rattle.papergrid_print.proofs.PlainLineLemmas.{plain-placed}
+use Rattle.papergrid_print.proofs.PlacedLemmas.{plain-placed}
 use Rattle.papergrid_print.proofs.table.Table.push_plain_line.Goals as goal
 
 pub loop-j-init : goal.loop-j-init

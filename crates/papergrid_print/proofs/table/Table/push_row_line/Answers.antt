@@ -3,7 +3,7 @@ use Rattle.std.proofs.lemmas.Result.{on_ok_weaker}
 use Rattle.grid_config_colors.specs.Colors.{Color}
 use Rattle.grid_config_values.specs.declared.sides.Indent.{Indent}
 use Rattle.grid_config_values.specs.declared.sides.Sides.{Sides}
-use Rattle.papergrid_print.specs.Painting.{colored, fill_bytes}
+use Rattle.papergrid_cells.specs.Painting.{colored, fill_bytes}
 use Rattle.papergrid_print.specs.Sheets.{sheet_of}
 use Rattle.papergrid_print.proofs.LineLemmas.{appended2, appended4, row-line, row_start, row_start-more}
 use Rattle.papergrid_print.proofs.table.Table.push_row_line.Goals as goal

@@ -1,0 +1,5 @@
+mod PaintingLemmas
+pub mod CellLineLemmas
+pub mod PlainLineLemmas
+mod SpaceLemmas
+pub mod EmptyRowLemmas

@@ -1,0 +1,147 @@
+-- Rows of one line, where the cells of a table have the same settings: what stands between their texts is the same in each.
+use Rattle.std.specs.Prelude.{◌≡◌, ⊤, ℕ, ◌+◌, ◌-◌, ◌==◌, Bool, false, List, [], ◌∷◌, ◌++◌, Option, MatchOption, None, drop, length, string_bytes, if◌then◌else◌}
+use Rattle.std.specs.Option.{option_map}
+use Rattle.grid_config_values.specs.declared.alignment.AlignmentHorizontal.{AlignmentHorizontal}
+use Rattle.grid_config_values.specs.declared.position.Position.{Position}
+use Rattle.grid_config_values.specs.Settings.{value_at}
+use Rattle.grid_config_colors.specs.Colors.{Color, color_of}
+use Rattle.grid_config.specs.Looks.{Look, look_of}
+use Rattle.grid_config.specs.Settings.{AreUniform, Settings}
+use Rattle.papergrid_picture.specs.Blocks.{free_left}
+use Rattle.papergrid_picture.specs.Picture.{at}
+use Rattle.papergrid_cells.specs.Boundaries.{upright_bytes}
+use Rattle.papergrid_cells.specs.Painting.{colored, fill_bytes}
+use Rattle.papergrid_cells.specs.declared.empty_row.EmptyRow.{EmptyRow}
+use Rattle.papergrid_cells.specs.declared.empty_row.Room.{Room}
+use Rattle.papergrid_cells.specs.declared.flat.FlatRows.{FlatRows}
+use Rattle.papergrid_cells.specs.declared.spaced.Spaced.{Spaced}
+
+-- the cell whose settings stand for those of all cells
+abbrev pub first_cell : Position
+first_cell = at 0 0
+
+-- all cells have the same settings, none spans several rows or columns, is padded above or below, or is trimmed
+pub record AreFlat (settings : Settings) : Type 0 where
+  pub uniform : AreUniform settings
+  pub single : settings.spans ≡ []
+  pub above : (value_at settings.padding first_cell).top.size ≡ 0
+  pub below : (value_at settings.padding first_cell).bottom.size ≡ 0
+  pub trim_horizontal : value_at settings.trim_horizontal first_cell ≡ false
+  pub trim_vertical : value_at settings.trim_vertical first_cell ≡ false
+
+-- how texts stand in their columns: between which paddings, and what fills what they leave free
+pub record Standing : Type 0 where
+  pub left : ℕ
+  pub right : ℕ
+  pub fill : ℕ
+  pub fill_color : Option Color
+  pub alignment : AlignmentHorizontal
+  pub line_alignment : Bool
+
+abbrev pub standing : Look → Position → Standing
+standing look cell = record {
+  left = (look.padding cell).left.size;
+  right = (look.padding cell).right.size;
+  fill = look.justification cell;
+  fill_color = look.justification_color cell;
+  alignment = look.alignment_horizontal cell;
+  line_alignment = look.line_alignment cell;
+}
+
+-- a line of this measure in a column of this width, between the paddings, where the widest line of the cell measures
+-- `widest`: what is free before it, the line in its colour, and what is free after it
+abbrev pub placed : Standing → ℕ → ℕ → ℕ → Option Color → List ℕ → List ℕ
+placed stands width measure widest color line =
+    let room = width - stands.left - stands.right in
+    let indent = free_left stands.alignment (room - (if stands.line_alignment then measure else widest)) in
+    let free : ℕ → List ℕ = λ n. colored stands.fill_color (fill_bytes stands.fill n) in
+    free indent ++ (colored color line ++ free (room - indent - measure))
+
+-- the text after the spaces that are kept with it
+abbrev pub spaced_text : Spaced → List ℕ
+spaced_text spaced = drop spaced.spaces (string_bytes spaced.text)
+
+abbrev pub standing_of : FlatRows → Standing
+standing_of rows = record {
+  left = rows.left;
+  right = rows.right;
+  fill = rows.fill;
+  fill_color = option_map color_of rows.fill_color;
+  alignment = rows.alignment;
+  line_alignment = rows.line_alignment;
+}
+
+module _ (look : Look) where
+  abbrev pub left_margin : List ℕ
+  left_margin = colored look.margin_color.left (fill_bytes look.margin.left.fill look.margin.left.size)
+
+  abbrev pub right_margin : List ℕ
+  right_margin = colored look.margin_color.right (fill_bytes look.margin.right.fill look.margin.right.size)
+
+  -- the paddings of a cell
+  abbrev pub left_padding : Position → List ℕ
+  left_padding cell = colored (look.padding_color cell).left (fill_bytes (look.padding cell).left.fill (look.padding cell).left.size)
+
+  abbrev pub right_padding : Position → List ℕ
+  right_padding cell = colored (look.padding_color cell).right (fill_bytes (look.padding cell).right.fill (look.padding cell).right.size)
+
+  -- what stands before the first line, between two, and after the last, and how lines stand in their columns
+  pub record AreFlatRows (columns : ℕ) (rows : FlatRows) : Type 0 where
+    pub front : string_bytes rows.front ≡ left_margin ++ (upright_bytes look 0 columns ++ left_padding first_cell)
+    pub between : spaced_text rows.between ≡ right_padding first_cell ++ (upright_bytes look 1 columns ++ left_padding first_cell)
+    pub back : spaced_text rows.back ≡ right_padding first_cell ++ (upright_bytes look columns columns ++ right_margin)
+    pub standing : standing_of rows ≡ standing look first_cell
+
+  -- what stands after column boundary j of `columns`: the padding of the next cell, and after the last one the margin
+  abbrev pub behind_boundary : ℕ → ℕ → List ℕ
+  behind_boundary j columns = if j == columns then right_margin else left_padding first_cell
+
+-- what stands after the text in column j of `columns`
+abbrev pub behind_text : FlatRows → ℕ → ℕ → List ℕ
+behind_text rows j columns = if j + 1 == columns then spaced_text rows.back else spaced_text rows.between
+
+-- ---- the line of a row of empty cells
+
+-- the paddings beside texts, and what stands between two of these and after the last
+pub record Joints : Type 0 where
+  pub left : ℕ
+  pub right : ℕ
+  pub between : List ℕ
+  pub back : List ℕ
+
+abbrev pub joints_of : FlatRows → Joints
+joints_of rows = record { left = rows.left; right = rows.right; between = spaced_text rows.between; back = spaced_text rows.back }
+
+module _ (joints : Joints) where
+  -- how many columns a text has in a column of this width
+  abbrev pub room_in : ℕ → ℕ
+  room_in width = width - joints.left - joints.right
+
+  -- what stands after the text in column j of `columns`
+  abbrev pub joint_behind : ℕ → ℕ → List ℕ
+  joint_behind j columns = if j + 1 == columns then joints.back else joints.between
+
+  -- the line from the room in column j of `columns` on, where these widths are left: spaces, and what stands after them
+  abbrev pub empty_from : ℕ → ℕ → List ℕ → List ℕ
+  empty_from columns j [] = []
+  empty_from columns j (width ∷ widths) = fill_bytes 0x20 (room_in width) ++ (joint_behind j columns ++ empty_from columns (j + 1) widths)
+
+  -- the rooms in it
+  abbrev pub rooms_from : ℕ → ℕ → List ℕ → List Room
+  rooms_from columns j [] = []
+  rooms_from columns j (width ∷ widths) =
+      record { width = room_in width; rest = length (empty_from columns j (width ∷ widths)) } ∷ rooms_from columns (j + 1) widths
+
+-- the line of a row of empty cells in columns of these widths, where spaces in no colour fill what texts leave free
+pub record IsEmptyRow (rows : FlatRows) (widths : List ℕ) (empty : EmptyRow) : Type 0 where
+  pub fill : rows.fill ≡ 0x20
+  pub color : rows.fill_color ≡ None
+  pub line : string_bytes empty.line ≡ string_bytes rows.front ++ empty_from (joints_of rows) (length widths) 0 widths
+  pub rooms : empty.rooms.items ≡ rooms_from (joints_of rows) (length widths) 0 widths
+
+abbrev pub HasEmptyRow : List ℕ → FlatRows → Type 0
+HasEmptyRow widths rows = MatchOption rows.empty ⊤ (IsEmptyRow rows widths)
+
+-- rows of one line that were made for a table with these settings and columns of these widths, where its settings allow it
+abbrev pub AreMadeFor : Settings → List ℕ → Option FlatRows → Type 0
+AreMadeFor settings widths made = MatchOption made ⊤ (λ rows. AreFlat settings × AreFlatRows (look_of settings) (length widths) rows × HasEmptyRow widths rows)

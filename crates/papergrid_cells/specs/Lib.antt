@@ -1,0 +1,7 @@
+pub mod Lines
+pub mod Shown
+pub mod Painting
+pub mod Spaces
+pub mod BlockLines
+pub mod Boundaries
+pub mod Flat

@@ -1,0 +1,246 @@
+//! The lines of a cell are read once, with its trims.
+ghost use Rattle.std.specs.Prelude.{◌≡◌, ◌+◌, ◌-◌, ◌≤◌, IfOk, OnOk, [], drop, length, map, slice_index_or, take};
+ghost use Rattle.std.specs.Cow.{cow_str_bytes};
+ghost use Rattle.std.specs.List.{prefix_len, slice_split, suffix_len};
+ghost use Rattle.grid_records_measure.specs.TextLines.{is_line_feed, line_measure};
+ghost use Rattle.grid_records_measure.specs.Trimming.{trimmed};
+ghost use Rattle.grid_records_traits.specs.Rows.{text_at};
+ghost use Rattle.papergrid_picture.specs.CellLines.{cell_lines, cell_measures};
+ghost use Rattle.papergrid_cells.specs.Lines.{line_measures, line_texts};
+ghost use Rattle.papergrid_cells.specs.Shown.{kept_by, line_shown, measures_of, shown_line, texts_of};
+
+use super::{CellLine, CellLines};
+use ansi_str::AnsiStr;
+use grid_config_values::Position;
+use grid_records_measure::{Lines, get_lines, get_string_width};
+use grid_records_traits::PeekableRecords;
+use std::alloc::{AllocError, Global};
+use std::borrow::CowStr;
+
+/// What a line shows: how many columns it takes, and whether it is nothing but white space.
+#[derive(Drop)]
+struct ShownLine {
+    width: usize,
+    is_blank: bool,
+}
+
+/// Reads the lines of the cell at this place: with a vertical trim no blank lines at both ends, and with
+/// a horizontal trim no white space at both ends of each. Fails only where allocation fails.
+pub fn read_cell<'a, R: PeekableRecords>(
+    alloc: Global,
+    records: &'a R,
+    pos: Position,
+    trim_horizontal: bool,
+    trim_vertical: bool,
+) -> Result<CellLines<'a>, AllocError>
+    ensures lines { IfOk result (λ cell. texts_of cell ≡ cell_lines trim_horizontal trim_vertical (text_at (R.rows records.now) pos)) }
+    ensures measures { IfOk result (λ cell. measures_of cell ≡ cell_measures trim_horizontal trim_vertical (text_at (R.rows records.now) pos)) }
+{
+    if trim_horizontal || trim_vertical || records.count_lines(pos) != 1 {
+        return read_text(alloc, records.get_text(pos), trim_horizontal, trim_vertical);
+    }
+    let line = CellLine {
+        text: records.get_line(alloc, pos, 0)?,
+        width: records.get_width(pos),
+    };
+    Ok(CellLines::new(vec![in alloc; line]?))
+}
+
+// The lines of a text. None is looked up from the top.
+fn read_text<'a>(
+    alloc: Global,
+    text: &'a str,
+    trim_horizontal: bool,
+    trim_vertical: bool,
+) -> Result<CellLines<'a>, AllocError>
+    ensures lines { IfOk result (λ cell. texts_of cell ≡ cell_lines trim_horizontal trim_vertical text.now) }
+    ensures measures { IfOk result (λ cell. measures_of cell ≡ cell_measures trim_horizontal trim_vertical text.now) }
+{
+    if trim_horizontal || trim_vertical || text.ansi_has_any() {
+        return read_shown(alloc, text, trim_horizontal, trim_vertical);
+    }
+    Ok(CellLines::new(plain_lines(alloc, text)?))
+}
+
+// The same by what the lines show, whether there are sequences and trims or not.
+fn read_shown<'a>(
+    alloc: Global,
+    text: &'a str,
+    trim_horizontal: bool,
+    trim_vertical: bool,
+) -> Result<CellLines<'a>, AllocError>
+    ensures lines { IfOk result (λ cell. texts_of cell ≡ cell_lines trim_horizontal trim_vertical text.now) }
+    ensures measures { IfOk result (λ cell. measures_of cell ≡ cell_measures trim_horizontal trim_vertical text.now) }
+{
+    let stripped = text.ansi_strip(alloc)?;
+    let shown = shown_lines(alloc, &stripped, trim_horizontal)?;
+    let (first, count) = kept_lines(&shown, trim_vertical);
+    let mut lines = get_lines(alloc, text);
+    pass_lines(&mut lines, first)?;
+    let kept = &shown[first..first + count];
+    Ok(CellLines::new(take_lines(alloc, &mut lines, kept, trim_horizontal)?))
+}
+
+// The lines of a text without ESC, as they stand.
+fn plain_lines<'a>(alloc: Global, text: &'a str) -> Result<Vec<CellLine<'a>>, AllocError>
+    ensures texts { IfOk result (λ lines. line_texts lines.items ≡ slice_split is_line_feed text.now) }
+    ensures measures { IfOk result (λ lines. line_measures lines.items ≡ map line_measure (slice_split is_line_feed text.now)) }
+{
+    let mut lines = Vec::new(alloc);
+    for line in text.split('\n') {
+        lines.push(CellLine {
+            text: CowStr::Borrowed(line),
+            width: get_string_width(line),
+        })?;
+    }
+    Ok(lines)
+}
+
+// The lines of a text without sequences.
+fn shown_lines(
+    alloc: Global,
+    text: &str,
+    trim_horizontal: bool,
+) -> Result<Vec<ShownLine>, AllocError>
+    ensures { IfOk result (λ lines. lines.items ≡ map (shown_line trim_horizontal) (slice_split is_line_feed text.now)) }
+{
+    let mut lines = Vec::new(alloc);
+    for line in text.split('\n') {
+        lines.push(shown_line(line, trim_horizontal))?;
+    }
+    Ok(lines)
+}
+
+// A line without sequences.
+fn shown_line(line: &str, trim_horizontal: bool) -> ShownLine
+    ensures { result ≡ shown_line trim_horizontal line.now }
+{
+    let trimmed = line.trim();
+    let shown = if trim_horizontal { trimmed } else { line };
+    ShownLine {
+        width: get_string_width(shown),
+        is_blank: trimmed.is_empty(),
+    }
+}
+
+// Which lines are kept: the number of the first, and their count.
+fn kept_lines(lines: &[ShownLine], trim_vertical: bool) -> (usize, usize)
+    ensures kept { result ≡ kept_by (λ line. line.is_blank) trim_vertical lines.now }
+    ensures within { result.0 + result.1 ≤ length lines.now }
+{
+    if !trim_vertical {
+        return (0, lines.len());
+    }
+    let first = blank_front(lines);
+    (first, len_without_blank_end(&lines[first..]))
+}
+
+// How many blank lines stand in front.
+fn blank_front(lines: &[ShownLine]) -> usize
+    ensures front { result ≡ prefix_len (λ line. line.is_blank) lines.now }
+    ensures within { result ≤ length lines.now }
+{
+    for (index, line) in lines.iter().enumerate() {
+        if !line.is_blank {
+            return index;
+        }
+    }
+    lines.len()
+}
+
+// How many lines there are without the blank ones after the others.
+fn len_without_blank_end(lines: &[ShownLine]) -> usize
+    ensures trimmed { result ≡ length lines.now - suffix_len (λ line. line.is_blank) lines.now }
+    ensures within { result ≤ length lines.now }
+{
+    let mut len = lines.len();
+    while len > 0 && lines[len - 1].is_blank {
+        len -= 1;
+    }
+    len
+}
+
+// Passes over `count` lines.
+fn pass_lines(lines: &mut Lines<'_>, count: usize) -> Result<(), AllocError>
+    ensures { OnOk result (lines.new.parts ≡ drop count lines.old.parts) }
+{
+    for _ in 0..count {
+        next_line(lines)?;
+    }
+    Ok(())
+}
+
+// A line for each of those that are shown, with the columns that it takes.
+fn take_lines<'a>(
+    alloc: Global,
+    lines: &mut Lines<'a>,
+    shown: &[ShownLine],
+    trim_horizontal: bool,
+) -> Result<Vec<CellLine<'a>>, AllocError>
+    requires { length shown.now ≤ length lines.old.parts }
+    ensures texts { IfOk result (λ cell. line_texts cell.items ≡ map (line_shown trim_horizontal) (take (length shown.now) lines.old.parts)) }
+    ensures measures { IfOk result (λ cell. line_measures cell.items ≡ map (λ line. line.width) shown.now) }
+{
+    let mut cell = Vec::with_capacity(alloc, shown.len())?;
+    for line in shown {
+        let text = line_shown(alloc, next_line(lines)?, trim_horizontal)?;
+        cell.push(CellLine {
+            text,
+            width: line.width,
+        })?;
+    }
+    Ok(cell)
+}
+
+// The next line, and after the last the empty text.
+fn next_line<'a>(lines: &mut Lines<'a>) -> Result<CowStr<'a>, AllocError>
+    ensures line { IfOk result (λ line. cow_str_bytes line ≡ slice_index_or lines.old.parts 0 []) }
+    ensures rest { OnOk result (lines.new.parts ≡ drop 1 lines.old.parts) }
+{
+    match lines.next() {
+        Some(line) => line,
+        None => Ok(CowStr::Borrowed("")),
+    }
+}
+
+// The line as it is shown.
+fn line_shown<'a>(
+    alloc: Global,
+    line: CowStr<'a>,
+    trim_horizontal: bool,
+) -> Result<CowStr<'a>, AllocError>
+    ensures { IfOk result (λ out. cow_str_bytes out ≡ line_shown trim_horizontal (cow_str_bytes line.entry)) }
+{
+    if trim_horizontal {
+        trimmed_line(alloc, line)
+    } else {
+        Ok(line)
+    }
+}
+
+// The line without the white space at both ends of what it shows.
+fn trimmed_line<'a>(alloc: Global, line: CowStr<'a>) -> Result<CowStr<'a>, AllocError>
+    ensures { IfOk result (λ out. cow_str_bytes out ≡ trimmed (cow_str_bytes line.entry)) }
+{
+    match line {
+        CowStr::Borrowed(text) => borrowed_trim(alloc, text),
+        CowStr::Owned(text) => owned_trim(alloc, &text),
+    }
+}
+
+// The same of a line that is borrowed: without ESC it stays a borrow.
+fn borrowed_trim<'a>(alloc: Global, text: &'a str) -> Result<CowStr<'a>, AllocError>
+    ensures { IfOk result (λ out. cow_str_bytes out ≡ trimmed text.now) }
+{
+    if text.ansi_has_any() {
+        return owned_trim(alloc, text);
+    }
+    Ok(CowStr::Borrowed(text.trim()))
+}
+
+// The same in memory of its own.
+fn owned_trim<'a>(alloc: Global, text: &str) -> Result<CowStr<'a>, AllocError>
+    ensures { IfOk result (λ out. cow_str_bytes out ≡ trimmed text.now) }
+{
+    Ok(CowStr::Owned(text.ansi_trim(alloc)?.into_owned(alloc)?))
+}

@@ -1,0 +1,278 @@
+//! Rows of one line, where all cells of a table have the same settings: what stands between their texts
+//! is made once.
+ghost use Rattle.std.specs.Prelude.{◌≡◌, ⊤, ◌<◌, ◌++◌, ℕ, IfOk, IsTrue, MatchOption, None, OnOk, length, string_bytes};
+ghost use Rattle.std.specs.Option.{option_map};
+ghost use Rattle.grid_config.specs.Looks.{Look, look_of};
+ghost use Rattle.grid_config_colors.specs.Colors.{color_of};
+ghost use Rattle.papergrid_picture.specs.Blocks.{free_left};
+ghost use Rattle.papergrid_cells.specs.Boundaries.{upright_bytes};
+ghost use Rattle.papergrid_cells.specs.Flat.{AreFlat, AreFlatRows, HasEmptyRow, IsEmptyRow, behind_text, empty_from, joints_of, placed, room_in, rooms_from, spaced_text, standing_of};
+ghost use Rattle.papergrid_cells.specs.Painting.{colored, fill_bytes};
+
+use crate::block::{borrowed, free_left, push_indent};
+use crate::empty_row::{EmptyRow, Room};
+use crate::glyphs::push_upright;
+use crate::painting::{push_fill, push_text};
+use crate::spaced::Spaced;
+use grid_config::SpannedConfig;
+use grid_config_colors::{ANSIBuf, ANSIStr};
+use grid_config_values::{AlignmentHorizontal, Indent, Position};
+use std::alloc::{AllocError, Global};
+
+// The cell whose settings stand for those of all cells.
+const FIRST: Position = Position { row: 0, col: 0 };
+
+/// What rows of one line have in common: what stands before the first text, between two, and after the
+/// last, how texts stand in their columns, and where it was made the line of a row of empty cells.
+#[derive(Drop)]
+pub struct FlatRows<'a> {
+    pub front: String,
+    pub between: Spaced,
+    pub back: Spaced,
+    pub left: usize,
+    pub right: usize,
+    pub fill: char,
+    pub fill_color: Option<ANSIStr<'a>>,
+    pub alignment: AlignmentHorizontal,
+    pub line_alignment: bool,
+    pub empty: Option<EmptyRow>,
+}
+
+/// Whether all cells are known to have the same settings, and none spans several rows or columns, is
+/// padded above or below, or is trimmed.
+pub fn are_flat(cfg: &SpannedConfig) -> bool
+    ensures { IsTrue result → AreFlat cfg.now }
+{
+    let padding = cfg.get_padding(FIRST);
+    cfg.has_no_spans()
+        && cfg.is_uniform()
+        && padding.top.size == 0
+        && padding.bottom.size == 0
+        && !cfg.get_trim_horizontal(FIRST)
+        && !cfg.get_trim_vertical(FIRST)
+}
+
+impl<'a> FlatRows<'a> {
+    /// That of a table of `columns` columns, without the line of a row of empty cells. Fails only where
+    /// allocation fails.
+    pub fn new(
+        alloc: Global,
+        cfg: &'a SpannedConfig,
+        columns: usize,
+    ) -> Result<FlatRows<'a>, AllocError>
+        ensures rows { IfOk result (λ rows. AreFlatRows (look_of cfg.now) columns rows) }
+        ensures empty { IfOk result (λ rows. rows.empty ≡ None) }
+    {
+        let (margin, margin_color) = (cfg.get_margin(), cfg.get_margin_color());
+        let (padding, padding_color) = (cfg.get_padding(FIRST), cfg.get_padding_color(FIRST));
+        let before = Blank::new(&margin.left, &margin_color.left);
+        let left = Blank::new(&padding.left, &padding_color.left);
+        let right = Blank::new(&padding.right, &padding_color.right);
+        let behind = Blank::new(&margin.right, &margin_color.right);
+        let front = joint(alloc, cfg, before, 0, columns, left)?;
+        let between = spaced_joint(alloc, cfg, right, 1, columns, left)?;
+        let back = spaced_joint(alloc, cfg, right, columns, columns, behind)?;
+        Ok(FlatRows {
+            front,
+            between,
+            back,
+            left: padding.left.size,
+            right: padding.right.size,
+            fill: cfg.get_justification(FIRST),
+            fill_color: borrowed(cfg.get_justification_color(FIRST)),
+            alignment: cfg.get_alignment_horizontal(FIRST),
+            line_alignment: cfg.get_line_alignment(FIRST),
+            empty: None,
+        })
+    }
+
+    /// The same with the line of a row of empty cells, for columns of these widths, where spaces in no
+    /// colour fill what texts leave free. Fails only where allocation fails.
+    pub fn with_empty_row(self, alloc: Global, widths: &[usize]) -> Result<FlatRows<'a>, AllocError>
+        ensures rows { IfOk result (λ rows. (look : Look) (columns : ℕ) → AreFlatRows look columns self.entry → AreFlatRows look columns rows) }
+        ensures empty { IfOk result (λ rows. HasEmptyRow widths.now rows) }
+    {
+        let mut rows = self;
+        rows.empty = rows.empty_row(alloc, widths)?;
+        Ok(rows)
+    }
+
+    // The line of a row of empty cells.
+    fn empty_row(&self, alloc: Global, widths: &[usize]) -> Result<Option<EmptyRow>, AllocError>
+        ensures { IfOk result (λ made. MatchOption made ⊤ (IsEmptyRow self.now widths.now)) }
+    {
+        if self.fill != ' ' || self.fill_color.is_some() {
+            return Ok(None);
+        }
+        let line = self.empty_line(alloc, widths)?;
+        let rest = line.len() - self.front.len();
+        let rooms = self.rooms(alloc, widths, rest)?;
+        Ok(Some(EmptyRow { line, rooms }))
+    }
+
+    // Its bytes.
+    fn empty_line(&self, alloc: Global, widths: &[usize]) -> Result<String, AllocError>
+        ensures { IfOk result (λ line. string_bytes line ≡ string_bytes self.now.front ++ empty_from (joints_of self.now) (length widths.now) 0 widths.now) }
+    {
+        let mut line = String::new(alloc);
+        line.push_str(&self.front)?;
+        for j in 0..widths.len() {
+            let room = self.room(widths[j]);
+            self.behind(j, widths.len()).push_behind(&mut line, room)?;
+        }
+        Ok(line)
+    }
+
+    // The rooms in it, where `rest` bytes stand after its front.
+    fn rooms(
+        &self,
+        alloc: Global,
+        widths: &[usize],
+        mut rest: usize,
+    ) -> Result<Vec<Room>, AllocError>
+        requires { rest ≡ length (empty_from (joints_of self.now) (length widths.now) 0 widths.now) }
+        ensures { IfOk result (λ rooms. rooms.items ≡ rooms_from (joints_of self.now) (length widths.now) 0 widths.now) }
+    {
+        let mut rooms = Vec::new(alloc);
+        for j in 0..widths.len() {
+            let width = self.room(widths[j]);
+            rooms.push(Room { width, rest })?;
+            rest = rest - width - self.behind(j, widths.len()).len();
+        }
+        Ok(rooms)
+    }
+
+    // How many columns a text has in a column of this width.
+    #[inline(always)]
+    fn room(&self, width: usize) -> usize
+        ensures { result ≡ room_in (joints_of self.now) width }
+    {
+        width.saturating_sub(self.left).saturating_sub(self.right)
+    }
+
+    /// The line of a row of empty cells, where it was made.
+    #[inline(always)]
+    pub fn empty(&self) -> &Option<EmptyRow>
+        ensures { result.now ≡ self.now.empty }
+    {
+        &self.empty
+    }
+
+    /// How many of the columns that a text leaves free stand before it.
+    #[inline(always)]
+    pub fn indent(&self, free: usize) -> usize
+        ensures { result ≡ free_left self.now.alignment free }
+    {
+        free_left(self.alignment, free)
+    }
+
+    /// What stands before the first text of a row.
+    pub fn front(&self) -> &str
+        ensures { result.now ≡ string_bytes self.now.front }
+    {
+        &self.front
+    }
+
+    // What stands after the text in column `j` of `columns`.
+    #[inline(always)]
+    fn behind(&self, j: usize, columns: usize) -> &Spaced
+        requires { j < columns }
+        ensures { spaced_text result.now ≡ behind_text self.now j columns }
+    {
+        if j + 1 == columns {
+            &self.back
+        } else {
+            &self.between
+        }
+    }
+
+    /// Appends a line that measures `measure` to column `j` of `columns`, which is `width` wide, and what
+    /// stands after it; `widest` is what the widest line of its cell measures. Fails only where allocation
+    /// fails.
+    #[inline(always)]
+    pub fn push_line(
+        &self,
+        out: &mut String,
+        j: usize,
+        columns: usize,
+        width: usize,
+        measure: usize,
+        widest: usize,
+        color: Option<ANSIStr<'_>>,
+        line: &str,
+    ) -> Result<(), AllocError>
+        requires { j < columns }
+        ensures { OnOk result (string_bytes out.new ≡ string_bytes out.old ++ (placed (standing_of self.now) width measure widest (option_map color_of color.entry) line.now ++ behind_text self.now j columns)) }
+    {
+        let room = self.room(width);
+        let aligned = if self.line_alignment { measure } else { widest };
+        let indent = free_left(self.alignment, room.saturating_sub(aligned));
+        let rest = room.saturating_sub(indent).saturating_sub(measure);
+        push_fill(out, self.fill, indent, self.fill_color)?;
+        push_text(out, line, color)?;
+        self.push_rest(out, rest, self.behind(j, columns))
+    }
+
+    // Appends what is free after a text, and what stands after that.
+    #[inline(always)]
+    fn push_rest(&self, out: &mut String, rest: usize, behind: &Spaced) -> Result<(), AllocError>
+        ensures { OnOk result (string_bytes out.new ≡ string_bytes out.old ++ (colored (option_map color_of self.now.fill_color) (fill_bytes self.now.fill rest) ++ spaced_text behind.now)) }
+    {
+        if self.fill == ' ' && self.fill_color.is_none() {
+            return behind.push_behind(out, rest);
+        }
+        push_fill(out, self.fill, rest, self.fill_color)?;
+        behind.push_behind(out, 0)
+    }
+}
+
+// A padding or a margin, and its colour.
+#[derive(Clone, Copy)]
+struct Blank<'a> {
+    indent: &'a Indent,
+    color: &'a Option<ANSIBuf>,
+}
+
+impl<'a> Blank<'a> {
+    fn new(indent: &'a Indent, color: &'a Option<ANSIBuf>) -> Blank<'a>
+        ensures indent { result.indent.now ≡ indent.now }
+        ensures color { result.color.now ≡ color.now }
+    {
+        Blank { indent, color }
+    }
+}
+
+// What stands on column boundary `j`, between two blanks.
+fn joint(
+    alloc: Global,
+    cfg: &SpannedConfig,
+    before: Blank<'_>,
+    j: usize,
+    columns: usize,
+    behind: Blank<'_>,
+) -> Result<String, AllocError>
+    ensures { IfOk result (λ text. string_bytes text ≡ colored before.entry.color.now (fill_bytes before.entry.indent.now.fill before.entry.indent.now.size)
+        ++ (upright_bytes (look_of cfg.now) j columns ++ colored behind.entry.color.now (fill_bytes behind.entry.indent.now.fill behind.entry.indent.now.size))) }
+{
+    let mut text = String::new(alloc);
+    push_indent(&mut text, before.indent, before.color)?;
+    push_upright(&mut text, cfg, j, columns)?;
+    push_indent(&mut text, behind.indent, behind.color)?;
+    Ok(text)
+}
+
+// The same, to be appended after spaces.
+fn spaced_joint(
+    alloc: Global,
+    cfg: &SpannedConfig,
+    before: Blank<'_>,
+    j: usize,
+    columns: usize,
+    behind: Blank<'_>,
+) -> Result<Spaced, AllocError>
+    ensures { IfOk result (λ made. spaced_text made ≡ colored before.entry.color.now (fill_bytes before.entry.indent.now.fill before.entry.indent.now.size)
+        ++ (upright_bytes (look_of cfg.now) j columns ++ colored behind.entry.color.now (fill_bytes behind.entry.indent.now.fill behind.entry.indent.now.size))) }
+{
+    let text = joint(alloc, cfg, before, j, columns, behind)?;
+    Spaced::new(alloc, &text)
+}

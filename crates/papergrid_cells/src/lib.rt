@@ -1,0 +1,19 @@
+//! What stands in one line of a table: runs of glyphs, fills and texts in their colours, the lines of cells,
+//! and rows of one line.
+#![tactic(auto)]
+
+mod block;
+mod cell_lines;
+mod empty_row;
+mod flat;
+mod glyphs;
+mod painting;
+mod spaced;
+
+pub use block::{BlockLine, OpenCell, block_line, push_blank, push_block_line, push_indent};
+pub use cell_lines::{CellLines, read_cell};
+pub use empty_row::{EmptyRow, Room, write_over};
+pub use flat::{FlatRows, are_flat};
+pub use glyphs::{push_along, push_behind, push_corner, push_upright};
+pub use painting::{GlyphRun, push_glyphs};
+pub use spaced::Spaced;

@@ -1,0 +1,175 @@
+//! Fills, texts and boundary lines in their colours.
+ghost use Rattle.std.specs.Prelude.{◌≡◌, ◌<◌, ◌≤◌, ◌++◌, OnOk, length, map, replicate, string_bytes};
+ghost use Rattle.std.specs.Option.{option_map};
+ghost use Rattle.grid_config_colors.specs.Colors.{color_of};
+ghost use Rattle.papergrid_picture.specs.Reading.{line_items, same_color};
+ghost use Rattle.papergrid_cells.specs.Painting.{bare, color_change, colored, fill_bytes, glyph_part, prefix_of, suffix_of};
+
+use grid_config_colors::ANSIStr;
+use std::alloc::AllocError;
+
+/// A glyph of a boundary line, in `width` columns, and its colour.
+#[derive(Clone, Copy)]
+pub struct GlyphRun<'a> {
+    pub character: char,
+    pub width: usize,
+    pub color: Option<ANSIStr<'a>>,
+}
+
+/// Appends a character `width` times, in its colour. Fails only where allocation fails.
+#[inline(always)]
+pub(crate) fn push_fill(
+    out: &mut String,
+    character: char,
+    width: usize,
+    color: Option<ANSIStr<'_>>,
+) -> Result<(), AllocError>
+    ensures { OnOk result (string_bytes out.new ≡ string_bytes out.old ++ colored (option_map color_of color.entry) (fill_bytes character width)) }
+{
+    if width == 0 {
+        return Ok(());
+    }
+    push_some(out, character, width, color)
+}
+
+// The same at least once.
+fn push_some(
+    out: &mut String,
+    character: char,
+    width: usize,
+    color: Option<ANSIStr<'_>>,
+) -> Result<(), AllocError>
+    requires { 0 < width }
+    ensures { OnOk result (string_bytes out.new ≡ string_bytes out.old ++ colored (option_map color_of color.entry) (fill_bytes character width)) }
+{
+    let Some(_) = color else {
+        return push_repeated(out, character, width);
+    };
+    change_color(out, None, color)?;
+    push_repeated(out, character, width)?;
+    change_color(out, color, None)
+}
+
+/// Appends a text in a colour. Fails only where allocation fails.
+#[inline(always)]
+pub(crate) fn push_text(
+    out: &mut String,
+    text: &str,
+    color: Option<ANSIStr<'_>>,
+) -> Result<(), AllocError>
+    ensures { OnOk result (string_bytes out.new ≡ string_bytes out.old ++ colored (option_map color_of color.entry) text.now) }
+{
+    let Some(color) = color else {
+        return out.push_str(text);
+    };
+    if text.is_empty() {
+        return Ok(());
+    }
+    out.push_str(color.get_prefix())?;
+    out.push_str(text)?;
+    out.push_str(color.get_suffix())
+}
+
+/// Appends glyphs of a boundary line. Neighbours in one colour are coloured together. Fails only where
+/// allocation fails.
+pub fn push_glyphs(out: &mut String, glyphs: &[GlyphRun<'_>]) -> Result<(), AllocError>
+    ensures { OnOk result (string_bytes out.new ≡ string_bytes out.old ++ line_items bare (map glyph_part glyphs.now)) }
+{
+    let mut color = None;
+    for glyph in glyphs {
+        if glyph.width > 0 {
+            change_color(out, color, glyph.color)?;
+            push_repeated(out, glyph.character, glyph.width)?;
+            color = glyph.color;
+        }
+    }
+    change_color(out, color, None)
+}
+
+// Ends a colour and begins the next one; between equal colours nothing is written.
+fn change_color(
+    out: &mut String,
+    before: Option<ANSIStr<'_>>,
+    next: Option<ANSIStr<'_>>,
+) -> Result<(), AllocError>
+    ensures { OnOk result (string_bytes out.new ≡ string_bytes out.old ++ color_change (option_map color_of before.entry) (option_map color_of next.entry)) }
+{
+    if is_same_color(before, next) {
+        return Ok(());
+    }
+    out.push_str(suffix_of(before))?;
+    out.push_str(prefix_of(next))
+}
+
+// Whether both are no colour, or colours of the same texts.
+fn is_same_color(a: Option<ANSIStr<'_>>, b: Option<ANSIStr<'_>>) -> bool
+    ensures { result ≡ same_color (option_map color_of a.entry) (option_map color_of b.entry) }
+{
+    match (a, b) {
+        (Some(a), Some(b)) => {
+            a.get_prefix() == b.get_prefix() && a.get_suffix() == b.get_suffix()
+        }
+        (None, None) => true,
+        _ => false,
+    }
+}
+
+// What a colour writes before what it colours.
+fn prefix_of<'a>(color: Option<ANSIStr<'a>>) -> &'a str
+    ensures { result.now ≡ prefix_of (option_map color_of color.entry) }
+{
+    match color {
+        Some(color) => color.get_prefix(),
+        None => "",
+    }
+}
+
+// What a colour writes after what it colours.
+fn suffix_of<'a>(color: Option<ANSIStr<'a>>) -> &'a str
+    ensures { result.now ≡ suffix_of (option_map color_of color.entry) }
+{
+    match color {
+        Some(color) => color.get_suffix(),
+        None => "",
+    }
+}
+
+/// Appends a character `width` times, with one growth. Fails only where allocation fails.
+#[inline(never)]
+pub(crate) fn push_repeated(
+    out: &mut String,
+    character: char,
+    width: usize,
+) -> Result<(), AllocError>
+    ensures { OnOk result (string_bytes out.new ≡ string_bytes out.old ++ fill_bytes character width) }
+{
+    if character == ' ' && width <= 64 {
+        let spaces = "                                                                ";
+        return push_spaces(out, spaces, width);
+    }
+    push_each(out, character, width)
+}
+
+// Appends `width` of these spaces.
+fn push_spaces(out: &mut String, spaces: &str, width: usize) -> Result<(), AllocError>
+    requires spaces { spaces.now ≡ replicate (length spaces.now) 0x20 }
+    requires enough { width ≤ length spaces.now }
+    ensures { OnOk result (string_bytes out.new ≡ string_bytes out.old ++ fill_bytes 0x20 width) }
+{
+    out.push_str(&spaces[..width])?;
+    Ok(())
+}
+
+// The same, one by one.
+fn push_each(out: &mut String, character: char, width: usize) -> Result<(), AllocError>
+    ensures { OnOk result (string_bytes out.new ≡ string_bytes out.old ++ fill_bytes character width) }
+{
+    let Some(size) = width.checked_mul(character.len_utf8()) else {
+        return Err(AllocError);
+    };
+    out.reserve(size)?;
+    for _ in 0..width {
+        out.push(character)?;
+    }
+    Ok(())
+}

@@ -1,0 +1,28 @@
+-- Rows of one line of a table that is printed, and the line between two rows.
+use Rattle.std.specs.Prelude.{◌≡◌, ◌<◌, ℕ, List, ◌++◌, flat_map, length, slice_index}
+use Rattle.std.specs.List.{range_with_len}
+use Rattle.grid_config_values.specs.declared.position.Position.{Position}
+use Rattle.grid_config.specs.Looks.{look_of}
+use Rattle.papergrid_picture.specs.Blocks.{greatest}
+use Rattle.papergrid_picture.specs.Frame.{Boundary, track_at}
+use Rattle.papergrid_picture.specs.Picture.{parts_of, row_part}
+use Rattle.papergrid_cells.specs.Boundaries.{upright_bytes}
+use Rattle.papergrid_cells.specs.Flat.{Standing, behind_boundary, left_margin, placed}
+use Rattle.papergrid_print.specs.Sheets.{Sheet, bytes_of, grid_of, line_at, plain_bytes, row_tracks}
+
+-- the first line of a cell in its column, as the picture measures it
+abbrev pub first_placed : Sheet → Standing → Position → List ℕ
+first_placed sheet stands cell =
+    let measures = (grid_of sheet).measures cell in
+    placed stands (slice_index sheet.widths cell.col) (slice_index measures 0) (greatest measures) (sheet.colors cell) ((bytes_of sheet).line cell 0)
+
+-- row i up to column boundary j, that boundary, and what stands after it
+abbrev pub row_front : Sheet → ℕ → ℕ → List ℕ
+row_front sheet i j =
+    let look = look_of sheet.settings in
+    let columns = length sheet.widths in
+    left_margin look ++ (plain_bytes sheet (parts_of (flat_map (row_part (grid_of sheet) i (track_at (row_tracks sheet) i)) (range_with_len 0 j))) ++ (upright_bytes look j columns ++ behind_boundary look j columns))
+
+-- the bytes are the line of each row boundary between two rows
+abbrev pub IsBetween : Sheet → List ℕ → Type 0
+IsBetween sheet bytes = (i y : ℕ) → 0 < i → i < length sheet.heights → bytes ≡ line_at sheet (Boundary i) y
