@@ -178,10 +178,11 @@ found c =
           let ends-is : w.push-then-count-gt0.new.self ≡ ends ++ cell_with end cell ∷ [] =
           w.in_ok-push.ensures ∙ ap (λ (found : CellEnd). ends ++ found ∷ []) (w.cell_end-then-count-gt0.ensures ∙ ap (cell_with end) w.range_from.ensures.value) in
           let pushed : lines text w.push-then-count-gt0.new.self ≡ lines text ends ++ byte_line cell ∷ [] = ap (lines text) ends-is ∙ lines-more text ends start end cell known.begins (cell-last text start end all) in
-          along w.push-then-count-gt0-2.new.self w.push-then-count-gt0.new.self w.counts-is w.ends-is
-          (Pass-last text end start count plain counts.items w.push-then-count-gt0-2.new.self.items (lines text ends) (lines text w.push-then-count-gt0.new.self) all known.pass some pushed w.in_ok-push-2.ensures.items,
-          subst (AreCellEnds text) (sym ends-is)
-          (fit-with text ends start end cell known.begins known.fit (known.pass.ordered, known.pass.boundary, subst (IsCharBoundary text) at_end (IsCharBoundary-end text))))
+          along w.push-then-count-gt0-2.new.self w.push-then-count-gt0.new.self w.counts-is w.ends-is (
+            Pass-last text end start count plain counts.items w.push-then-count-gt0-2.new.self.items (lines text ends) (lines text w.push-then-count-gt0.new.self) all known.pass some pushed w.in_ok-push-2.ensures.items,
+            subst (AreCellEnds text) (sym ends-is)
+                (fit-with text ends start end cell known.begins known.fit (known.pass.ordered, known.pass.boundary, subst (IsCharBoundary text) at_end (IsCharBoundary-end text))),
+          )
       | else-count-gt0+else-start-text w ↦
           along counts ends w.counts-is w.ends-is (Pass-none text end start count plain counts.items (lines text ends) all known.pass (omega arith) (omega arith), known.fit)
     ]
