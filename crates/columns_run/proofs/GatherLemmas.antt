@@ -1,14 +1,13 @@
 -- What is known of cells that are gathered, and how one more changes it.
-use Rattle.std.proofs.Common.{◌≡◌, ℕ, ◌<◌, List, [], ◌∷◌, ◌++◌, Bor, chars, length, map, string_bytes, refl, ap, sym, subst, ◌∙◌, arith}
-use Rattle.std.specs.Prelude.{IsUtf8}
-use Rattle.std.proofs.lemmas.List.{map_push}
+use Rattle.std.proofs.Common.{◌≡◌, ℕ, ◌+◌, ◌<◌, ◌≤◌, List, [], ◌∷◌, ◌++◌, chars, length, map, string_bytes, refl, ap, sym, subst, ◌∙◌, arith, length-append}
+use Rattle.std.proofs.lemmas.List.{length-map, map_push}
 use Rattle.grid_records_measure.specs.Measures.{measure}
 use Rattle.columns_table.specs.Cells.{cell_of}
-use Rattle.columns_table.specs.Ends.{AreCellEnds, cells_in, start_behind}
+use Rattle.columns_table.specs.Ends.{AreCellEnds, AreEndsFrom, cells_in, start_behind, start_behind_from}
 use Rattle.columns_table.specs.Rows.{cell_texts}
 use Rattle.columns_table.specs.declared.cells.LineCell.{LineCell}
 use Rattle.columns_table.specs.declared.ends.CellEnd.{CellEnd}
-use Rattle.columns_table.proofs.EndLemmas.{cells-written, fit-written, start-written}
+use Rattle.columns_table.proofs.EndLemmas.{cells-written, fit-written, length-cells_in, start-written}
 use Rattle.columns_run.specs.Cells.{part_line, shown}
 use Rattle.columns_run.specs.Rows.{line_feed, stripped}
 use Rattle.columns_run.specs.Styled.{AddsCell}
@@ -27,6 +26,17 @@ pub record Gathered (text : List ℕ) (ends : List CellEnd) : Type 0 where
 pub Gathered-start : (text : List ℕ) (ends : List CellEnd) → text ≡ [] → ends ≡ [] → Gathered text ends
 Gathered-start text ends no_text none =
     subst (λ found. Gathered text found) (sym none) (subst (λ bytes. Gathered bytes []) (sym no_text) (record { fit = tt; begins = refl; lines = refl }))
+
+pub length-parts_in : (text : List ℕ) (ends : List CellEnd) → length (parts_in text ends) ≡ length ends
+length-parts_in text ends = length-map (cells_in text ends) (λ (cell : LineCell). cell.text.now) ∙ length-cells_in text ends
+
+ends-within : (text : List ℕ) (start : ℕ) (ends : List CellEnd) → AreEndsFrom text start ends → start + length ends ≤ start_behind_from start ends
+ends-within text start [] fit = omega arith
+ends-within text start (cell ∷ ends) fit = let later = ends-within text (cell.end + 1) ends fit.1 in omega (arith, fit.0.0, later)
+
+-- there are no more cells than bytes, since a line feed stands behind each
+pub cells-within : (text : List ℕ) (ends : List CellEnd) → Gathered text ends → length ends ≤ length text
+cells-within text ends gathered = omega (arith, ends-within text 0 ends gathered.fit, gathered.begins)
 
 module _ (old new : StyledCells) (part : List ℕ) (gathered : Gathered (string_bytes old.text) old.ends) (adds : AddsCell old new part) where
   abbrev cell : CellEnd
@@ -60,3 +70,6 @@ module _ (old new : StyledCells) (part : List ℕ) (gathered : Gathered (string_
         ∙ sym (map_push part_line (parts_in (string_bytes old.text) old.ends) part)
         ∙ ap (map part_line) (sym parts-added);
   }
+
+  pub ends-longer : length new.ends ≡ length old.ends + 1
+  ends-longer = ap length adds.ends ∙ length-append old.ends (cell ∷ [])

@@ -1,5 +1,5 @@
 -- What the walk over the cells of a styled text knows, and how a cell changes it.
-use Rattle.std.proofs.Common.{◌≡◌, ℕ, suc, ◌+◌, ◌-◌, ◌<◌, ◌≤◌, ◌==◌, ◌&&◌, Bool, true, false, not, cond, List, [], ◌∷◌, ◌++◌, map, length, sum, take, drop, refl, ap, sym, ◌∙◌, subst, arith, append_assoc, length-append, length-drop, eqb-true, eq-eqb, append-nil, if◌then◌else◌}
+use Rattle.std.proofs.Common.{◌≡◌, ℕ, ◌+◌, ◌-◌, ◌<◌, ◌≤◌, ◌==◌, ◌&&◌, Bool, true, false, not, cond, List, [], ◌∷◌, ◌++◌, length, sum, take, drop, refl, ap, sym, ◌∙◌, arith, append_assoc, length-append, length-drop, eqb-true, eq-eqb, append-nil, if◌then◌else◌}
 use Rattle.std.specs.Prelude.{slice_index}
 use Rattle.std.specs.List.{prefix_len}
 use Rattle.std.proofs.lemmas.Bool.Decides.{nat_tests}
@@ -28,7 +28,7 @@ use Rattle.columns_table.specs.Rows.{cut}
 use Rattle.columns_run.proofs.RowLemmas.{cut-append, cut-more, sum-more}
 use Rattle.columns_run.proofs.EndLemmas.{shown_first, shown_none}
 use Rattle.columns_run.proofs.BoundLemmas.{cells_from, cells_from-pass, cells_from-start}
-use Rattle.columns_run.proofs.WholeLemmas.{pieces-whole}
+use Rattle.columns_run.proofs.WholeLemmas.{pieces-whole, whole-from}
 
 -- ---- the sequences at a place are passed on the way behind it
 
@@ -229,6 +229,11 @@ module _ (text rest : List ℕ) (style : Attributes) (end : List ℕ) (end_style
       by false e =
           let both : true ≡ false = sym (ap (λ t. not t && not (slice_index end 0 == line_feed)) e ∙ ap not other) ∙ separator some in
           cc both
+
+  -- of a whole text, what stands behind the byte at the end is whole
+  pub whole-next : (next : List ℕ) → 0 < length end → next ≡ drop 1 end → IsWhole text → IsWhole next
+  whole-next next some is_next whole =
+      whole-from rest next (size + 1) (ap pieces is_next ∙ cell-there rest style end end_style walked.ends some) (whole-from text rest walked.place walked.there whole)
 
   module _ (next : List ℕ) (next_style : Attributes) (next_end : List ℕ) (next_end_style : Attributes) (some : 0 < length end) (is_next : next ≡ drop 1 end) (is_style : next_style ≡ end_style) (next_ends : EndsCell next next_style next_end next_end_style) where
     next-there : pieces next ≡ from_place (walked.place + size + 1) (pieces text)

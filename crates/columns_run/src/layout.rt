@@ -36,7 +36,14 @@ fn styled_table(alloc: Global, options: &Options, text: &str) -> Result<String, 
     ensures table { IfOk result (λ table. string_bytes table ≡ output_of options.now text.now) }
     ensures faults { IfErr result IsOfInput }
 {
-    let Some(StyledCells { text: own, ends, counts }) = styled_cells(alloc, text)? else {
+    let Some(
+        StyledCells {
+            text: own,
+            ends,
+            counts,
+        },
+    ) = styled_cells(alloc, text)?
+    else {
         return Err(RunFault::Escape {
             at: broken_place(text),
         });

@@ -1,48 +1,71 @@
-use Rattle.std.proofs.Common.{◌≡◌, false, length, map, ap, rules, sym, ◌∙◌}
+use Rattle.std.proofs.Common.{◌≡◌, List, ℕ, Option, Some, length, map, string_bytes, sum, ap, refl, rules, subst, sym, ◌∙◌}
+use Rattle.std.specs.Prelude.{◌↔◌, IfSome, IsSome}
 use Rattle.std.proofs.lemmas.List.{length-map}
-use Rattle.std.specs.Cow.{cow_str_bytes}
-use Rattle.columns_run.proofs.PartLemmas.{cut-map}
+use Rattle.ansi_scan.specs.Sequences.{IsWhole}
+use Rattle.columns_table.specs.Ends.{cells_in}
 use Rattle.columns_table.specs.Rows.{cut}
-use Rattle.columns_run.specs.Cells.{line_rows, part_line, rows_shown}
+use Rattle.columns_table.specs.declared.cells.LineCell.{LineCell}
+use Rattle.columns_table.specs.declared.rows.Rows.{Rows}
+use Rattle.columns_table.proofs.EndLemmas.{length-cells_in}
+use Rattle.columns_run.specs.Cells.{line_rows, rows_shown, shown}
+use Rattle.columns_run.specs.Styled.{cell_lines}
+use Rattle.columns_run.specs.declared.styled_rows.StyledCells.{StyledCells}
 use Rattle.columns_run.proofs.CellLemmas.{whole_text}
 use Rattle.columns_run.proofs.OneLineLemmas.{cells-measured}
 use Rattle.columns_run.proofs.TableLemmas.{has-table, output-is, refused}
 use Rattle.columns_run.proofs.layout.styled_table.Goals as goal
-use Rattle.columns_run.proofs.layout.styled_table.Goals.{In_ok-cells}
+use Rattle.columns_run.proofs.layout.styled_table.Goals.{After-of}
 
--- the cells are those of the text
-are : (c : In_ok-cells) → rows_shown (record { cells = c.in_ok-cells.cells; counts = c.in_ok-parts.counts }) ≡ line_rows c.args.text.now
-are c =
-    ap (cut c.in_ok-parts.counts.items) (c.in_ok-cells.ensures ∙ ap (λ found. map part_line (map cow_str_bytes found)) c.deref.ensures.value)
-    ∙ cut-map part_line c.in_ok-parts.counts.items (map cow_str_bytes c.in_ok-parts.parts.items)
-    ∙ ap (map (map part_line)) c.in_ok-parts.ensures.cells
+-- the rows are those of a whole text
+record AreOf (text : List ℕ) (rows : Rows) : Type 0 where
+  whole : IsWhole text
+  counted : sum rows.counts.items ≡ length rows.cells
+  are : rows_shown rows ≡ line_rows text
+
+are_of : (text own : List ℕ) (found : Option StyledCells) (styled : StyledCells) (cells : List LineCell) → found ≡ Some styled → own ≡ string_bytes styled.text → cells ≡ cells_in own styled.ends
+    → (IsSome found ↔ IsWhole text) → IfSome found (λ styled. sum styled.counts.items ≡ length styled.ends) → IfSome found (λ styled. cut styled.counts.items (cell_lines styled) ≡ line_rows text)
+    → AreOf text (record { cells = cells; counts = styled.counts })
+are_of text own found styled cells is own_is cells_are whole long same = record {
+  whole = (subst (λ found. IsSome found ↔ IsWhole text) is whole).0 refl;
+  counted = subst (λ found. IfSome found (λ styled. sum styled.counts.items ≡ length styled.ends)) is long
+      ∙ sym (length-cells_in own styled.ends) ∙ sym (ap (λ (cells : List LineCell). length cells) cells_are);
+  are = ap (λ (cells : List LineCell). cut styled.counts.items (map shown cells)) (cells_are ∙ ap (λ bytes. cells_in bytes styled.ends) own_is)
+      ∙ subst (λ found. IfSome found (λ styled. cut styled.counts.items (cell_lines styled) ≡ line_rows text)) is same;
+}
+
+known : (c : After-of) → AreOf c.args.text.now (record { cells = c.of.result; counts = c.in-Some.field-0.counts })
+known c =
+    are_of c.args.text.now c.deref.result.now c.in_ok-own.field-0 c.in-Some.field-0 c.of.result c.in-Some.is c.deref.ensures c.of.ensures
+    c.in_ok-own.ensures.whole c.in_ok-own.ensures.long c.in_ok-own.ensures.cells
+
+pub rows_table-requires-clause-whole : goal.rows_table-requires-clause-whole
+rows_table-requires-clause-whole c = (known (goal.at.rows_table-requires-clause-whole c).After-of).counted
 
 pub rows_table-requires-clause-measured : goal.rows_table-requires-clause-measured
 rows_table-requires-clause-measured c =
     let text = c.args.text.now in
-    let counts = c.in_ok-parts.counts in
-    let parts = c.in_ok-parts.parts in
-    let cells = c.in_ok-cells.cells in
-    cells-measured text (record { cells = cells; counts = counts }) (whole_text text c.utf8.text c.requires)
-    (c.in_ok-parts.ensures.whole ∙ parts.ok.0 ∙ sym (length-map parts.items cow_str_bytes) ∙ sym (length-map (map cow_str_bytes parts.items) part_line)
-    ∙ sym (ap (λ xs. length xs) (c.in_ok-cells.ensures ∙ ap (λ found. map part_line (map cow_str_bytes found)) c.deref.ensures.value)))
-    (are (goal.at.rows_table-requires-clause-measured c).In_ok-cells)
+    let rows : Rows = record { cells = c.of.result; counts = c.in-Some.field-0.counts } in
+    let are = known (goal.at.rows_table-requires-clause-measured c).After-of in
+    cells-measured text rows (whole_text text c.utf8.text are.whole) (are.counted ∙ sym (length-map rows.cells shown)) are.are
 
 pub returns-in_err-rows_table-clause-answers : goal.returns-in_err-rows_table-clause-answers
 returns-in_err-rows_table-clause-answers c =
-    let before = (goal.at.returns-in_err-rows_table-clause-answers c).In_ok-cells in
-    refused c.args.options.now c.args.text.now c.utf8.text c.requires (record { cells = c.in_ok-cells.cells; counts = c.in_ok-parts.counts }) (are before)
+    let rows : Rows = record { cells = c.of.result; counts = c.in-Some.field-0.counts } in
+    let are = known (goal.at.returns-in_err-rows_table-clause-answers c).After-of in
+    refused c.args.options.now c.args.text.now c.utf8.text are.whole rows are.are
     c.asked_of-asked.result c.asked_of-asked.ensures c.in_err-rows_table.field-0.0 c.from_residual-in_err-rows_table.result (search rules) c.in_err-rows_table.ensures.refused
 
 pub returns-clause-answers : goal.returns-clause-answers
 returns-clause-answers c =
-    let before = (goal.at.returns-clause-answers c).In_ok-cells in
-    has-table c.args.options.now c.args.text.now c.utf8.text c.requires (record { cells = c.in_ok-cells.cells; counts = c.in_ok-parts.counts }) (are before)
+    let rows : Rows = record { cells = c.of.result; counts = c.in-Some.field-0.counts } in
+    let are = known (goal.at.returns-clause-answers c).After-of in
+    has-table c.args.options.now c.args.text.now c.utf8.text are.whole rows are.are
     c.asked_of-asked.result c.asked_of-asked.ensures c.in_ok-rows_table.ensures.fits
 
 pub returns-clause-table : goal.returns-clause-table
 returns-clause-table c =
-    let before = (goal.at.returns-clause-table c).In_ok-cells in
+    let rows : Rows = record { cells = c.of.result; counts = c.in-Some.field-0.counts } in
+    let are = known (goal.at.returns-clause-table c).After-of in
     c.in_ok-rows_table.ensures.table
-    ∙ output-is c.args.options.now c.args.text.now c.utf8.text c.requires (record { cells = c.in_ok-cells.cells; counts = c.in_ok-parts.counts }) (are before)
+    ∙ output-is c.args.options.now c.args.text.now c.utf8.text are.whole rows are.are
     c.asked_of-asked.result c.asked_of-asked.ensures
