@@ -153,6 +153,14 @@ not-sought b other = by (b == tab) (b == line_feed) (b == escape) refl refl refl
     by false false false e f g =
         ap (λ t. not t && (not (b == tab) && not (b == line_feed))) g ∙ ap (λ t. not t && not (b == line_feed)) e ∙ ap not f
 
+-- a byte that is looked for
+pub sought : (b : ℕ) → is_byte3 tab line_feed escape b ≡ true → is_cell_text b ≡ false
+sought b found = by (is_cell_text b) refl
+  where
+    by : (is : Bool) → is_cell_text b ≡ is → is_cell_text b ≡ false
+    by false e = e
+    by true e = let others = cell_text b e in absurd (grind (arith, nat_tests))
+
 pub Pass-text : (text : List ℕ) (end size start count : ℕ) (plain : Bool) (counts : List ℕ) (lines : List (Line)) → end + size ≤ length text → Pass text end start count plain counts lines
     → ((k : ℕ) → end ≤ k → k < end + size → is_cell_text (get_or text k 0) ≡ true) → Pass text (end + size) start count false counts lines
 Pass-text text end zero start count plain counts lines fits pass each =

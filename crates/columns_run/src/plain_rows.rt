@@ -62,6 +62,7 @@ fn text_end(bytes: &[u8], start: usize) -> usize
     requires { start ≤ length bytes.now }
     ensures within { (start ≤ result) × (result ≤ length bytes.now) }
     ensures text { (k : ℕ) → start ≤ k → k < result → is_cell_text (slice_index bytes.now k) ≡ true }
+    ensures stop { result < length bytes.now → is_cell_text (slice_index bytes.now result) ≡ false }
 {
     match memchr3(b'\t', b'\n', ESC, &bytes[start..]) {
         Some(size) => start + size,

@@ -93,7 +93,7 @@ fn push_cell<'a>(
     cells.text.push_str(&part)?;
     let end = cells.text.len();
     cells.ends.push(CellEnd { end, width })?;
-    cells.text.push_str("\n")?;
+    cells.text.push('\n')?;
     Ok(())
 }
 

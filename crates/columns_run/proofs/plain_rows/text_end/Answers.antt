@@ -1,7 +1,7 @@
-use Rattle.std.proofs.Common.{◌≡◌, ℕ, ◌+◌, ◌-◌, ◌<◌, ◌≤◌, List, true, drop, get_or, length, take, ap, subst, ◌∙◌, arith, length-drop}
+use Rattle.std.proofs.Common.{◌≡◌, ℕ, ◌+◌, ◌-◌, ◌<◌, ◌≤◌, List, true, false, drop, get_or, length, take, ap, subst, sym, ◌∙◌, arith, length-drop}
 use Rattle.std.proofs.lemmas.List.{get_or-drop, take_all}
 use Rattle.columns_run.specs.Ends.{is_cell_text}
-use Rattle.columns_run.proofs.PassLemmas.{not-sought}
+use Rattle.columns_run.proofs.PassLemmas.{not-sought, sought}
 use Rattle.columns_run.proofs.plain_rows.text_end.Goals as goal
 
 -- the bytes from the start on
@@ -28,3 +28,12 @@ returns-in-None-clause-text c = λ k low high.
     let start = c.args.start in
     let inside : k - start < length (rest bytes start) = omega (arith, low, high, ap (λ (part : List ℕ). length part) (all bytes start), length-drop start bytes) in
     subst (λ b. is_cell_text b ≡ true) (behind bytes start k low) (not-sought (get_or (rest bytes start) (k - start) 0) (c.in-None.ensures (k - start) (omega arith) inside))
+
+pub returns-in-Some-clause-stop : goal.returns-in-Some-clause-stop
+returns-in-Some-clause-stop c = λ inside.
+    let bytes = c.args.bytes.now in
+    let start = c.args.start in
+    let size : start + c.in-Some.size - start ≡ c.in-Some.size = omega arith in
+    let at : get_or (rest bytes start) c.in-Some.size 0 ≡ get_or bytes (start + c.in-Some.size) 0 =
+    ap (λ n. get_or (rest bytes start) n 0) (sym size) ∙ behind bytes start (start + c.in-Some.size) (omega arith) in
+    subst (λ b. is_cell_text b ≡ false) at (sought (get_or (rest bytes start) c.in-Some.size 0) c.in-Some.ensures.1)
