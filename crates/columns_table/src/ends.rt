@@ -36,7 +36,7 @@ impl Model for CellEnds {
 }
 
 impl CellEnds {
-    ghost use Rattle.std.specs.Prelude.{◌≡◌, ◌<◌, [], ◌∷◌, ◌++◌, IfOk, OnOk};
+    ghost use Rattle.std.specs.Prelude.{◌≡◌, ◌<◌, [], ◌∷◌, ◌++◌, IfOk, OnErr, OnOk};
 
     /// No cells. Fails only where allocation fails.
     pub fn new(alloc: Global) -> Result<CellEnds, AllocError>
@@ -57,11 +57,13 @@ impl CellEnds {
         })
     }
 
-    /// Appends the end of a cell, which no text has behind all its bytes. Fails only where allocation fails.
+    /// Appends the end of a cell, which no text has behind all its bytes. Fails only where allocation fails, and
+    /// then nothing has changed.
     #[inline(always)]
     pub fn push(&mut self, cell: CellEnd) -> Result<(), AllocError>
         requires { cell.end < usize.MAX }
-        ensures { OnOk result (self.new ≡ self.old ++ cell ∷ []) }
+        ensures more { OnOk result (self.new ≡ self.old ++ cell ∷ []) }
+        ensures err { OnErr result (self.new ≡ self.old) }
     {
         let start = self.starts[self.starts.len() - 1];
         if self.widths.is_empty() && cell.width == cell.end.saturating_sub(start) {
@@ -75,12 +77,18 @@ impl CellEnds {
     #[inline(always)]
     fn push_with_width(&mut self, cell: CellEnd) -> Result<(), AllocError>
         requires { cell.end < usize.MAX }
-        ensures { OnOk result (self.new ≡ self.old ++ cell ∷ []) }
+        ensures more { OnOk result (self.new ≡ self.old ++ cell ∷ []) }
+        ensures err { OnErr result (self.new ≡ self.old) }
     {
         give_widths(&mut self.widths, &self.starts)?;
-        self.starts.push(cell.end + 1)?;
         self.widths.push(cell.width)?;
-        Ok(())
+        match self.starts.push(cell.end + 1) {
+            Ok(()) => Ok(()),
+            Err(error) => {
+                self.widths.pop();
+                Err(error.into())
+            }
+        }
     }
 }
 

@@ -90,7 +90,7 @@ loop-end-preserved-then-this-lt11 c =
     let below : end < length text = omega (arith, ap length bytes) in
     let ascii : get_or text end 0 < 128 = omega arith in
     let ends-is : c.push.new.self ≡ ends ++ cell_with end cell ∷ [] =
-    c.in_ok-push-in-9.ensures ∙ ap (λ (found : CellEnd). ends ++ found ∷ []) (c.cell_end.ensures ∙ ap (cell_with end) c.range.ensures.value) in
+    c.in_ok-push-in-9.ensures.more ∙ ap (λ (found : CellEnd). ends ++ found ∷ []) (c.cell_end.ensures ∙ ap (cell_with end) c.range.ensures.value) in
     let pushed : lines text c.push.new.self ≡ lines text ends ++ byte_line cell ∷ [] = ap (lines text) ends-is ∙ lines-more text ends start end cell known.begins refl in
     record {
       within = omega (arith, below);
@@ -176,7 +176,7 @@ found c =
       | then-count-gt0+in_ok-push+in_ok-push-2 w ↦
           let some : 0 < count + (length text - start) = elim w.then-count-gt0.branch [ then-count-gt0-via-then-count-gt0 w' ↦ omega arith | then-count-gt0-via-else-count-gt0+then-start-text w' ↦ omega arith ] in
           let ends-is : w.push-then-count-gt0.new.self ≡ ends ++ cell_with end cell ∷ [] =
-          w.in_ok-push.ensures ∙ ap (λ (found : CellEnd). ends ++ found ∷ []) (w.cell_end-then-count-gt0.ensures ∙ ap (cell_with end) w.range_from.ensures.value) in
+          w.in_ok-push.ensures.more ∙ ap (λ (found : CellEnd). ends ++ found ∷ []) (w.cell_end-then-count-gt0.ensures ∙ ap (cell_with end) w.range_from.ensures.value) in
           let pushed : lines text w.push-then-count-gt0.new.self ≡ lines text ends ++ byte_line cell ∷ [] = ap (lines text) ends-is ∙ lines-more text ends start end cell known.begins (cell-last text start end all) in
           along w.push-then-count-gt0-2.new.self w.push-then-count-gt0.new.self w.counts-is w.ends-is (
             Pass-last text end start count plain counts.items w.push-then-count-gt0-2.new.self.items (lines text ends) (lines text w.push-then-count-gt0.new.self) all known.pass some pushed w.in_ok-push-2.ensures.items,

@@ -3,8 +3,8 @@ use Rattle.std.proofs.lemmas.Grind.{get_or_default_zero}
 use Rattle.columns_table.proofs.KeptEndLemmas.{bytes-more}
 use Rattle.columns_table.proofs.ends.CellEnds.push.Goals as goal
 
-pub returns-then-cell-saturating_sub : goal.returns-then-cell-saturating_sub
-returns-then-cell-saturating_sub c =
+pub returns-then-cell-saturating_sub-clause-more : goal.returns-then-cell-saturating_sub-clause-more
+returns-then-cell-saturating_sub-clause-more c =
     let ends = c.self.inside in
     let starts = ends.starts.items in
     let empty = c.is_empty.ensures ∙ ap (λ n. n == 0) ends.widths.ok.0 in
