@@ -24,10 +24,7 @@ pub(crate) fn lines_of<'a>(alloc: Global, text: &'a str) -> Result<Vec<CowStr<'a
 }
 
 /// The lines one behind the other, each ended by a line feed, and where they end as cells.
-pub(crate) fn written(
-    alloc: Global,
-    lines: &[CowStr<'_>],
-) -> Result<(String, CellEnds), AllocError>
+pub(crate) fn written(alloc: Global, lines: &[CowStr<'_>]) -> Result<(String, CellEnds), AllocError>
     requires { All IsClosedLine (map cow_str_bytes lines.now) }
     ensures fit { IfOk result (λ made. AreCellEnds (string_bytes made.0) made.1) }
     ensures measured { IfOk result (λ made. All IsMeasured (cells_in (string_bytes made.0) made.1)) }

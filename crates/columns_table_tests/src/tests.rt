@@ -184,10 +184,7 @@ fn table_of(
     if total(&counts) != Some(cells.len()) {
         return Err(Fault::Memory);
     }
-    let rows = Rows {
-        cells,
-        counts,
-    };
+    let rows = Rows { cells, counts };
     rows_table(alloc, style, asked, rows)
 }
 
