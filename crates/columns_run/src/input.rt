@@ -1,8 +1,8 @@
 //! From a reader to text.
-ghost use Rattle.std.specs.Prelude.{◌≡◌, ◌≤◌, ◌≢◌, ◌↔◌, length, IfOk, IfErr, OnOk, IsErrOf, IsUtf8, Err};
+ghost use Rattle.std.specs.Prelude.{◌≡◌, ◌≤◌, ◌≢◌, ◌↔◌, length, IfOk, IfErr, OnErr, OnOk, IsErrOf, IsUtf8, Err};
 ghost use Rattle.std.specs.Str.Lossy.{utf8_valid_len};
 ghost use Rattle.std.specs.Io.KnownBytes.{Consumes, IsAtEnd};
-ghost use Rattle.tabled_output.specs.Counts.{inner_of, empty_writes_of, flushes_of, FailsIff, HasGivenPieces};
+ghost use Rattle.tabled_output.specs.Counts.{inner_of, FailsIff, HasGivenPieces, OnlyReads, TellsEnd, TellsNoEnd};
 ghost use Rattle.columns_run.specs.Fault.{IsOfReading};
 ghost use Rattle.tabled_output.specs.Streams.{ConsumesSome};
 
@@ -15,7 +15,7 @@ use tabled_output::Counted;
 // How many bytes one read asks for.
 const CHUNK: usize = 65536;
 
-/// All bytes that the reader has left. It gives up with `Read` at the first error of any kind, with
+/// All bytes that the reader has left. Its first end is believed: it is not read on behind it. It gives up with `Read` at the first error of any kind, with
 /// `ReadTooLong` where `limit` reads gave bytes and none came to the end, and with `Memory`.
 pub fn read_all<R: Read>(
     alloc: Global,
@@ -33,8 +33,9 @@ pub fn read_all<R: Read>(
     ensures read { FailsIff (IsErrOf result RunFault.Read) reader.old reader.new }
     ensures too_long { result ≢ Err RunFault.Memory →
         (IsErrOf result RunFault.ReadTooLong ↔ HasGivenPieces reader.old reader.new limit) }
-    ensures empty_writes { empty_writes_of reader.new ≡ empty_writes_of reader.old }
-    ensures flushes { flushes_of reader.new ≡ flushes_of reader.old }
+    ensures told_end { OnOk result (TellsEnd reader.old reader.new) }
+    ensures no_end { OnErr result (TellsNoEnd reader.old reader.new) }
+    ensures only_reads { OnlyReads reader.old reader.new }
 {
     let mut bytes = Vec::new(alloc);
     let mut chunk = [0u8; CHUNK];

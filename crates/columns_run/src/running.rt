@@ -1,7 +1,7 @@
 //! From a reader to a writer: all bytes, the text, the table.
-ghost use Rattle.std.specs.Prelude.{◌≡◌, ◌≢◌, ◌↔◌, IfSome, IfOk, IfErr, IsErrOf, Err, string_bytes};
+ghost use Rattle.std.specs.Prelude.{◌≡◌, ◌≢◌, ◌↔◌, ◌⊎◌, IfSome, IfOk, IfErr, IsErrOf, Err, string_bytes};
 ghost use Rattle.std.specs.Io.KnownBytes.{IsAtEnd};
-ghost use Rattle.tabled_output.specs.Counts.{inner_of, empty_writes_of, pieces_read_of, flushes_of, FailsIff, TakesNothingIff, HasGivenPieces};
+ghost use Rattle.tabled_output.specs.Counts.{inner_of, FailsIff, HasGivenPieces, OnlyReads, OnlyWrites, TakesNothingIff, TellsEnd, TellsNoEnd};
 ghost use Rattle.columns_run.specs.Fault.{IsOfInput, MayFollowWrites};
 ghost use Rattle.grid_config.specs.Compact.{compact_of};
 ghost use Rattle.columns_run.specs.Layout.{output_of, without_width};
@@ -47,6 +47,11 @@ pub fn run<R: Read, W: Write>(
         × LeavesAlone options.now input writer.old writer.new) }
     ensures at_end { HasReadAll result → IsAtEnd (R.remaining (inner_of reader.new)) }
 
+    // The reader tells its end once, by its last answer, and else not.
+    ensures told_end { HasReadAll result → TellsEnd reader.old reader.new }
+    ensures no_end { (IsErrOf result RunFault.Read ⊎ IsErrOf result RunFault.ReadTooLong) → TellsNoEnd reader.old reader.new }
+    ensures one_end { TellsEnd reader.old reader.new ⊎ TellsNoEnd reader.old reader.new }
+
     // The counts say exactly when a fault of the reader or the writer comes.
     ensures read { FailsIff (IsErrOf result RunFault.Read) reader.old reader.new }
     ensures read_too_long { result ≢ Err RunFault.Memory →
@@ -54,9 +59,9 @@ pub fn run<R: Read, W: Write>(
     ensures write { FailsIff (IsErrOf result RunFault.Write) writer.old writer.new }
     ensures write_zero { TakesNothingIff (IsErrOf result RunFault.WriteZero) writer.old writer.new }
 
-    // A reader is only read, and a writer only written: nothing is flushed.
-    ensures only_reads { (empty_writes_of reader.new ≡ empty_writes_of reader.old) × (flushes_of reader.new ≡ flushes_of reader.old) }
-    ensures only_writes { (pieces_read_of writer.new ≡ pieces_read_of writer.old) × (flushes_of writer.new ≡ flushes_of writer.old) }
+    // A reader is only read, and a writer only written, by pieces that have bytes: nothing is flushed.
+    ensures only_reads { OnlyReads reader.old reader.new }
+    ensures only_writes { OnlyWrites writer.old writer.new }
 
     // A fault of the reader or the input comes before the writer is touched.
     ensures untouched { IfErr result (λ fault.
@@ -89,6 +94,11 @@ pub fn run_streamed<R: Read, W: Write>(
         × LeavesAlone (without_width style.now) input writer.old writer.new) }
     ensures at_end { HasReadAll result → IsAtEnd (R.remaining (inner_of reader.new)) }
 
+    // The reader tells its end once, by its last answer, and else not.
+    ensures told_end { HasReadAll result → TellsEnd reader.old reader.new }
+    ensures no_end { (IsErrOf result RunFault.Read ⊎ IsErrOf result RunFault.ReadTooLong) → TellsNoEnd reader.old reader.new }
+    ensures one_end { TellsEnd reader.old reader.new ⊎ TellsNoEnd reader.old reader.new }
+
     // The counts say exactly when a fault of the reader or the writer comes.
     ensures read { FailsIff (IsErrOf result RunFault.Read) reader.old reader.new }
     ensures read_too_long { result ≢ Err RunFault.Memory →
@@ -96,9 +106,9 @@ pub fn run_streamed<R: Read, W: Write>(
     ensures write { FailsIff (IsErrOf result RunFault.Write) writer.old writer.new }
     ensures write_zero { TakesNothingIff (IsErrOf result RunFault.WriteZero) writer.old writer.new }
 
-    // A reader is only read, and a writer only written: nothing is flushed.
-    ensures only_reads { (empty_writes_of reader.new ≡ empty_writes_of reader.old) × (flushes_of reader.new ≡ flushes_of reader.old) }
-    ensures only_writes { (pieces_read_of writer.new ≡ pieces_read_of writer.old) × (flushes_of writer.new ≡ flushes_of writer.old) }
+    // A reader is only read, and a writer only written, by pieces that have bytes: nothing is flushed.
+    ensures only_reads { OnlyReads reader.old reader.new }
+    ensures only_writes { OnlyWrites writer.old writer.new }
 
     // A fault of the reader or the input comes before the writer is touched.
     ensures untouched { IfErr result (λ fault.

@@ -10,7 +10,7 @@ ghost use Rattle.tabled_steps.specs.Outcomes.{MayRefuse};
 ghost use Rattle.tabled_steps.specs.States.{Steps};
 ghost use Rattle.tabled_size_dimension.specs.Sizes.{size_at};
 ghost use Rattle.tabled_size_dimension.specs.Values.{const_sizes};
-ghost use Rattle.tabled_output.specs.Counts.{FailsIff, TakesNothingIff, flushes_of, inner_of, pieces_read_of};
+ghost use Rattle.tabled_output.specs.Counts.{FailsIff, OnlyWrites, TakesNothingIff, inner_of};
 ghost use Rattle.tabled_output.specs.Streams.{AppendsFront};
 ghost use Rattle.tabled_compact.specs.Building.{BuildRefusal, NoTable};
 ghost use Rattle.tabled_compact.specs.Lending.{LendsConfig};
@@ -255,7 +255,7 @@ impl<I: IntoRecords, D: Dimension + Drop> CompactTable<I, D> {
         ensures table { IfErr result (BuildRefusal (Fits (compacted I.RecordTexts.rows D.width self)) (IsFit (compacted I.RecordTexts.rows D.width self))) }
         ensures write { FailsIff (IsErrOf result BuildFault.Write) writer.old writer.new }
         ensures write_zero { TakesNothingIff (IsErrOf result BuildFault.WriteZero) writer.old writer.new }
-        ensures only_writes { (pieces_read_of writer.new ≡ pieces_read_of writer.old) × (flushes_of writer.new ≡ flushes_of writer.old) }
+        ensures only_writes { OnlyWrites writer.old writer.new }
     {
         let text = self.to_string(alloc)?;
         Ok(write_all(writer, text.as_bytes())?)

@@ -4,7 +4,7 @@ ghost use Rattle.std.specs.Prelude.{◌≡◌, ◌++◌, ◌⊎◌, [], Err, IfE
 ghost use Rattle.grid_config_values.specs.declared.fault.Fault.TheVariants.{Memory};
 ghost use Rattle.tabled_compact.specs.Building.{BuildRefusal, NoTable};
 ghost use Rattle.tabled_iter.specs.Tables.{IsFit, KeepsShape, begun, printed, seen, streamed};
-ghost use Rattle.tabled_output.specs.Counts.{FailsIff, TakesNothingIff, flushes_of, inner_of, pieces_read_of};
+ghost use Rattle.tabled_output.specs.Counts.{FailsIff, OnlyWrites, TakesNothingIff, inner_of};
 ghost use Rattle.tabled_output.specs.Streams.{AppendsFront};
 ghost use Rattle.tabled_steps.specs.Outcomes.{MayRefuse};
 ghost use Rattle.tabled_steps.specs.States.{Steps};
@@ -195,7 +195,7 @@ impl<I: IntoRecords> IterTable<I> {
         ensures table { IfErr result (BuildRefusal (IsFit (streamed I.RecordTexts.rows self) (Ok tt)) (IsFit (streamed I.RecordTexts.rows self))) }
         ensures write { FailsIff (IsErrOf result BuildFault.Write) writer.old writer.new }
         ensures write_zero { TakesNothingIff (IsErrOf result BuildFault.WriteZero) writer.old writer.new }
-        ensures only_writes { (pieces_read_of writer.new ≡ pieces_read_of writer.old) × (flushes_of writer.new ≡ flushes_of writer.old) }
+        ensures only_writes { OnlyWrites writer.old writer.new }
     {
         let text = self.to_string(alloc)?;
         Ok(write_all(writer, text.as_bytes())?)

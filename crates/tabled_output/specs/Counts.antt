@@ -14,9 +14,17 @@ failures_of c = c.failures
 abbrev pub empty_writes_of : {T : Type 0} → Counted T → ℕ
 empty_writes_of c = c.empty_writes
 
+-- how many writes were of an empty piece, whatever they answered
+abbrev pub bare_writes_of : {T : Type 0} → Counted T → ℕ
+bare_writes_of c = c.bare_writes
+
 -- how many reads gave at least one byte
 abbrev pub pieces_read_of : {T : Type 0} → Counted T → ℕ
 pieces_read_of c = c.pieces_read
+
+-- how many reads gave no byte: they told the end
+abbrev pub ends_of : {T : Type 0} → Counted T → ℕ
+ends_of c = c.ends
 
 -- how many calls were flushes, whatever they answered
 abbrev pub flushes_of : {T : Type 0} → Counted T → ℕ
@@ -25,6 +33,10 @@ flushes_of c = c.flushes
 -- whether the last call was refused: it answered an error, or was a write that took no byte of a piece that had some
 abbrev pub last_refused : {T : Type 0} → Counted T → Bool
 last_refused c = c.last_refused
+
+-- whether the last call was a read that gave no byte
+abbrev pub last_told_end : {T : Type 0} → Counted T → Bool
+last_told_end c = c.last_told_end
 
 -- ---- one call
 
@@ -51,6 +63,20 @@ failures_after (Err _) count = next_count count
 abbrev pub pieces_after : {E : Type 0} → Result ℕ E → ℕ → ℕ
 pieces_after (Ok n) count = if n == 0 then count else next_count count
 pieces_after (Err _) count = count
+
+-- a read that answered this gave no byte
+abbrev pub tells_end : {E : Type 0} → Result ℕ E → Bool
+tells_end (Ok n) = n == 0
+tells_end (Err _) = false
+
+-- the count of such reads, after a read that answered this
+abbrev pub ends_after : {E : Type 0} → Result ℕ E → ℕ → ℕ
+ends_after (Ok n) count = if n == 0 then next_count count else count
+ends_after (Err _) count = count
+
+-- the count of writes of an empty piece, after a write of `piece`
+abbrev pub bare_writes_after : List ℕ → ℕ → ℕ
+bare_writes_after piece count = if length piece == 0 then next_count count else count
 
 -- the count of empty writes, after a write of `piece` that answered this
 abbrev pub empty_writes_after : {E : Type 0} → Result ℕ E → List ℕ → ℕ → ℕ
@@ -82,3 +108,25 @@ pub record TakesNothingIff {T : Type 0} (P : Type 0) (before after : Counted T) 
   pub once : P → empty_writes_of after ≡ next_count (empty_writes_of before)
   pub last : P → last_refused after ≡ true
   pub others : ¬ P → empty_writes_of after ≡ empty_writes_of before
+
+-- one read gave no byte, which tells the end, and no call came after it
+pub record TellsEnd {T : Type 0} (before after : Counted T) : Type 0 where
+  pub once : ends_of after ≡ next_count (ends_of before)
+  pub last : last_told_end after ≡ true
+
+-- no read gave no byte
+abbrev pub TellsNoEnd : {T : Type 0} → Counted T → Counted T → Type 0
+TellsNoEnd before after = ends_of after ≡ ends_of before
+
+-- a reader that is only read: nothing is written to it, and it is not flushed
+pub record OnlyReads {T : Type 0} (before after : Counted T) : Type 0 where
+  pub empty_writes : empty_writes_of after ≡ empty_writes_of before
+  pub bare_writes : bare_writes_of after ≡ bare_writes_of before
+  pub flushes : flushes_of after ≡ flushes_of before
+
+-- a writer that is only written to, and by pieces that have bytes: nothing is read of it, and it is not flushed
+pub record OnlyWrites {T : Type 0} (before after : Counted T) : Type 0 where
+  pub bare_writes : bare_writes_of after ≡ bare_writes_of before
+  pub pieces_read : pieces_read_of after ≡ pieces_read_of before
+  pub ends : ends_of after ≡ ends_of before
+  pub flushes : flushes_of after ≡ flushes_of before

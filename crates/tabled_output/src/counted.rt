@@ -8,39 +8,49 @@ use std::io::{Read, Write};
 
 /// Hands each call on to a reader or a writer, and counts the calls that answered an error and the
 /// writes that took nothing. A count of 64 bits goes round: after the greatest comes 0. For contracts it
-/// also counts the reads that gave bytes and the flushes, and keeps whether the last call was refused:
-/// it answered an error, or was a write that took no byte of a piece that had some.
+/// also counts the reads that gave bytes and those that gave none, the writes of an empty piece and the
+/// flushes, and keeps of the last call whether it was refused, which is that it answered an error or was
+/// a write that took no byte of a piece that had some, and whether it was a read that gave no byte.
 #[derive(Drop)]
 pub struct Counted<T> {
     inner: T,
     failures: u64,
     empty_writes: u64,
+    bare_writes: u64,
     pieces_read: u64,
+    ends: u64,
     flushes: u64,
     last_refused: bool,
+    last_told_end: bool,
     pub ghost in_range: { pieces_read < 2 ^ 64 },
 }
 
 impl<T> Counted<T> {
     ghost use Rattle.std.specs.Prelude.{false, true};
-    ghost use Rattle.tabled_output.specs.Counts.{inner_of, failures_of, empty_writes_of, pieces_read_of, flushes_of, last_refused, next_count};
+    ghost use Rattle.tabled_output.specs.Counts.{inner_of, failures_of, empty_writes_of, bare_writes_of, pieces_read_of, ends_of, flushes_of, last_refused, last_told_end, next_count};
 
     /// Counts the calls of `inner` from here on.
     pub fn new(inner: T) -> Counted<T>
         ensures inner { inner_of result ≡ inner }
         ensures failures { failures_of result ≡ 0 }
         ensures empty_writes { empty_writes_of result ≡ 0 }
+        ensures bare_writes { bare_writes_of result ≡ 0 }
         ensures pieces_read { pieces_read_of result ≡ 0 }
+        ensures ends { ends_of result ≡ 0 }
         ensures flushes { flushes_of result ≡ 0 }
         ensures last_refused { last_refused result ≡ false }
+        ensures last_told_end { last_told_end result ≡ false }
     {
         Counted {
             inner,
             failures: 0,
             empty_writes: 0,
+            bare_writes: 0,
             pieces_read: 0,
+            ends: 0,
             flushes: 0,
             last_refused: false,
+            last_told_end: false,
         }
     }
 
@@ -66,9 +76,12 @@ impl<T> Counted<T> {
             inner,
             failures: _,
             empty_writes: _,
+            bare_writes: _,
             pieces_read: _,
+            ends: _,
             flushes: _,
             last_refused: _,
+            last_told_end: _,
         } = self;
         inner
     }
@@ -80,6 +93,13 @@ impl<T> Counted<T> {
         self.last_refused = true;
     }
 
+    fn count_end(&mut self)
+        ensures { self.new ≡ record self.old { ends = next_count (ends_of self.old); last_told_end = true } }
+    {
+        self.ends = self.ends.wrapping_add(1);
+        self.last_told_end = true;
+    }
+
     fn count_empty_write(&mut self)
         ensures { self.new ≡ record self.old { empty_writes = next_count (empty_writes_of self.old); last_refused = true } }
     {
@@ -89,7 +109,7 @@ impl<T> Counted<T> {
 }
 
 impl<R: Read> Read for Counted<R> {
-    ghost use Rattle.tabled_output.specs.Counts.{inner_of, failures_of, empty_writes_of, pieces_read_of, flushes_of, last_refused, failures_after, is_refused, pieces_after};
+    ghost use Rattle.tabled_output.specs.Counts.{inner_of, failures_of, empty_writes_of, bare_writes_of, pieces_read_of, ends_of, flushes_of, last_refused, last_told_end, failures_after, is_refused, pieces_after, ends_after, tells_end};
 
     ghost remaining = { λ c. R.remaining (inner_of c) };
 
@@ -99,14 +119,18 @@ impl<R: Read> Read for Counted<R> {
             (R.remaining (inner_of self.new)) result buf.new }
         ensures failures { failures_of self.new ≡ failures_after result (failures_of self.old) }
         ensures last_refused { last_refused self.new ≡ is_refused result }
+        ensures last_told_end { last_told_end self.new ≡ tells_end result }
         ensures pieces_read { pieces_read_of self.new ≡ pieces_after result (pieces_read_of self.old) }
+        ensures ends { ends_of self.new ≡ ends_after result (ends_of self.old) }
         ensures empty_writes { empty_writes_of self.new ≡ empty_writes_of self.old }
+        ensures bare_writes { bare_writes_of self.new ≡ bare_writes_of self.old }
         ensures flushes { flushes_of self.new ≡ flushes_of self.old }
     {
         let answer = self.inner.read(buf);
         self.last_refused = false;
+        self.last_told_end = false;
         match &answer {
-            Ok(0) => {}
+            Ok(0) => self.count_end(),
             Ok(_) => self.pieces_read = self.pieces_read.wrapping_add(1),
             Err(_) => self.count_failure(),
         }
@@ -115,7 +139,8 @@ impl<R: Read> Read for Counted<R> {
 }
 
 impl<W: Write> Write for Counted<W> {
-    ghost use Rattle.tabled_output.specs.Counts.{inner_of, failures_of, empty_writes_of, pieces_read_of, flushes_of, last_refused, failures_after, is_refused, is_write_refused, empty_writes_after, next_count};
+    ghost use Rattle.std.specs.Prelude.{false};
+    ghost use Rattle.tabled_output.specs.Counts.{inner_of, failures_of, empty_writes_of, bare_writes_of, pieces_read_of, ends_of, flushes_of, last_refused, last_told_end, failures_after, is_refused, is_write_refused, empty_writes_after, bare_writes_after, next_count};
 
     ghost contents = { λ c. W.contents (inner_of c) };
 
@@ -125,13 +150,20 @@ impl<W: Write> Write for Counted<W> {
             (W.contents (inner_of self.new)) result buf.now }
         ensures failures { failures_of self.new ≡ failures_after result (failures_of self.old) }
         ensures last_refused { last_refused self.new ≡ is_write_refused result buf.now }
+        ensures last_told_end { last_told_end self.new ≡ false }
         ensures empty_writes { empty_writes_of self.new
             ≡ empty_writes_after result buf.now (empty_writes_of self.old) }
+        ensures bare_writes { bare_writes_of self.new ≡ bare_writes_after buf.now (bare_writes_of self.old) }
         ensures pieces_read { pieces_read_of self.new ≡ pieces_read_of self.old }
+        ensures ends { ends_of self.new ≡ ends_of self.old }
         ensures flushes { flushes_of self.new ≡ flushes_of self.old }
     {
         let answer = self.inner.write(buf);
         self.last_refused = false;
+        self.last_told_end = false;
+        if buf.is_empty() {
+            self.bare_writes = self.bare_writes.wrapping_add(1);
+        }
         match &answer {
             Ok(0) if !buf.is_empty() => self.count_empty_write(),
             Ok(_) => {}
@@ -144,13 +176,17 @@ impl<W: Write> Write for Counted<W> {
         ensures bytes { Keeps (W.contents (inner_of self.old)) (W.contents (inner_of self.new)) }
         ensures failures { failures_of self.new ≡ failures_after result (failures_of self.old) }
         ensures last_refused { last_refused self.new ≡ is_refused result }
+        ensures last_told_end { last_told_end self.new ≡ false }
         ensures empty_writes { empty_writes_of self.new ≡ empty_writes_of self.old }
+        ensures bare_writes { bare_writes_of self.new ≡ bare_writes_of self.old }
         ensures pieces_read { pieces_read_of self.new ≡ pieces_read_of self.old }
+        ensures ends { ends_of self.new ≡ ends_of self.old }
         ensures flushes { flushes_of self.new ≡ next_count (flushes_of self.old) }
     {
         let answer = self.inner.flush();
         self.flushes = self.flushes.wrapping_add(1);
         self.last_refused = false;
+        self.last_told_end = false;
         if answer.is_err() {
             self.count_failure();
         }

@@ -1,7 +1,7 @@
 //! From bytes to a writer.
 ghost use Rattle.std.specs.Prelude.{◌≡◌, length, IsErrOf, OnOk};
 ghost use Rattle.std.specs.Io.KnownBytes.{Appends};
-ghost use Rattle.tabled_output.specs.Counts.{inner_of, pieces_read_of, flushes_of, FailsIff, TakesNothingIff};
+ghost use Rattle.tabled_output.specs.Counts.{inner_of, FailsIff, OnlyWrites, TakesNothingIff};
 ghost use Rattle.tabled_output.specs.Streams.{AppendsFront};
 
 use crate::counted::Counted;
@@ -35,7 +35,7 @@ impl fmt::Display for WriteFault {
 
 impl Error for WriteFault {}
 
-/// Writes all bytes, and flushes nothing. It gives up with `Write` at the first error of any kind, and
+/// Writes all bytes, each time a piece that has some, and flushes nothing. It gives up with `Write` at the first error of any kind, and
 /// with `WriteZero` where the writer takes nothing; the bytes before that are then written, and the
 /// writer isn't called again.
 pub fn write_all<W: Write>(writer: &mut Counted<W>, bytes: &[u8]) -> Result<(), WriteFault>
@@ -46,8 +46,7 @@ pub fn write_all<W: Write>(writer: &mut Counted<W>, bytes: &[u8]) -> Result<(), 
     ensures write { FailsIff (IsErrOf result WriteFault.Write) writer.old writer.new }
     ensures write_zero { TakesNothingIff (IsErrOf result WriteFault.WriteZero) writer.old writer.new }
     ensures nothing { length bytes.now ≡ 0 → writer.new ≡ writer.old }
-    ensures pieces_read { pieces_read_of writer.new ≡ pieces_read_of writer.old }
-    ensures flushes { flushes_of writer.new ≡ flushes_of writer.old }
+    ensures only_writes { OnlyWrites writer.old writer.new }
 {
     let mut rest = bytes;
     while !rest.is_empty() {

@@ -4,7 +4,7 @@ ghost use Rattle.std.specs.Prelude.{◌≡◌, [], IfErr, IsErrOf, Ok, OnOk};
 ghost use Rattle.tabled.specs.Printing.{IsFit, printed};
 ghost use Rattle.tabled.specs.Tables.{state_of};
 ghost use Rattle.tabled_compact.specs.Building.{BuildRefusal, NoTable};
-ghost use Rattle.tabled_output.specs.Counts.{FailsIff, TakesNothingIff, flushes_of, inner_of, pieces_read_of};
+ghost use Rattle.tabled_output.specs.Counts.{FailsIff, OnlyWrites, TakesNothingIff, inner_of};
 ghost use Rattle.tabled_output.specs.Streams.{AppendsFront};
 
 use crate::table::Table;
@@ -27,7 +27,7 @@ impl<T: FromText> Table<T> {
         ensures table { IfErr result (BuildRefusal (IsFit (state_of T.text self.now) (Ok tt)) (IsFit (state_of T.text self.now))) }
         ensures write { FailsIff (IsErrOf result BuildFault.Write) writer.old writer.new }
         ensures write_zero { TakesNothingIff (IsErrOf result BuildFault.WriteZero) writer.old writer.new }
-        ensures only_writes { (pieces_read_of writer.new ≡ pieces_read_of writer.old) × (flushes_of writer.new ≡ flushes_of writer.old) }
+        ensures only_writes { OnlyWrites writer.old writer.new }
     {
         let text = self.to_string()?;
         Ok(write_all(writer, text.as_bytes())?)

@@ -7,7 +7,7 @@ pub loop-init : goal.loop-init
 loop-init g c =
     let below = c.args.reader.now.in_range in
     let here : pieces_read_of c.args.reader.now ≡ (pieces_read_of c.args.reader.now + 0) % 2 ^ 64 = omega (arith, below) in
-    record { bytes = search rules; enough = omega arith; failures = refl; flushes = refl; empty_writes = refl; pieces_read = here }
+    record { bytes = search rules; enough = omega arith; failures = refl; no_end = refl; only_reads = search rules; pieces_read = here }
 
 -- the bytes so far, and those of the read whose piece found no memory
 pub returns-in_err-extend_from_slice-clause-some_bytes :

@@ -1,6 +1,6 @@
 use Rattle.std.proofs.Common.{◌≡◌, ◌+◌, ◌%◌, ◌^◌, ◌≤◌, length}
 use Rattle.std.specs.Io.KnownBytes.{Consumes}
-use Rattle.tabled_output.specs.Counts.{inner_of, failures_of, empty_writes_of, pieces_read_of, flushes_of}
+use Rattle.tabled_output.specs.Counts.{inner_of, failures_of, pieces_read_of, OnlyReads, TellsNoEnd}
 use Rattle.columns_run.proofs.input.read_all.Given as goal
 
 -- so far every read gave bytes, and `bytes` holds them all
@@ -9,7 +9,7 @@ invariant-loop g l = record {
   bytes : Consumes (g.R.Read.remaining (inner_of l.initial.reader)) (g.R.Read.remaining (inner_of l.reader)) l.bytes.items;
   enough : l.counter ≤ length l.bytes.items;
   failures : failures_of l.reader ≡ failures_of l.initial.reader;
-  flushes : flushes_of l.reader ≡ flushes_of l.initial.reader;
-  empty_writes : empty_writes_of l.reader ≡ empty_writes_of l.initial.reader;
+  no_end : TellsNoEnd l.initial.reader l.reader;
+  only_reads : OnlyReads l.initial.reader l.reader;
   pieces_read : pieces_read_of l.reader ≡ (pieces_read_of l.initial.reader + l.counter) % 2 ^ 64;
 }

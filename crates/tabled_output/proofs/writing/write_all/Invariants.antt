@@ -1,5 +1,5 @@
 use Rattle.std.proofs.Common.{◌≡◌, length}
-use Rattle.tabled_output.specs.Counts.{inner_of, failures_of, empty_writes_of, pieces_read_of, flushes_of}
+use Rattle.tabled_output.specs.Counts.{inner_of, failures_of, empty_writes_of, OnlyWrites}
 use Rattle.tabled_output.proofs.Written.{HasWritten}
 use Rattle.tabled_output.proofs.writing.write_all.Given as goal
 
@@ -9,8 +9,7 @@ invariant-loop-rest g l = record {
   written : HasWritten (g.W.Write.contents (inner_of l.initial.writer)) (g.W.Write.contents (inner_of l.writer)) l.bytes l.rest;
   failures : failures_of l.writer ≡ failures_of l.initial.writer;
   empty_writes : empty_writes_of l.writer ≡ empty_writes_of l.initial.writer;
-  pieces_read : pieces_read_of l.writer ≡ pieces_read_of l.initial.writer;
-  flushes : flushes_of l.writer ≡ flushes_of l.initial.writer;
+  only_writes : OnlyWrites l.initial.writer l.writer;
   nothing : length l.bytes ≡ 0 → (l.writer ≡ l.initial.writer) × (length l.rest ≡ 0);
 }
 
