@@ -68,7 +68,7 @@ module _ (rest : List ℕ) (k : ℕ) (is_run : k ≡ prefix_len is_cell_text res
   pub run-within : k ≤ text_len rest
   run-within = omega (arith, is_run, cell_run rest)
 
-  run-fits : k ≤ length rest
+  pub run-fits : k ≤ length rest
   run-fits = omega (arith, is_run, prefix_len-le-length is_cell_text rest)
 
   run-bytes : list_all is_cell_byte (take k rest) ≡ true

@@ -10,6 +10,7 @@ pub mod OneLineLemmas
 pub mod PartLemmas
 pub mod PieceLemmas
 pub mod PassLemmas
+pub mod PassedLemmas
 pub mod PictureLemmas
 pub mod PlaceLemmas
 pub mod PlainLemmas

@@ -35,7 +35,7 @@ whole-nothing (b ∷ bs) none = absurd (omega (arith, none))
 pub whole-from : (text rest : List ℕ) (n : ℕ) → pieces rest ≡ from_place n (pieces text) → IsWhole text → IsWhole rest
 whole-from text rest n there whole = whole-pieces rest (subst NoneBroken (sym there) (NoneBroken-from n (pieces text) (pieces-whole text whole)))
 
-plain_bytes : (xs : List ℕ) → list_all is_cell_text xs ≡ true → list_all is_plain xs ≡ true
+pub plain_bytes : (xs : List ℕ) → list_all is_cell_text xs ≡ true → list_all is_plain xs ≡ true
 plain_bytes [] each = refl
 plain_bytes (x ∷ xs) each =
     let parts = and_parts (is_cell_text x) (list_all is_cell_text xs) each in

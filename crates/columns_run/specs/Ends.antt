@@ -1,12 +1,13 @@
 -- Where a cell of a text ends: before the next tab or line feed that the text shows, or at the end of the text.
-use Rattle.std.specs.Prelude.{◌≡◌, ◌==◌, ◌&&◌, not, ℕ, Bool, false, List}
+use Rattle.std.specs.Prelude.{◌≡◌, ◌==◌, ◌++◌, ◌&&◌, not, ℕ, Bool, false, true, length, IsTrue, List}
 use Rattle.std.specs.List.{prefix_len}
-use Rattle.ansi_scan.specs.Sequences.{is_plain}
+use Rattle.ansi_scan.specs.Sequences.{NoneBroken, is_plain}
 use Rattle.ansi_scan.specs.Pieces.{pieces}
 use Rattle.ansi_scan.specs.Attributes.{Attributes}
 use Rattle.ansi_str.specs.StyledText.{style_after_all}
 use Rattle.ansi_str_search.specs.Parts.{from_place, through_place}
 use Rattle.ansi_str_search.specs.Walking.{from_text, begins_with_escape}
+use Rattle.grid_records_measure.specs.Measures.{are_printable}
 use Rattle.columns_run.specs.Rows.{line_feed, tab, stripped}
 
 -- neither a tab nor a line feed
@@ -27,3 +28,11 @@ pub record EndsCell (text : List ℕ) (style : Attributes) (end : List ℕ) (end
   pub there : pieces end ≡ from_text (from_place (cell_size text) (pieces text))
   pub known : end_style ≡ style_after_all style (through_place (cell_size text) (pieces text))
   pub shows_text : begins_with_escape end ≡ false
+
+-- from this text to `end` no sequence is broken, and so many bytes are shown, each of which is printable where it is said
+pub record Passes (text end : List ℕ) (size : ℕ) (printable : Bool) : Type 0 where
+  pub slice : List ℕ
+  pub parted : text ≡ slice ++ end
+  pub none_broken : NoneBroken (pieces slice)
+  pub counted : size ≡ length (stripped slice)
+  pub each : IsTrue printable → are_printable (stripped slice) ≡ true

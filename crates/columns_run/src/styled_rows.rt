@@ -1,13 +1,13 @@
 //! The rows and cells of a text with escape sequences: its parts at line feeds, and their parts at tabs. Each part opens
 //! and ends its own styles. A part of a part is one part of the text, so one walk finds the cells.
-ghost use Rattle.std.specs.Prelude.{◌≡◌, ◌<◌, ◌==◌, ◌↔◌, ◌++◌, ℕ, List, chars, drop, length, slice_index, string_bytes, sum, IfOk, IfSome, IsNone, IsSome, OnOk};
+ghost use Rattle.std.specs.Prelude.{◌≡◌, ◌<◌, ◌==◌, ◌↔◌, ◌++◌, ℕ, List, chars, drop, length, slice_index, string_bytes, sum, take, true, IfOk, IfSome, IsNone, IsSome, IsTrue, OnOk};
 ghost use Rattle.std.specs.List.{prefix_len};
 ghost use Rattle.ansi_scan.specs.Sequences.{IsWhole};
 ghost use Rattle.ansi_scan.specs.Pieces.{pieces};
-ghost use Rattle.ansi_str_search.specs.Walking.{AreFirstAndRest};
+ghost use Rattle.ansi_str_search.specs.Walking.{AreFirstAndRest, begins_with_escape};
 ghost use Rattle.columns_run.specs.Rows.{line_feed, stripped};
 ghost use Rattle.columns_run.specs.Cells.{line_rows};
-ghost use Rattle.columns_run.specs.Ends.{is_cell_text, EndsCell};
+ghost use Rattle.columns_run.specs.Ends.{is_cell_text, EndsCell, Passes};
 ghost use Rattle.columns_run.specs.Styled.{AddsCell, cell_lines, part_between};
 ghost use Rattle.columns_table.specs.Ends.{AreCellEnds};
 ghost use Rattle.columns_table.specs.Rows.{cut};
@@ -35,6 +35,17 @@ pub struct StyledCells {
     pub counts: Vec<usize>,
 }
 
+/// The end of a cell.
+#[derive(Drop)]
+struct CellStop<'a> {
+    /// Where it stands.
+    place: Place<'a>,
+    /// How many bytes the cell shows up to there.
+    size: usize,
+    /// Whether each of them is printable ASCII, which takes a column.
+    printable: bool,
+}
+
 /// The cells of all rows: the parts at tabs of the parts at line feeds, but for a last row that shows nothing. None
 /// where the text is not whole.
 pub fn styled_cells(alloc: Global, text: &str) -> Result<Option<StyledCells>, AllocError>
@@ -53,16 +64,16 @@ pub fn styled_cells(alloc: Global, text: &str) -> Result<Option<StyledCells>, Al
     let Some(mut end) = cell_end(&place) else {
         return Ok(None);
     };
-    while !end.rest.is_empty() {
+    while !end.place.rest.is_empty() {
         push_cell(alloc, &mut found, &place, &end)?;
         count += 1;
-        if begins_with_line_feed(end.rest) {
+        if begins_with_line_feed(end.place.rest) {
             found.counts.push(count)?;
             count = 0;
         }
         place = Place {
-            rest: behind_separator(end.rest),
-            style: end.style,
+            rest: behind_separator(end.place.rest),
+            style: end.place.style,
         };
         end = match cell_end(&place) {
             Some(end) => end,
@@ -77,19 +88,25 @@ pub fn styled_cells(alloc: Global, text: &str) -> Result<Option<StyledCells>, Al
     Ok(Some(found))
 }
 
-/// Appends what stands from here to the end as a cell, measured.
+/// Appends what stands from here to the end as a cell. Where it is printable, it takes a column for each byte that
+/// it shows, and is not looked at again.
 fn push_cell<'a>(
     alloc: Global,
     cells: &mut StyledCells,
     place: &Place<'a>,
-    end: &Place<'a>,
+    end: &CellStop<'a>,
 ) -> Result<(), AllocError>
-    requires { (slice : List ℕ) × (place.now.rest.now ≡ slice ++ end.now.rest.now) }
-    ensures cells { OnOk result (AddsCell cells.old cells.new (part_between place.now.rest.now place.now.style end.now.rest.now end.now.style)) }
+    requires begins { (slice : List ℕ) × (place.now.rest.now ≡ slice ++ end.now.place.rest.now) }
+    requires measured { IsTrue end.now.printable → measure (chars (stripped (part_between place.now.rest.now place.now.style end.now.place.rest.now end.now.place.style))) ≡ end.now.size }
+    ensures cells { OnOk result (AddsCell cells.old cells.new (part_between place.now.rest.now place.now.style end.now.place.rest.now end.now.place.style)) }
     ensures counts { cells.new.counts ≡ cells.old.counts }
 {
-    let part = place.part_to(alloc, end)?;
-    let width = part_width(&part);
+    let part = place.part_to(alloc, &end.place)?;
+    let width = if end.printable {
+        end.size
+    } else {
+        get_line_width(&part)
+    };
     cells.text.push_str(&part)?;
     let end = cells.text.len();
     cells.ends.push(CellEnd { end, width })?;
@@ -97,51 +114,60 @@ fn push_cell<'a>(
     Ok(())
 }
 
-/// Where the cell that begins here ends, behind the sequences there; nowhere where one of them is broken.
-fn cell_end<'a>(place: &Place<'a>) -> Option<Place<'a>>
-    ensures cell { IfSome result (λ end. EndsCell place.now.rest.now place.now.style end.rest.now end.style) }
-    ensures whole { IfSome result (λ end. IsWhole end.rest.now → IsWhole place.now.rest.now) }
+/// The end of the cell that begins here, behind the sequences there, and what is shown up to it; none where one of
+/// the sequences is broken.
+fn cell_end<'a>(place: &Place<'a>) -> Option<CellStop<'a>>
+    ensures cell { IfSome result (λ end. EndsCell place.now.rest.now place.now.style end.place.rest.now end.place.style) }
+    ensures passes { IfSome result (λ end. Passes place.now.rest.now end.place.rest.now end.size end.printable) }
+    ensures whole { IfSome result (λ end. IsWhole end.place.rest.now → IsWhole place.now.rest.now) }
     ensures broken { IsNone result → ¬ IsWhole place.now.rest.now }
 {
+    let (mut size, mut printable) = cell_run(place.rest);
     let mut end = Place {
-        rest: past_text(place.rest),
+        rest: &place.rest[size..],
         style: place.style,
     };
     while begins_with_escape(end.rest) {
         let Some(behind) = past_sequence(&end) else {
             return None;
         };
+        let (more, all) = cell_run(behind.rest);
         end = Place {
-            rest: past_text(behind.rest),
+            rest: &behind.rest[more..],
             style: behind.style,
         };
+        size += more;
+        printable &= all;
     }
-    Some(end)
+    Some(CellStop {
+        place: end,
+        size,
+        printable,
+    })
 }
 
-/// The text behind the first bytes, before a sequence, a tab or a line feed.
-fn past_text(text: &str) -> &str
-    ensures { result.now ≡ drop (prefix_len is_cell_text text.now) text.now }
+/// How many bytes stand before the first sequence, the first tab and the first line feed, and whether each of them is
+/// printable ASCII.
+fn cell_run(text: &str) -> (usize, bool)
+    ensures size { result.0 ≡ prefix_len is_cell_text text.now }
+    ensures printable { result.1 ≡ are_printable (take result.0 text.now) }
 {
-    &text[text_size(text)..]
-}
-
-/// How many bytes stand before the first sequence, the first tab and the first line feed.
-fn text_size(text: &str) -> usize
-    ensures { result ≡ prefix_len is_cell_text text.now }
-{
+    let mut printable = true;
     for (i, byte) in text.as_bytes().iter().enumerate() {
-        if matches!(*byte, ESC | b'\t' | b'\n') {
-            return i;
+        match *byte {
+            b' '..=b'~' => {}
+            ESC | b'\t' | b'\n' => return (i, printable),
+            _ => printable = false,
         }
     }
-    text.len()
+    (text.len(), printable)
 }
 
 /// Behind the sequence that stands here; nowhere where it is broken.
 fn past_sequence<'a>(place: &Place<'a>) -> Option<Place<'a>>
-    requires { 0 < length place.now.rest.now }
+    requires { begins_with_escape place.now.rest.now ≡ true }
     ensures first { IfSome result (λ behind. AreFirstAndRest place.now.style (pieces place.now.rest.now) behind.style (pieces behind.rest.now)) }
+    ensures passes { IfSome result (λ behind. Passes place.now.rest.now behind.rest.now 0 true) }
     ensures shorter { IfSome result (λ behind. length behind.rest.now < length place.now.rest.now) }
     ensures whole { IfSome result (λ behind. IsWhole place.now.rest.now ↔ IsWhole behind.rest.now) }
     ensures broken { IsNone result → ¬ IsWhole place.now.rest.now }
@@ -171,27 +197,6 @@ fn begins_with_line_feed(text: &str) -> bool
     ensures { result ≡ (slice_index text.now 0 == line_feed) }
 {
     text.as_bytes()[0] == b'\n'
-}
-
-/// The columns of a part, without its sequences.
-fn part_width(part: &str) -> usize
-    ensures { result ≡ measure (chars (stripped part.now)) }
-{
-    // a byte takes a column where all are printable, as in most cells
-    if is_printable(part) {
-        part.len()
-    } else {
-        get_line_width(part)
-    }
-}
-
-/// Whether each byte is printable ASCII.
-fn is_printable(text: &str) -> bool
-    ensures { result ≡ are_printable text.now }
-{
-    text.as_bytes()
-        .iter()
-        .all(|byte| matches!(*byte, b' '..=b'~'))
 }
 
 /// Whether a text is nothing but sequences.

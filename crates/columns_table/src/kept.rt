@@ -33,6 +33,19 @@ impl<'a> KeptCell<'a> {
         let (lines, width) = get_text_dimension(&text);
         KeptCell { text, lines, width }
     }
+
+    /// A cell of one line that takes so many columns, which is not measured again. Does not allocate.
+    fn of_line(text: &'a str, width: usize) -> KeptCell<'a>
+        requires one { HasLineCount text.now 1 }
+        requires width { HasWidth text.now width }
+        ensures { cow_str_bytes result.text ≡ text.now }
+    {
+        KeptCell {
+            text: CowStr::Borrowed(text),
+            lines: 1,
+            width,
+        }
+    }
 }
 
 impl<'a> Cell for KeptCell<'a> {
@@ -98,7 +111,8 @@ fn kept_cells<'a>(
     Ok(kept)
 }
 
-// The cell in this column, resized to its room, and an empty one where there is none.
+// The cell in this column, resized to its room, and an empty one where there is none. One that stays as it is keeps
+// what it measures.
 fn kept_cell<'a>(
     alloc: Global,
     asked: &Asked,
@@ -109,9 +123,11 @@ fn kept_cell<'a>(
     requires { All IsMeasured (row_cells row) }
     ensures { IfOk result (λ kept. cow_str_bytes kept.text ≡ first_kept (resize_to asked.now room) (cell_texts (drop column (row_cells row.entry)))) }
 {
-    let text = match row.get(column) {
-        Some(cell) => resized_cell(alloc, asked, cell.text, cell.width, room)?,
-        None => CowStr::Borrowed(""),
+    let Some(cell) = row.get(column) else {
+        return Ok(KeptCell::new(CowStr::Borrowed("")));
     };
-    Ok(KeptCell::new(text))
+    match resized_cell(alloc, asked, cell.text, cell.width, room)? {
+        Some(text) => Ok(KeptCell::new(text)),
+        None => Ok(KeptCell::of_line(cell.text, cell.width)),
+    }
 }

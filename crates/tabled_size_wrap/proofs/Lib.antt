@@ -12,3 +12,4 @@ pub mod PartLemmas
 pub mod AddedLemmas
 pub mod WrappedLemmas
 pub mod BytesLemmas
+pub mod Unbroken

@@ -7,3 +7,4 @@ pub mod Standing
 pub mod Showing
 pub mod Worked
 pub mod Bytes
+pub mod Staying

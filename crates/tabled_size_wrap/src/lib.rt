@@ -5,9 +5,11 @@ mod broken_lines;
 mod cut;
 pub mod laws;
 mod line_units;
+mod staying;
 mod words;
 mod wrap;
 
 pub use cut::cut_styled;
 pub use line_units::{Unit, units};
+pub use staying::stays;
 pub use wrap::wrap_styled;

@@ -1,18 +1,23 @@
 -- A step over a cell that is gathered, and the rows at the end of the text.
-use Rattle.std.proofs.Common.{◌≡◌, ◌==◌, ◌<◌, ◌≤◌, ◌+◌, ◌-◌, ℕ, true, false, Fits, w64, Vec, Global, List, [], ◌∷◌, ◌++◌, drop, length, map, slice_index, string_bytes, sum, refl, ap, sym, subst, ◌∙◌, arith, eqb-true, length-drop}
+use Rattle.std.proofs.Common.{◌≡◌, ◌==◌, ◌<◌, ◌≤◌, ◌+◌, ◌-◌, ℕ, Bool, true, false, Fits, w64, Vec, Global, List, [], ◌∷◌, ◌++◌, drop, length, map, slice_index, string_bytes, sum, refl, ap, sym, subst, ◌∙◌, arith, eqb-true, length-drop}
 use Rattle.std.proofs.lemmas.Bool.Decides.{nat_tests}
-use Rattle.ansi_scan.specs.Attributes.{Attributes}
+use Rattle.std.specs.Prelude.{IsTrue, chars}
+use Rattle.ansi_scan.specs.Attributes.{Attributes, IsRendition, plain_attributes}
+use Rattle.ansi_scan_style.proofs.Kept.{IsRendition-plain}
 use Rattle.ansi_scan.specs.Sequences.{IsWhole, joined}
 use Rattle.ansi_scan.specs.Pieces.{pieces}
-use Rattle.ansi_str_search.specs.Parts.{through_place}
+use Rattle.ansi_str_search.specs.Parts.{before_place, through_place}
+use Rattle.ansi_str_search.proofs.DressedLemmas.{IsRendition-after}
+use Rattle.grid_records_measure.specs.Measures.{measure}
 use Rattle.columns_table.specs.Rows.{cut}
 use Rattle.columns_run.specs.Cells.{part_line}
-use Rattle.columns_run.specs.Ends.{cell_size, EndsCell}
+use Rattle.columns_run.specs.Ends.{cell_size, EndsCell, Passes}
 use Rattle.columns_run.specs.Rows.{line_feed, stripped, cell_parts}
 use Rattle.columns_run.specs.Styled.{AddsCell, part_between}
 use Rattle.columns_run.specs.declared.styled_rows.StyledCells.{StyledCells}
 use Rattle.columns_run.proofs.GatherLemmas.{Gathered, Gathered-start, Gathered-more, ends-longer, cells-within, length-parts_in, parts-added, parts_in}
 use Rattle.columns_run.proofs.PartLemmas.{cut-map}
+use Rattle.columns_run.proofs.PassedLemmas.{measure-passed}
 use Rattle.columns_run.proofs.WalkLemmas.{Walked, Walked-start, Walked-tab, Walked-feed, Walked-last, Walked-none, walked-part, whole-next, separator-ascii, cell-slice, end-fits, part_at}
 use Rattle.columns_run.proofs.WholeLemmas.{whole-byte, whole-nothing}
 use Rattle.columns_run.proofs.styled_rows.styled_cells.Goals as goal
@@ -49,6 +54,13 @@ module _ (text rest : List ℕ) (style : Attributes) (end : List ℕ) (end_style
 
   begins-part : (slice : List ℕ) × (rest ≡ slice ++ end)
   begins-part = (joined (through_place (cell_size rest) (pieces rest)), cell-slice rest style end end_style so_far.walked.ends)
+
+  -- what is shown takes a column a byte, where it is printable
+  takes-columns : (size : ℕ) (printable : Bool) → Passes rest end size printable → IsTrue printable → measure (chars (stripped (part_between rest style end end_style))) ≡ size
+  takes-columns size printable passes =
+      let known = so_far.walked.known in
+      measure-passed rest end style end_style size printable
+      (subst IsRendition (sym known) (IsRendition-after plain_attributes (before_place so_far.walked.place (pieces text)) IsRendition-plain)) passes
 
   -- nothing more stands in the last row
   none-more : IsWhole text → length end ≡ 0 → count ≡ 0 → length (stripped rest) ≡ 0 → IsAll text old
@@ -119,7 +131,7 @@ pub loop-alloc-init : goal.loop-alloc-init
 loop-alloc-init c =
     let text = c.args.text.now in
     let place = c.start_of-place.result in
-    let end = c.in-Some.end in
+    let end = c.in-Some.end.place in
     let bytes = string_bytes c.new.result in
     let ends = c.in_ok-new.field-0 in
     let none : parts_in bytes ends ≡ [] = ap (λ found. parts_in bytes found) c.in_ok-new.ensures in
@@ -131,30 +143,37 @@ loop-alloc-init c =
       row = omega (arith, ap sum c.new-3.ensures.items, ap length c.in_ok-new.ensures);
       whole = subst IsWhole c.start_of-place.ensures.rest;
       closes = c.in-Some.ensures.whole;
+      passes = c.in-Some.ensures.passes;
     }
 
-pub push_cell-requires : goal.push_cell-requires
-push_cell-requires c =
-    begins-part c.args.text.now c.loop-alloc.place.rest.now c.loop-alloc.place.style c.loop-alloc.end.rest.now c.loop-alloc.end.style c.loop-alloc.found c.loop-alloc.count
+pub push_cell-requires-measured : goal.push_cell-requires-measured
+push_cell-requires-measured c =
+    takes-columns c.args.text.now c.loop-alloc.place.rest.now c.loop-alloc.place.style c.loop-alloc.end.place.rest.now c.loop-alloc.end.place.style c.loop-alloc.found c.loop-alloc.count
+    (record { walked = c.loop-alloc.invariant.walked; gathered = c.loop-alloc.invariant.gathered; row = c.loop-alloc.invariant.row })
+    c.loop-alloc.end.size c.loop-alloc.end.printable c.loop-alloc.invariant.passes
+
+pub push_cell-requires-begins : goal.push_cell-requires-begins
+push_cell-requires-begins c =
+    begins-part c.args.text.now c.loop-alloc.place.rest.now c.loop-alloc.place.style c.loop-alloc.end.place.rest.now c.loop-alloc.end.place.style c.loop-alloc.found c.loop-alloc.count
     (record { walked = c.loop-alloc.invariant.walked; gathered = c.loop-alloc.invariant.gathered; row = c.loop-alloc.invariant.row })
 
 pub overflow_add-count : goal.overflow_add-count
 overflow_add-count c =
-    count-fits c.args.text.now c.loop-alloc.place.rest.now c.loop-alloc.place.style c.loop-alloc.end.rest.now c.loop-alloc.end.style c.loop-alloc.found c.loop-alloc.count
+    count-fits c.args.text.now c.loop-alloc.place.rest.now c.loop-alloc.place.style c.loop-alloc.end.place.rest.now c.loop-alloc.end.place.style c.loop-alloc.found c.loop-alloc.count
     (record { walked = c.loop-alloc.invariant.walked; gathered = c.loop-alloc.invariant.gathered; row = c.loop-alloc.invariant.row })
     c.push_cell.new.cells c.in_ok-push_cell.ensures.cells
 
 pub behind_separator-requires : goal.behind_separator-requires
 behind_separator-requires c =
     let place = c.loop-alloc.place in
-    let end = c.loop-alloc.end in
+    let end = c.loop-alloc.end.place in
     let some = some_of (length end.rest.now) (sym c.is_empty.ensures ∙ c.loop-alloc-test.true) in
     (some, separator-ascii c.args.text.now place.rest.now place.style end.rest.now end.style c.loop-alloc.found.counts.items (sum c.loop-alloc.found.counts.items) (parts_of c.loop-alloc.found) c.loop-alloc.invariant.walked some)
 
 pub returns-in-None-clause-whole : goal.returns-in-None-clause-whole
 returns-in-None-clause-whole c =
     let place = c.loop-alloc.place in
-    let end = c.loop-alloc.end in
+    let end = c.loop-alloc.end.place in
     let some = some_of (length end.rest.now) (sym c.is_empty.ensures ∙ c.loop-alloc-test.true) in (
       λ found. absurd (cc found),
       λ whole. absurd (c.in-None.ensures.broken refl (whole-next c.args.text.now place.rest.now place.style end.rest.now end.style c.loop-alloc.found.counts.items (sum c.loop-alloc.found.counts.items) (parts_of c.loop-alloc.found) c.loop-alloc.invariant.walked
@@ -164,7 +183,7 @@ returns-in-None-clause-whole c =
 pub loop-alloc-smaller : goal.loop-alloc-smaller
 loop-alloc-smaller c =
     let place = c.loop-alloc.place in
-    let end = c.loop-alloc.end in
+    let end = c.loop-alloc.end.place in
     let some = some_of (length end.rest.now) (sym c.is_empty.ensures ∙ c.loop-alloc-test.true) in
     let fits = end-fits place.rest.now place.style end.rest.now end.style c.loop-alloc.invariant.walked.ends in
     let smaller : length c.behind_separator.result.now < length place.rest.now = omega (arith, ap length c.behind_separator.ensures, length-drop 1 end.rest.now, fits, some) in
@@ -174,12 +193,12 @@ pub loop-alloc-preserved : goal.loop-alloc-preserved
 loop-alloc-preserved c =
     let text = c.args.text.now in
     let place = c.loop-alloc.place in
-    let end = c.loop-alloc.end in
+    let end = c.loop-alloc.end.place in
     let old = c.loop-alloc.found in
     let count = c.loop-alloc.count in
     let new = c.push_cell.new.cells in
     let next = c.behind_separator.result.now in
-    let next_end = c.in-Some-cell_end.end in
+    let next_end = c.in-Some-cell_end.end.place in
     let some = some_of (length end.rest.now) (sym c.is_empty.ensures ∙ c.loop-alloc-test.true) in
     let so_far : IsSoFar text place.rest.now place.style end.rest.now end.style old count =
     record { walked = c.loop-alloc.invariant.walked; gathered = c.loop-alloc.invariant.gathered; row = c.loop-alloc.invariant.row } in
@@ -205,29 +224,36 @@ loop-alloc-preserved c =
       row = later.row;
       whole = λ is. c.loop-alloc.invariant.whole (c.loop-alloc.invariant.closes (whole-byte end.rest.now next some so_far.walked.ends.shows_text c.behind_separator.ensures is));
       closes = c.in-Some-cell_end.ensures.whole;
+      passes = c.in-Some-cell_end.ensures.passes;
     }
 
-pub push_cell-requires-then-count-gt0 : goal.push_cell-requires-then-count-gt0
-push_cell-requires-then-count-gt0 c =
-    begins-part c.args.text.now c.loop-alloc.place.rest.now c.loop-alloc.place.style c.loop-alloc.end.rest.now c.loop-alloc.end.style c.loop-alloc.found c.loop-alloc.count
+pub push_cell-requires-measured-then-count-gt0 : goal.push_cell-requires-measured-then-count-gt0
+push_cell-requires-measured-then-count-gt0 c =
+    takes-columns c.args.text.now c.loop-alloc.place.rest.now c.loop-alloc.place.style c.loop-alloc.end.place.rest.now c.loop-alloc.end.place.style c.loop-alloc.found c.loop-alloc.count
+    (record { walked = c.loop-alloc.invariant.walked; gathered = c.loop-alloc.invariant.gathered; row = c.loop-alloc.invariant.row })
+    c.loop-alloc.end.size c.loop-alloc.end.printable c.loop-alloc.invariant.passes
+
+pub push_cell-requires-begins-then-count-gt0 : goal.push_cell-requires-begins-then-count-gt0
+push_cell-requires-begins-then-count-gt0 c =
+    begins-part c.args.text.now c.loop-alloc.place.rest.now c.loop-alloc.place.style c.loop-alloc.end.place.rest.now c.loop-alloc.end.place.style c.loop-alloc.found c.loop-alloc.count
     (record { walked = c.loop-alloc.invariant.walked; gathered = c.loop-alloc.invariant.gathered; row = c.loop-alloc.invariant.row })
 
 pub overflow_add-count-then-count-gt0 : goal.overflow_add-count-then-count-gt0
 overflow_add-count-then-count-gt0 c =
-    count-fits c.args.text.now c.loop-alloc.place.rest.now c.loop-alloc.place.style c.loop-alloc.end.rest.now c.loop-alloc.end.style c.loop-alloc.found c.loop-alloc.count
+    count-fits c.args.text.now c.loop-alloc.place.rest.now c.loop-alloc.place.style c.loop-alloc.end.place.rest.now c.loop-alloc.end.place.style c.loop-alloc.found c.loop-alloc.count
     (record { walked = c.loop-alloc.invariant.walked; gathered = c.loop-alloc.invariant.gathered; row = c.loop-alloc.invariant.row })
     c.push_cell-then-count-gt0.new.cells c.in_ok-push_cell-2.ensures.cells
 
 -- no sequence was broken up to the end
 whole-text : (c : goal.Joined-count-gt0) → IsWhole c.args.text.now
 whole-text c =
-    c.loop-alloc.invariant.whole (c.loop-alloc.invariant.closes (whole-nothing c.loop-alloc.end.rest.now (eqb-true (length c.loop-alloc.end.rest.now) 0 (sym c.is_empty.ensures ∙ c.loop-alloc-test.false))))
+    c.loop-alloc.invariant.whole (c.loop-alloc.invariant.closes (whole-nothing c.loop-alloc.end.place.rest.now (eqb-true (length c.loop-alloc.end.place.rest.now) 0 (sym c.is_empty.ensures ∙ c.loop-alloc-test.false))))
 
 all : (c : goal.Joined-count-gt0) → IsAll c.args.text.now c.if-count-gt0.found
 all c =
     let text = c.args.text.now in
     let place = c.loop-alloc.place in
-    let end = c.loop-alloc.end in
+    let end = c.loop-alloc.end.place in
     let old = c.loop-alloc.found in
     let count = c.loop-alloc.count in
     let gone = eqb-true (length end.rest.now) 0 (sym c.is_empty.ensures ∙ c.loop-alloc-test.false) in

@@ -1,16 +1,18 @@
 use Rattle.std.proofs.Common.{◌≡◌, ◌+◌, length, string_bytes, sum}
 use Rattle.ansi_scan.specs.Sequences.{IsWhole}
+use Rattle.columns_run.specs.Ends.{Passes}
 use Rattle.columns_run.proofs.GatherLemmas.{Gathered, parts_in}
 use Rattle.columns_run.proofs.WalkLemmas.{Walked}
 use Rattle.columns_run.proofs.styled_rows.styled_cells.Given as goal
 
 abbrev pub invariant-loop-alloc : goal.invariant-loop-alloc
 invariant-loop-alloc l = record {
-  walked : Walked l.text l.place.rest.now l.place.style l.end.rest.now l.end.style l.found.counts.items (sum l.found.counts.items) (parts_in (string_bytes l.found.text) l.found.ends);
+  walked : Walked l.text l.place.rest.now l.place.style l.end.place.rest.now l.end.place.style l.found.counts.items (sum l.found.counts.items) (parts_in (string_bytes l.found.text) l.found.ends);
   gathered : Gathered (string_bytes l.found.text) l.found.ends;
   row : sum l.found.counts.items + l.count ≡ length l.found.ends;
   whole : IsWhole l.place.rest.now → IsWhole l.text;
-  closes : IsWhole l.end.rest.now → IsWhole l.place.rest.now;
+  passes : Passes l.place.rest.now l.end.place.rest.now l.end.size l.end.printable;
+  closes : IsWhole l.end.place.rest.now → IsWhole l.place.rest.now;
 }
 
 abbrev pub decreases-loop-alloc : goal.decreases-loop-alloc
