@@ -9,3 +9,4 @@ pub use Rattle.tabled_width_tables.specs.Tables
 pub mod Measures
 pub mod Lists
 pub mod Options
+pub mod Order
