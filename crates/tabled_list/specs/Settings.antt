@@ -12,7 +12,8 @@ use Rattle.tabled_steps.specs.States.{Outcome, Settles, State, looking, positive
 use Rattle.tabled_width.specs.Breaking.{breaking, justifying, wrapping_wider}
 use Rattle.tabled_width.specs.Cutting.{Cutting, truncating}
 use Rattle.tabled_width.specs.Filling.{filling}
-use Rattle.tabled_width.specs.Steps.{Measured, with_width_list}
+use Rattle.tabled_width.specs.Lists.{with_width_list}
+use Rattle.tabled_width.specs.Steps.{Measured}
 use Rattle.tabled_list.specs.Amounts.{height_of, width_of}
 use Rattle.tabled_list.specs.Priorities.{LimitsBy, NarrowsBy, RaisesBy, WidensBy}
 use Rattle.tabled_list.specs.declared.amount.Amount.{Amount}

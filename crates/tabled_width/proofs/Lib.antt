@@ -1,10 +1,5 @@
 pub mod Measuring
-pub mod Lining
-pub mod Totalling
+pub mod Percents
 pub mod Stepping
-pub mod Rooming
-pub mod Drawing
 pub mod Tabling
-pub mod Keeping
-pub mod Unbroken
 pub mod Sparing

@@ -1,19 +1,11 @@
 -- The greatest and the least of measures, with one more.
-use Rattle.std.proofs.Common.{◌≡◌, ℕ, zero, suc, ◌+◌, ◌<◌, ◌≤◌, ◌==◌, nat_lt, Bool, true, false, None, Some, List, [], ◌∷◌, ◌++◌, length, map, max, min, refl, ap, sym, ◌∙◌, arith, if◌then◌else◌}
+use Rattle.std.proofs.Common.{◌≡◌, ℕ, zero, suc, ◌+◌, ◌<◌, ◌==◌, Bool, false, List, [], ◌∷◌, ◌++◌, length, map, max, min, refl, ap, sym, ◌∙◌, arith, if◌then◌else◌}
 use Rattle.std.specs.List.{range_with_len}
 use Rattle.std.proofs.lemmas.Bool.Decides.{nat_tests}
 use Rattle.std.proofs.lemmas.List.FromFn.{length-map-range_with_len, map-range_with_len_more}
-use Rattle.ansi_scan.specs.Pieces.{pieces}
-use Rattle.ansi_scan.proofs.Existence.{ArePiecesOf-pieces}
 use Rattle.grid_records_estimate.specs.Estimates.{greatest}
 use Rattle.grid_records_estimate.proofs.CollectLemmas.{greatest-append}
-use Rattle.grid_records_measure.specs.TextLines.{text_width}
-use Rattle.grid_records_traits.specs.Cells.{HasWidth}
 use Rattle.tabled_width.specs.Measures.{least}
-
-pub text_width-is : (text : List ℕ) (width : ℕ) → HasWidth text width → width ≡ text_width text
-unfolding text_width
-text_width-is text width h = h (pieces text) (ArePiecesOf-pieces text)
 
 pub greatest-next : (f : ℕ → ℕ) (n : ℕ) → greatest (map f (range_with_len 0 (n + 1))) ≡ max (greatest (map f (range_with_len 0 n))) (f n)
 greatest-next f n =
@@ -38,24 +30,3 @@ least-next f (suc n) so_far is =
     let some : 0 < length before = omega (arith, length-map-range_with_len f 0 (suc n)) in
     let more : (suc n == 0) ≡ false = grind (arith, nat_tests) in
     ap (λ (first : Bool). if first then f (suc n) else min so_far (f (suc n))) more ∙ ap (λ m. min m (f (suc n))) is ∙ sym (ap least (map-range_with_len_more f 0 (suc n) (suc n) here) ∙ least-push before (f (suc n)) some)
-
--- ---- a measure compared with a width
-
-less : (n m : ℕ) → n < m → nat_lt n m ≡ true
-less n m lt = grind (arith, nat_tests)
-
-not_less : (n m : ℕ) → m ≤ n → nat_lt n m ≡ false
-not_less n m le = grind (arith, nat_tests)
-
-module _ (text : List ℕ) (n m : ℕ) (measured : HasWidth text n) (out : List ℕ) where
-  pub narrow_stays : m ≤ n → None ≡ (if nat_lt (text_width text) m then Some out else None)
-  narrow_stays le = sym (ap (λ (b : Bool). if b then Some out else None) (ap (λ k. nat_lt k m) (sym (text_width-is text n measured)) ∙ not_less n m le))
-
-  pub narrow_changes : n < m → Some out ≡ (if nat_lt (text_width text) m then Some out else None)
-  narrow_changes lt = sym (ap (λ (b : Bool). if b then Some out else None) (ap (λ k. nat_lt k m) (sym (text_width-is text n measured)) ∙ less n m lt))
-
-  pub wide_stays : n ≤ m → None ≡ (if nat_lt m (text_width text) then Some out else None)
-  wide_stays le = sym (ap (λ (b : Bool). if b then Some out else None) (ap (λ k. nat_lt m k) (sym (text_width-is text n measured)) ∙ not_less m n le))
-
-  pub wide_changes : m < n → Some out ≡ (if nat_lt m (text_width text) then Some out else None)
-  wide_changes lt = sym (ap (λ (b : Bool). if b then Some out else None) (ap (λ k. nat_lt m k) (sym (text_width-is text n measured)) ∙ less m n lt))

@@ -9,7 +9,7 @@ use Rattle.grid_records_measure.specs.TextLines.{text_width}
 use Rattle.grid_records_traits.specs.Rows.{text_at}
 use Rattle.tabled_steps.specs.Outcomes.{◌≫=◌, all_sized, sized}
 use Rattle.tabled_steps.specs.Sizes.{natural_widths}
-use Rattle.tabled_width.specs.Widths.{table_width}
+use Rattle.tabled_width_tables.specs.Widths.{table_width}
 
 -- the least of the numbers, and 0 where there is none
 abbrev pub least : List ℕ → ℕ

@@ -1,11 +1,10 @@
 -- What the options of widths are made of.
 use Rattle.std.specs.Prelude.{ℕ, Bool}
-use Rattle.tabled_width.specs.declared.cutting.Cut.{Cut}
 use Rattle.tabled_width.specs.declared.justify.Justify.{Justify}
 use Rattle.tabled_width.specs.declared.min_width.MinWidth.{MinWidth}
 use Rattle.tabled_width.specs.declared.truncate.Truncate.{Truncate}
 use Rattle.tabled_width.specs.declared.wrap.Wrap.{Wrap}
-use Rattle.tabled_width.specs.Cutting.{Cutting}
+use Rattle.tabled_width_texts.specs.Cutting.{Cutting}
 
 -- the width, whether words are kept whole that fit, and the priority of the columns
 pub record Wrapping (W P : Type 0) : Type 0 where
@@ -24,10 +23,6 @@ pub record Widening (W P : Type 0) : Type 0 where
 
 abbrev pub widening : {W P : Type 0} → MinWidth W P → Widening W P
 widening option = record { width = option.width; fill = option.fill; priority = option.priority }
-
--- how texts are cut
-abbrev pub cutting_of : Cut → Cutting
-cutting_of cut = record { suffix = cut.suffix.now; limit = cut.limit; multiline = cut.multiline; try_color = cut.try_color }
 
 -- the width, how texts are cut to it, and the priority of the columns
 pub record Truncation (W P : Type 0) : Type 0 where

@@ -1,23 +1,19 @@
 //! Cells that are all as wide.
-ghost use Rattle.std.specs.Prelude.{◌≡◌, IfOk, Some};
+ghost use Rattle.std.specs.Prelude.{◌≡◌, Some};
 ghost use Rattle.grid_config_values.specs.declared.entity.Entity.TheVariants.{Global as EveryCell};
-ghost use Rattle.grid_records_traits.specs.Cells.{HasWidth};
 ghost use Rattle.tabled_steps.specs.Changes.{changing};
-ghost use Rattle.tabled_width.specs.Breaking.{cutting_wider, justifying};
+ghost use Rattle.tabled_width_texts.specs.Breaking.{justifying};
 ghost use Rattle.tabled_width.specs.Options.{justified_width};
-ghost use Rattle.tabled_width.specs.Steps.{Measured};
+ghost use Rattle.tabled_width_tables.specs.Steps.{Measured};
 
-use crate::cells::change_cells;
-use crate::filling::fill_lines;
-use crate::room::RoomChange;
 use crate::width::Width;
-use grid_config::{ColoredConfig, Entity, Fault, Position};
-use grid_records_rows::{FromText, Text, VecRecords};
-use grid_records_traits::records::{Cell, PeekableRecords};
-use std::alloc::{AllocError, Global};
+use grid_config::{ColoredConfig, Entity, Fault};
+use grid_records_rows::{FromText, VecRecords};
+use std::alloc::Global;
 use tabled_size_dimension::CompleteDimension;
-use tabled_size_wrap::cut_styled;
 use tabled_steps::{Max, Measurement, Min, TableOption};
+use tabled_width_tables::change_cells;
+use tabled_width_texts::Justifying;
 
 /// Makes each cell of a table as wide: what is narrower is filled with spaces, and what is wider then is
 /// cut.
@@ -73,46 +69,4 @@ impl<T: FromText, W: Measurement<Width> + Drop> TableOption<
     fn hint_change(&self) -> Option<Entity> {
         Some(Entity::Global)
     }
-}
-
-// Fills a text with spaces, and then cuts it.
-#[derive(Drop)]
-struct Justifying;
-
-impl RoomChange for Justifying {
-    ghost fitted = { λ _. justifying };
-
-    fn fit<R: PeekableRecords>(
-        &self,
-        alloc: Global,
-        records: &R,
-        pos: Position,
-        room: usize,
-    ) -> Result<Option<Text>, AllocError> {
-        let text = records.get_text(pos);
-        let width = records.get_width(pos);
-        if width >= room {
-            return cut_measured(alloc, text, width, room);
-        }
-        let filled = Text::new(alloc, fill_lines(alloc, text, room, ' ')?)?;
-        let cut = cut_measured(alloc, filled.text(), filled.width(), room)?;
-        Ok(cut.or(Some(filled)))
-    }
-}
-
-// The cut of a text that measures so many columns, where they are more than the width.
-fn cut_measured(
-    alloc: Global,
-    text: &str,
-    columns: usize,
-    width: usize,
-) -> Result<Option<Text>, AllocError>
-    requires { HasWidth text.now columns }
-    ensures { IfOk result (λ out. out ≡ cutting_wider width text.now) }
-{
-    if columns <= width {
-        return Ok(None);
-    }
-    let cut = cut_styled(alloc, text, width)?.into_owned(alloc)?;
-    Ok(Some(Text::new(alloc, cut)?))
 }

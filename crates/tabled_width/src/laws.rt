@@ -3,6 +3,7 @@
 ghost use Rattle.std.specs.Prelude.{◌≡◌, ◌↔◌, Bool, false, true, ℕ, List, None, Ok, Result, Some, [], ◌∷◌, ◌++◌, codes};
 ghost use Rattle.std.specs.Global.{Vec as VecOf};
 ghost use Rattle.std.specs.declared.cmp.Ordering.TheVariants.{Equal};
+ghost use Rattle.std.specs.Ordering.{nat_cmp};
 ghost use Rattle.grid_config.specs.Looks.{Look};
 ghost use Rattle.grid_config_values.specs.declared.entity.Entity.{Entity as Cells};
 ghost use Rattle.grid_config_values.specs.declared.entity.Entity.TheVariants.{Global as EveryCell, Row as OneRow};
@@ -15,15 +16,17 @@ ghost use Rattle.tabled_steps.specs.declared.measurement.Min.{Min as LeastThatHo
 ghost use Rattle.tabled_steps.specs.declared.measurement.Percent.{Percent as Hundredths};
 ghost use Rattle.tabled_steps.specs.Worked.{letters};
 ghost use Rattle.tabled_width.specs.Measures.{greatest_least_width, greatest_width, least, percent_of_width};
-ghost use Rattle.tabled_width.specs.Steps.{Measured, with_width_list};
+ghost use Rattle.tabled_width.specs.Lists.{with_width_list};
+ghost use Rattle.tabled_width_tables.specs.Steps.{Measured};
 ghost use Rattle.tabled_width.specs.Options.{justified_width, truncation, widening, wrapping};
-ghost use Rattle.tabled_width.specs.Tables.{NarrowsTable, WidensTable};
-ghost use Rattle.tabled_width.specs.Cutting.{Cutting, truncating};
-ghost use Rattle.tabled_width.specs.Rooms.{column_widths, in_room};
+ghost use Rattle.tabled_width.specs.Order.{truncation_cmp, widening_cmp};
+ghost use Rattle.tabled_width_tables.specs.Tables.{NarrowsTable, WidensTable};
+ghost use Rattle.tabled_width_texts.specs.Cutting.{Cutting, truncating};
+ghost use Rattle.tabled_width_tables.specs.Rooms.{column_widths, in_room};
 ghost use Rattle.tabled_size_wrap.specs.Bytes.{wrapped_text};
-ghost use Rattle.tabled_width.specs.Staying.{stays};
-ghost use Rattle.tabled_width.specs.Breaking.{breaking, breaking_others, cutting_wider, justifying, one_then_other, wrapping_wider};
-ghost use Rattle.tabled_width.specs.Filling.{filling};
+ghost use Rattle.tabled_width_texts.specs.Staying.{stays};
+ghost use Rattle.tabled_width_texts.specs.Breaking.{breaking, breaking_others, cutting_wider, justifying, one_then_other, wrapping_wider};
+ghost use Rattle.tabled_width_texts.specs.Filling.{filling};
 ghost use Rattle.tabled_width.specs.declared.min_width.MinWidth.{MinWidth as OneMinWidth};
 ghost use Rattle.tabled_width.specs.declared.truncate.Truncate.{Truncate as OneTruncate};
 ghost use Rattle.tabled_width.specs.declared.wrap.Wrap.{Wrap as OneWrap};
@@ -153,6 +156,18 @@ pub fn options_are_compared_whole<'a>()
     ensures cutting { (a b : OneTruncate ℕ ℕ) → (⟦<Truncate<'a, usize, PriorityNone> as PartialEq>⟧.eq a b ≡ true) ↔ (truncation a ≡ truncation b) }
     ensures justifying { (a b : OneJustify ℕ) → (⟦<Justify<usize> as PartialEq>⟧.eq a b ≡ true) ↔ (justified_width a ≡ justified_width b) }
     ensures justifying_order { (a b : OneJustify ℕ) → (⟦<Justify<usize> as Ord>⟧.cmp a b ≡ Equal) ↔ (justified_width a ≡ justified_width b) }
+{}
+
+/// `cmp` of options by numbers goes by their parts, one after the other: by the width, the character after
+/// lines and the priority; or by the width, the suffix byte by byte, its limit, the two switches and the
+/// priority. `partial_cmp` answers the same.
+pub fn options_are_ordered_by_their_parts<'a>()
+    ensures widening { (a b : OneMinWidth ℕ ℕ) → ⟦<MinWidth<usize, PriorityNone> as Ord>⟧.cmp a b ≡ widening_cmp (widening a) (widening b) }
+    ensures widening_partly { (a b : OneMinWidth ℕ ℕ) → ⟦<MinWidth<usize, PriorityNone> as PartialOrd>⟧.partial_cmp a b ≡ Some (widening_cmp (widening a) (widening b)) }
+    ensures cutting { (a b : OneTruncate ℕ ℕ) → ⟦<Truncate<'a, usize, PriorityNone> as Ord>⟧.cmp a b ≡ truncation_cmp (truncation a) (truncation b) }
+    ensures cutting_partly { (a b : OneTruncate ℕ ℕ) → ⟦<Truncate<'a, usize, PriorityNone> as PartialOrd>⟧.partial_cmp a b ≡ Some (truncation_cmp (truncation a) (truncation b)) }
+    ensures justifying { (a b : OneJustify ℕ) → ⟦<Justify<usize> as Ord>⟧.cmp a b ≡ nat_cmp (justified_width a) (justified_width b) }
+    ensures justifying_partly { (a b : OneJustify ℕ) → ⟦<Justify<usize> as PartialOrd>⟧.partial_cmp a b ≡ Some (nat_cmp (justified_width a) (justified_width b)) }
 {}
 
 /// A clone of an option holds the same, where clones of its width and of its priority are the same.

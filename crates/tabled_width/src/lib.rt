@@ -1,21 +1,11 @@
 //! Options of a table's widths: each is one step of it.
 #![tactic(auto)]
 
-mod cells;
-mod columns;
-mod cutting;
-mod drawn;
-mod filling;
 mod justify;
-mod last;
 pub mod laws;
-mod lines;
 mod list;
 mod measures;
 mod min_width;
-mod room;
-mod rooms;
-mod staying;
 mod table;
 mod truncate;
 mod width;

@@ -1,7 +1,7 @@
 //! Lists of widths.
 ghost use Rattle.std.specs.Prelude.{◌≡◌, IfOk, IsOk, List, None, Option, ℕ};
 ghost use Rattle.std.specs.Iterator.{Drains, IsFinite};
-ghost use Rattle.tabled_width.specs.Steps.{with_width_list};
+ghost use Rattle.tabled_width.specs.Lists.{with_width_list};
 ghost use Rattle.tabled_steps.specs.States.{Steps, state_with};
 ghost use Rattle.grid_config.specs.Looks.{look_of};
 ghost use Rattle.grid_config_values.specs.Settings.{value_at};

@@ -4,7 +4,6 @@ ghost use Rattle.grid_records_estimate.specs.Estimates.{greatest};
 ghost use Rattle.tabled_steps.specs.Outcomes.{sized};
 ghost use Rattle.tabled_width.specs.Measures.{greatest_least_width, greatest_width, least, percent_of_width, row_widths};
 
-use crate::columns::table_width;
 use crate::width::Width;
 use grid_config::{Fault, Position, SpannedConfig};
 use grid_records_estimate::IterGridDimension;
@@ -12,6 +11,7 @@ use grid_records_rows::PeekedRecords;
 use grid_records_traits::records::{ExactRecords, PeekableRecords};
 use std::alloc::Global;
 use tabled_steps::{Max, Measurement, Min, Percent};
+use tabled_width_tables::table_width;
 
 /// The greatest measure of a cell. It is never refused.
 impl Measurement<Width> for Max {

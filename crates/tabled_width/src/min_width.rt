@@ -2,13 +2,11 @@
 ghost use Rattle.std.specs.Prelude.{◌≡◌, None, Some};
 ghost use Rattle.grid_config_values.specs.declared.entity.Entity.TheVariants.{Global as EveryCell};
 ghost use Rattle.tabled_steps.specs.Changes.{changing};
-ghost use Rattle.tabled_width.specs.Filling.{filling};
+ghost use Rattle.tabled_width_texts.specs.Filling.{filling};
 ghost use Rattle.tabled_width.specs.Options.{widening};
-ghost use Rattle.tabled_width.specs.Steps.{Measured};
-ghost use Rattle.tabled_width.specs.Tables.{WidensTable};
+ghost use Rattle.tabled_width_tables.specs.Steps.{Measured};
+ghost use Rattle.tabled_width_tables.specs.Tables.{WidensTable};
 
-use crate::cells::change_cells;
-use crate::filling::Filling;
 use crate::table::widen_table;
 use crate::width::Width;
 use grid_config::{ColoredConfig, Entity, Fault};
@@ -17,6 +15,8 @@ use std::alloc::Global;
 use tabled_size_dimension::CompleteDimension;
 use tabled_size_priority::{Peaker, PriorityNone};
 use tabled_steps::{CellOption, Measurement, TableOption};
+use tabled_width_tables::change_cells;
+use tabled_width_texts::Filling;
 
 /// Makes a table at least so wide, by wider columns, or the lines of cells, by a character after them.
 #[derive(Clone, Copy, Debug, PartialEq, Eq, PartialOrd, Ord)]

@@ -1,22 +1,21 @@
-//! Tables that become narrower or wider as a whole.
-ghost use Rattle.std.specs.Prelude.{◌≡◌, ◌<◌, ℕ, Option, Some, length};
+//! Tables that become narrower or wider than a width that is measured.
+ghost use Rattle.std.specs.Prelude.{Option};
 ghost use Rattle.grid_config_colors.specs.Colors.{Color};
 ghost use Rattle.grid_config_values.specs.declared.position.Position.{Position as Place};
 ghost use Rattle.grid_config.specs.Looks.{look_of};
 ghost use Rattle.tabled_steps.specs.States.{Steps, state_with};
-ghost use Rattle.tabled_width.specs.Tables.{Narrows, NarrowsTable, Widens, WidensTable};
+ghost use Rattle.tabled_width_tables.specs.Tables.{NarrowsTable, WidensTable};
 
-use crate::drawn::{Drawn, grown, least_widths, shrunk};
-use crate::room::RoomChange;
-use crate::rooms::InRooms;
 use crate::width::Width;
-use grid_config::{Entity, Fault, SpannedConfig};
+use grid_config::{Fault, SpannedConfig};
 use grid_records_rows::{FromText, VecRecords};
 use grid_records_traits::records::{ExactRecords, RecordColumns, RecordTexts};
 use std::alloc::Global;
 use tabled_size_dimension::CompleteDimension;
 use tabled_size_priority::Peaker;
-use tabled_steps::{Measurement, change_texts};
+use tabled_steps::Measurement;
+use tabled_width_tables::{narrow, widen};
+use tabled_width_texts::RoomChange;
 
 /// Where the table takes more than the width, its columns shrink by the priority, not below their least,
 /// and each text changes in its room; the heights are not kept then. What is estimated is kept. Nothing is
@@ -60,68 +59,4 @@ pub(crate) fn widen_table<T: FromText, W: Measurement<Width>, P: Peaker + Drop>(
     }
     let asked = width.measure(alloc, records, cfg)?;
     widen(alloc, records, cfg, dims, asked, priority)
-}
-
-// The same to a width that is known, of a table that has cells.
-fn narrow<T: FromText, P: Peaker + Drop, X: RoomChange>(
-    alloc: Global,
-    records: &mut VecRecords<T>,
-    cfg: &SpannedConfig,
-    dims: &mut CompleteDimension,
-    asked: usize,
-    priority: P,
-    change: &X,
-) -> Result<(), Fault>
-    requires { 0 < length (⟦<VecRecords<T> as RecordTexts>⟧.rows records.old) }
-    ensures { (colors : Place → Option Color) → Steps (Narrows P.shrinks priority (X.fitted change.now) asked) result
-        (state_with (⟦<VecRecords<T> as RecordTexts>⟧.rows records.old) (look_of cfg.now) colors dims.old) (state_with (⟦<VecRecords<T> as RecordTexts>⟧.rows records.new) (look_of cfg.now) colors dims.new) }
-{
-    let drawn = Drawn::estimate(alloc, &*records, cfg, &*dims)?;
-    if drawn.whole <= asked {
-        keep(dims, drawn);
-        return Ok(());
-    }
-    let least = least_widths(alloc, cfg, records.count_columns(), records.count_rows())?;
-    let widths = shrunk(priority, drawn.columns, &least, drawn.whole - asked);
-    let rooms = InRooms {
-        cfg,
-        least: &least,
-        widths: &widths,
-        change,
-    };
-    change_texts(alloc, records, Entity::Global, &rooms)?;
-    dims.set_widths(widths);
-    dims.clear_height();
-    Ok(())
-}
-
-// The same to a width that is known.
-fn widen<T: FromText, P: Peaker + Drop>(
-    alloc: Global,
-    records: &VecRecords<T>,
-    cfg: &SpannedConfig,
-    dims: &mut CompleteDimension,
-    asked: usize,
-    priority: P,
-) -> Result<(), Fault>
-    ensures { (colors : Place → Option Color) → let rows = ⟦<VecRecords<T> as RecordTexts>⟧.rows records.now in
-        Steps (Widens P.grows priority asked) result (state_with rows (look_of cfg.now) colors dims.old) (state_with rows (look_of cfg.now) colors dims.new) }
-{
-    let drawn = Drawn::estimate(alloc, records, cfg, &*dims)?;
-    if asked <= drawn.whole {
-        keep(dims, drawn);
-        return Ok(());
-    }
-    let widths = grown(priority, drawn.columns, asked - drawn.whole);
-    dims.set_widths(widths);
-    dims.set_heights(drawn.heights);
-    Ok(())
-}
-
-// Keeps these sizes.
-fn keep(dims: &mut CompleteDimension, drawn: Drawn)
-    ensures { dims.new ≡ record { widths = Some drawn.widths.items; heights = Some drawn.heights.items } }
-{
-    dims.set_widths(drawn.widths);
-    dims.set_heights(drawn.heights);
 }

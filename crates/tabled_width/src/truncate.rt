@@ -6,13 +6,12 @@ ghost use Rattle.grid_config_values.specs.declared.entity.Entity.TheVariants.{Gl
 ghost use Rattle.tabled_size_dimension.specs.declared.suffix.SuffixLimit.TheVariants.{Cut as CutSuffix};
 ghost use Rattle.tabled_size_wrap.specs.Bytes.{cut_at};
 ghost use Rattle.tabled_steps.specs.Changes.{changing};
-ghost use Rattle.tabled_width.specs.Cutting.{truncating};
-ghost use Rattle.tabled_width.specs.Options.{cutting_of, truncation};
-ghost use Rattle.tabled_width.specs.Steps.{Measured};
-ghost use Rattle.tabled_width.specs.Tables.{NarrowsTable};
+ghost use Rattle.tabled_width_texts.specs.Cutting.{truncating};
+ghost use Rattle.tabled_width.specs.Options.{truncation};
+ghost use Rattle.tabled_width_tables.specs.Steps.{Measured};
+ghost use Rattle.tabled_width_tables.specs.Tables.{NarrowsTable};
+ghost use Rattle.tabled_width_texts.specs.Cuts.{cutting_of};
 
-use crate::cells::change_cells;
-use crate::cutting::Cut;
 use crate::table::narrow_table;
 use crate::width::Width;
 use grid_config::{ColoredConfig, Entity, Fault};
@@ -24,6 +23,8 @@ use tabled_size_dimension::{CompleteDimension, SuffixLimit};
 use tabled_size_priority::{Peaker, PriorityNone};
 use tabled_size_wrap::cut_styled;
 use tabled_steps::{CellOption, Measurement, TableOption};
+use tabled_width_tables::change_cells;
+use tabled_width_texts::Cut;
 
 /// Cuts the texts of a table, or of cells, so that it is, or they are, at most so wide, in columns of the
 /// terminal; a suffix may stand after a cut.

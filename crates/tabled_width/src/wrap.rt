@@ -3,24 +3,22 @@ ghost use Rattle.std.specs.Prelude.{◌≡◌, IfOk, Some, false, string_bytes};
 ghost use Rattle.grid_config_values.specs.declared.entity.Entity.TheVariants.{Global as EveryCell, Row as OneRow};
 ghost use Rattle.tabled_size_wrap.specs.Bytes.{wrapped_text};
 ghost use Rattle.tabled_steps.specs.Changes.{changing};
-ghost use Rattle.tabled_width.specs.Breaking.{breaking, breaking_others, wrapping_wider};
+ghost use Rattle.tabled_width_texts.specs.Breaking.{breaking, wrapping_wider};
 ghost use Rattle.tabled_width.specs.Options.{wrapping};
-ghost use Rattle.tabled_width.specs.Steps.{Measured};
-ghost use Rattle.tabled_width.specs.Tables.{NarrowsTable};
+ghost use Rattle.tabled_width_tables.specs.Steps.{Measured};
+ghost use Rattle.tabled_width_tables.specs.Tables.{NarrowsTable};
 
-use crate::cells::change_cells;
-use crate::room::RoomChange;
-use crate::staying::stays;
 use crate::table::narrow_table;
 use crate::width::Width;
-use grid_config::{ColoredConfig, Entity, Fault, Position};
-use grid_records_rows::{FromText, Text, VecRecords};
-use grid_records_traits::records::PeekableRecords;
+use grid_config::{ColoredConfig, Entity, Fault};
+use grid_records_rows::{FromText, VecRecords};
 use std::alloc::{AllocError, Global};
 use tabled_size_dimension::CompleteDimension;
 use tabled_size_priority::{Peaker, PriorityNone};
 use tabled_size_wrap::wrap_styled;
 use tabled_steps::{CellOption, Measurement, TableOption};
+use tabled_width_tables::change_cells;
+use tabled_width_texts::{Breaking, WrappingWider};
 
 /// Breaks the texts of a table, or of cells, so that it is, or they are, at most so wide, in columns of the
 /// terminal.
@@ -151,54 +149,5 @@ impl<T: FromText, W: Measurement<Width> + Drop, P: Peaker + Drop> TableOption<
 
     fn hint_change(&self) -> Option<Entity> {
         Some(Entity::Row(0))
-    }
-}
-
-// Breaks a text. One that plainly stays as it is isn't copied.
-#[derive(Drop)]
-struct Breaking {
-    keep_words: bool,
-}
-
-impl RoomChange for Breaking {
-    ghost fitted = { λ change. breaking_others change.keep_words };
-
-    fn fit<R: PeekableRecords>(
-        &self,
-        alloc: Global,
-        records: &R,
-        pos: Position,
-        room: usize,
-    ) -> Result<Option<Text>, AllocError> {
-        let text = records.get_text(pos);
-        if stays(text, room, self.keep_words) {
-            return Ok(None);
-        }
-        let broken = wrap_styled(alloc, text, room, self.keep_words)?;
-        Ok(Some(Text::new(alloc, broken)?))
-    }
-}
-
-// Breaks a text that measures more than the width.
-#[derive(Drop)]
-struct WrappingWider {
-    keep_words: bool,
-}
-
-impl RoomChange for WrappingWider {
-    ghost fitted = { λ change. wrapping_wider change.keep_words };
-
-    fn fit<R: PeekableRecords>(
-        &self,
-        alloc: Global,
-        records: &R,
-        pos: Position,
-        room: usize,
-    ) -> Result<Option<Text>, AllocError> {
-        if records.get_width(pos) <= room {
-            return Ok(None);
-        }
-        let broken = wrap_styled(alloc, records.get_text(pos), room, self.keep_words)?;
-        Ok(Some(Text::new(alloc, broken)?))
     }
 }

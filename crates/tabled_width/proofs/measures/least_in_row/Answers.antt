@@ -2,7 +2,8 @@ use Rattle.std.proofs.Common.{◌≡◌, ◌==◌, ℕ, ap, ◌∙◌, min, if�
 use Rattle.grid_records_estimate.specs.Sizing.{place}
 use Rattle.grid_records_measure.specs.TextLines.{text_width}
 use Rattle.grid_records_traits.specs.Rows.{text_at}
-use Rattle.tabled_width.proofs.Measuring.{least-next, text_width-is}
+use Rattle.tabled_width_texts.proofs.Measuring.{text_width-is}
+use Rattle.tabled_width.proofs.Measuring.{least-next}
 use Rattle.tabled_width.proofs.measures.least_in_row.Goals as goal
 
 pub loop-column-preserved : goal.loop-column-preserved

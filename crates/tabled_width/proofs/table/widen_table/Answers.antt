@@ -4,8 +4,8 @@ use Rattle.grid_records_rows.specs.Sources.{columns_of}
 use Rattle.grid_records_traits.specs.Sources.{texts_of_rows}
 use Rattle.tabled_steps.proofs.Changing.{count_texts}
 use Rattle.tabled_steps.specs.States.{Outcome, State, column_count, state_with}
-use Rattle.tabled_width.specs.Steps.{Measured}
-use Rattle.tabled_width.specs.Tables.{Widens, has_cells}
+use Rattle.tabled_width_tables.specs.Steps.{Measured}
+use Rattle.tabled_width_tables.specs.Tables.{Widens, has_cells}
 use Rattle.tabled_width.proofs.Stepping.{measured_steps}
 use Rattle.tabled_width.proofs.Tabling.{some_cells, where_holds}
 use Rattle.tabled_width.proofs.table.widen_table.Goals as goal

@@ -2,8 +2,8 @@ use Rattle.std.proofs.Common.{◌≡◌, ℕ, List, Ok, ap, subst, ◌∙◌}
 use Rattle.std.proofs.lemmas.Result.{err_from_is_err_and}
 use Rattle.grid_config.specs.Looks.{look_of}
 use Rattle.tabled_steps.specs.Outcomes.{all_sized, sized}
-use Rattle.tabled_width.specs.Widths.{table_width}
-use Rattle.tabled_width.proofs.Totalling.{natural-peeked, percent-is, percent-no_product, percent-no_whole, percent-no_widths}
+use Rattle.tabled_width_tables.specs.Widths.{table_width}
+use Rattle.tabled_width.proofs.Percents.{natural-peeked, percent-is, percent-no_product, percent-no_whole, percent-no_widths}
 use Rattle.tabled_width.proofs.measures.PercentMeasurementWidth.measure.Goals as goal
 
 pub returns-in_err-widths : goal.returns-in_err-widths

@@ -6,7 +6,7 @@ use Rattle.grid_records_traits.specs.Sources.{texts_of_rows}
 use Rattle.tabled_steps.proofs.Changing.{count_texts}
 use Rattle.tabled_steps.specs.Changes.{changing}
 use Rattle.tabled_steps.specs.States.{Outcome, State, StepsTo, state_with}
-use Rattle.tabled_width.specs.Cutting.{Cutting, truncating}
+use Rattle.tabled_width_texts.specs.Cutting.{Cutting, truncating}
 use Rattle.tabled_width.specs.Options.{truncation}
 use Rattle.tabled_width.proofs.Stepping.{measured_steps}
 use Rattle.tabled_width.proofs.truncate.TruncateCellOptionVecRecordsColoredConfig.change.Goals as goal

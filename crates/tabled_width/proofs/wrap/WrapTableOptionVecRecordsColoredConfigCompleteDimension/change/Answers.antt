@@ -4,8 +4,8 @@ use Rattle.grid_config.specs.Looks.{look_of}
 use Rattle.grid_config.specs.Settings.{Settings}
 use Rattle.grid_records_traits.specs.Sources.{texts_of_rows}
 use Rattle.tabled_steps.specs.States.{Steps, state_with}
-use Rattle.tabled_width.specs.Breaking.{breaking, breaking_others}
-use Rattle.tabled_width.specs.Tables.{NarrowsTable}
+use Rattle.tabled_width_texts.specs.Breaking.{breaking, breaking_others}
+use Rattle.tabled_width_tables.specs.Tables.{NarrowsTable}
 use Rattle.tabled_width.proofs.Sparing.{narrows_table, spared}
 use Rattle.tabled_width.proofs.wrap.WrapTableOptionVecRecordsColoredConfigCompleteDimension.change.Goals as goal
 

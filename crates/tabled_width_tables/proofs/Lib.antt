@@ -1,0 +1,4 @@
+pub mod Totalling
+pub mod Rooming
+pub mod Drawing
+pub mod Tabling

@@ -1,0 +1,4 @@
+pub mod Widths
+pub mod Rooms
+pub mod Steps
+pub mod Tables

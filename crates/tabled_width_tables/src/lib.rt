@@ -1,0 +1,13 @@
+//! What a table's cells and columns make of a width: its texts change in their rooms, and its columns shrink
+//! or grow.
+#![tactic(auto)]
+
+mod cells;
+mod columns;
+mod drawn;
+mod rooms;
+mod table;
+
+pub use cells::change_cells;
+pub use columns::table_width;
+pub use table::{narrow, widen};

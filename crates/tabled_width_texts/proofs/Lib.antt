@@ -1,0 +1,4 @@
+pub mod Measuring
+pub mod Lining
+pub mod Keeping
+pub mod Unbroken

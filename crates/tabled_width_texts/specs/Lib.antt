@@ -1,0 +1,7 @@
+pub mod Filling
+pub mod Staying
+pub mod Breaking
+pub mod Cutting
+pub mod Keeping
+pub mod Suffixes
+pub mod Cuts

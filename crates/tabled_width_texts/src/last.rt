@@ -1,0 +1,74 @@
+//! The style of the last character that a cut keeps.
+ghost use Rattle.std.specs.Prelude.{◌≡◌, ◌≤◌, ◌++◌, ℕ, IfSome, List, chars, if◌then◌else◌, map};
+ghost use Rattle.ansi_scan.specs.Attributes.{Attributes, plain_attributes};
+ghost use Rattle.grid_records_measure.specs.Filling.{columns_with};
+ghost use Rattle.tabled_width_texts.specs.Cutting.{kept, last_style as style_of_last};
+ghost use Rattle.tabled_width_texts.specs.Keeping.{last_kept};
+
+use ansi_scan::Style;
+use ansi_str::get_blocks;
+use grid_records_measure::get_char_width;
+
+/// The style of the last character of a text that its cut at the width keeps, and where it keeps none the
+/// plain one. Does not allocate.
+pub(crate) fn last_style(text: &str, width: usize) -> Style
+    ensures { result ≡ style_of_last plain_attributes (kept width text.now) }
+{
+    let mut used = 0;
+    let mut last = Style::plain();
+    for block in get_blocks(text) {
+        let (columns, style, whole) = past_piece(block.text(), *block.style(), width, used, last);
+        used = columns;
+        last = style;
+        if !whole {
+            return last;
+        }
+    }
+    last
+}
+
+// What a piece of text makes of the columns that are used of a line and of the style that is the last: up
+// to a character that has no room, or the whole.
+fn past_piece(
+    text: &str,
+    style: Style,
+    width: usize,
+    before: usize,
+    known: Style,
+) -> (usize, Style, bool)
+    requires { before ≤ width }
+    ensures last { (rest : List (ℕ × Attributes)) → last_kept width before known (map (λ c. (c, style)) (chars text.now) ++ rest)
+        ≡ (if result.2 then last_kept width result.0 result.1 rest else result.1) }
+    ensures fits { result.0 ≤ width }
+{
+    let mut used = before;
+    let mut last = known;
+    for c in text.chars() {
+        let Some(columns) = columns_after(c, used, width) else {
+            return (used, last, false);
+        };
+        used = columns;
+        last = style;
+    }
+    (used, last, true)
+}
+
+// The columns of a line with a character after `used` columns, where it has room.
+fn columns_after(c: char, used: usize, width: usize) -> Option<usize>
+    requires { used ≤ width }
+    ensures columns { result ≡ columns_with width used c }
+    ensures fits { IfSome result (λ columns. columns ≤ width) }
+{
+    if used == width {
+        return None;
+    }
+    if c == '\n' {
+        return Some(0);
+    }
+    let cost = get_char_width(c).max(1);
+    if cost <= width - used {
+        Some(used + cost)
+    } else {
+        None
+    }
+}
