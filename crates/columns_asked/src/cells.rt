@@ -9,8 +9,7 @@ ghost use Rattle.columns_asked.specs.Resizing.{resized_text};
 use crate::asked::Asked;
 use std::alloc::{AllocError, Global};
 use std::borrow::CowStr;
-use tabled_size_wrap::{cut_styled, wrap_styled};
-use tabled_width_texts::stays;
+use tabled_size_wrap::{cut_styled, stays, wrap_styled};
 
 /// A text that takes `columns` columns, resized to the room that its column leaves: wrapped there, or cut where it
 /// takes more. None where it fits and is plain to stay as it is, so that it can be borrowed and needs no second

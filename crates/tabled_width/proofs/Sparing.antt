@@ -15,11 +15,11 @@ use Rattle.tabled_steps.specs.Outcomes.{all_sized}
 use Rattle.tabled_steps.specs.States.{Outcome, State, Steps, column_count}
 use Rattle.tabled_width_texts.specs.Breaking.{breaking, breaking_others}
 use Rattle.tabled_width_tables.specs.Rooms.{column_widths, in_room, least_widths, room}
-use Rattle.tabled_width_texts.specs.Staying.{stays}
+use Rattle.tabled_size_wrap.specs.Staying.{stays}
 use Rattle.tabled_width_tables.specs.Steps.{Measured, Then}
 use Rattle.tabled_width_tables.specs.Tables.{Narrows, NarrowsTable, Shrunk, Where, drawn, has_cells, keeping, narrowed}
 use Rattle.tabled_width.proofs.Stepping.{may_be}
-use Rattle.tabled_width_texts.proofs.Unbroken.{stays-is}
+use Rattle.tabled_size_wrap.proofs.Unbroken.{stays-is}
 
 -- of this text the two say the same, or the first leaves out that it stays
 abbrev pub Spares : Option (List ℕ) → Option (List ℕ) → List ℕ → Type 0

@@ -24,7 +24,7 @@ ghost use Rattle.tabled_width_tables.specs.Tables.{NarrowsTable, WidensTable};
 ghost use Rattle.tabled_width_texts.specs.Cutting.{Cutting, truncating};
 ghost use Rattle.tabled_width_tables.specs.Rooms.{column_widths, in_room};
 ghost use Rattle.tabled_size_wrap.specs.Bytes.{wrapped_text};
-ghost use Rattle.tabled_width_texts.specs.Staying.{stays};
+ghost use Rattle.tabled_size_wrap.specs.Staying.{stays};
 ghost use Rattle.tabled_width_texts.specs.Breaking.{breaking, breaking_others, cutting_wider, justifying, one_then_other, wrapping_wider};
 ghost use Rattle.tabled_width_texts.specs.Filling.{filling};
 ghost use Rattle.tabled_width.specs.declared.min_width.MinWidth.{MinWidth as OneMinWidth};

@@ -1,4 +1,3 @@
 pub mod Measuring
 pub mod Lining
 pub mod Keeping
-pub mod Unbroken

@@ -4,7 +4,7 @@ use Rattle.std.specs.Option.{option_or}
 use Rattle.grid_records_measure.specs.TextLines.{text_width}
 use Rattle.tabled_size_wrap.specs.Bytes.{cut_at, wrapped_text}
 use Rattle.tabled_width_texts.specs.Filling.{filling}
-use Rattle.tabled_width_texts.specs.Staying.{stays}
+use Rattle.tabled_size_wrap.specs.Staying.{stays}
 
 -- a text is broken
 abbrev pub breaking : Bool → ℕ → List ℕ → Option (List ℕ)

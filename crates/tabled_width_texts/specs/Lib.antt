@@ -1,5 +1,4 @@
 pub mod Filling
-pub mod Staying
 pub mod Breaking
 pub mod Cutting
 pub mod Keeping

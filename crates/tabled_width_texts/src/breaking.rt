@@ -2,12 +2,11 @@
 ghost use Rattle.tabled_width_texts.specs.Breaking.{breaking_others, wrapping_wider};
 
 use crate::room::RoomChange;
-use crate::staying::stays;
 use grid_config::Position;
 use grid_records_rows::Text;
 use grid_records_traits::records::PeekableRecords;
 use std::alloc::{AllocError, Global};
-use tabled_size_wrap::wrap_styled;
+use tabled_size_wrap::{stays, wrap_styled};
 
 /// Breaks a text at its room, as `wrap_styled` does, with words kept whole that fit, or not. One that plainly
 /// stays as it is isn't copied.

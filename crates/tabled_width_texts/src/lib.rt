@@ -8,7 +8,6 @@ mod justifying;
 mod last;
 mod lines;
 mod room;
-mod staying;
 
 pub use breaking::{Breaking, WrappingWider};
 pub use cutting::Cut;

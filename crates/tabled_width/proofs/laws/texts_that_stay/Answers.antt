@@ -1,6 +1,6 @@
 use Rattle.std.proofs.Common.{None, ap, if◌then◌else◌}
 use Rattle.tabled_width_texts.specs.Breaking.{breaking}
-use Rattle.tabled_width_texts.proofs.Unbroken.{stays-is}
+use Rattle.tabled_size_wrap.proofs.Unbroken.{stays-is}
 use Rattle.tabled_width.proofs.laws.texts_that_stay.Goals as goal
 
 pub returns-clause-same : goal.returns-clause-same
