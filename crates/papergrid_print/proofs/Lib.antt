@@ -4,6 +4,7 @@ pub mod OwnerLemmas
 mod SeenLemmas
 mod PlaceLemmas
 mod OpenLemmas
+mod CountLemmas
 mod TableLemmas
 pub mod FlatLemmas
 mod PlacedLemmas

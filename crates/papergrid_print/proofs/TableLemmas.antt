@@ -1,5 +1,5 @@
 -- How wide a table is, and what its margins show.
-use Rattle.std.proofs.Common.{◌≡◌, ◌==◌, ◌||◌, ℕ, ◌+◌, ◌-◌, ◌<◌, ◌≤◌, true, false, [], ◌∷◌, Option, if◌then◌else◌, nat_lt, length, refl, ap, ◌∙◌, arith, append-nil}
+use Rattle.std.proofs.Common.{◌≡◌, ◌==◌, ◌||◌, ℕ, ◌+◌, ◌<◌, ◌≤◌, true, false, [], ◌∷◌, Option, if◌then◌else◌, nat_lt, length, refl, ap, ◌∙◌, arith, append-nil}
 use Rattle.std.proofs.lemmas.Bool.Decides.{nat_tests}
 use Rattle.grid_config_colors.specs.Colors.{Color}
 use Rattle.grid_config.specs.Looks.{look_of}
@@ -8,10 +8,11 @@ use Rattle.papergrid_picture.specs.Fitting.{table_width}
 use Rattle.papergrid_picture.specs.Frame.{Tracks, boundary_at, line_count, stretch, thickness, total_width, track_at}
 use Rattle.papergrid_picture.specs.Picture.{margin_line, parts_of}
 use Rattle.papergrid_picture.specs.Reading.{line_items}
-use Rattle.papergrid_picture.proofs.FrameLemmas.{boundary-behind, boundary-bounded, boundary-first, boundary-next, place-above, place-below}
+use Rattle.papergrid_picture.proofs.FrameLemmas.{boundary-bounded, boundary-first, boundary-next, place-above, place-below}
 use Rattle.papergrid_picture.proofs.ReadingLemmas.{line_items-cons, own_items}
 use Rattle.papergrid_cells.specs.Painting.{colored, fill_bytes}
 use Rattle.papergrid_print.specs.Sheets.{IsPrintable, Sheet, bytes_of, grid_of, line_at, place_line, row_tracks}
+use Rattle.papergrid_print.proofs.CountLemmas.{all-lines, last-boundary, not_zero}
 use Rattle.papergrid_print.proofs.LineLemmas.{painted-bare}
 
 module _ (sheet : Sheet) where
@@ -19,12 +20,7 @@ module _ (sheet : Sheet) where
   columns_of = (grid_of sheet).frame.columns
 
   pub width-is : 0 < length sheet.widths → boundary_at columns_of (length sheet.widths) ≡ columns_of.margin + thickness (columns_of.has_boundary 0) + stretch columns_of 0 (length sheet.widths)
-  width-is some =
-      let n = length sheet.widths - 1 in
-      let all : n + 1 ≡ length sheet.widths = omega (arith, some) in
-      let at_end : 0 + (n + 1) ≡ length sheet.widths = omega (arith, some) in
-      let within : 0 + (n + 1) ≤ length sheet.widths = omega (arith, some) in
-      omega (arith, ap (boundary_at columns_of) at_end, boundary-behind columns_of 0 n within, ap (stretch columns_of 0) all, boundary-first columns_of)
+  width-is = last-boundary columns_of
 
   -- no row begins past the last boundary
   pub row-within : (i : ℕ) → i < length sheet.heights → track_at (row_tracks sheet) i ≤ track_at (row_tracks sheet) (length sheet.heights)
@@ -38,13 +34,8 @@ module _ (sheet : Sheet) where
       omega (arith, boundary-first (row_tracks sheet), boundary-bounded (row_tracks sheet) 0 none)
 
   -- a printable table with rows and columns is in the range
-  not_zero : (n : ℕ) → 0 < n → (n == 0) ≡ false
-  not_zero n h = grind (arith, nat_tests, h)
-
   pub lines-fit : IsPrintable sheet → 0 < length sheet.heights → 0 < length sheet.widths → line_count (grid_of sheet).frame ≡ track_at (row_tracks sheet) (length sheet.heights) + (look_of sheet.settings).margin.bottom.size
-  lines-fit printable rows columns =
-      let whole : ℕ = track_at (row_tracks sheet) (length sheet.heights) + (look_of sheet.settings).margin.bottom.size in
-      ap (λ b. if b then 0 else if length sheet.widths == 0 then 0 else whole) (not_zero (length sheet.heights) rows) ∙ ap (λ b. if b then 0 else whole) (not_zero (length sheet.widths) columns)
+  lines-fit printable = all-lines (look_of sheet.settings) sheet.widths sheet.heights
 
   pub columns-fit : 0 < length sheet.heights → 0 < length sheet.widths → table_width (grid_of sheet).frame ≡ total_width (grid_of sheet).frame
   columns-fit rows columns =

@@ -3,11 +3,13 @@
 
 pub mod colors;
 mod extents;
+mod lines;
 mod print;
 mod seen;
 mod single;
 mod table;
 
 pub use colors::{Colors, NoColors};
+pub use lines::count_lines;
 pub use print::print_table;
 pub use single::print_line;

@@ -1,5 +1,5 @@
 //! The whole table.
-ghost use Rattle.std.specs.Prelude.{◌≡◌, ◌<◌, ◌++◌, [], OnErr, OnOk, length, string_bytes};
+ghost use Rattle.std.specs.Prelude.{◌≡◌, ◌<◌, ◌++◌, [], IsOk, OnErr, OnOk, length, string_bytes};
 ghost use Rattle.grid_config_spans.specs.Spans.{AreGood};
 ghost use Rattle.grid_config.specs.Looks.{look_of};
 ghost use Rattle.papergrid_picture.specs.Fitting.{InRange};
@@ -12,9 +12,10 @@ use grid_config::SpannedConfig;
 use grid_records_traits::PeekableRecords;
 use std::alloc::{AllocError, Global};
 
-/// Appends the text of a table of these sizes: the lines of its picture, a line feed between each two,
-/// and nothing where it has no rows or no columns. Fails only where allocation fails, and then the text is as it
-/// was. After another text it is made apart and then appended at once.
+/// Appends the text of a table of these sizes: the lines of its picture, a line feed between each two.
+/// Where it has no rows or no columns it appends nothing, and never fails. Else it fails only where
+/// allocation fails, and then the text is as it was. After another text it is made apart and then
+/// appended at once.
 pub fn print_table<R: PeekableRecords, C: Colors>(
     alloc: Global,
     records: &R,
@@ -28,6 +29,8 @@ pub fn print_table<R: PeekableRecords, C: Colors>(
     requires range { InRange (frame_of (look_of cfg.now) widths.now heights.now) }
     ensures text { OnOk result (string_bytes out.new ≡ string_bytes out.old ++ table_text (look_of cfg.now) (R.rows records.now) (C.color colors.now) widths.now heights.now) }
     ensures refused { OnErr result (string_bytes out.new ≡ string_bytes out.old) }
+    ensures no_rows { length heights.now ≡ 0 → IsOk result }
+    ensures no_columns { length widths.now ≡ 0 → IsOk result }
 {
     if widths.is_empty() || heights.is_empty() {
         return Ok(());
