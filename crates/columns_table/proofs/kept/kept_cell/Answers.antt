@@ -1,26 +1,47 @@
-use Rattle.std.proofs.Common.{ap, sym, ◌∙◌}
+-- A cell that is there is resized, and one that stays is the line that it was; one that is lacking is empty.
+use Rattle.std.proofs.Common.{◌≡◌, Option, Some, List, ap, sym, ◌∙◌}
 use Rattle.std.specs.Cow.{cow_str_bytes}
-use Rattle.std.specs.Option.{option_map}
+use Rattle.std.specs.Option.{option_map, unwrap_or}
 use Rattle.columns_table.specs.Cells.{anywhere}
 use Rattle.columns_table.specs.CellRows.{row_cells}
 use Rattle.columns_table.specs.Kept.{resize_to}
 use Rattle.columns_table.specs.Records.{IsMeasured}
+use Rattle.columns_table.specs.declared.cells.LineCell.{LineCell}
 use Rattle.columns_table.proofs.CellLemmas.{each-some}
 use Rattle.columns_table.proofs.KeptLemmas.{first-none, first-some, width-is}
 use Rattle.columns_table.proofs.kept.kept_cell.Goals as goal
-use Rattle.columns_table.proofs.kept.kept_cell.Goals.{in-Some+in_ok-text-in-Some, in-None}
 
 pub resized_cell-requires : goal.resized_cell-requires
 resized_cell-requires c =
     let cell = c.in-Some.cell in
     width-is cell (each-some IsMeasured (row_cells c.args.row) c.args.column (anywhere cell) (sym c.get.ensures ∙ ap (option_map anywhere) c.in-Some.is) c.requires)
 
-pub returns : goal.returns
-returns c =
-    let resize = resize_to c.args.asked.now c.args.room in
-    let cells = row_cells c.args.row in
-    c.new.ensures
-    ∙ elim c.match-get.branch [
-      | in-Some+in_ok-text-in-Some w ↦ ap cow_str_bytes w.text-is ∙ w.in_ok-text-in-Some.ensures ∙ first-some resize cells c.args.column (anywhere w.in-Some.cell) (sym c.get.ensures ∙ ap (option_map anywhere) w.in-Some.is)
-      | in-None w ↦ ap cow_str_bytes w.text-is ∙ first-none resize cells c.args.column (sym c.get.ensures ∙ ap (option_map anywhere) w.in-None.is)
-    ]
+pub of_line-requires-clause-one : goal.of_line-requires-clause-one
+of_line-requires-clause-one c =
+    let cell = c.in-Some.cell in
+    (each-some IsMeasured (row_cells c.args.row) c.args.column (anywhere cell) (sym c.get.ensures ∙ ap (option_map anywhere) c.in-Some.is) c.requires).0
+
+pub of_line-requires-clause-width : goal.of_line-requires-clause-width
+of_line-requires-clause-width c =
+    let cell = c.in-Some.cell in
+    (each-some IsMeasured (row_cells c.args.row) c.args.column (anywhere cell) (sym c.get.ensures ∙ ap (option_map anywhere) c.in-Some.is) c.requires).1
+
+pub returns-in_default : goal.returns-in_default
+returns-in_default c =
+    c.new.ensures ∙ first-none (resize_to c.args.asked.now c.args.room) (row_cells c.args.row) c.args.column (sym c.get.ensures ∙ ap (option_map anywhere) c.in_default.is)
+
+pub returns-in-Some-2 : goal.returns-in-Some-2
+returns-in-Some-2 c =
+    let cell = c.in-Some.cell in
+    c.new-in-Some-2.ensures
+    ∙ sym (ap (λ made. unwrap_or (option_map cow_str_bytes made) cell.text.now) c.in-Some-2.is)
+    ∙ c.in_ok-text.ensures
+    ∙ first-some (resize_to c.args.asked.now c.args.room) (row_cells c.args.row) c.args.column (anywhere cell) (sym c.get.ensures ∙ ap (option_map anywhere) c.in-Some.is)
+
+pub returns-in-None : goal.returns-in-None
+returns-in-None c =
+    let cell = c.in-Some.cell in
+    c.of_line.ensures
+    ∙ sym (ap (λ made. unwrap_or (option_map cow_str_bytes made) cell.text.now) c.in-None.is)
+    ∙ c.in_ok-text.ensures
+    ∙ first-some (resize_to c.args.asked.now c.args.room) (row_cells c.args.row) c.args.column (anywhere cell) (sym c.get.ensures ∙ ap (option_map anywhere) c.in-Some.is)
