@@ -4,6 +4,7 @@
 mod compact;
 mod iter;
 pub mod laws;
+mod lines;
 mod peekable;
 mod printing;
 mod read;
@@ -12,5 +13,5 @@ mod sizes;
 pub use compact::CompactGrid;
 pub use iter::IterGrid;
 pub use papergrid_fits::fits;
-pub use papergrid_print::{Colors, NoColors};
+pub use papergrid_print::{Colors, NoColors, count_lines};
 pub use peekable::PeekableGrid;

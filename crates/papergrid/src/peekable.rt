@@ -1,4 +1,5 @@
 //! A grid whose cells are looked up.
+use crate::lines::count_sized_lines;
 use crate::sizes::{heights, widths};
 use grid_config::{Fault, SpannedConfig};
 use grid_records_traits::{Dimension, ExactRecords, PeekableRecords};
@@ -53,8 +54,23 @@ impl<'a, R: ExactRecords + PeekableRecords, D: Dimension, C: Colors> PeekableGri
     ghost use Rattle.std.specs.Prelude.{◌≡◌, ◌++◌, IfErr, IfOk, OnErr, OnOk, length, string_bytes};
     ghost use Rattle.grid_config_values.specs.declared.fault.Fault.TheVariants.{Memory};
     ghost use Rattle.grid_config.specs.Looks.{look_of};
-    ghost use Rattle.papergrid_fits.specs.Tables.{Fits};
+    ghost use Rattle.papergrid_picture.specs.Frame.{line_count};
+    ghost use Rattle.papergrid_fits.specs.Tables.{Fits, table_frame};
     ghost use Rattle.papergrid.specs.Grids.{grid_text};
+
+    /// How many lines `build` appends, on its condition: those of the margins too, and none where there
+    /// are no rows or no columns. Does not allocate.
+    pub fn lines(&self) -> usize
+        requires { Fits self.now.settings.now (D.width self.now.sizes) (D.height self.now.sizes) (R.columns self.now.records) (R.rows self.now.records) }
+        ensures { result ≡ line_count (table_frame self.now.settings.now (D.width self.now.sizes) (D.height self.now.sizes) (R.columns self.now.records) (R.rows self.now.records)) }
+    {
+        count_sized_lines(
+            self.config,
+            &self.dimension,
+            self.records.count_rows(),
+            self.records.count_columns(),
+        )
+    }
 
     /// Appends the text of the grid, on condition that `fits` returns that the table fits its sizes: its
     /// lines, a line feed between each two. Fails only where allocation fails, and then the text is as it was.

@@ -15,8 +15,8 @@ use papergrid_print::{Colors, print_table};
 use std::alloc::Global;
 
 /// Appends the text of `rows` rows and `columns` columns of records. Refused as `fits` refuses them, by
-/// the same faults in the same order, or as `Memory` where allocation fails, and then the text is as it
-/// was.
+/// the same faults in the same order, or, where `fits` refuses nothing, as `Memory` where allocation
+/// fails. After a refusal the text is as it was.
 pub(crate) fn print_fitting<R: PeekableRecords, D: Dimension, C: Colors>(
     alloc: Global,
     records: &R,
@@ -33,6 +33,7 @@ pub(crate) fn print_fitting<R: PeekableRecords, D: Dimension, C: Colors>(
     ensures refused { OnErr result (string_bytes out.new ≡ string_bytes out.old) }
     ensures fault { IfErr result (λ fault. (fault ≡ Memory)
         ⊎ FitsAnswer (sized cfg.now (D.width dims.now) (D.height dims.now) columns rows) (R.rows records.now) (AreGood cfg.now.spans rows columns) (Err fault)) }
+    ensures memory { IfErr result (λ fault. fault ≡ Memory → FitsAnswer (sized cfg.now (D.width dims.now) (D.height dims.now) columns rows) (R.rows records.now) (AreGood cfg.now.spans rows columns) (Ok tt)) }
 {
     fits_counted(records, cfg, dims, rows, columns)?;
     let widths = widths(alloc, dims, columns)?;
