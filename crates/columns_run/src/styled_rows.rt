@@ -88,8 +88,7 @@ pub fn styled_cells(alloc: Global, text: &str) -> Result<Option<StyledCells>, Al
     Ok(Some(found))
 }
 
-/// Appends what stands from here to the end as a cell. Where it is printable, it takes a column for each byte that
-/// it shows, and is not looked at again.
+/// Appends what stands from here to the end as a cell, measured.
 fn push_cell<'a>(
     alloc: Global,
     cells: &mut StyledCells,
@@ -102,16 +101,25 @@ fn push_cell<'a>(
     ensures counts { cells.new.counts ≡ cells.old.counts }
 {
     let part = place.part_to(alloc, &end.place)?;
-    let width = if end.printable {
-        end.size
-    } else {
-        get_line_width(&part)
-    };
+    let width = part_width(&part, end);
     cells.text.push_str(&part)?;
     let end = cells.text.len();
     cells.ends.push(CellEnd { end, width })?;
     cells.text.push('\n')?;
     Ok(())
+}
+
+/// The columns of a part that ends there, without its sequences. Where all that it shows is printable, it takes one for
+/// each byte, and is not looked at again.
+fn part_width(part: &str, end: &CellStop<'_>) -> usize
+    requires { IsTrue end.now.printable → measure (chars (stripped part.now)) ≡ end.now.size }
+    ensures { result ≡ measure (chars (stripped part.now)) }
+{
+    if end.printable {
+        end.size
+    } else {
+        get_line_width(part)
+    }
 }
 
 /// The end of the cell that begins here, behind the sequences there, and what is shown up to it; none where one of

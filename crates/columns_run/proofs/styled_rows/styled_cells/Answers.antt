@@ -3,7 +3,7 @@ use Rattle.std.proofs.Common.{◌≡◌, ◌==◌, ◌<◌, ◌≤◌, ◌+◌, 
 use Rattle.std.proofs.lemmas.Bool.Decides.{nat_tests}
 use Rattle.std.specs.Prelude.{IsTrue, chars}
 use Rattle.ansi_scan.specs.Attributes.{Attributes, IsRendition, plain_attributes}
-use Rattle.ansi_scan_style.proofs.Kept.{IsRendition-plain}
+use Rattle.ansi_scan.proofs.Kept.{IsRendition-plain}
 use Rattle.ansi_scan.specs.Sequences.{IsWhole, joined}
 use Rattle.ansi_scan.specs.Pieces.{pieces}
 use Rattle.ansi_str_search.specs.Parts.{before_place, through_place}
@@ -146,14 +146,14 @@ loop-alloc-init c =
       passes = c.in-Some.ensures.passes;
     }
 
-pub push_cell-requires-measured : goal.push_cell-requires-measured
-push_cell-requires-measured c =
+pub push_cell-requires-clause-measured : goal.push_cell-requires-clause-measured
+push_cell-requires-clause-measured c =
     takes-columns c.args.text.now c.loop-alloc.place.rest.now c.loop-alloc.place.style c.loop-alloc.end.place.rest.now c.loop-alloc.end.place.style c.loop-alloc.found c.loop-alloc.count
     (record { walked = c.loop-alloc.invariant.walked; gathered = c.loop-alloc.invariant.gathered; row = c.loop-alloc.invariant.row })
     c.loop-alloc.end.size c.loop-alloc.end.printable c.loop-alloc.invariant.passes
 
-pub push_cell-requires-begins : goal.push_cell-requires-begins
-push_cell-requires-begins c =
+pub push_cell-requires-clause-begins : goal.push_cell-requires-clause-begins
+push_cell-requires-clause-begins c =
     begins-part c.args.text.now c.loop-alloc.place.rest.now c.loop-alloc.place.style c.loop-alloc.end.place.rest.now c.loop-alloc.end.place.style c.loop-alloc.found c.loop-alloc.count
     (record { walked = c.loop-alloc.invariant.walked; gathered = c.loop-alloc.invariant.gathered; row = c.loop-alloc.invariant.row })
 
@@ -227,14 +227,14 @@ loop-alloc-preserved c =
       passes = c.in-Some-cell_end.ensures.passes;
     }
 
-pub push_cell-requires-measured-then-count-gt0 : goal.push_cell-requires-measured-then-count-gt0
-push_cell-requires-measured-then-count-gt0 c =
+pub push_cell-requires-then-count-gt0-clause-measured : goal.push_cell-requires-then-count-gt0-clause-measured
+push_cell-requires-then-count-gt0-clause-measured c =
     takes-columns c.args.text.now c.loop-alloc.place.rest.now c.loop-alloc.place.style c.loop-alloc.end.place.rest.now c.loop-alloc.end.place.style c.loop-alloc.found c.loop-alloc.count
     (record { walked = c.loop-alloc.invariant.walked; gathered = c.loop-alloc.invariant.gathered; row = c.loop-alloc.invariant.row })
     c.loop-alloc.end.size c.loop-alloc.end.printable c.loop-alloc.invariant.passes
 
-pub push_cell-requires-begins-then-count-gt0 : goal.push_cell-requires-begins-then-count-gt0
-push_cell-requires-begins-then-count-gt0 c =
+pub push_cell-requires-then-count-gt0-clause-begins : goal.push_cell-requires-then-count-gt0-clause-begins
+push_cell-requires-then-count-gt0-clause-begins c =
     begins-part c.args.text.now c.loop-alloc.place.rest.now c.loop-alloc.place.style c.loop-alloc.end.place.rest.now c.loop-alloc.end.place.style c.loop-alloc.found c.loop-alloc.count
     (record { walked = c.loop-alloc.invariant.walked; gathered = c.loop-alloc.invariant.gathered; row = c.loop-alloc.invariant.row })
 
