@@ -11,6 +11,7 @@ mod compact;
 mod edges;
 mod grids;
 mod limits;
+mod lines;
 mod refusing;
 
 // Sizes by their numbers.

@@ -1,0 +1,2 @@
+-- Why the tests' calls meet what is asked of them.
+mod ByNumber
