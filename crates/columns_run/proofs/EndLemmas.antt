@@ -1,5 +1,5 @@
 -- The walk to the end of a cell.
-use Rattle.std.proofs.Common.{◌≡◌, ℕ, suc, ◌+◌, ◌-◌, ◌<◌, ◌≤◌, ◌==◌, ◌&&◌, Bool, true, false, not, List, [], ◌∷◌, ◌++◌, length, take, drop, refl, ap, sym, subst, ◌∙◌, arith, length-append, eqb-true, get_or}
+use Rattle.std.proofs.Common.{◌≡◌, ℕ, ◌+◌, ◌-◌, ◌<◌, ◌≤◌, ◌==◌, ◌&&◌, Bool, true, false, not, List, [], ◌∷◌, ◌++◌, length, take, drop, refl, ap, sym, subst, ◌∙◌, arith, eqb-true, get_or}
 use Rattle.std.specs.List.{prefix_len, list_all}
 use Rattle.std.specs.Cmp.Derive.{both_true}
 use Rattle.std.proofs.lemmas.Bool.{and_parts}
@@ -7,7 +7,7 @@ use Rattle.std.proofs.lemmas.Bool.Decides.{nat_tests}
 use Rattle.std.proofs.lemmas.List.{length-take, take-append-drop}
 use Rattle.std.proofs.lemmas.List.Sums.{prefix_len-le-length, prefix_len_stops}
 use Rattle.std.proofs.lemmas.Str.{IsCharBoundary-end, IsCharBoundary-before_ascii}
-use Rattle.std.specs.Str.{IsCharBoundary, IsUtf8}
+use Rattle.std.specs.Str.{IsCharBoundary}
 use Rattle.ansi_scan.specs.Sequences.{escape, is_plain}
 use Rattle.ansi_scan.specs.Pieces.{pieces, text_len}
 use Rattle.ansi_scan.specs.Attributes.{Attributes}
@@ -19,7 +19,7 @@ use Rattle.ansi_str_search.specs.Walking.{from_text, begins_with_escape, AreFirs
 use Rattle.ansi_str_search.proofs.PartLemmas.{text_of-sequence}
 use Rattle.ansi_str_search.proofs.PlaceLemmas.{from-none, strip-from, through-past}
 use Rattle.ansi_str_search.proofs.PlaceSums.{from-from, style-before_sum, style-through_split}
-use Rattle.ansi_str_search.proofs.Walks.{from-plain, style-plain, take-strip, strip_byte, first-sequence, strip-sequence, from-sequence, from_text-sequence, at_text, other_first, escape_ends}
+use Rattle.ansi_str_search.proofs.Walks.{from-plain, style-plain, take-strip, first-sequence, strip-sequence, from-sequence, from_text-sequence, at_text}
 use Rattle.columns_run.specs.Rows.{line_feed, tab, stripped}
 use Rattle.columns_run.specs.Ends.{is_cell_byte, is_cell_text, cell_size, EndsCell}
 

@@ -1,10 +1,10 @@
 -- A part of a part of a whole text is one part of the text.
-use Rattle.std.proofs.Common.{◌≡◌, ℕ, zero, suc, ◌+◌, ◌-◌, ◌<◌, ◌≤◌, ◌==◌, Bool, true, false, List, [], ◌∷◌, ◌++◌, length, take, drop, refl, ap, sym, ◌∙◌, arith, append_assoc, append-nil, length-append, take-take, eqb-true, if◌then◌else◌}
+use Rattle.std.proofs.Common.{◌≡◌, ℕ, ◌+◌, ◌-◌, ◌<◌, ◌≤◌, ◌==◌, Bool, true, false, List, [], ◌∷◌, ◌++◌, length, take, drop, refl, ap, sym, ◌∙◌, arith, append_assoc, append-nil, length-append, take-take, eqb-true, if◌then◌else◌}
 use Rattle.std.proofs.lemmas.Bool.Decides.{nat_tests}
 use Rattle.std.proofs.lemmas.List.{length-take, length-drop, drop-take}
 use Rattle.std.proofs.lemmas.List.Sums.{fold-append}
 use Rattle.ansi_scan.specs.declared.items.Kind.TheVariants.{Sgr}
-use Rattle.ansi_scan.specs.Sequences.{Piece, joined, ArePiecesOf, NoneBroken}
+use Rattle.ansi_scan.specs.Sequences.{Piece, joined, NoneBroken}
 use Rattle.ansi_scan.specs.Attributes.{Attributes, IsRendition, plain_attributes}
 use Rattle.ansi_scan.specs.Pieces.{pieces}
 use Rattle.ansi_scan.specs.StartsAndEnds.{start_bytes, start_sequences, end_bytes, end_sequences}

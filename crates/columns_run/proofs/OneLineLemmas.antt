@@ -8,19 +8,19 @@ use Rattle.ansi_scan.specs.Sequences.{Piece, ArePiecesOf}
 use Rattle.ansi_scan.specs.Pieces.{pieces}
 use Rattle.ansi_scan.proofs.Existence.{ArePiecesOf-pieces}
 use Rattle.ansi_scan.proofs.Uniqueness.{pieces-ArePiecesOf}
-use Rattle.ansi_str.specs.StyledText.{has_escape, strip}
+use Rattle.ansi_str.specs.StyledText.{strip}
 use Rattle.ansi_str_search.proofs.AllParts.{strip-styled_parts}
 use Rattle.ansi_str_search.proofs.StdSplits.{split_at_one_byte}
 use Rattle.grid_records_measure.specs.TextLines.{is_line_feed, line_feed, widest}
-use Rattle.columns_run.specs.Cells.{Line, byte_line, shown, line_rows, part_line, rows_shown}
+use Rattle.columns_run.specs.Cells.{Line, shown, line_rows, part_line, rows_shown}
 use Rattle.columns_table.specs.Records.{IsMeasured, IsOneLine}
 use Rattle.columns_table.specs.Rows.{cut}
-use Rattle.columns_run.specs.Rows.{tab, stripped, places, parts_at, row_parts, cell_parts, rows_of}
+use Rattle.columns_run.specs.Rows.{tab, stripped, places, parts_at, row_parts, cell_parts}
 use Rattle.columns_table.specs.declared.rows.Rows.{Rows}
 use Rattle.columns_run.proofs.ItemLemmas.{AllByRecursion-append, AllByRecursion-map_of}
 use Rattle.columns_run.proofs.CellLemmas.{Fails, closed_rows, slice_split-fails, slice_split-keeps, without_bare_last-keeps}
 use Rattle.columns_table.proofs.RecordLemmas.{only_line}
-use Rattle.columns_run.proofs.PlaceLemmas.{AreMatches-places, plain_cells}
+use Rattle.columns_run.proofs.PlaceLemmas.{AreMatches-places}
 use Rattle.columns_run.proofs.SplitLemmas.{IsWholeText, IsClosedPart, closed-parts_at, whole-closed}
 
 -- ---- what a text without line feed shows

@@ -1,26 +1,21 @@
 -- What the loops over parts know.
-use Rattle.std.proofs.Common.{◌≡◌, ℕ, suc, ◌+◌, ◌-◌, ◌<◌, ◌≤◌, ◌==◌, ◌||◌, chars, Bool, true, false, Option, Some, None, IsSome, List, [], ◌∷◌, ◌++◌, map, flat_map, length, sum, take, drop, refl, ap, sym, subst, ◌∙◌, arith, length-append, if◌then◌else◌, option_to_list, slice_get}
+use Rattle.std.proofs.Common.{◌≡◌, ℕ, suc, ◌+◌, ◌-◌, ◌<◌, ◌≤◌, ◌==◌, Bool, true, false, Option, Some, None, IsSome, List, [], ◌∷◌, ◌++◌, map, flat_map, length, sum, take, drop, refl, ap, sym, subst, ◌∙◌, arith, length-append, if◌then◌else◌, option_to_list, slice_get}
 use Rattle.std.proofs.Math.Seq.{drop-append_seam}
-use Rattle.std.proofs.lemmas.Bool.{and_parts}
 use Rattle.std.proofs.lemmas.Bool.Decides.{nat_tests}
 use Rattle.std.proofs.lemmas.List.{take-map}
-use Rattle.std.specs.Int.{is_in_range}
 use Rattle.std.specs.List.{drop-map}
 use Rattle.ansi_scan.specs.declared.items.Kind.{Kind}
 use Rattle.ansi_scan.specs.declared.items.Kind.TheVariants.{Text, Sgr, Csi, Osc, Esc, Str, Broken}
-use Rattle.ansi_scan.specs.Sequences.{Piece, Stands, EachStands, escape}
+use Rattle.ansi_scan.specs.Sequences.{Piece, Stands, EachStands}
 use Rattle.ansi_scan.specs.Pieces.{pieces}
 use Rattle.ansi_scan.specs.Attributes.{Attributes, plain_attributes}
 use Rattle.ansi_scan.proofs.Existence.{ArePiecesOf-pieces}
-use Rattle.ansi_str.specs.StyledText.{has_escape, style_after}
+use Rattle.ansi_str.specs.StyledText.{style_after}
 use Rattle.ansi_str.specs.Blocks.{Block, block_if, blocks_from, text_of_block}
 use Rattle.ansi_str_text.proofs.Shown.{text_of_block-blocks_from}
-use Rattle.grid_records_measure.specs.Measures.{are_printable, measure}
-use Rattle.grid_records_measure.proofs.PrintableLemmas.{measure-printable}
 use Rattle.columns_run.specs.Rows.{stripped, without_bare_last}
 use Rattle.columns_run.specs.Cells.{last_is_bare}
 use Rattle.columns_table.specs.Rows.{cut}
-use Rattle.columns_run.proofs.PlaceLemmas.{stripped-without_escape}
 use Rattle.columns_run.proofs.RowLemmas.{cut-append, cut-more}
 
 -- ---- a text that shows nothing
@@ -53,22 +48,6 @@ bare-some text first rest some =
     let there = first_block_text plain_attributes (pieces text) first rest (ArePiecesOf-pieces text).stand some in
     let shown : stripped text ≡ first.text ++ flat_map text_of_block rest = sym (text_of_block-blocks_from plain_attributes (pieces text)) ∙ ap (flat_map text_of_block) some in
     some_is_not_zero (length (stripped text)) (omega (arith, ap length shown, length-append first.text (flat_map text_of_block rest), there))
-
--- ---- a text of printable ASCII alone
-
-no_escape : (b : ℕ) → is_in_range 0x20 0x7E b ≡ true → (b == escape) ≡ false
-no_escape b h = grind (arith, nat_tests)
-
-has_escape-printable : (bytes : List ℕ) → are_printable bytes ≡ true → has_escape bytes ≡ false
-has_escape-printable [] h = refl
-has_escape-printable (b ∷ bs) h =
-    let parts = and_parts (is_in_range 0x20 0x7E b) (are_printable bs) h in
-    ap (λ t. t || has_escape bs) (no_escape b parts.0) ∙ has_escape-printable bs parts.1
-
--- it takes a column a byte
-pub measure-printable_part : (part : List ℕ) → are_printable part ≡ true → measure (chars (stripped part)) ≡ length part
-measure-printable_part part h =
-    ap (λ shown. measure (chars shown)) (stripped-without_escape part (has_escape-printable part h)) ∙ measure-printable part h
 
 -- ---- the last part
 

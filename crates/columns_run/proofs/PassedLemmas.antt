@@ -1,11 +1,11 @@
 -- What is passed on the way to the end of a cell.
-use Rattle.std.proofs.Common.{◌≡◌, ◌≢◌, ℕ, ◌+◌, ◌-◌, ◌<◌, ◌≤◌, ◌&&◌, Bool, true, false, List, [], ◌∷◌, ◌++◌, chars, length, take, drop, refl, ap, sym, subst, ◌∙◌, arith, append-nil, append_assoc, length-append}
+use Rattle.std.proofs.Common.{◌≡◌, ◌≢◌, ℕ, ◌+◌, ◌&&◌, Bool, true, false, List, [], ◌∷◌, ◌++◌, chars, length, take, drop, refl, ap, sym, subst, ◌∙◌, arith, append-nil, append_assoc, length-append}
 use Rattle.std.specs.Prelude.{IsTrue}
 use Rattle.std.specs.Int.{is_in_range}
 use Rattle.std.specs.List.{prefix_len, list_all}
 use Rattle.std.proofs.lemmas.Bool.{and_parts}
 use Rattle.std.proofs.lemmas.List.{length-take, take-append-drop}
-use Rattle.ansi_scan.specs.Sequences.{Piece, NoneBroken, IsWhole, EachStands, joined}
+use Rattle.ansi_scan.specs.Sequences.{Piece, NoneBroken, EachStands, joined}
 use Rattle.ansi_scan.specs.Joining.{is_text_kind}
 use Rattle.ansi_scan.specs.Pieces.{pieces}
 use Rattle.ansi_scan.specs.Attributes.{Attributes, IsRendition}
@@ -20,7 +20,7 @@ use Rattle.ansi_str_search.proofs.DressedLemmas.{Stands-before}
 use Rattle.ansi_str_search.proofs.PartLemmas.{text_of-sequence}
 use Rattle.ansi_str_search.proofs.StartLemmas.{end-shows, start-shows}
 use Rattle.ansi_str_text.proofs.Stripping.{has_escape-plain}
-use Rattle.ansi_str_text.specs.StyledText.{has_escape, strip, text_of}
+use Rattle.ansi_str_text.specs.StyledText.{has_escape, strip}
 use Rattle.grid_records_measure.specs.Measures.{are_printable, measure}
 use Rattle.grid_records_measure.proofs.PrintableLemmas.{measure-printable}
 use Rattle.papergrid_picture.proofs.StrippedLemmas.{Leaves, Leaves-append}

@@ -1,5 +1,4 @@
 use Rattle.std.proofs.Common.{ap, sym}
-use Rattle.columns_table.specs.declared.ends.CellEnd.{CellEnd}
 use Rattle.grid_records_measure.proofs.PrintableLemmas.{measure-printable}
 use Rattle.columns_run.proofs.plain_rows.cell_end.Goals as goal
 

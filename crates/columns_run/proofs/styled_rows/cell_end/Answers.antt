@@ -1,5 +1,5 @@
 -- A step over a sequence and the bytes of the cell behind it.
-use Rattle.std.proofs.Common.{◌≡◌, ◌∙◌, ◌≤◌, ◌+◌, ◌-◌, ℕ, true, List, drop, length, length-drop, sym, ap, refl, arith}
+use Rattle.std.proofs.Common.{◌≡◌, ◌∙◌, ◌≤◌, ◌+◌, ℕ, List, drop, length, length-drop, sym, ap, refl, arith}
 use Rattle.std.specs.List.{prefix_len}
 use Rattle.ansi_str_search.proofs.Walks.{escape_first}
 use Rattle.columns_run.specs.Ends.{is_cell_text}

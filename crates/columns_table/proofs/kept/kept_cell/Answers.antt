@@ -1,12 +1,11 @@
 -- A cell that is there is resized, and one that stays is the line that it was; one that is lacking is empty.
-use Rattle.std.proofs.Common.{◌≡◌, Option, Some, List, ap, sym, ◌∙◌}
+use Rattle.std.proofs.Common.{ap, sym, ◌∙◌}
 use Rattle.std.specs.Cow.{cow_str_bytes}
 use Rattle.std.specs.Option.{option_map, unwrap_or}
 use Rattle.columns_table.specs.Cells.{anywhere}
 use Rattle.columns_table.specs.CellRows.{row_cells}
 use Rattle.columns_table.specs.Kept.{resize_to}
 use Rattle.columns_table.specs.Records.{IsMeasured}
-use Rattle.columns_table.specs.declared.cells.LineCell.{LineCell}
 use Rattle.columns_table.proofs.CellLemmas.{each-some}
 use Rattle.columns_table.proofs.KeptLemmas.{first-none, first-some, width-is}
 use Rattle.columns_table.proofs.kept.kept_cell.Goals as goal
