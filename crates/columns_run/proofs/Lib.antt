@@ -1,4 +1,5 @@
 pub mod AcceptedLemmas
+pub mod BegunLemmas
 pub mod BoundLemmas
 pub mod ByteLemmas
 pub mod CellLemmas

@@ -16,7 +16,7 @@ use Rattle.ansi_str_text.proofs.Shown.{text_of_block-blocks_from}
 use Rattle.columns_run.specs.Rows.{stripped, without_bare_last}
 use Rattle.columns_run.specs.Cells.{last_is_bare}
 use Rattle.columns_table.specs.Rows.{cut}
-use Rattle.columns_run.proofs.RowLemmas.{cut-append, cut-more}
+use Rattle.columns_table.proofs.CutLemmas.{cut-append, cut-more}
 
 -- ---- a text that shows nothing
 
@@ -103,10 +103,3 @@ cut-row counts cells row n whole size =
     ∙ ap (λ rows. rows ++ drop (sum counts) (cells ++ row) ∷ []) (cut-append counts cells row fits)
     ∙ ap (λ k. cut counts cells ++ drop k (cells ++ row) ∷ []) whole
     ∙ ap (λ rest. cut counts cells ++ rest ∷ []) (drop-append_seam cells row)
-
-pub cut-map : {X Y : Type 0} (f : X → Y) (counts : List ℕ) (xs : List X) → cut counts (map f xs) ≡ map (map f) (cut counts xs)
-cut-map f [] xs = refl
-cut-map f (n ∷ ns) xs =
-    ap (λ row. row ∷ cut ns (drop n (map f xs))) (take-map f n xs)
-    ∙ ap (λ rest. map f (take n xs) ∷ cut ns rest) (drop-map f n xs)
-    ∙ ap (λ rows. map f (take n xs) ∷ rows) (cut-map f ns (drop n xs))

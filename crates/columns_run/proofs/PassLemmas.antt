@@ -16,14 +16,14 @@ use Rattle.columns_run.specs.Ends.{is_cell_byte, is_cell_text}
 use Rattle.columns_run.specs.Rows.{line_feed, tab, rows_of}
 use Rattle.columns_run.specs.Cells.{Line, byte_line}
 use Rattle.columns_table.specs.Rows.{cut}
+use Rattle.columns_table.proofs.CutLemmas.{sum-more}
 use Rattle.grid_records_measure.specs.Measures.{are_printable}
-use Rattle.columns_run.proofs.RowLemmas.{rows_from-start, rows_with, rows_with-tab, rows_with-line_feed, rows_with-other, rows_with-last, rows_with-none, sum-more}
+use Rattle.columns_run.proofs.RowLemmas.{rows_from-start, rows_with, rows_with-tab, rows_with-line_feed, rows_with-other, rows_with-last, rows_with-none}
 
 -- before the byte at `end`: the present cell begins at `start`, and `count` cells of the present row stand before it;
 -- `plain` where its bytes are printable; the rows that have ended have `counts` cells, and `lines` are all cells so far
 pub record Pass (text : List ℕ) (end start count : ℕ) (plain : Bool) (counts : List ℕ) (lines : List (Line)) : Type 0 where
   pub ordered : start ≤ end
-  pub few : count ≤ start
   pub boundary : IsCharBoundary text start
   pub printable : plain ≡ true → are_printable (slice_range text start end) ≡ true
   pub whole : sum counts + count ≡ length lines
@@ -49,7 +49,6 @@ cell-last text start end all = let fits : length (drop start text) ≤ end - sta
 pub Pass-start : (text : List ℕ) → IsUtf8 text → Pass text 0 0 0 true [] []
 Pass-start text utf8 = record {
   ordered = omega arith;
-  few = omega arith;
   boundary = IsCharBoundary-start text utf8;
   printable = λ _. ap are_printable (cell-empty text 0);
   whole = refl;
@@ -66,7 +65,6 @@ Pass-tab text end start count plain counts lines pushed utf8 below pass same is 
     let fits : sum counts ≤ length lines = omega arith in
     record {
       ordered = omega arith;
-      few = omega arith;
       boundary = IsCharBoundary-after_ascii text end utf8 below ascii;
       printable = λ _. ap are_printable (cell-empty text (end + 1));
       whole = omega (arith, ap length is, length-append lines (byte_line cell ∷ []));
@@ -85,7 +83,6 @@ Pass-line_feed text end start count plain counts ended lines pushed utf8 below p
     let ascii : get_or text end 0 < 128 = omega arith in
     record {
       ordered = omega arith;
-      few = omega arith;
       boundary = IsCharBoundary-after_ascii text end utf8 below ascii;
       printable = λ _. ap are_printable (cell-empty text (end + 1));
       whole = omega (arith, ap length is, length-append lines (byte_line cell ∷ []), ap sum ends, sum-more counts (count + 1));
@@ -107,7 +104,6 @@ Pass-within text end start count plain still_plain counts lines below pass no_ta
     let longer = cell-more text start end pass.ordered below in
     record {
       ordered = omega arith;
-      few = pass.few;
       boundary = pass.boundary;
       printable = λ h. ap are_printable (sym longer) ∙ printable h;
       whole = pass.whole;
@@ -166,7 +162,7 @@ pub Pass-text : (text : List ℕ) (end size start count : ℕ) (plain : Bool) (c
 Pass-text text end zero start count plain counts lines fits pass each =
     let none : end ≡ end + 0 = omega arith in
     subst (λ n. Pass text n start count false counts lines) none
-    (record { ordered = pass.ordered; few = pass.few; boundary = pass.boundary; printable = λ h. cc h; whole = pass.whole; rows = pass.rows })
+    (record { ordered = pass.ordered; boundary = pass.boundary; printable = λ h. cc h; whole = pass.whole; rows = pass.rows })
 Pass-text text end (suc size) start count plain counts lines fits pass each =
     let more : end + 1 + size ≡ end + suc size = omega arith in
     let here : end < end + suc size = omega arith in

@@ -6,6 +6,7 @@ use Rattle.std.proofs.lemmas.List.Sums.{sum_by-cons, sum_by-append}
 use Rattle.std.specs.List.{slice_split, onto_first}
 use Rattle.columns_run.specs.Rows.{line_feed, tab, without_empty_last, rows_of}
 use Rattle.columns_table.specs.Rows.{cut}
+use Rattle.columns_table.proofs.CutLemmas.{cut-append, cut-more, sum-more}
 
 abbrev feeds : List ℕ → List (List ℕ)
 feeds bytes = slice_split (λ b. b == line_feed) bytes
@@ -131,28 +132,6 @@ pub rows_from-start : {Y : Type 0} (f : List ℕ → Y) (bytes : List ℕ) → r
 rows_from-start f bytes = rows_from-lines f [] [] bytes ∙ rows_of_lines-start f (feeds bytes) ∙ map-map_split f (without_empty_last (feeds bytes))
 
 -- ---- the state of the pass
-
-pub cut-append : {X : Type 0} (counts : List ℕ) (xs ys : List X) → sum counts ≤ length xs → cut counts (xs ++ ys) ≡ cut counts xs
-cut-append [] xs ys h = refl
-cut-append (n ∷ ns) xs ys h =
-    let total = sum_by-cons (λ k. k) n ns in
-    let fits : n ≤ length xs = omega (arith, total) in
-    let left : sum ns ≤ length (drop n xs) = omega (arith, total, length-drop n xs) in
-    ap (λ piece. piece ∷ cut ns (drop n (xs ++ ys))) (take-append-le n xs ys fits)
-    ∙ ap (λ rest. take n xs ∷ cut ns rest) (drop-append-le n xs ys fits)
-    ∙ ap (λ rest. take n xs ∷ rest) (cut-append ns (drop n xs) ys left)
-
--- one more piece, which takes what is left
-pub cut-more : {X : Type 0} (counts : List ℕ) (n : ℕ) (xs : List X) → sum counts + n ≡ length xs → cut (counts ++ n ∷ []) xs ≡ cut counts xs ++ drop (sum counts) xs ∷ []
-cut-more [] n xs h = let all : length xs ≤ n = omega arith in ap (λ piece. piece ∷ []) (take_all n xs all)
-cut-more (m ∷ ns) n xs h =
-    let total = sum_by-cons (λ k. k) m ns in
-    let left : sum ns + n ≡ length (drop m xs) = omega (arith, total, length-drop m xs) in
-    ap (λ rest. take m xs ∷ rest) (cut-more ns n (drop m xs) left)
-    ∙ ap (λ rest. take m xs ∷ (cut ns (drop m xs) ++ rest ∷ [])) (drop-drop (sum ns) m xs ∙ ap (λ k. drop k xs) (sym total))
-
-pub sum-more : (counts : List ℕ) (n : ℕ) → sum (counts ++ n ∷ []) ≡ sum counts + n
-sum-more counts n = omega (arith, sum_by-append (λ k. k) counts (n ∷ []))
 
 -- a cell that ends its row
 cut-pushed : {Y : Type 0} (counts : List ℕ) (count : ℕ) (cells : List Y) (y : Y) → sum counts + count ≡ length cells

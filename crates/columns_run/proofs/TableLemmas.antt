@@ -9,7 +9,7 @@ use Rattle.columns_asked.specs.Layout.{AskedFits, asked_text, too_wide}
 use Rattle.columns_asked.proofs.StrippedLemmas.{fits-stripped, too_wide-stripped}
 use Rattle.columns_asked.specs.declared.asked.Asked.{Asked}
 use Rattle.columns_options.specs.declared.options.Options.{Options}
-use Rattle.columns_run.proofs.PartLemmas.{cut-map}
+use Rattle.columns_table.proofs.CutLemmas.{cut-map}
 use Rattle.columns_table.specs.Answers.{HasTable as TextsHaveTable, MayRefuse}
 use Rattle.columns_table.specs.Rows.{cut, row_texts_of}
 use Rattle.columns_table.specs.declared.cells.LineCell.{LineCell}

@@ -25,7 +25,7 @@ use Rattle.ansi_str_search.proofs.Walks.{from-plain, style-plain}
 use Rattle.columns_run.specs.Rows.{line_feed, tab, stripped, cell_parts}
 use Rattle.columns_run.specs.Ends.{is_cell_byte, cell_size, EndsCell}
 use Rattle.columns_table.specs.Rows.{cut}
-use Rattle.columns_run.proofs.RowLemmas.{cut-append, cut-more, sum-more}
+use Rattle.columns_table.proofs.CutLemmas.{cut-append, cut-more, sum-more}
 use Rattle.columns_run.proofs.EndLemmas.{shown_first, shown_none}
 use Rattle.columns_run.proofs.BoundLemmas.{cells_from, cells_from-pass, cells_from-start}
 use Rattle.columns_run.proofs.WholeLemmas.{pieces-whole, whole-from}

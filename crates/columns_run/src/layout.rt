@@ -11,7 +11,7 @@ use crate::styled_rows::{StyledCells, styled_cells};
 use ansi_scan::first_broken;
 use columns_asked::Asked;
 use columns_options::Options;
-use columns_table::{LineCells, Rows, rows_table};
+use columns_table::{Rows, rows_table};
 use std::alloc::Global;
 
 /// The table of a text, each of its lines ended by a line feed; nothing where the text has no rows.
@@ -36,22 +36,12 @@ fn styled_table(alloc: Global, options: &Options, text: &str) -> Result<String, 
     ensures table { IfOk result (λ table. string_bytes table ≡ output_of options.now text.now) }
     ensures faults { IfErr result IsOfInput }
 {
-    let Some(
-        StyledCells {
-            text: own,
-            ends,
-            counts,
-        },
-    ) = styled_cells(alloc, text)?
-    else {
+    let Some(StyledCells { text: own, rows }) = styled_cells(alloc, text)? else {
         return Err(RunFault::Escape {
             at: broken_place(text),
         });
     };
-    let rows = Rows {
-        cells: LineCells::of(&own, ends),
-        counts,
-    };
+    let rows = Rows::of(&own, rows);
     let asked = asked_of(options);
     Ok(rows_table(alloc, &options.style, &asked, rows)?)
 }

@@ -1,5 +1,5 @@
 //! The rows and cells of a text, which borrow it.
-ghost use Rattle.std.specs.Prelude.{◌≡◌, ◌≤◌, ◌<◌, ◌↔◌, ℕ, true, false, chars, length, map, slice_index, sum, IfOk, IfSome, IsSome, IsTrue};
+ghost use Rattle.std.specs.Prelude.{◌≡◌, ◌≤◌, ◌<◌, ◌↔◌, ℕ, true, false, chars, length, map, slice_index, IfOk, IfSome, IsSome, IsTrue};
 ghost use Rattle.std.specs.Int.{is_in_range};
 ghost use Rattle.ansi_str_text.specs.StyledText.{has_escape};
 ghost use Rattle.columns_run.specs.Rows.{rows_of};
@@ -7,7 +7,7 @@ ghost use Rattle.columns_run.specs.Cells.{byte_line, rows_shown};
 ghost use Rattle.columns_run.specs.Ends.{is_cell_text};
 ghost use Rattle.grid_records_measure.specs.Measures.{are_printable, measure};
 
-use columns_table::{CellEnd, CellEnds, LineCells, Rows};
+use columns_table::{CellEnd, RowEnds, Rows};
 use grid_records_measure::get_string_width;
 use memchr::memchr3;
 use std::alloc::{AllocError, Global};
@@ -19,23 +19,19 @@ const ESC: u8 = 0x1b;
 /// text, which is read once, and it fails only where allocation fails.
 pub fn rows_of<'a>(alloc: Global, text: &'a str) -> Result<Option<Rows<'a>>, AllocError>
     ensures plain { IfOk result (λ found. IsSome found ↔ (has_escape text.now ≡ false)) }
-    ensures whole { IfOk result (λ found. IfSome found (λ rows. sum rows.counts.items ≡ length rows.cells)) }
     ensures rows { IfOk result (λ found. IfSome found (λ rows. rows_shown rows ≡ map (map byte_line) (rows_of (λ b. b) text.now))) }
 {
-    let mut ends = CellEnds::new(alloc)?;
-    let mut counts = Vec::new(alloc);
-    let (mut count, mut start, mut end) = (0, 0, 0);
+    let mut rows = RowEnds::new(alloc)?;
+    let (mut start, mut end) = (0, 0);
     let mut plain = true;
     let bytes = text.as_bytes();
     while end < bytes.len() {
         match bytes[end] {
             byte if is_printable(byte) => end += 1,
             b'\t' | b'\n' => {
-                ends.push(cell_end(&text[start..end], end, plain))?;
-                count += 1;
+                rows.push(cell_end(&text[start..end], end, plain))?;
                 if bytes[end] == b'\n' {
-                    counts.push(count)?;
-                    count = 0;
+                    rows.end_row()?;
                 }
                 end += 1;
                 start = end;
@@ -49,12 +45,11 @@ pub fn rows_of<'a>(alloc: Global, text: &'a str) -> Result<Option<Rows<'a>>, All
         }
     }
     // A last row without characters is none.
-    if count > 0 || start < text.len() {
-        ends.push(cell_end(&text[start..], end, plain))?;
-        counts.push(count + 1)?;
+    if rows.has_begun() || start < text.len() {
+        rows.push(cell_end(&text[start..], end, plain))?;
+        rows.end_row()?;
     }
-    let cells = LineCells::of(text, ends);
-    Ok(Some(Rows { cells, counts }))
+    Ok(Some(Rows::of(text, rows)))
 }
 
 /// Where the first tab, line feed or ESC stands from `start` on; the end where there is none.

@@ -1,6 +1,6 @@
 //! The rows and cells of a text with escape sequences: its parts at line feeds, and their parts at tabs. Each part opens
 //! and ends its own styles. A part of a part is one part of the text, so one walk finds the cells.
-ghost use Rattle.std.specs.Prelude.{◌≡◌, ◌<◌, ◌==◌, ◌↔◌, ◌++◌, ℕ, List, chars, drop, length, slice_index, string_bytes, sum, take, true, IfOk, IfSome, IsNone, IsSome, IsTrue, OnOk};
+ghost use Rattle.std.specs.Prelude.{◌≡◌, ◌<◌, ◌==◌, ◌↔◌, ◌++◌, ℕ, List, chars, drop, length, slice_index, string_bytes, take, true, IfOk, IfSome, IsNone, IsSome, IsTrue, OnOk};
 ghost use Rattle.std.specs.List.{prefix_len};
 ghost use Rattle.ansi_scan.specs.Sequences.{IsWhole};
 ghost use Rattle.ansi_scan.specs.Pieces.{pieces};
@@ -16,7 +16,7 @@ ghost use Rattle.grid_records_measure.specs.Measures.{are_printable, measure};
 use ansi_scan::Kind;
 use ansi_str::get_blocks;
 use ansi_str_search::{Place, begins_with_escape, split_item};
-use columns_table::{CellEnd, CellEnds};
+use columns_table::{CellEnd, RowEnds};
 use grid_records_measure::get_line_width;
 use std::alloc::{AllocError, Global};
 
@@ -29,10 +29,8 @@ const ESC: u8 = 0x1b;
 pub struct StyledCells {
     /// The text that they stand in.
     pub text: String,
-    /// Where each of them ends there.
-    pub ends: CellEnds,
-    /// How many each row has.
-    pub counts: Vec<usize>,
+    /// Where each of them ends there, row by row.
+    pub rows: RowEnds,
 }
 
 /// The end of a cell.
@@ -50,26 +48,22 @@ struct CellStop<'a> {
 /// where the text is not whole.
 pub fn styled_cells(alloc: Global, text: &str) -> Result<Option<StyledCells>, AllocError>
     ensures whole { IfOk result (λ found. IsSome found ↔ IsWhole text.now) }
-    ensures fit { IfOk result (λ found. IfSome found (λ cells. AreCellEnds (string_bytes cells.text) cells.ends)) }
-    ensures long { IfOk result (λ found. IfSome found (λ cells. sum cells.counts.items ≡ length cells.ends)) }
-    ensures cells { IfOk result (λ found. IfSome found (λ cells. cut cells.counts.items (cell_lines cells) ≡ line_rows text.now)) }
+    ensures fit { IfOk result (λ found. IfSome found (λ cells. AreCellEnds (string_bytes cells.text) cells.rows.ends)) }
+    ensures ended { IfOk result (λ found. IfSome found (λ cells. cells.rows.begun ≡ 0)) }
+    ensures cells { IfOk result (λ found. IfSome found (λ cells. cut cells.rows.counts (cell_lines cells) ≡ line_rows text.now)) }
 {
     let mut found = StyledCells {
         text: String::new(alloc),
-        ends: CellEnds::new(alloc)?,
-        counts: Vec::new(alloc),
+        rows: RowEnds::new(alloc)?,
     };
-    let mut count = 0;
     let mut place = Place::start_of(text);
     let Some(mut end) = cell_end(&place) else {
         return Ok(None);
     };
     while !end.place.rest.is_empty() {
         push_cell(alloc, &mut found, &place, &end)?;
-        count += 1;
         if begins_with_line_feed(end.place.rest) {
-            found.counts.push(count)?;
-            count = 0;
+            found.rows.end_row()?;
         }
         place = Place {
             rest: behind_separator(end.place.rest),
@@ -81,9 +75,9 @@ pub fn styled_cells(alloc: Global, text: &str) -> Result<Option<StyledCells>, Al
         };
     }
     // A last row that shows nothing is none.
-    if count > 0 || !is_bare(place.rest) {
+    if found.rows.has_begun() || !is_bare(place.rest) {
         push_cell(alloc, &mut found, &place, &end)?;
-        found.counts.push(count + 1)?;
+        found.rows.end_row()?;
     }
     Ok(Some(found))
 }
@@ -97,14 +91,13 @@ fn push_cell<'a>(
 ) -> Result<(), AllocError>
     requires begins { (slice : List ℕ) × (place.now.rest.now ≡ slice ++ end.now.place.rest.now) }
     requires measured { IsTrue end.now.printable → measure (chars (stripped (part_between place.now.rest.now place.now.style end.now.place.rest.now end.now.place.style))) ≡ end.now.size }
-    ensures cells { OnOk result (AddsCell cells.old cells.new (part_between place.now.rest.now place.now.style end.now.place.rest.now end.now.place.style)) }
-    ensures counts { cells.new.counts ≡ cells.old.counts }
+    ensures { OnOk result (AddsCell cells.old cells.new (part_between place.now.rest.now place.now.style end.now.place.rest.now end.now.place.style)) }
 {
     let part = place.part_to(alloc, &end.place)?;
     let width = part_width(&part, end);
     cells.text.push_str(&part)?;
     let end = cells.text.len();
-    cells.ends.push(CellEnd { end, width })?;
+    cells.rows.push(CellEnd { end, width })?;
     cells.text.push('\n')?;
     Ok(())
 }

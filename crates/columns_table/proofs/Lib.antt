@@ -1,5 +1,6 @@
 pub mod AnswerLemmas
 pub mod CellLemmas
+pub mod CutLemmas
 pub mod EndLemmas
 pub mod KeptEndLemmas
 pub mod KeptLemmas
@@ -11,4 +12,4 @@ pub mod RecordLemmas
 pub mod RoomLemmas
 pub mod SizeLemmas
 pub mod StartLemmas
-pub mod WidenLemmas
+pub mod WidestLemmas

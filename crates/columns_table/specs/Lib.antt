@@ -1,9 +1,12 @@
 pub mod Answers
 pub mod CellRows
 pub mod Cells
+pub mod Columns
+pub mod Cut
 pub mod Ends
 pub mod Kept
 pub mod KeptEnds
 pub mod Least
 pub mod Records
+pub mod RowEnds
 pub mod Rows

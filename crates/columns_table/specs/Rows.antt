@@ -1,12 +1,8 @@
 -- Rows of cells as the code holds them: measured parts of a text, one row after the other.
-use Rattle.std.specs.Prelude.{ℕ, List, [], ◌∷◌, drop, map, take, vec_items}
+use Rattle.std.specs.Prelude.{ℕ, List, map, vec_items}
+pub use Rattle.columns_table.specs.Cut.{cut}
 use Rattle.columns_table.specs.declared.cells.LineCell.{LineCell}
 use Rattle.columns_table.specs.declared.rows.Rows.{Rows}
-
--- a list in pieces of these lengths
-abbrev pub cut : {X : Type 0} → List ℕ → List X → List (List X)
-cut [] xs = []
-cut (n ∷ ns) xs = take n xs ∷ cut ns (drop n xs)
 
 -- the texts of cells
 abbrev pub cell_texts : List LineCell → List (List ℕ)

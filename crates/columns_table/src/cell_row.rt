@@ -79,16 +79,6 @@ impl<'b, 'a> CellRow<'b, 'a> {
             width: number_at(self.widths, column, text.len()),
         })
     }
-
-    /// The columns that the cell in this column takes.
-    #[inline(always)]
-    pub(crate) fn width(self, column: usize) -> usize
-        requires { column + 1 < length self.starts.now }
-        ensures { result ≡ width_in column (row_cells self.entry) }
-    {
-        let bytes = self.starts[column + 1] - 1 - self.starts[column];
-        number_at(self.widths, column, bytes)
-    }
 }
 
 // The text that begins at the place with this number, up to one byte before the next place.

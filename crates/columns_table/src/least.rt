@@ -11,7 +11,6 @@ ghost use Rattle.columns_table.specs.Least.{padded, width_in};
 ghost use Rattle.columns_table.specs.Records.{IsMeasured};
 ghost use Rattle.columns_table.specs.Rows.{cut, row_texts_of};
 
-use crate::cell_row::CellRow;
 use crate::rows::Rows;
 use grid_config::{CompactConfig, Fault};
 use std::alloc::{AllocError, Global};
@@ -23,7 +22,6 @@ pub fn least_sizes(
     rows: &Rows<'_>,
     style: &CompactConfig,
 ) -> Result<(Vec<usize>, Vec<usize>), Fault>
-    requires whole { sum rows.now.counts.items ≡ length rows.now.cells }
     requires measured { All IsMeasured rows.now.cells }
     ensures widths { IfOk result (λ sizes. sizes.0.items ≡ widths_of (compact_of style.now) (row_texts_of rows.now)) }
     ensures heights { IfOk result (λ sizes. sizes.1.items ≡ heights_of (compact_of style.now) (row_texts_of rows.now)) }
@@ -41,31 +39,13 @@ pub fn least_sizes(
     Ok((widths, heights))
 }
 
-// What the widest cell of each column measures.
+// What the widest cell of each column measures, which the rows keep.
 fn widest(alloc: Global, rows: &Rows<'_>) -> Result<Vec<usize>, AllocError>
     ensures long { IfOk result (λ widths. vec_len widths ≡ greatest rows.now.counts.items) }
     ensures each { IfOk result (λ widths. (column : ℕ) →
         slice_index widths.items column ≡ greatest (map (width_in column) (cut rows.now.counts.items rows.now.cells))) }
 {
-    let mut widths = vec![in alloc; 0; greatest(&rows.counts)]?;
-    let mut rest = rows.cells.all();
-    for count in &rows.counts {
-        let (row, behind) = rest.split(*count);
-        widen(&mut widths, row);
-        rest = behind;
-    }
-    Ok(widths)
-}
-
-// Raises each width to that of the cell in its column, where it is less.
-fn widen(widths: &mut [usize], row: CellRow<'_, '_>)
-    requires { length (row_cells row) ≤ length widths.old }
-    ensures long { length widths.new ≡ length widths.old }
-    ensures each { (column : ℕ) → slice_index widths.new column ≡ max (slice_index widths.old column) (width_in column (row_cells row.entry)) }
-{
-    for column in 0..row.len() {
-        widths[column] = widths[column].max(row.width(column));
-    }
+    rows.widest[..greatest(&rows.counts)].to_vec(alloc)
 }
 
 // Adds the paddings to each size. Refused as `Range` where one passes `usize::MAX`.

@@ -7,11 +7,13 @@ mod ends;
 mod kept;
 mod least;
 mod placed;
+mod row_ends;
 mod rows;
 mod sizes;
 mod table;
 
 pub use cells::{LineCell, LineCells};
 pub use ends::{CellEnd, CellEnds};
+pub use row_ends::RowEnds;
 pub use rows::Rows;
 pub use table::rows_table;

@@ -28,7 +28,6 @@ impl<'a> PlacedRows<'a> {
     /// These rows, of `columns` columns. Does not allocate.
     pub fn new(rows: Rows<'a>, columns: usize) -> PlacedRows<'a>
         requires measured { All IsMeasured rows.cells }
-        requires whole { sum rows.counts.items ≡ length rows.cells }
         ensures columns { ⟦<PlacedRows<'a> as RecordColumns>⟧.columns result ≡ columns }
         ensures rows { ⟦<PlacedRows<'a> as RecordTexts>⟧.rows result ≡ placed_texts (starts_from 0 rows.entry.counts.items) rows.entry.cells }
     {

@@ -45,7 +45,6 @@ impl Dimension for Sizes {
 /// The least sizes of a table of these rows. Refused as `Range` where its width or height passes
 /// `usize::MAX`, and as `Memory` where allocation fails.
 pub fn sizes_of(alloc: Global, rows: &Rows<'_>, style: &CompactConfig) -> Result<Sizes, Fault>
-    requires whole { sum rows.now.counts.items ≡ length rows.now.cells }
     requires measured { All IsMeasured rows.now.cells }
     ensures widths { IfOk result (λ sizes. sizes.widths.items ≡ widths_of (compact_of style.now) (row_texts_of rows.now)) }
     ensures heights { IfOk result (λ sizes. sizes.heights.items ≡ heights_of (compact_of style.now) (row_texts_of rows.now)) }

@@ -32,14 +32,13 @@ use std::alloc::{AllocError, Global};
 /// Nothing where there are no rows. Refused as `Range` where its width or height passes `usize::MAX`,
 /// before its columns give or after; else as `Room` of the first cell, by row, then by column, with a
 /// line that takes more columns than the cell has; and as `Memory` where allocation fails.
-/// Each cell is one line that measures what it says; the counts are of all cells.
+/// Each cell is one line that measures what it says.
 pub fn rows_table(
     alloc: Global,
     style: &CompactConfig,
     asked: &Asked,
     rows: Rows<'_>,
 ) -> Result<String, Fault>
-    requires whole { sum rows.counts.items ≡ length rows.cells }
     requires measured { All IsMeasured rows.cells }
     ensures table { IfOk result (λ table. string_bytes table ≡ asked_text (compact_of style.now) asked.now (row_texts_of rows.entry)) }
     ensures fits { OnOk result (HasTable (compact_of style.now) asked.now (row_texts_of rows.entry)) }
@@ -86,7 +85,6 @@ fn natural_table(
     rows: Rows<'_>,
     sizes: Sizes,
 ) -> Result<String, Fault>
-    requires whole { sum rows.counts.items ≡ length rows.cells }
     requires measured { All IsMeasured rows.cells }
     requires widths { sizes.widths.items ≡ widths_of (compact_of style.now) (row_texts_of rows) }
     requires heights { sizes.heights.items ≡ heights_of (compact_of style.now) (row_texts_of rows) }

@@ -1,4 +1,4 @@
-use Rattle.std.proofs.Common.{◌≡◌, List, ℕ, Option, Some, length, map, string_bytes, sum, ap, refl, rules, subst, sym, ◌∙◌}
+use Rattle.std.proofs.Common.{◌≡◌, List, ℕ, Option, Some, length, map, string_bytes, ap, refl, rules, subst, sym, ◌∙◌}
 use Rattle.std.specs.Prelude.{◌↔◌, IfSome, IsSome}
 use Rattle.std.proofs.lemmas.List.{length-map}
 use Rattle.ansi_scan.specs.Sequences.{IsWhole}
@@ -6,7 +6,6 @@ use Rattle.columns_table.specs.Ends.{cells_in}
 use Rattle.columns_table.specs.Rows.{cut}
 use Rattle.columns_table.specs.declared.cells.LineCell.{LineCell}
 use Rattle.columns_table.specs.declared.rows.Rows.{Rows}
-use Rattle.columns_table.proofs.EndLemmas.{length-cells_in}
 use Rattle.columns_run.specs.Cells.{line_rows, rows_shown, shown}
 use Rattle.columns_run.specs.Styled.{cell_lines}
 use Rattle.columns_run.specs.declared.styled_rows.StyledCells.{StyledCells}
@@ -19,52 +18,46 @@ use Rattle.columns_run.proofs.layout.styled_table.Goals.{After-of}
 -- the rows are those of a whole text
 record AreOf (text : List ℕ) (rows : Rows) : Type 0 where
   whole : IsWhole text
-  counted : sum rows.counts.items ≡ length rows.cells
   are : rows_shown rows ≡ line_rows text
 
-are_of : (text own : List ℕ) (found : Option StyledCells) (styled : StyledCells) (cells : List LineCell) → found ≡ Some styled → own ≡ string_bytes styled.text → cells ≡ cells_in own styled.ends
-    → (IsSome found ↔ IsWhole text) → IfSome found (λ styled. sum styled.counts.items ≡ length styled.ends) → IfSome found (λ styled. cut styled.counts.items (cell_lines styled) ≡ line_rows text)
-    → AreOf text (record { cells = cells; counts = styled.counts })
-are_of text own found styled cells is own_is cells_are whole long same = record {
+are_of : (text own : List ℕ) (found : Option StyledCells) (styled : StyledCells) (rows : Rows) → found ≡ Some styled → own ≡ string_bytes styled.text → rows.cells ≡ cells_in own styled.rows.ends → rows.counts.items ≡ styled.rows.counts
+    → (IsSome found ↔ IsWhole text) → IfSome found (λ styled. cut styled.rows.counts (cell_lines styled) ≡ line_rows text) → AreOf text rows
+are_of text own found styled rows is own_is cells_are counts_are whole same = record {
   whole = (subst (λ found. IsSome found ↔ IsWhole text) is whole).0 refl;
-  counted = subst (λ found. IfSome found (λ styled. sum styled.counts.items ≡ length styled.ends)) is long
-      ∙ sym (length-cells_in own styled.ends) ∙ sym (ap (λ (cells : List LineCell). length cells) cells_are);
-  are = ap (λ (cells : List LineCell). cut styled.counts.items (map shown cells)) (cells_are ∙ ap (λ bytes. cells_in bytes styled.ends) own_is)
-      ∙ subst (λ found. IfSome found (λ styled. cut styled.counts.items (cell_lines styled) ≡ line_rows text)) is same;
+  are = ap (λ (counts : List ℕ). cut counts (map shown rows.cells)) counts_are
+      ∙ ap (λ (cells : List LineCell). cut styled.rows.counts (map shown cells)) (cells_are ∙ ap (λ bytes. cells_in bytes styled.rows.ends) own_is)
+      ∙ subst (λ found. IfSome found (λ styled. cut styled.rows.counts (cell_lines styled) ≡ line_rows text)) is same;
 }
 
-known : (c : After-of) → AreOf c.args.text.now (record { cells = c.of.result; counts = c.in-Some.field-0.counts })
+known : (c : After-of) → AreOf c.args.text.now c.of.result
 known c =
-    are_of c.args.text.now c.deref.result.now c.in_ok-own.field-0 c.in-Some.field-0 c.of.result c.in-Some.is c.deref.ensures c.of.ensures
-    c.in_ok-own.ensures.whole c.in_ok-own.ensures.long c.in_ok-own.ensures.cells
-
-pub rows_table-requires-clause-whole : goal.rows_table-requires-clause-whole
-rows_table-requires-clause-whole c = (known (goal.at.rows_table-requires-clause-whole c).After-of).counted
+    are_of c.args.text.now c.deref.result.now c.in_ok-own.field-0 c.in-Some.field-0 c.of.result c.in-Some.is c.deref.ensures c.of.ensures.cells c.of.ensures.counts
+    c.in_ok-own.ensures.whole c.in_ok-own.ensures.cells
 
 pub rows_table-requires-clause-measured : goal.rows_table-requires-clause-measured
 rows_table-requires-clause-measured c =
     let text = c.args.text.now in
-    let rows : Rows = record { cells = c.of.result; counts = c.in-Some.field-0.counts } in
+    let rows = c.of.result in
     let are = known (goal.at.rows_table-requires-clause-measured c).After-of in
-    cells-measured text rows (whole_text text c.utf8.text are.whole) (are.counted ∙ sym (length-map rows.cells shown)) are.are
+    cells-measured text rows (whole_text text c.utf8.text are.whole) (rows.whole ∙ sym (length-map rows.cells shown)) are.are
 
 pub returns-in_err-rows_table-clause-answers : goal.returns-in_err-rows_table-clause-answers
 returns-in_err-rows_table-clause-answers c =
-    let rows : Rows = record { cells = c.of.result; counts = c.in-Some.field-0.counts } in
+    let rows = c.of.result in
     let are = known (goal.at.returns-in_err-rows_table-clause-answers c).After-of in
     refused c.args.options.now c.args.text.now c.utf8.text are.whole rows are.are
     c.asked_of-asked.result c.asked_of-asked.ensures c.in_err-rows_table.field-0.0 c.from_residual-in_err-rows_table.result (search rules) c.in_err-rows_table.ensures.refused
 
 pub returns-clause-answers : goal.returns-clause-answers
 returns-clause-answers c =
-    let rows : Rows = record { cells = c.of.result; counts = c.in-Some.field-0.counts } in
+    let rows = c.of.result in
     let are = known (goal.at.returns-clause-answers c).After-of in
     has-table c.args.options.now c.args.text.now c.utf8.text are.whole rows are.are
     c.asked_of-asked.result c.asked_of-asked.ensures c.in_ok-rows_table.ensures.fits
 
 pub returns-clause-table : goal.returns-clause-table
 returns-clause-table c =
-    let rows : Rows = record { cells = c.of.result; counts = c.in-Some.field-0.counts } in
+    let rows = c.of.result in
     let are = known (goal.at.returns-clause-table c).After-of in
     c.in_ok-rows_table.ensures.table
     ∙ output-is c.args.options.now c.args.text.now c.utf8.text are.whole rows are.are

@@ -1,4 +1,4 @@
-use Rattle.std.proofs.Common.{◌≡◌, false, List, ℕ, Option, Some, length, map, sum, refl, rules, subst, sym, ◌∙◌}
+use Rattle.std.proofs.Common.{◌≡◌, false, List, ℕ, Option, Some, length, map, refl, rules, subst, sym, ◌∙◌}
 use Rattle.std.specs.Prelude.{◌↔◌, IfSome, IsSome}
 use Rattle.std.proofs.lemmas.List.{length-map}
 use Rattle.ansi_str_text.specs.StyledText.{has_escape}
@@ -14,16 +14,14 @@ use Rattle.columns_run.proofs.layout.text_table.Goals as goal
 -- the rows are those of a text without ESC
 record AreOf (text : List ℕ) (rows : Rows) : Type 0 where
   none : has_escape text ≡ false
-  counted : sum rows.counts.items ≡ length rows.cells
   are : rows_shown rows ≡ line_rows text
 
 are_of : (text : List ℕ) (found : Option Rows) (rows : Rows) → found ≡ Some rows → (IsSome found ↔ (has_escape text ≡ false))
-    → IfSome found (λ rows. sum rows.counts.items ≡ length rows.cells) → IfSome found (λ rows. rows_shown rows ≡ map (map byte_line) (rows_of (λ b. b) text)) → AreOf text rows
-are_of text found rows is plain whole same =
+    → IfSome found (λ rows. rows_shown rows ≡ map (map byte_line) (rows_of (λ b. b) text)) → AreOf text rows
+are_of text found rows is plain same =
     let none : has_escape text ≡ false = (subst (λ found. IsSome found ↔ (has_escape text ≡ false)) is plain).0 refl in
     record {
       none = none;
-      counted = subst (λ found. IfSome found (λ rows. sum rows.counts.items ≡ length rows.cells)) is whole;
       are = subst (λ found. IfSome found (λ rows. rows_shown rows ≡ map (map byte_line) (rows_of (λ b. b) text))) is same ∙ line_rows-plain text none;
     }
 
@@ -31,14 +29,14 @@ pub rows_table-requires-clause-measured : goal.rows_table-requires-clause-measur
 rows_table-requires-clause-measured c =
     let text = c.args.text.now in
     let rows = c.in-Some.rows in
-    let known = are_of text c.in_ok-rows.field-0 rows c.in-Some.is c.in_ok-rows.ensures.plain c.in_ok-rows.ensures.whole c.in_ok-rows.ensures.rows in
-    cells-measured text rows (whole_text text c.utf8.text (IsWhole-without_escape text known.none)) (known.counted ∙ sym (length-map rows.cells shown)) known.are
+    let known = are_of text c.in_ok-rows.field-0 rows c.in-Some.is c.in_ok-rows.ensures.plain c.in_ok-rows.ensures.rows in
+    cells-measured text rows (whole_text text c.utf8.text (IsWhole-without_escape text known.none)) (rows.whole ∙ sym (length-map rows.cells shown)) known.are
 
 pub returns-in_err-rows_table-clause-answers : goal.returns-in_err-rows_table-clause-answers
 returns-in_err-rows_table-clause-answers c =
     let text = c.args.text.now in
     let rows = c.in-Some.rows in
-    let known = are_of text c.in_ok-rows.field-0 rows c.in-Some.is c.in_ok-rows.ensures.plain c.in_ok-rows.ensures.whole c.in_ok-rows.ensures.rows in
+    let known = are_of text c.in_ok-rows.field-0 rows c.in-Some.is c.in_ok-rows.ensures.plain c.in_ok-rows.ensures.rows in
     refused c.args.options.now text c.utf8.text (IsWhole-without_escape text known.none) rows known.are
     c.asked_of-asked.result c.asked_of-asked.ensures c.in_err-rows_table.field-0.0 c.from_residual-in_err-rows_table.result (search rules) c.in_err-rows_table.ensures.refused
 
@@ -46,7 +44,7 @@ pub returns-clause-answers : goal.returns-clause-answers
 returns-clause-answers c =
     let text = c.args.text.now in
     let rows = c.in-Some.rows in
-    let known = are_of text c.in_ok-rows.field-0 rows c.in-Some.is c.in_ok-rows.ensures.plain c.in_ok-rows.ensures.whole c.in_ok-rows.ensures.rows in
+    let known = are_of text c.in_ok-rows.field-0 rows c.in-Some.is c.in_ok-rows.ensures.plain c.in_ok-rows.ensures.rows in
     has-table c.args.options.now text c.utf8.text (IsWhole-without_escape text known.none) rows known.are
     c.asked_of-asked.result c.asked_of-asked.ensures c.in_ok-rows_table.ensures.fits
 
@@ -54,7 +52,7 @@ pub returns-clause-table : goal.returns-clause-table
 returns-clause-table c =
     let text = c.args.text.now in
     let rows = c.in-Some.rows in
-    let known = are_of text c.in_ok-rows.field-0 rows c.in-Some.is c.in_ok-rows.ensures.plain c.in_ok-rows.ensures.whole c.in_ok-rows.ensures.rows in
+    let known = are_of text c.in_ok-rows.field-0 rows c.in-Some.is c.in_ok-rows.ensures.plain c.in_ok-rows.ensures.rows in
     c.in_ok-rows_table.ensures.table
     ∙ output-is c.args.options.now text c.utf8.text (IsWhole-without_escape text known.none) rows known.are
     c.asked_of-asked.result c.asked_of-asked.ensures

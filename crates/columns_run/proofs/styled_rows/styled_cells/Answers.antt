@@ -1,5 +1,5 @@
 -- A step over a cell that is gathered, and the rows at the end of the text.
-use Rattle.std.proofs.Common.{◌≡◌, ◌==◌, ◌<◌, ◌≤◌, ◌+◌, ◌-◌, ℕ, Bool, true, false, Fits, w64, Vec, Global, List, [], ◌∷◌, ◌++◌, drop, length, map, slice_index, string_bytes, sum, refl, ap, sym, subst, ◌∙◌, arith, eqb-true, length-drop}
+use Rattle.std.proofs.Common.{◌≡◌, ◌==◌, ◌<◌, ◌≤◌, ◌+◌, ◌-◌, ℕ, Bool, true, false, nat_lt, List, [], ◌∷◌, ◌++◌, drop, length, map, slice_index, string_bytes, sum, refl, ap, sym, subst, ◌∙◌, arith, eqb-true, length-drop}
 use Rattle.std.proofs.lemmas.Bool.Decides.{nat_tests}
 use Rattle.std.specs.Prelude.{IsTrue, chars}
 use Rattle.ansi_scan.specs.Attributes.{Attributes, IsRendition, plain_attributes}
@@ -9,48 +9,57 @@ use Rattle.ansi_scan.specs.Pieces.{pieces}
 use Rattle.ansi_str_search.specs.Parts.{before_place, through_place}
 use Rattle.ansi_str_search.proofs.DressedLemmas.{IsRendition-after}
 use Rattle.grid_records_measure.specs.Measures.{measure}
+use Rattle.columns_table.specs.RowEnds.{EndedRows, row_ended, with_cell}
 use Rattle.columns_table.specs.Rows.{cut}
+use Rattle.columns_table.specs.declared.ends.CellEnd.{CellEnd}
+use Rattle.columns_table.proofs.CutLemmas.{cut-map}
 use Rattle.columns_run.specs.Cells.{part_line}
 use Rattle.columns_run.specs.Ends.{cell_size, EndsCell, Passes}
 use Rattle.columns_run.specs.Rows.{line_feed, stripped, cell_parts}
 use Rattle.columns_run.specs.Styled.{AddsCell, part_between}
 use Rattle.columns_run.specs.declared.styled_rows.StyledCells.{StyledCells}
-use Rattle.columns_run.proofs.GatherLemmas.{Gathered, Gathered-start, Gathered-more, ends-longer, cells-within, length-parts_in, parts-added, parts_in}
-use Rattle.columns_run.proofs.PartLemmas.{cut-map}
+use Rattle.columns_run.proofs.GatherLemmas.{Gathered, Gathered-start, Gathered-more, ends-longer, length-parts_in, parts-added, parts_in}
 use Rattle.columns_run.proofs.PassedLemmas.{measure-passed}
 use Rattle.columns_run.proofs.WalkLemmas.{Walked, Walked-start, Walked-tab, Walked-feed, Walked-last, Walked-none, walked-part, whole-next, separator-ascii, cell-slice, end-fits, part_at}
 use Rattle.columns_run.proofs.WholeLemmas.{whole-byte, whole-nothing}
 use Rattle.columns_run.proofs.styled_rows.styled_cells.Goals as goal
-use Rattle.columns_run.proofs.styled_rows.styled_cells.Goals.{then-begins_with_line_feed+in_ok-push, else-begins_with_line_feed}
-use Rattle.columns_run.proofs.styled_rows.styled_cells.Goals.{then-count-gt0+in_ok-push_cell-2+in_ok-push-2, then-count-gt0-via-then-count-gt0, then-count-gt0-via-else-count-gt0+then-not-is_bare, else-count-gt0+else-not-is_bare}
+use Rattle.columns_run.proofs.styled_rows.styled_cells.Goals.{then-begins_with_line_feed+in_ok-end_row, else-begins_with_line_feed}
+use Rattle.columns_run.proofs.styled_rows.styled_cells.Goals.{then-has_begun+in_ok-push_cell-2+in_ok-end_row-2, then-has_begun-via-then-has_begun, then-has_begun-via-else-has_begun+then-not-is_bare, else-has_begun+else-not-is_bare}
 
 some_of : (n : ℕ) → (n == 0) ≡ false → 0 < n
 some_of n e = grind (arith, nat_tests)
 
 abbrev parts_of : StyledCells → List (List ℕ)
-parts_of cells = parts_in (string_bytes cells.text) cells.ends
+parts_of cells = parts_in (string_bytes cells.text) cells.rows.ends
 
 -- what the walk has gathered, before a cell
-record IsSoFar (text rest : List ℕ) (style : Attributes) (end : List ℕ) (end_style : Attributes) (cells : StyledCells) (count : ℕ) : Type 0 where
-  walked : Walked text rest style end end_style cells.counts.items (sum cells.counts.items) (parts_of cells)
-  gathered : Gathered (string_bytes cells.text) cells.ends
-  row : sum cells.counts.items + count ≡ length cells.ends
+record IsSoFar (text rest : List ℕ) (style : Attributes) (end : List ℕ) (end_style : Attributes) (cells : StyledCells) : Type 0 where
+  walked : Walked text rest style end end_style cells.rows.counts (sum cells.rows.counts) (parts_of cells)
+  gathered : Gathered (string_bytes cells.text) cells.rows.ends
+  row : sum cells.rows.counts + cells.rows.begun ≡ length cells.rows.ends
 
 -- what is gathered at the end
 record IsAll (text : List ℕ) (cells : StyledCells) : Type 0 where
-  gathered : Gathered (string_bytes cells.text) cells.ends
-  long : sum cells.counts.items ≡ length cells.ends
-  rows : cut cells.counts.items (parts_of cells) ≡ cell_parts text
+  gathered : Gathered (string_bytes cells.text) cells.rows.ends
+  ended : cells.rows.begun ≡ 0
+  rows : cut cells.rows.counts (parts_of cells) ≡ cell_parts text
 
-module _ (text rest : List ℕ) (style : Attributes) (end : List ℕ) (end_style : Attributes) (old : StyledCells) (count : ℕ) (so_far : IsSoFar text rest style end end_style old count) where
+-- cells with these rows
+abbrev with_rows : StyledCells → EndedRows → StyledCells
+with_rows cells rows = record { text = cells.text; rows = rows }
+
+module _ (text rest : List ℕ) (style : Attributes) (end : List ℕ) (end_style : Attributes) (old : StyledCells) (so_far : IsSoFar text rest style end end_style old) where
   abbrev counts : List ℕ
-  counts = old.counts.items
+  counts = old.rows.counts
+
+  abbrev count : ℕ
+  count = old.rows.begun
 
   abbrev parts : List (List ℕ)
   parts = parts_of old
 
   sized : length parts ≡ sum counts + count
-  sized = length-parts_in (string_bytes old.text) old.ends ∙ sym so_far.row
+  sized = length-parts_in (string_bytes old.text) old.rows.ends ∙ sym so_far.row
 
   begins-part : (slice : List ℕ) × (rest ≡ slice ++ end)
   begins-part = (joined (through_place (cell_size rest) (pieces rest)), cell-slice rest style end end_style so_far.walked.ends)
@@ -67,21 +76,24 @@ module _ (text rest : List ℕ) (style : Attributes) (end : List ℕ) (end_style
   none-more whole gone none bare =
       let full : length parts ≤ sum counts = omega (arith, sized, none) in
       let found = Walked-none text rest style end end_style counts (sum counts) parts so_far.walked gone whole full bare in
-      record { gathered = so_far.gathered; long = found.0 ∙ length-parts_in (string_bytes old.text) old.ends; rows = found.1 }
+      record { gathered = so_far.gathered; ended = none; rows = found.1 }
 
   -- one more cell
   module _ (new : StyledCells) (adds : AddsCell old new (part_between rest style end end_style)) where
     abbrev pushed : List (List ℕ)
     pushed = parts_of new
 
-    gathered-new : Gathered (string_bytes new.text) new.ends
+    gathered-new : Gathered (string_bytes new.text) new.rows.ends
     gathered-new = Gathered-more old new (part_between rest style end end_style) so_far.gathered adds
 
-    count-new : sum counts + (count + 1) ≡ length new.ends
-    count-new = omega (arith, so_far.row, ends-longer old new (part_between rest style end end_style) so_far.gathered adds)
+    counts-new : new.rows.counts ≡ counts
+    counts-new = ap (λ (rows : EndedRows). rows.counts) adds.rows
 
-    count-fits : Fits w64 (count + 1)
-    count-fits = omega (arith, count-new, cells-within (string_bytes new.text) new.ends gathered-new, new.text.bytes.ok.0, new.text.bytes.ok.1, new.text.bytes.small)
+    begun-new : new.rows.begun ≡ count + 1
+    begun-new = ap (λ (rows : EndedRows). rows.begun) adds.rows
+
+    count-new : sum counts + (count + 1) ≡ length new.rows.ends
+    count-new = omega (arith, so_far.row, ends-longer old new (part_between rest style end end_style) so_far.gathered adds)
 
     pushed-is : pushed ≡ parts ++ part_at text so_far.walked.place (so_far.walked.place + cell_size rest) ∷ []
     pushed-is =
@@ -89,40 +101,36 @@ module _ (text rest : List ℕ) (style : Attributes) (end : List ℕ) (end_style
         ∙ ap (λ part. parts ++ part ∷ []) (walked-part text rest style end end_style counts (sum counts) parts so_far.walked)
 
     row-size : length pushed - sum counts ≡ count + 1
-    row-size = omega (arith, length-parts_in (string_bytes new.text) new.ends, count-new)
+    row-size = omega (arith, length-parts_in (string_bytes new.text) new.rows.ends, count-new)
 
     -- the row that ends with it
-    module _ (ended : Vec ℕ Global) (more : ended.items ≡ counts ++ (count + 1) ∷ []) where
-      abbrev row-ended : StyledCells
-      row-ended = record { text = new.text; ends = new.ends; counts = ended }
+    more-is : new.rows.counts ++ new.rows.begun ∷ [] ≡ counts ++ (length pushed - sum counts) ∷ []
+    more-is = ap (λ (found : List ℕ). found ++ new.rows.begun ∷ []) counts-new ∙ ap (λ n. counts ++ n ∷ []) (begun-new ∙ sym row-size)
 
-      more-is : ended.items ≡ counts ++ (length pushed - sum counts) ∷ []
-      more-is = more ∙ ap (λ n. counts ++ n ∷ []) (sym row-size)
-
-      all-ended : IsWhole text → length end ≡ 0 → 0 < count + length (stripped rest) → IsAll text row-ended
-      all-ended whole gone some =
-          let shows : 0 < length parts - sum counts + length (stripped rest) = omega (arith, sized, some) in
-          let found = Walked-last text rest style end end_style counts (sum counts) parts so_far.walked gone whole pushed ended.items pushed-is more-is shows in
-          record { gathered = gathered-new; long = found.0 ∙ length-parts_in (string_bytes new.text) new.ends; rows = found.1 }
+    all-ended : IsWhole text → length end ≡ 0 → 0 < count + length (stripped rest) → IsAll text (with_rows new (row_ended new.rows))
+    all-ended whole gone some =
+        let shows : 0 < length parts - sum counts + length (stripped rest) = omega (arith, sized, some) in
+        let found = Walked-last text rest style end end_style counts (sum counts) parts so_far.walked gone whole pushed (new.rows.counts ++ new.rows.begun ∷ []) pushed-is more-is shows in
+        record { gathered = gathered-new; ended = refl; rows = found.1 }
 
     module _ (next : List ℕ) (next_style : Attributes) (next_end : List ℕ) (next_end_style : Attributes) (some : 0 < length end) (is_next : next ≡ drop 1 end) (is_style : next_style ≡ end_style) (next_ends : EndsCell next next_style next_end next_end_style) where
-      behind-tab : new.counts ≡ old.counts → (slice_index end 0 == line_feed) ≡ false → IsSoFar text next next_style next_end next_end_style new (count + 1)
-      behind-tab same other = record {
-        walked = subst (λ (found : Vec ℕ Global). Walked text next next_style next_end next_end_style found.items (sum found.items) pushed) (sym same)
+      behind-tab : (slice_index end 0 == line_feed) ≡ false → IsSoFar text next next_style next_end next_end_style new
+      behind-tab other = record {
+        walked = subst (λ (found : List ℕ). Walked text next next_style next_end next_end_style found (sum found) pushed) (sym counts-new)
             (Walked-tab text rest style end end_style counts (sum counts) parts so_far.walked next next_style next_end next_end_style some is_next is_style next_ends pushed pushed-is other);
         gathered = gathered-new;
-        row = ap (λ (found : Vec ℕ Global). sum found.items + (count + 1)) same ∙ count-new;
+        row = ap (λ (found : List ℕ). sum found + new.rows.begun) counts-new ∙ ap (λ n. sum counts + n) begun-new ∙ count-new;
       }
 
-      behind-feed : (ended : Vec ℕ Global) → ended.items ≡ counts ++ (count + 1) ∷ [] → (slice_index end 0 == line_feed) ≡ true
-          → IsSoFar text next next_style next_end next_end_style (record { text = new.text; ends = new.ends; counts = ended }) 0
-      behind-feed ended more feed =
-          let walked = Walked-feed text rest style end end_style counts (sum counts) parts so_far.walked next next_style next_end next_end_style some is_next is_style next_ends pushed ended.items pushed-is feed (more-is ended more) in
-          let total : sum ended.items ≡ length pushed = sym walked.counted in
+      behind-feed : (slice_index end 0 == line_feed) ≡ true → IsSoFar text next next_style next_end next_end_style (with_rows new (row_ended new.rows))
+      behind-feed feed =
+          let ended : List ℕ = new.rows.counts ++ new.rows.begun ∷ [] in
+          let walked = Walked-feed text rest style end end_style counts (sum counts) parts so_far.walked next next_style next_end next_end_style some is_next is_style next_ends pushed ended pushed-is feed more-is in
+          let total : sum ended ≡ length pushed = sym walked.counted in
           record {
-            walked = subst (λ n. Walked text next next_style next_end next_end_style ended.items n pushed) walked.counted walked;
+            walked = subst (λ n. Walked text next next_style next_end next_end_style ended n pushed) walked.counted walked;
             gathered = gathered-new;
-            row = omega (arith, total, length-parts_in (string_bytes new.text) new.ends);
+            row = omega (arith, total, length-parts_in (string_bytes new.text) new.rows.ends);
           }
 
 -- ---- the answers
@@ -133,14 +141,17 @@ loop-alloc-init c =
     let place = c.start_of-place.result in
     let end = c.in-Some.end.place in
     let bytes = string_bytes c.new.result in
-    let ends = c.in_ok-new.field-0 in
-    let none : parts_in bytes ends ≡ [] = ap (λ found. parts_in bytes found) c.in_ok-new.ensures in
+    let rows = c.in_ok-new.field-0 in
+    let ends : rows.ends ≡ [] = ap (λ (rows : EndedRows). rows.ends) c.in_ok-new.ensures in
+    let counts : rows.counts ≡ [] = ap (λ (rows : EndedRows). rows.counts) c.in_ok-new.ensures in
+    let begun : rows.begun ≡ 0 = ap (λ (rows : EndedRows). rows.begun) c.in_ok-new.ensures in
+    let none : parts_in bytes rows.ends ≡ [] = ap (λ found. parts_in bytes found) ends in
     record {
-      walked = subst (λ (counts : List ℕ). Walked text place.rest.now place.style end.rest.now end.style counts (sum counts) (parts_in bytes ends)) (sym c.new-3.ensures.items)
+      walked = subst (λ (counts : List ℕ). Walked text place.rest.now place.style end.rest.now end.style counts (sum counts) (parts_in bytes rows.ends)) (sym counts)
           (subst (λ (parts : List (List ℕ)). Walked text place.rest.now place.style end.rest.now end.style [] 0 parts) (sym none)
           (Walked-start text place.rest.now place.style end.rest.now end.style c.start_of-place.ensures.rest c.start_of-place.ensures.style c.in-Some.ensures.cell));
-      gathered = Gathered-start bytes ends c.new.ensures.bytes c.in_ok-new.ensures;
-      row = omega (arith, ap sum c.new-3.ensures.items, ap length c.in_ok-new.ensures);
+      gathered = Gathered-start bytes rows.ends c.new.ensures.bytes ends;
+      row = omega (arith, ap sum counts, begun, ap (λ (ends : List CellEnd). length ends) ends);
       whole = subst IsWhole c.start_of-place.ensures.rest;
       closes = c.in-Some.ensures.whole;
       passes = c.in-Some.ensures.passes;
@@ -148,27 +159,21 @@ loop-alloc-init c =
 
 pub push_cell-requires-clause-measured : goal.push_cell-requires-clause-measured
 push_cell-requires-clause-measured c =
-    takes-columns c.args.text.now c.loop-alloc.place.rest.now c.loop-alloc.place.style c.loop-alloc.end.place.rest.now c.loop-alloc.end.place.style c.loop-alloc.found c.loop-alloc.count
+    takes-columns c.args.text.now c.loop-alloc.place.rest.now c.loop-alloc.place.style c.loop-alloc.end.place.rest.now c.loop-alloc.end.place.style c.loop-alloc.found
     (record { walked = c.loop-alloc.invariant.walked; gathered = c.loop-alloc.invariant.gathered; row = c.loop-alloc.invariant.row })
     c.loop-alloc.end.size c.loop-alloc.end.printable c.loop-alloc.invariant.passes
 
 pub push_cell-requires-clause-begins : goal.push_cell-requires-clause-begins
 push_cell-requires-clause-begins c =
-    begins-part c.args.text.now c.loop-alloc.place.rest.now c.loop-alloc.place.style c.loop-alloc.end.place.rest.now c.loop-alloc.end.place.style c.loop-alloc.found c.loop-alloc.count
+    begins-part c.args.text.now c.loop-alloc.place.rest.now c.loop-alloc.place.style c.loop-alloc.end.place.rest.now c.loop-alloc.end.place.style c.loop-alloc.found
     (record { walked = c.loop-alloc.invariant.walked; gathered = c.loop-alloc.invariant.gathered; row = c.loop-alloc.invariant.row })
-
-pub overflow_add-count : goal.overflow_add-count
-overflow_add-count c =
-    count-fits c.args.text.now c.loop-alloc.place.rest.now c.loop-alloc.place.style c.loop-alloc.end.place.rest.now c.loop-alloc.end.place.style c.loop-alloc.found c.loop-alloc.count
-    (record { walked = c.loop-alloc.invariant.walked; gathered = c.loop-alloc.invariant.gathered; row = c.loop-alloc.invariant.row })
-    c.push_cell.new.cells c.in_ok-push_cell.ensures.cells
 
 pub behind_separator-requires : goal.behind_separator-requires
 behind_separator-requires c =
     let place = c.loop-alloc.place in
     let end = c.loop-alloc.end.place in
     let some = some_of (length end.rest.now) (sym c.is_empty.ensures ∙ c.loop-alloc-test.true) in
-    (some, separator-ascii c.args.text.now place.rest.now place.style end.rest.now end.style c.loop-alloc.found.counts.items (sum c.loop-alloc.found.counts.items) (parts_of c.loop-alloc.found) c.loop-alloc.invariant.walked some)
+    (some, separator-ascii c.args.text.now place.rest.now place.style end.rest.now end.style c.loop-alloc.found.rows.counts (sum c.loop-alloc.found.rows.counts) (parts_of c.loop-alloc.found) c.loop-alloc.invariant.walked some)
 
 pub returns-in-None-clause-whole : goal.returns-in-None-clause-whole
 returns-in-None-clause-whole c =
@@ -176,7 +181,7 @@ returns-in-None-clause-whole c =
     let end = c.loop-alloc.end.place in
     let some = some_of (length end.rest.now) (sym c.is_empty.ensures ∙ c.loop-alloc-test.true) in (
       λ found. absurd (cc found),
-      λ whole. absurd (c.in-None.ensures.broken refl (whole-next c.args.text.now place.rest.now place.style end.rest.now end.style c.loop-alloc.found.counts.items (sum c.loop-alloc.found.counts.items) (parts_of c.loop-alloc.found) c.loop-alloc.invariant.walked
+      λ whole. absurd (c.in-None.ensures.broken refl (whole-next c.args.text.now place.rest.now place.style end.rest.now end.style c.loop-alloc.found.rows.counts (sum c.loop-alloc.found.rows.counts) (parts_of c.loop-alloc.found) c.loop-alloc.invariant.walked
           c.behind_separator.result.now some c.behind_separator.ensures whole)),
     )
 
@@ -195,28 +200,22 @@ loop-alloc-preserved c =
     let place = c.loop-alloc.place in
     let end = c.loop-alloc.end.place in
     let old = c.loop-alloc.found in
-    let count = c.loop-alloc.count in
     let new = c.push_cell.new.cells in
     let next = c.behind_separator.result.now in
     let next_end = c.in-Some-cell_end.end.place in
     let some = some_of (length end.rest.now) (sym c.is_empty.ensures ∙ c.loop-alloc-test.true) in
-    let so_far : IsSoFar text place.rest.now place.style end.rest.now end.style old count =
+    let so_far : IsSoFar text place.rest.now place.style end.rest.now end.style old =
     record { walked = c.loop-alloc.invariant.walked; gathered = c.loop-alloc.invariant.gathered; row = c.loop-alloc.invariant.row } in
-    let along : (found : StyledCells) (n : ℕ) → c.if-begins_with_line_feed.found ≡ found → c.if-begins_with_line_feed.count ≡ n → IsSoFar text next end.style next_end.rest.now next_end.style found n
-    → IsSoFar text next end.style next_end.rest.now next_end.style c.if-begins_with_line_feed.found c.if-begins_with_line_feed.count =
-    λ found n is counted known.
-    subst (λ (cells : StyledCells). IsSoFar text next end.style next_end.rest.now next_end.style cells c.if-begins_with_line_feed.count) (sym is)
-    (subst (λ (m : ℕ). IsSoFar text next end.style next_end.rest.now next_end.style found m) (sym counted) known) in
-    let later : IsSoFar text next end.style next_end.rest.now next_end.style c.if-begins_with_line_feed.found c.if-begins_with_line_feed.count =
+    let later : IsSoFar text next end.style next_end.rest.now next_end.style c.if-begins_with_line_feed.found =
     elim c.if-begins_with_line_feed.branch [
-      | then-begins_with_line_feed+in_ok-push w ↦
-          along (record { text = new.text; ends = new.ends; counts = w.push.new.self }) 0 w.found-is w.count-is
-          (behind-feed text place.rest.now place.style end.rest.now end.style old count so_far new c.in_ok-push_cell.ensures.cells next end.style next_end.rest.now next_end.style some c.behind_separator.ensures refl c.in-Some-cell_end.ensures.cell
-          w.push.new.self (w.in_ok-push.ensures.items ∙ ap (λ (found : Vec ℕ Global). found.items ++ (count + 1) ∷ []) c.in_ok-push_cell.ensures.counts) (sym c.begins_with_line_feed.ensures ∙ w.if-begins_with_line_feed.true))
+      | then-begins_with_line_feed+in_ok-end_row w ↦
+          subst (λ (cells : StyledCells). IsSoFar text next end.style next_end.rest.now next_end.style cells) (sym (w.found-is ∙ ap (with_rows new) w.in_ok-end_row.ensures.ended))
+          (behind-feed text place.rest.now place.style end.rest.now end.style old so_far new c.in_ok-push_cell.ensures next end.style next_end.rest.now next_end.style some c.behind_separator.ensures refl c.in-Some-cell_end.ensures.cell
+          (sym c.begins_with_line_feed.ensures ∙ w.if-begins_with_line_feed.true))
       | else-begins_with_line_feed w ↦
-          along new (count + 1) w.found-is w.count-is
-          (behind-tab text place.rest.now place.style end.rest.now end.style old count so_far new c.in_ok-push_cell.ensures.cells next end.style next_end.rest.now next_end.style some c.behind_separator.ensures refl c.in-Some-cell_end.ensures.cell
-          c.in_ok-push_cell.ensures.counts (sym c.begins_with_line_feed.ensures ∙ w.if-begins_with_line_feed.false))
+          subst (λ (cells : StyledCells). IsSoFar text next end.style next_end.rest.now next_end.style cells) (sym w.found-is)
+          (behind-tab text place.rest.now place.style end.rest.now end.style old so_far new c.in_ok-push_cell.ensures next end.style next_end.rest.now next_end.style some c.behind_separator.ensures refl c.in-Some-cell_end.ensures.cell
+          (sym c.begins_with_line_feed.ensures ∙ w.if-begins_with_line_feed.false))
     ] in
     record {
       walked = later.walked;
@@ -227,56 +226,48 @@ loop-alloc-preserved c =
       passes = c.in-Some-cell_end.ensures.passes;
     }
 
-pub push_cell-requires-then-count-gt0-clause-measured : goal.push_cell-requires-then-count-gt0-clause-measured
-push_cell-requires-then-count-gt0-clause-measured c =
-    takes-columns c.args.text.now c.loop-alloc.place.rest.now c.loop-alloc.place.style c.loop-alloc.end.place.rest.now c.loop-alloc.end.place.style c.loop-alloc.found c.loop-alloc.count
+pub push_cell-requires-then-has_begun-clause-measured : goal.push_cell-requires-then-has_begun-clause-measured
+push_cell-requires-then-has_begun-clause-measured c =
+    takes-columns c.args.text.now c.loop-alloc.place.rest.now c.loop-alloc.place.style c.loop-alloc.end.place.rest.now c.loop-alloc.end.place.style c.loop-alloc.found
     (record { walked = c.loop-alloc.invariant.walked; gathered = c.loop-alloc.invariant.gathered; row = c.loop-alloc.invariant.row })
     c.loop-alloc.end.size c.loop-alloc.end.printable c.loop-alloc.invariant.passes
 
-pub push_cell-requires-then-count-gt0-clause-begins : goal.push_cell-requires-then-count-gt0-clause-begins
-push_cell-requires-then-count-gt0-clause-begins c =
-    begins-part c.args.text.now c.loop-alloc.place.rest.now c.loop-alloc.place.style c.loop-alloc.end.place.rest.now c.loop-alloc.end.place.style c.loop-alloc.found c.loop-alloc.count
+pub push_cell-requires-then-has_begun-clause-begins : goal.push_cell-requires-then-has_begun-clause-begins
+push_cell-requires-then-has_begun-clause-begins c =
+    begins-part c.args.text.now c.loop-alloc.place.rest.now c.loop-alloc.place.style c.loop-alloc.end.place.rest.now c.loop-alloc.end.place.style c.loop-alloc.found
     (record { walked = c.loop-alloc.invariant.walked; gathered = c.loop-alloc.invariant.gathered; row = c.loop-alloc.invariant.row })
-
-pub overflow_add-count-then-count-gt0 : goal.overflow_add-count-then-count-gt0
-overflow_add-count-then-count-gt0 c =
-    count-fits c.args.text.now c.loop-alloc.place.rest.now c.loop-alloc.place.style c.loop-alloc.end.place.rest.now c.loop-alloc.end.place.style c.loop-alloc.found c.loop-alloc.count
-    (record { walked = c.loop-alloc.invariant.walked; gathered = c.loop-alloc.invariant.gathered; row = c.loop-alloc.invariant.row })
-    c.push_cell-then-count-gt0.new.cells c.in_ok-push_cell-2.ensures.cells
 
 -- no sequence was broken up to the end
-whole-text : (c : goal.Joined-count-gt0) → IsWhole c.args.text.now
+whole-text : (c : goal.Joined-has_begun) → IsWhole c.args.text.now
 whole-text c =
     c.loop-alloc.invariant.whole (c.loop-alloc.invariant.closes (whole-nothing c.loop-alloc.end.place.rest.now (eqb-true (length c.loop-alloc.end.place.rest.now) 0 (sym c.is_empty.ensures ∙ c.loop-alloc-test.false))))
 
-all : (c : goal.Joined-count-gt0) → IsAll c.args.text.now c.if-count-gt0.found
+all : (c : goal.Joined-has_begun) → IsAll c.args.text.now c.if-has_begun.found
 all c =
     let text = c.args.text.now in
     let place = c.loop-alloc.place in
     let end = c.loop-alloc.end.place in
     let old = c.loop-alloc.found in
-    let count = c.loop-alloc.count in
     let gone = eqb-true (length end.rest.now) 0 (sym c.is_empty.ensures ∙ c.loop-alloc-test.false) in
-    let so_far : IsSoFar text place.rest.now place.style end.rest.now end.style old count =
+    let so_far : IsSoFar text place.rest.now place.style end.rest.now end.style old =
     record { walked = c.loop-alloc.invariant.walked; gathered = c.loop-alloc.invariant.gathered; row = c.loop-alloc.invariant.row } in
-    elim c.if-count-gt0.branch [
-      | then-count-gt0+in_ok-push_cell-2+in_ok-push-2 w ↦
-          let new = w.push_cell-then-count-gt0.new.cells in
-          let ended = w.push-then-count-gt0.new.self in
-          let some : 0 < count + length (stripped place.rest.now) =
-          elim w.then-count-gt0.branch [
-            | then-count-gt0-via-then-count-gt0 w' ↦ omega (arith, w'.if-count-gt0.true)
-            | then-count-gt0-via-else-count-gt0+then-not-is_bare w' ↦
+    elim c.if-has_begun.branch [
+      | then-has_begun+in_ok-push_cell-2+in_ok-end_row-2 w ↦
+          let new = w.push_cell-then-has_begun.new.cells in
+          let some : 0 < old.rows.begun + length (stripped place.rest.now) =
+          elim w.then-has_begun.branch [
+            | then-has_begun-via-then-has_begun w' ↦ let begun : nat_lt 0 old.rows.begun ≡ true = sym w'.has_begun.ensures ∙ w'.if-has_begun.true in grind (arith, nat_tests, begun)
+            | then-has_begun-via-else-has_begun+then-not-is_bare w' ↦
                 let shows = some_of (length (stripped place.rest.now)) (sym w'.is_bare.ensures ∙ w'.if-not-is_bare.true) in omega (arith, shows)
           ] in
-          subst (λ (cells : StyledCells). IsAll text cells) (sym w.found-is)
-          (all-ended text place.rest.now place.style end.rest.now end.style old count so_far new w.in_ok-push_cell-2.ensures.cells ended
-          (w.in_ok-push-2.ensures.items ∙ ap (λ (found : Vec ℕ Global). found.items ++ (count + 1) ∷ []) w.in_ok-push_cell-2.ensures.counts) (whole-text c) gone some)
-      | else-count-gt0+else-not-is_bare w ↦
-          let none : count ≡ 0 = omega (arith, w.if-count-gt0.false) in
+          subst (λ (cells : StyledCells). IsAll text cells) (sym (w.found-is ∙ ap (with_rows new) w.in_ok-end_row-2.ensures.ended))
+          (all-ended text place.rest.now place.style end.rest.now end.style old so_far new w.in_ok-push_cell-2.ensures (whole-text c) gone some)
+      | else-has_begun+else-not-is_bare w ↦
+          let begun : nat_lt 0 old.rows.begun ≡ false = sym w.has_begun.ensures ∙ w.if-has_begun.false in
+          let none : old.rows.begun ≡ 0 = grind (arith, nat_tests, begun) in
           let bare = eqb-true (length (stripped place.rest.now)) 0 (sym w.is_bare.ensures ∙ w.if-not-is_bare.false) in
           subst (λ (cells : StyledCells). IsAll text cells) (sym w.found-is)
-          (none-more text place.rest.now place.style end.rest.now end.style old count so_far (whole-text c) gone none bare)
+          (none-more text place.rest.now place.style end.rest.now end.style old so_far (whole-text c) gone none bare)
     ]
 
 pub returns-clause-whole : goal.returns-clause-whole
@@ -285,12 +276,12 @@ returns-clause-whole c = (λ _. whole-text c, λ _. refl)
 pub returns-clause-fit : goal.returns-clause-fit
 returns-clause-fit c = (all c).gathered.fit
 
-pub returns-clause-long : goal.returns-clause-long
-returns-clause-long c = (all c).long
+pub returns-clause-ended : goal.returns-clause-ended
+returns-clause-ended c = (all c).ended
 
 pub returns-clause-cells : goal.returns-clause-cells
 returns-clause-cells c =
-    let found = c.if-count-gt0.found in
-    ap (cut found.counts.items) (all c).gathered.lines
-    ∙ cut-map part_line found.counts.items (parts_of found)
+    let found = c.if-has_begun.found in
+    ap (cut found.rows.counts) (all c).gathered.lines
+    ∙ cut-map part_line found.rows.counts (parts_of found)
     ∙ ap (map (map part_line)) (all c).rows

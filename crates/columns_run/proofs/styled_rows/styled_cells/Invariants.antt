@@ -7,9 +7,9 @@ use Rattle.columns_run.proofs.styled_rows.styled_cells.Given as goal
 
 abbrev pub invariant-loop-alloc : goal.invariant-loop-alloc
 invariant-loop-alloc l = record {
-  walked : Walked l.text l.place.rest.now l.place.style l.end.place.rest.now l.end.place.style l.found.counts.items (sum l.found.counts.items) (parts_in (string_bytes l.found.text) l.found.ends);
-  gathered : Gathered (string_bytes l.found.text) l.found.ends;
-  row : sum l.found.counts.items + l.count ≡ length l.found.ends;
+  walked : Walked l.text l.place.rest.now l.place.style l.end.place.rest.now l.end.place.style l.found.rows.counts (sum l.found.rows.counts) (parts_in (string_bytes l.found.text) l.found.rows.ends);
+  gathered : Gathered (string_bytes l.found.text) l.found.rows.ends;
+  row : sum l.found.rows.counts + l.found.rows.begun ≡ length l.found.rows.ends;
   whole : IsWhole l.place.rest.now → IsWhole l.text;
   passes : Passes l.place.rest.now l.end.place.rest.now l.end.size l.end.printable;
   closes : IsWhole l.end.place.rest.now → IsWhole l.place.rest.now;

@@ -12,7 +12,7 @@ pub returns-then-is_empty-clause-widths : goal.returns-then-is_empty-clause-widt
 returns-then-is_empty-clause-widths c =
     let rows = c.args.rows.now in
     let ws = c.in_ok-widths.widths in
-    empty-widths (compact_of c.args.style.now) rows.counts.items rows.cells c.requires.measured c.requires.whole ws.items (sym ws.ok.0 ∙ c.in_ok-widths.ensures.long) c.in_ok-widths.ensures.each
+    empty-widths (compact_of c.args.style.now) rows.counts.items rows.cells c.requires.measured rows.whole ws.items (sym ws.ok.0 ∙ c.in_ok-widths.ensures.long) c.in_ok-widths.ensures.each
     (sym ws.ok.0 ∙ none-of ws.len c.is_empty.result c.is_empty.ensures c.if-is_empty.true)
 
 pub returns-then-is_empty-clause-heights : goal.returns-then-is_empty-clause-heights
@@ -20,7 +20,7 @@ returns-then-is_empty-clause-heights c =
     let rows = c.args.rows.now in
     let ws = c.in_ok-widths.widths in
     c.new.ensures.items
-    ∙ empty-heights (compact_of c.args.style.now) rows.counts.items rows.cells c.requires.measured c.requires.whole ws.items (sym ws.ok.0 ∙ c.in_ok-widths.ensures.long) c.in_ok-widths.ensures.each
+    ∙ empty-heights (compact_of c.args.style.now) rows.counts.items rows.cells c.requires.measured rows.whole ws.items (sym ws.ok.0 ∙ c.in_ok-widths.ensures.long) c.in_ok-widths.ensures.each
     (sym ws.ok.0 ∙ none-of ws.len c.is_empty.result c.is_empty.ensures c.if-is_empty.true)
 
 pub returns-clause-widths : goal.returns-clause-widths
@@ -34,7 +34,7 @@ returns-clause-widths c =
     ∙ c.in_ok-pad.ensures.ok
     ∙ ap (map (padded c.get_padding-padding.result.now.left.size c.get_padding-padding.result.now.right.size)) c.deref_mut.ensures.value
     ∙ ap (λ p. map (padded p.left.size p.right.size) ws.items) c.get_padding-padding.ensures
-    ∙ sym (padded-widths style rows.counts.items rows.cells c.requires.measured c.requires.whole ws.items (sym ws.ok.0 ∙ c.in_ok-widths.ensures.long) c.in_ok-widths.ensures.each some)
+    ∙ sym (padded-widths style rows.counts.items rows.cells c.requires.measured rows.whole ws.items (sym ws.ok.0 ∙ c.in_ok-widths.ensures.long) c.in_ok-widths.ensures.each some)
 
 pub returns-clause-heights : goal.returns-clause-heights
 returns-clause-heights c =
@@ -49,7 +49,7 @@ returns-clause-heights c =
     ∙ c.in_ok-pad-2.ensures.ok
     ∙ ap (map (padded c.get_padding-padding.result.now.top.size c.get_padding-padding.result.now.bottom.size)) (c.deref_mut-2.ensures.value ∙ ones)
     ∙ ap (λ p. map (padded p.top.size p.bottom.size) (replicate (length rows.counts.items) 1)) c.get_padding-padding.ensures
-    ∙ sym (padded-heights style rows.counts.items rows.cells c.requires.measured c.requires.whole ws.items (sym ws.ok.0 ∙ c.in_ok-widths.ensures.long) c.in_ok-widths.ensures.each some)
+    ∙ sym (padded-heights style rows.counts.items rows.cells c.requires.measured rows.whole ws.items (sym ws.ok.0 ∙ c.in_ok-widths.ensures.long) c.in_ok-widths.ensures.each some)
 
 pub returns-in_err-pad-clause-refused : goal.returns-in_err-pad-clause-refused
 returns-in_err-pad-clause-refused c =
@@ -60,7 +60,7 @@ returns-in_err-pad-clause-refused c =
     let same =
     ap (map (padded c.get_padding-padding.result.now.left.size c.get_padding-padding.result.now.right.size)) c.deref_mut.ensures.value
     ∙ ap (λ p. map (padded p.left.size p.right.size) ws.items) c.get_padding-padding.ensures
-    ∙ sym (padded-widths style rows.counts.items rows.cells c.requires.measured c.requires.whole ws.items (sym ws.ok.0 ∙ c.in_ok-widths.ensures.long) c.in_ok-widths.ensures.each some) in
+    ∙ sym (padded-widths style rows.counts.items rows.cells c.requires.measured rows.whole ws.items (sym ws.ok.0 ∙ c.in_ok-widths.ensures.long) c.in_ok-widths.ensures.each some) in
     IfErr-told c.from_residual-in_err-pad.result c.in_err-pad.field-0.0 _ c.from_residual-in_err-pad.ensures.1
     (inr (c.in_err-pad.ensures.fault, inl (subst PassesMax same c.in_err-pad.ensures.range)))
 
@@ -75,6 +75,6 @@ returns-in_err-pad-2-clause-refused c =
     let same =
     ap (map (padded c.get_padding-padding.result.now.top.size c.get_padding-padding.result.now.bottom.size)) (c.deref_mut-2.ensures.value ∙ ones)
     ∙ ap (λ p. map (padded p.top.size p.bottom.size) (replicate (length rows.counts.items) 1)) c.get_padding-padding.ensures
-    ∙ sym (padded-heights style rows.counts.items rows.cells c.requires.measured c.requires.whole ws.items (sym ws.ok.0 ∙ c.in_ok-widths.ensures.long) c.in_ok-widths.ensures.each some) in
+    ∙ sym (padded-heights style rows.counts.items rows.cells c.requires.measured rows.whole ws.items (sym ws.ok.0 ∙ c.in_ok-widths.ensures.long) c.in_ok-widths.ensures.each some) in
     IfErr-told c.from_residual-in_err-pad-2.result c.in_err-pad-2.field-0.0 _ c.from_residual-in_err-pad-2.ensures.1
     (inr (c.in_err-pad-2.ensures.fault, inr (subst PassesMax same c.in_err-pad-2.ensures.range)))

@@ -17,7 +17,7 @@ text_of_grid-text-requires c = λ some.
     let heights = c.args.sizes.heights.items in
     let columns = c.new-records.ensures.columns ∙ c.greatest-columns.ensures ∙ ap greatest c.deref.ensures.value in
     subst (λ texts. Fits c.in_ok-settings.settings (slice_index widths) (slice_index heights) c.new-records.result.columns texts) (sym c.new-records.ensures.rows)
-    (fits style c.in_ok-settings.settings c.in_ok-settings.ensures.settings rows.counts.items rows.cells c.requires.whole widths heights
+    (fits style c.in_ok-settings.settings c.in_ok-settings.ensures.settings rows.counts.items rows.cells rows.whole widths heights
     c.requires.widths c.requires.heights (some-heights style _ (λ none. some (c.requires.lines ∙ none))) c.requires.fits c.new-records.result.columns columns)
 
 pub returns-clause-table : goal.returns-clause-table
@@ -30,7 +30,7 @@ returns-clause-table c =
     IfOk-weaker c.text_of_grid-text.result _ _
     (λ table is. is
     ∙ ap (λ texts. if c.args.sizes.lines == 0 then [] else grid_text (look_of settings) (slice_index widths) (slice_index heights) (λ _. None) c.new-records.result.columns texts ++ line_feed ∷ []) c.new-records.ensures.rows
-    ∙ prints (compact_of c.args.style.now) settings c.in_ok-settings.ensures.settings rows.counts.items rows.cells c.requires.whole widths heights
+    ∙ prints (compact_of c.args.style.now) settings c.in_ok-settings.ensures.settings rows.counts.items rows.cells rows.whole widths heights
     c.args.sizes.lines c.new-records.result.columns c.requires.widths c.requires.heights c.requires.lines columns)
     c.text_of_grid-text.ensures.text
 
@@ -38,4 +38,4 @@ pub returns-clause-room : goal.returns-clause-room
 returns-clause-room c =
     let rows = c.args.rows in
     OnOk-always c.text_of_grid-text.result
-    (natural-room (compact_of c.args.style.now) c.in_ok-settings.settings c.in_ok-settings.ensures.settings rows.counts.items rows.cells c.requires.whole)
+    (natural-room (compact_of c.args.style.now) c.in_ok-settings.settings c.in_ok-settings.ensures.settings rows.counts.items rows.cells rows.whole)

@@ -1,0 +1,83 @@
+//! Where the cells of a text end, row by row, and the widest of each column.
+use crate::ends::{CellEnd, CellEnds};
+use std::alloc::{AllocError, Global};
+use std::marker::Model;
+
+/// Where the cells of rows end that stand one behind the other in a text, parted by one byte each, as they are
+/// read. It keeps the greatest width of each column on the way, so that no cell is looked at again for it.
+#[derive(Drop)]
+pub struct RowEnds {
+    pub(crate) ends: CellEnds,
+    // How many cells each row has, and how many the row that isn't ended.
+    pub(crate) counts: Vec<usize>,
+    begun: usize,
+    // What the widest cell of each column takes.
+    pub(crate) widest: Vec<usize>,
+}
+
+impl Model for RowEnds {
+    ghost use Rattle.std.specs.Prelude.{◌≡◌, ◌+◌, ◌++◌, ◌∷◌, [], length, sum};
+    ghost use Rattle.columns_table.specs.Columns.{AreWidest, end_widths};
+    ghost use Rattle.columns_table.specs.RowEnds.{EndedRows};
+
+    ghost Value = { EndedRows };
+
+    ghost view = { λ rows. record { ends = rows.ends; counts = rows.counts.items; begun = rows.begun } };
+
+    ghost invariant = { λ rows. (sum rows.counts.items + rows.begun ≡ length rows.ends)
+        × AreWidest rows.widest.items (rows.counts.items ++ rows.begun ∷ []) (end_widths rows.ends) };
+}
+
+impl RowEnds {
+    ghost use Rattle.std.specs.Prelude.{◌≡◌, ◌<◌, IfOk, OnErr, OnOk, nat_lt};
+    ghost use Rattle.columns_table.specs.RowEnds.{no_rows, row_ended, with_cell};
+
+    /// No rows. Fails only where allocation fails.
+    pub fn new(alloc: Global) -> Result<RowEnds, AllocError>
+        ensures { IfOk result (λ rows. rows ≡ no_rows) }
+    {
+        Ok(RowEnds {
+            ends: CellEnds::new(alloc)?,
+            counts: Vec::new(alloc),
+            begun: 0,
+            widest: Vec::new(alloc),
+        })
+    }
+
+    /// Whether a cell stands in the row that isn't ended.
+    #[inline(always)]
+    pub fn has_begun(&self) -> bool
+        ensures { result ≡ nat_lt 0 self.now.begun }
+    {
+        self.begun > 0
+    }
+
+    /// Appends the end of a cell to the row that isn't ended; no text has one behind all its bytes. Fails only where
+    /// allocation fails, and then nothing has changed.
+    #[inline(always)]
+    pub fn push(&mut self, cell: CellEnd) -> Result<(), AllocError>
+        requires { cell.end < usize.MAX }
+        ensures more { OnOk result (self.new ≡ with_cell self.old cell) }
+        ensures err { OnErr result (self.new ≡ self.old) }
+    {
+        let column = self.begun;
+        if column == self.widest.len() {
+            self.widest.push(0)?;
+        }
+        self.ends.push(cell)?;
+        self.widest[column] = self.widest[column].max(cell.width);
+        self.begun = column + 1;
+        Ok(())
+    }
+
+    /// Ends the row. Fails only where allocation fails, and then nothing has changed.
+    #[inline(always)]
+    pub fn end_row(&mut self) -> Result<(), AllocError>
+        ensures ended { OnOk result (self.new ≡ row_ended self.old) }
+        ensures err { OnErr result (self.new ≡ self.old) }
+    {
+        self.counts.push(self.begun)?;
+        self.begun = 0;
+        Ok(())
+    }
+}
