@@ -1,8 +1,8 @@
 //! Tables worked out by hand, and rows that have none.
-use crate::cells::{lines_of, total, written};
+use crate::cells::{lines_of, written};
 use ansi_scan::is_whole;
 use columns_asked::Asked;
-use columns_table::{CellEnds, LineCells, Rows, rows_table};
+use columns_table::{RowEnds, Rows, rows_table};
 use grid_config::{Borders, CompactConfig, Fault, Indent, Sides};
 use std::alloc::Global;
 use tabled_size_priority::Choice;
@@ -178,14 +178,8 @@ fn table_of(
         return Err(Fault::Memory);
     }
     let lines = lines_of(alloc, text)?;
-    let (joined, ends) = written(alloc, &lines)?;
-    let cells = LineCells::of(&joined, ends);
-    let counts = counts.to_vec(alloc)?;
-    if total(&counts) != Some(cells.len()) {
-        return Err(Fault::Memory);
-    }
-    let rows = Rows { cells, counts };
-    rows_table(alloc, style, asked, rows)
+    let (joined, rows) = written(alloc, &lines, counts)?;
+    rows_table(alloc, style, asked, Rows::of(&joined, rows))
 }
 
 #[test]
@@ -202,11 +196,8 @@ fn rows_have_their_table(rt: HostRuntime) -> Result<(), Fault> {
 fn no_rows_have_no_table(rt: HostRuntime) -> Result<(), Fault> {
     let style = ascii().set_padding(Sides::new(ENDLESS, ENDLESS, ENDLESS, ENDLESS));
     for asked in [NATURAL, wrapped(0), cut(0)] {
-        let rows = Rows {
-            cells: LineCells::of("", CellEnds::new(rt.alloc())?),
-            counts: Vec::new(rt.alloc()),
-        };
-        let table = rows_table(rt.alloc(), &style, &asked, rows)?;
+        let rows = RowEnds::new(rt.alloc())?;
+        let table = rows_table(rt.alloc(), &style, &asked, Rows::of("", rows))?;
         assert_eq!(rt; table.as_str(), "");
     }
     Ok(())

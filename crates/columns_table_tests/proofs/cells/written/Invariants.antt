@@ -3,9 +3,9 @@ use Rattle.columns_table.specs.Ends.{AreCellEnds, cells_in, start_behind}
 use Rattle.columns_table.specs.Records.{IsMeasured}
 use Rattle.columns_table_tests.proofs.cells.written.Given as goal
 
-abbrev pub invariant-loop-line : goal.invariant-loop-line
-invariant-loop-line l = record {
-  fit : AreCellEnds (string_bytes l.text) l.ends;
-  begins : start_behind l.ends ≡ length (string_bytes l.text);
-  measured : All IsMeasured (cells_in (string_bytes l.text) l.ends);
+abbrev pub invariant-loop-i : goal.invariant-loop-i
+invariant-loop-i l = record {
+  fit : AreCellEnds (string_bytes l.text) l.rows.ends;
+  begins : start_behind l.rows.ends ≡ length (string_bytes l.text);
+  measured : All IsMeasured (cells_in (string_bytes l.text) l.rows.ends);
 }
