@@ -81,6 +81,14 @@ const NOTHING: Case = Case {
     lines: "",
 };
 
+// Rows without columns.
+const NO_COLUMNS: Case = Case {
+    cells: &[&[], &[]],
+    widths: &[],
+    heights: &[],
+    lines: "",
+};
+
 #[test]
 fn compact_grids_print_first_lines(rt: HostRuntime) -> Result<(), Fault> {
     let sides = Sides::new(
@@ -99,7 +107,8 @@ fn compact_grids_print_first_lines(rt: HostRuntime) -> Result<(), Fault> {
         Indent::new(1, '_'),
     );
     expect_table(&rt, rt.alloc(), &MARGINS, &boxed().set_margin(margin))?;
-    expect_table(&rt, rt.alloc(), &NOTHING, &boxed().set_margin(margin))
+    expect_table(&rt, rt.alloc(), &NOTHING, &boxed().set_margin(margin))?;
+    expect_table(&rt, rt.alloc(), &NO_COLUMNS, &boxed().set_margin(margin))
 }
 
 // A table of one line a row, which all three grids print.
@@ -115,13 +124,40 @@ fn spaced() -> CompactConfig {
     boxed().set_padding(Sides::new(space, space, Indent::zero(), Indent::zero()))
 }
 
-#[test]
-fn all_grids_print_one_table(rt: HostRuntime) -> Result<(), Fault> {
-    expect_table(&rt, rt.alloc(), &ALIKE, &spaced())?;
-    let cfg = SpannedConfig::from_compact_config(rt.alloc(), spaced())?;
-    let outcome = expect_lines(&rt, rt.alloc(), &ALIKE, &cfg, &NoColors);
+// Neighbouring glyphs of one colour, which begins and ends once for all of them.
+const BLUE: Case = Case {
+    cells: &[&["a", "b"]],
+    widths: &[1, 1],
+    heights: &[1],
+    lines: "+\u{1b}[34m-+-\u{1b}[39m+\n|a\u{1b}[34m|\u{1b}[39mb|\n+-+-+",
+};
+
+fn blue() -> CompactConfig {
+    let color = ANSIStr::new("\u{1b}[34m", "\u{1b}[39m");
+    let mut blue = Borders::empty();
+    blue.top = Some(color);
+    blue.top_intersection = Some(color);
+    blue.vertical = Some(color);
+    boxed().set_borders_color(blue)
+}
+
+fn expect_by_all(
+    rt: &impl Abort,
+    alloc: Global,
+    case: &Case,
+    cfg: CompactConfig,
+) -> Result<(), Fault> {
+    expect_table(rt, alloc, case, &cfg)?;
+    let cfg = SpannedConfig::from_compact_config(alloc, cfg)?;
+    let outcome = expect_lines(rt, alloc, case, &cfg, &NoColors);
     end(cfg);
     outcome
+}
+
+#[test]
+fn all_grids_print_one_table(rt: HostRuntime) -> Result<(), Fault> {
+    expect_by_all(&rt, rt.alloc(), &ALIKE, spaced())?;
+    expect_by_all(&rt, rt.alloc(), &BLUE, blue())
 }
 
 // Colours of a boundary and of a cell's text.
@@ -184,6 +220,14 @@ const ENDLESS: Case = Case {
     lines: "before",
 };
 
+// A line of as many columns as can be counted, which no memory holds.
+const WIDEST: Case = Case {
+    cells: &[&["a"]],
+    widths: &[usize::MAX - 2],
+    heights: &[1],
+    lines: "before",
+};
+
 // A table that fits.
 const SMALL: Case = Case {
     cells: &[&["a"]],
@@ -224,6 +268,7 @@ fn compact_grids_refuse(rt: HostRuntime) -> Result<(), Fault> {
         Fault::Room { row: 0, column: 0 },
     )?;
     expect_refusal(&rt, alloc, &ENDLESS, &boxed(), Fault::Range)?;
+    expect_refusal(&rt, alloc, &WIDEST, &boxed(), Fault::Memory)?;
     let none = Indent::zero();
     let high = boxed().set_margin(Sides::new(none, none, Indent::spaced(usize::MAX), none));
     expect_refusal(&rt, alloc, &SMALL, &high, Fault::Range)

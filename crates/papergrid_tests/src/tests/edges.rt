@@ -192,7 +192,7 @@ fn expect_refusal(
 
 // A cell is too wide, and the columns pass the range.
 const ENDLESS: Case = Case {
-    cells: &[&["a", "b"], &["c", "ddd"]],
+    cells: &[&["a", "b"], &["ccc", "d"]],
     widths: &[1, usize::MAX],
     heights: &[1, 1],
     lines: "before",

@@ -4,8 +4,10 @@ use grid_config::{
     ANSIBuf, AlignmentHorizontal, AlignmentVertical, Borders, ColoredConfig, Entity, Fault, Indent,
     Position, Sides, SpannedConfig,
 };
-use grid_records_rows::{VecRecords, are_equally_long};
-use papergrid::{Colors, IterGrid, NoColors, PeekableGrid, fits};
+use grid_records_rows::{PeekableRecords, VecRecords, are_equally_long};
+use papergrid::{Colors, IterGrid, NoColors, PeekableGrid, count_lines, fits};
+use papergrid_fits::fits_counted;
+use papergrid_print::print_line;
 use std::alloc::Global;
 use std::process::Abort;
 
@@ -73,6 +75,43 @@ fn read_once<C: Colors>(
     IterGrid::new(VecRecords::new(rows), cfg, sizes, colors).to_string(alloc)
 }
 
+// The text of a table of these sizes, each of its lines printed by itself, where the records fit it.
+fn line_by_line<R: PeekableRecords, C: Colors>(
+    alloc: Global,
+    records: &R,
+    cfg: &SpannedConfig,
+    colors: &C,
+    widths: &[usize],
+    heights: &[usize],
+) -> Result<String, Fault> {
+    let sizes = Sizes { widths, heights };
+    fits_counted(records, cfg, &sizes, heights.len(), widths.len())?;
+    let mut text = String::new(alloc);
+    for y in 0..count_lines(cfg, widths, heights) {
+        if y > 0 {
+            text.push('\n')?;
+        }
+        print_line(alloc, records, cfg, colors, widths, heights, y, &mut text)?;
+    }
+    Ok(text)
+}
+
+// So it prints the table, which has as many rows and columns as there are heights and widths.
+fn expect_each_line<C: Colors>(
+    rt: &impl Abort,
+    alloc: Global,
+    case: &Case,
+    cfg: &SpannedConfig,
+    colors: &C,
+) -> Result<(), Fault> {
+    let rows = rows_of(alloc, case.cells)?;
+    assert!(rt; are_equally_long(&rows));
+    let records = VecRecords::new(rows);
+    let text = line_by_line(alloc, &records, cfg, colors, case.widths, case.heights)?;
+    assert_eq!(rt; text.as_str(), case.lines, "line by line");
+    Ok(())
+}
+
 pub(super) fn expect_lines<C: Colors>(
     rt: &impl Abort,
     alloc: Global,
@@ -84,7 +123,10 @@ pub(super) fn expect_lines<C: Colors>(
     assert_eq!(rt; text.as_str(), case.lines);
     let text = read_once(rt, alloc, case, cfg, colors)?;
     assert_eq!(rt; text.as_str(), case.lines);
-    Ok(())
+    if case.heights.len() != case.cells.len() {
+        return Ok(());
+    }
+    expect_each_line(rt, alloc, case, cfg, colors)
 }
 
 // A row span in the middle of its height.
@@ -130,7 +172,15 @@ const RIGHT: Case = Case {
     lines: "+----+\n|  ab|\n|  c |\n+----+\n|abcd|\n+----+\n|   \u{1b}[31mx\u{1b}[39m|\n|   \u{1b}[31my\u{1b}[39m|\n+----+",
 };
 
-// The same, each line for itself; without the white space at its ends, and the blank lines at both ends.
+// The same, each line for itself.
+const APART: Case = Case {
+    cells: &[&["ab\nc"]],
+    widths: &[4],
+    heights: &[2],
+    lines: "+----+\n|  ab|\n|   c|\n+----+",
+};
+
+// The same without the white space at the ends of lines, and the blank lines at both ends.
 const TRIMMED: Case = Case {
     cells: &[&["ab\nc"], &[" \n  a b  \n\n"]],
     widths: &[7],
@@ -143,6 +193,7 @@ fn expect_right(rt: &impl Abort, alloc: Global, cfg: &mut SpannedConfig) -> Resu
     cfg.set_alignment_horizontal(Entity::Global, AlignmentHorizontal::Right)?;
     expect_lines(rt, alloc, &RIGHT, cfg, &NoColors)?;
     cfg.set_line_alignment(Entity::Global, true)?;
+    expect_lines(rt, alloc, &APART, cfg, &NoColors)?;
     cfg.set_trim_horizontal(Entity::Global, true)?;
     cfg.set_trim_vertical(Entity::Global, true)?;
     expect_lines(rt, alloc, &TRIMMED, cfg, &NoColors)
