@@ -10,7 +10,7 @@ use Rattle.ansi_str.specs.StyledText.{strip}
 use Rattle.ansi_str.specs.Matches.{AreMatches, AreMatchesFrom, Occurs}
 use Rattle.ansi_str_search.proofs.MatchLemmas.{Occurs-within}
 use Rattle.ansi_str_search.proofs.SearchLemmas.{of_pieces}
-use Rattle.grid_records_measure.specs.TextLines.{AreLinesOf, is_line_feed, line_feed, line_feed_places, shown_lines, text_height, text_lines}
+use Rattle.grid_records_measure.specs.TextLines.{AreLinesOf, is_line_feed, line_feed, line_feed_places, shown_lines, text_height, text_lines, text_width, widest}
 use Rattle.grid_records_measure.proofs.LineLemmas.{length-lines, lines-shown, lines-unique}
 
 -- ---- the places of line feeds
@@ -86,6 +86,15 @@ text_lines-one text ps lines of_text are =
 pub length-text_lines : (text : List ℕ) → length (text_lines text) ≡ text_height text
 unfolding text_height
 length-text_lines text = length-lines (pieces text) (text_lines text) (text_lines-are text)
+
+-- what is told of the lines that its pieces show is told of the text
+pub height-of_pieces : (text : List ℕ) (count : ℕ) → ((ps : List Piece) → ArePiecesOf text ps → count ≡ length (shown_lines ps)) → count ≡ text_height text
+unfolding text_height
+height-of_pieces text count has = has (pieces text) (ArePiecesOf-pieces text)
+
+pub width-of_pieces : (text : List ℕ) (width : ℕ) → ((ps : List Piece) → ArePiecesOf text ps → width ≡ widest (shown_lines ps)) → width ≡ text_width text
+unfolding text_width
+width-of_pieces text width has = has (pieces text) (ArePiecesOf-pieces text)
 
 pub text_lines-shown : (text : List ℕ) → NoneBroken (pieces text) → map (λ line. strip (pieces line)) (text_lines text) ≡ shown_lines (pieces text)
 text_lines-shown text whole = lines-shown text (pieces text) (text_lines text) (ArePiecesOf-pieces text) whole (text_lines-are text)

@@ -38,6 +38,10 @@ shown_lines pieces = slice_split is_line_feed (strip pieces)
 abbrev pub line_measure : List ℕ → ℕ
 line_measure bytes = measure (chars bytes)
 
+-- the columns of a text without its sequences, as one line
+abbrev pub line_width : List ℕ → ℕ
+line_width text = line_measure (strip (pieces text))
+
 -- the greatest measure of some lines, 0 where there is none
 abbrev pub widest : List (List ℕ) → ℕ
 widest [] = 0

@@ -3,7 +3,7 @@ ghost use Rattle.std.specs.Prelude.{◌≡◌, ◌+◌, ◌==◌, List, length};
 ghost use Rattle.std.specs.List.{count_by};
 ghost use Rattle.ansi_scan.specs.Sequences.{Piece, ArePiecesOf};
 ghost use Rattle.ansi_str.specs.StyledText.{has_escape};
-ghost use Rattle.grid_records_measure.specs.TextLines.{AreLinesOf, is_line_feed, shown_lines};
+ghost use Rattle.grid_records_measure.specs.TextLines.{AreLinesOf, is_line_feed, shown_lines, text_height, text_lines};
 
 use ansi_str::{AnsiSplit, get_blocks};
 use std::alloc::{AllocError, Global};
@@ -12,7 +12,8 @@ use std::marker::Model;
 
 /// How many lines a text has: one more than it shows line feeds. Does not allocate.
 pub fn count_lines(text: &str) -> usize
-    ensures { (pieces : List Piece) → ArePiecesOf text.now pieces → result ≡ length (shown_lines pieces) }
+    ensures pieces { (pieces : List Piece) → ArePiecesOf text.now pieces → result ≡ length (shown_lines pieces) }
+    ensures text { result ≡ text_height text.now }
 {
     let mut count = 1;
     for block in get_blocks(text) {
@@ -38,6 +39,7 @@ pub fn get_lines<'a>(alloc: Global, text: &'a str) -> Lines<'a>
     ensures lines { (pieces : List Piece) → ArePiecesOf text.now pieces → AreLinesOf pieces result.parts }
     ensures may_refuse { result.may_refuse ≡ has_escape text.now }
     ensures count { (pieces : List Piece) → ArePiecesOf text.now pieces → length result.parts ≡ length (shown_lines pieces) }
+    ensures text { result.parts ≡ text_lines text.now }
 {
     Lines {
         parts: AnsiSplit::new(alloc, text, "\n"),

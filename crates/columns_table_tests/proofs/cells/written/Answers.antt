@@ -27,7 +27,7 @@ loop-line-preserved c =
     let closed : IsClosedLine part =
     subst IsClosedLine (sym c.deref.ensures.value) (subst (λ (line : CowStr Global). IsClosedLine (cow_str_bytes line)) (sym c.line-item.is) (item-closed c.args.lines.now c.loop-line.line-index _ c.loop-line-test.true c.requires)) in
     let same : c.deref-in-loop-line.result.now ≡ part = c.deref-in-loop-line.ensures.value ∙ sym c.deref.ensures.value in
-    let one : IsOneLine part width = line-measured part width closed (subst (λ bytes. (ps : List Piece) → ArePiecesOf bytes ps → width ≡ line_measure (strip ps)) same c.get_line_width.ensures) in
+    let one : IsOneLine part width = line-measured part width closed (subst (λ bytes. (ps : List Piece) → ArePiecesOf bytes ps → width ≡ line_measure (strip ps)) same c.get_line_width.ensures.pieces) in
     let size : c.len-end.result ≡ length (old ++ part) = c.len-end.ensures ∙ c.push_str.new.self.bytes.ok.0 ∙ ap (λ (bytes : List ℕ). length bytes) c.in_ok-push_str.ensures.bytes in
     let ends-is : c.push.new.self ≡ ends ++ cell ∷ [] = c.in_ok-push.ensures.more ∙ ap (λ n. ends ++ record { end = n; width = width } ∷ []) size in
     let text-is : string_bytes c.push_str-in-loop-line.new.self ≡ old ++ part ++ 10 ∷ [] = c.in_ok-push_str-2.ensures.bytes ∙ ap (λ bytes. bytes ++ 10 ∷ []) c.in_ok-push_str.ensures.bytes in

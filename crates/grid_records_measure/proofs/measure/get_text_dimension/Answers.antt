@@ -11,6 +11,7 @@ use Rattle.ansi_str_search.proofs.RestLemmas.{strip-fits}
 use Rattle.grid_records_measure.specs.Measures.{measure}
 use Rattle.grid_records_measure.specs.TextLines.{is_line_feed, shown_lines, widest}
 use Rattle.grid_records_measure.specs.RawLines.{lines_behind}
+use Rattle.grid_records_measure.proofs.TextLineLemmas.{height-of_pieces, width-of_pieces}
 use Rattle.grid_records_measure.proofs.measure.get_text_dimension.Goals as goal
 
 pub loop-rest-init : goal.loop-rest-init
@@ -18,7 +19,7 @@ loop-rest-init c =
     let line = c.split_line.result.0.now in
     let rest = lines_behind c.split_line.result.1 in
     let count = ap length c.split_line.ensures.lines in
-    let first = c.get_line_width-width.ensures (pieces line) (ArePiecesOf-pieces line) in (
+    let first : c.get_line_width-width.result ≡ measure (chars (strip (pieces line))) = c.get_line_width-width.ensures.text in (
       omega (arith, count),
       ap (λ n. max n (widest rest)) first ∙ sym (ap widest c.split_line.ensures.lines),
     )
@@ -41,7 +42,7 @@ loop-rest-preserved c =
     let left = ap lines_behind c.in-Some.is ∙ c.split_line-in-Some.ensures.lines in
     let count = ap length left in
     let width = ap widest left in
-    let first = c.get_line_width.ensures (pieces line) (ArePiecesOf-pieces line) in
+    let first : c.get_line_width.result ≡ measure (chars (strip (pieces line))) = c.get_line_width.ensures.text in
     let more : max c.max-width.result (widest behind) ≡ max c.loop-rest.width (max (measure (chars (strip (pieces line)))) (widest behind)) =
     omega (arith, first, c.max-width.ensures) in (
       omega (arith, count, c.loop-rest.invariant.0),
@@ -61,3 +62,9 @@ returns-clause-width c = λ ps of_text.
     let none = ap (λ rest. widest (lines_behind rest)) c.in_default.is in
     let all : c.loop-rest.width ≡ widest (shown_lines (pieces text)) = omega (arith, none, c.loop-rest.invariant.1) in
     all ∙ ap (λ (of : List Piece). widest (shown_lines of)) (ArePiecesOf-unique text (pieces text) ps (ArePiecesOf-pieces text) of_text)
+
+pub returns-clause-height : goal.returns-clause-height
+returns-clause-height c = height-of_pieces c.args.text.now c.loop-rest.count (returns-clause-lines c)
+
+pub returns-clause-columns : goal.returns-clause-columns
+returns-clause-columns c = width-of_pieces c.args.text.now c.loop-rest.width (returns-clause-width c)

@@ -12,6 +12,7 @@ use Rattle.ansi_str.specs.Blocks.{Block, text_of_block}
 use Rattle.ansi_str_search.proofs.RestLemmas.{strip-fits}
 use Rattle.grid_records_measure.specs.TextLines.{is_line_feed, shown_lines}
 use Rattle.grid_records_measure.proofs.LineLemmas.{shown-blocks}
+use Rattle.grid_records_measure.proofs.TextLineLemmas.{height-of_pieces}
 use Rattle.grid_records_measure.proofs.text_lines.count_lines.Goals as goal
 
 pub loop-block-init : goal.loop-block-init
@@ -32,10 +33,13 @@ overflow_add-count c =
     let fits : c.loop-block.count + c.line_feeds-count.result ≤ length text + 1 = omega (arith, parts, few, strip-fits text, c.loop-block.invariant.all, c.line_feeds-count.ensures) in
     search (rules, fits)
 
-pub returns : goal.returns
-returns c = λ ps of_text.
+pub returns-clause-pieces : goal.returns-clause-pieces
+returns-clause-pieces c = λ ps of_text.
     let text = c.args.text.now in
     let none = ap (λ (blocks : List Block). count_by is_line_feed (flat_map text_of_block blocks)) c.in-None.ensures.steps.0 in
     let all : c.loop-block.count ≡ count_by is_line_feed (strip (pieces text)) + 1 = omega (arith, none, c.loop-block.invariant.all) in
     all ∙ sym (length-slice_split is_line_feed (strip (pieces text)))
     ∙ ap (λ (of : List Piece). length (shown_lines of)) (ArePiecesOf-unique text (pieces text) ps (ArePiecesOf-pieces text) of_text)
+
+pub returns-clause-text : goal.returns-clause-text
+returns-clause-text c = height-of_pieces c.args.text.now c.loop-block.count (returns-clause-pieces c)

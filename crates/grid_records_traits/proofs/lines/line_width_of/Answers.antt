@@ -31,7 +31,7 @@ returns c = λ ps of_text.
     let text = c.args.text.now in
     let line = c.split_line-2.result.0.now in
     let same = ArePiecesOf-unique text (pieces text) ps (ArePiecesOf-pieces text) of_text in
-    c.get_line_width.ensures (pieces line) (ArePiecesOf-pieces line)
+    c.get_line_width.ensures.text
     ∙ sym (ap line_measure (left_at (shown_lines (pieces text)) c.loop.counter c.args.index (strip (pieces line)) [] _
     (c.loop.invariant.left ∙ c.split_line-2.ensures.lines) c.loop.auto.counter-end c.loop-test.false))
     ∙ ap (λ (of : List Piece). line_measure (line_at (shown_lines of) c.args.index)) same

@@ -13,4 +13,4 @@ returns-in-Some g c =
 pub returns-in-None : goal.returns-in-None
 returns-in-None g c =
     let none : text_in (map g.C.Cell.text c.args.row.now) c.args.column ≡ [] = grind (arith, common_steps) in
-    width_of_text [] c.get_text_width.result c.get_text_width.ensures ∙ sym (ap text_width none)
+    c.get_text_width.ensures.text ∙ sym (ap text_width none)
