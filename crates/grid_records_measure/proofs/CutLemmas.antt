@@ -22,7 +22,8 @@ use Rattle.ansi_str_search.proofs.PartLemmas.{take_nil}
 use Rattle.ansi_str_search.proofs.PlainParts.{plain_part}
 use Rattle.ansi_str.proofs.CutParts.{first_part-slice}
 use Rattle.ansi_str_text.proofs.Utf8Pieces.{IsUtf8-shown_text}
-use Rattle.grid_records_measure.specs.Cutting.{IsLongestFront, IsCutAt, IsPlainCut, lacking, replacement}
+use Rattle.grid_records_measure.specs.Cutting.{IsLongestFront, IsCutAt, IsPlainCut, cut_bytes, lacking, replacement}
+use Rattle.grid_records_measure.specs.CutTexts.{cut_text}
 use Rattle.grid_records_measure.specs.Filling.{has_room, used_behind, columns_with, front, front_columns, behind_front}
 use Rattle.grid_records_measure.proofs.FillingLemmas.{front-parted, lacking-left, goes-on, stops, IsLongestFront-front, IsLongestFront-unique}
 
@@ -296,6 +297,15 @@ left-unique width cs kept left others more one two =
     let same = IsLongestFront-unique width cs kept left others more one two in
     sym (drop-append_seam kept left) ∙ ap (drop (length kept)) (sym one.parted ∙ two.parted)
     ∙ ap (λ (front : List ℕ). drop (length front) (others ++ more)) same ∙ drop-append_seam others more
+
+-- a text has one cut at a width
+pub cut_text-one : (width : ℕ) (text bytes : List ℕ) → IsCutAt width (pieces text) bytes → bytes ≡ cut_text width text
+cut_text-one width text bytes cut =
+    let characters = chars (strip (pieces text)) in
+    let longest = IsLongestFront-front width characters in
+    let kept = IsLongestFront-unique width characters cut.0 cut.1 (front width 0 characters) (behind_front width 0 characters) cut.2 longest in
+    let left = left-unique width characters cut.0 cut.1 (front width 0 characters) (behind_front width 0 characters) cut.2 longest in
+    cut.3 ∙ ap (λ v. cut_bytes width (pieces text) v cut.1) kept ∙ ap (λ v. cut_bytes width (pieces text) (front width 0 characters) v) left
 
 pub lacking-plain : (width : ℕ) (text : List ℕ) → IsPlainCut width text → shown_lacking width text ≡ 0
 lacking-plain width text cut =

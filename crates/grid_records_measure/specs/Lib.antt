@@ -4,5 +4,6 @@ pub mod Trimming
 pub mod Tabs
 pub mod Cutting
 pub mod Filling
+pub mod CutTexts
 pub mod RawLines
 pub mod PlainCharacters

@@ -1,20 +1,11 @@
 -- Cells that are cut at the widths of their columns.
-use Rattle.std.specs.Prelude.{◌≡◌, ◌<◌, ◌+◌, ◌^◌, ◌-◌, ℕ, List, [], ◌∷◌, MatchOption, MatchResult, None, Option, Result, Some, chars, if◌then◌else◌, map, nat_le, nat_lt, string_bytes}
-use Rattle.ansi_scan.specs.Pieces.{pieces}
-use Rattle.ansi_str_text.specs.StyledText.{strip}
-use Rattle.grid_records_measure.specs.Cutting.{cut_bytes}
-use Rattle.grid_records_measure.specs.Filling.{behind_front, front}
+use Rattle.std.specs.Prelude.{◌≡◌, ◌<◌, ◌+◌, ◌^◌, ◌-◌, ℕ, List, [], ◌∷◌, MatchOption, MatchResult, None, Option, Result, Some, if◌then◌else◌, map, nat_le, nat_lt, string_bytes}
+use Rattle.grid_records_measure.specs.CutTexts.{cut_text}
 use Rattle.grid_records_measure.specs.TextLines.{text_width}
 use Rattle.grid_records_rows.specs.declared.records.into_records.truncate_content.Truncated.{Truncated}
 use Rattle.grid_records_rows.specs.declared.records.into_records.truncate_content.Truncated.TheVariants.{Cut, Whole}
 use Rattle.grid_records_rows.specs.declared.records.into_records.truncate_content.TruncatedCells.{TruncatedCells}
 use Rattle.grid_records_rows.specs.declared.records.into_records.truncate_content.TruncatedRows.{TruncatedRows}
-
--- the cut of a text at a width: its longest front that fits, and a replacement character for each column that is lacking
-abbrev pub cut_text : ℕ → List ℕ → List ℕ
-cut_text width text =
-    let characters = chars (strip (pieces text)) in
-    cut_bytes width (pieces text) (front width 0 characters) (behind_front width 0 characters)
 
 -- the text where it measures at most `width` columns, and else its cut
 abbrev pub truncated_text : ℕ → List ℕ → List ℕ

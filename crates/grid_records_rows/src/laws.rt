@@ -2,8 +2,8 @@
 ghost use Rattle.std.specs.Prelude.{◌≡◌, ℕ, List, Some, length};
 ghost use Rattle.ansi_scan.specs.Pieces.{pieces};
 ghost use Rattle.grid_records_measure.specs.Cutting.{IsCutAt};
+ghost use Rattle.grid_records_measure.specs.CutTexts.{cut_text};
 ghost use Rattle.grid_records_traits.specs.Rows.{row_at};
-ghost use Rattle.grid_records_rows.specs.Truncating.{cut_text};
 ghost use Rattle.grid_records_rows.specs.declared.records.vec_records.VecRecords.{VecRecords as Vectors};
 
 use crate::records::vec_records::{Cell, VecRecords};

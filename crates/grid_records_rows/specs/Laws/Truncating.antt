@@ -1,33 +1,16 @@
 -- What is left of the cells of a source.
-use Rattle.std.proofs.Common.{◌≡◌, ◌≤◌, ◌<◌, ◌∙◌, ℕ, Bool, true, List, [], ◌∷◌, ap, arith, chars, false, nat_le, map, refl, subst, sym}
+use Rattle.std.proofs.Common.{◌≡◌, ◌≤◌, ◌<◌, ◌∙◌, ℕ, Bool, true, List, [], ◌∷◌, ap, arith, false, nat_le, map, refl, subst, sym}
 use Rattle.std.proofs.lemmas.Bool.{le-leb, lt-leb}
-use Rattle.std.proofs.lemmas.List.{append_cancel_left}
-use Rattle.std.specs.Prelude.{◌++◌, Err, IfErr, IfOk, IfSome, MatchOption, None, Ok, Option, Result, Some}
+use Rattle.std.specs.Prelude.{Err, IfErr, IfOk, IfSome, MatchOption, None, Ok, Option, Result, Some}
 use Rattle.std.specs.Iterator.{Count, IsFinite, at_most}
 use Rattle.grid_records_rows.specs.Buffering.{of_rest}
-use Rattle.ansi_scan.specs.Pieces.{pieces}
-use Rattle.ansi_scan.specs.Sequences.{ArePiecesOf, Piece}
-use Rattle.ansi_scan.proofs.Existence.{ArePiecesOf-pieces}
-use Rattle.ansi_str_text.specs.StyledText.{strip}
-use Rattle.grid_records_measure.specs.Cutting.{IsCutAt, cut_bytes}
-use Rattle.grid_records_measure.specs.Filling.{behind_front, front}
+use Rattle.grid_records_measure.specs.CutTexts.{cut_text}
 use Rattle.grid_records_measure.specs.TextLines.{text_width}
-use Rattle.grid_records_measure.proofs.FillingLemmas.{IsLongestFront-front, IsLongestFront-unique}
 use Rattle.grid_records_traits.specs.Giving.{Gives, GivesCells, GivesEach, GivesTexts, HasEnded}
-use Rattle.grid_records_rows.specs.Truncating.{GivesTruncated, GivesTruncatedRow, IsTruncated, cut_text, next_column, text_of_truncated, truncated_row, truncated_rows, truncated_text}
+use Rattle.grid_records_rows.specs.Truncating.{GivesTruncated, GivesTruncatedRow, IsTruncated, next_column, text_of_truncated, truncated_row, truncated_rows, truncated_text}
 use Rattle.grid_records_rows.specs.declared.records.into_records.truncate_content.Truncated.{Truncated}
 use Rattle.grid_records_rows.specs.declared.records.into_records.truncate_content.TruncatedCells.{TruncatedCells}
 use Rattle.grid_records_rows.specs.declared.records.into_records.truncate_content.TruncatedRows.{TruncatedRows}
-
--- a text has one cut at a width
-pub cut-unique : (width : ℕ) (text bytes : List ℕ) → IsCutAt width (pieces text) bytes → bytes ≡ cut_text width text
-cut-unique width text bytes cut =
-    let characters = chars (strip (pieces text)) in
-    let longest = IsLongestFront-front width characters in
-    let kept = IsLongestFront-unique width characters cut.0 cut.1 (front width 0 characters) (behind_front width 0 characters) cut.2 longest in
-    let left = append_cancel_left (front width 0 characters) cut.1 (behind_front width 0 characters)
-    (ap (λ v. v ++ cut.1) (sym kept) ∙ sym cut.2.parted ∙ longest.parted) in
-    cut.3 ∙ ap (λ v. cut_bytes width (pieces text) v cut.1) kept ∙ ap (λ v. cut_bytes width (pieces text) (front width 0 characters) v) left
 
 module _ {S C E D : Type 0} (steps : S → Option (Result C E) → S → Type 0) (text : C → List ℕ) (may_refuse : Bool) (width : D → ℕ → ℕ) where
   -- the cell that came, of which this is left
@@ -107,11 +90,10 @@ whole_text width found text is le =
 
 -- and of a wider one the cut is left
 pub cut_is_left : (width found : ℕ) (text shown bytes out : List ℕ) → found ≡ text_width text → width < found → shown ≡ text →
-    ((ps : List Piece) → ArePiecesOf shown ps → IsCutAt width ps bytes) → out ≡ bytes → out ≡ truncated_text width text
+    bytes ≡ cut_text width shown → out ≡ bytes → out ≡ truncated_text width text
 cut_is_left width found text shown bytes out is lt same cut owned =
     let no : nat_le (text_width text) width ≡ false = lt-leb (text_width text) width (omega (arith, is, lt)) in
-    let left = cut-unique width shown bytes (cut (pieces shown) (ArePiecesOf-pieces shown)) in
-    rw no (owned ∙ left ∙ ap (cut_text width) same)
+    rw no (owned ∙ cut ∙ ap (cut_text width) same)
 
 -- a cut is asked for only of a wider text
 pub is_wider : {T E : Type 0} (result : Result T E) (width found : ℕ) (text : List ℕ) → found ≡ text_width text → width < found → IfErr result (λ _. width < text_width text)

@@ -2,9 +2,11 @@
 use Rattle.std.proofs.Common.{◌≡◌, ◌∙◌, true, false, ◌-◌, ◌++◌, take, slice_range, ap, sym, subst, arith, append-nil, replicate, encode_utf8_all, string_bytes}
 use Rattle.std.specs.Str.{IsCharBoundary}
 use Rattle.std.proofs.Math.Seq.{take-length}
+use Rattle.ansi_scan.specs.Pieces.{pieces}
+use Rattle.ansi_scan.proofs.Existence.{ArePiecesOf-pieces}
 use Rattle.ansi_str.specs.StyledText.{has_escape}
 use Rattle.grid_records_measure.specs.Cutting.{replacement}
-use Rattle.grid_records_measure.proofs.CutLemmas.{cut-bounds, cut-is, cut-without_escape, lacking-plain, plain-boundary}
+use Rattle.grid_records_measure.proofs.CutLemmas.{cut-bounds, cut-is, cut-without_escape, cut_text-one, lacking-plain, plain-boundary}
 use Rattle.grid_records_measure.proofs.cut.cut_width.Goals.{else-lacking-eq0-via-then-lacking-eq0+else-not-ansi_has_any, else-lacking-eq0-via-else-lacking-eq0}
 use Rattle.grid_records_measure.proofs.cut.cut_width.Goals as goal
 
@@ -25,6 +27,11 @@ returns-then-not-ansi_has_any-clause-cut c = λ ps of_text.
     cut-is c.args.width text place n ps (take place text) c.range.result.now c.place_and_lacking-place.ensures.place c.place_and_lacking-place.ensures.left of_text
     (sym (cut-without_escape place text ps none of_text))
     (c.range.ensures.value ∙ ap (λ t. slice_range t 0 place) (take-length text) ∙ ap (λ k. take k text) from_start ∙ sym (append-nil (take place text)) ∙ ap (λ k. take place text ++ encode_utf8_all (replicate k replacement)) (sym c.if-lacking-eq0.true))
+
+pub returns-then-not-ansi_has_any-clause-text : goal.returns-then-not-ansi_has_any-clause-text
+returns-then-not-ansi_has_any-clause-text c =
+    let text = c.args.text.now in
+    cut_text-one c.args.width text c.range.result.now (returns-then-not-ansi_has_any-clause-cut c (pieces text) (ArePiecesOf-pieces text))
 
 pub ansi_cut-requires : goal.ansi_cut-requires
 ansi_cut-requires c = λ ps of_text.
@@ -53,6 +60,11 @@ returns-clause-cut c = λ ps of_text.
     let n = c.place_and_lacking-place.result.1 in
     cut-is c.args.width text place n ps (string_bytes c.in_ok-out.out) (string_bytes c.push_replacements.new.out) c.place_and_lacking-place.ensures.place c.place_and_lacking-place.ensures.left of_text
     (c.in_ok-out.ensures.ok ∙ c.in_ok-ansi_cut.ensures.part ps of_text) c.in_ok-push_replacements.ensures
+
+pub returns-clause-text : goal.returns-clause-text
+returns-clause-text c =
+    let text = c.args.text.now in
+    cut_text-one c.args.width text (string_bytes c.push_replacements.new.out) (returns-clause-cut c (pieces text) (ArePiecesOf-pieces text))
 
 pub returns-clause-borrows : goal.returns-clause-borrows
 returns-clause-borrows c = λ cut owned.

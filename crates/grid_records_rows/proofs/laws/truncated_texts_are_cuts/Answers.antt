@@ -3,8 +3,8 @@ use Rattle.std.proofs.Common.{chars, refl}
 use Rattle.ansi_scan.specs.Pieces.{pieces}
 use Rattle.ansi_str_text.specs.StyledText.{strip}
 use Rattle.grid_records_measure.specs.Filling.{behind_front, front}
+use Rattle.grid_records_measure.proofs.CutLemmas.{cut_text-one}
 use Rattle.grid_records_measure.proofs.FillingLemmas.{IsLongestFront-front}
-use Rattle.grid_records_rows.specs.Laws.Truncating.{cut-unique}
 use Rattle.grid_records_rows.proofs.laws.truncated_texts_are_cuts.Goals as goal
 
 pub returns-clause-cut : goal.returns-clause-cut
@@ -13,4 +13,4 @@ returns-clause-cut c = λ width text.
     (front width 0 characters, behind_front width 0 characters, IsLongestFront-front width characters, refl)
 
 pub returns-clause-one : goal.returns-clause-one
-returns-clause-one c = cut-unique
+returns-clause-one c = cut_text-one

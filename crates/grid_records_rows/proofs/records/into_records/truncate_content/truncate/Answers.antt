@@ -17,7 +17,7 @@ unfolding text_width
 returns-clause-ok g c =
     let text = g.C.Cell.text c.args.cell in
     cut_is_left c.args.width c.width.result text c.text.result.now (cow_str_bytes c.in_ok-cut_width.field-0) (string_bytes c.in_ok-cut.cut)
-    (c.width.ensures (pieces text) (ArePiecesOf-pieces text)) c.if-width.false c.text.ensures c.in_ok-cut_width.ensures.cut c.in_ok-cut.ensures.ok
+    (c.width.ensures (pieces text) (ArePiecesOf-pieces text)) c.if-width.false c.text.ensures c.in_ok-cut_width.ensures.text c.in_ok-cut.ensures.ok
 
 pub returns-in_err-cut_width-clause-refused : goal.returns-in_err-cut_width-clause-refused
 unfolding text_width
