@@ -18,6 +18,10 @@ height_of text = refl
 pub count_of_text : (text : List ℕ) (count : ℕ) → HasLineCount text count → count ≡ length (text_lines text)
 count_of_text text count has = has (pieces text) (ArePiecesOf-pieces text) ∙ sym (length-text_lines text ∙ height_of text)
 
+pub height_of_text : (text : List ℕ) (count : ℕ) → HasLineCount text count → count ≡ text_height text
+unfolding text_height
+height_of_text text count has = has (pieces text) (ArePiecesOf-pieces text)
+
 pub width_of_text : (text : List ℕ) (width : ℕ) → HasWidth text width → width ≡ text_width text
 unfolding text_width
 width_of_text text width has = has (pieces text) (ArePiecesOf-pieces text)
@@ -36,6 +40,10 @@ IsLineAt-text_lines text index = λ ps lines of_text are. ap (λ (ls : List (Lis
 pub HasLineCount-text_lines : (text : List ℕ) → HasLineCount text (length (text_lines text))
 HasLineCount-text_lines text = λ ps of_text.
     length-text_lines text ∙ height_of text ∙ ap (λ (qs : List Piece). length (shown_lines qs)) (same_pieces text ps of_text)
+
+pub HasLineCount-text_height : (text : List ℕ) → HasLineCount text (text_height text)
+unfolding text_height
+HasLineCount-text_height text = λ ps of_text. ap (λ (qs : List Piece). length (shown_lines qs)) (same_pieces text ps of_text)
 
 pub HasWidth-text_width : (text : List ℕ) → HasWidth text (text_width text)
 unfolding text_width

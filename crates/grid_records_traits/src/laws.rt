@@ -2,7 +2,7 @@
 ghost use Rattle.std.specs.Borrow.{Bor};
 ghost use Rattle.std.specs.Prelude.{◌≡◌, ℕ, List, None, Some, [], length};
 ghost use Rattle.ansi_scan.specs.Pieces.{pieces as pieces_of};
-ghost use Rattle.grid_records_measure.specs.TextLines.{line_measure, shown_lines, text_lines, text_width};
+ghost use Rattle.grid_records_measure.specs.TextLines.{line_measure, shown_lines, text_height, text_lines, text_width};
 ghost use Rattle.grid_records_traits.specs.Cells.{HasLineCount, HasLineWidth, HasWidth, IsLineAt, line_at};
 
 use crate::dimension::Dimension;
@@ -33,6 +33,7 @@ pub fn cells_have_their_texts<'a, C: Cell + 'a>()
 pub fn cells_answer_by_their_texts()
     ensures line { (text bytes : List ℕ) (index : ℕ) → IsLineAt text index bytes → bytes ≡ line_at (text_lines text) index }
     ensures count { (text : List ℕ) (count : ℕ) → HasLineCount text count → count ≡ length (text_lines text) }
+    ensures height { (text : List ℕ) (count : ℕ) → HasLineCount text count → count ≡ text_height text }
     ensures width { (text : List ℕ) (width : ℕ) → HasWidth text width → width ≡ text_width text }
     ensures line_width { (text : List ℕ) (index width : ℕ) → HasLineWidth text index width →
         width ≡ line_measure (line_at (shown_lines (pieces_of text)) index) }
@@ -42,6 +43,7 @@ pub fn cells_answer_by_their_texts()
 pub fn texts_have_their_answers()
     ensures line { (text : List ℕ) (index : ℕ) → IsLineAt text index (line_at (text_lines text) index) }
     ensures count { (text : List ℕ) → HasLineCount text (length (text_lines text)) }
+    ensures height { (text : List ℕ) → HasLineCount text (text_height text) }
     ensures width { (text : List ℕ) → HasWidth text (text_width text) }
     ensures line_width { (text : List ℕ) (index : ℕ) → HasLineWidth text index (line_measure (line_at (shown_lines (pieces_of text)) index)) }
 {}
