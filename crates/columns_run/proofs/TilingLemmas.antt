@@ -1,5 +1,5 @@
 -- The pieces of each line of a table stand side by side.
-use Rattle.std.proofs.Common.{◌≡◌, ◌&&◌, ℕ, ◌+◌, ◌-◌, ◌<◌, ◌≤◌, nat_lt, true, false, List, [], None, length, refl, ap, sym, subst, ◌∙◌, arith}
+use Rattle.std.proofs.Common.{◌≡◌, ◌&&◌, ℕ, ◌+◌, ◌<◌, ◌≤◌, nat_lt, true, false, List, [], None, length, refl, ap, sym, subst, ◌∙◌, arith}
 use Rattle.std.proofs.Math.Path.{fun_ext}
 use Rattle.std.proofs.lemmas.Bool.Decides.{nat_tests}
 use Rattle.ansi_scan.specs.Pieces.{pieces}
@@ -16,7 +16,7 @@ use Rattle.grid_config_spans.specs.Spans.{extent_at, single}
 use Rattle.grid_config_spans.specs.declared.extent.Extent.{Extent}
 use Rattle.grid_config_values.specs.Order.{same_place}
 use Rattle.grid_config_values.specs.declared.position.Position.{Position}
-use Rattle.grid_records_measure.specs.TextLines.{shown_lines, text_width, widest}
+use Rattle.grid_records_measure.specs.TextLines.{shown_lines, text_width}
 use Rattle.grid_records_traits.specs.Rows.{text_at}
 use Rattle.papergrid_fits.proofs.RoomLemmas.{among-take, none-passes}
 use Rattle.papergrid_picture.proofs.TilingLemmas.{Tiles-picture, rectangle-shown}
