@@ -1,8 +1,7 @@
 -- The rows and cells that one pass over the bytes of a text finds are those of the definition.
-use Rattle.std.proofs.Common.{◌≡◌, ℕ, ◌+◌, ◌<◌, ◌≤◌, ◌==◌, Bool, true, false, cond, List, [], ◌∷◌, ◌++◌, map, length, sum, take, drop, refl, ap, sym, ◌∙◌, arith, append-nil, append_assoc, length-append, length-drop, if◌then◌else◌, ne_eqb}
+use Rattle.std.proofs.Common.{◌≡◌, ℕ, ◌+◌, ◌<◌, ◌≤◌, ◌==◌, Bool, true, false, cond, List, [], ◌∷◌, ◌++◌, map, length, sum, drop, refl, ap, sym, ◌∙◌, arith, append-nil, append_assoc, length-append, length-drop, if◌then◌else◌, ne_eqb}
 use Rattle.std.proofs.lemmas.Bool.Decides.{nat_tests}
-use Rattle.std.proofs.lemmas.List.{take-append-le, drop-append-le, drop-drop, take_all, drop_all}
-use Rattle.std.proofs.lemmas.List.Sums.{sum_by-cons, sum_by-append}
+use Rattle.std.proofs.lemmas.List.{drop-append-le, drop_all}
 use Rattle.std.specs.List.{slice_split, onto_first}
 use Rattle.columns_run.specs.Rows.{line_feed, tab, without_empty_last, rows_of}
 use Rattle.columns_table.specs.Rows.{cut}

@@ -1,12 +1,7 @@
 -- The pieces of each line of a table stand side by side.
-use Rattle.std.proofs.Common.{◌≡◌, ◌&&◌, cond, ℕ, zero, suc, ◌+◌, ◌-◌, ◌<◌, ◌≤◌, nat_lt, Bool, true, false, List, [], ◌∷◌, ◌++◌, Option, None, Some, length, map, take, refl, ap, sym, subst, ◌∙◌, arith}
-use Rattle.std.specs.List.{find, flat_map, range_with_len}
-use Rattle.std.specs.Option.{option_or}
+use Rattle.std.proofs.Common.{◌≡◌, ◌&&◌, ℕ, ◌+◌, ◌<◌, ◌≤◌, nat_lt, true, false, List, [], None, length, refl, ap, sym, subst, ◌∙◌, arith}
 use Rattle.std.proofs.Math.Path.{fun_ext}
 use Rattle.std.proofs.lemmas.Bool.Decides.{nat_tests}
-use Rattle.std.proofs.lemmas.List.{map-append}
-use Rattle.std.proofs.lemmas.List.Concat.{flat_map-append}
-use Rattle.std.proofs.lemmas.List.Folds.{find-append}
 use Rattle.ansi_scan.specs.Pieces.{pieces}
 use Rattle.columns_asked.specs.Layout.{asked_widths, heights_of, kept_texts, too_wide}
 use Rattle.columns_options.specs.declared.options.Options.{Options}
@@ -19,12 +14,11 @@ use Rattle.grid_config_spans.proofs.Parting.{good_without}
 use Rattle.grid_config_spans.specs.Owners.{owner}
 use Rattle.grid_config_spans.specs.Spans.{extent_at, single}
 use Rattle.grid_config_spans.specs.declared.extent.Extent.{Extent}
-use Rattle.grid_config_values.specs.Entities.{table_positions}
 use Rattle.grid_config_values.specs.Order.{same_place}
 use Rattle.grid_config_values.specs.declared.position.Position.{Position}
-use Rattle.grid_records_measure.specs.TextLines.{line_measure, shown_lines, text_width, widest}
+use Rattle.grid_records_measure.specs.TextLines.{shown_lines, text_width}
 use Rattle.grid_records_traits.specs.Rows.{text_at}
-use Rattle.papergrid_fits.proofs.First.{range-at}
+use Rattle.papergrid_fits.proofs.RoomLemmas.{among-take, none-passes}
 use Rattle.papergrid_picture.proofs.TilingLemmas.{Tiles-picture, rectangle-shown}
 use Rattle.papergrid_picture.specs.Blocks.{Grid, greatest}
 use Rattle.papergrid_picture.specs.CellLines.{cell_measures}
@@ -39,42 +33,12 @@ use Rattle.columns_run.specs.Run.{HasTable}
 use Rattle.columns_run.proofs.CellLemmas.{whole_text}
 use Rattle.columns_run.proofs.TableLemmas.{wide-same}
 
--- ---- none is found: each fails the test
-
-neither : {X : Type 0} (first second : Option X) → option_or first second ≡ None → (first ≡ None) × (second ≡ None)
-neither None second none = (refl, none)
-neither (Some x) second none = absurd (cc none)
-
-none-both : {X : Type 0} (test : X → Bool) (xs ys : List X) → find test (xs ++ ys) ≡ None → (find test xs ≡ None) × (find test ys ≡ None)
-none-both test xs ys none = neither (find test xs) (find test ys) (sym (find-append test xs ys) ∙ none)
-
-none-here : {X : Type 0} (test : X → Bool) (x : X) (xs : List X) → find test (x ∷ xs) ≡ None → test x ≡ false
-none-here {X} test x xs none = elim (test x) as (λ b. cond b (Some x) (find test xs) ≡ None → b ≡ false) [
-  | true ↦ λ found. absurd (cc found)
-  | false ↦ λ _. refl
-] none
-
-none-passes : (test : Position → Bool) (rows columns i j : ℕ) → i < rows → j < columns → find test (table_positions rows columns) ≡ None → test (at i j) ≡ false
-none-passes test rows columns i j row column none =
-    let in_row = λ (k : ℕ). map (at k) (range_with_len 0 columns) in
-    let parted = ap (flat_map in_row) (range-at i rows row) ∙ flat_map-append in_row (range_with_len 0 i) (i ∷ range_with_len (i + 1) (rows - (i + 1))) in
-    let behind = (none-both test (flat_map in_row (range_with_len 0 i)) (in_row i ++ flat_map in_row (range_with_len (i + 1) (rows - (i + 1)))) (ap (find test) (sym parted) ∙ none)).1 in
-    let here = (none-both test (in_row i) (flat_map in_row (range_with_len (i + 1) (rows - (i + 1)))) behind).0 in
-    let row_parted = ap (map (at i)) (range-at j columns column) ∙ map-append (at i) (range_with_len 0 j) (j ∷ range_with_len (j + 1) (columns - (j + 1))) in
-    let last = (none-both test (map (at i) (range_with_len 0 j)) (at i j ∷ map (at i) (range_with_len (j + 1) (columns - (j + 1)))) (ap (find test) (sym row_parted) ∙ here)).1 in
-    none-here test (at i j) (map (at i) (range_with_len (j + 1) (columns - (j + 1)))) last
-
 -- ---- measures
-
-among-first : (n : ℕ) (lines : List (List ℕ)) → greatest (map line_measure (take n lines)) ≤ widest lines
-among-first zero lines = omega arith
-among-first (suc n) [] = omega arith
-among-first (suc n) (line ∷ lines) = omega (arith, among-first n lines)
 
 -- no line of a cell measures more than the widest
 within-widest : (text : List ℕ) → greatest (cell_measures false false text) ≤ text_width text
 unfolding text_width
-within-widest text = let lines = shown_lines (pieces text) in among-first (length lines) lines
+within-widest text = let lines = shown_lines (pieces text) in among-take (length lines) lines
 
 -- ---- single cells
 

@@ -1,5 +1,5 @@
 -- The widest cells of the columns: with one more cell, where a row ends, and of the rows at last.
-use Rattle.std.proofs.Common.{◌≡◌, ◌≢◌, ◌==◌, ℕ, slice_set, ◌+◌, ◌<◌, ◌≤◌, max, Bool, true, false, nat_lt, List, [], ◌∷◌, ◌++◌, map, take, drop, get_or, length, sum, refl, ap, sym, subst, ◌∙◌, arith, length-append, length-drop}
+use Rattle.std.proofs.Common.{◌≡◌, ◌≢◌, ◌==◌, ℕ, slice_set, ◌+◌, ◌<◌, ◌≤◌, max, Bool, true, false, nat_lt, List, [], ◌∷◌, ◌++◌, map, take, drop, get_or, length, sum, refl, ap, sym, ◌∙◌, arith, length-append, length-drop}
 use Rattle.std.proofs.Math.Seq.{get_or-append_seam}
 use Rattle.std.proofs.lemmas.Bool.Decides.{nat_tests}
 use Rattle.std.proofs.lemmas.List.{drop-append-le, get_or-set_other, get_or-set_same, get_or_append_left, get_or-take, get_or_past, length-set, length-take, map_push}
@@ -11,13 +11,19 @@ use Rattle.columns_table.specs.Ends.{cells_from, cells_in}
 use Rattle.columns_table.specs.Least.{width_in}
 use Rattle.columns_table.specs.declared.cells.LineCell.{LineCell}
 use Rattle.columns_table.specs.declared.ends.CellEnd.{CellEnd}
-use Rattle.columns_table.proofs.CutLemmas.{cut-append, cut-map, cut-more, sum-more}
+use Rattle.columns_table.proofs.CutLemmas.{cut-append, cut-map, cut-more}
 
 -- ---- numbers with one more
 
 greatest-more : (ns : List ℕ) (n : ℕ) → greatest (ns ++ n ∷ []) ≡ max (greatest ns) n
 greatest-more [] n = omega arith
 greatest-more (m ∷ ns) n = let rest = greatest-more ns n in omega (arith, rest)
+
+less-than : (n k : ℕ) → n ≤ k → n ≢ k → n < k
+less-than n k low other = step (nat_lt n k) refl where
+  step : (b : Bool) → nat_lt n k ≡ b → n < k
+  step true e = grind (arith, nat_tests, e)
+  step false e = let high : k ≤ n = grind (arith, nat_tests, e) in absurd (other (omega (arith, low, high)))
 
 -- it is behind all others
 push-other : (xs : List ℕ) (x k : ℕ) → k ≢ length xs → get_or (xs ++ x ∷ []) k 0 ≡ get_or xs k 0
@@ -26,12 +32,8 @@ push-other xs x k other = step (nat_lt k (length xs)) refl where
   step true e = get_or_append_left xs (x ∷ []) 0 k (grind (arith, nat_tests, e))
   step false e =
       let low : length xs ≤ k = grind (arith, nat_tests, e) in
-      let past : length (xs ++ x ∷ []) ≤ k = by_cases k low (length xs == k) refl in
+      let past : length (xs ++ x ∷ []) ≤ k = omega (arith, less-than (length xs) k low (λ here. other (sym here)), length-append xs (x ∷ [])) in
       get_or_past (xs ++ x ∷ []) k 0 past ∙ sym (get_or_past xs k 0 low)
-    where
-      by_cases : (k : ℕ) → length xs ≤ k → (b : Bool) → (length xs == k) ≡ b → length (xs ++ x ∷ []) ≤ k
-      by_cases k low true e = absurd (other (grind (arith, nat_tests, e)))
-      by_cases k low false e = let less : length xs < k = grind (arith, nat_tests, e, low) in omega (arith, less, length-append xs (x ∷ []))
 
 -- 0 is there already
 pub zero-more : (xs : List ℕ) (k : ℕ) → get_or (xs ++ 0 ∷ []) k 0 ≡ get_or xs k 0
@@ -104,6 +106,10 @@ module _ (widest counts widths : List ℕ) (begun width : ℕ) (whole : sum coun
           ∙ with-last counts widths begun whole k
           ∙ ap (max (widest_in counts widths k)) (sym (push-other row width k not_last))
           ∙ sym (with-more k)
+
+-- there is room for its next cell, or there will be with one more
+pub begun-within : (widest counts widths : List ℕ) (begun : ℕ) → AreWidest widest (counts ++ begun ∷ []) widths → begun ≤ length widest
+begun-within widest counts widths begun are = omega (arith, are.long, greatest-more counts begun)
 
 -- ---- the end of a row
 

@@ -16,12 +16,11 @@ pub(crate) struct CellRow<'b, 'a> {
 }
 
 impl<'b, 'a> CellRow<'b, 'a> {
-    ghost use Rattle.std.specs.Prelude.{◌≡◌, ◌≤◌, ◌<◌, ◌+◌, ◌-◌, drop, length, slice_get, slice_range, take};
+    ghost use Rattle.std.specs.Prelude.{◌≡◌, ◌≤◌, ◌<◌, ◌-◌, drop, length, slice_get, slice_range, take};
     ghost use Rattle.std.specs.Option.{option_map};
     ghost use Rattle.grid_records_traits.specs.PlainRows.{AreStarts, texts_at};
     ghost use Rattle.columns_table.specs.Cells.{anywhere, cells_of};
     ghost use Rattle.columns_table.specs.CellRows.{row_cells};
-    ghost use Rattle.columns_table.specs.Least.{width_in};
 
     /// The cells of the text that begin at these places, with these columns, from `start` on before `end`, as
     /// far as there are any.

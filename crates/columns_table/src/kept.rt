@@ -1,5 +1,5 @@
 //! Rows of a text in narrower columns.
-ghost use Rattle.std.specs.Prelude.{◌≡◌, All, IfOk, drop, length, map, sum, vec_len};
+ghost use Rattle.std.specs.Prelude.{◌≡◌, All, IfOk, drop, length, map, vec_len};
 ghost use Rattle.std.specs.Cow.{cow_str_bytes};
 ghost use Rattle.grid_records_traits.specs.Cells.{HasLineCount, HasWidth};
 ghost use Rattle.grid_records_rows.specs.Sources.{AreEquallyLong};

@@ -1,12 +1,11 @@
 //! The least sizes of a table of measured cells: by the widest cell of each column, since each is one line.
-ghost use Rattle.std.specs.Prelude.{◌≡◌, ◌⊎◌, ◌+◌, ℕ, ◌<◌, ◌≤◌, ◌^◌, All, Err, IfErr, IfOk, Ok, OnErr, OnOk, if◌then◌else◌, length, map, max, nat_lt, replicate, slice_index, sum, vec_len};
+ghost use Rattle.std.specs.Prelude.{◌≡◌, ◌⊎◌, ◌+◌, ℕ, ◌<◌, ◌^◌, All, Err, IfErr, IfOk, Ok, OnErr, OnOk, if◌then◌else◌, map, nat_lt, slice_index, vec_len};
 ghost use Rattle.grid_config.specs.Compact.{compact_of};
 ghost use Rattle.grid_config_values.specs.declared.fault.Fault.TheVariants.{Range};
 ghost use Rattle.grid_records_estimate.specs.Collecting.{PassesMax};
 ghost use Rattle.grid_records_estimate.specs.Estimates.{greatest};
 ghost use Rattle.grid_records_estimate.specs.Sizes.{IsRefusal};
 ghost use Rattle.columns_asked.specs.Layout.{heights_of, widths_of};
-ghost use Rattle.columns_table.specs.CellRows.{row_cells};
 ghost use Rattle.columns_table.specs.Least.{padded, width_in};
 ghost use Rattle.columns_table.specs.Records.{IsMeasured};
 ghost use Rattle.columns_table.specs.Rows.{cut, row_texts_of};

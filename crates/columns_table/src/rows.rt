@@ -17,7 +17,7 @@ pub struct Rows<'a> {
 }
 
 impl<'a> Rows<'a> {
-    ghost use Rattle.std.specs.Prelude.{◌≡◌, sum};
+    ghost use Rattle.std.specs.Prelude.{◌≡◌};
     ghost use Rattle.columns_table.specs.Ends.{AreCellEnds, cells_in};
 
     /// The rows of the text whose cells end there, where each row is ended. Does not allocate.

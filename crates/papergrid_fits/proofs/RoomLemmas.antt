@@ -46,7 +46,7 @@ none-here {X} test x xs none = elim (test x) as (λ b. cond b (Some x) (find tes
   | false ↦ λ _. refl
 ] none
 
-none-passes : (test : Position → Bool) (rows columns i j : ℕ) → i < rows → j < columns → find test (table_positions rows columns) ≡ None → test (at i j) ≡ false
+pub none-passes : (test : Position → Bool) (rows columns i j : ℕ) → i < rows → j < columns → find test (table_positions rows columns) ≡ None → test (at i j) ≡ false
 none-passes test rows columns i j row column none =
     let in_row = λ (k : ℕ). map (at k) (range_with_len 0 columns) in
     let parted = ap (flat_map in_row) (range-at i rows row) ∙ flat_map-append in_row (range_with_len 0 i) (i ∷ range_with_len (i + 1) (rows - (i + 1))) in
@@ -58,12 +58,12 @@ none-passes test rows columns i j row column none =
 
 -- ---- measures
 
-among-take : (n : ℕ) (lines : List (List ℕ)) → greatest (map line_measure (take n lines)) ≤ widest lines
+pub among-take : (n : ℕ) (lines : List (List ℕ)) → greatest (map line_measure (take n lines)) ≤ widest lines
 among-take zero lines = omega arith
 among-take (suc n) [] = omega arith
 among-take (suc n) (line ∷ lines) = omega (arith, among-take n lines)
 
-among-drop : (n : ℕ) (lines : List (List ℕ)) → widest (drop n lines) ≤ widest lines
+pub among-drop : (n : ℕ) (lines : List (List ℕ)) → widest (drop n lines) ≤ widest lines
 among-drop zero lines = omega arith
 among-drop (suc n) [] = omega arith
 among-drop (suc n) (line ∷ lines) = omega (arith, among-drop n lines)

@@ -146,10 +146,10 @@ Takes-character c is =
 
 -- ---- the lines of a cell
 
-abbrev is_plain_or_feed : ℕ → Bool
+abbrev pub is_plain_or_feed : ℕ → Bool
 is_plain_or_feed c = is_plain_character c || is_line_feed c
 
-abbrev ArePlain : List ℕ → Type 0
+abbrev pub ArePlain : List ℕ → Type 0
 ArePlain cs = list_all is_plain_character cs ≡ true
 
 onto-plain_line : (c : ℕ) (lines : List (List ℕ)) → is_plain_character c ≡ true → AllByRecursion ArePlain lines → AllByRecursion ArePlain (onto_first c lines)
@@ -172,14 +172,14 @@ split-plain (c ∷ cs) all =
     other-plain false feed either other = let no : false ≡ true = sym other ∙ either in absurd (cc no)
 
 -- white space at the ends is taken away, and nothing else
-skip-plain : (p : ℕ → Bool) (cs : List ℕ) → list_all p cs ≡ true → list_all p (skip_leading_whitespace cs) ≡ true
+pub skip-plain : (p : ℕ → Bool) (cs : List ℕ) → list_all p cs ≡ true → list_all p (skip_leading_whitespace cs) ≡ true
 skip-plain p [] all = refl
 skip-plain p (c ∷ cs) all = elim (is_whitespace c) as (λ b. list_all p (cond b (skip_leading_whitespace cs) (c ∷ cs)) ≡ true) [
   | true ↦ skip-plain p cs (and_parts (p c) (list_all p cs) all).1
   | false ↦ all
 ]
 
-drop-plain : (p : ℕ → Bool) (cs : List ℕ) → list_all p cs ≡ true → list_all p (drop_trailing_whitespace cs) ≡ true
+pub drop-plain : (p : ℕ → Bool) (cs : List ℕ) → list_all p cs ≡ true → list_all p (drop_trailing_whitespace cs) ≡ true
 drop-plain p [] all = refl
 drop-plain p (c ∷ cs) all =
     let parts = and_parts (p c) (list_all p cs) all in
@@ -197,14 +197,14 @@ module _ (text : List ℕ) (is : IsPlainlyShown text) where
       ∙ sym (slice_split-map character_of is_line_feed (styled_of text))
       ∙ ap (slice_split is_line_feed) (characters-styled text is.whole.utf8)
 
-  abbrev IsPlainPart : List ℕ → Type 0
+  abbrev pub IsPlainPart : List ℕ → Type 0
   IsPlainPart part = ArePlain (chars (stripped part))
 
   unmapped : {A B : Type 0} (P : B → Type 0) (f : A → B) (xs : List A) → AllByRecursion P (map f xs) → AllByRecursion (λ x. P (f x)) xs
   unmapped P f [] all = tt
   unmapped P f (x ∷ xs) all = (all.0, unmapped P f xs all.1)
 
-  plain-parts : AllByRecursion IsPlainPart (text_lines text)
+  pub plain-parts : AllByRecursion IsPlainPart (text_lines text)
   plain-parts =
       unmapped ArePlain (λ part. chars (stripped part)) (text_lines text)
       (subst (λ (lines : List (List ℕ)). AllByRecursion ArePlain lines) (sym lines-of_characters) (split-plain (shown_chars text) is.plain))
@@ -240,7 +240,7 @@ module _ (text : List ℕ) (utf8 : IsUtf8 text) where
       ∙ ap (λ bytes. encode_utf8_all (drop_trailing_whitespace (chars bytes))) start-is
       ∙ ap (λ cs. encode_utf8_all (drop_trailing_whitespace cs)) (chars-encodes (skip_leading_whitespace (chars text)) front-scalars)
 
-  chars-trim : chars (trim text) ≡ left_of
+  pub chars-trim : chars (trim text) ≡ left_of
   chars-trim = ap chars trim-is ∙ chars-encodes left_of left-scalars
 
   IsUtf8-trim : IsUtf8 (trim text)

@@ -1,4 +1,4 @@
-use Rattle.std.proofs.Common.{◌≡◌, List, ℕ, Option, Some, length, map, string_bytes, ap, refl, rules, subst, sym, ◌∙◌}
+use Rattle.std.proofs.Common.{◌≡◌, List, ℕ, Option, Some, map, string_bytes, ap, refl, rules, subst, sym, ◌∙◌}
 use Rattle.std.specs.Prelude.{◌↔◌, IfSome, IsSome}
 use Rattle.std.proofs.lemmas.List.{length-map}
 use Rattle.ansi_scan.specs.Sequences.{IsWhole}
@@ -13,7 +13,7 @@ use Rattle.columns_run.proofs.CellLemmas.{whole_text}
 use Rattle.columns_run.proofs.OneLineLemmas.{cells-measured}
 use Rattle.columns_run.proofs.TableLemmas.{has-table, output-is, refused}
 use Rattle.columns_run.proofs.layout.styled_table.Goals as goal
-use Rattle.columns_run.proofs.layout.styled_table.Goals.{After-of}
+use Rattle.columns_run.proofs.layout.styled_table.Goals.{After-of-rows}
 
 -- the rows are those of a whole text
 record AreOf (text : List ℕ) (rows : Rows) : Type 0 where
@@ -29,36 +29,36 @@ are_of text own found styled rows is own_is cells_are counts_are whole same = re
       ∙ subst (λ found. IfSome found (λ styled. cut styled.rows.counts (cell_lines styled) ≡ line_rows text)) is same;
 }
 
-known : (c : After-of) → AreOf c.args.text.now c.of.result
+known : (c : After-of-rows) → AreOf c.args.text.now c.of-rows.result
 known c =
-    are_of c.args.text.now c.deref.result.now c.in_ok-own.field-0 c.in-Some.field-0 c.of.result c.in-Some.is c.deref.ensures c.of.ensures.cells c.of.ensures.counts
+    are_of c.args.text.now c.deref.result.now c.in_ok-own.field-0 c.in-Some.field-0 c.of-rows.result c.in-Some.is c.deref.ensures c.of-rows.ensures.cells c.of-rows.ensures.counts
     c.in_ok-own.ensures.whole c.in_ok-own.ensures.cells
 
-pub rows_table-requires-clause-measured : goal.rows_table-requires-clause-measured
-rows_table-requires-clause-measured c =
+pub rows_table-requires : goal.rows_table-requires
+rows_table-requires c =
     let text = c.args.text.now in
-    let rows = c.of.result in
-    let are = known (goal.at.rows_table-requires-clause-measured c).After-of in
-    cells-measured text rows (whole_text text c.utf8.text are.whole) (rows.whole ∙ sym (length-map rows.cells shown)) are.are
+    let rows = c.of-rows.result in
+    let are = known (goal.at.rows_table-requires c).After-of-rows in
+    record { measured = cells-measured text rows (whole_text text c.utf8.text are.whole) (rows.whole ∙ sym (length-map rows.cells shown)) are.are }
 
 pub returns-in_err-rows_table-clause-answers : goal.returns-in_err-rows_table-clause-answers
 returns-in_err-rows_table-clause-answers c =
-    let rows = c.of.result in
-    let are = known (goal.at.returns-in_err-rows_table-clause-answers c).After-of in
+    let rows = c.of-rows.result in
+    let are = known (goal.at.returns-in_err-rows_table-clause-answers c).After-of-rows in
     refused c.args.options.now c.args.text.now c.utf8.text are.whole rows are.are
     c.asked_of-asked.result c.asked_of-asked.ensures c.in_err-rows_table.field-0.0 c.from_residual-in_err-rows_table.result (search rules) c.in_err-rows_table.ensures.refused
 
 pub returns-clause-answers : goal.returns-clause-answers
 returns-clause-answers c =
-    let rows = c.of.result in
-    let are = known (goal.at.returns-clause-answers c).After-of in
+    let rows = c.of-rows.result in
+    let are = known (goal.at.returns-clause-answers c).After-of-rows in
     has-table c.args.options.now c.args.text.now c.utf8.text are.whole rows are.are
     c.asked_of-asked.result c.asked_of-asked.ensures c.in_ok-rows_table.ensures.fits
 
 pub returns-clause-table : goal.returns-clause-table
 returns-clause-table c =
-    let rows = c.of.result in
-    let are = known (goal.at.returns-clause-table c).After-of in
+    let rows = c.of-rows.result in
+    let are = known (goal.at.returns-clause-table c).After-of-rows in
     c.in_ok-rows_table.ensures.table
     ∙ output-is c.args.options.now c.args.text.now c.utf8.text are.whole rows are.are
     c.asked_of-asked.result c.asked_of-asked.ensures

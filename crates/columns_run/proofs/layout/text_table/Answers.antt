@@ -1,4 +1,4 @@
-use Rattle.std.proofs.Common.{◌≡◌, false, List, ℕ, Option, Some, length, map, refl, rules, subst, sym, ◌∙◌}
+use Rattle.std.proofs.Common.{◌≡◌, false, List, ℕ, Option, Some, map, refl, rules, subst, sym, ◌∙◌}
 use Rattle.std.specs.Prelude.{◌↔◌, IfSome, IsSome}
 use Rattle.std.proofs.lemmas.List.{length-map}
 use Rattle.ansi_str_text.specs.StyledText.{has_escape}
@@ -25,12 +25,12 @@ are_of text found rows is plain same =
       are = subst (λ found. IfSome found (λ rows. rows_shown rows ≡ map (map byte_line) (rows_of (λ b. b) text))) is same ∙ line_rows-plain text none;
     }
 
-pub rows_table-requires-clause-measured : goal.rows_table-requires-clause-measured
-rows_table-requires-clause-measured c =
+pub rows_table-requires : goal.rows_table-requires
+rows_table-requires c =
     let text = c.args.text.now in
     let rows = c.in-Some.rows in
     let known = are_of text c.in_ok-rows.field-0 rows c.in-Some.is c.in_ok-rows.ensures.plain c.in_ok-rows.ensures.rows in
-    cells-measured text rows (whole_text text c.utf8.text (IsWhole-without_escape text known.none)) (rows.whole ∙ sym (length-map rows.cells shown)) known.are
+    record { measured = cells-measured text rows (whole_text text c.utf8.text (IsWhole-without_escape text known.none)) (rows.whole ∙ sym (length-map rows.cells shown)) known.are }
 
 pub returns-in_err-rows_table-clause-answers : goal.returns-in_err-rows_table-clause-answers
 returns-in_err-rows_table-clause-answers c =

@@ -9,7 +9,7 @@ use Rattle.ansi_scan.specs.Pieces.{pieces}
 use Rattle.ansi_str_search.specs.Parts.{before_place, through_place}
 use Rattle.ansi_str_search.proofs.DressedLemmas.{IsRendition-after}
 use Rattle.grid_records_measure.specs.Measures.{measure}
-use Rattle.columns_table.specs.RowEnds.{EndedRows, row_ended, with_cell}
+use Rattle.columns_table.specs.RowEnds.{EndedRows, row_ended}
 use Rattle.columns_table.specs.Rows.{cut}
 use Rattle.columns_table.specs.declared.ends.CellEnd.{CellEnd}
 use Rattle.columns_table.proofs.CutLemmas.{cut-map}
@@ -256,14 +256,14 @@ all c =
           let new = w.push_cell-then-has_begun.new.cells in
           let some : 0 < old.rows.begun + length (stripped place.rest.now) =
           elim w.then-has_begun.branch [
-            | then-has_begun-via-then-has_begun w' ↦ let begun : nat_lt 0 old.rows.begun ≡ true = sym w'.has_begun.ensures ∙ w'.if-has_begun.true in grind (arith, nat_tests, begun)
+            | then-has_begun-via-then-has_begun w' ↦ let begun : nat_lt 0 old.rows.begun ≡ true = sym c.has_begun.ensures ∙ w'.if-has_begun.true in grind (arith, nat_tests, begun)
             | then-has_begun-via-else-has_begun+then-not-is_bare w' ↦
                 let shows = some_of (length (stripped place.rest.now)) (sym w'.is_bare.ensures ∙ w'.if-not-is_bare.true) in omega (arith, shows)
           ] in
           subst (λ (cells : StyledCells). IsAll text cells) (sym (w.found-is ∙ ap (with_rows new) w.in_ok-end_row-2.ensures.ended))
           (all-ended text place.rest.now place.style end.rest.now end.style old so_far new w.in_ok-push_cell-2.ensures (whole-text c) gone some)
       | else-has_begun+else-not-is_bare w ↦
-          let begun : nat_lt 0 old.rows.begun ≡ false = sym w.has_begun.ensures ∙ w.if-has_begun.false in
+          let begun : nat_lt 0 old.rows.begun ≡ false = sym c.has_begun.ensures ∙ w.if-has_begun.false in
           let none : old.rows.begun ≡ 0 = grind (arith, nat_tests, begun) in
           let bare = eqb-true (length (stripped place.rest.now)) 0 (sym w.is_bare.ensures ∙ w.if-not-is_bare.false) in
           subst (λ (cells : StyledCells). IsAll text cells) (sym w.found-is)
