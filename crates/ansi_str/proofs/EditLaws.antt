@@ -7,10 +7,11 @@ use Rattle.ansi_scan.proofs.Uniqueness.{ArePiecesOf-unique}
 use Rattle.ansi_str.specs.declared.edits.Edit.{Edit}
 use Rattle.ansi_str.specs.declared.edits.Edit.TheVariants.{Cut, Left, Right, Part, Prefix, Suffix, Trim}
 use Rattle.ansi_str.specs.StyledText.{strip}
-use Rattle.ansi_str.specs.Keeping.{IsTrimmed, IsTrimmedAt, kept}
+use Rattle.ansi_str.specs.Keeping.{IsTrimmed, kept}
 use Rattle.ansi_str.specs.Matches.{split_bounds, styled_parts}
 use Rattle.ansi_str.specs.Edits.{AreParts, FailsOf, LeavesOf, TakesTo, FailsAt, TakeInTurn, OneFails}
 use Rattle.ansi_str_search.proofs.MatchLists.{AreMatches-unique}
+use Rattle.ansi_str.proofs.TrimLemmas.{TrimsFromTo, by_places}
 
 -- ---- one text
 
@@ -22,13 +23,13 @@ AreParts-unique pattern ps parts others of_parts of_others =
     of_parts.are_parts ∙ ap (λ matches. styled_parts ps (split_bounds pattern (strip ps) matches)) (AreMatches-unique pattern (strip ps) of_parts.matches of_others.matches of_parts.are_matches of_others.are_matches)
     ∙ sym of_others.are_parts
 
-module _ (text : List ℕ) (a b c d : ℕ) (here : IsTrimmedAt text a b) (there : IsTrimmedAt text c d) where
+module _ (text : List ℕ) (a b c d : ℕ) (here : TrimsFromTo text a b) (there : TrimsFromTo text c d) where
   same_start : a ≡ c
   same_start =
       let same : length (drop a text) ≡ length (drop c text) = ap length (here.begins ∙ sym there.begins) in
       omega (arith, same, length-drop a text, length-drop c text, here.ordered, here.within, there.ordered, there.within)
 
-  slice_len : (from to : ℕ) → IsTrimmedAt text from to → length (slice_range text from to) ≡ to - from
+  slice_len : (from to : ℕ) → TrimsFromTo text from to → length (slice_range text from to) ≡ to - from
   slice_len from to at = let size = length-take (to - from) (drop from text) in omega (arith, size, length-drop from text, at.ordered, at.within)
 
   same_end : b ≡ d
@@ -38,12 +39,14 @@ module _ (text : List ℕ) (a b c d : ℕ) (here : IsTrimmedAt text a b) (there 
 
 IsTrimmed-unique : (ps : List Piece) (left other : List ℕ) → IsTrimmed ps left → IsTrimmed ps other → left ≡ other
 IsTrimmed-unique ps left other (a, b, here, is_left) (c, d, there, is_other) =
-    is_left ∙ ap (λ n. kept n b ps) (same_start (strip ps) a b c d here there) ∙ ap (λ n. kept c n ps) (same_end (strip ps) a b c d here there) ∙ sym is_other
+    let of_left = by_places (strip ps) a b here in
+    let of_other = by_places (strip ps) c d there in
+    is_left ∙ ap (λ n. kept n b ps) (same_start (strip ps) a b c d of_left of_other) ∙ ap (λ n. kept c n ps) (same_end (strip ps) a b c d of_left of_other) ∙ sym is_other
 
 LeavesOf-unique : (edit : Edit) (ps : List Piece) (left other : List ℕ) → LeavesOf edit ps left → LeavesOf edit ps other → left ≡ other
 LeavesOf-unique (Cut start end) ps left other leaves also = leaves.1 ∙ sym also.1
-LeavesOf-unique (Left mid) ps left other leaves also = one_part left other _ leaves.1 also.1
-LeavesOf-unique (Right mid) ps left other leaves also = one_part left other _ leaves.1 also.1
+LeavesOf-unique (Left mid) ps left other leaves also = leaves.1 ∙ sym also.1
+LeavesOf-unique (Right mid) ps left other leaves also = leaves.1 ∙ sym also.1
 LeavesOf-unique (Part pattern index) ps left other leaves also =
     one_part left other (slice_get leaves.0 index) leaves.2
     (subst (λ parts. slice_get parts index ≡ Some other) (AreParts-unique pattern.now ps also.0 leaves.0 also.1 leaves.1) also.2)

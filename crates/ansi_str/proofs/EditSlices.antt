@@ -29,7 +29,7 @@ use Rattle.ansi_str_search.proofs.EmptyPattern.{empty_range}
 use Rattle.ansi_str.proofs.WholeSlices.{cut-shows}
 use Rattle.ansi_str.proofs.CutSlices.{cut-slice, later_part-slice_shown}
 use Rattle.ansi_str.proofs.KeptSlices.{kept_slice}
-use Rattle.ansi_str.proofs.TrimLemmas.{begins-cut}
+use Rattle.ansi_str.proofs.TrimLemmas.{begins-cut, by_places}
 use Rattle.ansi_str.proofs.WholeEdits.{LeavesOf-whole}
 use Rattle.ansi_str.proofs.EditUtf8.{boundary-within, boundary-min, IsUtf8-taken, IsUtf8-cut_part, IsUtf8-later_part, trimmed-first, trimmed-last}
 
@@ -133,7 +133,7 @@ module _ (text : List ℕ) (ps : List Piece) (utf8 : IsUtf8 text) (of_text : Are
   LeavesOf-utf8 (Suffix suffix) left in_utf8 leaves =
       subst IsUtf8 (sym leaves.1) (IsUtf8-taken (λ _. true) 0 (end - length suffix.now) ps each_utf8 (omega arith) (λ _. start_cut) (λ _. suffix_cut suffix.now in_utf8 leaves.0.0 leaves.0.1))
   LeavesOf-utf8 Trim left in_utf8 (a, b, at, same) =
-      subst IsUtf8 (sym same) (IsUtf8-taken (λ _. true) a b ps each_utf8 at.ordered (λ _. trimmed-first (strip ps) a b strip_utf8 at) (λ _. trimmed-last (strip ps) a b strip_utf8 at))
+      subst IsUtf8 (sym same) (IsUtf8-taken (λ _. true) a b ps each_utf8 (by_places (strip ps) a b at).ordered (λ _. trimmed-first (strip ps) a b strip_utf8 at) (λ _. trimmed-last (strip ps) a b strip_utf8 at))
 
   -- ---- what is left shows a slice
 
@@ -226,9 +226,9 @@ module _ (text : List ℕ) (ps : List Piece) (utf8 : IsUtf8 text) (of_text : Are
     LeavesOf-shows Trim left qs in_utf8 (a, b, at, same) of_left = record {
       start = a;
       end = b;
-      ordered = at.ordered;
+      ordered = (by_places (strip ps) a b at).ordered;
       told = at;
-      shown = kept_slice a b text ps qs at.ordered utf8 of_text whole (trimmed-first (strip ps) a b strip_utf8 at) (trimmed-last (strip ps) a b strip_utf8 at) (subst (λ bytes. ArePiecesOf bytes qs) same of_left);
+      shown = kept_slice a b text ps qs (by_places (strip ps) a b at).ordered utf8 of_text whole (trimmed-first (strip ps) a b strip_utf8 at) (trimmed-last (strip ps) a b strip_utf8 at) (subst (λ bytes. ArePiecesOf bytes qs) same of_left);
     }
 
 -- ---- an edit of a text

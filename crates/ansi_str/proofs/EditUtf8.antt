@@ -21,6 +21,7 @@ use Rattle.ansi_str.specs.Cuts.{IsGoodBound, cut_part, later_part}
 use Rattle.ansi_str.specs.Keeping.{IsTrimmedAt}
 use Rattle.ansi_str_search.proofs.PartLemmas.{taken_piece-text, taken_piece-sequence, text_of-text}
 use Rattle.ansi_str_search.proofs.DressedLemmas.{renditions, joined-renditions, IsRendition-after}
+use Rattle.ansi_str.proofs.TrimLemmas.{TrimsFromTo, by_places}
 use Rattle.ansi_str_search.proofs.Utf8Lemmas.{EachUtf8, IsUtf8-joined, IsUtf8-strip, EachUtf8-renditions, boundary-first, boundary-second}
 
 -- ---- places at which a text can be cut, or behind which it ends
@@ -162,7 +163,10 @@ IsUtf8-trim_end : (text : List ℕ) → IsUtf8 text → IsUtf8 (trim_end text)
 unfolding trim_end
 IsUtf8-trim_end text utf8 = (drop_trailing_whitespace (chars text), (scalars-drop (chars text) (scalars-chars text utf8), refl))
 
-module _ (text : List ℕ) (a b : ℕ) (utf8 : IsUtf8 text) (trimmed : IsTrimmedAt text a b) where
+module _ (text : List ℕ) (a b : ℕ) (utf8 : IsUtf8 text) (at : IsTrimmedAt text a b) where
+  trimmed : TrimsFromTo text a b
+  trimmed = by_places text a b at
+
   begun_utf8 : IsUtf8 (drop a text)
   begun_utf8 = subst IsUtf8 (sym trimmed.begins) (IsUtf8-trim_start text utf8)
 

@@ -1,9 +1,11 @@
 -- Prefixes, suffixes and white space, taken away from a text.
-use Rattle.std.proofs.Common.{◌≡◌, ℕ, ◌+◌, ◌-◌, ◌≤◌, nat_le, Bool, true, false, List, length, take, drop, Result, Ok, Err, refl, ap, sym, subst, ◌∙◌, arith}
+use Rattle.std.proofs.Common.{◌≡◌, ℕ, ◌+◌, ◌-◌, ◌≤◌, nat_le, Bool, true, false, List, ◌++◌, length, take, drop, Result, Ok, Err, refl, ap, sym, subst, ◌∙◌, arith, length-append}
+use Rattle.std.specs.Prelude.{slice_range}
+use Rattle.std.proofs.Math.Seq.{drop-append_seam, take-append_seam}
 use Rattle.std.specs.Char.{is_not_whitespace}
-use Rattle.std.specs.Str.{IsUtf8, IsCharBoundary, IsTrimStart, IsTrimEnd, NoCharPasses, trim_start, trim_end}
+use Rattle.std.specs.Str.{IsUtf8, IsCharBoundary, IsTrimStart, IsTrimEnd, NoCharPasses, trim, trim_start, trim_end}
 use Rattle.std.proofs.lemmas.Bool.Decides.{nat_tests}
-use Rattle.std.proofs.lemmas.List.{length-drop, drop_all, take_all, drop-drop}
+use Rattle.std.proofs.lemmas.List.{length-drop, length-take, drop_all, take_all, drop-drop, take-append-drop}
 use Rattle.std.proofs.lemmas.Str.{IsCharBoundary-start, IsCharBoundary-from_drop, IsCharBoundary-from_take, IsCharBoundary-from_rest}
 use Rattle.std.specs.Prelude.{IfOk}
 use Rattle.std.specs.Cow.{cow_str_bytes}
@@ -22,6 +24,55 @@ begins-cut p text utf8 utf8_text begins =
     let none : 0 + length p ≡ length p = omega arith in
     subst (IsCharBoundary text) none
     (Occurs-ends p text 0 utf8 utf8_text (record { behind = begins.0; stands = begins.1; boundary = IsCharBoundary-start text utf8_text }))
+
+-- ---- a text in three parts
+
+module _ (text before left behind : List ℕ) (parted : text ≡ before ++ (left ++ behind)) where
+  abbrev a : ℕ
+  a = length before
+
+  abbrev b : ℕ
+  b = length before + length left
+
+  pub drop_before : drop a text ≡ left ++ behind
+  drop_before = ap (drop a) parted ∙ drop-append_seam before (left ++ behind)
+
+  pub take_before : take a text ≡ before
+  take_before = ap (take a) parted ∙ take-append_seam before (left ++ behind)
+
+  pub drop_both : drop b text ≡ behind
+  drop_both = sym (drop-drop (length left) a text) ∙ ap (drop (length left)) drop_before ∙ drop-append_seam left behind
+
+  pub between : slice_range text a b ≡ left
+  between =
+      let size : b - a ≡ length left = omega arith in
+      ap (λ n. take n (drop a text)) size ∙ ap (take (length left)) drop_before ∙ take-append_seam left behind
+
+  pub sizes : length text ≡ length before + (length left + length behind)
+  sizes = ap length parted ∙ length-append before (left ++ behind) ∙ ap (λ n. length before + n) (length-append left behind)
+
+-- a trimmed text, by its places
+pub record TrimsFromTo (text : List ℕ) (a b : ℕ) : Type 0 where
+  pub ordered : a ≤ b
+  pub within : b ≤ length text
+  pub before : NoCharPasses is_not_whitespace (take a text)
+  pub behind : NoCharPasses is_not_whitespace (drop b text)
+  pub begins : drop a text ≡ trim_start text
+  pub left : slice_range text a b ≡ trim text
+
+pub by_places : (text : List ℕ) (a b : ℕ) → IsTrimmedAt text a b → TrimsFromTo text a b
+by_places text a b at =
+    let w = at.before in
+    let m = trim text in
+    let v = at.behind in
+    record {
+      ordered = omega (arith, at.from, at.to);
+      within = omega (arith, at.to, sizes text w m v at.parted);
+      before = subst (NoCharPasses is_not_whitespace) (sym (ap (λ n. take n text) at.from ∙ take_before text w m v at.parted)) at.white_before;
+      behind = subst (NoCharPasses is_not_whitespace) (sym (ap (λ n. drop n text) at.to ∙ drop_both text w m v at.parted)) at.white_behind;
+      begins = ap (λ n. drop n text) at.from ∙ drop_before text w m v at.parted ∙ sym at.started;
+      left = ap (λ n. slice_range text n b) at.from ∙ ap (slice_range text (length w)) at.to ∙ between text w m v at.parted;
+    }
 
 -- ---- white space
 
@@ -49,25 +100,34 @@ module _ (text left r : List ℕ) (start : IsTrimStart text left) (is_left : lef
   left-before : take from text ≡ take start.0 text
   left-before = ap (λ m. take m text) same_from ∙ (left_out start.0 text (nat_le start.0 (length text)) refl).1
 
-  behind_both : drop (from + length r) text ≡ drop end.0 left
-  behind_both = sym (drop-drop (length r) from text) ∙ ap (drop (length r)) left-behind ∙ ap (λ m. drop m left) end.4
-
   r_is : take (length r) left ≡ r
   r_is = ap (λ m. take m left) end.4 ∙ sym end.1
 
   r_fits : from + length r ≤ length text
   r_fits = omega (arith, start.4, end.4, end.5)
 
+  left-parted : left ≡ r ++ drop end.0 left
+  left-parted = sym (take-append-drop end.0 left) ∙ ap (λ front. front ++ drop end.0 left) (sym end.1)
+
+  r_is-trim : r ≡ trim text
+  r_is-trim = is_r ∙ ap trim_end is_left
+
+  front_size : from ≡ length (take from text)
+  front_size = omega (arith, length-take from text, r_fits)
+
   pub IsTrimmedAt-both : IsTrimmedAt text from (from + length r)
   IsTrimmedAt-both =
-      let width : from + length r - from ≡ length r = omega arith in
+      let behind = drop end.0 left in
+      let started : left ≡ trim text ++ behind = left-parted ∙ ap (λ front. front ++ behind) r_is-trim in
       record {
-        ordered = omega arith;
-        within = r_fits;
-        before = subst (NoCharPasses is_not_whitespace) (sym left-before) start.2;
-        behind = subst (NoCharPasses is_not_whitespace) (sym behind_both) end.2;
-        begins = left-behind ∙ is_left;
-        left = ap (λ m. take m (drop from text)) width ∙ ap (take (length r)) left-behind ∙ r_is ∙ is_r ∙ ap trim_end is_left;
+        before = take from text;
+        behind = behind;
+        parted = sym (take-append-drop from text) ∙ ap (λ rest. take from text ++ rest) (left-behind ∙ started);
+        started = sym is_left ∙ started;
+        white_before = subst (NoCharPasses is_not_whitespace) (sym left-before) start.2;
+        white_behind = end.2;
+        from = front_size;
+        to = omega (arith, front_size, ap length r_is-trim);
       }
 
   pub from-cut : IsUtf8 left → IsCharBoundary text from

@@ -6,14 +6,17 @@ use Rattle.ansi_scan.specs.Attributes.{Attributes}
 use Rattle.ansi_str.specs.declared.edits.Edit.{Edit}
 use Rattle.ansi_str.specs.declared.edits.Edit.TheVariants.{Cut, Left, Right, Part, Prefix, Suffix, Trim}
 use Rattle.ansi_str.specs.StyledText.{strip, styled}
-use Rattle.ansi_str.specs.Cuts.{AreGoodBounds, IsGoodBound, cut_part, parts_at}
+use Rattle.ansi_str.specs.Cuts.{AreGoodBounds, IsGoodBound, cut_part, later_part}
 use Rattle.ansi_str.specs.Matches.{AreMatches, split_bounds, styled_parts, styled_slice}
 use Rattle.ansi_str.specs.Searches.{BeginsWith, EndsWith}
 use Rattle.ansi_str.specs.Keeping.{IsTrimmed, IsTrimmedAt, without_end, without_front}
 
--- the two parts at a place; a place past the end counts as the end
-abbrev pub sides : ℕ → List Piece → List (List ℕ)
-sides mid pieces = parts_at (min mid (length (strip pieces)) ∷ []) pieces
+-- the part before a place, and the part behind it; a place past the end counts as the end
+abbrev pub left_side : ℕ → List Piece → List ℕ
+left_side mid pieces = cut_part 0 (min mid (length (strip pieces))) pieces
+
+abbrev pub right_side : ℕ → List Piece → List ℕ
+right_side mid pieces = later_part (min mid (length (strip pieces))) (length (strip pieces)) pieces
 
 -- the parts between the matches of the pattern are these
 pub record AreParts (pattern : List ℕ) (pieces : List Piece) (parts : List (List ℕ)) : Type 0 where
@@ -24,8 +27,8 @@ pub record AreParts (pattern : List ℕ) (pieces : List Piece) (parts : List (Li
 -- the edit leaves these bytes of the pieces
 abbrev pub LeavesOf : Edit → List Piece → List ℕ → Type 0
 LeavesOf (Cut start end) pieces left = AreGoodBounds (strip pieces) start (Some end) × (left ≡ cut_part start end pieces)
-LeavesOf (Left mid) pieces left = IsGoodBound (strip pieces) mid × (slice_get (sides mid pieces) 0 ≡ Some left)
-LeavesOf (Right mid) pieces left = IsGoodBound (strip pieces) mid × (slice_get (sides mid pieces) 1 ≡ Some left)
+LeavesOf (Left mid) pieces left = IsGoodBound (strip pieces) mid × (left ≡ left_side mid pieces)
+LeavesOf (Right mid) pieces left = IsGoodBound (strip pieces) mid × (left ≡ right_side mid pieces)
 LeavesOf (Part pattern index) pieces left =
     (parts : List (List ℕ)) × AreParts pattern.now pieces parts × (slice_get parts index ≡ Some left)
 LeavesOf (Prefix prefix) pieces left = BeginsWith prefix.now (strip pieces) × (left ≡ without_front (length prefix.now) pieces)

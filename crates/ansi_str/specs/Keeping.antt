@@ -1,5 +1,5 @@
 -- Text that is taken away at both ends, where every sequence is kept.
-use Rattle.std.specs.Prelude.{◌≡◌, ◌≤◌, ◌-◌, ℕ, true, List, [], ◌∷◌, length, take, drop, slice_range, if◌then◌else◌}
+use Rattle.std.specs.Prelude.{◌≡◌, ◌+◌, ◌-◌, ℕ, true, List, [], ◌∷◌, ◌++◌, length, if◌then◌else◌}
 use Rattle.std.specs.Char.{is_not_whitespace}
 use Rattle.std.specs.Str.{NoCharPasses, trim, trim_start}
 use Rattle.ansi_scan.specs.Sequences.{Piece}
@@ -18,15 +18,17 @@ without_front n pieces = kept n (length (strip pieces)) pieces
 abbrev pub without_end : ℕ → List Piece → List ℕ
 without_end n pieces = kept 0 (length (strip pieces) - n) pieces
 
--- what Rust's `trim` leaves of the text stands from a to b, what `trim_start` leaves begins at a, and all before and
--- after is white space
+-- the text is white space, what Rust's `trim` leaves of it, and white space again, which `trim_start` leaves too; what `trim`
+-- leaves stands from a to b
 pub record IsTrimmedAt (text : List ℕ) (a b : ℕ) : Type 0 where
-  pub ordered : a ≤ b
-  pub within : b ≤ length text
-  pub before : NoCharPasses is_not_whitespace (take a text)
-  pub behind : NoCharPasses is_not_whitespace (drop b text)
-  pub begins : drop a text ≡ trim_start text
-  pub left : slice_range text a b ≡ trim text
+  pub before : List ℕ
+  pub behind : List ℕ
+  pub parted : text ≡ before ++ (trim text ++ behind)
+  pub started : trim_start text ≡ trim text ++ behind
+  pub white_before : NoCharPasses is_not_whitespace before
+  pub white_behind : NoCharPasses is_not_whitespace behind
+  pub from : a ≡ length before
+  pub to : b ≡ length before + length (trim text)
 
 -- the bytes are the pieces without the white space at both ends of their text
 abbrev pub IsTrimmed : List Piece → List ℕ → Type 0

@@ -31,7 +31,7 @@ from-text_or m p ps false e some others =
     let same : m ≡ m - length (text_of p) = omega (arith, len) in
     ap (λ t. from_place m (if t then p ∷ ps else from_text ps)) e ∙ others ∙ ap (λ n. from_place n ps) same ∙ sym (from-past m p ps some over)
 
-from-text : (m : ℕ) (ps : List Piece) → 0 < m → from_place m (from_text ps) ≡ from_place m ps
+pub from-text : (m : ℕ) (ps : List Piece) → 0 < m → from_place m (from_text ps) ≡ from_place m ps
 from-text m [] some = refl
 from-text m (p ∷ ps) some = from-text_or m p ps (is_text_kind p.kind) refl some (from-text m ps some)
 
@@ -54,7 +54,7 @@ style-text_or m style p ps false e some bytes others =
     ∙ ap (λ found. style_after_all (style_after_all style found) (before_place m (from_text ps))) (sym (through-past 0 p ps low))
     ∙ ap (λ t. style_after_all (style_after_all style (through_place 0 (p ∷ ps))) (before_place m (if t then p ∷ ps else from_text ps))) (sym e)
 
-style-text : (m : ℕ) (style : Attributes) (ps : List Piece) → EachStands ps → 0 < m
+pub style-text : (m : ℕ) (style : Attributes) (ps : List Piece) → EachStands ps → 0 < m
     → style_after_all style (before_place m ps) ≡ style_after_all (style_after_all style (through_place 0 ps)) (before_place m (from_text ps))
 style-text m style [] each some = refl
 style-text m style (p ∷ ps) each some = style-text_or m style p ps (is_text_kind p.kind) refl some (Stands-some p.kind p.bytes ps each.0) (λ s. style-text m s ps each.1 some)

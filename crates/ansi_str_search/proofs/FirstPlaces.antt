@@ -88,7 +88,11 @@ module _ (p text : List ℕ) (other : begins_with p text ≡ false) where
     first_match-on = first_match-unique p 0 text (option_map (λ n. k + n) (first_match p 0 (drop k text))) (on (first_match p 0 (drop k text)) (first_match-sound p 0 (drop k text)))
 
 pub is_found : (p text : List ℕ) (r : Option ℕ) → r ≡ first_match p 0 text → IsFound p text r
-is_found p text r e = subst (IsFound p text) (sym e) (first_match-sound p 0 text)
+is_found p text r e = subst (IsFound p text) (sym e) (found (first_match p 0 text) (first_match-sound p 0 text))
+  where
+    found : (r : Option ℕ) → IsFirstOrNone p text 0 r → IsFound p text r
+    found None none = λ at. none at (omega arith)
+    found (Some at) first = first
 
 pub found-empty : (p text : List ℕ) → length p ≡ 0 → IsUtf8 text → IsFirstMatch p text 0 0
 found-empty p text none utf8 = first_match-is_first p 0 text 0 (first_match-here p text utf8 (begins_with-none_left p text none))

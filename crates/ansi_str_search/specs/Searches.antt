@@ -1,5 +1,5 @@
 -- Rust's searches in a text: whether it begins or ends with a pattern, and where a pattern stands first.
-use Rattle.std.specs.Prelude.{◌≡◌, ◌≤◌, ℕ, List, ◌++◌, Option, MatchOption}
+use Rattle.std.specs.Prelude.{◌≡◌, ℕ, List, ◌++◌, Option, MatchOption}
 use Rattle.ansi_str_search.specs.Matches.{Occurs, IsFirstMatch}
 
 -- the text is the pattern, and what stands after it
@@ -13,4 +13,4 @@ EndsWith pattern text = (before : List ℕ) × (text ≡ before ++ pattern)
 -- the first place at which the pattern stands in the text, and none where it does not stand there
 abbrev pub IsFound : List ℕ → List ℕ → Option ℕ → Type 0
 IsFound pattern text found =
-    MatchOption found ((at : ℕ) → 0 ≤ at → ¬ (Occurs pattern text at)) (λ at. IsFirstMatch pattern text 0 at)
+    MatchOption found ((at : ℕ) → ¬ (Occurs pattern text at)) (λ at. IsFirstMatch pattern text 0 at)

@@ -11,13 +11,13 @@ use Rattle.ansi_scan.specs.Pieces.{pieces, text_len}
 use Rattle.ansi_scan.specs.Attributes.{Attributes, plain_attributes}
 use Rattle.ansi_scan.specs.StartsAndEnds.{start_bytes, end_bytes}
 use Rattle.ansi_scan.proofs.Existence.{ArePiecesOf-pieces}
-use Rattle.ansi_scan.proofs.Uniqueness.{pieces-joined, Stands-some}
+use Rattle.ansi_scan.proofs.Uniqueness.{pieces-joined}
 use Rattle.ansi_scan.proofs.Runs.{prefix_len-pass, prefix_len-drop_run}
-use Rattle.ansi_str_text.specs.StyledText.{text_of, strip, style_after, style_after_all}
+use Rattle.ansi_str_text.specs.StyledText.{strip, style_after_all}
 use Rattle.ansi_str_search.specs.Parts.{from_place, before_place, through_place, split_part, dressed}
 use Rattle.ansi_str_search.specs.Walking.{from_text, begins_with_escape}
-use Rattle.ansi_str_search.proofs.PartLemmas.{text_of-text, text_of-sequence}
-use Rattle.ansi_str_search.proofs.PlaceLemmas.{EachStands-from, from-none, before-none, from-past, before-past, through-past, through-inside, strip-from}
+use Rattle.ansi_str_search.proofs.PartLemmas.{text_of-sequence}
+use Rattle.ansi_str_search.proofs.PlaceLemmas.{EachStands-from, from-none, before-none, strip-from}
 use Rattle.ansi_str_search.proofs.PlaceSums.{from-from, style-before_sum, style-through_split}
 use Rattle.ansi_str_search.proofs.RestLemmas.{rest_slice, slice_part}
 use Rattle.ansi_str_search.proofs.StyleLemmas.{split_part-slice}
@@ -27,46 +27,11 @@ use Rattle.columns_run.specs.Ends.{is_cell_byte, cell_size, EndsCell}
 use Rattle.columns_table.specs.Rows.{cut}
 use Rattle.columns_table.proofs.CutLemmas.{cut-append, cut-more, sum-more}
 use Rattle.columns_run.proofs.EndLemmas.{shown_first, shown_none}
+use Rattle.ansi_str_search.proofs.ByteParts.{from-text, style-text}
 use Rattle.columns_run.proofs.BoundLemmas.{cells_from, cells_from-pass, cells_from-start}
 use Rattle.columns_run.proofs.WholeLemmas.{pieces-whole, whole-from}
 
 -- ---- the sequences at a place are passed on the way behind it
-
-from-text_or : (m : ℕ) (p : Piece) (ps : List Piece) (is_text : Bool) → is_text_kind p.kind ≡ is_text → 0 < m → from_place m (from_text ps) ≡ from_place m ps → from_place m (from_text (p ∷ ps)) ≡ from_place m (p ∷ ps)
-from-text_or m p ps true e some others = ap (λ t. from_place m (if t then p ∷ ps else from_text ps)) e
-from-text_or m p ps false e some others =
-    let len : length (text_of p) ≡ 0 = ap length (text_of-sequence p e) in
-    let over : length (text_of p) ≤ m = omega (arith, len) in
-    let same : m ≡ m - length (text_of p) = omega (arith, len) in
-    ap (λ t. from_place m (if t then p ∷ ps else from_text ps)) e ∙ others ∙ ap (λ n. from_place n ps) same ∙ sym (from-past m p ps some over)
-
-from-text : (m : ℕ) (ps : List Piece) → 0 < m → from_place m (from_text ps) ≡ from_place m ps
-from-text m [] some = refl
-from-text m (p ∷ ps) some = from-text_or m p ps (is_text_kind p.kind) refl some (from-text m ps some)
-
-style-text_or : (m : ℕ) (style : Attributes) (p : Piece) (ps : List Piece) (is_text : Bool) → is_text_kind p.kind ≡ is_text → 0 < m → 0 < length p.bytes
-    → ((s : Attributes) → style_after_all s (before_place m ps) ≡ style_after_all (style_after_all s (through_place 0 ps)) (before_place m (from_text ps)))
-    → style_after_all style (before_place m (p ∷ ps)) ≡ style_after_all (style_after_all style (through_place 0 (p ∷ ps))) (before_place m (from_text (p ∷ ps)))
-style-text_or m style p ps true e some bytes others =
-    let len : length (text_of p) ≡ length p.bytes = ap length (text_of-text p e) in
-    let inside_first : 0 < length (text_of p) = omega (arith, len, bytes) in
-    ap (λ t. style_after_all style (before_place m (if t then p ∷ ps else from_text ps))) (sym e)
-    ∙ ap (λ found. style_after_all (style_after_all style found) (before_place m (from_text (p ∷ ps)))) (sym (through-inside 0 p ps inside_first))
-style-text_or m style p ps false e some bytes others =
-    let len : length (text_of p) ≡ 0 = ap length (text_of-sequence p e) in
-    let over : length (text_of p) ≤ m = omega (arith, len) in
-    let low : length (text_of p) ≤ 0 = omega (arith, len) in
-    let same : m - length (text_of p) ≡ m = omega (arith, len) in
-    let none : 0 ≡ 0 - length (text_of p) = omega (arith, len) in
-    ap (style_after_all style) (before-past m p ps some over) ∙ ap (λ n. style_after_all (style_after style p) (before_place n ps)) same ∙ others (style_after style p)
-    ∙ ap (λ n. style_after_all (style_after_all (style_after style p) (through_place n ps)) (before_place m (from_text ps))) none
-    ∙ ap (λ found. style_after_all (style_after_all style found) (before_place m (from_text ps))) (sym (through-past 0 p ps low))
-    ∙ ap (λ t. style_after_all (style_after_all style (through_place 0 (p ∷ ps))) (before_place m (if t then p ∷ ps else from_text ps))) (sym e)
-
-style-text : (m : ℕ) (style : Attributes) (ps : List Piece) → EachStands ps → 0 < m
-    → style_after_all style (before_place m ps) ≡ style_after_all (style_after_all style (through_place 0 ps)) (before_place m (from_text ps))
-style-text m style [] each some = refl
-style-text m style (p ∷ ps) each some = style-text_or m style p ps (is_text_kind p.kind) refl some (Stands-some p.kind p.bytes ps each.0) (λ s. style-text m s ps each.1 some)
 
 strip-text_or : (p : Piece) (ps : List Piece) (is_text : Bool) → is_text_kind p.kind ≡ is_text → strip (from_text ps) ≡ strip ps → strip (from_text (p ∷ ps)) ≡ strip (p ∷ ps)
 strip-text_or p ps true e others = ap (λ t. strip (if t then p ∷ ps else from_text ps)) e

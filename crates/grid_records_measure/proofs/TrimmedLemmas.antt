@@ -1,16 +1,16 @@
 -- A text without the white space at both its ends, as a function of it.
-use Rattle.std.proofs.Common.{◌≡◌, ◌+◌, ◌-◌, ◌≤◌, ◌∙◌, ◌&&◌, ◌==◌, ℕ, true, false, List, [], ◌∷◌, ◌++◌, ap, arith, drop, length, refl, slice_range, sym, take}
-use Rattle.std.proofs.Math.Seq.{drop-append_seam, take-append_seam}
+use Rattle.std.proofs.Common.{◌≡◌, ◌+◌, ◌-◌, ◌∙◌, ◌&&◌, ◌==◌, ℕ, true, false, List, [], ◌∷◌, ◌++◌, ap, arith, length, refl, sym}
 use Rattle.std.proofs.Math.Utf8.{scalars}
 use Rattle.std.proofs.lemmas.Bool.{and_parts}
 use Rattle.std.proofs.lemmas.Bool.Decides.{nat_tests}
-use Rattle.std.proofs.lemmas.List.{length-append, length-drop, length-take-le, drop-drop}
+use Rattle.std.proofs.lemmas.List.{length-append}
 use Rattle.std.proofs.lemmas.Str.{chars-encodes, encodes-append, encodes-chars, scalars-chars}
 use Rattle.std.specs.Char.{is_not_whitespace, is_whitespace}
 use Rattle.std.specs.Str.{IsUtf8, NonePass, chars, drop_trailing_whitespace, encode_utf8_all, skip_leading_whitespace, trim, trim_end as without_end, trim_start}
 use Rattle.ansi_scan.specs.Sequences.{Piece, ArePiecesOf}
 use Rattle.ansi_scan.specs.Pieces.{pieces}
 use Rattle.ansi_str.specs.StyledText.{strip}
+use Rattle.ansi_str.proofs.TrimLemmas.{sizes}
 use Rattle.ansi_str.specs.Keeping.{IsTrimmed, IsTrimmedAt, kept}
 use Rattle.ansi_str_search.proofs.FindLemmas.{IsUtf8-shown}
 use Rattle.ansi_str_search.proofs.SearchLemmas.{of_pieces}
@@ -49,30 +49,6 @@ scalars_behind [] ys all = all
 scalars_behind (x ∷ xs) ys all = scalars_behind xs ys (and_parts _ (scalars (xs ++ ys)) all).1
 
 -- ---- where they stand in a text
-
-module _ (text before left behind : List ℕ) (parted : text ≡ before ++ (left ++ behind)) where
-  abbrev a : ℕ
-  a = length before
-
-  abbrev b : ℕ
-  b = length before + length left
-
-  drop_before : drop a text ≡ left ++ behind
-  drop_before = ap (drop a) parted ∙ drop-append_seam before (left ++ behind)
-
-  take_before : take a text ≡ before
-  take_before = ap (take a) parted ∙ take-append_seam before (left ++ behind)
-
-  drop_both : drop b text ≡ behind
-  drop_both = sym (drop-drop (length left) a text) ∙ ap (drop (length left)) drop_before ∙ drop-append_seam left behind
-
-  between : slice_range text a b ≡ left
-  between =
-      let size : b - a ≡ length left = omega arith in
-      ap (λ n. take n (drop a text)) size ∙ ap (take (length left)) drop_before ∙ take-append_seam left behind
-
-  sizes : length text ≡ length before + (length left + length behind)
-  sizes = ap length parted ∙ length-append before (left ++ behind) ∙ ap (λ n. length before + n) (length-append left behind)
 
 end_is : (bytes : List ℕ) → without_end bytes ≡ encode_utf8_all (drop_trailing_whitespace (chars bytes))
 unfolding without_end
@@ -123,18 +99,16 @@ module _ (text : List ℕ) (utf8 : IsUtf8 text) where
   ends_at = ap (λ n. n + length (trim text)) begins_at ∙ ap (λ bytes. length (encode_utf8_all white) + length bytes) both_is
 
   trimmed_there : IsTrimmedAt text (length (encode_utf8_all white)) (length (encode_utf8_all white) + length (encode_utf8_all inner))
-  trimmed_there =
-      let w = encode_utf8_all white in
-      let m = encode_utf8_all inner in
-      let v = encode_utf8_all white_behind in
-      record {
-        ordered = omega arith;
-        within = omega (arith, sizes text w m v parted);
-        before = (white, sym (take_before text w m v parted), (front cs).2);
-        behind = (white_behind, sym (drop_both text w m v parted), (back rest).2);
-        begins = drop_before text w m v parted ∙ sym left_is;
-        left = between text w m v parted ∙ sym both_is;
-      }
+  trimmed_there = record {
+    before = encode_utf8_all white;
+    behind = encode_utf8_all white_behind;
+    parted = parted ∙ ap (λ left. encode_utf8_all white ++ (left ++ encode_utf8_all white_behind)) (sym both_is);
+    started = left_is ∙ ap (λ left. left ++ encode_utf8_all white_behind) (sym both_is);
+    white_before = (white, refl, (front cs).2);
+    white_behind = (white_behind, refl, (back rest).2);
+    from = refl;
+    to = ap (λ left. length (encode_utf8_all white) + length left) (sym both_is);
+  }
 
   pub trimmed_at : IsTrimmedAt text (trimmed_from text) (trimmed_to text)
   trimmed_at = rw (ends_at, begins_at) trimmed_there
@@ -149,11 +123,9 @@ trimmed-is text utf8 =
 
 one_place : (text : List ℕ) (a b : ℕ) → IsTrimmedAt text a b → (a ≡ trimmed_from text) × (b ≡ trimmed_to text)
 one_place text a b at =
-    let left : length text - a ≡ length (trim_start text) = sym (length-drop a text) ∙ ap length at.begins in
-    let first : a ≡ trimmed_from text = omega (arith, left, at.ordered, at.within) in
-    let fits : b - a ≤ length (drop a text) = omega (arith, length-drop a text, at.ordered, at.within) in
-    let size : b - a ≡ length (trim text) = sym (length-take-le (b - a) (drop a text) fits) ∙ ap length at.left in
-    (first, omega (arith, first, size, at.ordered))
+    let started : length (trim_start text) ≡ length (trim text) + length at.behind = ap length at.started ∙ length-append (trim text) at.behind in
+    let first : a ≡ trimmed_from text = omega (arith, at.from, sizes text at.before (trim text) at.behind at.parted, started) in
+    (first, omega (arith, first, at.from, at.to))
 
 same_trimmed : (text bytes : List ℕ) → IsTrimmed (pieces text) bytes → bytes ≡ trimmed text
 unfolding trimmed

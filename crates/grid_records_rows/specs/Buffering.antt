@@ -8,13 +8,18 @@ abbrev pub of_rest : {S B : Type 0} → (S → B) → B → Option S → B
 of_rest f none None = none
 of_rest f none (Some rest) = f rest
 
+-- the kept rows, and the rest of the source where there is one
+pub record Parts (K R : Type 0) : Type 0 where
+  pub kept : K
+  pub rest : Option R
+
 -- a call gives the next kept row, and after the last of them the next row of the rest
-abbrev pub GivesBuffered : {K R Kept Rest : Type 0} → (K → Option Kept → K → Type 0) → (R → Option Rest → R → Type 0) → K → Option R → Option (Either Kept Rest) → K → Option R → Type 0
-GivesBuffered {R = R} kept_steps rest_steps kept rest found kept_then rest_then =
+abbrev pub GivesBuffered : {K R Kept Rest : Type 0} → (K → Option Kept → K → Type 0) → (R → Option Rest → R → Type 0) → Parts K R → Option (Either Kept Rest) → Parts K R → Type 0
+GivesBuffered {R = R} kept_steps rest_steps before found after =
     MatchOption found
-    (kept_steps kept None kept_then
-    × MatchOption rest (rest_then ≡ None) (λ it. (then : R) × rest_steps it None then × (rest_then ≡ Some then)))
+    (kept_steps before.kept None after.kept
+    × MatchOption before.rest (after.rest ≡ None) (λ it. (then : R) × rest_steps it None then × (after.rest ≡ Some then)))
     (λ cells.
     MatchEither cells
-    (λ row. kept_steps kept (Some row) kept_then × (rest_then ≡ rest))
-    (λ row. kept_steps kept None kept_then × ((it : R) × (then : R) × (rest ≡ Some it) × (rest_then ≡ Some then) × rest_steps it (Some row) then)))
+    (λ row. kept_steps before.kept (Some row) after.kept × (after.rest ≡ before.rest))
+    (λ row. kept_steps before.kept None after.kept × ((it : R) × (then : R) × (before.rest ≡ Some it) × (after.rest ≡ Some then) × rest_steps it (Some row) then)))

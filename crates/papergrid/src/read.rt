@@ -1,11 +1,10 @@
 //! The rows of records that are read once, kept to be looked up.
-ghost use Rattle.std.specs.Prelude.{◌≡◌, Bool, IfOk, List, ℕ, false, map};
-ghost use Rattle.std.specs.Iterator.{IsFinite};
-ghost use Rattle.grid_records_traits.specs.Giving.{GivesTexts};
+ghost use Rattle.std.specs.Prelude.{◌≡◌, IfOk, false};
 ghost use Rattle.grid_records_traits.specs.Rows.{fitted};
 ghost use Rattle.grid_records_traits.specs.Sources.{texts_of_rows};
 
 use grid_config::Position;
+use grid_records_rows::records::into_records::read_row;
 use grid_records_traits::{Cell, IntoRecords, PeekableRecords, RecordTexts, Records};
 use std::alloc::{AllocError, Global};
 
@@ -27,22 +26,6 @@ pub(crate) fn read<R: Records>(
         rows.push(read_row(alloc, cells)?)?;
     }
     Ok(ReadRows { rows })
-}
-
-// The cells of a row, one by one.
-fn read_row<C: Cell, I: Iterator<Item = Result<C, AllocError>>>(
-    alloc: Global,
-    cells: I,
-) -> Result<Vec<C>, AllocError>
-    requires can { I.can_next cells }
-    requires ends { IsFinite (I.remaining cells) }
-    ensures { IfOk result (λ row. (texts : List (List ℕ)) (may_refuse : Bool) → GivesTexts I.can_next I.remaining I.next_gives C.text may_refuse cells texts → map C.text row.items ≡ texts) }
-{
-    let mut row = Vec::new(alloc);
-    for cell in cells {
-        row.push(cell?)?;
-    }
-    Ok(row)
 }
 
 impl<T: Cell> RecordTexts for ReadRows<T> {

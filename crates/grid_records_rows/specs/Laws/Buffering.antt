@@ -65,7 +65,7 @@ module _ {K R Kept Rest B F : Type 0} (kept_steps : K → Option Kept → K → 
     (lefts : (row : Kept) (y : B) → kept_tie row y → tie (Left row) y) (rights : (row : Rest) (y : B) → rest_tie row y → tie (Right row) y)
     (stays : (s t : K) → kept_steps s None t → (row : Kept) (u : K) → ¬ (kept_steps t (Some row) u)) where
   abbrev Steps : F → Option (Either Kept Rest) → F → Type 0
-  Steps s r t = GivesBuffered kept_steps rest_steps (kept_of s) (rest_of s) r (kept_of t) (rest_of t)
+  Steps s r t = GivesBuffered kept_steps rest_steps (record { kept = kept_of s; rest = rest_of s }) r (record { kept = kept_of t; rest = rest_of t })
 
   ended : (s : F) → GivesEach kept_steps kept_tie (kept_of s) [] → rest_of s ≡ None → GivesEach Steps tie s []
   ended s gives none = λ x t. elim x as (λ v. Steps s (Some v) t → ⊥) [
@@ -139,7 +139,7 @@ pub buffered_rows_give : {T R K Cells Rest F : Type 0} (text : T → List ℕ) {
     ((row : Vec T Global) (it : IntoIter T Global) → becomes row it → items_left it ≡ vec_items row) → (refuses : R → Bool) (rest_rows : R → List (List (List ℕ))) (s : F) →
     ((it : R) → Gives rest_may rest_left rest_steps (GivesTexts rest_cell_can rest_cell_left rest_cells text (refuses it)) it (rest_rows it)) →
     Gives (λ s. IfSome (rest_of s) rest_may) (λ s. count_add (at_most (into_iter_len (inside (kept_of s)))) (of_rest rest_left (at_most 0) (rest_of s)))
-    (λ s r t. GivesBuffered (λ s r t. GivesCellsOf into_iter_steps becomes (inside s) r cells_of (inside t)) rest_steps (kept_of s) (rest_of s) r (kept_of t) (rest_of t))
+    (λ s r t. GivesBuffered (λ s r t. GivesCellsOf into_iter_steps becomes (inside s) r cells_of (inside t)) rest_steps (record { kept = kept_of s; rest = rest_of s }) r (record { kept = kept_of t; rest = rest_of t }))
     (GivesTexts (λ cells. MatchEither cells (λ _. Unit {0}) rest_cell_can) (either (λ cells. at_most (into_iter_len (cells_of cells))) rest_cell_left)
     (either_steps (λ s r t. AnswersCell into_iter_steps (cells_of s) r (cells_of t)) rest_cells) text (of_rest refuses false (rest_of s))) s
     (texts_of_rows text (items_left (inside (kept_of s))) ++ of_rest rest_rows [] (rest_of s))
@@ -163,7 +163,7 @@ pub passed_buffered : {T R K Cells Rest : Type 0} (text : T → List ℕ) (becom
     (inside : K → IntoIter (Vec T Global) Global) (cells_of : Cells → IntoIter T Global) (rest_rows : R → List (List (List ℕ))) (refuses : R → Bool) →
     ((s t : R) (row : Rest) → rest_steps s (Some row) t → HasPassedOne (rest_rows s) (refuses s) (rest_rows t) (refuses t)) →
     (k t : K) (r u : Option R) (row : Either Cells Rest) →
-    GivesBuffered (λ s r t. GivesCellsOf into_iter_steps becomes (inside s) r cells_of (inside t)) rest_steps k r (Some row) t u →
+    GivesBuffered (λ s r t. GivesCellsOf into_iter_steps becomes (inside s) r cells_of (inside t)) rest_steps (record { kept = k; rest = r }) (Some row) (record { kept = t; rest = u }) →
     HasPassedOne
     (texts_of_rows text (items_left (inside k)) ++ of_rest rest_rows [] r) (of_rest refuses false r)
     (texts_of_rows text (items_left (inside t)) ++ of_rest rest_rows [] u) (of_rest refuses false u)

@@ -6,7 +6,7 @@ mod limit_rows;
 mod skip_rows;
 pub mod truncate_content;
 
-pub use buf_records::{BufRecords, BufferedRows, KeptTexts};
+pub use buf_records::{BufRecords, BufferedRows, KeptTexts, read_row};
 pub use fitted::{Fitted, FittedCells, FittedRows};
 pub use grid_records_traits::records::into_records::{GivenCells, GivenRows, IntoRecords, given};
 pub use limit_columns::{LimitColumns, LimitedRows};

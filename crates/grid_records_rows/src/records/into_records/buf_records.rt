@@ -91,8 +91,8 @@ impl<I: IntoRecords> IntoRecords for BufRecords<I> {
     }
 }
 
-/// The cells of a row, one by one.
-fn read_row<C: Cell, I: Iterator<Item = Result<C, AllocError>>>(
+/// Reads the cells of a row, one after the other. Fails only where one of them does, or where allocation fails.
+pub fn read_row<C: Cell, I: Iterator<Item = Result<C, AllocError>>>(
     alloc: Global,
     cells: I,
 ) -> Result<Vec<C>, AllocError>
@@ -119,7 +119,7 @@ impl<C: Drop, I: Iterator> Iterator for BufferedRows<C, I> {
 
     ghost can_next = { λ s. IfSome s.rest I.can_next };
 
-    ghost next_gives = { λ s r t. GivesBuffered ⟦<GivenRows<vec::IntoIter<Vec<C>>> as Iterator>⟧.next_gives I.next_gives s.kept s.rest r t.kept t.rest };
+    ghost next_gives = { λ s r t. GivesBuffered ⟦<GivenRows<vec::IntoIter<Vec<C>>> as Iterator>⟧.next_gives I.next_gives (record { kept = s.kept; rest = s.rest }) r (record { kept = t.kept; rest = t.rest }) };
 
     ghost remaining = { λ s. count_add (⟦<GivenRows<vec::IntoIter<Vec<C>>> as Iterator>⟧.remaining s.kept) (of_rest I.remaining (at_most 0) s.rest) };
 
