@@ -1,5 +1,5 @@
 -- The bound is good in all pieces of the text, and the first part is the first side.
-use Rattle.std.proofs.Common.{List, [], ℕ, ap, get_or}
+use Rattle.std.proofs.Common.{List, [], ℕ, ap, get_or, sym}
 use Rattle.ansi_scan.specs.Sequences.{Piece}
 use Rattle.ansi_scan.specs.Pieces.{pieces}
 use Rattle.ansi_scan.proofs.Existence.{ArePiecesOf-pieces}
@@ -16,5 +16,5 @@ pub returns : goal.returns
 returns c =
     let text = c.args.text.now in (
       c.is_good_bound.ensures.0 c.if-not-is_good_bound.false,
-      ap (λ (parts : List (List ℕ)). get_or parts 0 []) (c.in_ok-left.ensures.parts (pieces text) (ArePiecesOf-pieces text)),
+      sym (ap (λ (parts : List (List ℕ)). get_or parts 0 []) (c.in_ok-left.ensures.parts (pieces text) (ArePiecesOf-pieces text))),
     )
