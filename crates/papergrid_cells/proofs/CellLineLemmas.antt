@@ -16,6 +16,7 @@ use Rattle.grid_records_measure.proofs.TextLineLemmas.{text_lines-are, text_line
 use Rattle.grid_records_measure.proofs.LineLemmas.{length-lines}
 use Rattle.std.proofs.Math.Seq.{take-length}
 use Rattle.std.proofs.lemmas.Simd.{map-map}
+use Rattle.ansi_str.proofs.TrimLemmas.{by_places}
 use Rattle.grid_records_measure.proofs.TrimmedLemmas.{trimmed_at}
 use Rattle.grid_records_traits.specs.Cells.{HasLineCount, HasWidth, IsLineAt}
 use Rattle.grid_records_traits.proofs.TextAnswers.{count_of_text, line_of_text}
@@ -29,7 +30,7 @@ pub trimmed-plain : (text : List ℕ) → IsUtf8 text → has_escape text ≡ fa
 unfolding trimmed
 trimmed-plain text utf8 plain =
     let itself : strip (pieces text) ≡ text = strip-without_escape text (pieces text) (ArePiecesOf-pieces text) plain in
-    sym (trimmed_at text utf8).left ∙ (kept-plain (trimmed_from text) (trimmed_to text) text plain
+    sym (by_places text (trimmed_from text) (trimmed_to text) (trimmed_at text utf8)).left ∙ (kept-plain (trimmed_from text) (trimmed_to text) text plain
     ∙ ap (λ shown. kept (trimmed_from shown) (trimmed_to shown) (pieces text)) (sym itself))
 
 -- ---- which lines are kept

@@ -29,6 +29,7 @@ use Rattle.grid_config.specs.Looks.{Look}
 use Rattle.grid_records_measure.specs.TextLines.{is_line_feed, line_feed, line_feed_places, line_measure, shown_lines, text_lines}
 use Rattle.grid_records_measure.specs.Trimming.{trimmed, trimmed_from, trimmed_to}
 use Rattle.grid_records_measure.proofs.TextLineLemmas.{line_feeds_match, text_lines-shown}
+use Rattle.ansi_str.proofs.TrimLemmas.{by_places}
 use Rattle.grid_records_measure.proofs.TrimmedLemmas.{trimmed-is, trimmed_at}
 use Rattle.grid_records_traits.specs.Rows.{text_at}
 use Rattle.papergrid_picture.specs.Frame.{frame_of}
@@ -77,7 +78,7 @@ trimmed-plain text utf8 gone =
     let same : stripped text ≡ text = strip-without_escape text (pieces text) (ArePiecesOf-pieces text) gone in
     ap (λ shown. kept_text (trimmed_from shown) (trimmed_to shown) (pieces text)) same
     ∙ sym (kept-plain (trimmed_from text) (trimmed_to text) text gone)
-    ∙ (trimmed_at text utf8).left
+    ∙ (by_places text (trimmed_from text) (trimmed_to text) (trimmed_at text utf8)).left
 
 pub stripped-plain : (text : List ℕ) → has_escape (stripped text) ≡ false
 stripped-plain text = has_escape-strip text (pieces text) (ArePiecesOf-pieces text)
@@ -92,7 +93,7 @@ Leaves-trimmed part closed =
       whole = kept_whole is.0 is.1 part (pieces part) (pieces (trimmed part)) of_part whole of_left;
       left =
           kept_shown is.0 is.1 part (pieces part) (pieces (trimmed part)) of_part whole of_left
-          ∙ is.2.left ∙ sym (trimmed-plain (stripped part) (IsUtf8-shown_text part closed.utf8) (stripped-plain part));
+          ∙ (by_places (stripped part) is.0 is.1 is.2).left ∙ sym (trimmed-plain (stripped part) (IsUtf8-shown_text part closed.utf8) (stripped-plain part));
     }
 
 -- ---- the lines of a cell
