@@ -1,9 +1,9 @@
 //! A grid whose cells are looked up.
 use crate::lines::count_sized_lines;
-use crate::sizes::{heights, widths};
+use crate::printing::print_sized;
 use grid_config::{Fault, SpannedConfig};
 use grid_records_traits::{Dimension, ExactRecords, PeekableRecords};
-use papergrid_print::{Colors, print_table};
+use papergrid_print::Colors;
 use std::alloc::{AllocError, Global};
 use std::marker::Model;
 
@@ -51,7 +51,7 @@ impl<'a, R: ExactRecords + PeekableRecords, D: Dimension, C: Colors> PeekableGri
     D,
     C,
 > {
-    ghost use Rattle.std.specs.Prelude.{◌≡◌, ◌++◌, IfErr, IfOk, OnErr, OnOk, length, string_bytes};
+    ghost use Rattle.std.specs.Prelude.{◌≡◌, ◌++◌, IfErr, IfOk, IsOk, OnErr, OnOk, length, string_bytes};
     ghost use Rattle.grid_config_values.specs.declared.fault.Fault.TheVariants.{Memory};
     ghost use Rattle.grid_config.specs.Looks.{look_of};
     ghost use Rattle.papergrid_picture.specs.Frame.{line_count};
@@ -73,34 +73,41 @@ impl<'a, R: ExactRecords + PeekableRecords, D: Dimension, C: Colors> PeekableGri
     }
 
     /// Appends the text of the grid, on condition that `fits` returns that the table fits its sizes: its
-    /// lines, a line feed between each two. Fails only where allocation fails, and then the text is as it was.
+    /// lines, a line feed between each two. Without rows or columns it appends nothing, and never fails. Else
+    /// it fails only where allocation fails, and then the text is as it was.
     pub fn build(&self, alloc: Global, out: &mut String) -> Result<(), Fault>
         requires { Fits self.now.settings.now (D.width self.now.sizes) (D.height self.now.sizes) (R.columns self.now.records) (R.rows self.now.records) }
         ensures text { OnOk result (string_bytes out.new ≡ string_bytes out.old
             ++ grid_text (look_of self.now.settings.now) (D.width self.now.sizes) (D.height self.now.sizes) (C.color self.now.colors) (R.columns self.now.records) (R.rows self.now.records)) }
         ensures refused { OnErr result (string_bytes out.new ≡ string_bytes out.old) }
         ensures fault { IfErr result (λ fault. fault ≡ Memory) }
+        ensures no_rows { length (R.rows self.now.records) ≡ 0 → IsOk result }
+        ensures no_columns { R.columns self.now.records ≡ 0 → IsOk result }
     {
-        let widths = widths(alloc, &self.dimension, self.records.count_columns())?;
-        let heights = heights(alloc, &self.dimension, self.records.count_rows())?;
-        print_table(
+        let rows = self.records.count_rows();
+        let columns = self.records.count_columns();
+        print_sized(
             alloc,
             &self.records,
             self.config,
+            &self.dimension,
             &self.colors,
-            &widths,
-            &heights,
+            rows,
+            columns,
             out,
         )?;
         Ok(())
     }
 
-    /// The text that `build` appends to an empty one, on its condition. Fails only where allocation fails.
+    /// The text that `build` appends to an empty one, on its condition. Without rows or columns it never fails,
+    /// and else only where allocation fails.
     pub fn to_string(&self, alloc: Global) -> Result<String, Fault>
         requires { Fits self.now.settings.now (D.width self.now.sizes) (D.height self.now.sizes) (R.columns self.now.records) (R.rows self.now.records) }
         ensures text { IfOk result (λ text. string_bytes text
             ≡ grid_text (look_of self.now.settings.now) (D.width self.now.sizes) (D.height self.now.sizes) (C.color self.now.colors) (R.columns self.now.records) (R.rows self.now.records)) }
         ensures fault { IfErr result (λ fault. fault ≡ Memory) }
+        ensures no_rows { length (R.rows self.now.records) ≡ 0 → IsOk result }
+        ensures no_columns { R.columns self.now.records ≡ 0 → IsOk result }
     {
         let mut text = String::new(alloc);
         self.build(alloc, &mut text)?;

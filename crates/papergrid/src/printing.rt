@@ -1,9 +1,9 @@
 //! A table is printed where it fits.
-ghost use Rattle.std.specs.Prelude.{◌≡◌, ◌++◌, ◌⊎◌, Err, IfErr, IfOk, OnErr, OnOk, Ok, string_bytes};
+ghost use Rattle.std.specs.Prelude.{◌≡◌, ◌++◌, ◌⊎◌, Err, IfErr, IfOk, IsOk, OnErr, OnOk, Ok, string_bytes};
 ghost use Rattle.grid_config_values.specs.declared.fault.Fault.TheVariants.{Memory};
 ghost use Rattle.grid_config_spans.specs.Spans.{AreGood};
 ghost use Rattle.grid_config.specs.Looks.{look_of};
-ghost use Rattle.papergrid_picture.specs.Fitting.{FitsAnswer};
+ghost use Rattle.papergrid_picture.specs.Fitting.{FitsAnswer, InRange};
 ghost use Rattle.papergrid_picture.specs.Tables.{sizes_of, table_text};
 ghost use Rattle.papergrid_fits.specs.Tables.{sized};
 
@@ -12,11 +12,11 @@ use grid_config::{Fault, SpannedConfig};
 use grid_records_traits::{Dimension, PeekableRecords};
 use papergrid_fits::fits_counted;
 use papergrid_print::{Colors, print_table};
-use std::alloc::Global;
+use std::alloc::{AllocError, Global};
 
 /// Appends the text of `rows` rows and `columns` columns of records. Refused as `fits` refuses them, by
 /// the same faults in the same order, or, where `fits` refuses nothing, as `Memory` where allocation
-/// fails. After a refusal the text is as it was.
+/// fails; without rows or columns none is asked for. After a refusal the text is as it was.
 pub(crate) fn print_fitting<R: PeekableRecords, D: Dimension, C: Colors>(
     alloc: Global,
     records: &R,
@@ -33,11 +33,39 @@ pub(crate) fn print_fitting<R: PeekableRecords, D: Dimension, C: Colors>(
     ensures refused { OnErr result (string_bytes out.new ≡ string_bytes out.old) }
     ensures fault { IfErr result (λ fault. (fault ≡ Memory)
         ⊎ FitsAnswer (sized cfg.now (D.width dims.now) (D.height dims.now) columns rows) (R.rows records.now) (AreGood cfg.now.spans rows columns) (Err fault)) }
+    ensures empty { (rows ≡ 0) ⊎ (columns ≡ 0) → IfErr result (λ fault. FitsAnswer (sized cfg.now (D.width dims.now) (D.height dims.now) columns rows) (R.rows records.now) (AreGood cfg.now.spans rows columns) (Err fault)) }
     ensures memory { IfErr result (λ fault. fault ≡ Memory → FitsAnswer (sized cfg.now (D.width dims.now) (D.height dims.now) columns rows) (R.rows records.now) (AreGood cfg.now.spans rows columns) (Ok tt)) }
 {
     fits_counted(records, cfg, dims, rows, columns)?;
+    print_sized(alloc, records, cfg, dims, colors, rows, columns, out)?;
+    Ok(())
+}
+
+/// Appends the text of `rows` rows and `columns` columns of records, whose spans are good and whose totals
+/// are in range. Without rows or columns it appends nothing, and never fails; else it fails only where
+/// allocation fails, and then the text is as it was.
+pub(crate) fn print_sized<R: PeekableRecords, D: Dimension, C: Colors>(
+    alloc: Global,
+    records: &R,
+    cfg: &SpannedConfig,
+    dims: &D,
+    colors: &C,
+    rows: usize,
+    columns: usize,
+    out: &mut String,
+) -> Result<(), AllocError>
+    requires good { AreGood cfg.now.spans rows columns }
+    requires range { InRange (sized cfg.now (D.width dims.now) (D.height dims.now) columns rows) }
+    ensures text { OnOk result (string_bytes out.new ≡ string_bytes out.old
+        ++ table_text (look_of cfg.now) (R.rows records.now) (C.color colors.now) (sizes_of (D.width dims.now) columns) (sizes_of (D.height dims.now) rows)) }
+    ensures refused { OnErr result (string_bytes out.new ≡ string_bytes out.old) }
+    ensures no_rows { rows ≡ 0 → IsOk result }
+    ensures no_columns { columns ≡ 0 → IsOk result }
+{
+    if rows == 0 || columns == 0 {
+        return Ok(());
+    }
     let widths = widths(alloc, dims, columns)?;
     let heights = heights(alloc, dims, rows)?;
-    print_table(alloc, records, cfg, colors, &widths, &heights, out)?;
-    Ok(())
+    print_table(alloc, records, cfg, colors, &widths, &heights, out)
 }

@@ -7,7 +7,7 @@ use grid_config::SpannedConfig;
 use grid_records_traits::Dimension;
 
 /// How many columns a line of a table of `columns` columns takes, margins too: `None` where they pass
-/// `usize::MAX`.
+/// `usize::MAX`. Of no columns it is what the margins and the first boundary take.
 pub fn total_width<D: Dimension>(cfg: &SpannedConfig, dims: &D, columns: usize) -> Option<usize>
     ensures { let total = track_at (column_tracks cfg.now (D.width dims.now) columns) columns + cfg.now.margin.right.size in SomeIff result (total < 2 ^ 64) total }
 {
@@ -20,7 +20,8 @@ pub fn total_width<D: Dimension>(cfg: &SpannedConfig, dims: &D, columns: usize) 
     past(total, cfg.has_vertical(columns, columns), margin.right.size)
 }
 
-/// How many lines a table of `rows` rows takes, margins too: `None` where they pass `usize::MAX`.
+/// How many lines a table of `rows` rows takes, margins too: `None` where they pass `usize::MAX`. Of no rows
+/// it is what the margins and the first boundary take.
 pub fn total_height<D: Dimension>(cfg: &SpannedConfig, dims: &D, rows: usize) -> Option<usize>
     ensures { let total = track_at (row_tracks cfg.now (D.height dims.now) rows) rows + cfg.now.margin.bottom.size in SomeIff result (total < 2 ^ 64) total }
 {

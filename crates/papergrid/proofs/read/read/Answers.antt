@@ -22,7 +22,7 @@ loop-cells-preserved g c =
     c.into_iter-cells-iterator.ensures.into_iter_gives c.loop-cells.yielded_by c.in-Some.ensures.steps in
     let all = fitted (g.R.RecordColumns.columns c.args.records) (g.R.RecordTexts.rows c.args.records) in
     kept_more (λ row. map g.R.Iter.Cell.Cell.text (vec_items row)) c.loop-cells.rows.items _ c.in_ok-read_row.field-0 _ _ all c.in_ok-push.ensures.items c.loop-cells.invariant
-    (n.next ∙ ap (λ v. v ∷ drop (length (c.loop-cells.yielded ++ c.in-Some.cells ∷ [])) all) (sym (c.in_ok-read_row.ensures n.element _ n.tied)))
+    (n.next ∙ ap (λ v. v ∷ drop (length (c.loop-cells.yielded ++ c.in-Some.cells ∷ [])) all) (sym (c.in_ok-read_row.ensures.texts n.element _ n.tied)))
 
 pub returns : goal.returns
 returns g c =
