@@ -9,7 +9,8 @@ use grid_records_traits::{IntoRecords, RecordTexts};
 use std::alloc::AllocError;
 
 /// So many rows of so many cells with the text `a`, of which the first `whole` cells are given, counted row
-/// by row, and any other is refused.
+/// by row, and any other is refused. Contracts see the rows, and that any cell may be refused; which are, they
+/// do not see.
 #[derive(Clone, Copy, Debug, Drop)]
 pub struct RefusedRows {
     left: usize,
@@ -19,7 +20,9 @@ pub struct RefusedRows {
 
 impl RefusedRows {
     /// Such rows.
-    pub fn new(rows: usize, columns: usize, whole: usize) -> RefusedRows {
+    pub fn new(rows: usize, columns: usize, whole: usize) -> RefusedRows
+        ensures { ⟦<RefusedRows as RecordTexts>⟧.rows result ≡ replicate rows (replicate columns letter) }
+    {
         RefusedRows {
             left: rows,
             columns,
@@ -47,7 +50,7 @@ impl IntoRecords for RefusedRows {
 
     ghost gives = { λ s. record { can_next = tt; ends = tt; each = each_row (λ s. s.left) (λ s. s.columns) (λ cells. cells.left) _ s.columns s.left (λ cells is. record { can_next = tt; ends = tt; each = each_cell _ (λ cells. cells.left) s.columns cells is }) s refl refl } };
 
-    ghost passes = { λ s t _ step. (passed_same t.left s.left (replicate s.columns letter) (replicate t.columns letter) step.0 (ap (λ n. replicate n letter) step.1), refl) };
+    ghost passes = { λ s t _ step. (passed_same t.left s.left (replicate s.columns letter) (replicate t.columns letter) step.1.0 (ap (λ n. replicate n letter) step.0), refl) };
 
     fn iter_rows(self) -> RefusedRows {
         self

@@ -4,21 +4,19 @@ use Rattle.std.specs.Prelude.{chars, encode_utf8, encode_utf8_all, IsUtf8}
 use Rattle.std.specs.Char.{IsScalar}
 use Rattle.std.specs.List.{AllByRecursion, list_all, slice_split}
 use Rattle.std.specs.Str.{trim}
-use Rattle.std.proofs.Math.Utf8.{encode}
-use Rattle.std.proofs.lemmas.List.{map-append}
 use Rattle.std.proofs.lemmas.List.Elements.{All-head, All-tail}
 use Rattle.std.proofs.lemmas.Simd.{map-map}
-use Rattle.std.proofs.lemmas.Str.{chars-append, chars-encodes, chars-nil, encodes-chars, inside_one, IsUtf8-append, IsUtf8-encode, IsUtf8-nil}
+use Rattle.std.proofs.lemmas.Str.{chars-encodes, chars-nil, encodes-chars, inside_one, IsUtf8-append, IsUtf8-encode, IsUtf8-nil}
 use Rattle.ansi_scan.specs.declared.items.Kind.TheVariants.{Text}
-use Rattle.ansi_scan.specs.Sequences.{Piece, NoneBroken, escape, is_plain}
+use Rattle.ansi_scan.specs.Sequences.{NoneBroken, escape, is_plain}
 use Rattle.ansi_scan.specs.Joining.{put_all_before}
 use Rattle.ansi_scan.specs.Pieces.{pieces}
-use Rattle.ansi_scan.specs.Attributes.{Attributes, plain_attributes}
+use Rattle.ansi_scan.specs.Attributes.{plain_attributes}
 use Rattle.ansi_scan.proofs.Existence.{ArePiecesOf-pieces}
 use Rattle.ansi_scan.proofs.Uniqueness.{ArePiecesOf-unique, pieces-ArePiecesOf}
 use Rattle.ansi_scan.proofs.Joins.{ArePiecesOf-append, NoneBroken-put_all_before}
-use Rattle.ansi_str_text.specs.StyledText.{IsClosed, strip, style_after, style_after_all, styled, styled_from, text_of}
-use Rattle.ansi_str_text.proofs.Utf8Pieces.{EachUtf8, EachUtf8-pieces, IsUtf8-shown_text, IsUtf8-text_of}
+use Rattle.ansi_str_text.specs.StyledText.{IsClosed, strip, style_after_all, styled, styled_from}
+use Rattle.ansi_str_text.proofs.Utf8Pieces.{EachUtf8, EachUtf8-of, IsUtf8-shown_text, styled-characters}
 use Rattle.ansi_str_search.specs.Lines.{IsClosedText}
 use Rattle.ansi_str_search.proofs.FindLemmas.{IsUtf8-byte}
 use Rattle.ansi_str_search.proofs.CutLemmas.{shown-parts}
@@ -95,7 +93,7 @@ ShowsHere-nothing = record {
 }
 
 each_utf8 : (bytes : List ℕ) → IsUtf8 bytes → EachUtf8 (pieces bytes)
-each_utf8 bytes utf8 = let of = ArePiecesOf-pieces bytes in EachUtf8-pieces (pieces bytes) of.stand (subst IsUtf8 (sym of.joins) utf8)
+each_utf8 bytes utf8 = EachUtf8-of bytes (pieces bytes) utf8 (ArePiecesOf-pieces bytes)
 
 pub ShowsHere-append : (a c : List ℕ) (b d : List Styled) → ShowsHere a b → ShowsHere c d → ShowsHere (a ++ c) (b ++ d)
 ShowsHere-append a c b d first second =
@@ -180,20 +178,8 @@ both_hold (part ∷ parts) utf8 closed =
       both_hold parts (All-tail IsUtf8 part parts utf8) (All-tail IsClosedText part parts closed),
     )
 
-characters-from : (style : Attributes) (ps : List Piece) → EachUtf8 ps → map character_of (styled_from style ps) ≡ chars (strip ps)
-characters-from style [] each = sym chars-nil
-characters-from style (p ∷ ps) each =
-    map-append character_of (map (λ c. (c, style)) (chars (text_of p))) (styled_from (style_after style p) ps)
-    ∙ ap (λ cs. cs ++ map character_of (styled_from (style_after style p) ps)) (with_style (chars (text_of p)))
-    ∙ ap (λ cs. chars (text_of p) ++ cs) (characters-from (style_after style p) ps each.1)
-    ∙ sym (chars-append (text_of p) (strip ps) (IsUtf8-text_of p each.0))
-  where
-    with_style : (cs : List ℕ) → map character_of (map (λ c. (c, style)) cs) ≡ cs
-    with_style [] = refl
-    with_style (c ∷ cs) = ap (λ others. c ∷ others) (with_style cs)
-
 pub characters-styled : (text : List ℕ) → IsUtf8 text → map character_of (styled_of text) ≡ chars (strip (pieces text))
-characters-styled text utf8 = characters-from plain_attributes (pieces text) (each_utf8 text utf8)
+characters-styled text utf8 = styled-characters text (pieces text) utf8 (ArePiecesOf-pieces text)
 
 module _ (text : List ℕ) (whole : IsWholeText text) where
   pub lines-closed_parts : AllByRecursion IsClosedPart (text_lines text)

@@ -103,6 +103,13 @@ drawn_in colors look widths heights texts =
 abbrev pub drawn : Look → List ℕ → List ℕ → List (List (List (List ℕ))) → List ℕ
 drawn look widths heights texts = drawn_in (λ _. None) look widths heights texts
 
+-- the same, where no line takes a column
+abbrev pub drawn_unmeasured : Look → List ℕ → List ℕ → List (List (List (List ℕ))) → List ℕ
+drawn_unmeasured look widths heights texts =
+    grid_items
+    (record { item = λ c. c ∷ []; line = λ p k. slice_index_or (lines_at texts p) k []; paint = in_color })
+    (record { frame = frame_of look widths heights; measures = λ p. map (λ line. 0) (lines_at texts p); text_color = λ _. None })
+
 -- cells of one line
 abbrev pub cells : List (List ℕ) → List (List (List ℕ))
 cells texts = map (λ text. text ∷ []) texts

@@ -23,11 +23,12 @@ ghost use Rattle.papergrid_picture.specs.Reading.{Reading, grid_items};
 ghost use Rattle.papergrid_picture.specs.Shown.{ArePlainTexts, ArePlainlyShown, AreWholeTexts, CostsOne, IsBare, IsReadBy, KeepsLineEnds, Shows, ShowsOnly, Styled, character_of, character_picture, characters_of, stripped_texts, styled_picture, styled_texts};
 ghost use Rattle.papergrid_picture.specs.Tables.{table_grid, table_line, table_lines, table_text};
 ghost use Rattle.papergrid_picture.specs.Tiling.{BeginsBehindMargin, HasGoodSpans, HasRoom, IsLineOf, ShowsAllLines, ShowsBlock, ShowsPlace, Tiles};
-ghost use Rattle.papergrid_picture.specs.Worked.{ascii, bracketed, cells, crossed, drawn, drawn_in, each_its_own, extents, half_bracketed, hidden_cell, joined, lettered, named, no_top, outer, padded, plain, red_rows, round_bracketed, sided, span, spaced, with_margins};
+ghost use Rattle.papergrid_picture.specs.Worked.{ascii, bracketed, cells, crossed, drawn, drawn_in, drawn_unmeasured, each_its_own, extents, half_bracketed, hidden_cell, joined, lettered, named, no_top, outer, padded, plain, red_rows, round_bracketed, sided, span, spaced, with_margins};
 
 /// Pictures that were worked out by hand: two by two cells; cells of two lines to the right, with one
 /// indent and line by line; a cell of three lines in a row of two; a line in the middle of four, where
-/// the larger part of what is free stands below, and one at the bottom; no rows and no columns.
+/// the larger part of what is free stands below, and one at the bottom; a line that takes no column, which
+/// is printed all the same; no rows and no columns.
 pub fn worked_tables()
     ensures two_by_two { drawn plain (1 ∷ 1 ∷ []) (1 ∷ 1 ∷ []) (cells (codes "a" ∷ codes "b" ∷ []) ∷ cells (codes "1" ∷ codes "2" ∷ []) ∷ [])
         ≡ joined (codes "+-+-+" ∷ codes "|a|b|" ∷ codes "+-+-+" ∷ codes "|1|2|" ∷ codes "+-+-+" ∷ []) }
@@ -45,6 +46,8 @@ pub fn worked_tables()
         ≡ joined (codes "+-+" ∷ codes "| |" ∷ codes "|a|" ∷ codes "| |" ∷ codes "| |" ∷ codes "+-+" ∷ []) }
     ensures at_the_bottom { drawn (record plain { alignment_vertical = λ _. Bottom }) (1 ∷ []) (3 ∷ []) (cells (codes "a" ∷ []) ∷ [])
         ≡ joined (codes "+-+" ∷ codes "| |" ∷ codes "| |" ∷ codes "|a|" ∷ codes "+-+" ∷ []) }
+    ensures unmeasured { drawn_unmeasured plain (1 ∷ []) (1 ∷ []) (cells (codes "a" ∷ []) ∷ [])
+        ≡ joined (codes "+-+" ∷ codes "|a |" ∷ codes "+-+" ∷ []) }
     ensures no_rows { drawn plain (1 ∷ []) [] [] ≡ [] }
     ensures no_columns { drawn plain [] (1 ∷ []) ([] ∷ []) ≡ [] }
 {}
@@ -92,8 +95,8 @@ pub fn worked_edges()
 {}
 
 /// Colours, worked out by hand: a cell's text; a boundary line, whose neighbours in one colour are
-/// coloured together, past a column of width 0 and past a boundary that is absent, but not past a cell
-/// that goes on there; two colours that begin or end in different ways; a text of no bytes, which has no
+/// coloured together, past a column of width 0, whatever colour it has, and past a boundary that is absent, but not past a cell
+/// that goes on there, be it of width 0; two colours that begin or end in different ways; a text of no bytes, which has no
 /// colour; paddings and margins, each side in its own colour; two cells, each with its own settings and
 /// colour; the justification, in two parts, of a blank line too.
 pub fn worked_colors()
@@ -105,6 +108,8 @@ pub fn worked_colors()
         ≡ joined (codes "+[-+-]+" ∷ codes "|a[|]b|" ∷ codes "+-+-+" ∷ []) }
     ensures past_nothing { drawn crossed (1 ∷ 0 ∷ 1 ∷ []) (1 ∷ []) (cells (codes "a" ∷ codes "" ∷ codes "b" ∷ []) ∷ [])
         ≡ joined (codes "+[-++-]+" ∷ codes "|a[|][|]b|" ∷ codes "+-++-+" ∷ []) }
+    ensures past_another_color { drawn (record plain { borders_color = record no_borders { top_intersection = Some bracketed } }) (1 ∷ 0 ∷ 1 ∷ []) (1 ∷ []) (cells (codes "a" ∷ codes "" ∷ codes "b" ∷ []) ∷ [])
+        ≡ joined (codes "+-[++]-+" ∷ codes "|a||b|" ∷ codes "+-++-+" ∷ []) }
     ensures past_absent { drawn (record outer { borders_color = record no_borders { top = Some bracketed } }) (1 ∷ 1 ∷ []) (1 ∷ []) (cells (codes "a" ∷ codes "b" ∷ []) ∷ [])
         ≡ joined (codes "+[--]+" ∷ codes "|ab|" ∷ codes "+--+" ∷ []) }
     ensures two_colors { drawn (record plain { borders_color = record no_borders { top = Some bracketed; top_intersection = Some half_bracketed } }) (1 ∷ 1 ∷ []) (1 ∷ []) (cells (codes "a" ∷ codes "b" ∷ []) ∷ [])
@@ -114,6 +119,9 @@ pub fn worked_colors()
     ensures past_a_cell { drawn (record plain { extent = extents (span 0 1 2 1 ∷ []); borders_color = record no_borders { horizontal = Some bracketed; intersection = Some bracketed } })
         (1 ∷ 1 ∷ 1 ∷ []) (0 ∷ 1 ∷ []) (cells (codes "a" ∷ codes "b" ∷ codes "c" ∷ []) ∷ cells (codes "d" ∷ codes "e" ∷ codes "f" ∷ []) ∷ [])
         ≡ joined (codes "+-+-+-+" ∷ codes "+[-+]b[+-]+" ∷ codes "|d| |f|" ∷ codes "+-+-+-+" ∷ []) }
+    ensures past_a_narrow_cell { drawn (record plain { extent = extents (span 0 1 2 1 ∷ []); borders_color = record no_borders { horizontal = Some bracketed; intersection = Some bracketed } })
+        (1 ∷ 0 ∷ 1 ∷ []) (0 ∷ 1 ∷ []) (cells (codes "a" ∷ [] ∷ codes "c" ∷ []) ∷ cells (codes "d" ∷ [] ∷ codes "f" ∷ []) ∷ [])
+        ≡ joined (codes "+-++-+" ∷ codes "+[-+][+-]+" ∷ codes "|d||f|" ∷ codes "+-++-+" ∷ []) }
     ensures paddings { drawn (record padded { padding_color = λ _. each_side (Some bracketed) }) (3 ∷ []) (3 ∷ []) (cells (codes "a" ∷ []) ∷ [])
         ≡ joined (codes "+---+" ∷ codes "|[^^^]|" ∷ codes "|[<]a[>]|" ∷ codes "|[___]|" ∷ codes "+---+" ∷ []) }
     ensures margins { drawn (record with_margins { margin_color = each_side (Some bracketed) }) (1 ∷ []) (1 ∷ []) (cells (codes "a" ∷ []) ∷ [])

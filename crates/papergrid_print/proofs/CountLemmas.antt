@@ -1,6 +1,6 @@
 -- How much tracks take as a whole, and how many lines a table has.
-use Rattle.std.proofs.Common.{◌≡◌, ◌==◌, if◌then◌else◌, ℕ, ◌+◌, ◌-◌, ◌<◌, ◌≤◌, false, List, length, ap, ◌∙◌, arith}
-use Rattle.std.proofs.lemmas.Bool.Decides.{nat_tests}
+use Rattle.std.proofs.Common.{◌≡◌, ◌==◌, if◌then◌else◌, ℕ, ◌+◌, ◌-◌, ◌<◌, ◌≤◌, List, length, ap, ◌∙◌, arith}
+use Rattle.ansi_scan.proofs.Comparing.{not_zero}
 use Rattle.grid_config.specs.Looks.{Look}
 use Rattle.papergrid_picture.specs.Frame.{Tracks, boundary_at, frame_of, line_count, stretch, thickness, track_at}
 use Rattle.papergrid_picture.proofs.FrameLemmas.{boundary-behind, boundary-first}
@@ -13,9 +13,6 @@ last-boundary tracks some =
     let at_end : 0 + (n + 1) ≡ length tracks.sizes = omega (arith, some) in
     let within : 0 + (n + 1) ≤ length tracks.sizes = omega (arith, some) in
     omega (arith, ap (boundary_at tracks) at_end, boundary-behind tracks 0 n within, ap (stretch tracks 0) all, boundary-first tracks)
-
-pub not_zero : (n : ℕ) → 0 < n → (n == 0) ≡ false
-not_zero n h = grind (arith, nat_tests, h)
 
 -- a table with rows and columns has all its lines, from the margin above to that below
 pub all-lines : (look : Look) (widths heights : List ℕ) → 0 < length heights → 0 < length widths

@@ -1,6 +1,7 @@
 -- How wide a table is, and what its margins show.
 use Rattle.std.proofs.Common.{◌≡◌, ◌==◌, ◌||◌, ℕ, ◌+◌, ◌<◌, ◌≤◌, true, false, [], ◌∷◌, Option, if◌then◌else◌, nat_lt, length, refl, ap, ◌∙◌, arith, append-nil}
 use Rattle.std.proofs.lemmas.Bool.Decides.{nat_tests}
+use Rattle.ansi_scan.proofs.Comparing.{not_zero}
 use Rattle.grid_config_colors.specs.Colors.{Color}
 use Rattle.grid_config.specs.Looks.{look_of}
 use Rattle.papergrid_picture.specs.Blocks.{fill}
@@ -12,7 +13,7 @@ use Rattle.papergrid_picture.proofs.FrameLemmas.{boundary-bounded, boundary-firs
 use Rattle.papergrid_picture.proofs.ReadingLemmas.{line_items-cons, own_items}
 use Rattle.papergrid_cells.specs.Painting.{colored, fill_bytes}
 use Rattle.papergrid_print.specs.Sheets.{IsPrintable, Sheet, bytes_of, grid_of, line_at, place_line, row_tracks}
-use Rattle.papergrid_print.proofs.CountLemmas.{all-lines, last-boundary, not_zero}
+use Rattle.papergrid_print.proofs.CountLemmas.{all-lines, last-boundary}
 use Rattle.papergrid_print.proofs.LineLemmas.{painted-bare}
 
 module _ (sheet : Sheet) where

@@ -3,6 +3,7 @@
 
 pub mod colors;
 mod extents;
+pub mod laws;
 mod lines;
 mod print;
 mod seen;
