@@ -10,9 +10,14 @@ use std::process::Abort;
 mod compact;
 mod edges;
 mod grids;
+mod hints;
 mod limits;
 mod lines;
+mod long;
+mod places;
+mod plain;
 mod refusing;
+mod rowless;
 
 // Sizes by their numbers.
 #[derive(Drop)]
@@ -64,6 +69,17 @@ fn answer(
 
 fn expect(rt: &impl Abort, found: Result<(), Fault>, wanted: Result<(), Fault>, what: &str) {
     assert_eq!(rt; found, wanted, "of {what:?}");
+}
+
+// The text that was made. The proof of a function grows with each `?`, so a refusal ends the test here.
+fn expect_text(rt: &impl Abort, made: Result<String, Fault>, wanted: &str, what: &str) {
+    let text = made.expect(rt, "a text is refused");
+    assert_eq!(rt; text.as_str(), wanted, "of {what:?}");
+}
+
+// No text was made, for this reason.
+fn expect_no_text(rt: &impl Abort, made: Result<String, Fault>, wanted: Fault, what: &str) {
+    assert_eq!(rt; made.err(), Some(wanted), "of {what:?}");
 }
 
 // Drops the settings of a test, in one place.

@@ -1,6 +1,6 @@
 //! What compact grids print.
 use super::grids::{Case, ascii, expect_lines};
-use super::{Sizes, end, expect, rows_of};
+use super::{Sizes, end, expect, expect_no_text, rows_of};
 use grid_config::{
     ANSIBuf, ANSIStr, AlignmentHorizontal, Borders, ColoredConfig, CompactConfig, Entity, Fault,
     Indent, Sides, SpannedConfig,
@@ -28,19 +28,31 @@ fn append<C: Colors + Drop>(
     CompactGrid::new(VecRecords::new(rows), cfg, sizes, colors).build(alloc, out)
 }
 
-fn expect_table(
+// The table by a compact grid.
+fn printed<C: Colors + Drop>(
     rt: &impl Abort,
     alloc: Global,
     case: &Case,
     cfg: &CompactConfig,
-) -> Result<(), Fault> {
+    colors: C,
+) -> Result<String, Fault> {
     let rows = rows_of(alloc, case.cells)?;
     assert!(rt; are_equally_long(&rows));
     let sizes = Sizes {
         widths: case.widths,
         heights: case.heights,
     };
-    let text = CompactGrid::new(VecRecords::new(rows), cfg, sizes, NoColors).to_string(alloc)?;
+    CompactGrid::new(VecRecords::new(rows), cfg, sizes, colors).to_string(alloc)
+}
+
+pub(super) fn expect_table<C: Colors + Drop>(
+    rt: &impl Abort,
+    alloc: Global,
+    case: &Case,
+    cfg: &CompactConfig,
+    colors: C,
+) -> Result<(), Fault> {
+    let text = printed(rt, alloc, case, cfg, colors)?;
     assert_eq!(rt; text.as_str(), case.lines);
     Ok(())
 }
@@ -97,18 +109,25 @@ fn compact_grids_print_first_lines(rt: HostRuntime) -> Result<(), Fault> {
         Indent::new(3, '^'),
         Indent::new(2, '_'),
     );
-    expect_table(&rt, rt.alloc(), &FIRST_LINES, &boxed().set_padding(sides))?;
+    expect_table(
+        &rt,
+        rt.alloc(),
+        &FIRST_LINES,
+        &boxed().set_padding(sides),
+        NoColors,
+    )?;
     let right = boxed().set_alignment_horizontal(AlignmentHorizontal::Right);
-    expect_table(&rt, rt.alloc(), &WIDER_BELOW, &right)?;
+    expect_table(&rt, rt.alloc(), &WIDER_BELOW, &right, NoColors)?;
     let margin = Sides::new(
         Indent::new(1, '<'),
         Indent::new(2, '>'),
         Indent::new(1, '^'),
         Indent::new(1, '_'),
     );
-    expect_table(&rt, rt.alloc(), &MARGINS, &boxed().set_margin(margin))?;
-    expect_table(&rt, rt.alloc(), &NOTHING, &boxed().set_margin(margin))?;
-    expect_table(&rt, rt.alloc(), &NO_COLUMNS, &boxed().set_margin(margin))
+    let wide = boxed().set_margin(margin);
+    expect_table(&rt, rt.alloc(), &MARGINS, &wide, NoColors)?;
+    expect_table(&rt, rt.alloc(), &NOTHING, &wide, NoColors)?;
+    expect_table(&rt, rt.alloc(), &NO_COLUMNS, &wide, NoColors)
 }
 
 // A table of one line a row, which all three grids print.
@@ -119,7 +138,7 @@ const ALIKE: Case = Case {
     lines: "+---+----+\n| a | bc |\n+---+----+\n|   | d  |\n+---+----+",
 };
 
-fn spaced() -> CompactConfig {
+pub(super) fn spaced() -> CompactConfig {
     let space = Indent::spaced(1);
     boxed().set_padding(Sides::new(space, space, Indent::zero(), Indent::zero()))
 }
@@ -147,7 +166,7 @@ fn expect_by_all(
     case: &Case,
     cfg: CompactConfig,
 ) -> Result<(), Fault> {
-    expect_table(rt, alloc, case, &cfg)?;
+    expect_table(rt, alloc, case, &cfg, NoColors)?;
     let cfg = SpannedConfig::from_compact_config(alloc, cfg)?;
     let outcome = expect_lines(rt, alloc, case, &cfg, &NoColors);
     end(cfg);
@@ -195,6 +214,14 @@ fn compact_grids_append_colors(rt: HostRuntime) -> Result<(), Fault> {
     drop(cfg);
     outcome
 }
+
+// Its cell is too wide.
+const NARROW: Case = Case {
+    cells: &[&["abc"]],
+    widths: &[2],
+    heights: &[1],
+    lines: "before",
+};
 
 // Two cells are too wide.
 const BY_ROW: Case = Case {
@@ -247,29 +274,26 @@ fn expect_refusal(
     let answer = append(rt, alloc, case, cfg, NoColors, &mut text);
     expect(rt, answer, Err(fault), "a table that does not fit");
     assert_eq!(rt; text.as_str(), case.lines);
+    let made = printed(rt, alloc, case, cfg, NoColors);
+    expect_no_text(rt, made, fault, "a text of its own");
     Ok(())
 }
 
 #[test]
 fn compact_grids_refuse(rt: HostRuntime) -> Result<(), Fault> {
     let alloc = rt.alloc();
-    expect_refusal(
-        &rt,
-        alloc,
-        &BY_ROW,
-        &boxed(),
-        Fault::Room { row: 0, column: 1 },
-    )?;
-    expect_refusal(
-        &rt,
-        alloc,
-        &SECOND_LINE,
-        &boxed(),
+    let (first, second) = (
         Fault::Room { row: 0, column: 0 },
-    )?;
+        Fault::Room { row: 0, column: 1 },
+    );
+    expect_refusal(&rt, alloc, &NARROW, &boxed(), first)?;
+    expect_refusal(&rt, alloc, &BY_ROW, &boxed(), second)?;
+    expect_refusal(&rt, alloc, &SECOND_LINE, &boxed(), first)?;
     expect_refusal(&rt, alloc, &ENDLESS, &boxed(), Fault::Range)?;
     expect_refusal(&rt, alloc, &WIDEST, &boxed(), Fault::Memory)?;
-    let none = Indent::zero();
-    let high = boxed().set_margin(Sides::new(none, none, Indent::spaced(usize::MAX), none));
+    let (none, endless) = (Indent::zero(), Indent::spaced(usize::MAX));
+    let wide = boxed().set_margin(Sides::new(endless, none, none, none));
+    expect_refusal(&rt, alloc, &SMALL, &wide, Fault::Range)?;
+    let high = boxed().set_margin(Sides::new(none, none, endless, none));
     expect_refusal(&rt, alloc, &SMALL, &high, Fault::Range)
 }

@@ -1,8 +1,9 @@
 //! Tables at the edges: spans, sizes and fills that are hard, and what is refused.
 use super::grids::{Case, ascii, expect_lines};
-use super::{Sizes, end, expect, rows_of};
+use super::{Sizes, end, expect, expect_no_text, rows_of};
 use grid_config::{
-    ANSIBuf, Borders, ColoredConfig, Entity, Fault, Indent, Position, Sides, SpannedConfig,
+    ANSIBuf, AlignmentHorizontal, Borders, ColoredConfig, Entity, Fault, Indent, Position, Sides,
+    SpannedConfig,
 };
 use grid_records_rows::{VecRecords, are_equally_long};
 use papergrid::{IterGrid, NoColors, fits};
@@ -187,8 +188,26 @@ fn expect_refusal(
     let answer = IterGrid::new(&records, cfg, &sizes, NoColors).build(alloc, &mut text);
     expect(rt, answer, Err(fault), "a table that is read once");
     assert_eq!(rt; text.as_str(), case.lines);
+    let made = IterGrid::new(&records, cfg, &sizes, NoColors).to_string(alloc);
+    expect_no_text(rt, made, fault, "a text of its own");
     Ok(())
 }
+
+// Its cell is too wide.
+const FIRST: Case = Case {
+    cells: &[&["abc"]],
+    widths: &[2],
+    heights: &[1],
+    lines: "before",
+};
+
+// A table that fits.
+const SMALL: Case = Case {
+    cells: &[&["a"]],
+    widths: &[1],
+    heights: &[1],
+    lines: "before",
+};
 
 // A cell is too wide, and the columns pass the range.
 const ENDLESS: Case = Case {
@@ -209,6 +228,7 @@ const NARROW: Case = Case {
 fn expect_refusals(rt: &impl Abort, alloc: Global, cfg: &mut SpannedConfig) -> Result<(), Fault> {
     cfg.set_borders(ascii());
     let second = Fault::Room { row: 0, column: 1 };
+    expect_refusal(rt, alloc, &FIRST, cfg, Fault::Room { row: 0, column: 0 })?;
     expect_refusal(rt, alloc, &NARROW, cfg, second)?;
     expect_refusal(rt, alloc, &ENDLESS, cfg, Fault::Range)?;
     // they overlap
@@ -219,13 +239,57 @@ fn expect_refusals(rt: &impl Abort, alloc: Global, cfg: &mut SpannedConfig) -> R
     cfg.set_column_span(Position::new(0, 0), 1)?;
     cfg.set_row_span(Position::new(0, 1), 1)?;
     cfg.set_row_span(Position::new(1, 0), 2)?;
-    expect_refusal(rt, alloc, &NARROW, cfg, Fault::Spans)
+    expect_refusal(rt, alloc, &NARROW, cfg, Fault::Spans)?;
+    cfg.set_row_span(Position::new(1, 0), 1)?;
+    let (none, endless) = (Indent::zero(), Indent::spaced(usize::MAX));
+    cfg.set_margin(Sides::new(endless, none, none, none));
+    expect_refusal(rt, alloc, &SMALL, cfg, Fault::Range)
 }
 
 #[test]
 fn tables_are_refused_in_order(rt: HostRuntime) -> Result<(), Fault> {
     let mut cfg = SpannedConfig::new(rt.alloc());
     let outcome = expect_refusals(&rt, rt.alloc(), &mut cfg);
+    end(cfg);
+    outcome
+}
+
+// A space at the end of a line, in a column without room for it, and in one with room.
+const NO_SPACE: Case = Case {
+    cells: &[&["a "]],
+    widths: &[1],
+    heights: &[1],
+    lines: "before",
+};
+
+const SPACE: Case = Case {
+    cells: &[&["a "]],
+    widths: &[2],
+    heights: &[1],
+    lines: "+--+\n|a |\n+--+",
+};
+
+// It takes room, and is not shown.
+const TRIMMED: Case = Case {
+    cells: &[&["a "]],
+    widths: &[2],
+    heights: &[1],
+    lines: "+--+\n| a|\n+--+",
+};
+
+fn expect_trims(rt: &impl Abort, alloc: Global, cfg: &mut SpannedConfig) -> Result<(), Fault> {
+    cfg.set_borders(ascii());
+    cfg.set_trim_horizontal(Entity::Global, true)?;
+    expect_refusal(rt, alloc, &NO_SPACE, cfg, Fault::Room { row: 0, column: 0 })?;
+    expect_lines(rt, alloc, &SPACE, cfg, &NoColors)?;
+    cfg.set_alignment_horizontal(Entity::Global, AlignmentHorizontal::Right)?;
+    expect_lines(rt, alloc, &TRIMMED, cfg, &NoColors)
+}
+
+#[test]
+fn trimmed_lines_need_room_as_they_stand(rt: HostRuntime) -> Result<(), Fault> {
+    let mut cfg = SpannedConfig::new(rt.alloc());
+    let outcome = expect_trims(&rt, rt.alloc(), &mut cfg);
     end(cfg);
     outcome
 }

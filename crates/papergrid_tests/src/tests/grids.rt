@@ -12,6 +12,7 @@ use std::alloc::Global;
 use std::process::Abort;
 
 // A table: its rows, all of as many cells, its widths, its heights and its lines.
+#[derive(Drop)]
 pub(super) struct Case {
     pub(super) cells: &'static [&'static [&'static str]],
     pub(super) widths: &'static [usize],

@@ -1,8 +1,9 @@
 //! Grids append a whole table or nothing. `tests/memory` runs these tests with each request for memory
 //! refused, also those of a source that cuts its cells as they are read.
-use super::grids::ascii;
-use super::{Sizes, end, rows_of};
-use grid_config::{CompactConfig, Fault, Indent, Sides, SpannedConfig};
+use super::compact::spaced;
+use super::plain::{PlainRows, plain_rows};
+use super::{Sizes, end, long, rows_of};
+use grid_config::{CompactConfig, Fault, SpannedConfig};
 use grid_records_fakes::RefusedRows;
 use grid_records_rows::{
     Dimension, IntoRecords, IterRecords, TruncateContent, VecRecords, are_equally_long,
@@ -11,10 +12,10 @@ use papergrid::{CompactGrid, IterGrid, NoColors, PeekableGrid, fits};
 use std::alloc::Global;
 use std::process::Abort;
 
-// What stands before the table, and that with the table.
+// What stands before the table, and the table.
 const BEFORE: &str = "before\n";
 
-const ALL: &str = "before\n+---+---+\n| a | b |\n+---+---+\n| 1 | 2 |\n+---+---+";
+const TABLE: &str = "+---+---+\n| a | b |\n+---+---+\n| 1 | 2 |\n+---+---+";
 
 // The sizes of the table.
 fn table() -> Sizes<'static> {
@@ -42,24 +43,19 @@ impl Dimension for Single {
     }
 }
 
-fn style() -> CompactConfig {
-    let (side, none) = (Indent::spaced(1), Indent::zero());
-    CompactConfig::new()
-        .set_borders(ascii())
-        .set_padding(Sides::new(side, side, none, none))
-}
-
 // The whole table was appended, or a refusal left the text as it was.
 fn expect_all_or_nothing(
     rt: &impl Abort,
     outcome: Result<(), Fault>,
     text: &str,
+    before: &str,
+    table: &str,
 ) -> Result<(), Fault> {
     match outcome {
-        Ok(()) => assert_eq!(rt; text, ALL),
+        Ok(()) => assert_eq!(rt; text.strip_prefix(before), Some(table)),
         Err(fault) => {
             assert_eq!(rt; fault, Fault::Memory);
-            assert_eq!(rt; text, BEFORE);
+            assert_eq!(rt; text, before);
         }
     }
     outcome
@@ -73,7 +69,25 @@ fn append_looked_up(rt: &impl Abort, alloc: Global, cfg: &SpannedConfig) -> Resu
     fits(&records, cfg, &sizes)?;
     let mut text = String::from_str(alloc, BEFORE)?;
     let outcome = PeekableGrid::new(records, cfg, sizes, NoColors).build(alloc, &mut text);
-    expect_all_or_nothing(rt, outcome, &text)
+    expect_all_or_nothing(rt, outcome, &text, BEFORE, TABLE)
+}
+
+// The same of nine rows that are known to be plain, also to an empty text.
+fn append_long(rt: &impl Abort, alloc: Global, cfg: &SpannedConfig) -> Result<(), Fault> {
+    let rows = plain_rows(rt, alloc, long::PAIRS)?;
+    let records = PlainRows {
+        rows: &rows,
+        columns: 2,
+    };
+    let sizes = long::sizes();
+    fits(&records, cfg, &sizes)?;
+    let grid = PeekableGrid::new(&records, cfg, &sizes, NoColors);
+    let mut text = String::new(alloc);
+    let outcome = grid.build(alloc, &mut text);
+    expect_all_or_nothing(rt, outcome, &text, "", long::BOXED)?;
+    let mut text = String::from_str(alloc, BEFORE)?;
+    let outcome = grid.build(alloc, &mut text);
+    expect_all_or_nothing(rt, outcome, &text, BEFORE, long::BOXED)
 }
 
 // Appends a table of these cells by a grid that reads them once.
@@ -120,26 +134,34 @@ fn read_compact_cut<I: IntoRecords>(
 fn append_read(rt: &impl Abort, alloc: Global, cfg: &SpannedConfig) -> Result<(), Fault> {
     let mut text = String::from_str(alloc, BEFORE)?;
     let outcome = read_cut(alloc, [["abc", "b"], ["1", "234"]], cfg, &mut text);
-    expect_all_or_nothing(rt, outcome, &text)
+    expect_all_or_nothing(rt, outcome, &text, BEFORE, TABLE)
 }
 
 fn append_compact(rt: &impl Abort, alloc: Global, cfg: &CompactConfig) -> Result<(), Fault> {
     let mut text = String::from_str(alloc, BEFORE)?;
     let outcome = read_compact_cut(alloc, [["abc", "b"], ["1", "234"]], cfg, &mut text);
-    expect_all_or_nothing(rt, outcome, &text)
+    expect_all_or_nothing(rt, outcome, &text, BEFORE, TABLE)
 }
 
 #[test]
 fn looked_up_grids_append_all_or_nothing(rt: HostRuntime) -> Result<(), Fault> {
-    let cfg = SpannedConfig::from_compact_config(rt.alloc(), style())?;
+    let cfg = SpannedConfig::from_compact_config(rt.alloc(), spaced())?;
     let outcome = append_looked_up(&rt, rt.alloc(), &cfg);
     end(cfg);
     outcome
 }
 
 #[test]
+fn long_tables_are_appended_all_or_not(rt: HostRuntime) -> Result<(), Fault> {
+    let cfg = SpannedConfig::from_compact_config(rt.alloc(), spaced())?;
+    let outcome = append_long(&rt, rt.alloc(), &cfg);
+    end(cfg);
+    outcome
+}
+
+#[test]
 fn read_grids_append_all_or_nothing(rt: HostRuntime) -> Result<(), Fault> {
-    let cfg = SpannedConfig::from_compact_config(rt.alloc(), style())?;
+    let cfg = SpannedConfig::from_compact_config(rt.alloc(), spaced())?;
     let outcome = append_read(&rt, rt.alloc(), &cfg);
     end(cfg);
     outcome
@@ -147,7 +169,7 @@ fn read_grids_append_all_or_nothing(rt: HostRuntime) -> Result<(), Fault> {
 
 #[test]
 fn compact_grids_append_all_or_nothing(rt: HostRuntime) -> Result<(), Fault> {
-    append_compact(&rt, rt.alloc(), &style())
+    append_compact(&rt, rt.alloc(), &spaced())
 }
 
 // The table of two rows of two cells, all of them given.
@@ -159,7 +181,7 @@ fn given(whole: usize) -> RefusedRows {
 }
 
 fn expect_refusals(rt: &impl Abort, alloc: Global, cfg: &SpannedConfig) -> Result<(), Fault> {
-    let compact = style();
+    let compact = spaced();
     let mut text = String::from_str(alloc, BEFORE)?;
     for whole in 0..4 {
         let outcome = read(alloc, given(whole), cfg, &mut text);
@@ -183,7 +205,7 @@ fn expect_refusals(rt: &impl Abort, alloc: Global, cfg: &SpannedConfig) -> Resul
 
 #[test]
 fn a_cell_that_is_refused_leaves_the_text(rt: HostRuntime) -> Result<(), Fault> {
-    let cfg = SpannedConfig::from_compact_config(rt.alloc(), style())?;
+    let cfg = SpannedConfig::from_compact_config(rt.alloc(), spaced())?;
     let outcome = expect_refusals(&rt, rt.alloc(), &cfg);
     end(cfg);
     outcome
