@@ -1,9 +1,9 @@
 -- What is kept so far, and what is left, are all.
-use Rattle.std.proofs.Common.{◌≡◌, ◌∙◌, ◌≤◌, List, [], ◌∷◌, ◌++◌, append_assoc, ap, arith, length, map, refl, sym, take, ℕ}
+use Rattle.std.proofs.Common.{◌≡◌, ◌∙◌, ◌≤◌, List, [], ◌∷◌, ◌++◌, append_assoc, ap, arith, length, map, refl, subst, sym, take, ℕ}
 use Rattle.std.proofs.lemmas.List.{append-nil, map-append, take_all}
 use Rattle.std.proofs.Math.Seq.{take-append_seam}
-use Rattle.std.specs.Prelude.{None, Option}
-use Rattle.std.specs.Iterator.{Count}
+use Rattle.std.specs.Prelude.{None, Ok, Option, Result}
+use Rattle.std.specs.Iterator.{Count, Drains, Yields}
 use Rattle.grid_records_traits.specs.Giving.{Gives, GivesEach}
 
 -- one more is kept, the first of what was left
@@ -37,3 +37,18 @@ none steps tie s t (y ∷ ys) gives step = absurd (gives.0 t step)
 pub none_left : {S A B : Type 0} {can : S → Type 0} {left : S → Count} {steps : S → Option A → S → Type 0} {tie : A → B → Type 0} {s : S} {before : List B} (t : S) →
     Gives can left steps tie s before → steps s None t → before ≡ []
 none_left {steps = steps} {tie = tie} {s = s} {before = before} t gives step = none steps tie s t before gives.each step
+
+-- ---- cells that are kept as they come
+
+-- one more cell came, and is kept
+pub one_kept : {C E : Type 0} (xs : List (Result C E)) (x : Result C E) (cell : C) (before after : List C) → xs ≡ map (λ c. Ok c) before → x ≡ Ok cell → after ≡ before ++ cell ∷ [] →
+    xs ++ x ∷ [] ≡ map (λ c. Ok c) after
+one_kept xs x cell before after kept was pushed =
+    ap (λ v. v ++ x ∷ []) kept ∙ ap (λ v. map (λ c. Ok c) before ++ v ∷ []) was
+    ∙ sym (map-append (λ c. Ok c) before (cell ∷ [])) ∙ ap (map (λ c. Ok c)) (sym pushed)
+
+-- a loop took these cells, and then no more came
+pub drained : {S C E : Type 0} (steps : S → Option (Result C E) → S → Type 0) (s r t u : S) (xs : List (Result C E)) (kept : List C) → r ≡ s → Yields steps r xs t →
+    xs ≡ map (λ c. Ok c) kept → steps t None u → Drains steps s (map (λ c. Ok c) kept)
+drained steps s r t u xs kept same led are step =
+    (u, (t, subst (λ v. Yields steps v (map (λ c. Ok c) kept) t) same (subst (λ v. Yields steps r v t) are led), step))

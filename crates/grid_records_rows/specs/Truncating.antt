@@ -1,15 +1,11 @@
 -- Cells that are cut at the widths of their columns.
-use Rattle.std.specs.Prelude.{◌≡◌, ◌<◌, ◌+◌, ◌^◌, ◌-◌, ℕ, List, [], ◌∷◌, MatchOption, MatchResult, None, Option, Result, Some, if◌then◌else◌, map, nat_le, nat_lt, string_bytes}
-use Rattle.grid_records_measure.specs.CutTexts.{cut_text}
+use Rattle.std.specs.Prelude.{◌≡◌, ◌<◌, ◌+◌, ◌^◌, ◌-◌, ℕ, List, [], ◌∷◌, MatchOption, MatchResult, None, Option, Result, Some, if◌then◌else◌, map, nat_lt, string_bytes}
+pub use Rattle.grid_records_measure.specs.CutTexts.{truncated_text}
 use Rattle.grid_records_measure.specs.TextLines.{text_width}
 use Rattle.grid_records_rows.specs.declared.records.into_records.truncate_content.Truncated.{Truncated}
 use Rattle.grid_records_rows.specs.declared.records.into_records.truncate_content.Truncated.TheVariants.{Cut, Whole}
 use Rattle.grid_records_rows.specs.declared.records.into_records.truncate_content.TruncatedCells.{TruncatedCells}
 use Rattle.grid_records_rows.specs.declared.records.into_records.truncate_content.TruncatedRows.{TruncatedRows}
-
--- the text where it measures at most `width` columns, and else its cut
-abbrev pub truncated_text : ℕ → List ℕ → List ℕ
-truncated_text width text = if nat_le (text_width text) width then text else cut_text width text
 
 -- the number of the next column; no number is greater than that of the last that a `usize` counts
 abbrev pub next_column : ℕ → ℕ

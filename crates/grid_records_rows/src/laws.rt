@@ -2,7 +2,7 @@
 ghost use Rattle.std.specs.Prelude.{◌≡◌, ℕ, List, Some, length};
 ghost use Rattle.ansi_scan.specs.Pieces.{pieces};
 ghost use Rattle.grid_records_measure.specs.Cutting.{IsCutAt};
-ghost use Rattle.grid_records_measure.specs.CutTexts.{cut_text};
+ghost use Rattle.grid_records_measure.specs.CutTexts.{cut_at};
 ghost use Rattle.grid_records_traits.specs.Rows.{row_at};
 ghost use Rattle.grid_records_rows.specs.declared.records.vec_records.VecRecords.{VecRecords as Vectors};
 
@@ -12,8 +12,8 @@ use crate::records::{RecordColumns, RecordTexts, Records};
 /// What is left of a text that is wider than its column is its cut at the column's width, as `cut_width`
 /// gives it: it is one, and there is no other.
 pub fn truncated_texts_are_cuts()
-    ensures cut { (width : ℕ) (text : List ℕ) → IsCutAt width (pieces text) (cut_text width text) }
-    ensures one { (width : ℕ) (text bytes : List ℕ) → IsCutAt width (pieces text) bytes → bytes ≡ cut_text width text }
+    ensures cut { (width : ℕ) (text : List ℕ) → IsCutAt width (pieces text) (cut_at width text) }
+    ensures one { (width : ℕ) (text bytes : List ℕ) → IsCutAt width (pieces text) bytes → bytes ≡ cut_at width text }
 {}
 
 /// Rows in vectors have as many columns as the first row has cells, and give their count as the hint;

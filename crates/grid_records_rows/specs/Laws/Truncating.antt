@@ -4,7 +4,7 @@ use Rattle.std.proofs.lemmas.Bool.{le-leb, lt-leb}
 use Rattle.std.specs.Prelude.{Err, IfErr, IfOk, IfSome, MatchOption, None, Ok, Option, Result, Some}
 use Rattle.std.specs.Iterator.{Count, IsFinite, at_most}
 use Rattle.grid_records_rows.specs.Buffering.{of_rest}
-use Rattle.grid_records_measure.specs.CutTexts.{cut_text}
+use Rattle.grid_records_measure.specs.CutTexts.{cut_at}
 use Rattle.grid_records_measure.specs.TextLines.{text_width}
 use Rattle.grid_records_traits.specs.Giving.{Gives, GivesCells, GivesEach, GivesTexts, HasEnded}
 use Rattle.grid_records_rows.specs.Truncating.{GivesTruncated, GivesTruncatedRow, IsTruncated, next_column, text_of_truncated, truncated_row, truncated_rows, truncated_text}
@@ -90,10 +90,10 @@ whole_text width found text is le =
 
 -- and of a wider one the cut is left
 pub cut_is_left : (width found : ℕ) (text shown bytes out : List ℕ) → found ≡ text_width text → width < found → shown ≡ text →
-    bytes ≡ cut_text width shown → out ≡ bytes → out ≡ truncated_text width text
+    bytes ≡ cut_at width shown → out ≡ bytes → out ≡ truncated_text width text
 cut_is_left width found text shown bytes out is lt same cut owned =
     let no : nat_le (text_width text) width ≡ false = lt-leb (text_width text) width (omega (arith, is, lt)) in
-    rw no (owned ∙ cut ∙ ap (cut_text width) same)
+    rw no (owned ∙ cut ∙ ap (cut_at width) same)
 
 -- a cut is asked for only of a wider text
 pub is_wider : {T E : Type 0} (result : Result T E) (width found : ℕ) (text : List ℕ) → found ≡ text_width text → width < found → IfErr result (λ _. width < text_width text)

@@ -1,7 +1,7 @@
 //! A source whose first rows are kept.
 ghost use Rattle.std.proofs.Common.{◌∙◌};
-ghost use Rattle.std.specs.Iterator.{IsFinite, at_most, count_add};
-ghost use Rattle.std.specs.Prelude.{◌≡◌, ◌++◌, Bool, IfOk, IfSome, IsTrue, List, [], false, map, take, ℕ};
+ghost use Rattle.std.specs.Iterator.{Drains, IsFinite, at_most, count_add};
+ghost use Rattle.std.specs.Prelude.{◌≡◌, ◌++◌, Bool, IfOk, IfSome, IsTrue, List, Ok, [], false, map, take, ℕ};
 ghost use Rattle.grid_records_rows.specs.Buffering.{GivesBuffered, of_rest};
 ghost use Rattle.grid_records_traits.specs.Sources.{items_left, texts_of_rows};
 ghost use Rattle.grid_records_traits.specs.Giving.{GivesTexts};
@@ -91,14 +91,16 @@ impl<I: IntoRecords> IntoRecords for BufRecords<I> {
     }
 }
 
-/// Reads the cells of a row, one after the other. Fails only where one of them does, or where allocation fails.
+/// Reads the cells of a row, one after the other: all that the iterator gives before it ends. Fails only
+/// where one of them does, or where allocation fails.
 pub fn read_row<C: Cell, I: Iterator<Item = Result<C, AllocError>>>(
     alloc: Global,
     cells: I,
 ) -> Result<Vec<C>, AllocError>
     requires can { I.can_next cells }
     requires ends { IsFinite (I.remaining cells) }
-    ensures { IfOk result (λ row. (texts : List (List ℕ)) (may_refuse : Bool) → GivesTexts I.can_next I.remaining I.next_gives C.text may_refuse cells texts → map C.text row.items ≡ texts) }
+    ensures cells { IfOk result (λ row. Drains I.next_gives cells (map (λ cell. Ok cell) row.items)) }
+    ensures texts { IfOk result (λ row. (texts : List (List ℕ)) (may_refuse : Bool) → GivesTexts I.can_next I.remaining I.next_gives C.text may_refuse cells texts → map C.text row.items ≡ texts) }
 {
     let mut row = Vec::new(alloc);
     for cell in cells {

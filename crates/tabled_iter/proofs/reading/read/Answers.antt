@@ -24,7 +24,7 @@ loop-cells-preserved g c =
     kept_more (λ row. map g.R.Cell.Cell.text (vec_items row)) c.loop-cells.rows.items _ c.in_ok-read_row.field-0 _ _ all c.in_ok-push.ensures.items c.loop-cells.invariant
     (sym (ap (drop (length c.loop-cells.yielded)) same) ∙ n.next
     ∙ ap (λ v. n.element ∷ drop (length (c.loop-cells.yielded ++ c.in-Some.cells ∷ [])) v) same
-    ∙ ap (λ v. v ∷ drop (length (c.loop-cells.yielded ++ c.in-Some.cells ∷ [])) all) (sym (c.in_ok-read_row.ensures n.element _ n.tied)))
+    ∙ ap (λ v. v ∷ drop (length (c.loop-cells.yielded ++ c.in-Some.cells ∷ [])) all) (sym (c.in_ok-read_row.ensures.texts n.element _ n.tied)))
 
 pub returns : goal.returns
 returns g c =
