@@ -1,3 +1,4 @@
+pub mod Comparing
 pub mod Runs
 pub mod ByteClasses
 pub mod Complete

@@ -18,6 +18,7 @@ use Rattle.ansi_str.specs.StyledText.{has_escape, text_of, strip, style_after_al
 use Rattle.ansi_str.specs.Parts.{from_place, before_place, through_place}
 use Rattle.ansi_str.specs.Walking.{sequences}
 use Rattle.ansi_str.specs.Cuts.{IsGoodBound, AreGoodBounds, cut_part}
+use Rattle.ansi_str.specs.CutEnds.{AreCutEnds}
 use Rattle.ansi_str_search.proofs.PartLemmas.{text_of-text, text_of-sequence, style_by-text}
 use Rattle.ansi_str_search.proofs.StyleLemmas.{front_of-style}
 use Rattle.ansi_str_search.proofs.PlaceLemmas.{none, inside, past, reach, has_text, before-none, before-inside, before-past, through-inside, through-past, strip-from, joined-places}
@@ -224,22 +225,12 @@ placed-first text from style n first first_style same plain there known = (
   known ∙ ap (λ s. style_after_all s (before_place n (pieces from))) plain ∙ ap (λ t. style_after_all plain_attributes (before_place n (pieces t))) same,
 )
 
--- what is known of a cut, by the places where its slice begins and ends
-pub record IsCut (text : List ℕ) (start : ℕ) (end : Option ℕ) (first last : List ℕ) (last_style : Attributes) : Type 0 where
-  pub behind : text ≡ joined (before_place start (pieces text)) ++ first
-  pub none_before : has_escape text ≡ false → has_escape (take (length text - length first) text) ≡ false
-  pub spelled : (ps : List Piece) → ArePiecesOf text ps →
-      sequences (before_place start (pieces text)) ++ (take (length first - length last) first ++ end_bytes last_style) ≡ cut_part start (unwrap_or end (length (strip ps))) ps
-  pub plain : has_escape text ≡ false → last_style ≡ plain_attributes
-  pub bare : has_escape (take (length text - length first) text) ≡ false → last_style ≡ plain_attributes → (ps : List Piece) → ArePiecesOf text ps →
-      take (length first - length last) first ≡ cut_part start (unwrap_or end (length (strip ps))) ps
-
-pub IsCut-found : (text : List ℕ) (start : ℕ) (end : Option ℕ) (most n : ℕ) → AreGoodBounds (strip (pieces text)) start end → n ≡ unwrap_or end most → length text ≤ most → start ≤ most
+pub AreCutEnds-found : (text : List ℕ) (start : ℕ) (end : Option ℕ) (most n : ℕ) → AreGoodBounds (strip (pieces text)) start end → n ≡ unwrap_or end most → length text ≤ most → start ≤ most
     → (from : List ℕ) (style : Attributes) (first : List ℕ) (first_style : Attributes) → from ≡ text → style ≡ plain_attributes
     → pieces first ≡ from_place start (pieces from) → first_style ≡ style_after_all style (before_place start (pieces from))
     → (last : List ℕ) (last_style : Attributes) → first ≡ joined (through_place (n - start) (pieces first)) ++ last
-    → last_style ≡ style_after_all first_style (through_place (n - start) (pieces first)) → IsCut text start end first last last_style
-IsCut-found text start end most n good same small order from style first first_style is_text is_plain there known last last_style sliced opened =
+    → last_style ≡ style_after_all first_style (through_place (n - start) (pieces first)) → AreCutEnds text start end first last last_style
+AreCutEnds-found text start end most n good same small order from style first first_style is_text is_plain there known last last_style sliced opened =
     let shown = strip-fits text in
     let fits : length (strip (pieces text)) ≤ most = omega (arith, shown, small) in
     let at = placed-first text from style start first first_style is_text is_plain there known in
@@ -250,6 +241,8 @@ IsCut-found text start end most n good same small order from style first first_s
     let parted = parted-first text start n bounds.0 first first_style at.0 at.1 last last_style sliced opened in
     record {
       behind = parted;
+      slice = joined (through_place (n - start) (pieces first));
+      sliced = sliced;
       none_before = λ gone. ap has_escape (slice-bytes text (joined (before_place start (pieces text))) first parted)
           ∙ (no_escape-parts (joined (before_place start (pieces text))) first (ap has_escape (sym parted) ∙ gone)).0;
       spelled = λ ps of_text. cut-bytes text start n bounds.0 first first_style at.0 at.1 last last_style sliced opened ∙ ended ps of_text;

@@ -10,6 +10,7 @@ pub use Rattle.ansi_str_search.specs.Splitting
 pub use Rattle.ansi_str_search.specs.Lines
 pub use Rattle.ansi_str_search.specs.WorkedParts
 pub mod Cuts
+pub mod CutEnds
 pub mod Ranges
 pub mod Keeping
 pub mod Edits

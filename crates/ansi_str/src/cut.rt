@@ -8,6 +8,7 @@ ghost use Rattle.ansi_str.specs.StyledText.{has_escape, strip};
 ghost use Rattle.ansi_str.specs.Parts.{before_place};
 ghost use Rattle.ansi_str.specs.Walking.{sequences};
 ghost use Rattle.ansi_str.specs.Cuts.{AreGoodBounds, IsGoodBound, cut_part};
+ghost use Rattle.ansi_str.specs.CutEnds.{AreCutEnds};
 
 use crate::ranges::AnsiRange;
 use ansi_scan::{Kind, Style};
@@ -50,14 +51,23 @@ pub(crate) fn cut(
     ensures answers { has_escape text.now ≡ false → IsOk result }
     ensures borrows { IfOk result (λ part. IsOwnedStr part → IsTrue (has_escape text.now)) }
 {
-    let first = Place::start_of(text).after(start);
-    let end = end.unwrap_or(usize::MAX);
-    let last = first.through(end - start);
+    let (first, last) = cut_ends(text, start, end);
     let slice = front(first.rest, last.rest);
     if last.style.is_plain() && !has_escape(front(text, first.rest)) {
         return Ok(CowStr::Borrowed(slice));
     }
     Ok(CowStr::Owned(joined_cut(alloc, text, start, slice, last.style)?))
+}
+
+// Where the slice of a cut begins and ends, with the styles that are known there.
+fn cut_ends(text: &str, start: usize, end: Option<usize>) -> (Place<'_>, Place<'_>)
+    requires { (pieces : List Piece) → ArePiecesOf text.now pieces → AreGoodBounds (strip pieces) start end }
+    ensures { AreCutEnds text.now start end result.0.rest.now result.1.rest.now result.1.style }
+{
+    let first = Place::start_of(text).after(start);
+    let end = end.unwrap_or(usize::MAX);
+    let last = first.through(end - start);
+    (first, last)
 }
 
 // The sequences before a cut, its slice of the text, and the end of the style that is then open.

@@ -15,6 +15,7 @@ use Rattle.ansi_scan.specs.Pieces.{pieces}
 use Rattle.ansi_scan.specs.Attributes.{Attributes, plain_attributes}
 use Rattle.ansi_scan.proofs.Existence.{ArePiecesOf-pieces}
 use Rattle.ansi_str_text.specs.StyledText.{text_of, strip, style_after, style_after_all, styled_from, styled}
+pub use Rattle.ansi_str_text.proofs.Shown.{with_style}
 use Rattle.ansi_str_search.specs.Parts.{piece_from, from_place, before_place, through_place, split_part}
 use Rattle.ansi_str_search.specs.Matches.{Occurs, AreMatchesFrom, AreMatches, bounds_between, split_bounds, styled_parts}
 use Rattle.ansi_str_search.proofs.PartLemmas.{style_by-text, text_of-text}
@@ -25,9 +26,6 @@ use Rattle.ansi_str_search.proofs.DressedLemmas.{short, long, cut, styled-split_
 use Rattle.ansi_str_search.proofs.SliceLemmas.{strip-through}
 use Rattle.ansi_str_search.proofs.CharLemmas.{both_hold, hold_both, Without, Without-chars, chars-around}
 use Rattle.ansi_str_search.proofs.Utf8Lemmas.{EachUtf8, EachUtf8-pieces, EachUtf8-from, EachUtf8-through, IsUtf8-text_of, IsUtf8-strip, boundary-from, boundary-behind_match, Occurs-fits}
-
-abbrev pub with_style : Attributes → List ℕ → List (ℕ × Attributes)
-with_style style characters = map (λ x. (x, style)) characters
 
 -- ---- a text with an ASCII character in it
 

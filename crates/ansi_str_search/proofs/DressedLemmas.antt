@@ -21,6 +21,7 @@ use Rattle.ansi_scan.proofs.Uniqueness.{ArePiecesOf-unique}
 use Rattle.ansi_scan.proofs.Effects.{start_from_plain, end_from_itself, start_bytes-sequences, end_bytes-sequences, start_sequences_are_read, end_sequences_are_read}
 use Rattle.ansi_scan.proofs.Kept.{IsRendition-plain, IsRendition-applied}
 use Rattle.ansi_str_text.specs.StyledText.{text_of, style_by, style_after, style_after_all, styled_from, styled, IsClosed}
+use Rattle.ansi_str_text.proofs.Seams.{joined-append}
 use Rattle.ansi_str_search.specs.Parts.{from_place, before_place, through_place, split_part, dressed}
 use Rattle.ansi_str_search.proofs.PartLemmas.{text_of-text, text_of-sequence}
 use Rattle.ansi_str_search.proofs.StyleLemmas.{split_part-slice}
@@ -64,10 +65,6 @@ style_after_all-renditions style (bytes ∷ others) = style_after_all-renditions
 
 -- ---- pieces behind pieces
 
-pub joined-append : (ps qs : List Piece) → joined (ps ++ qs) ≡ joined ps ++ joined qs
-joined-append [] qs = refl
-joined-append (p ∷ ps) qs = ap (λ rest. p.bytes ++ rest) (joined-append ps qs) ∙ sym (append_assoc p.bytes (joined ps) (joined qs))
-
 pub styled_from-append : (style : Attributes) (ps qs : List Piece) → styled_from style (ps ++ qs) ≡ styled_from style ps ++ styled_from (style_after_all style ps) qs
 styled_from-append style [] qs = refl
 styled_from-append style (p ∷ ps) qs =
@@ -110,7 +107,7 @@ other_kind Esc other = refl
 other_kind Str other = refl
 other_kind Broken other = refl
 
-NoTextFirst-through : (n : ℕ) (ps : List Piece) → NoTextFirst ps → NoTextFirst (through_place n ps)
+pub NoTextFirst-through : (n : ℕ) (ps : List Piece) → NoTextFirst ps → NoTextFirst (through_place n ps)
 NoTextFirst-through n [] first = tt
 NoTextFirst-through n (p ∷ ps) first =
     let empty : length (text_of p) ≡ 0 = ap length (text_of-sequence p (other_kind p.kind first)) in
@@ -124,7 +121,7 @@ list_all-take p (suc n) (x ∷ xs) h =
     let parts = and_parts (p x) (list_all p xs) h in
     both_true parts.0 (list_all-take p n xs parts.1)
 
-Stands-take : (kind : Kind) (bytes : List ℕ) (after : List Piece) (n : ℕ) → is_text_kind kind ≡ true → 0 < n → n < length bytes → Stands kind bytes after → Stands kind (take n bytes) []
+pub Stands-take : (kind : Kind) (bytes : List ℕ) (after : List Piece) (n : ℕ) → is_text_kind kind ≡ true → 0 < n → n < length bytes → Stands kind bytes after → Stands kind (take n bytes) []
 Stands-take Text bytes after n e some h stands = record { some = omega (arith, length-take n bytes); plain = list_all-take is_plain n bytes stands.plain; ends = tt }
 Stands-take Sgr bytes after n e some h stands = cc e
 Stands-take Csi bytes after n e some h stands = cc e
@@ -133,7 +130,7 @@ Stands-take Esc bytes after n e some h stands = cc e
 Stands-take Str bytes after n e some h stands = cc e
 Stands-take Broken bytes after n e some h stands = cc e
 
-EachStands-front : (n : ℕ) (p : Piece) (after : List Piece) (is_zero : Bool) → (n == 0) ≡ is_zero → n < length (text_of p) → Stands p.kind p.bytes after
+pub EachStands-front : (n : ℕ) (p : Piece) (after : List Piece) (is_zero : Bool) → (n == 0) ≡ is_zero → n < length (text_of p) → Stands p.kind p.bytes after
     → EachStands (if is_zero then [] else record { kind = p.kind; bytes = take n p.bytes } ∷ [])
 EachStands-front n p after true e h stands = tt
 EachStands-front n p after false e h stands =

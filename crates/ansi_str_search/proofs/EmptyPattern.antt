@@ -13,7 +13,8 @@ use Rattle.ansi_str_search.specs.Matches.{Occurs, IsFirstMatch, AreMatchesFrom, 
 use Rattle.ansi_str_search.proofs.AllParts.{strip-styled_parts}
 use Rattle.ansi_str_search.proofs.CharSlices.{length-styled_from, take-parts}
 use Rattle.ansi_str_search.proofs.Utf8Lemmas.{EachUtf8-pieces}
-use Rattle.ansi_str_search.proofs.SplitSlices.{IsUtf8-stripped, styled-parts}
+use Rattle.ansi_str_search.proofs.SplitSlices.{styled-parts}
+use Rattle.ansi_str_text.proofs.Utf8Pieces.{IsUtf8-stripped}
 
 -- ---- the first character
 

@@ -77,21 +77,16 @@ module _ (c : ℕ) (low : c < 128) (rest : List ℕ) (style : Attributes) (k : �
 
 -- ---- over a sequence
 
-module _ (c : ℕ) (rest : List ℕ) (style : Attributes) (behind : List ℕ) (after : Attributes) (parted : AreFirstAndRest style (pieces rest) after (pieces behind)) (gone : text_len rest ≡ 0) where
-  same-strip : strip (pieces rest) ≡ strip (pieces behind)
-  same-strip = strip-sequence rest behind parted.first parted.parted gone
-
-  same-bytes : bytes_to c behind ≡ bytes_to c rest
-  same-bytes = ap (λ bytes. unwrap_or (first_match (c ∷ []) 0 bytes) (length bytes)) (sym same-strip)
-
-  sequence-place : (m : ℕ) (is_zero : Bool) → (m == 0) ≡ is_zero → from_text (from_place m (pieces rest)) ≡ from_text (from_place m (pieces behind))
+-- what stands behind a place, and the style there, are the same behind a sequence
+module _ (rest : List ℕ) (style : Attributes) (behind : List ℕ) (after : Attributes) (parted : AreFirstAndRest style (pieces rest) after (pieces behind)) (gone : text_len rest ≡ 0) where
+  pub sequence-place : (m : ℕ) (is_zero : Bool) → (m == 0) ≡ is_zero → from_text (from_place m (pieces rest)) ≡ from_text (from_place m (pieces behind))
   sequence-place m true e =
       let none = eqb-true m 0 e in
       ap (λ n. from_text (from_place n (pieces rest))) none ∙ ap from_text (from-none (pieces rest)) ∙ from_text-sequence rest behind parted.first parted.parted gone
       ∙ ap from_text (sym (from-none (pieces behind))) ∙ ap (λ n. from_text (from_place n (pieces behind))) (sym none)
   sequence-place m false e = let some : 0 < m = grind (arith, nat_tests) in ap from_text (from-sequence rest behind parted.first parted.parted gone m some)
 
-  sequence-style : (m : ℕ) → style_after_all style (through_place m (pieces rest)) ≡ style_after_all after (through_place m (pieces behind))
+  pub sequence-style : (m : ℕ) → style_after_all style (through_place m (pieces rest)) ≡ style_after_all after (through_place m (pieces behind))
   sequence-style m =
       let len : length (text_of parted.first) ≡ 0 = ap length (text_of-sequence parted.first (first-sequence rest behind parted.first parted.parted gone)) in
       let over : length (text_of parted.first) ≤ m = omega (arith, len) in
@@ -100,10 +95,17 @@ module _ (c : ℕ) (rest : List ℕ) (style : Attributes) (behind : List ℕ) (a
       ∙ ap (λ n. style_after_all (style_after style parted.first) (through_place n (pieces behind))) same
       ∙ ap (λ s. style_after_all s (through_place m (pieces behind))) (sym parted.styled)
 
+module _ (c : ℕ) (rest : List ℕ) (style : Attributes) (behind : List ℕ) (after : Attributes) (parted : AreFirstAndRest style (pieces rest) after (pieces behind)) (gone : text_len rest ≡ 0) where
+  same-strip : strip (pieces rest) ≡ strip (pieces behind)
+  same-strip = strip-sequence rest behind parted.first parted.parted gone
+
+  same-bytes : bytes_to c behind ≡ bytes_to c rest
+  same-bytes = ap (λ bytes. unwrap_or (first_match (c ∷ []) 0 bytes) (length bytes)) (sym same-strip)
+
   pub SameLanding-sequence : (text : List ℕ) (text_style : Attributes) → SameLanding c rest style text text_style → SameLanding c behind after text text_style
   SameLanding-sequence text text_style same = record {
-    there = sym (sequence-place (bytes_to c behind) (bytes_to c behind == 0) refl) ∙ ap (λ m. from_text (from_place m (pieces rest))) same-bytes ∙ same.there;
-    known = sym (sequence-style (bytes_to c behind)) ∙ ap (λ m. style_after_all style (through_place m (pieces rest))) same-bytes ∙ same.known;
+    there = sym (sequence-place rest style behind after parted gone (bytes_to c behind) (bytes_to c behind == 0) refl) ∙ ap (λ m. from_text (from_place m (pieces rest))) same-bytes ∙ same.there;
+    known = sym (sequence-style rest style behind after parted gone (bytes_to c behind)) ∙ ap (λ m. style_after_all style (through_place m (pieces rest))) same-bytes ∙ same.known;
     found = ap (λ bytes. is_some (first_match (c ∷ []) 0 bytes)) (sym same-strip) ∙ same.found;
   }
 

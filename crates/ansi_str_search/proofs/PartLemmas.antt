@@ -7,25 +7,11 @@ use Rattle.ansi_scan.specs.declared.items.Kind.TheVariants.{Text, Sgr, Csi, Osc,
 use Rattle.ansi_scan.specs.Sequences.{Piece, joined}
 use Rattle.ansi_scan.specs.Joining.{is_text_kind}
 use Rattle.ansi_scan.specs.Attributes.{Attributes}
+pub use Rattle.ansi_scan.proofs.Comparing.{below, not_below, at_most, not_at_most, not_zero}
 use Rattle.ansi_str_text.specs.StyledText.{shown, text_of, style_by}
 use Rattle.ansi_str_search.specs.Parts.{Places, taken_piece, taken, piece_from, from_place, front_of, through_place}
 
 -- ---- tests on numbers
-
-pub below : (k n : ℕ) → k < n → nat_lt k n ≡ true
-below k n h = grind (arith, nat_tests)
-
-pub not_below : (k n : ℕ) → n ≤ k → nat_lt k n ≡ false
-not_below k n h = grind (arith, nat_tests)
-
-pub at_most : (k n : ℕ) → k ≤ n → nat_le k n ≡ true
-at_most k n h = grind (arith, nat_tests)
-
-pub not_at_most : (k n : ℕ) → n < k → nat_le k n ≡ false
-not_at_most k n h = grind (arith, nat_tests)
-
-pub not_zero : (n : ℕ) → 0 < n → (n == 0) ≡ false
-not_zero n h = grind (arith, nat_tests)
 
 -- ---- kinds
 

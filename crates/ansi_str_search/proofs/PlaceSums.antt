@@ -8,7 +8,7 @@ use Rattle.ansi_str_text.specs.StyledText.{text_of, strip, style_after, style_af
 use Rattle.ansi_str_search.specs.Parts.{piece_from, from_place, before_place, through_place}
 use Rattle.ansi_str_search.proofs.PartLemmas.{text_of-text, style_by-text, not_zero}
 use Rattle.ansi_str_search.proofs.PlaceLemmas.{none, inside, past, reach, has_text, from-inside, from-past, before-inside, before-past, through-inside, through-past}
-use Rattle.ansi_str_search.proofs.DressedLemmas.{joined-append}
+use Rattle.ansi_str_text.proofs.Seams.{joined-append}
 
 -- the text of a piece that is cut
 length-piece_from : (n : ℕ) (p : Piece) → n < length (text_of p) → length (text_of (piece_from n p)) ≡ length (text_of p) - n

@@ -3,18 +3,15 @@ use Rattle.std.proofs.Common.{◌≡◌, ℕ, zero, suc, ◌+◌, ◌-◌, ◌<�
 use Rattle.std.specs.Prelude.{if◌then◌else◌}
 use Rattle.std.proofs.Math.Seq.{take-append-add}
 use Rattle.std.proofs.lemmas.List.{take-append-le}
-use Rattle.std.proofs.lemmas.List.Concat.{flat_map-append}
 use Rattle.ansi_scan.specs.Sequences.{Piece, ArePiecesOf, NoneBroken}
 use Rattle.ansi_scan.specs.Attributes.{Attributes, plain_attributes}
 use Rattle.ansi_scan.specs.StartsAndEnds.{start_sequences, end_sequences}
 use Rattle.ansi_str_text.specs.StyledText.{text_of, strip, style_after_all}
+use Rattle.ansi_str_text.proofs.LastLemmas.{strip-append}
 use Rattle.ansi_str_search.specs.Parts.{from_place, before_place, through_place, split_part}
 use Rattle.ansi_str_search.proofs.PartLemmas.{text_of-text}
 use Rattle.ansi_str_search.proofs.PlaceLemmas.{has_text, through-inside, through-past, strip-from}
 use Rattle.ansi_str_search.proofs.DressedLemmas.{renditions, dressed_pieces, pieces_of_part, short, long, cut}
-
-pub strip-append : (ps qs : List Piece) → strip (ps ++ qs) ≡ strip ps ++ strip qs
-strip-append ps qs = flat_map-append text_of ps qs
 
 pub strip-renditions : (sequences : List (List ℕ)) → strip (renditions sequences) ≡ []
 strip-renditions [] = refl

@@ -1,5 +1,5 @@
 -- The parts of a split begin and end where characters do, and show the slices of the styled characters.
-use Rattle.std.proofs.Common.{◌≡◌, ℕ, ◌≤◌, All, List, length, map, sym, subst, ◌∙◌, arith}
+use Rattle.std.proofs.Common.{◌≡◌, ℕ, ◌≤◌, All, List, length, map, ◌∙◌, arith}
 use Rattle.std.specs.List.{AllByRecursion}
 use Rattle.std.specs.Str.{IsUtf8, IsCharBoundary}
 use Rattle.std.proofs.lemmas.List.Elements.{All-from_recursion}
@@ -9,11 +9,12 @@ use Rattle.ansi_scan.specs.Sequences.{Piece, ArePiecesOf, NoneBroken}
 use Rattle.ansi_scan.specs.Pieces.{pieces}
 use Rattle.ansi_scan.proofs.Existence.{ArePiecesOf-pieces}
 use Rattle.ansi_str_text.specs.StyledText.{strip, styled}
+use Rattle.ansi_str_text.proofs.Utf8Pieces.{IsUtf8-stripped}
 use Rattle.ansi_str_search.specs.Parts.{split_part}
 use Rattle.ansi_str_search.specs.Matches.{AreMatches, split_bounds, styled_parts, IsCutBetweenCharacters, styled_slice}
 use Rattle.ansi_str_search.proofs.AllParts.{map-same}
 use Rattle.ansi_str_search.proofs.CharSlices.{styled-slice}
-use Rattle.ansi_str_search.proofs.Utf8Lemmas.{EachUtf8-pieces, IsUtf8-strip, bounds-hold, boundary-behind_match}
+use Rattle.ansi_str_search.proofs.Utf8Lemmas.{bounds-hold, boundary-behind_match}
 
 -- what holds of each two places between characters, the first not behind the second, holds of the ends of each part
 pub bounds-between_characters : (P : (ℕ × ℕ) → Type 0) (pattern text matches : List ℕ) → IsUtf8 text → IsUtf8 pattern → AreMatches pattern text matches
@@ -30,9 +31,6 @@ pub All-between_characters : (pattern text matches : List ℕ) → IsUtf8 text �
 All-between_characters pattern text matches utf8 pattern_utf8 are =
     All-from_recursion (IsCutBetweenCharacters text) (split_bounds pattern text matches)
     (bounds-between_characters (IsCutBetweenCharacters text) pattern text matches utf8 pattern_utf8 are (λ a b ordered first last. (first, last)))
-
-pub IsUtf8-stripped : (text : List ℕ) (ps : List Piece) → IsUtf8 text → ArePiecesOf text ps → IsUtf8 (strip ps)
-IsUtf8-stripped text ps utf8 of_text = IsUtf8-strip ps (EachUtf8-pieces ps of_text.stand (subst IsUtf8 (sym of_text.joins) utf8))
 
 pub styled-parts : (pattern text : List ℕ) (ps : List Piece) (matches : List ℕ) → IsUtf8 text → IsUtf8 pattern
     → ArePiecesOf text ps → NoneBroken ps → AreMatches pattern (strip ps) matches

@@ -27,7 +27,7 @@ text_of_block-blocks_from style (piece ∷ pieces) =
     ∙ ap (λ bytes. bytes ++ flat_map text_of_block (blocks_from (style_after style piece) pieces)) (text_of_block-if piece.kind piece.bytes style)
     ∙ ap (λ bytes. shown piece.kind piece.bytes ++ bytes) (text_of_block-blocks_from (style_after style piece) pieces)
 
-abbrev with_style : Attributes → List ℕ → List (ℕ × Attributes)
+abbrev pub with_style : Attributes → List ℕ → List (ℕ × Attributes)
 with_style style characters = map (λ c. (c, style)) characters
 
 nothing_styled : (style : Attributes) → ◌≡◌ {A = List (ℕ × Attributes)} [] (with_style style (chars []))

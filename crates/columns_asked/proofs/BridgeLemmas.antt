@@ -1,12 +1,11 @@
 -- A resized text shows the resized cell: as text and as styled characters it is one thing.
-use Rattle.std.proofs.Common.{◌≡◌, ◌≤◌, ◌<◌, ◌-◌, ◌++◌, ◌==◌, ℕ, zero, suc, Bool, true, false, List, [], ◌∷◌, length, map, take, max, replicate, slice_range, refl, ap, sym, subst, ◌∙◌, arith, nat_le, if◌then◌else◌}
+use Rattle.std.proofs.Common.{◌≡◌, ◌≤◌, ◌<◌, ◌-◌, ◌++◌, ℕ, zero, suc, Bool, true, false, List, [], ◌∷◌, length, map, take, max, replicate, slice_range, refl, ap, sym, subst, ◌∙◌, arith, nat_le, if◌then◌else◌}
 use Rattle.std.specs.Prelude.{chars, encode_utf8, encode_utf8_all, IsUtf8}
-use Rattle.std.specs.Str.{IsCharBoundary}
-use Rattle.std.specs.List.{AllByRecursion, AllZip, flat_map, join_with_byte, slice_split}
+use Rattle.std.specs.List.{AllZip, flat_map, slice_split}
 use Rattle.std.proofs.lemmas.List.{append_cancel_left}
 use Rattle.std.proofs.lemmas.Simd.{map-map}
 use Rattle.std.proofs.lemmas.Str.{IsCharBoundary-start, IsUtf8-append, IsUtf8-encode, IsUtf8-nil}
-use Rattle.ansi_scan.specs.Sequences.{Piece, ArePiecesOf, NoneBroken}
+use Rattle.ansi_scan.specs.Sequences.{Piece, NoneBroken}
 use Rattle.ansi_scan.specs.Pieces.{pieces}
 use Rattle.ansi_scan.specs.Attributes.{plain_attributes}
 use Rattle.ansi_scan.proofs.Existence.{ArePiecesOf-pieces}
@@ -20,10 +19,10 @@ use Rattle.ansi_str_search.proofs.Utf8Lemmas.{IsUtf8-split_part}
 use Rattle.ansi_str_text.proofs.Utf8Pieces.{IsUtf8-shown_text}
 use Rattle.ansi_str.proofs.CutParts.{first_part-slice}
 use Rattle.grid_records_estimate.specs.Estimates.{greatest}
-use Rattle.grid_records_measure.specs.Cutting.{ShowsCut, cut_bytes, lacking, replacement}
+use Rattle.grid_records_measure.specs.Cutting.{lacking, replacement}
 use Rattle.grid_records_measure.specs.Filling.{behind_front, front}
 use Rattle.grid_records_measure.specs.Measures.{measure}
-use Rattle.grid_records_measure.specs.TextLines.{is_line_feed, line_feed, line_measure, shown_lines as lines_shown_by, text_lines, text_width, widest}
+use Rattle.grid_records_measure.specs.TextLines.{line_measure, text_lines, text_width, widest}
 use Rattle.grid_records_measure.proofs.CutLemmas.{front-boundary}
 use Rattle.grid_records_measure.proofs.FillingLemmas.{IsLongestFront-front, IsLongestFront-unique}
 use Rattle.grid_records_measure.proofs.ShownCuts.{cut-shows}
@@ -35,12 +34,13 @@ use Rattle.tabled_size_wrap.specs.Runs.{runs_of, wrapped}
 use Rattle.tabled_size_wrap.specs.Showing.{AreShownLines, ends_line, joined_lines, unit_size}
 use Rattle.tabled_size_wrap.specs.Units.{line_units}
 use Rattle.tabled_size_wrap.specs.Wrapping.{shown_lines}
-use Rattle.tabled_size_wrap.proofs.BytesLemmas.{cut_at-meets, wrapped_text-meets}
+use Rattle.grid_records_measure.proofs.CutLemmas.{cut_at-meets}
+use Rattle.tabled_size_wrap.proofs.BytesLemmas.{wrapped_text-meets}
 use Rattle.tabled_size_wrap.proofs.LongestLemmas.{runs-are, runs-one}
 use Rattle.tabled_size_wrap.proofs.ShowLemmas.{Shows, joined-shows}
 use Rattle.tabled_size_wrap.proofs.WrappedLemmas.{text-shows}
 use Rattle.columns_asked.specs.Asked.{Break, Cut, Keep, Resize}
-use Rattle.columns_asked.specs.Resizing.{broken, broken_line, cell_width, cut, lines_in, resized, resized_text}
+use Rattle.columns_asked.specs.Resizing.{broken, broken_line, cell_width, cut, resized, resized_text}
 
 -- ---- what a whole text measures
 

@@ -5,8 +5,8 @@ use Rattle.grid_records_estimate.specs.Estimates.{greatest}
 use Rattle.grid_records_measure.specs.Cutting.{lacking, replacement}
 use Rattle.grid_records_measure.specs.Filling.{behind_front, front}
 use Rattle.grid_records_measure.specs.Measures.{measure}
-use Rattle.grid_records_measure.specs.TextLines.{is_line_feed, line_feed, text_width}
-use Rattle.tabled_size_wrap.specs.Bytes.{cut_at, wrapped_text}
+use Rattle.grid_records_measure.specs.TextLines.{is_line_feed, line_feed}
+use Rattle.tabled_size_wrap.specs.Bytes.{truncated_text, wrapped_text}
 use Rattle.tabled_size_wrap.specs.Runs.{runs_of}
 use Rattle.tabled_size_wrap.specs.Showing.{unit_size}
 use Rattle.tabled_size_wrap.specs.Units.{line_units}
@@ -54,4 +54,4 @@ module _ {X : Type 0} (character : X → ℕ) (bare : ℕ → X) where
 abbrev pub resized_text : Resize → List ℕ → List ℕ
 resized_text Keep text = text
 resized_text (Break width keep_words) text = wrapped_text width keep_words text
-resized_text (Cut width) text = if nat_le (text_width text) width then text else cut_at width text
+resized_text (Cut width) text = truncated_text width text

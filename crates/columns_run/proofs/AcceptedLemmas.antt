@@ -16,7 +16,7 @@ use Rattle.columns_run.specs.Layout.{TableFits, asked_of, texts_of, wide_cell}
 use Rattle.columns_options.specs.declared.options.Options.{Options}
 use Rattle.columns_run.specs.Rows.{stripped}
 use Rattle.columns_run.specs.Run.{HasTable}
-use Rattle.columns_run.proofs.ShowLemmas.{TextsAreUtf8-pieces, IsUtf8-strip}
+use Rattle.ansi_str_text.proofs.Utf8Pieces.{IsUtf8-stripped}
 
 -- a broken piece holds an ESC
 not_broken : (kind : Kind) (bytes : List ℕ) (after : List Piece) → Stands kind bytes after → has_escape (bytes ++ joined after) ≡ false → kind ≢ Broken
@@ -61,7 +61,7 @@ wide_cell-strip options input ps of_input =
 
 pub HasTable-strip : (options : Options) (input : List ℕ) (ps : List Piece) → ArePiecesOf input ps → HasTable options input → HasTable options (strip ps)
 HasTable-strip options input ps of_input has = (
-  IsUtf8-strip ps (TextsAreUtf8-pieces input ps of_input has.0),
+  IsUtf8-stripped input ps has.0 of_input,
   IsWhole-plain (strip ps) (has_escape-strip input ps of_input),
   (fits-strip options input ps of_input).1 has.2,
   wide_cell-strip options input ps of_input ∙ has.3,

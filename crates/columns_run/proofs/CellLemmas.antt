@@ -8,9 +8,10 @@ use Rattle.std.proofs.lemmas.Str.{chars-nil, encodes-chars}
 use Rattle.ansi_scan.specs.Sequences.{NoneBroken, IsWhole}
 use Rattle.ansi_scan.proofs.Uniqueness.{pieces-ArePiecesOf}
 use Rattle.papergrid_picture.specs.Shown.{AreWholeTexts, IsWholeText as IsWholeCell, Styled}
+use Rattle.ansi_str_text.proofs.Utf8Pieces.{IsUtf8-shown_text}
 use Rattle.columns_run.specs.Rows.{line_feed, tab, stripped, without_empty_last, rows_of, row_texts, parts_at, without_bare_last, row_parts, cell_parts}
 use Rattle.columns_run.specs.Layout.{characters_of, texts_of}
-use Rattle.columns_run.proofs.ShowLemmas.{IsUtf8-stripped, characters_of-styled}
+use Rattle.columns_run.proofs.ShowLemmas.{characters_of-styled}
 use Rattle.columns_run.proofs.SplitLemmas.{styled_characters, IsWholeText, IsClosedPart, whole-closed, styled-parts_at, closed-parts_at}
 use Rattle.columns_run.proofs.ItemLemmas.{AllByRecursion-keeps, AllByRecursion-map_of, map-same}
 
@@ -29,7 +30,7 @@ shows-none text utf8 none = nothing (styled_characters text) (characters_of-styl
 
 shows-some : (text : List ℕ) → IsUtf8 text → styled_characters text ≡ [] → stripped text ≡ []
 shows-some text utf8 none =
-    sym (encodes-chars (stripped text) (IsUtf8-stripped text utf8)) ∙ ap encode_utf8_all (sym (characters_of-styled text utf8) ∙ ap characters_of none)
+    sym (encodes-chars (stripped text) (IsUtf8-shown_text text utf8)) ∙ ap encode_utf8_all (sym (characters_of-styled text utf8) ∙ ap characters_of none)
 
 one_shown : (cs : List Styled) → (cs ≡ [] → ⊥) → cs ∷ [] ≡ without_empty_last (cs ∷ [])
 one_shown [] some = absurd (some refl)
@@ -168,5 +169,5 @@ texts-stripped text whole =
     ∙ map-same (AllByRecursion IsClosedPart) (λ row. map encode_utf8_all (map characters_of (map styled_characters row))) (map stripped)
     (λ row closed. ap (map encode_utf8_all) (map-map characters_of styled_characters row) ∙ map-map encode_utf8_all (λ part. characters_of (styled_characters part)) row
     ∙ map-same IsClosedPart (λ part. encode_utf8_all (characters_of (styled_characters part))) stripped
-    (λ part good. ap encode_utf8_all (characters_of-styled part good.utf8) ∙ encodes-chars (stripped part) (IsUtf8-stripped part good.utf8)) row closed)
+    (λ part good. ap encode_utf8_all (characters_of-styled part good.utf8) ∙ encodes-chars (stripped part) (IsUtf8-shown_text part good.utf8)) row closed)
     (cell_parts text) (closed_cells text whole)

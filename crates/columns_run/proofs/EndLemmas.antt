@@ -13,13 +13,13 @@ use Rattle.ansi_scan.specs.Pieces.{pieces, text_len}
 use Rattle.ansi_scan.specs.Attributes.{Attributes}
 use Rattle.ansi_scan.proofs.Uniqueness.{pieces-joined}
 use Rattle.ansi_scan.proofs.Runs.{prefix_len-pass, prefix_len-fail, list_all-take_run, prefix_len-drop_run}
-use Rattle.ansi_str_text.specs.StyledText.{text_of, strip, style_after, style_after_all}
+use Rattle.ansi_str_text.specs.StyledText.{strip, style_after_all}
 use Rattle.ansi_str_search.specs.Parts.{from_place, before_place, through_place}
 use Rattle.ansi_str_search.specs.Walking.{from_text, begins_with_escape, AreFirstAndRest}
-use Rattle.ansi_str_search.proofs.PartLemmas.{text_of-sequence}
-use Rattle.ansi_str_search.proofs.PlaceLemmas.{from-none, strip-from, through-past}
+use Rattle.ansi_str_search.proofs.Landing.{sequence-place, sequence-style}
+use Rattle.ansi_str_search.proofs.PlaceLemmas.{from-none, strip-from}
 use Rattle.ansi_str_search.proofs.PlaceSums.{from-from, style-before_sum, style-through_split}
-use Rattle.ansi_str_search.proofs.Walks.{from-plain, style-plain, take-strip, first-sequence, strip-sequence, from-sequence, from_text-sequence, at_text}
+use Rattle.ansi_str_search.proofs.Walks.{from-plain, style-plain, take-strip, strip-sequence, at_text}
 use Rattle.columns_run.specs.Rows.{line_feed, tab, stripped}
 use Rattle.columns_run.specs.Ends.{is_cell_byte, is_cell_text, cell_size, EndsCell}
 
@@ -132,26 +132,10 @@ module _ (rest : List ℕ) (style : Attributes) (behind : List ℕ) (after : Att
   same-size : cell_size behind ≡ cell_size rest
   same-size = ap (prefix_len is_cell_byte) (sym (strip-sequence rest behind first_and.first first_and.parted gone))
 
-  sequence-place : (m : ℕ) (is_zero : Bool) → (m == 0) ≡ is_zero → from_text (from_place m (pieces rest)) ≡ from_text (from_place m (pieces behind))
-  sequence-place m true e =
-      let none = eqb-true m 0 e in
-      ap (λ n. from_text (from_place n (pieces rest))) none ∙ ap from_text (from-none (pieces rest)) ∙ from_text-sequence rest behind first_and.first first_and.parted gone
-      ∙ ap from_text (sym (from-none (pieces behind))) ∙ ap (λ n. from_text (from_place n (pieces behind))) (sym none)
-  sequence-place m false e = let some : 0 < m = grind (arith, nat_tests) in ap from_text (from-sequence rest behind first_and.first first_and.parted gone m some)
-
-  sequence-style : (m : ℕ) → style_after_all style (through_place m (pieces rest)) ≡ style_after_all after (through_place m (pieces behind))
-  sequence-style m =
-      let len : length (text_of first_and.first) ≡ 0 = ap length (text_of-sequence first_and.first (first-sequence rest behind first_and.first first_and.parted gone)) in
-      let over : length (text_of first_and.first) ≤ m = omega (arith, len) in
-      let same : m - length (text_of first_and.first) ≡ m = omega (arith, len) in
-      ap (λ ps. style_after_all style (through_place m ps)) first_and.parted ∙ ap (style_after_all style) (through-past m first_and.first (pieces behind) over)
-      ∙ ap (λ n. style_after_all (style_after style first_and.first) (through_place n (pieces behind))) same
-      ∙ ap (λ s. style_after_all s (through_place m (pieces behind))) (sym first_and.styled)
-
   pub SameEnd-sequence : (text : List ℕ) (text_style : Attributes) → SameEnd rest style text text_style → SameEnd behind after text text_style
   SameEnd-sequence text text_style same = record {
-    there = sym (sequence-place (cell_size behind) (cell_size behind == 0) refl) ∙ ap (λ m. from_text (from_place m (pieces rest))) same-size ∙ same.there;
-    known = sym (sequence-style (cell_size behind)) ∙ ap (λ m. style_after_all style (through_place m (pieces rest))) same-size ∙ same.known;
+    there = sym (sequence-place rest style behind after first_and gone (cell_size behind) (cell_size behind == 0) refl) ∙ ap (λ m. from_text (from_place m (pieces rest))) same-size ∙ same.there;
+    known = sym (sequence-style rest style behind after first_and gone (cell_size behind)) ∙ ap (λ m. style_after_all style (through_place m (pieces rest))) same-size ∙ same.known;
   }
 
 -- ---- the end

@@ -10,15 +10,18 @@ use Rattle.ansi_scan.specs.Pieces.{pieces}
 use Rattle.ansi_scan.specs.StartsAndEnds.{start_bytes, start_sequences, end_bytes, end_sequences}
 use Rattle.ansi_scan.proofs.Effects.{start_from_plain, end_from_itself, start_bytes-sequences, end_bytes-sequences}
 use Rattle.ansi_scan.proofs.Existence.{ArePiecesOf-pieces}
+use Rattle.ansi_scan.proofs.Comparing.{not_zero}
 use Rattle.ansi_str_text.specs.StyledText.{text_of, strip, style_after, style_after_all}
+use Rattle.ansi_str_text.proofs.LastLemmas.{strip-append}
+use Rattle.ansi_str_text.proofs.Seams.{joined-append}
 use Rattle.ansi_str_search.specs.Parts.{piece_from, front_of, from_place, before_place, through_place, split_part, dressed}
-use Rattle.ansi_str_search.proofs.PartLemmas.{text_of-text, not_zero}
+use Rattle.ansi_str_search.proofs.PartLemmas.{text_of-text}
 use Rattle.ansi_str_search.proofs.PlainParts.{start_bytes-plain, end_bytes-plain}
 use Rattle.ansi_str_search.proofs.PlaceLemmas.{none, inside, past, reach, has_text, from-none, before-none, from-inside, from-past, before-inside, before-past, through-inside, through-past, strip-from}
 use Rattle.ansi_str_search.proofs.PlaceSums.{from-from, style-before_sum, through-all, style-through_split}
 use Rattle.ansi_str_search.proofs.StyleLemmas.{split_part-slice}
-use Rattle.ansi_str_search.proofs.SliceLemmas.{strip-through, strip-append, strip-renditions}
-use Rattle.ansi_str_search.proofs.DressedLemmas.{short, long, cut, renditions, joined-renditions, joined-append, style_after_all-renditions, dressed_pieces, pieces_of_part, rendition}
+use Rattle.ansi_str_search.proofs.SliceLemmas.{strip-through, strip-renditions}
+use Rattle.ansi_str_search.proofs.DressedLemmas.{short, long, cut, renditions, joined-renditions, style_after_all-renditions, dressed_pieces, pieces_of_part, rendition}
 
 abbrev sgr : List ℕ → Piece
 sgr bytes = record { kind = Sgr; bytes = bytes }

@@ -1,13 +1,13 @@
 -- What the loops over parts know.
 use Rattle.std.proofs.Common.{◌≡◌, ℕ, suc, ◌+◌, ◌-◌, ◌<◌, ◌≤◌, ◌==◌, Bool, true, false, Option, Some, None, IsSome, List, [], ◌∷◌, ◌++◌, map, flat_map, length, sum, drop, refl, ap, sym, subst, ◌∙◌, arith, length-append, if◌then◌else◌, option_to_list, slice_get}
 use Rattle.std.proofs.Math.Seq.{drop-append_seam}
-use Rattle.std.proofs.lemmas.Bool.Decides.{nat_tests}
 use Rattle.ansi_scan.specs.declared.items.Kind.{Kind}
 use Rattle.ansi_scan.specs.declared.items.Kind.TheVariants.{Text, Sgr, Csi, Osc, Esc, Str, Broken}
 use Rattle.ansi_scan.specs.Sequences.{Piece, Stands, EachStands}
 use Rattle.ansi_scan.specs.Pieces.{pieces}
 use Rattle.ansi_scan.specs.Attributes.{Attributes, plain_attributes}
 use Rattle.ansi_scan.proofs.Existence.{ArePiecesOf-pieces}
+use Rattle.ansi_scan.proofs.Comparing.{not_zero}
 use Rattle.ansi_str.specs.StyledText.{style_after}
 use Rattle.ansi_str.specs.Blocks.{Block, block_if, blocks_from, text_of_block}
 use Rattle.ansi_str_text.proofs.Shown.{text_of_block-blocks_from}
@@ -35,9 +35,6 @@ first_block_text style [] first rest each e = absurd (cc e)
 first_block_text style (p ∷ ps) first rest each e =
     block_text style p.kind p.bytes ps (blocks_from (style_after style p) ps) first rest each.0 e (λ later. first_block_text (style_after style p) ps first rest each.1 later)
 
-some_is_not_zero : (n : ℕ) → 0 < n → (n == 0) ≡ false
-some_is_not_zero n h = grind (arith, nat_tests)
-
 pub bare-none : (text : List ℕ) → blocks_from plain_attributes (pieces text) ≡ [] → (length (stripped text) == 0) ≡ true
 bare-none text none = ap (λ shown. length shown == 0) (sym (text_of_block-blocks_from plain_attributes (pieces text)) ∙ ap (flat_map text_of_block) none)
 
@@ -45,7 +42,7 @@ pub bare-some : (text : List ℕ) (first : Block) (rest : List Block) → blocks
 bare-some text first rest some =
     let there = first_block_text plain_attributes (pieces text) first rest (ArePiecesOf-pieces text).stand some in
     let shown : stripped text ≡ first.text ++ flat_map text_of_block rest = sym (text_of_block-blocks_from plain_attributes (pieces text)) ∙ ap (flat_map text_of_block) some in
-    some_is_not_zero (length (stripped text)) (omega (arith, ap length shown, length-append first.text (flat_map text_of_block rest), there))
+    not_zero (length (stripped text)) (omega (arith, ap length shown, length-append first.text (flat_map text_of_block rest), there))
 
 -- ---- the last part
 

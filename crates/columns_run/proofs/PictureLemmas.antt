@@ -25,7 +25,7 @@ use Rattle.columns_run.proofs.CellLemmas.{closed_cells, rows_of-characters, styl
 use Rattle.columns_run.proofs.ItemLemmas.{map-same}
 use Rattle.columns_run.proofs.PlaceLemmas.{IsWhole-without_escape, cell_parts-plain, plain_cells}
 use Rattle.columns_run.proofs.PlainLemmas.{bare}
-use Rattle.columns_run.proofs.ShowLemmas.{IsUtf8-strip, TextsAreUtf8-pieces, chars-strip_from}
+use Rattle.ansi_str_text.proofs.Utf8Pieces.{IsUtf8-stripped, styled-characters}
 use Rattle.columns_run.proofs.SplitLemmas.{IsClosedPart, IsWholeText, styled_characters}
 use Rattle.columns_run.proofs.TextLemmas.{AreScalars, AreScalars-cells, AreScalars-slice_split, AreScalars-without_empty_last, rows_of-encodes}
 
@@ -140,10 +140,9 @@ module _ (text : List ℕ) (utf8 : IsUtf8 text) (none : has_escape text ≡ fals
 pub strip-output : (options : Options) (text : List ℕ) (ps qs : List Piece) → IsPlain (compact_of options.style) → IsUtf8 text → ArePiecesOf text ps → NoneBroken ps → ArePiecesOf (output_of options text) qs → strip qs ≡ output_of options (strip ps)
 strip-output options text ps qs plain utf8 of_text whole of_output =
     let shows = output-shows_table options text plain utf8 (record { pieces = ps; of_text = of_text; none_broken = whole }) in
-    let texts = TextsAreUtf8-pieces text ps of_text utf8 in
-    let shown = TextsAreUtf8-pieces (output_of options text) qs of_output shows.text in
+    let out = output_of options text in
     let characters : chars (strip qs) ≡ table_characters options (chars (strip ps)) =
-    sym (chars-strip_from plain_attributes qs shown) ∙ ap characters_of (shows.picture ps qs of_text of_output)
-    ∙ picture-alone options (styled ps) ∙ ap (table_characters options) (chars-strip_from plain_attributes ps texts) in
-    sym (encodes-chars (strip qs) (IsUtf8-strip qs shown)) ∙ ap encode_utf8_all characters
-    ∙ sym (output-plain (strip ps) (IsUtf8-strip ps texts) (has_escape-strip text ps of_text) options plain)
+    sym (styled-characters out qs shows.text of_output) ∙ ap characters_of (shows.picture ps qs of_text of_output)
+    ∙ picture-alone options (styled ps) ∙ ap (table_characters options) (styled-characters text ps utf8 of_text) in
+    sym (encodes-chars (strip qs) (IsUtf8-stripped out qs shows.text of_output)) ∙ ap encode_utf8_all characters
+    ∙ sym (output-plain (strip ps) (IsUtf8-stripped text ps utf8 of_text) (has_escape-strip text ps of_text) options plain)

@@ -16,7 +16,7 @@ use Rattle.ansi_str.specs.StyledText.{has_escape, strip}
 use Rattle.ansi_str.specs.Parts.{split_part}
 use Rattle.ansi_str.specs.Matches.{Occurs, AreMatches, AreMatchesFrom, bounds_between, split_bounds, text_parts, styled_parts}
 use Rattle.columns_run.specs.Rows.{line_feed, tab, stripped, places_from, places, parts_at, without_empty_last, without_bare_last, row_parts, cell_parts, row_texts, rows_of}
-use Rattle.columns_run.proofs.RowLemmas.{slice_split-parts}
+use Rattle.columns_run.proofs.RowLemmas.{onto_front, slice_split-parts}
 use Rattle.columns_run.proofs.PassLemmas.{cell-empty, cell-more}
 use Rattle.columns_run.proofs.ItemLemmas.{AllByRecursion-map_of, map-same}
 
@@ -95,10 +95,6 @@ module _ (c : ℕ) (text : List ℕ) (ascii : c < 128) where
   AreMatches-places = matches-from text 0 0 refl (omega arith) (λ other late early found. omega arith)
 
 -- ---- a text without sequences
-
-abbrev onto_front : List ℕ → List (List ℕ) → List (List ℕ)
-onto_front xs [] = xs ∷ []
-onto_front xs (part ∷ parts) = (xs ++ part) ∷ parts
 
 onto_front-none : (c : ℕ) (bytes : List ℕ) → onto_front [] (slice_split (λ b. b == c) bytes) ≡ slice_split (λ b. b == c) bytes
 onto_front-none c bytes = let found = slice_split-parts (λ b. b == c) bytes in ap (onto_front []) found.2 ∙ sym found.2

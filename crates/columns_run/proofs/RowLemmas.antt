@@ -1,8 +1,8 @@
 -- The rows and cells that one pass over the bytes of a text finds are those of the definition.
 use Rattle.std.proofs.Common.{◌≡◌, ℕ, ◌+◌, ◌<◌, ◌≤◌, ◌==◌, Bool, true, false, cond, List, [], ◌∷◌, ◌++◌, map, length, sum, drop, refl, ap, sym, ◌∙◌, arith, append-nil, append_assoc, length-append, length-drop, if◌then◌else◌, ne_eqb}
-use Rattle.std.proofs.lemmas.Bool.Decides.{nat_tests}
 use Rattle.std.proofs.lemmas.List.{drop-append-le, drop_all}
 use Rattle.std.specs.List.{slice_split, onto_first}
+use Rattle.ansi_scan.proofs.Comparing.{not_zero}
 use Rattle.columns_run.specs.Rows.{line_feed, tab, without_empty_last, rows_of}
 use Rattle.columns_table.specs.Rows.{cut}
 use Rattle.columns_table.proofs.CutLemmas.{cut-append, cut-more, sum-more}
@@ -30,8 +30,8 @@ abbrev pub rows_from : {Y : Type 0} → (List ℕ → Y) → List Y → List ℕ
 rows_from f front cell [] = if length front + length cell == 0 then [] else (front ++ f cell ∷ []) ∷ []
 rows_from f front cell (b ∷ bs) = cond (b == line_feed) ((front ++ f cell ∷ []) ∷ rows_from f [] [] bs) (cond (b == tab) (rows_from f (front ++ f cell ∷ []) [] bs) (rows_from f front (cell ++ b ∷ []) bs))
 
--- the bytes before the first part
-abbrev onto_front : List ℕ → List (List ℕ) → List (List ℕ)
+-- the elements put before the first part
+abbrev pub onto_front : {X : Type 0} → List X → List (List X) → List (List X)
 onto_front xs [] = xs ∷ []
 onto_front xs (part ∷ parts) = (xs ++ part) ∷ parts
 
@@ -44,9 +44,6 @@ abbrev rows_of_lines : {Y : Type 0} → (List ℕ → Y) → List Y → List ℕ
 rows_of_lines f front cell [] = []
 rows_of_lines f front cell (line ∷ []) = if length front + length cell + length line == 0 then [] else row f front cell line ∷ []
 rows_of_lines f front cell (line ∷ next ∷ lines) = row f front cell line ∷ rows_of_lines f [] [] (next ∷ lines)
-
-not_zero : (n : ℕ) → 0 < n → (n == 0) ≡ false
-not_zero n h = grind (arith, nat_tests)
 
 row-nil : {Y : Type 0} (f : List ℕ → Y) (front : List Y) (cell : List ℕ) → row f front cell [] ≡ front ++ f cell ∷ []
 row-nil f front cell = ap (λ xs. front ++ f xs ∷ []) (append-nil cell)

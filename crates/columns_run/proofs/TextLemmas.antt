@@ -8,12 +8,7 @@ use Rattle.std.proofs.lemmas.Str.{inside_one, encode_ascii, length-encode, len_u
 use Rattle.std.proofs.lemmas.List.Splits.{slice_split-cons_yes, slice_split-cons_no}
 use Rattle.std.proofs.lemmas.Simd.{map-map}
 use Rattle.columns_run.specs.Rows.{line_feed, tab, without_empty_last, row_texts, rows_of}
-use Rattle.columns_run.proofs.RowLemmas.{slice_split-parts}
-
--- the elements put before the first part
-abbrev onto_front : {X : Type 0} → List X → List (List X) → List (List X)
-onto_front xs [] = xs ∷ []
-onto_front xs (part ∷ parts) = (xs ++ part) ∷ parts
+use Rattle.columns_run.proofs.RowLemmas.{onto_front, slice_split-parts}
 
 split_past : (p : ℕ → Bool) (xs ys : List ℕ) → ((k : ℕ) → k < length xs → p (get_or xs k 0) ≡ false) → slice_split p (xs ++ ys) ≡ onto_front xs (slice_split p ys)
 split_past p [] ys none = let found = slice_split-parts p ys in found.2 ∙ ap (onto_front []) (sym found.2)

@@ -17,7 +17,7 @@ use std::alloc::Global;
 /// The table of a text, each of its lines ended by a line feed; nothing where the text has no rows.
 /// Refused as `Escape` where a sequence in it is broken, as `Range` where its width or height passes
 /// `usize::MAX`, as `LineTooWide` where a line of a cell takes more columns than its column has, and as
-/// `Memory` where allocation fails. A text without ESC is read once and not copied.
+/// `Memory` where allocation fails. A text without ESC is not copied.
 pub fn text_table(alloc: Global, options: &Options, text: &str) -> Result<String, RunFault>
     ensures answers { MayAnswer options.now text.now result }
     ensures table { IfOk result (λ table. string_bytes table ≡ output_of options.now text.now) }

@@ -16,7 +16,8 @@ use std::alloc::{AllocError, Global};
 const ESC: u8 = 0x1b;
 
 /// The rows of a text without ESC, each cell measured once, and none of a text that has one. They borrow the
-/// text, which is read once, and it fails only where allocation fails.
+/// text, which is passed over once, with a second look at each cell that has other bytes than printable ASCII.
+/// Fails only where allocation fails.
 pub fn rows_of<'a>(alloc: Global, text: &'a str) -> Result<Option<Rows<'a>>, AllocError>
     ensures plain { IfOk result (λ found. IsSome found ↔ (has_escape text.now ≡ false)) }
     ensures rows { IfOk result (λ found. IfSome found (λ rows. rows_shown rows ≡ map (map byte_line) (rows_of (λ b. b) text.now))) }

@@ -13,8 +13,8 @@ pub struct CellEnd {
 }
 
 /// Where cells end that stand one behind the other in a text, parted by one byte each. In a contract it is
-/// the list of their ends. A cell takes 8 bytes as long as each takes as many columns as it has bytes, and
-/// 16 from the first other cell on.
+/// the list of their ends. A cell takes 8 bytes as long as each takes as many columns as it has bytes; from
+/// the first other cell on all take 16, those before it too.
 #[derive(Drop)]
 pub struct CellEnds {
     // Where each cell begins, the first at the start of the text, and where one more would.

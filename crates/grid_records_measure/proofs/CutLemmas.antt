@@ -2,7 +2,7 @@
 use Rattle.std.proofs.Common.{◌≡◌, ◌≤◌, ◌<◌, ◌==◌, ℕ, ◌+◌, ◌-◌, ◌&&◌, ◌||◌, not, nat_lt, Bool, true, false, cond, Some, None, List, [], ◌∷◌, ◌++◌, length, take, drop, replicate, chars, encode_utf8_all, refl, ap, sym, subst, ◌∙◌, arith, append-nil, length-append}
 use Rattle.std.specs.List.{list_all}
 use Rattle.std.specs.Str.{IsUtf8, IsCharBoundary}
-use Rattle.std.proofs.Math.Utf8.{scalars, scalar, encode, encodes}
+use Rattle.std.proofs.Math.Utf8.{scalars, scalar, encode}
 use Rattle.std.proofs.Math.Seq.{drop-append_seam}
 use Rattle.std.proofs.lemmas.Bool.{and_parts}
 use Rattle.std.proofs.lemmas.Bool.Decides.{nat_tests}
@@ -23,7 +23,7 @@ use Rattle.ansi_str_search.proofs.PlainParts.{plain_part}
 use Rattle.ansi_str.proofs.CutParts.{first_part-slice}
 use Rattle.ansi_str_text.proofs.Utf8Pieces.{IsUtf8-shown_text}
 use Rattle.grid_records_measure.specs.Cutting.{IsLongestFront, IsCutAt, IsPlainCut, cut_bytes, lacking, replacement}
-use Rattle.grid_records_measure.specs.CutTexts.{cut_text}
+use Rattle.grid_records_measure.specs.CutTexts.{cut_at}
 use Rattle.grid_records_measure.specs.Filling.{has_room, used_behind, columns_with, front, front_columns, behind_front}
 use Rattle.grid_records_measure.proofs.FillingLemmas.{front-parted, lacking-left, goes-on, stops, IsLongestFront-front, IsLongestFront-unique}
 
@@ -298,14 +298,26 @@ left-unique width cs kept left others more one two =
     sym (drop-append_seam kept left) ∙ ap (drop (length kept)) (sym one.parted ∙ two.parted)
     ∙ ap (λ (front : List ℕ). drop (length front) (others ++ more)) same ∙ drop-append_seam others more
 
--- a text has one cut at a width
-pub cut_text-one : (width : ℕ) (text bytes : List ℕ) → IsCutAt width (pieces text) bytes → bytes ≡ cut_text width text
-cut_text-one width text bytes cut =
-    let characters = chars (strip (pieces text)) in
-    let longest = IsLongestFront-front width characters in
-    let kept = IsLongestFront-unique width characters cut.0 cut.1 (front width 0 characters) (behind_front width 0 characters) cut.2 longest in
-    let left = left-unique width characters cut.0 cut.1 (front width 0 characters) (behind_front width 0 characters) cut.2 longest in
-    cut.3 ∙ ap (λ v. cut_bytes width (pieces text) v cut.1) kept ∙ ap (λ v. cut_bytes width (pieces text) (front width 0 characters) v) left
+-- a text has one cut at a width, which is the function's
+cut-meets : (width : ℕ) (text : List ℕ) → IsCutAt width (pieces text) (cut_at width text)
+unfolding cut_at
+cut-meets width text =
+    let cs = chars (strip (pieces text)) in
+    (front width 0 cs, behind_front width 0 cs, IsLongestFront-front width cs, refl)
+
+cut-one : (width : ℕ) (ps : List Piece) (bytes others : List ℕ) → IsCutAt width ps bytes → IsCutAt width ps others → bytes ≡ others
+cut-one width ps bytes others a b =
+    let cs = chars (strip ps) in
+    let same = IsLongestFront-unique width cs a.0 a.1 b.0 b.1 a.2 b.2 in
+    let left = left-unique width cs a.0 a.1 b.0 b.1 a.2 b.2 in
+    a.3 ∙ ap (λ (kept : List ℕ). cut_bytes width ps kept a.1) same ∙ ap (λ (rest : List ℕ). cut_bytes width ps b.0 rest) left ∙ sym b.3
+
+pub cut_at-meets : (width : ℕ) (text : List ℕ) (ps : List Piece) → ArePiecesOf text ps → IsCutAt width ps (cut_at width text)
+cut_at-meets width text ps of_text =
+    subst (λ (qs : List Piece). IsCutAt width qs (cut_at width text)) (ArePiecesOf-unique text (pieces text) ps (ArePiecesOf-pieces text) of_text) (cut-meets width text)
+
+pub cut_at-one : (width : ℕ) (text bytes : List ℕ) (ps : List Piece) → ArePiecesOf text ps → IsCutAt width ps bytes → bytes ≡ cut_at width text
+cut_at-one width text bytes ps of_text is = cut-one width ps bytes (cut_at width text) is (cut_at-meets width text ps of_text)
 
 pub lacking-plain : (width : ℕ) (text : List ℕ) → IsPlainCut width text → shown_lacking width text ≡ 0
 lacking-plain width text cut =

@@ -1,5 +1,5 @@
 -- The first line of a text, and what stands behind it.
-use Rattle.std.proofs.Common.{◌≡◌, ◌≤◌, ◌<◌, ◌==◌, ℕ, suc, ◌+◌, ◌-◌, Bool, true, false, cond, Option, Some, None, unwrap_or, List, [], ◌∷◌, ◌++◌, length, slice_index, take, drop, refl, ap, sym, subst, ◌∙◌, arith, append-nil, append_assoc, length-take, if◌then◌else◌}
+use Rattle.std.proofs.Common.{◌≡◌, ◌<◌, ◌==◌, ℕ, suc, ◌+◌, ◌-◌, Bool, true, false, cond, Option, Some, None, unwrap_or, List, [], ◌∷◌, ◌++◌, length, slice_index, take, drop, refl, ap, sym, subst, ◌∙◌, arith, append-nil, append_assoc, if◌then◌else◌}
 use Rattle.std.specs.List.{slice_split, onto_first}
 use Rattle.std.specs.Option.{option_map}
 use Rattle.std.proofs.Math.Seq.{take-length}
@@ -7,9 +7,8 @@ use Rattle.std.proofs.lemmas.Bool.Decides.{nat_tests}
 use Rattle.std.proofs.lemmas.List.{nil_from_length, take-append-drop}
 use Rattle.ansi_scan.specs.declared.items.Kind.{Kind}
 use Rattle.ansi_scan.specs.declared.items.Kind.TheVariants.{Text, Sgr, Csi, Osc, Esc, Str, Broken}
-use Rattle.ansi_scan.specs.Sequences.{Piece, EachStands, NoTextFirst, Stands, escape, is_plain, joined}
+use Rattle.ansi_scan.specs.Sequences.{Piece, EachStands, NoTextFirst, Stands, escape, joined}
 use Rattle.ansi_scan.specs.Pieces.{pieces}
-use Rattle.ansi_scan.specs.Joining.{is_text_kind}
 use Rattle.ansi_scan.specs.Attributes.{plain_attributes}
 use Rattle.ansi_scan.proofs.Existence.{ArePiecesOf-pieces}
 use Rattle.ansi_scan.proofs.Uniqueness.{pieces-joined}
@@ -17,9 +16,8 @@ use Rattle.ansi_str.specs.StyledText.{strip, text_of}
 use Rattle.ansi_str.specs.Parts.{through_place}
 use Rattle.ansi_str.specs.PartsLeft.{first_match, matches_first}
 use Rattle.ansi_str.specs.Walking.{bytes_to}
-use Rattle.ansi_str_search.proofs.PartLemmas.{text_of-text, text_of-sequence}
-use Rattle.ansi_str_search.proofs.PlaceLemmas.{has_text, strip-from, through-inside, through-past}
-use Rattle.ansi_str_search.proofs.DressedLemmas.{list_all-take, other_kind, short, long, cut}
+use Rattle.ansi_str_search.proofs.PlaceLemmas.{strip-from, through-inside, through-past}
+use Rattle.ansi_str_search.proofs.DressedLemmas.{NoTextFirst-through, EachStands-front, short, long, cut}
 use Rattle.ansi_str_search.proofs.SliceLemmas.{strip-through}
 use Rattle.ansi_str_search.proofs.ByteParts.{byte-slice, byte-there}
 use Rattle.ansi_str.proofs.CutSteps.{slice-bytes}
@@ -27,13 +25,6 @@ use Rattle.grid_records_measure.specs.TextLines.{line_feed, is_line_feed, shown_
 use Rattle.grid_records_measure.specs.RawLines.{IsFromLineFeed}
 
 -- ---- a front of the pieces of a text are pieces too, also of a text that is not whole
-
-NoTextFirst-through : (n : ℕ) (ps : List Piece) → NoTextFirst ps → NoTextFirst (through_place n ps)
-NoTextFirst-through n [] first = tt
-NoTextFirst-through n (p ∷ ps) first =
-    let empty : length (text_of p) ≡ 0 = ap length (text_of-sequence p (other_kind p.kind first)) in
-    let over : length (text_of p) ≤ n = omega (arith, empty) in
-    subst NoTextFirst (sym (through-past n p ps over)) first
 
 -- the bytes of a front are a front of the bytes
 record IsFrontOf (front all : List ℕ) : Type 0 where
@@ -77,25 +68,6 @@ Stands-shorter Broken bytes ps qs stands turn front = record {
       stands.no_form kind form (after ++ front.more) has
       (ap (λ bs. escape ∷ bs) front.parted ∙ ap (λ bs. bs ++ front.more) e ∙ append_assoc form after front.more);
 }
-
-Stands-take : (kind : Kind) (bytes : List ℕ) (after : List Piece) (n : ℕ) → is_text_kind kind ≡ true → 0 < n → n < length bytes → Stands kind bytes after → Stands kind (take n bytes) []
-Stands-take Text bytes after n e some h stands = record { some = omega (arith, some, h, length-take n bytes); plain = list_all-take is_plain n bytes stands.plain; ends = tt }
-Stands-take Sgr bytes after n e some h stands = cc e
-Stands-take Csi bytes after n e some h stands = cc e
-Stands-take Osc bytes after n e some h stands = cc e
-Stands-take Esc bytes after n e some h stands = cc e
-Stands-take Str bytes after n e some h stands = cc e
-Stands-take Broken bytes after n e some h stands = cc e
-
-EachStands-front : (n : ℕ) (p : Piece) (after : List Piece) (is_zero : Bool) → (n == 0) ≡ is_zero → n < length (text_of p) → Stands p.kind p.bytes after
-    → EachStands (cond is_zero [] (record { kind = p.kind; bytes = take n p.bytes } ∷ []))
-EachStands-front n p after true e h stands = tt
-EachStands-front n p after false e h stands =
-    let text = has_text p n h in
-    let size : length (text_of p) ≡ length p.bytes = ap length (text_of-text p text) in
-    let some : 0 < n = grind (arith, nat_tests) in
-    let shorter : n < length p.bytes = omega (arith, size, h) in
-    (Stands-take p.kind p.bytes after n text some shorter stands, tt)
 
 EachStands-through : (n : ℕ) (ps : List Piece) → EachStands ps → EachStands (through_place n ps)
 EachStands-through n [] each = tt

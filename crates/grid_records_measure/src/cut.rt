@@ -5,7 +5,7 @@ ghost use Rattle.ansi_scan.specs.Sequences.{Piece, ArePiecesOf};
 ghost use Rattle.ansi_scan.specs.Pieces.{pieces as pieces_of};
 ghost use Rattle.ansi_str.specs.StyledText.{strip};
 ghost use Rattle.grid_records_measure.specs.Cutting.{IsCutAt, IsPlainCut, lacking, replacement};
-ghost use Rattle.grid_records_measure.specs.CutTexts.{cut_text};
+ghost use Rattle.grid_records_measure.specs.CutTexts.{cut_at};
 ghost use Rattle.grid_records_measure.specs.Filling.{behind_front, columns_with, front, front_columns};
 
 use crate::characters::cost;
@@ -22,7 +22,7 @@ pub fn cut_width<'a>(alloc: Global, text: &'a str, width: usize) -> Result<CowSt
     ensures cut { IfOk result (λ out. (pieces : List Piece) → ArePiecesOf text.now pieces → IsCutAt width pieces (cow_str_bytes out)) }
     ensures answers { IsPlainCut width text.now → IsOk result }
     ensures borrows { IfOk result (λ out. IsPlainCut width text.now → ¬ (IsOwnedStr out)) }
-    ensures text { IfOk result (λ out. cow_str_bytes out ≡ cut_text width text.now) }
+    ensures text { IfOk result (λ out. cow_str_bytes out ≡ cut_at width text.now) }
 {
     let (place, lacking) = place_and_lacking(text, width);
     if lacking == 0 && !text.ansi_has_any() {

@@ -1,16 +1,15 @@
 -- The totals of a table that is sized by numbers.
-use Rattle.std.proofs.Common.{◌≡◌, ◌↔◌, ◌==◌, ◌||◌, ℕ, ◌+◌, ◌^◌, ◌<◌, Bool, true, false, List, [], ◌∷◌, Option, None, Some, SomeIff, is_some, if◌then◌else◌, length, map, refl, ap, sym, subst, ◌∙◌, arith}
+use Rattle.std.proofs.Common.{◌≡◌, ◌↔◌, ◌==◌, ◌||◌, ℕ, ◌+◌, ◌^◌, ◌<◌, Bool, true, false, List, Option, None, Some, SomeIff, is_some, if◌then◌else◌, map, refl, ap, sym, subst, ◌∙◌, arith}
 use Rattle.std.specs.List.{find, range_with_len}
 use Rattle.std.proofs.lemmas.Bool.{true≢false}
-use Rattle.std.proofs.lemmas.Bool.Decides.{nat_tests}
 use Rattle.std.proofs.lemmas.List.FromFn.{length-map-range_with_len}
+use Rattle.ansi_scan.proofs.Comparing.{not_zero}
 use Rattle.grid_config_values.specs.Entities.{table_positions}
 use Rattle.grid_config_values.specs.Glyphs.{boundary_kind, has_column_boundary, has_row_boundary}
 use Rattle.grid_config_values.specs.declared.position.Position.{Position}
-use Rattle.grid_config_spans.specs.Spans.{AreGood}
 use Rattle.grid_config.specs.Settings.{Settings}
 use Rattle.papergrid_picture.specs.Fitting.{InRange, first_too_wide, is_too_wide, table_width}
-use Rattle.papergrid_picture.specs.Frame.{Frame, column_count, line_count, row_count, total_width, track_at}
+use Rattle.papergrid_picture.specs.Frame.{column_count, line_count, row_count, total_width, track_at}
 use Rattle.papergrid_fits.specs.Tables.{column_tracks, row_tracks, sized}
 
 not_both : {A : Type 0} (b : Bool) → b ≡ true → b ≡ false → A
@@ -31,21 +30,21 @@ module _ (settings : Settings) (width height : ℕ → ℕ) (columns rows : ℕ)
   rows-are : row_count (sized settings width height columns rows) ≡ rows
   rows-are = length-map-range_with_len height 0 rows
 
-  not_zero : (n m : ℕ) → 0 < m → n ≡ m → (n == 0) ≡ false
-  not_zero n m h e = grind (arith, nat_tests, e)
+  none_not : (n m : ℕ) → 0 < m → n ≡ m → (n == 0) ≡ false
+  none_not n m some same = not_zero n (omega (arith, some, same))
 
   pub table_width-is : 0 < rows → 0 < columns → table_width (sized settings width height columns rows) ≡ track_at (column_tracks settings width columns) columns + settings.margin.right.size
   table_width-is some_rows some_columns =
       let whole : ℕ = total_width (sized settings width height columns rows) in
-      ap (λ b. if b || (column_count (sized settings width height columns rows) == 0) then 0 else whole) (not_zero (row_count (sized settings width height columns rows)) rows some_rows rows-are)
-      ∙ ap (λ b. if b then 0 else whole) (not_zero (column_count (sized settings width height columns rows)) columns some_columns columns-are)
+      ap (λ b. if b || (column_count (sized settings width height columns rows) == 0) then 0 else whole) (none_not (row_count (sized settings width height columns rows)) rows some_rows rows-are)
+      ∙ ap (λ b. if b then 0 else whole) (none_not (column_count (sized settings width height columns rows)) columns some_columns columns-are)
       ∙ ap (λ n. track_at (record { margin = settings.margin.left.size; sizes = map width (range_with_len 0 columns); has_boundary = λ j. has_column_boundary settings.borders (boundary_kind j n) }) n + settings.margin.right.size) columns-are
 
   pub line_count-is : 0 < rows → 0 < columns → line_count (sized settings width height columns rows) ≡ track_at (row_tracks settings height rows) rows + settings.margin.bottom.size
   line_count-is some_rows some_columns =
       let whole : ℕ = track_at (sized settings width height columns rows).rows (row_count (sized settings width height columns rows)) + settings.margin.bottom.size in
-      ap (λ b. if b then 0 else if column_count (sized settings width height columns rows) == 0 then 0 else whole) (not_zero (row_count (sized settings width height columns rows)) rows some_rows rows-are)
-      ∙ ap (λ b. if b then 0 else whole) (not_zero (column_count (sized settings width height columns rows)) columns some_columns columns-are)
+      ap (λ b. if b then 0 else if column_count (sized settings width height columns rows) == 0 then 0 else whole) (none_not (row_count (sized settings width height columns rows)) rows some_rows rows-are)
+      ∙ ap (λ b. if b then 0 else whole) (none_not (column_count (sized settings width height columns rows)) columns some_columns columns-are)
       ∙ ap (λ n. track_at (record { margin = settings.margin.top.size; sizes = map height (range_with_len 0 rows); has_boundary = λ i. has_row_boundary settings.borders (boundary_kind i n) }) n + settings.margin.bottom.size) rows-are
 
   abbrev pub all_columns : ℕ

@@ -3,9 +3,9 @@ use Rattle.std.proofs.Common.{◌≡◌, ◌==◌, ◌||◌, ◌+◌, ◌<◌, �
 use Rattle.std.proofs.lemmas.Bool.{cases_lt}
 use Rattle.std.proofs.lemmas.Bool.Decides.{nat_tests}
 use Rattle.std.proofs.lemmas.List.FromFn.{length-map-range_with_len}
+use Rattle.ansi_scan.proofs.Comparing.{not_zero}
 use Rattle.grid_config_colors.specs.Colors.{Color}
 use Rattle.grid_config_values.specs.declared.fault.Fault.{Fault}
-use Rattle.grid_config_values.specs.declared.fault.Fault.TheVariants.{Memory, Range}
 use Rattle.grid_config_values.specs.declared.position.Position.{Position}
 use Rattle.grid_config.specs.Looks.{look_of}
 use Rattle.grid_config.specs.Settings.{Settings}
@@ -18,7 +18,6 @@ use Rattle.papergrid_picture.specs.Frame.{column_count as columns_of_frame, row_
 use Rattle.tabled_size_dimension.specs.Sizes.{size_at}
 use Rattle.tabled_size_dimension.specs.Stored.{FilledPass, Stored, filled, stored_sizes}
 use Rattle.tabled_steps.proofs.Estimating.{heights_by_look, widths_by_look}
-use Rattle.tabled_steps.specs.Sizes.{natural_heights, natural_widths}
 use Rattle.tabled_steps.specs.States.{State, column_count, state_with}
 use Rattle.tabled.specs.Printing.{drawn_frame, drawn_sizes}
 use Rattle.tabled.specs.Totals.{drawn_height, drawn_width}
@@ -51,9 +50,6 @@ some_cells rows columns both =
     let rows_not : (rows == 0) ≡ false = (neither (rows == 0) (columns == 0) both).0 in
     let columns_not : (columns == 0) ≡ false = (neither (rows == 0) (columns == 0) both).1 in
     (grind (arith, nat_tests, rows_not), grind (arith, nat_tests, columns_not))
-
-not_zero : (n : ℕ) → 0 < n → (n == 0) ≡ false
-not_zero n some = grind (arith, nat_tests, some)
 
 module _ (settings : Settings) (rows : List (List (List ℕ))) (colors : Position → Option Color) (stored : Stored) where
   abbrev state : State

@@ -1,17 +1,11 @@
 -- What may be refused or worked out, by what it follows from.
-use Rattle.std.proofs.Common.{◌≡◌, ◌^◌, ◌<◌, ◌≤◌, ℕ, false, true, Result, Ok, Err, arith, nat_lt, refl, subst, sym}
+use Rattle.std.proofs.Common.{◌≡◌, ◌^◌, ◌<◌, ◌≤◌, ℕ, false, true, Result, Ok, Err, arith, refl, subst, sym}
 use Rattle.std.proofs.lemmas.Bool.Decides.{nat_tests}
 use Rattle.grid_config_values.specs.declared.fault.Fault.{Fault}
 use Rattle.grid_config_values.specs.declared.fault.Fault.TheVariants.{Memory, Range, Spans, Room}
 use Rattle.tabled_steps.specs.Outcomes.{Gives, MayRefuse, passes, sized}
 use Rattle.tabled_steps.specs.States.{Outcome, State, column_count}
 use Rattle.tabled_height.specs.Steps.{Measured, Measuring}
-
-pub not_less : (a b : ℕ) → b ≤ a → nat_lt a b ≡ false
-not_less a b low = grind (arith, nat_tests)
-
-pub less : (a b : ℕ) → a < b → nat_lt a b ≡ true
-less a b low = grind (arith, nat_tests)
 
 pub held : (n : ℕ) → n < 2 ^ 64 → passes n ≡ false
 held n low = grind (arith, nat_tests)

@@ -5,27 +5,27 @@ use Rattle.std.proofs.lemmas.List.{length-take-le, take_more}
 use Rattle.std.specs.Cow.{cow_str_bytes}
 use Rattle.std.specs.List.{join_with_byte}
 use Rattle.std.specs.declared.borrow.CowStr.{CowStr}
+use Rattle.ansi_scan.proofs.Comparing.{below, not_below}
 use Rattle.ansi_str_search.specs.Splitting.{GivesPart, PartsLeft}
 use Rattle.grid_config_values.specs.declared.position.Position.{Position}
 use Rattle.grid_records_measure.specs.TextLines.{line_feed, text_height}
 use Rattle.grid_records_traits.proofs.LineAt.{left_at, left_next}
-use Rattle.tabled_height.proofs.Giving.{less, not_less}
 use Rattle.tabled_height.specs.Lines.{first_lines, limited, raised, with_line}
 
 -- ---- texts that stay, and texts that change
 
 module _ (height : ℕ) (place : Position) (text : List ℕ) where
   pub stays_raised : height ≤ text_height text → None ≡ raised height place text
-  stays_raised high = rw (not_less (text_height text) height high) refl
+  stays_raised high = rw (not_below (text_height text) height high) refl
 
   pub is_raised : (bytes : List ℕ) → text_height text < height → bytes ≡ text ++ replicate (height - text_height text) line_feed → Some bytes ≡ raised height place text
-  is_raised bytes low is = rw (less (text_height text) height low) (ap (λ (bytes : List ℕ). Some bytes) is)
+  is_raised bytes low is = rw (below (text_height text) height low) (ap (λ (bytes : List ℕ). Some bytes) is)
 
   pub stays_limited : text_height text ≤ height → None ≡ limited height place text
-  stays_limited low = rw (not_less height (text_height text) low) refl
+  stays_limited low = rw (not_below height (text_height text) low) refl
 
   pub is_limited : (bytes : List ℕ) → height < text_height text → bytes ≡ first_lines height text → Some bytes ≡ limited height place text
-  is_limited bytes high is = rw (less height (text_height text) high) (ap (λ (bytes : List ℕ). Some bytes) is)
+  is_limited bytes high is = rw (below height (text_height text) high) (ap (λ (bytes : List ℕ). Some bytes) is)
 
 -- ---- lines one after the other
 
@@ -50,7 +50,7 @@ next_joined lines zero line rest left =
 next_joined lines (suc k) line rest left =
     let inside : suc k < length lines = some_left lines (suc k) line rest left in
     let this : get_or lines (suc k) line ≡ line = left_at lines (suc k) (suc k) line line rest left (omega arith) (omega arith) in
-    let behind : nat_lt 0 (suc k) ≡ true = less 0 (suc k) (omega arith) in
+    let behind : nat_lt 0 (suc k) ≡ true = below 0 (suc k) (omega arith) in
     let many : 0 < length (take (suc k) lines) = omega (arith, length-take-le (suc k) lines (omega (arith, inside))) in
     rw behind
     (sym (ap (join_with_byte line_feed) (take_more lines (suc k) line inside ∙ ap (λ (line : List ℕ). take (suc k) lines ++ line ∷ []) this)

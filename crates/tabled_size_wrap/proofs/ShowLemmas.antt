@@ -5,27 +5,27 @@ use Rattle.std.specs.List.{AllZip, join_with_byte, list_any, repeat}
 use Rattle.std.specs.Str.{IsUtf8}
 use Rattle.std.proofs.Math.Utf8.{encode}
 use Rattle.std.proofs.lemmas.Bool.{and_parts, or_parts, or_from}
-use Rattle.std.proofs.lemmas.List.{map-append, take-append-drop}
+use Rattle.std.proofs.lemmas.List.{take-append-drop}
 use Rattle.std.proofs.lemmas.List.Elements.{All-from_recursion}
 use Rattle.std.proofs.lemmas.List.Folds.{list_any-append}
-use Rattle.std.proofs.lemmas.Str.{chars-nil, chars-append, chars-IsAscii, IsUtf8-append, IsUtf8-nil}
+use Rattle.std.proofs.lemmas.Str.{chars-IsAscii, IsUtf8-append, IsUtf8-nil}
 use Rattle.std.proofs.lemmas.Str.Ascii.{IsAscii-from_all}
 use Rattle.ansi_scan.specs.declared.items.Kind.TheVariants.{Text}
 use Rattle.ansi_scan.specs.Sequences.{Piece, ArePiecesOf}
 use Rattle.ansi_scan.specs.Joining.{is_text_kind, put_before, put_all_before}
-use Rattle.ansi_scan.specs.Attributes.{Attributes, plain_attributes}
+use Rattle.ansi_scan.specs.Attributes.{plain_attributes}
 use Rattle.ansi_scan.proofs.Joins.{ArePiecesOf-append, NoneBroken-put_all_before}
 use Rattle.ansi_scan.proofs.Uniqueness.{ArePiecesOf-unique}
-use Rattle.ansi_str.specs.StyledText.{IsClosed, strip, style_after, style_after_all, styled, styled_from, text_of}
+use Rattle.ansi_str.specs.StyledText.{IsClosed, strip, style_after_all, styled, styled_from, text_of}
 use Rattle.ansi_str.specs.Lines.{IsClosedLine}
 use Rattle.ansi_str_search.proofs.FindLemmas.{IsUtf8-byte}
 use Rattle.ansi_str_search.proofs.PartLemmas.{text_of-text}
-use Rattle.ansi_str_search.proofs.Utf8Lemmas.{EachUtf8, EachUtf8-pieces, IsUtf8-text_of}
+use Rattle.ansi_str_search.proofs.Utf8Lemmas.{EachUtf8-pieces}
 use Rattle.grid_records_measure.specs.Cutting.{replacement}
 use Rattle.grid_records_measure.specs.TextLines.{line_feed}
 use Rattle.grid_records_measure.proofs.ShownCuts.{styled-put_all_before, style-put_all_before, fill_pieces, ArePiecesOf-fill, NoneBroken-fill, style-fill, styled-fill}
 use Rattle.tabled_size_wrap.specs.Wrapping.{replacement_bytes}
-use Rattle.tabled_size_wrap.specs.Showing.{Styled, plain, characters_of, joined_lines}
+use Rattle.tabled_size_wrap.specs.Showing.{Styled, plain, joined_lines}
 
 -- ---- bytes without a line feed
 
@@ -61,23 +61,6 @@ strip-put_all_before [] qs = refl
 strip-put_all_before (p ∷ ps) qs =
     strip-put_before p (put_all_before ps qs) ∙ ap (λ bytes. text_of p ++ bytes) (strip-put_all_before ps qs)
     ∙ sym (append_assoc (text_of p) (strip ps) (strip qs))
-
--- ---- the characters without their styles
-
-characters-with_style : (style : Attributes) (cs : List ℕ) → characters_of (map (λ c. (c, style)) cs) ≡ cs
-characters-with_style style [] = refl
-characters-with_style style (c ∷ cs) = ap (λ (others : List ℕ). c ∷ others) (characters-with_style style cs)
-
-characters-from : (style : Attributes) (ps : List Piece) → EachUtf8 ps → characters_of (styled_from style ps) ≡ chars (strip ps)
-characters-from style [] each = sym chars-nil
-characters-from style (p ∷ ps) each =
-    map-append (λ (x : Styled). x.0) (map (λ c. (c, style)) (chars (text_of p))) (styled_from (style_after style p) ps)
-    ∙ ap (λ cs. cs ++ characters_of (styled_from (style_after style p) ps)) (characters-with_style style (chars (text_of p)))
-    ∙ ap (λ cs. chars (text_of p) ++ cs) (characters-from (style_after style p) ps each.1)
-    ∙ sym (chars-append (text_of p) (strip ps) (IsUtf8-text_of p each.0))
-
-pub characters-styled : (text : List ℕ) (ps : List Piece) → IsUtf8 text → ArePiecesOf text ps → characters_of (styled ps) ≡ chars (strip ps)
-characters-styled text ps utf8 of_text = characters-from plain_attributes ps (EachUtf8-pieces ps of_text.stand (subst IsUtf8 (sym of_text.joins) utf8))
 
 -- ---- what bytes show
 

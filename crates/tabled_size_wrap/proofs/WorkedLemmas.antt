@@ -22,7 +22,8 @@ use Rattle.tabled_size_wrap.specs.Wrapping.{IsWrapped, line_part, replacement_by
 use Rattle.tabled_size_wrap.specs.Runs.{broken_lines, runs_of}
 use Rattle.tabled_size_wrap.specs.Worked.{WrapsTo, CutsTo}
 use Rattle.tabled_size_wrap.proofs.WrapLemmas.{is-wrapped}
-use Rattle.tabled_size_wrap.proofs.BytesLemmas.{cut_at-one, wrapped_text-one}
+use Rattle.grid_records_measure.proofs.CutLemmas.{cut_at-one}
+use Rattle.tabled_size_wrap.proofs.BytesLemmas.{wrapped_text-one}
 
 -- U+1F633, which takes two columns
 abbrev pub wide : ℕ

@@ -12,6 +12,7 @@ use Rattle.ansi_scan.proofs.Existence.{ArePiecesOf-pieces}
 use Rattle.ansi_scan.proofs.Uniqueness.{ArePiecesOf-unique}
 use Rattle.ansi_str.specs.StyledText.{strip, styled}
 use Rattle.ansi_str.specs.Lines.{IsClosedLine}
+use Rattle.ansi_str_text.proofs.Utf8Pieces.{styled-characters}
 use Rattle.ansi_str_search.proofs.CutLemmas.{shown-parts}
 use Rattle.ansi_str_search.proofs.FindLemmas.{IsUtf8-byte}
 use Rattle.ansi_str_search.proofs.Utf8Lemmas.{All-utf8}
@@ -24,7 +25,7 @@ use Rattle.tabled_size_wrap.specs.Units.{LineUnit, line_units, unit_len}
 use Rattle.tabled_size_wrap.specs.Breaking.{AreRunsOf}
 use Rattle.tabled_size_wrap.specs.Wrapping.{AreBrokenLines, IsWrapped, line_part, replacement_bytes, shown_lines}
 use Rattle.tabled_size_wrap.specs.Showing.{Styled, plain, characters_of, unit_size, ends_line, joined_lines, AddsBreaks, AreShownLines, ShowsWrapped}
-use Rattle.tabled_size_wrap.proofs.ShowLemmas.{feeds, characters-styled, Shows, Shows-pieces, ShowsLine, ShowsLine-closed, joined-shows}
+use Rattle.tabled_size_wrap.proofs.ShowLemmas.{feeds, Shows, Shows-pieces, ShowsLine, ShowsLine-closed, joined-shows}
 use Rattle.tabled_size_wrap.proofs.PartLemmas.{broken-shows}
 use Rattle.tabled_size_wrap.proofs.AddedLemmas.{FitsCharacter, Fits, of-characters, without-breaks-all, all-lines-fit}
 
@@ -67,7 +68,7 @@ module _ (width : ℕ) (keep_words : Bool) where
       let shown = shown_lines unit_size (slice_range (styled (pieces line))) (plain replacement ∷ []) width 0 runs in (
         shown,
         subst (λ ls. AllZip ShowsLine ls shown) (sym broken.2) (broken-shows line (pieces line) utf8 of_line whole one_line width keep_words runs broken.1),
-        (runs, subst (λ cs. AreRunsOf width (line_units width keep_words cs) runs) (sym (characters-styled line (pieces line) utf8 of_line)) broken.1, refl),
+        (runs, subst (λ cs. AreRunsOf width (line_units width keep_words cs) runs) (sym (styled-characters line (pieces line) utf8 of_line)) broken.1, refl),
       )
 
   lines-show : (lines : List (List ℕ)) (broken : List (List (List ℕ))) → AllByRecursion IsUtf8 lines → AllByRecursion IsClosedLine lines → AllZip broken_into lines broken → LinesShow lines broken
@@ -118,7 +119,7 @@ widest-fits width (line ∷ lines) (x ∷ xs) all fit =
     let shows = all.0.shows in
     let of_line = ArePiecesOf-pieces line in
     let same : line_measure (strip (pieces line)) ≡ measure (characters_of x) =
-    ap measure (sym (characters-styled line (pieces line) shows.utf8 of_line) ∙ ap characters_of (Shows-pieces line x (pieces line) shows of_line)) in
+    ap measure (sym (styled-characters line (pieces line) shows.utf8 of_line) ∙ ap characters_of (Shows-pieces line x (pieces line) shows of_line)) in
     let others = widest-fits width lines xs all.1 fit.1 in
     let here = fit.0 in
     omega (arith, same, others, here)
@@ -170,7 +171,7 @@ module _ (keep_words : Bool) (text bytes : List ℕ) (ps : List Piece) (utf8 : I
       narrow-characters : AllByRecursion (FitsCharacter width) (styled ps)
       narrow-characters =
           of-characters (λ c. own_width c ≤ width) (styled ps)
-          (subst (AllByRecursion (λ c. own_width c ≤ width)) (sym (characters-styled text ps utf8 of_text)) (recursion_from_All (λ c. own_width c ≤ width) (chars (strip ps)) narrow))
+          (subst (AllByRecursion (λ c. own_width c ≤ width)) (sym (styled-characters text ps utf8 of_text)) (recursion_from_All (λ c. own_width c ≤ width) (chars (strip ps)) narrow))
 
       pub wrapped-adds : AddsBreaks (styled ps) (styled qs)
       wrapped-adds =
@@ -188,7 +189,7 @@ module _ (keep_words : Bool) (text bytes : List ℕ) (ps : List Piece) (utf8 : I
           let shows = joined-shows is.lines all is.each in
           let whole_there = subst NoneBroken (ArePiecesOf-unique bytes shows.pieces qs (subst (λ bs. ArePiecesOf bs shows.pieces) (sym is.bytes_are) shows.of_bytes) of_bytes) shows.closed.none_broken in
           let plain_characters = of-characters (λ c. (is_plain_character c || is_line_feed c) ≡ true) (styled ps)
-          (subst (AllByRecursion (λ c. (is_plain_character c || is_line_feed c) ≡ true)) (sym (characters-styled text ps utf8 of_text)) (each-passes (λ c. is_plain_character c || is_line_feed c) (chars (strip ps)) plain_all)) in
+          (subst (AllByRecursion (λ c. (is_plain_character c || is_line_feed c) ≡ true)) (sym (styled-characters text ps utf8 of_text)) (each-passes (λ c. is_plain_character c || is_line_feed c) (chars (strip ps)) plain_all)) in
           let fit = all-lines-fit width keep_words (styled ps) is.shown some narrow-characters plain_characters is.are in
           let lines-are : map (λ line. strip (pieces line)) is.lines ≡ slice_split is_line_feed (strip qs) =
           ap (map (λ line. strip (pieces line))) (sym same) ∙ lines-shown bytes qs found.0 of_bytes whole_there found.1 in

@@ -1,7 +1,7 @@
 -- The measure of a text compared with a width.
-use Rattle.std.proofs.Common.{◌≡◌, ℕ, ◌<◌, ◌≤◌, nat_lt, Bool, true, false, None, Some, List, ap, sym, ◌∙◌, arith, if◌then◌else◌}
-use Rattle.std.proofs.lemmas.Bool.Decides.{nat_tests}
+use Rattle.std.proofs.Common.{◌≡◌, ℕ, ◌<◌, ◌≤◌, nat_lt, Bool, None, Some, List, ap, sym, ◌∙◌, if◌then◌else◌}
 use Rattle.ansi_scan.specs.Pieces.{pieces}
+use Rattle.ansi_scan.proofs.Comparing.{below, not_below}
 use Rattle.ansi_scan.proofs.Existence.{ArePiecesOf-pieces}
 use Rattle.grid_records_measure.specs.TextLines.{text_width}
 use Rattle.grid_records_traits.specs.Cells.{HasWidth}
@@ -10,21 +10,15 @@ pub text_width-is : (text : List ℕ) (width : ℕ) → HasWidth text width → 
 unfolding text_width
 text_width-is text width h = h (pieces text) (ArePiecesOf-pieces text)
 
-less : (n m : ℕ) → n < m → nat_lt n m ≡ true
-less n m lt = grind (arith, nat_tests)
-
-not_less : (n m : ℕ) → m ≤ n → nat_lt n m ≡ false
-not_less n m le = grind (arith, nat_tests)
-
 module _ (text : List ℕ) (n m : ℕ) (measured : HasWidth text n) (out : List ℕ) where
   pub narrow_stays : m ≤ n → None ≡ (if nat_lt (text_width text) m then Some out else None)
-  narrow_stays le = sym (ap (λ (b : Bool). if b then Some out else None) (ap (λ k. nat_lt k m) (sym (text_width-is text n measured)) ∙ not_less n m le))
+  narrow_stays le = sym (ap (λ (b : Bool). if b then Some out else None) (ap (λ k. nat_lt k m) (sym (text_width-is text n measured)) ∙ not_below n m le))
 
   pub narrow_changes : n < m → Some out ≡ (if nat_lt (text_width text) m then Some out else None)
-  narrow_changes lt = sym (ap (λ (b : Bool). if b then Some out else None) (ap (λ k. nat_lt k m) (sym (text_width-is text n measured)) ∙ less n m lt))
+  narrow_changes lt = sym (ap (λ (b : Bool). if b then Some out else None) (ap (λ k. nat_lt k m) (sym (text_width-is text n measured)) ∙ below n m lt))
 
   pub wide_stays : n ≤ m → None ≡ (if nat_lt m (text_width text) then Some out else None)
-  wide_stays le = sym (ap (λ (b : Bool). if b then Some out else None) (ap (λ k. nat_lt m k) (sym (text_width-is text n measured)) ∙ not_less m n le))
+  wide_stays le = sym (ap (λ (b : Bool). if b then Some out else None) (ap (λ k. nat_lt m k) (sym (text_width-is text n measured)) ∙ not_below m n le))
 
   pub wide_changes : m < n → Some out ≡ (if nat_lt m (text_width text) then Some out else None)
-  wide_changes lt = sym (ap (λ (b : Bool). if b then Some out else None) (ap (λ k. nat_lt m k) (sym (text_width-is text n measured)) ∙ less m n lt))
+  wide_changes lt = sym (ap (λ (b : Bool). if b then Some out else None) (ap (λ k. nat_lt m k) (sym (text_width-is text n measured)) ∙ below m n lt))

@@ -6,7 +6,7 @@ use Rattle.ansi_scan.specs.Pieces.{pieces}
 use Rattle.ansi_scan.proofs.Existence.{ArePiecesOf-pieces}
 use Rattle.ansi_str.specs.StyledText.{has_escape}
 use Rattle.grid_records_measure.specs.Cutting.{replacement}
-use Rattle.grid_records_measure.proofs.CutLemmas.{cut-bounds, cut-is, cut-without_escape, cut_text-one, lacking-plain, plain-boundary}
+use Rattle.grid_records_measure.proofs.CutLemmas.{cut-bounds, cut-is, cut-without_escape, cut_at-one, lacking-plain, plain-boundary}
 use Rattle.grid_records_measure.proofs.cut.cut_width.Goals.{else-lacking-eq0-via-then-lacking-eq0+else-not-ansi_has_any, else-lacking-eq0-via-else-lacking-eq0}
 use Rattle.grid_records_measure.proofs.cut.cut_width.Goals as goal
 
@@ -31,7 +31,7 @@ returns-then-not-ansi_has_any-clause-cut c = λ ps of_text.
 pub returns-then-not-ansi_has_any-clause-text : goal.returns-then-not-ansi_has_any-clause-text
 returns-then-not-ansi_has_any-clause-text c =
     let text = c.args.text.now in
-    cut_text-one c.args.width text c.range.result.now (returns-then-not-ansi_has_any-clause-cut c (pieces text) (ArePiecesOf-pieces text))
+    cut_at-one c.args.width text c.range.result.now (pieces text) (ArePiecesOf-pieces text) (returns-then-not-ansi_has_any-clause-cut c (pieces text) (ArePiecesOf-pieces text))
 
 pub ansi_cut-requires : goal.ansi_cut-requires
 ansi_cut-requires c = λ ps of_text.
@@ -64,7 +64,7 @@ returns-clause-cut c = λ ps of_text.
 pub returns-clause-text : goal.returns-clause-text
 returns-clause-text c =
     let text = c.args.text.now in
-    cut_text-one c.args.width text (string_bytes c.push_replacements.new.out) (returns-clause-cut c (pieces text) (ArePiecesOf-pieces text))
+    cut_at-one c.args.width text (string_bytes c.push_replacements.new.out) (pieces text) (ArePiecesOf-pieces text) (returns-clause-cut c (pieces text) (ArePiecesOf-pieces text))
 
 pub returns-clause-borrows : goal.returns-clause-borrows
 returns-clause-borrows c = λ cut owned.

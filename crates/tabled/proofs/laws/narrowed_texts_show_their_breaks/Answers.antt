@@ -8,7 +8,8 @@ use Rattle.grid_records_measure.specs.Cutting.{ShowsCut}
 use Rattle.grid_records_measure.specs.TextLines.{text_width}
 use Rattle.grid_records_measure.proofs.ShownCuts.{cut-shows}
 use Rattle.tabled_size_wrap.specs.Bytes.{cut_at, wrapped_text}
-use Rattle.tabled_size_wrap.proofs.BytesLemmas.{cut_at-meets, wrapped_text-meets}
+use Rattle.grid_records_measure.proofs.CutLemmas.{cut_at-meets}
+use Rattle.tabled_size_wrap.proofs.BytesLemmas.{wrapped_text-meets}
 use Rattle.tabled_size_wrap.proofs.WrappedLemmas.{wrapped-shows}
 use Rattle.tabled_width.specs.Rooms.{in_room, room}
 use Rattle.tabled.proofs.ChangedTexts.{text-changed}
