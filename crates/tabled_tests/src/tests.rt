@@ -19,7 +19,9 @@ mod foreign;
 mod in_widths;
 mod refused;
 mod sources;
+mod spanning;
 mod totals;
+mod unprinted;
 mod writing;
 
 use foreign::{Keeping, Refusing};

@@ -32,6 +32,8 @@ fn batches_begin_at_each_multiple(rt: HostRuntime) {
         gives(&rt, batches, wanted, what);
     }
     gives(&rt, LayoutIterator::default(), &[], "the default");
+    let none = LayoutIterator::new(0, 0, 0);
+    expect(&rt, LayoutIterator::default() == none, "the default");
     let table = Table::kv(rt.alloc(), [("a", 1u8), ("b", 2u8)]);
     let table = table.expect(&rt, REFUSED);
     let batches = LayoutIterator::kv_batches::<(&str, u8)>(&table);

@@ -66,7 +66,7 @@ fn cells_are_aligned_and_margins_keep_their_columns(rt: HostRuntime) {
 }
 
 // A table whose last cell reaches out.
-fn reaching_out(alloc: Global) -> Result<Table, Fault> {
+pub(super) fn reaching_out(alloc: Global) -> Result<Table, Fault> {
     let mut table = Table::nohead(alloc, [("a", "b")])?;
     let done = table.set_cells(Cell::new(0, 1), &Span::column(2));
     kept(table, done)

@@ -17,14 +17,14 @@ fn takes(rt: &impl Abort, made: Result<Table, Fault>, wanted: Totals) {
 }
 
 // A table of one cell with this margin.
-fn with_margin(alloc: Global, margin: Margin) -> Result<Table, Fault> {
+pub(super) fn with_margin(alloc: Global, margin: Margin) -> Result<Table, Fault> {
     let mut table = Table::nohead(alloc, ["a"])?;
     let done = table.set(margin);
     kept(table, done)
 }
 
 // A table of one cell with this padding.
-fn with_padding(alloc: Global, padding: Padding) -> Result<Table, Fault> {
+pub(super) fn with_padding(alloc: Global, padding: Padding) -> Result<Table, Fault> {
     let mut table = Table::nohead(alloc, ["a"])?;
     let done = table.set(padding);
     kept(table, done)
