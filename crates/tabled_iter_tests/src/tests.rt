@@ -7,6 +7,8 @@ use tabled_iter::IterTable;
 use tabled_options::{Margin, Padding, Style};
 
 mod edges;
+mod foreign;
+mod long;
 mod refusing;
 mod rows;
 mod writing;

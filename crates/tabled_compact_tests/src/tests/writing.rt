@@ -93,3 +93,33 @@ fn faults_are_told_in_words(rt: HostRuntime) {
     let range = format!(in a; "{}", Fault::Range).expect(&rt, MEMORY);
     tells(&rt, a, BuildFault::Table(Fault::Range), range.as_str());
 }
+
+// That a fault prints this in holes with options too. A `str` in the first one gets spaces up to 40 columns.
+fn tells_as_it_is(rt: &impl Abort, alloc: Global, fault: BuildFault, wanted: &str) {
+    let found = format!(in alloc; "{fault:>40}|{fault:#}|{fault:8}").expect(rt, MEMORY);
+    let same = format!(in alloc; "{wanted}|{wanted}|{wanted}").expect(rt, MEMORY);
+    expect_text(rt, found.as_str(), same.as_str());
+}
+
+// Faults of each kind, and their words.
+const WORDS: &[(BuildFault, &str)] = &[
+    (BuildFault::Table(Fault::Memory), "out of memory"),
+    (BuildFault::Table(Fault::Range), "size out of range"),
+    (BuildFault::Table(Fault::Spans), "bad spans"),
+    (
+        BuildFault::Table(Fault::Room { row: 1, column: 23 }),
+        "row 1 column 23 does not fit",
+    ),
+    (BuildFault::Write, "write failed"),
+    (BuildFault::WriteZero, "writer took nothing"),
+];
+
+// No clause of std says what a hole with options writes that is not a number or a text. A fault of each kind
+// writes its words as they are: neither they nor the numbers among them are filled up to a width.
+#[test]
+fn options_of_a_hole_change_nothing(rt: HostRuntime) {
+    for (fault, wanted) in WORDS {
+        tells(&rt, rt.alloc(), *fault, wanted);
+        tells_as_it_is(&rt, rt.alloc(), *fault, wanted);
+    }
+}
