@@ -10,7 +10,6 @@ use tabled_size_dimension::{ConstDimension, ConstSize};
 mod arrays;
 mod edges;
 mod foreign;
-mod long;
 mod refusing;
 mod writing;
 

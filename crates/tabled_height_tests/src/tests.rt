@@ -13,6 +13,8 @@ use tabled_size_dimension::CompleteDimension;
 use tabled_size_priority::PriorityMax;
 use tabled_steps::{CellOption, Max, Measurement, Min, Percent, TableOption};
 
+mod sizes;
+
 // A table: its rows, its settings, and the sizes that it keeps.
 #[derive(Drop)]
 struct Sheet {

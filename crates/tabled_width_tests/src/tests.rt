@@ -10,6 +10,8 @@ use tabled_size_priority::PriorityMax;
 use tabled_steps::{CellOption, Max, Measurement, Min, Percent, TableOption};
 use tabled_width::{Justify, MinWidth, Truncate, Width, WidthList, Wrap};
 
+mod sizes;
+
 // The proof of a function grows faster than its calls, and most of all with each `?`. So the helpers below
 // end a test where memory is refused, and a test has few calls.
 const MEMORY: &str = "memory is refused";

@@ -1,11 +1,10 @@
 //! Tables of arrays of rows.
-use super::{expect_refused, expect_text};
+use super::expect_text;
 use grid_config::Fault;
 use grid_records_traits::IntoRecords;
 use std::alloc::{AllocError, Global};
 use std::process::Abort;
 use tabled_compact::{CompactTable, RowArray};
-use tabled_size_dimension::ConstDimension;
 
 // A row of two texts.
 fn pair(alloc: Global) -> Result<[[String; 2]; 1], AllocError> {
@@ -56,14 +55,17 @@ fn columns_are_as_wide_as_the_widest_line(rt: HostRuntime) {
     expect_found(&rt, text_of_lines(rt.alloc()), text);
 }
 
-type Four = CompactTable<[[&'static str; 2]; 4], ConstDimension<2, 4>>;
-
-// A table of four rows. The widest texts of its columns stand in the second and in the last.
-fn four() -> Four {
-    CompactTable::from([["a", "bc"], ["def", "g"], ["h", "i"], ["j", "klmno"]])
+// The same of an array of four rows.
+fn text_of_four<I: RowArray<2, 4> + IntoRecords + Drop>(
+    alloc: Global,
+    rows: I,
+) -> Result<String, Fault> {
+    let table = CompactTable::from(rows);
+    table.to_string(alloc)
 }
 
-const ALL: &str = "\
+// The widest texts of the columns stand in the second row and in the last.
+const FOUR: &str = "\
 +-----+-------+
 | a   | bc    |
 +-----+-------+
@@ -74,30 +76,8 @@ const ALL: &str = "\
 | j   | klmno |
 +-----+-------+";
 
-const FIRST: &str = "\
-+-----+
-| a   |
-+-----+
-| def |
-+-----+
-| h   |
-+-----+";
-
-// As wide as with the last row.
-const MIDDLE: &str = "\
-+-----+-------+
-| def | g     |
-+-----+-------+
-| h   | i     |
-+-----+-------+";
-
 #[test]
 fn rows_of_an_array_stand_in_order(rt: HostRuntime) {
-    let a = rt.alloc();
-    expect_found(&rt, four().to_string(a), ALL);
-    expect_found(&rt, four().columns(1).rows(3).to_string(a), FIRST);
-    expect_found(&rt, four().rows(2).skip(1).to_string(a), MIDDLE);
-    // a column more has no width
-    let room = Fault::Room { row: 0, column: 2 };
-    expect_refused(&rt, four().columns(3).rows(3).to_string(a), room);
+    let rows = [["a", "bc"], ["def", "g"], ["h", "i"], ["j", "klmno"]];
+    expect_found(&rt, text_of_four(rt.alloc(), rows), FOUR);
 }
