@@ -16,6 +16,7 @@ pub use ansi_scan_style::laws::{
     equal_colors_are_the_same, equal_styles_set_the_same, no_color_is_purple,
     parameters_are_numbers, parameters_in_order, plain_writes_nothing, reset_clears_all,
     sequence_form, sequences_give_renditions, start_reads_as_its_style,
+    starts_and_ends_are_printed_whole,
 };
 
 /// Every list of bytes has one list of pieces, and a function gives it.
@@ -60,8 +61,10 @@ pub fn equal_items_are_the_same()
     ensures items { (a b : OneItem) → (⟦<Item as PartialEq>⟧.eq a b ≡ true) ↔ (a ≡ b) }
 {}
 
-/// A clone of a kind or of an item is the same.
+/// A clone of a kind or of an item is the same, and is never refused.
 pub fn clones_of_items_are_the_same()
     ensures kinds { (source clone : OneKind) → ⟦<Kind as Clone>⟧.is_clone source clone → clone ≡ source }
     ensures items { (source clone : OneItem) → ⟦<Item as Clone>⟧.is_clone source clone → clone ≡ source }
+    ensures kinds_come { (source : OneKind) → ⟦<Kind as Clone>⟧.is_infallible source }
+    ensures items_come { (source : OneItem) → ⟦<Item as Clone>⟧.is_infallible source }
 {}

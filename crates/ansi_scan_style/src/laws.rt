@@ -17,7 +17,9 @@ ghost use Rattle.ansi_scan_style.specs.Sequences.{clearing_codes, code_rows, is_
 
 use crate::RESET_ALL;
 use crate::color::{AnsiColor, Color};
+use crate::sequences::{AnsiSequenceEnd, AnsiSequenceStart};
 use crate::style::Style;
+use std::fmt::Display;
 
 /// A start reads as its style: from plain it gives it, and from the style itself it leaves it.
 pub fn start_reads_as_its_style()
@@ -105,15 +107,31 @@ pub fn no_color_is_purple()
     ensures bright { (color : OneAnsiColor) → color_of color ≢ BrightPurple }
 {}
 
-/// `==` of colours is equality, all of their parts compared.
+/// `==` of colours is equality, all of their parts compared, and `cmp` finds the same ones equal.
 pub fn equal_colors_are_the_same()
     ensures colors { (a b : OneColor) → (⟦<Color as PartialEq>⟧.eq a b ≡ true) ↔ (a ≡ b) }
     ensures ansi_colors { (a b : OneAnsiColor) → (⟦<AnsiColor as PartialEq>⟧.eq a b ≡ true) ↔ (a ≡ b) }
+    ensures colors_order { (a b : OneColor) → (⟦<Color as Ord>⟧.cmp a b ≡ Equal) ↔ (a ≡ b) }
+    ensures ansi_colors_order { (a b : OneAnsiColor) → (⟦<AnsiColor as Ord>⟧.cmp a b ≡ Equal) ↔ (a ≡ b) }
 {}
 
-/// A clone of a colour is that colour, and one of a style sets the same.
+/// A start and an end of a style are printed as their bytes.
+pub fn starts_and_ends_are_printed_whole()
+    ensures starts { (style : Attributes) → ⟦<AnsiSequenceStart as Display>⟧.output style ≡ Some (start_bytes style) }
+    ensures ends { (style : Attributes) → ⟦<AnsiSequenceEnd as Display>⟧.output style ≡ Some (end_bytes style) }
+{}
+
+/// A clone of a colour is that colour, and one of a style, of a start and of an end sets, or clears, the same;
+/// no clone is refused.
 pub fn clones_set_the_same()
     ensures colors { (source clone : OneColor) → ⟦<Color as Clone>⟧.is_clone source clone → clone ≡ source }
     ensures ansi_colors { (source clone : OneAnsiColor) → ⟦<AnsiColor as Clone>⟧.is_clone source clone → clone ≡ source }
     ensures styles { (source clone : Attributes) → ⟦<Style as Clone>⟧.is_clone source clone → clone ≡ source }
+    ensures starts { (source clone : Attributes) → ⟦<AnsiSequenceStart as Clone>⟧.is_clone source clone → clone ≡ source }
+    ensures ends { (source clone : Attributes) → ⟦<AnsiSequenceEnd as Clone>⟧.is_clone source clone → clone ≡ source }
+    ensures colors_come { (source : OneColor) → ⟦<Color as Clone>⟧.is_infallible source }
+    ensures ansi_colors_come { (source : OneAnsiColor) → ⟦<AnsiColor as Clone>⟧.is_infallible source }
+    ensures styles_come { (source : Attributes) → ⟦<Style as Clone>⟧.is_infallible source }
+    ensures starts_come { (source : Attributes) → ⟦<AnsiSequenceStart as Clone>⟧.is_infallible source }
+    ensures ends_come { (source : Attributes) → ⟦<AnsiSequenceEnd as Clone>⟧.is_infallible source }
 {}

@@ -200,7 +200,8 @@ pub fn equal_edits_are_the_same()
     ensures { (a b : OneEdit) → (⟦<Edit<'static> as PartialEq>⟧.eq a b ≡ true) ↔ AreSame a b }
 {}
 
-/// A clone of an edit has the same parts.
+/// A clone of an edit has the same parts, and is never refused.
 pub fn clones_of_edits_are_the_same()
-    ensures { (source clone : OneEdit) → ⟦<Edit<'static> as Clone>⟧.is_clone source clone → AreSame clone source }
+    ensures clone { (source clone : OneEdit) → ⟦<Edit<'static> as Clone>⟧.is_clone source clone → AreSame clone source }
+    ensures comes { (source : OneEdit) → ⟦<Edit<'static> as Clone>⟧.is_infallible source }
 {}

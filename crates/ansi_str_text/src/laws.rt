@@ -31,7 +31,8 @@ pub fn parted_at_an_escape()
         (ps ++ record { kind = string_kind opener; bytes = escape ∷ opener ∷ (string ++ string_terminator) } ∷ qs) }
 {}
 
-/// A clone of a block has its text and its style.
+/// A clone of a block has its text and its style, and is never refused.
 pub fn clones_of_blocks_are_the_same()
-    ensures { (source clone : Block) → ⟦<AnsiBlock<'static> as Clone>⟧.is_clone source clone → clone ≡ source }
+    ensures clone { (source clone : Block) → ⟦<AnsiBlock<'static> as Clone>⟧.is_clone source clone → clone ≡ source }
+    ensures comes { (source : Block) → ⟦<AnsiBlock<'static> as Clone>⟧.is_infallible source }
 {}

@@ -5,7 +5,6 @@ use Rattle.std.specs.List.{AllByRecursion, flat_map, join_with_byte, repeat, sum
 use Rattle.std.proofs.Math.Utf8.{encode}
 use Rattle.std.proofs.lemmas.Bool.{or_parts}
 use Rattle.std.proofs.lemmas.List.Folds.{list_any-append}
-use Rattle.std.proofs.lemmas.Simd.{map-map}
 use Rattle.std.proofs.lemmas.Str.{encodes-chars}
 use Rattle.ansi_scan.specs.declared.items.Kind.{Kind}
 use Rattle.ansi_scan.specs.declared.items.Kind.TheVariants.{Text}
@@ -32,7 +31,7 @@ use Rattle.papergrid_picture.specs.Frame.{Frame, line_count}
 use Rattle.papergrid_picture.specs.Shown.{ArePlainTexts, AreWholeTexts, IsBare, IsPlainText, IsWholeText, character_of, stripped_texts, styled_texts}
 use Rattle.papergrid_picture.specs.Tables.{table_text}
 use Rattle.papergrid_picture.proofs.RelatedLemmas.{All-append}
-use Rattle.papergrid_picture.proofs.ShownLemmas.{All-drop, All-take, characters-styled, map-same}
+use Rattle.papergrid_picture.proofs.ShownLemmas.{All-drop, All-take, characters-styled}
 use Rattle.papergrid_picture.proofs.StrippedLemmas.{none-broken, stripped-plain, table-leaves}
 use Rattle.tabled_size_wrap.specs.Breaking.{run_cost}
 use Rattle.tabled_size_wrap.specs.Bytes.{cut_at, wrapped_text}
@@ -45,8 +44,8 @@ use Rattle.columns_asked.specs.Resizing.{resized_text}
 use Rattle.columns_asked.proofs.BridgeLemmas.{resized-shows}
 use Rattle.columns_asked.proofs.CharacterLemmas.{picture-alone}
 use Rattle.columns_asked.proofs.SizeLemmas.{stripped}
-use Rattle.columns_asked.proofs.StrippedLemmas.{characters-texts, texts-whole}
-use Rattle.columns_asked.proofs.TableLemmas.{kept-whole, text-shows_picture}
+use Rattle.columns_asked.proofs.StrippedLemmas.{characters-texts}
+use Rattle.columns_asked.proofs.TableLemmas.{text-shows_picture}
 
 -- ---- bytes without ESC
 

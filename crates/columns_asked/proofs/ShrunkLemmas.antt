@@ -1,16 +1,16 @@
 -- The function `shrunk_list` gives the list that widths shrink to.
-use Rattle.std.proofs.Common.{◌≡◌, ◌==◌, ◌+◌, ◌-◌, ◌≤◌, ◌<◌, ◌||◌, ℕ, zero, suc, Bool, true, false, cond, List, [], ◌∷◌, ◌++◌, Option, None, Some, length, map, max, min, get_or, sum, refl, ap, sym, subst, ◌∙◌, arith, inl, inr}
-use Rattle.std.specs.Prelude.{nat_lt, unwrap_or}
-use Rattle.std.specs.List.{AllByRecursion, count_by, find, flat_map, list_any, range_with_len}
+use Rattle.std.proofs.Common.{◌≡◌, ◌==◌, ◌+◌, ◌-◌, ◌≤◌, ◌<◌, ◌||◌, ℕ, zero, suc, Bool, true, false, cond, List, [], ◌∷◌, Option, Some, length, map, max, min, get_or, sum, refl, ap, sym, subst, ◌∙◌, arith, inl, inr}
+use Rattle.std.specs.Prelude.{unwrap_or}
+use Rattle.std.specs.List.{AllByRecursion, find, flat_map, list_any, range_with_len}
 use Rattle.std.proofs.lemmas.Bool.{cases_lt, cases_order}
 use Rattle.std.proofs.lemmas.Bool.Decides.{nat_tests}
 use Rattle.std.proofs.lemmas.List.Folds.{list_any-append}
-use Rattle.std.proofs.lemmas.List.Sums.{get_or-le-sum_by, sum-map, sum_by-cons}
+use Rattle.std.proofs.lemmas.List.Sums.{get_or-le-sum_by, sum-map}
 use Rattle.papergrid_picture.proofs.RelatedLemmas.{All-append}
 use Rattle.tabled_size_levels.specs.Lists.{at_column, map-equal, map-le, map-same, sum-added, sum-cons}
 use Rattle.tabled_size_levels.specs.Steps.{IsPlacing, column-placing, side-placing}
 use Rattle.tabled_size_priority.specs.Choices.{IsShrunkByChoice}
-use Rattle.tabled_size_priority.specs.Columns.{by_width, columns_of, from_column, from_side, is_narrower}
+use Rattle.tabled_size_priority.specs.Columns.{by_width, from_column, from_side, is_narrower}
 use Rattle.tabled_size_priority.specs.Laws.Levels.{level_one}
 use Rattle.tabled_size_priority.specs.Laws.Order.{order_one}
 use Rattle.tabled_size_priority.specs.Laws.Turns.{turns_one}

@@ -9,7 +9,7 @@ use Rattle.ansi_str.specs.StyledText.{strip}
 use Rattle.ansi_str_text.proofs.Stripping.{has_escape-strip, strip-without_escape}
 use Rattle.grid_config.specs.Compact.{Compact}
 use Rattle.grid_config.specs.Looks.{compact_look}
-use Rattle.grid_config_values.specs.Glyphs.{boundary_kind, has_column_boundary, has_row_boundary}
+use Rattle.grid_config_values.specs.Glyphs.{boundary_kind, has_row_boundary}
 use Rattle.grid_config_values.specs.declared.position.Position.{Position}
 use Rattle.grid_records_measure.specs.TextLines.{line_feed, text_height, text_width, widest}
 use Rattle.grid_records_traits.specs.Rows.{fitted, fitted_row, text_at}

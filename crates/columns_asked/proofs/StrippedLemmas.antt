@@ -1,5 +1,5 @@
 -- What a table is follows from its texts without their sequences.
-use Rattle.std.proofs.Common.{◌≡◌, ◌+◌, ℕ, Bool, List, [], ◌∷◌, map, refl, ap, sym, ◌∙◌}
+use Rattle.std.proofs.Common.{◌≡◌, ◌+◌, ℕ, List, [], ◌∷◌, map, ap, sym, ◌∙◌}
 use Rattle.std.specs.Prelude.{chars, encode_utf8_all, nat_lt, ◌&&◌}
 use Rattle.std.specs.List.{AllByRecursion, find}
 use Rattle.std.proofs.lemmas.Simd.{map-map}
@@ -11,17 +11,17 @@ use Rattle.ansi_str.specs.StyledText.{has_escape}
 use Rattle.ansi_str_text.proofs.Stripping.{has_escape-strip}
 use Rattle.ansi_str_text.proofs.Utf8Pieces.{IsUtf8-shown_text}
 use Rattle.grid_config.specs.Compact.{Compact}
-use Rattle.grid_config.specs.Looks.{Look, compact_look}
+use Rattle.grid_config.specs.Looks.{compact_look}
 use Rattle.grid_config_spans.specs.Owners.{owner}
 use Rattle.grid_config_values.specs.Entities.{table_positions}
 use Rattle.grid_config_values.specs.Order.{same_place}
 use Rattle.grid_config_values.specs.declared.position.Position.{Position}
 use Rattle.grid_records_measure.specs.TextLines.{text_width}
 use Rattle.grid_records_traits.specs.Rows.{text_at}
-use Rattle.papergrid_picture.specs.Fitting.{InRange, first_too_wide, is_too_wide, need}
+use Rattle.papergrid_picture.specs.Fitting.{InRange, first_too_wide, need}
 use Rattle.papergrid_picture.specs.Frame.{Frame, block_width, column_count, frame_of, row_count}
-use Rattle.papergrid_picture.specs.Shown.{AreWholeTexts, IsWholeText, Styled, character_of, characters_of, in_plain, stripped_texts, styled_texts}
-use Rattle.papergrid_picture.proofs.ShownLemmas.{characters-styled, map-same, pieces-nothing, styled_of}
+use Rattle.papergrid_picture.specs.Shown.{AreWholeTexts, IsWholeText, character_of, characters_of, in_plain, stripped_texts, styled_texts}
+use Rattle.papergrid_picture.proofs.ShownLemmas.{characters-styled, map-same, styled_of}
 use Rattle.papergrid_picture.proofs.StrippedLemmas.{none-broken}
 use Rattle.columns_asked.specs.Asked.{Asked, Resize}
 use Rattle.columns_asked.specs.Resizing.{resized, resized_text}

@@ -1,13 +1,13 @@
 -- The text of a table in a width that is asked shows its picture.
 use Rattle.std.proofs.Common.{◌≡◌, ◌==◌, ℕ, ◌+◌, Bool, true, false, All, List, [], ◌∷◌, ◌++◌, map, refl, ap, sym, subst, ◌∙◌, lit<, if◌then◌else◌}
-use Rattle.std.specs.Prelude.{chars, encode_utf8_all, None, Option}
+use Rattle.std.specs.Prelude.{chars, encode_utf8_all, Option}
 use Rattle.std.specs.List.{AllByRecursion}
 use Rattle.std.proofs.lemmas.List.Elements.{All-nil, All-push}
 use Rattle.std.proofs.lemmas.Simd.{map-map}
 use Rattle.std.proofs.lemmas.Str.{encode_ascii, encodes-chars}
 use Rattle.ansi_scan.specs.Attributes.{plain_attributes}
 use Rattle.ansi_scan.specs.Pieces.{pieces}
-use Rattle.ansi_scan.specs.Sequences.{Piece, ArePiecesOf}
+use Rattle.ansi_scan.specs.Sequences.{ArePiecesOf}
 use Rattle.ansi_scan.proofs.Uniqueness.{pieces-ArePiecesOf}
 use Rattle.ansi_str.specs.StyledText.{IsClosed, strip, styled}
 use Rattle.ansi_str_text.proofs.Utf8Pieces.{IsUtf8-shown_text}
@@ -16,7 +16,7 @@ use Rattle.grid_config.specs.Looks.{compact_look}
 use Rattle.grid_records_measure.specs.TextLines.{line_feed}
 use Rattle.papergrid_picture.specs.Fitting.{table_width}
 use Rattle.papergrid_picture.specs.Frame.{Frame, frame_of, line_count}
-use Rattle.papergrid_picture.specs.Shown.{AreWholeTexts, IsBare, IsWholeText, Shows, Styled, character_of, in_plain, item_picture, stripped_texts, styled_picture, styled_texts}
+use Rattle.papergrid_picture.specs.Shown.{AreWholeTexts, IsBare, IsWholeText, Shows, Styled, character_of, in_plain, stripped_texts, styled_picture, styled_texts}
 use Rattle.papergrid_picture.proofs.ItemLemmas.{feeds-plain}
 use Rattle.papergrid_picture.proofs.ShownLemmas.{IsShown-feed, ShowsHere, ShowsHere-append, ShowsHere-character, ShowsHere-nothing, characters-styled, map-same, styled_of, text-shown}
 use Rattle.columns_asked.specs.Asked.{Asked, Resize}

@@ -1,5 +1,5 @@
 -- Tables that can be worked out by hand: of one row, under a style of `-`, `|` and `+`.
-use Rattle.std.specs.Prelude.{ℕ, Bool, false, true, List, [], ◌∷◌, Option, None, Some}
+use Rattle.std.specs.Prelude.{ℕ, Bool, false, true, List, [], ◌∷◌, None, Some}
 use Rattle.grid_config.specs.Compact.{Compact, new_compact, no_indent}
 use Rattle.papergrid_picture.specs.Worked.{ascii, indent}
 use Rattle.tabled_size_priority.specs.declared.choice.Choice.{Choice}

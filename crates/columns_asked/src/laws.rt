@@ -18,6 +18,8 @@ ghost use Rattle.columns_asked.specs.Resizing.{resized, resized_text};
 ghost use Rattle.columns_asked.specs.Shrunk.{shrunk_list};
 ghost use Rattle.columns_asked.specs.Worked.{ascii_settings, cuts, no_width, one_row, wraps};
 
+use crate::asked::Asked as Asking;
+
 /// Tables worked out by hand, by their bytes: a coloured text is wrapped, each line in its own colour, and
 /// a style that ended before a break stays ended; it is cut; words are kept; at width 0 only the paddings
 /// stay; columns give in turns, or the widest first; a width that the table doesn't pass changes nothing.
@@ -105,4 +107,11 @@ pub fn the_shrunk_list()
     ensures meets { (priority : Choice) (least : List ℕ) (by : ℕ) (widths : List ℕ) → IsShrunkByChoice priority least by widths (shrunk_list priority least by widths) }
     ensures one { (priority : Choice) (least : List ℕ) (by : ℕ) (widths sizes : List ℕ) →
         IsShrunkByChoice priority least by widths sizes → sizes ≡ shrunk_list priority least by widths }
+{}
+
+/// `==` of what tables are asked is equality of all parts; a clone is the same, and is never refused.
+pub fn askings_are_compared_and_cloned_whole()
+    ensures equality { (a b : Asked) → (⟦<Asking as PartialEq>⟧.eq a b ≡ true) ↔ (a ≡ b) }
+    ensures clone { (source clone : Asked) → ⟦<Asking as Clone>⟧.is_clone source clone → clone ≡ source }
+    ensures comes { (source : Asked) → ⟦<Asking as Clone>⟧.is_infallible source }
 {}

@@ -15,8 +15,9 @@ use tabled_output::Counted;
 // How many bytes one read asks for.
 const CHUNK: usize = 65536;
 
-/// All bytes that the reader has left. Its first end is believed: it is not read on behind it. It gives up with `Read` at the first error of any kind, with
-/// `ReadTooLong` where `limit` reads gave bytes and none came to the end, and with `Memory`.
+/// All bytes that the reader has left. Its first end is believed: it is not read on behind it. It gives up
+/// with `Read` at the first error of any kind, with `ReadTooLong` where `limit` reads gave bytes and none
+/// came to the end, and with `Memory`.
 pub fn read_all<R: Read>(
     alloc: Global,
     reader: &mut Counted<R>,

@@ -1,5 +1,5 @@
 //! Laws over the definitions, each the contract of a function that does nothing.
-ghost use Rattle.std.specs.Prelude.{◌≡◌, ◌↔◌, ℕ, ◌<◌, ◌++◌, All, chars, encode_utf8, false, flat_map, true, codes, List, ◌∷◌, [], map, replicate, slice_index_or, IsUtf8, None, Option, Result, ⊤};
+ghost use Rattle.std.specs.Prelude.{◌≡◌, ◌↔◌, ℕ, ◌<◌, ◌++◌, All, chars, encode_utf8, false, flat_map, true, codes, List, ◌∷◌, [], map, replicate, slice_index_or, IsUtf8, None, Option, Result, Some, ⊤};
 ghost use Rattle.std.specs.List.{range_with_len};
 ghost use Rattle.std.specs.Str.{encode_utf8_all};
 ghost use Rattle.ansi_scan.specs.Sequences.{Piece, ArePiecesOf, NoneBroken, IsWhole};
@@ -25,9 +25,19 @@ ghost use Rattle.columns_run.specs.Layout.{TableFits, asked_of, characters_of, g
 ghost use Rattle.columns_run.specs.Plain.{IsPlain};
 ghost use Rattle.columns_run.specs.TableShown.{ShowsTableOf};
 ghost use Rattle.columns_run.specs.Run.{HasTable, MayRefuse, Serves};
-ghost use Rattle.columns_run.specs.Fault.{TellsOfInput};
+ghost use Rattle.columns_run.specs.Fault.{TellsOfInput, fault_text, run_fault, write_fault};
 ghost use Rattle.tabled_size_priority.specs.declared.choice.Choice.TheVariants.{None as InTurns, MaxLeft};
 ghost use Rattle.columns_run.specs.declared.fault.RunFault.{RunFault};
+ghost use Rattle.columns_run.specs.declared.fault.RunFault.TheVariants.{Memory as OutOfMemory};
+ghost use Rattle.grid_config_values.specs.declared.fault.Fault.{Fault as TableFault};
+ghost use Rattle.tabled_output.specs.declared.writing.WriteFault.{WriteFault as WritingFault};
+ghost use Rattle.std.specs.declared.alloc.AllocError.{AllocError as Refused};
+
+use crate::fault::RunFault as Refusal;
+use grid_config::Fault;
+use std::alloc::AllocError;
+use std::fmt::Display;
+use tabled_output::WriteFault;
 
 /// Tables worked out by hand, in the style that `Options::new` has, without a width.
 pub fn worked_tables()
@@ -163,4 +173,16 @@ pub fn streamed_tables_are_tables()
     ensures refuses { (options : Options) (input : List ℕ) (fault : RunFault) → options.width ≡ None → (MayRefuse (without_width options.style) input fault ↔ MayRefuse options input fault) }
     ensures serves { (options : Options) (input : List ℕ) (result : Result ⊤ RunFault) (old new : Option (List ℕ)) → options.width ≡ None →
         (Serves (without_width options.style) input result old new ↔ Serves options input result old new) }
+{}
+
+/// `==` of faults is equality; a clone is the same fault, and is never refused; one is printed in its own
+/// words, and those of a table, of a writer and of memory become the one of the same meaning.
+pub fn faults_are_compared_cloned_and_printed_whole()
+    ensures equality { (a b : RunFault) → (⟦<Refusal as PartialEq>⟧.eq a b ≡ true) ↔ (a ≡ b) }
+    ensures clone { (source clone : RunFault) → ⟦<Refusal as Clone>⟧.is_clone source clone → clone ≡ source }
+    ensures comes { (source : RunFault) → ⟦<Refusal as Clone>⟧.is_infallible source }
+    ensures printed { (fault : RunFault) → ⟦<Refusal as Display>⟧.output fault ≡ Some (fault_text fault) }
+    ensures of_table { (given : TableFault) (fault : RunFault) → ⟦<Refusal as From<Fault>>⟧.from_gives given fault → fault ≡ run_fault given }
+    ensures of_writer { (given : WritingFault) (fault : RunFault) → ⟦<Refusal as From<WriteFault>>⟧.from_gives given fault → fault ≡ write_fault given }
+    ensures of_memory { (given : Refused) (fault : RunFault) → ⟦<Refusal as From<AllocError>>⟧.from_gives given fault → fault ≡ OutOfMemory }
 {}

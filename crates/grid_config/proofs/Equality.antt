@@ -1,15 +1,14 @@
 -- `==` of the settings of compact tables, as it is derived, is equality of all seven.
-use Rattle.std.proofs.Common.{◌≡◌, ◌∙◌, ℕ, Bool, true, ◌&&◌, ◌==◌, Option, None, Some, List, [], ◌∷◌, refl, ap, sym, arith}
-use Rattle.std.specs.Option.{option_eq, option_map}
+use Rattle.std.proofs.Common.{◌≡◌, ◌∙◌, Bool, true, ◌&&◌, ◌==◌, List, [], ◌∷◌, refl, ap, sym}
+use Rattle.std.specs.Option.{option_map}
 use Rattle.std.specs.Ordering.{is_eq}
 use Rattle.std.specs.declared.cmp.Ordering.TheVariants.{Equal}
 use Rattle.std.proofs.lemmas.Bool.{eqb-true}
-use Rattle.std.proofs.lemmas.Bool.Decides.{nat_tests}
 use Rattle.grid_config_values.specs.declared.sides.Indent.{Indent}
 use Rattle.grid_config_values.specs.declared.alignment.AlignmentHorizontal.{AlignmentHorizontal}
 use Rattle.grid_config_values.specs.declared.alignment.AlignmentHorizontal.TheVariants.{Left, Center, Right}
 use Rattle.grid_config_values.specs.contracts.alignment.AlignmentHorizontalPartialEq.TheImpl.{ghosts as alignments}
-use Rattle.grid_config_values.proofs.Equality.{each_passes, passes_all, indent_eq, indent_same, option_same, option_passes, same_option, sides_eq, sides_same, sides_passes, borders_eq, borders_same, borders_passes}
+use Rattle.grid_config_values.proofs.Equality.{each_passes, passes_all, indent_eq, indent_same, number_eq as glyph_eq, number_passes, numbers_pass as glyph_passes, option_same, option_passes, same_option, sides_eq, sides_same, sides_passes, borders_eq, borders_same, borders_passes}
 use Rattle.grid_config_colors.specs.Colors.{color_of}
 use Rattle.grid_config_colors.specs.Equality.{equal as equal_colors}
 use Rattle.grid_config_colors.proofs.Equality.{equal_shows, equal_texts, same_texts}
@@ -17,12 +16,6 @@ use Rattle.grid_config.specs.contracts.compact.CompactConfigOrd.TheImpl.Laws.{ma
 use Rattle.grid_config.specs.declared.compact.CompactConfig.{CompactConfig}
 use Rattle.grid_config.specs.Compact.{Compact, compact_of}
 use Rattle.grid_config.specs.Equality.{compared, equal}
-
-number_passes : (m n : ℕ) → m ≡ n → (m == n) ≡ true
-number_passes m n e = grind (arith, nat_tests)
-
-abbrev glyph_eq : ℕ → ℕ → Bool
-glyph_eq c d = c == d
 
 alignment_same : (a b : AlignmentHorizontal) → alignments.eq a b ≡ true → a ≡ b
 alignment_same Left Left e = refl
@@ -45,12 +38,6 @@ alignment_passes Center Right e = cc
 alignment_passes Right Left e = cc
 alignment_passes Right Center e = cc
 alignment_passes Right Right e = refl
-
-glyph_passes : (a b : Option ℕ) → a ≡ b → option_eq glyph_eq a b ≡ true
-glyph_passes None None e = refl
-glyph_passes None (Some d) e = cc
-glyph_passes (Some c) None e = cc
-glyph_passes (Some c) (Some d) e = let same : c ≡ d = cc in number_passes c d same
 
 indent_passes : (a b : Indent) → a ≡ b → indent_eq a b ≡ true
 indent_passes a b e =

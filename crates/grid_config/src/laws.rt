@@ -10,15 +10,17 @@ ghost use Rattle.grid_config.specs.Settings.{Settings, StartsWith, compact_start
 
 use crate::compact::CompactConfig;
 pub use grid_config_colors::laws::{
-    clones_of_colors_have_the_same_texts, equal_colors_have_the_same_texts, one_meaning,
+    clones_of_colors_have_the_same_texts, color_faults_are_compared_cloned_and_printed_whole,
+    equal_colors_have_the_same_texts, one_meaning,
 };
 pub use grid_config_spans::laws::{
     equal_extents_are_the_same, good_spans_part_the_table, owners_part_the_table,
     visible_cells_own_themselves, without_spans_all_is_visible,
 };
 pub use grid_config_values::laws::{
-    boundaries_by_name, clones_are_the_same, clones_of_parts_are_the_same,
-    equal_values_are_the_same, equality_compares_all_parts, positions_go_by_rows,
+    boundaries_by_name, clones_are_never_refused, clones_are_the_same,
+    clones_of_parts_are_the_same, equal_values_are_the_same, equality_compares_all_parts,
+    faults_are_printed_whole, ordered_sides_are_the_same, positions_go_by_rows,
     the_last_call_decides,
 };
 
@@ -34,7 +36,8 @@ pub fn compact_settings_look_the_same()
         look_of settings ≡ compact_look compact }
 {}
 
-/// A clone of the settings of a compact table has all seven values.
+/// A clone of the settings of a compact table has all seven values, and is never refused.
 pub fn clones_of_settings_are_the_same()
-    ensures { (source clone : CompactSettings) → ⟦<CompactConfig as Clone>⟧.is_clone source clone → compact_of clone ≡ compact_of source }
+    ensures clone { (source clone : CompactSettings) → ⟦<CompactConfig as Clone>⟧.is_clone source clone → compact_of clone ≡ compact_of source }
+    ensures comes { (source : CompactSettings) → ⟦<CompactConfig as Clone>⟧.is_infallible source }
 {}

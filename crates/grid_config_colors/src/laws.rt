@@ -1,17 +1,21 @@
 //! Laws of the definitions that the other contracts cite.
 
-ghost use Rattle.std.specs.Prelude.{◌≡◌, ◌↔◌, IsTrue, List};
+ghost use Rattle.std.specs.Prelude.{◌≡◌, ◌↔◌, IsTrue, List, Some, true};
 ghost use Rattle.std.specs.declared.cmp.Ordering.TheVariants.{Equal};
 ghost use Rattle.ansi_scan.specs.Sequences.{Piece};
 ghost use Rattle.ansi_scan.specs.Attributes.{Attributes, plain_attributes};
 ghost use Rattle.ansi_str_text.specs.StyledText.{style_after_all};
 ghost use Rattle.grid_config_colors.specs.declared.borrowed.ANSIStr.{ANSIStr as Borrowed};
+ghost use Rattle.grid_config_colors.specs.declared.fault.BufFault.{BufFault as OneFault};
 ghost use Rattle.grid_config_colors.specs.Closing.{Clears};
 ghost use Rattle.grid_config_colors.specs.Clearing.{ClearsEach, codes_of};
 ghost use Rattle.grid_config_colors.specs.Colors.{color_of};
 ghost use Rattle.grid_config_colors.specs.Equality.{compared, equal};
+ghost use Rattle.grid_config_colors.specs.Fault.{fault_text};
 
 use crate::borrowed::ANSIStr;
+use crate::fault::BufFault;
+use std::fmt::Display;
 
 /// The two wordings of a suffix that clears a style are one: read from plain and from the style it ends
 /// plain, or read from plain it ends plain and one of its codes clears each attribute that is set.
@@ -26,7 +30,17 @@ pub fn equal_colors_have_the_same_texts()
     ensures order { (a b : Borrowed) → (compared a b ≡ Equal) ↔ (color_of a ≡ color_of b) }
 {}
 
-/// A clone of a borrowed colour has the same texts.
+/// A clone of a borrowed colour has the same texts, and is never refused.
 pub fn clones_of_colors_have_the_same_texts()
-    ensures { (source clone : Borrowed) → ⟦<ANSIStr<'static> as Clone>⟧.is_clone source clone → color_of clone ≡ color_of source }
+    ensures clone { (source clone : Borrowed) → ⟦<ANSIStr<'static> as Clone>⟧.is_clone source clone → color_of clone ≡ color_of source }
+    ensures comes { (source : Borrowed) → ⟦<ANSIStr<'static> as Clone>⟧.is_infallible source }
+{}
+
+/// `==` of the reasons for which a text has no colour is equality; a clone is the same reason, and is never
+/// refused; one is printed in its own words.
+pub fn color_faults_are_compared_cloned_and_printed_whole()
+    ensures equality { (a b : OneFault) → (⟦<BufFault as PartialEq>⟧.eq a b ≡ true) ↔ (a ≡ b) }
+    ensures clone { (source clone : OneFault) → ⟦<BufFault as Clone>⟧.is_clone source clone → clone ≡ source }
+    ensures comes { (source : OneFault) → ⟦<BufFault as Clone>⟧.is_infallible source }
+    ensures printed { (fault : OneFault) → ⟦<BufFault as Display>⟧.output fault ≡ Some (fault_text fault) }
 {}

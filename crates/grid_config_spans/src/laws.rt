@@ -51,8 +51,9 @@ pub fn visible_cells_own_themselves()
     ensures single { (place : Place) → owner (λ _. single) place ≡ place }
 {}
 
-/// `==` of extents is equality of both counts, and a clone is the same extent.
+/// `==` of extents is equality of both counts; a clone is the same extent, and is never refused.
 pub fn equal_extents_are_the_same()
     ensures equality { (a b : Size) → (⟦<Extent as PartialEq>⟧.eq a b ≡ true) ↔ (a ≡ b) }
     ensures clone { (source clone : Size) → ⟦<Extent as Clone>⟧.is_clone source clone → clone ≡ source }
+    ensures comes { (source : Size) → ⟦<Extent as Clone>⟧.is_infallible source }
 {}

@@ -1,11 +1,39 @@
 -- `==`, as it is derived, is equality of all fields.
-use Rattle.std.proofs.Common.{◌≡◌, Bool, true, ◌&&◌, ◌==◌, Option, None, Some, List, [], ◌∷◌, refl, ap, ◌∙◌}
+use Rattle.std.proofs.Common.{◌≡◌, ℕ, Bool, true, false, ◌&&◌, ◌==◌, Option, None, Some, List, [], ◌∷◌, refl, ap, arith, ◌∙◌}
+use Rattle.std.proofs.Math.Bool.{beq}
 use Rattle.std.specs.Option.{option_eq, option_map}
 use Rattle.std.proofs.lemmas.Bool.{and_parts, eqb-true}
+use Rattle.std.proofs.lemmas.Bool.Decides.{nat_tests}
 use Rattle.grid_config_values.specs.declared.borders.Border.{Border}
 use Rattle.grid_config_values.specs.declared.borders.Borders.{Borders}
 use Rattle.grid_config_values.specs.declared.sides.Indent.{Indent}
 use Rattle.grid_config_values.specs.declared.sides.Sides.{Sides}
+
+-- the same number, or none, passes `==`
+abbrev pub number_eq : ℕ → ℕ → Bool
+number_eq m n = m == n
+
+pub number_passes : (m n : ℕ) → m ≡ n → (m == n) ≡ true
+number_passes m n e = grind (arith, nat_tests)
+
+pub numbers_pass : (a b : Option ℕ) → a ≡ b → option_eq number_eq a b ≡ true
+numbers_pass None None e = refl
+numbers_pass None (Some n) e = cc
+numbers_pass (Some m) None e = cc
+numbers_pass (Some m) (Some n) e = let same : m ≡ n = cc in number_passes m n same
+
+-- `==` of switches
+pub switch_same : (a b : Bool) → beq a b ≡ true → a ≡ b
+switch_same true true e = refl
+switch_same true false e = cc
+switch_same false true e = cc
+switch_same false false e = refl
+
+pub switch_passes : (a b : Bool) → a ≡ b → beq a b ≡ true
+switch_passes true true e = refl
+switch_passes true false e = cc
+switch_passes false true e = cc
+switch_passes false false e = refl
 
 -- a chain of tests that passes has each pass
 abbrev pub all_pass : Bool → List Bool → Bool

@@ -1,5 +1,5 @@
 //! Laws of the definitions that the other contracts cite.
-ghost use Rattle.std.specs.Prelude.{◌≡◌, ◌<◌, ◌||◌, ◌⊎◌, ◌↔◌, All, IsTrue, List, ◌∷◌, ◌++◌, false, is_some, true};
+ghost use Rattle.std.specs.Prelude.{◌≡◌, ◌<◌, ◌||◌, ◌⊎◌, ◌↔◌, All, IsTrue, List, Some, ◌∷◌, ◌++◌, false, is_some, true};
 ghost use Rattle.std.specs.declared.cmp.Ordering.TheVariants.{Equal, Less};
 ghost use Rattle.grid_config_values.specs.declared.alignment.AlignmentHorizontal.{AlignmentHorizontal as Horizontal};
 ghost use Rattle.grid_config_values.specs.declared.alignment.AlignmentVertical.{AlignmentVertical as Vertical};
@@ -13,6 +13,7 @@ ghost use Rattle.grid_config_values.specs.declared.position.Position.{Position a
 ghost use Rattle.grid_config_values.specs.declared.sides.Indent.{Indent as OneIndent};
 ghost use Rattle.grid_config_values.specs.declared.sides.Sides.{Sides as FourSides};
 ghost use Rattle.grid_config_values.specs.Entities.{covers};
+ghost use Rattle.grid_config_values.specs.Fault.{fault_text};
 ghost use Rattle.grid_config_values.specs.Glyphs.{Between, First, Last, has_column_boundary, has_row_boundary};
 ghost use Rattle.grid_config_values.specs.Order.{position_cmp};
 ghost use Rattle.grid_config_values.specs.Settings.{AreSet, value_at};
@@ -24,6 +25,7 @@ use crate::fault::Fault;
 use crate::formatting::Formatting;
 use crate::position::Position;
 use crate::sides::{Indent, Sides};
+use std::fmt::Display;
 
 /// Of settings made one after the other, the last one that covers a position decides, whatever stands
 /// before it; where none covers it the value is the one from the start.
@@ -51,7 +53,8 @@ pub fn boundaries_by_name<T>()
     ensures bottom { (b : BorderSet T) → has_row_boundary b Last ≡ (is_some b.bottom || is_some b.bottom_left || is_some b.bottom_intersection || is_some b.bottom_right) }
 {}
 
-/// `==` of these values is equality, all of their parts compared.
+/// `==` of these values is equality, all of their parts compared, and where they have an order `cmp` finds the
+/// same ones equal.
 pub fn equality_compares_all_parts()
     ensures positions { (a b : Place) → (⟦<Position as PartialEq>⟧.eq a b ≡ true) ↔ (a ≡ b) }
     ensures entities { (a b : CellSet) → (⟦<Entity as PartialEq>⟧.eq a b ≡ true) ↔ (a ≡ b) }
@@ -59,6 +62,11 @@ pub fn equality_compares_all_parts()
     ensures horizontal { (a b : Horizontal) → (⟦<AlignmentHorizontal as PartialEq>⟧.eq a b ≡ true) ↔ (a ≡ b) }
     ensures vertical { (a b : Vertical) → (⟦<AlignmentVertical as PartialEq>⟧.eq a b ≡ true) ↔ (a ≡ b) }
     ensures formatting { (a b : TextFormatting) → (⟦<Formatting as PartialEq>⟧.eq a b ≡ true) ↔ (a ≡ b) }
+    ensures positions_order { (a b : Place) → ⟦<Position as Ord>⟧.cmp a b ≡ position_cmp a b }
+    ensures horizontal_order { (a b : Horizontal) → (⟦<AlignmentHorizontal as Ord>⟧.cmp a b ≡ Equal) ↔ (a ≡ b) }
+    ensures vertical_order { (a b : Vertical) → (⟦<AlignmentVertical as Ord>⟧.cmp a b ≡ Equal) ↔ (a ≡ b) }
+    ensures formatting_order { (a b : TextFormatting) → (⟦<Formatting as Ord>⟧.cmp a b ≡ Equal) ↔ (a ≡ b) }
+    ensures indents_order { (a b : OneIndent) → (⟦<Indent as Ord>⟧.cmp a b ≡ Equal) ↔ (a ≡ b) }
 {}
 
 /// `==` of sides and borders is equality of all their parts, where it is that of the parts.
@@ -67,6 +75,11 @@ pub fn equal_values_are_the_same<T: PartialEq>()
     ensures sides { ((x y : T) → T.eq x y ≡ true → x ≡ y) → (a b : FourSides T) → ⟦<Sides<T> as PartialEq>⟧.eq a b ≡ true → a ≡ b }
     ensures border { ((x y : T) → T.eq x y ≡ true → x ≡ y) → (a b : OneBorder T) → ⟦<Border<T> as PartialEq>⟧.eq a b ≡ true → a ≡ b }
     ensures borders { ((x y : T) → T.eq x y ≡ true → x ≡ y) → (a b : BorderSet T) → ⟦<Borders<T> as PartialEq>⟧.eq a b ≡ true → a ≡ b }
+{}
+
+/// `cmp` of sides finds equal what has the same parts, where that of the parts does.
+pub fn ordered_sides_are_the_same<T: Ord>()
+    ensures { ((x y : T) → T.Ord.cmp x y ≡ Equal → x ≡ y) → (a b : FourSides T) → ⟦<Sides<T> as Ord>⟧.cmp a b ≡ Equal → a ≡ b }
 {}
 
 /// A clone of one of these values is the value.
@@ -85,4 +98,25 @@ pub fn clones_of_parts_are_the_same<T: Copy>()
     ensures sides { ((x y : T) → T.Clone.is_clone x y → y ≡ x) → (source clone : FourSides T) → ⟦<Sides<T> as Clone>⟧.is_clone source clone → clone ≡ source }
     ensures border { (source clone : OneBorder T) → ⟦<Border<T> as Clone>⟧.is_clone source clone → clone ≡ source }
     ensures borders { (source clone : BorderSet T) → ⟦<Borders<T> as Clone>⟧.is_clone source clone → clone ≡ source }
+{}
+
+/// A clone of one of these values is never refused, of sides where one of a part never is; and an indent that is
+/// made by default has no size, and spaces.
+pub fn clones_are_never_refused<T: Copy>()
+    ensures sides { ((x : T) → T.Clone.is_infallible x) → (source : FourSides T) → ⟦<Sides<T> as Clone>⟧.is_infallible source }
+    ensures at_first { (begun : OneIndent) → ⟦<Indent as Default>⟧.is_default begun → begun ≡ record { size = 0; fill = 32 } }
+    ensures positions { (source : Place) → ⟦<Position as Clone>⟧.is_infallible source }
+    ensures entities { (source : CellSet) → ⟦<Entity as Clone>⟧.is_infallible source }
+    ensures faults { (source : OneFault) → ⟦<Fault as Clone>⟧.is_infallible source }
+    ensures horizontal { (source : Horizontal) → ⟦<AlignmentHorizontal as Clone>⟧.is_infallible source }
+    ensures vertical { (source : Vertical) → ⟦<AlignmentVertical as Clone>⟧.is_infallible source }
+    ensures formatting { (source : TextFormatting) → ⟦<Formatting as Clone>⟧.is_infallible source }
+    ensures indents { (source : OneIndent) → ⟦<Indent as Clone>⟧.is_infallible source }
+    ensures border { (source : OneBorder T) → ⟦<Border<T> as Clone>⟧.is_infallible source }
+    ensures borders { (source : BorderSet T) → ⟦<Borders<T> as Clone>⟧.is_infallible source }
+{}
+
+/// A refusal is printed in its own words.
+pub fn faults_are_printed_whole()
+    ensures { (fault : OneFault) → ⟦<Fault as Display>⟧.output fault ≡ Some (fault_text fault) }
 {}

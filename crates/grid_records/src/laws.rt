@@ -1,14 +1,18 @@
 //! Laws of the definitions that the contracts of its parts cite.
 pub use grid_records_estimate::laws::{
-    compact_settings_give_the_same_sizes, estimates_keep_the_least_sizes, sizes_follow_from_looks,
-    sizes_leave_room, sizes_see_what_spans_see, worked_estimates, worked_totals,
+    compact_settings_give_the_same_sizes, estimates_keep_the_least_sizes,
+    settings_are_read_as_they_stand, sizes_follow_from_looks, sizes_leave_room,
+    sizes_see_what_spans_see, worked_estimates, worked_totals,
 };
 pub use grid_records_measure::laws::{
     closed_lines_join, cuts_show_their_fronts, lines_are_closed, lines_are_shown_lines,
     lines_of_texts, one_list_of_lines, one_longest_front, plain_characters_add_up, trimmed_texts,
 };
-pub use grid_records_rows::laws::{truncated_texts_are_cuts, vectors_count_what_they_hold};
+pub use grid_records_rows::laws::{
+    empty_records_are_compared_and_cloned_whole, truncated_texts_are_cuts,
+    vectors_count_what_they_hold,
+};
 pub use grid_records_traits::laws::{
     cells_answer_by_their_texts, cells_have_their_texts, references_have_the_same_rows,
-    references_have_the_same_sizes, texts_have_their_answers,
+    references_have_the_same_sizes, sources_have_their_rows, texts_have_their_answers,
 };

@@ -1,8 +1,9 @@
 //! Laws of the definitions that the other contracts cite.
 ghost use Rattle.std.specs.Prelude.{◌≡◌, ◌<◌, ◌⊎◌, ◌↔◌, IsTrue, ℕ, List, length, [], ◌∷◌, true, false, slice_index};
-ghost use Rattle.grid_config.specs.Compact.{Compact as CompactSettings};
+ghost use Rattle.grid_config.specs.Compact.{Compact as CompactSettings, compact_of};
 ghost use Rattle.grid_config.specs.Looks.{compact_look, look_of};
 ghost use Rattle.grid_config.specs.Settings.{Settings as TableSettings, StartsWith, compact_start};
+ghost use Rattle.grid_config.specs.declared.compact.CompactConfig.{CompactConfig as CompactStored};
 ghost use Rattle.grid_config_spans.specs.Spans.{IsVisible};
 ghost use Rattle.grid_config_spans.specs.declared.extent.Extent.{Extent};
 ghost use Rattle.grid_config_values.specs.declared.position.Position.{Position as Cell};
@@ -20,6 +21,7 @@ ghost use Rattle.grid_records_estimate.specs.Worked.{table};
 use crate::dimension::GridDimension;
 use crate::estimate::Estimate;
 use crate::sizing::Sizing;
+use grid_config::{CompactConfig, SpannedConfig};
 use grid_records_traits::{Dimension, Records};
 
 /// Estimates that were worked out by hand: a span of two over two, with a boundary between them; a
@@ -97,4 +99,10 @@ pub fn compact_settings_give_the_same_sizes()
         StartsWith (compact_start compact) settings → width_total (sizing_of settings) columns rows ≡ width_total (compact_sizing compact) columns rows }
     ensures height_total { (compact : CompactSettings) (settings : TableSettings) (columns : ℕ) (rows : List (List (List ℕ))) →
         StartsWith (compact_start compact) settings → height_total (sizing_of settings) columns rows ≡ height_total (compact_sizing compact) columns rows }
+{}
+
+/// What sizes read of the settings of a table, and of a compact one.
+pub fn settings_are_read_as_they_stand()
+    ensures spanned { (settings : TableSettings) → ⟦<SpannedConfig as Sizing>⟧.sizing settings ≡ sizing_of settings }
+    ensures compact { (settings : CompactStored) → ⟦<CompactConfig as Sizing>⟧.sizing settings ≡ compact_sizing (compact_of settings) }
 {}

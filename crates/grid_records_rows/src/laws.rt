@@ -1,11 +1,13 @@
 //! Laws of the definitions that the other contracts cite.
-ghost use Rattle.std.specs.Prelude.{◌≡◌, ℕ, List, Some, length};
+ghost use Rattle.std.specs.Prelude.{◌≡◌, ◌↔◌, ℕ, List, Some, length, true};
 ghost use Rattle.ansi_scan.specs.Pieces.{pieces};
 ghost use Rattle.grid_records_measure.specs.Cutting.{IsCutAt};
 ghost use Rattle.grid_records_measure.specs.CutTexts.{cut_at};
 ghost use Rattle.grid_records_traits.specs.Rows.{row_at};
+ghost use Rattle.grid_records_rows.specs.declared.records.empty.EmptyRecords.{EmptyRecords as Blank};
 ghost use Rattle.grid_records_rows.specs.declared.records.vec_records.VecRecords.{VecRecords as Vectors};
 
+use crate::records::empty::EmptyRecords;
 use crate::records::vec_records::{Cell, VecRecords};
 use crate::records::{RecordColumns, RecordTexts, Records};
 
@@ -21,4 +23,13 @@ pub fn truncated_texts_are_cuts()
 pub fn vectors_count_what_they_hold<T: Cell>()
     ensures columns { (records : Vectors T) → ⟦<VecRecords<T> as RecordColumns>⟧.columns records ≡ length (row_at (⟦<VecRecords<T> as RecordTexts>⟧.rows records) 0) }
     ensures hint { (records : Vectors T) → ⟦<VecRecords<T> as Records>⟧.hint records ≡ Some (length (⟦<VecRecords<T> as RecordTexts>⟧.rows records)) }
+{}
+
+/// `==` of rows of empty texts is equality of both counts; a clone has the same, and is never refused; those
+/// that are made by default have no row and no column.
+pub fn empty_records_are_compared_and_cloned_whole()
+    ensures equality { (a b : Blank) → (⟦<EmptyRecords as PartialEq>⟧.eq a b ≡ true) ↔ (a ≡ b) }
+    ensures clone { (source clone : Blank) → ⟦<EmptyRecords as Clone>⟧.is_clone source clone → clone ≡ source }
+    ensures comes { (source : Blank) → ⟦<EmptyRecords as Clone>⟧.is_infallible source }
+    ensures at_first { (begun : Blank) → ⟦<EmptyRecords as Default>⟧.is_default begun → begun ≡ record { rows = 0; columns = 0 } }
 {}

@@ -1,8 +1,11 @@
 //! Laws of the definitions that the other contracts cite.
 ghost use Rattle.std.specs.Borrow.{Bor};
-ghost use Rattle.std.specs.Prelude.{◌≡◌, ℕ, List, None, Some, [], length};
+ghost use Rattle.std.specs.Prelude.{◌≡◌, ℕ, List, None, Some, String as Bytes, [], false, length, map, string_bytes};
+ghost use Rattle.std.specs.Global.{Vec as VecOf};
+ghost use Rattle.std.proofs.Common.{Global as Heap};
 ghost use Rattle.ansi_scan.specs.Pieces.{pieces as pieces_of};
 ghost use Rattle.grid_records_measure.specs.TextLines.{line_measure, shown_lines, text_height, text_lines, text_width};
+ghost use Rattle.grid_records_traits.specs.Sources.{texts_of_rows};
 ghost use Rattle.grid_records_traits.specs.Cells.{HasLineCount, HasLineWidth, HasWidth, IsLineAt, line_at};
 
 use crate::dimension::Dimension;
@@ -24,6 +27,7 @@ pub fn references_have_the_same_sizes<'a, D: Dimension + 'a>()
 /// of the cell in it, or the empty one.
 pub fn cells_have_their_texts<'a, C: Cell + 'a>()
     ensures borrowed { (cell : Bor (List ℕ)) → ⟦<&'a str as Cell>⟧.text cell ≡ cell.now }
+    ensures owned { (cell : Bytes Heap) → ⟦<String as Cell>⟧.text cell ≡ string_bytes cell }
     ensures referred { (cell : Bor C) → ⟦<&'a C as Cell>⟧.text cell ≡ C.text cell.now }
     ensures some { (cell : C) → ⟦<Option<C> as Cell>⟧.text (Some cell) ≡ C.text cell }
     ensures none { ⟦<Option<C> as Cell>⟧.text None ≡ [] }
@@ -46,4 +50,14 @@ pub fn texts_have_their_answers()
     ensures height { (text : List ℕ) → HasLineCount text (text_height text) }
     ensures width { (text : List ℕ) → HasWidth text (text_width text) }
     ensures line_width { (text : List ℕ) (index : ℕ) → HasLineWidth text index (line_measure (line_at (shown_lines (pieces_of text)) index)) }
+{}
+
+/// Vectors and arrays of cells have a row for each of them, with the texts of its cells, and refuse no cell.
+pub fn sources_have_their_rows<'a, T: Cell + 'a, const C: usize, const R: usize>()
+    ensures slice { (rows : Bor (List (VecOf T))) → ⟦<&'a [Vec<T>] as RecordTexts>⟧.rows rows ≡ texts_of_rows T.text rows.now }
+    ensures vector { (rows : VecOf (VecOf T)) → ⟦<Vec<Vec<T>> as RecordTexts>⟧.rows rows ≡ texts_of_rows T.text rows.items }
+    ensures array { (rows : List (List T)) → ⟦<[[T; C]; R] as RecordTexts>⟧.rows rows ≡ map (map T.text) rows }
+    ensures slice_comes { (rows : Bor (List (VecOf T))) → ⟦<&'a [Vec<T>] as RecordTexts>⟧.may_refuse rows ≡ false }
+    ensures vector_comes { (rows : VecOf (VecOf T)) → ⟦<Vec<Vec<T>> as RecordTexts>⟧.may_refuse rows ≡ false }
+    ensures array_comes { (rows : List (List T)) → ⟦<[[T; C]; R] as RecordTexts>⟧.may_refuse rows ≡ false }
 {}

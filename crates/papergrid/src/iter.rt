@@ -47,7 +47,7 @@ impl<R, D, G, C> IterGrid<R, D, G, C> {
 }
 
 impl<'a, R: Records, D: Dimension + Drop, C: Colors + Drop> IterGrid<R, D, &'a SpannedConfig, C> {
-    ghost use Rattle.std.specs.Prelude.{◌≡◌, ◌++◌, ◌⊎◌, Err, IfErr, IfOk, OnErr, OnOk, length, string_bytes};
+    ghost use Rattle.std.specs.Prelude.{◌≡◌, ◌++◌, ◌⊎◌, Err, IfErr, IfOk, OnErr, OnOk, string_bytes};
     ghost use Rattle.grid_config_values.specs.declared.fault.Fault.TheVariants.{Memory};
     ghost use Rattle.grid_config.specs.Looks.{look_of};
     ghost use Rattle.grid_records_traits.specs.Rows.{fitted};

@@ -1,5 +1,5 @@
 -- Estimated sizes leave room for each visible cell.
-use Rattle.std.proofs.Common.{◌≡◌, ◌&&◌, ℕ, zero, suc, ◌+◌, ◌-◌, ◌<◌, ◌≤◌, min, nat_lt, Bool, true, false, List, [], ◌∷◌, ◌++◌, Option, None, length, map, take, drop, replicate, slice_index, slice_index_or, refl, ap, sym, subst, ◌∙◌, arith, add-one}
+use Rattle.std.proofs.Common.{◌≡◌, ◌&&◌, ℕ, zero, suc, ◌+◌, ◌-◌, ◌<◌, ◌≤◌, min, nat_lt, Bool, true, false, List, [], ◌∷◌, ◌++◌, None, length, map, take, drop, replicate, slice_index, slice_index_or, refl, ap, sym, ◌∙◌, arith, add-one}
 use Rattle.std.specs.List.{filter, find, range_with_len, sum}
 use Rattle.std.proofs.lemmas.Bool.Decides.{nat_tests}
 use Rattle.std.proofs.lemmas.List.{take_all, take_more}
@@ -14,7 +14,6 @@ use Rattle.grid_config_spans.proofs.Owners.{own_decides}
 use Rattle.grid_config.specs.Looks.{look_of}
 use Rattle.grid_config.specs.Settings.{Settings}
 use Rattle.grid_records_traits.specs.Rows.{fitted, fitted_row, text_at}
-use Rattle.grid_records_measure.specs.TextLines.{text_width}
 use Rattle.grid_records_estimate.specs.Room.{room}
 use Rattle.grid_records_estimate.specs.Sizes.{table_widths}
 use Rattle.grid_records_estimate.specs.Sizing.{column_axis, is_visible, sizing_of, width_need}
@@ -22,7 +21,7 @@ use Rattle.grid_records_estimate.proofs.Lengths.{length-table_widths, length-fit
 use Rattle.grid_records_estimate.proofs.RoomLemmas.{LeaveRoom-widths}
 use Rattle.grid_records_estimate.proofs.Visibility.{is_visible-decides}
 use Rattle.papergrid_picture.specs.Fitting.{first_too_wide, is_too_wide, need}
-use Rattle.papergrid_picture.specs.Frame.{block_width, stretch}
+use Rattle.papergrid_picture.specs.Frame.{block_width}
 use Rattle.papergrid_picture.specs.Picture.{at}
 use Rattle.papergrid_fits.specs.Tables.{sized}
 use Rattle.papergrid_fits.proofs.First.{columns-inside, none-in_row-more, none-more}

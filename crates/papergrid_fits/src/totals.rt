@@ -1,5 +1,5 @@
 //! How much a table takes as a whole.
-ghost use Rattle.std.specs.Prelude.{◌≡◌, ◌<◌, ◌^◌, ◌+◌, SomeIff};
+ghost use Rattle.std.specs.Prelude.{◌<◌, ◌^◌, ◌+◌, SomeIff};
 ghost use Rattle.papergrid_picture.specs.Frame.{thickness, track_at};
 ghost use Rattle.papergrid_fits.specs.Tables.{column_tracks, row_tracks};
 

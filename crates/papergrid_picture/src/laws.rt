@@ -95,10 +95,10 @@ pub fn worked_edges()
 {}
 
 /// Colours, worked out by hand: a cell's text; a boundary line, whose neighbours in one colour are
-/// coloured together, past a column of width 0, whatever colour it has, and past a boundary that is absent, but not past a cell
-/// that goes on there, be it of width 0; two colours that begin or end in different ways; a text of no bytes, which has no
-/// colour; paddings and margins, each side in its own colour; two cells, each with its own settings and
-/// colour; the justification, in two parts, of a blank line too.
+/// coloured together, past a column of width 0, whatever colour it has, and past a boundary that is absent,
+/// but not past a cell that goes on there, be it of width 0; two colours that begin or end in different
+/// ways; a text of no bytes, which has no colour; paddings and margins, each side in its own colour; two
+/// cells, each with its own settings and colour; the justification, in two parts, of a blank line too.
 pub fn worked_colors()
     ensures text { drawn_in (λ _. Some bracketed) plain (1 ∷ []) (1 ∷ []) (cells (codes "a" ∷ []) ∷ [])
         ≡ joined (codes "+-+" ∷ codes "|[a]|" ∷ codes "+-+" ∷ []) }

@@ -2,7 +2,7 @@
 use Rattle.std.proofs.Common.{◌≡◌, ◌+◌, add-one, ◌<◌, ◌∙◌, ap, sym, refl, arith, ℕ, zero, suc, List, [], ◌∷◌, ◌++◌, Vec, get_or, length, map, string_bytes, take, vec_items}
 use Rattle.std.proofs.lemmas.List.{append_assoc, map_push}
 use Rattle.std.proofs.lemmas.List.Elements.{All-append, All-cons, All-nil}
-use Rattle.std.specs.List.{All, flat_map, zip}
+use Rattle.std.specs.List.{All}
 use Rattle.std.specs.declared.string.String.{String}
 use Rattle.tabled_text.specs.Rows.{text_rows}
 use Rattle.tabled.specs.Making.{named, named_rows}

@@ -1,4 +1,5 @@
 //! Laws of the definitions that the contracts cite.
+ghost use Rattle.std.specs.Iterator.{YieldsFirst};
 ghost use Rattle.std.specs.List.{join_with_byte, range_with_len};
 ghost use Rattle.std.specs.Prelude.{◌≡◌, ◌↔◌, ◌<◌, ◌≤◌, ◌-◌, ◌++◌, ℕ, Bool, IfSome, String, [], ◌∷◌, List, None, Ok, Option, Some, chars, length, map, true, unwrap_or};
 ghost use Rattle.std.specs.declared.cmp.Ordering.TheVariants.{Equal};
@@ -38,6 +39,7 @@ ghost use Rattle.tabled_width.specs.Tables.{narrowed};
 ghost use Rattle.tabled_width.specs.declared.truncate.Truncate.{Truncate as OneTruncate};
 ghost use Rattle.tabled_width.specs.declared.wrap.Wrap.{Wrap as OneWrap};
 
+use crate::building::BuildTable;
 use crate::layout::LayoutIterator;
 use grid_config::ColoredConfig;
 use grid_records_rows::{FromText, VecRecords};
@@ -46,6 +48,7 @@ use tabled_size_priority::{
     Peaker, PriorityLeft, PriorityMax, PriorityMin, PriorityNone, PriorityRight,
 };
 use tabled_steps::{Measurement, TableOption};
+use tabled_text::Builder;
 use tabled_width::{Truncate, Width, Wrap};
 
 /// Batches of rows, worked by hand: five rows by two, four by two, none of size 0, and none of no rows.
@@ -57,13 +60,20 @@ pub fn batches_by_hand()
 {}
 
 /// `==` of iterators over batches is equality of all their parts, and `cmp` finds the same ones equal. A clone
-/// is the same iterator and is never refused, and one that is made by default gives nothing.
+/// is the same iterator and is never refused; one gives the numbers that are left, one after the other, and
+/// that which is made by default none.
 pub fn iterators_are_compared_and_cloned_whole()
     ensures equality { (a b : BatchRows) → (⟦<LayoutIterator as PartialEq>⟧.eq a b ≡ true) ↔ (a ≡ b) }
     ensures order { (a b : BatchRows) → (⟦<LayoutIterator as Ord>⟧.cmp a b ≡ Equal) ↔ (a ≡ b) }
     ensures clone { (source clone : BatchRows) → ⟦<LayoutIterator as Clone>⟧.is_clone source clone → clone ≡ source }
     ensures comes { (source : BatchRows) → ⟦<LayoutIterator as Clone>⟧.is_infallible source }
     ensures at_first { (begun : BatchRows) → ⟦<LayoutIterator as Default>⟧.is_default begun → values_left begun ≡ [] }
+    ensures gives { (begun after : BatchRows) (given : Option ℕ) → ⟦<LayoutIterator as Iterator>⟧.next_gives begun given after → YieldsFirst values_left begun given after }
+{}
+
+/// The rows of a builder are those that a table is built of.
+pub fn builders_have_their_rows()
+    ensures { (rows : List (List (List ℕ))) → ⟦<Builder as BuildTable>⟧.rows rows ≡ rows }
 {}
 
 /// The text of a table is its lines, as many as its total height says, with a line feed between each two. Where

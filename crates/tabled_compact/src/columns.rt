@@ -1,8 +1,7 @@
 //! Tables of arrays of rows, whose columns are as wide as their texts.
-ghost use Rattle.std.specs.List.{range_with_len};
 ghost use Rattle.std.specs.Prelude.{◌≡◌, map};
 ghost use Rattle.grid_records_measure.specs.TextLines.{text_width};
-ghost use Rattle.tabled_compact.specs.Columns.{begun_by_texts, column_width, spaced_width, spaced_widths, text_in};
+ghost use Rattle.tabled_compact.specs.Columns.{begun_by_texts, column_width, spaced_widths, text_in};
 ghost use Rattle.tabled_compact.specs.Tables.{compacted};
 
 use crate::table::CompactTable;

@@ -13,14 +13,24 @@ ghost use Rattle.grid_config_values.specs.declared.entity.Entity.TheVariants.{Gl
 ghost use Rattle.tabled_steps.specs.Looks.{with_borders, with_margin, with_padding};
 ghost use Rattle.tabled_steps.specs.States.{Outcome, State, looking};
 ghost use Rattle.tabled_compact.specs.Tables.{begun, compacted, flat_look, shown_rows};
+ghost use Rattle.grid_config_values.specs.declared.fault.Fault.{Fault as TableFault};
+ghost use Rattle.tabled_compact.specs.Building.{build_fault_text, writing_fault};
+ghost use Rattle.tabled_compact.specs.Columns.{begun_by_texts};
 ghost use Rattle.tabled_compact.specs.declared.fault.BuildFault.{BuildFault as OneFault};
+ghost use Rattle.tabled_compact.specs.declared.fault.BuildFault.TheVariants.{Table as OfTable};
+ghost use Rattle.tabled_output.specs.declared.writing.WriteFault.{WriteFault as WritingFault};
+ghost use Rattle.tabled_size_dimension.specs.declared.const_size.ConstSize.{ConstSize as ConstWidth};
 ghost use Rattle.tabled_compact.specs.declared.table.CompactTable.{CompactTable as OneTable};
 
+use crate::columns::RowArray;
 use crate::fault::BuildFault;
 use crate::table::CompactTable;
-use grid_config::CompactConfig;
+use grid_config::{CompactConfig, Fault};
 use grid_records_traits::{Dimension, RecordTexts};
+use std::fmt::Display;
 use tabled_options::{Margin, Padding, Style};
+use tabled_output::WriteFault;
+use tabled_size_dimension::ConstDimension;
 use tabled_steps::{KeptSizes, TableOption};
 
 /// Rows that a table shows, worked out by hand: those after the ones that are passed over, of these as
@@ -53,18 +63,34 @@ pub fn options_are_their_steps<R: RecordTexts, D: KeptSizes>()
         looking (λ _. compact_look (compact_of settings)) state ≡ outcome }
 {}
 
-/// `==` of refusals is equality, and a clone is the same refusal, and is never refused.
-pub fn faults_are_compared_and_cloned_whole()
+/// `==` of refusals is equality; a clone is the same refusal, and is never refused; one is printed in its own
+/// words, and those of a table and of a writer become the one of the same meaning.
+pub fn faults_are_compared_cloned_and_printed_whole()
     ensures equality { (a b : OneFault) → (⟦<BuildFault as PartialEq>⟧.eq a b ≡ true) ↔ (a ≡ b) }
     ensures clone { (source clone : OneFault) → ⟦<BuildFault as Clone>⟧.is_clone source clone → clone ≡ source }
     ensures comes { (source : OneFault) → ⟦<BuildFault as Clone>⟧.is_infallible source }
+    ensures printed { (fault : OneFault) → ⟦<BuildFault as Display>⟧.output fault ≡ Some (build_fault_text fault) }
+    ensures of_table { (given : TableFault) (fault : OneFault) → ⟦<BuildFault as From<Fault>>⟧.from_gives given fault → fault ≡ OfTable given }
+    ensures of_writer { (given : WritingFault) (fault : OneFault) → ⟦<BuildFault as From<WriteFault>>⟧.from_gives given fault → fault ≡ writing_fault given }
 {}
 
 /// A clone of a table is the same table, where one of its source has the same rows, and one of its sizes the
-/// same widths.
+/// same widths; and is never refused, where these never are.
 pub fn clones_are_the_same<I: RecordTexts + Clone, D: Dimension + Clone>()
-    ensures { ((x y : I) → I.Clone.is_clone x y → I.RecordTexts.rows y ≡ I.RecordTexts.rows x) →
+    ensures clone { ((x y : I) → I.Clone.is_clone x y → I.RecordTexts.rows y ≡ I.RecordTexts.rows x) →
         ((x y : D) → D.Clone.is_clone x y → D.Dimension.width y ≡ D.Dimension.width x) →
         (source clone : OneTable I D) → ⟦<CompactTable<I, D> as Clone>⟧.is_clone source clone →
         compacted I.RecordTexts.rows D.Dimension.width clone ≡ compacted I.RecordTexts.rows D.Dimension.width source }
+    ensures comes { ((x : I) → I.Clone.is_infallible x) → ((x : D) → D.Clone.is_infallible x) → (source : OneTable I D) → ⟦<CompactTable<I, D> as Clone>⟧.is_infallible source }
+{}
+
+/// A table that is made of an array of rows has them in a column for each cell of a row, as wide as their texts
+/// ask.
+pub fn tables_of_arrays_are_as_wide_as_their_texts<
+    I: RowArray<COLUMNS, ROWS>,
+    const COLUMNS: usize,
+    const ROWS: usize,
+>()
+    ensures { (rows : I) (table : OneTable I (ConstWidth COLUMNS × ConstWidth ROWS)) → ⟦<CompactTable<I, ConstDimension<COLUMNS, ROWS>> as From<I>>⟧.from_gives rows table →
+        compacted I.rows ⟦<ConstDimension<COLUMNS, ROWS> as Dimension>⟧.width table ≡ begun_by_texts COLUMNS (I.rows rows) }
 {}

@@ -123,3 +123,10 @@ pub fn clones_are_the_same<W: Clone, P: Clone>()
     ensures table_increase { ((x y : W) → W.is_clone x y → y ≡ x) → ((x y : P) → P.is_clone x y → y ≡ x) →
         (source clone : TableIncrease W P) → ⟦<TableHeightIncrease<W, P> as Clone>⟧.is_clone source clone → table_increase clone ≡ table_increase source }
 {}
+
+/// A clone of an option is never refused, where clones of its height and of its priority never are.
+pub fn clones_are_never_refused<W: Clone, P: Clone>()
+    ensures increase { ((x : W) → W.is_infallible x) → (source : CellIncrease W) → ⟦<CellHeightIncrease<W> as Clone>⟧.is_infallible source }
+    ensures limit { ((x : W) → W.is_infallible x) → (source : CellLimit W) → ⟦<CellHeightLimit<W> as Clone>⟧.is_infallible source }
+    ensures table_increase { ((x : W) → W.is_infallible x) → ((x : P) → P.is_infallible x) → (source : TableIncrease W P) → ⟦<TableHeightIncrease<W, P> as Clone>⟧.is_infallible source }
+{}

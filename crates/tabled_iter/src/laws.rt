@@ -14,8 +14,10 @@ pub fn equal_tables_are_the_same<I: RecordTexts + PartialEq>()
     ensures itself { ((x : I) → I.PartialEq.eq x x ≡ true) → (a : OneTable I) → ⟦<IterTable<I> as PartialEq>⟧.eq a a ≡ true }
 {}
 
-/// A clone of a table is the same table, where one of its source has the same rows.
+/// A clone of a table is the same table, where one of its source has the same rows, and is never refused where
+/// that never is.
 pub fn clones_are_the_same<I: RecordTexts + Clone>()
-    ensures { ((x y : I) → I.Clone.is_clone x y → I.RecordTexts.rows y ≡ I.RecordTexts.rows x) →
+    ensures comes { ((x : I) → I.Clone.is_infallible x) → (source : OneTable I) → ⟦<IterTable<I> as Clone>⟧.is_infallible source }
+    ensures clone { ((x y : I) → I.Clone.is_clone x y → I.RecordTexts.rows y ≡ I.RecordTexts.rows x) →
         (source clone : OneTable I) → ⟦<IterTable<I> as Clone>⟧.is_clone source clone → streamed I.RecordTexts.rows clone ≡ streamed I.RecordTexts.rows source }
 {}

@@ -6,6 +6,7 @@ mod adjustable;
 mod amount;
 mod by_choice;
 mod cells;
+pub mod laws;
 mod list;
 mod setting;
 mod whole;

@@ -13,13 +13,14 @@ ghost use Rattle.tabled_options.specs.declared.span.Span.{Span as OneSpan};
 ghost use Rattle.tabled_options.specs.declared.alignment.Alignment.{Alignment as OneAlignment};
 ghost use Rattle.tabled_options.specs.declared.margin.Margin.{Margin as OneMargin};
 ghost use Rattle.tabled_options.specs.declared.padding.Padding.{Padding as OnePadding};
+ghost use Rattle.tabled_options.specs.declared.padding.PaddingExpand.{PaddingExpand as OneExpand};
 ghost use Rattle.tabled_options.specs.declared.style.Style.{Style as OneStyle};
 ghost use Rattle.tabled_steps.specs.Looks.{with_borders, with_margin, with_padding};
 ghost use Rattle.tabled_steps.specs.States.{Outcome, State, looking};
 
 use crate::alignment::Alignment;
 use crate::margin::Margin;
-use crate::padding::Padding;
+use crate::padding::{Padding, PaddingExpand};
 use crate::span::Span;
 use crate::style::Style;
 use grid_config::{ColoredConfig, CompactConfig, Indent, Sides};
@@ -94,6 +95,17 @@ pub fn clones_are_the_same()
     ensures alignment { (source clone : OneAlignment) → ⟦<Alignment as Clone>⟧.is_clone source clone → clone ≡ source }
     ensures span { (source clone : OneSpan) → ⟦<Span as Clone>⟧.is_clone source clone → clone ≡ source }
     ensures style { (source clone : OneStyle) → ⟦<Style as Clone>⟧.is_clone source clone → clone ≡ source }
+    ensures expand { (source clone : OneExpand) → ⟦<PaddingExpand as Clone>⟧.is_clone source clone → clone ≡ source }
+{}
+
+/// A clone of an option is never refused.
+pub fn clones_are_never_refused()
+    ensures margin { (source : OneMargin) → ⟦<Margin as Clone>⟧.is_infallible source }
+    ensures padding { (source : OnePadding) → ⟦<Padding as Clone>⟧.is_infallible source }
+    ensures alignment { (source : OneAlignment) → ⟦<Alignment as Clone>⟧.is_infallible source }
+    ensures span { (source : OneSpan) → ⟦<Span as Clone>⟧.is_infallible source }
+    ensures style { (source : OneStyle) → ⟦<Style as Clone>⟧.is_infallible source }
+    ensures expand { (source : OneExpand) → ⟦<PaddingExpand as Clone>⟧.is_infallible source }
 {}
 
 /// `==` of paddings is equality of their four indents, and `cmp` finds the same ones equal.

@@ -2,6 +2,7 @@
 #![tactic(auto)]
 
 mod counted;
+pub mod laws;
 mod writing;
 
 pub use counted::Counted;

@@ -6,10 +6,11 @@ pub use tabled_size_dimension::laws::{
 };
 pub use tabled_size_priority::laws::{
     levels_are_named, narrowest_first_is_best, one_grown_list, one_shrunk_list,
+    priorities_are_compared_and_cloned_whole, priorities_name_their_columns, sides_are_kept,
     widest_first_is_best, worked_growths, worked_shrinks,
 };
 pub use tabled_size_wrap::laws::{
     fewest_runs, one_list_of_runs, one_wrapped_text, the_cut_text, the_wrapped_text,
-    units_make_up_the_line, worked_cuts, worked_wraps, wrapped_lines_fit,
-    wrapped_lines_show_their_runs, wrapping_adds_breaks,
+    units_are_compared_and_cloned_whole, units_make_up_the_line, worked_cuts, worked_wraps,
+    wrapped_lines_fit, wrapped_lines_show_their_runs, wrapping_adds_breaks,
 };

@@ -1,5 +1,5 @@
 -- Sizes that a table keeps and that compare as equal are the same.
-use Rattle.std.proofs.Common.{◌≡◌, ℕ, Bool, true, List, nat_eq, ap, ◌∙◌, sym}
+use Rattle.std.proofs.Common.{◌≡◌, ℕ, true, List, nat_eq, ap, ◌∙◌, sym}
 use Rattle.std.proofs.lemmas.Bool.{and_parts}
 use Rattle.std.specs.Cmp.{tied_itself, unsigned_Decides}
 use Rattle.std.specs.Cmp.Lexicographic.{pointwise, pointwise_decides}

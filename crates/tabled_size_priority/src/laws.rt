@@ -1,9 +1,22 @@
 //! Laws of the definitions that the other contracts cite.
-ghost use Rattle.std.specs.Prelude.{◌≡◌, ◌+◌, ◌^◌, ℕ, Bool, List, [], ◌∷◌, true, false, length};
-ghost use Rattle.tabled_size_priority.specs.Columns.{from_column, from_side};
+ghost use Rattle.std.specs.Prelude.{◌≡◌, ◌↔◌, ◌+◌, ◌^◌, ℕ, Bool, List, Option, [], ◌∷◌, true, false, length};
+ghost use Rattle.std.specs.declared.cmp.Ordering.TheVariants.{Equal};
+ghost use Rattle.tabled_size_priority.specs.Columns.{from_side};
 ghost use Rattle.tabled_size_priority.specs.Growing.{IsGrownByNarrowest, IsGrownByWidest, IsGrownFromSide, IsGrownInTurns, grown_to_level};
 ghost use Rattle.tabled_size_priority.specs.Levels.{AreAtLeast, AreAtMost, CouldBeGrown, CouldBeShrunk, IsGreatestLevel, IsLeastLevel};
+ghost use Rattle.tabled_size_priority.specs.Peaks.{narrowest_peaks, side_peaks, turn_peaks, widest_peaks};
 ghost use Rattle.tabled_size_priority.specs.Shrinking.{IsOfForm, IsShrunkByNarrowest, IsShrunkByWidest, IsShrunkFromSide, IsShrunkInTurns, shrunk_sum, shrunk_to_level};
+ghost use Rattle.tabled_size_priority.specs.declared.choice.Choice.{Choice as OneChoice};
+ghost use Rattle.tabled_size_priority.specs.declared.left.PriorityLeft.{PriorityLeft as FromLeft};
+ghost use Rattle.tabled_size_priority.specs.declared.right.PriorityRight.{PriorityRight as FromRight};
+
+use crate::choice::Choice;
+use crate::left::PriorityLeft;
+use crate::max::PriorityMax;
+use crate::min::PriorityMin;
+use crate::none::PriorityNone;
+use crate::peaker::Peaker;
+use crate::right::PriorityRight;
 
 /// Shrunk lists that were worked out by hand: in turns, from a side, by the widest and the narrowest, with
 /// ties to both sides; one too large to be taken column by column; missing leasts; more asked than there
@@ -82,4 +95,49 @@ pub fn widest_first_is_best()
 pub fn narrowest_first_is_best()
     ensures { (right : Bool) (by : ℕ) (widths sizes others : List ℕ) (fewest : ℕ) →
         AreAtLeast widths 1 → IsGrownByNarrowest right by widths sizes → CouldBeGrown widths sizes others → AreAtLeast others fewest → AreAtLeast sizes fewest }
+{}
+
+/// `==` of priorities and of their names is equality of what they keep, and `cmp` finds the same ones equal; a
+/// clone is the same, and is never refused; made by default, one goes on at the first column, or prefers the
+/// left.
+pub fn priorities_are_compared_and_cloned_whole()
+    ensures none { (a b : ℕ) → (⟦<PriorityNone as PartialEq>⟧.eq a b ≡ true) ↔ (a ≡ b) }
+    ensures widest { (a b : Bool) → (⟦<PriorityMax as PartialEq>⟧.eq a b ≡ true) ↔ (a ≡ b) }
+    ensures narrowest { (a b : Bool) → (⟦<PriorityMin as PartialEq>⟧.eq a b ≡ true) ↔ (a ≡ b) }
+    ensures names { (a b : OneChoice) → (⟦<Choice as PartialEq>⟧.eq a b ≡ true) ↔ (a ≡ b) }
+    ensures clone_of_none { (source clone : ℕ) → ⟦<PriorityNone as Clone>⟧.is_clone source clone → clone ≡ source }
+    ensures clone_of_widest { (source clone : Bool) → ⟦<PriorityMax as Clone>⟧.is_clone source clone → clone ≡ source }
+    ensures clone_of_narrowest { (source clone : Bool) → ⟦<PriorityMin as Clone>⟧.is_clone source clone → clone ≡ source }
+    ensures clone_of_name { (source clone : OneChoice) → ⟦<Choice as Clone>⟧.is_clone source clone → clone ≡ source }
+    ensures none_comes { (source : ℕ) → ⟦<PriorityNone as Clone>⟧.is_infallible source }
+    ensures widest_comes { (source : Bool) → ⟦<PriorityMax as Clone>⟧.is_infallible source }
+    ensures narrowest_comes { (source : Bool) → ⟦<PriorityMin as Clone>⟧.is_infallible source }
+    ensures name_comes { (source : OneChoice) → ⟦<Choice as Clone>⟧.is_infallible source }
+    ensures none_order { (a b : ℕ) → (⟦<PriorityNone as Ord>⟧.cmp a b ≡ Equal) ↔ (a ≡ b) }
+    ensures widest_order { (a b : Bool) → (⟦<PriorityMax as Ord>⟧.cmp a b ≡ Equal) ↔ (a ≡ b) }
+    ensures narrowest_order { (a b : Bool) → (⟦<PriorityMin as Ord>⟧.cmp a b ≡ Equal) ↔ (a ≡ b) }
+    ensures left { (a b : FromLeft) → ⟦<PriorityLeft as PartialEq>⟧.eq a b ≡ true }
+    ensures right { (a b : FromRight) → ⟦<PriorityRight as PartialEq>⟧.eq a b ≡ true }
+    ensures left_comes { (source : FromLeft) → ⟦<PriorityLeft as Clone>⟧.is_infallible source }
+    ensures right_comes { (source : FromRight) → ⟦<PriorityRight as Clone>⟧.is_infallible source }
+    ensures none_at_first { (begun : ℕ) → ⟦<PriorityNone as Default>⟧.is_default begun → begun ≡ 0 }
+    ensures widest_at_first { (begun : Bool) → ⟦<PriorityMax as Default>⟧.is_default begun → begun ≡ false }
+    ensures narrowest_at_first { (begun : Bool) → ⟦<PriorityMin as Default>⟧.is_default begun → begun ≡ false }
+{}
+
+/// A priority but `PriorityNone` keeps what it kept when it shrinks or grows.
+pub fn sides_are_kept()
+    ensures shrunk_by_widest { (side after : Bool) (least widths sizes : List ℕ) (by : ℕ) → ⟦<PriorityMax as Peaker>⟧.shrinks side least by widths after sizes → after ≡ side }
+    ensures grown_by_widest { (side after : Bool) (widths sizes : List ℕ) (by : ℕ) → ⟦<PriorityMax as Peaker>⟧.grows side by widths after sizes → after ≡ side }
+    ensures shrunk_by_narrowest { (side after : Bool) (least widths sizes : List ℕ) (by : ℕ) → ⟦<PriorityMin as Peaker>⟧.shrinks side least by widths after sizes → after ≡ side }
+    ensures grown_by_narrowest { (side after : Bool) (widths sizes : List ℕ) (by : ℕ) → ⟦<PriorityMin as Peaker>⟧.grows side by widths after sizes → after ≡ side }
+{}
+
+/// A priority names the column of its kind, whether one is to give or to grow.
+pub fn priorities_name_their_columns()
+    ensures turns { (next after : ℕ) (least sizes : List ℕ) (answer : Option ℕ) → ⟦<PriorityNone as Peaker>⟧.peaks next least sizes answer after → turn_peaks next least sizes answer after }
+    ensures left { (before after : FromLeft) (least sizes : List ℕ) (answer : Option ℕ) → ⟦<PriorityLeft as Peaker>⟧.peaks before least sizes answer after → side_peaks false before least sizes answer after }
+    ensures right { (before after : FromRight) (least sizes : List ℕ) (answer : Option ℕ) → ⟦<PriorityRight as Peaker>⟧.peaks before least sizes answer after → side_peaks true before least sizes answer after }
+    ensures widest { (side after : Bool) (least sizes : List ℕ) (answer : Option ℕ) → ⟦<PriorityMax as Peaker>⟧.peaks side least sizes answer after → widest_peaks side least sizes answer after }
+    ensures narrowest { (side after : Bool) (least sizes : List ℕ) (answer : Option ℕ) → ⟦<PriorityMin as Peaker>⟧.peaks side least sizes answer after → narrowest_peaks side least sizes answer after }
 {}

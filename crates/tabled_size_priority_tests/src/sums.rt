@@ -1,5 +1,5 @@
 //! What the calls ask of widths.
-ghost use Rattle.std.specs.Prelude.{◌≡◌, ◌+◌, ◌^◌, ◌<◌, ◌≤◌, length, sum, IsTrue};
+ghost use Rattle.std.specs.Prelude.{◌+◌, ◌^◌, ◌<◌, sum, IsTrue};
 
 /// Whether the widths and so much more sum to no more than the greatest `usize`.
 pub fn fits(widths: &[usize], more: usize) -> bool

@@ -1,6 +1,6 @@
 //! Laws of the definitions that the other contracts cite.
 
-ghost use Rattle.std.specs.Prelude.{All, ◌≡◌, ◌≤◌, ◌<◌, ◌||◌, ℕ, Bool, List, [], chars, codes, encode_utf8_all, false, flat_map, length, true};
+ghost use Rattle.std.specs.Prelude.{All, ◌≡◌, ◌↔◌, ◌≤◌, ◌<◌, ◌||◌, ℕ, Bool, List, [], chars, codes, encode_utf8_all, false, flat_map, length, true};
 ghost use Rattle.std.specs.List.{join_with_byte, list_all};
 ghost use Rattle.std.specs.Str.{IsUtf8};
 ghost use Rattle.ansi_scan.specs.Sequences.{Piece, ArePiecesOf, NoneBroken};
@@ -17,6 +17,9 @@ ghost use Rattle.tabled_size_wrap.specs.Runs.{runs_of};
 ghost use Rattle.tabled_size_wrap.specs.Units.{LineUnit, line_units};
 ghost use Rattle.tabled_size_wrap.specs.Worked.{CutsTo, WrapsTo};
 ghost use Rattle.tabled_size_wrap.specs.Wrapping.{IsWrapped};
+ghost use Rattle.tabled_size_wrap.specs.declared.line_units.Unit.{Unit as OneUnit};
+
+use crate::line_units::Unit;
 
 /// The runs that units are broken into are one list, that of the function `runs_of`: there is such a list,
 /// and no other.
@@ -115,4 +118,11 @@ pub fn worked_cuts()
         (encode_utf8_all (codes "😳�")) }
     ensures first_line { CutsTo 3 (codes "123\n456789") (codes "123") }
     ensures second_line { CutsTo 4 (codes "123\n456789") (codes "123\n4567") }
+{}
+
+/// `==` of units is equality of all parts; a clone is the same unit, and is never refused.
+pub fn units_are_compared_and_cloned_whole()
+    ensures equality { (a b : OneUnit) → (⟦<Unit as PartialEq>⟧.eq a b ≡ true) ↔ (a ≡ b) }
+    ensures clone { (source clone : OneUnit) → ⟦<Unit as Clone>⟧.is_clone source clone → clone ≡ source }
+    ensures comes { (source : OneUnit) → ⟦<Unit as Clone>⟧.is_infallible source }
 {}

@@ -1,7 +1,6 @@
 //! Laws of the definitions that the contracts cite.
 ghost use Rattle.std.specs.Borrow.{Bor};
 ghost use Rattle.std.specs.Prelude.{◌≡◌, ◌+◌, ◌-◌, ◌^◌, ℕ, List, Result, ◌==◌, ◌++◌, if◌then◌else◌, [], ◌∷◌, Err, None, Ok, Option, Some, codes};
-ghost use Rattle.grid_config_colors.specs.Colors.{Color};
 ghost use Rattle.grid_config_spans.specs.Spans.{single};
 ghost use Rattle.grid_config.specs.Coloring.{Coloring};
 ghost use Rattle.grid_config.specs.Compact.{compact_of};
@@ -14,16 +13,18 @@ ghost use Rattle.grid_config_values.specs.declared.position.Position.{Position a
 ghost use Rattle.grid_config_values.specs.declared.entity.Entity.{Entity as Cells};
 ghost use Rattle.grid_config_values.specs.declared.entity.Entity.TheVariants.{Cell as OneCell, Column, Global as EveryCell, Row};
 ghost use Rattle.grid_config_values.specs.declared.fault.Fault.TheVariants.{Range as Passed, Spans as BadSpan};
-ghost use Rattle.grid_records_traits.specs.Rows.{text_at};
-ghost use Rattle.tabled_steps.specs.Changes.{changed_rows, changing};
+ghost use Rattle.tabled_steps.specs.Changes.{changed_rows};
 ghost use Rattle.tabled_steps.specs.Looks.{changing_inside, covering, placing, with_column_span, with_columns, with_extents, with_row_span, with_rows};
 ghost use Rattle.tabled_steps.specs.Outcomes.{◌≫=◌, all_sized, sized};
 ghost use Rattle.tabled_steps.specs.States.{Outcome, Settles, State, looking, positive, settled};
 ghost use Rattle.tabled_size_dimension.specs.Stored.{Stored, none_stored};
 ghost use Rattle.tabled_steps.specs.Worked.{at, keeping, letters};
+ghost use Rattle.tabled_steps.specs.declared.measurement.Max.{Max as Greatest};
+ghost use Rattle.tabled_steps.specs.declared.measurement.Min.{Min as LeastThatHolds};
+ghost use Rattle.tabled_steps.specs.declared.measurement.Percent.{Percent as Hundredths};
 
 use crate::configuration::{Configuration, KeptSizes};
-use crate::measurement::Measurement;
+use crate::measurement::{Max, Measurement, Min, Percent};
 use crate::option::TableOption;
 use grid_config::{ColoredConfig, CompactConfig, SpannedConfig};
 use grid_records_traits::records::RecordTexts;
@@ -110,4 +111,12 @@ pub fn what_options_see<A>()
     ensures sizes { (stored : Stored) → ⟦<CompleteDimension as KeptSizes>⟧.sizes stored ≡ stored }
     ensures number { (n columns : ℕ) (rows : List (List (List ℕ))) (look : Look) (outcome : Result ℕ Refusal) →
         ⟦<usize as Measurement<A>>⟧.measures n columns rows look outcome → Ok n ≡ outcome }
+{}
+
+/// A clone of a size that is taken from a table is the same, and is never refused.
+pub fn clones_of_sizes_are_the_same()
+    ensures percent { (source clone : Hundredths) → ⟦<Percent as Clone>⟧.is_clone source clone → clone ≡ source }
+    ensures percent_comes { (source : Hundredths) → ⟦<Percent as Clone>⟧.is_infallible source }
+    ensures greatest_comes { (source : Greatest) → ⟦<Max as Clone>⟧.is_infallible source }
+    ensures least_comes { (source : LeastThatHolds) → ⟦<Min as Clone>⟧.is_infallible source }
 {}

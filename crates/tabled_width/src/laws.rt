@@ -181,3 +181,11 @@ pub fn clones_are_the_same<'a, W: Clone, P: Clone>()
     ensures justifying { ((x y : W) → W.is_clone x y → y ≡ x) →
         (source clone : OneJustify W) → ⟦<Justify<W> as Clone>⟧.is_clone source clone → justified_width clone ≡ justified_width source }
 {}
+
+/// A clone of an option is never refused, where clones of its width and of its priority never are.
+pub fn clones_are_never_refused<'a, W: Clone, P: Clone>()
+    ensures widening { ((x : W) → W.is_infallible x) → ((x : P) → P.is_infallible x) → (source : OneMinWidth W P) → ⟦<MinWidth<W, P> as Clone>⟧.is_infallible source }
+    ensures breaking { ((x : W) → W.is_infallible x) → ((x : P) → P.is_infallible x) → (source : OneWrap W P) → ⟦<Wrap<W, P> as Clone>⟧.is_infallible source }
+    ensures cutting { ((x : W) → W.is_infallible x) → ((x : P) → P.is_infallible x) → (source : OneTruncate W P) → ⟦<Truncate<'a, W, P> as Clone>⟧.is_infallible source }
+    ensures justifying { ((x : W) → W.is_infallible x) → (source : OneJustify W) → ⟦<Justify<W> as Clone>⟧.is_infallible source }
+{}

@@ -1,5 +1,5 @@
 //! Lists of widths.
-ghost use Rattle.std.specs.Prelude.{◌≡◌, IfOk, IsOk, List, None, Option, ℕ};
+ghost use Rattle.std.specs.Prelude.{◌≡◌, IfOk, IsOk, None, Option};
 ghost use Rattle.std.specs.Iterator.{Drains, IsFinite};
 ghost use Rattle.tabled_width.specs.Lists.{with_width_list};
 ghost use Rattle.tabled_steps.specs.States.{Steps, state_with};

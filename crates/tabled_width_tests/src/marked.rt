@@ -1,5 +1,5 @@
 //! Cells that know whether they were set.
-ghost use Rattle.std.specs.Prelude.{◌≡◌, string_bytes};
+ghost use Rattle.std.specs.Prelude.{string_bytes};
 
 use grid_config::{Borders, ColoredConfig, Fault, SpannedConfig};
 use grid_records_rows::{Cell, FromText, Text, VecRecords, are_equally_long};

@@ -1,5 +1,5 @@
 //! Texts that are cut to a room, with a suffix after them.
-ghost use Rattle.std.specs.Prelude.{◌≡◌, ◌++◌, ◌∷◌, [], IfOk, OnOk, encode_utf8_all, string_bytes};
+ghost use Rattle.std.specs.Prelude.{◌≡◌, ◌++◌, IfOk, OnOk, string_bytes};
 ghost use Rattle.ansi_scan.specs.StartsAndEnds.{end_bytes, start_bytes};
 ghost use Rattle.tabled_size_wrap.specs.Bytes.{cut_at};
 ghost use Rattle.tabled_width_texts.specs.Cutting.{cut_line, cut_text, filled_by, suffix_behind, truncating, without_room};

@@ -1,6 +1,6 @@
 //! Arrays: the texts of the members, and numbers for names.
-ghost use Rattle.std.specs.Prelude.{◌≡◌, IfOk, map, vec_len};
-ghost use Rattle.tabled_text.specs.Fields.{numbers, texts_of};
+ghost use Rattle.std.specs.Prelude.{map};
+ghost use Rattle.tabled_text.specs.Fields.{numbers};
 
 use crate::cell_text::{CellText, displayed};
 use crate::tabled::Tabled;

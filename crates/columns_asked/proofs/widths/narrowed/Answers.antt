@@ -1,5 +1,5 @@
 -- The widths that are shrunk in place are a list of their own, as long as the others.
-use Rattle.std.proofs.Common.{◌≡◌, ◌<◌, ◌∙◌, List, ℕ, length, replicate, arith}
+use Rattle.std.proofs.Common.{◌≡◌, ◌<◌, ◌∙◌, length, replicate, arith}
 use Rattle.std.specs.Prelude.{Some}
 use Rattle.columns_asked.proofs.NarrowLemmas.{narrowed-some}
 use Rattle.columns_asked.proofs.widths.narrowed.Goals as goal

@@ -1,4 +1,4 @@
-use Rattle.std.proofs.Common.{◌≡◌, ◌<◌, Bool, None, Some, ap, sym, ◌∙◌, arith}
+use Rattle.std.proofs.Common.{◌<◌, Bool, Some, ap, sym, ◌∙◌, arith}
 use Rattle.std.specs.Option.{option_map}
 use Rattle.grid_config_values.specs.declared.position.Position.{Position}
 use Rattle.papergrid_picture.specs.Fitting.{is_too_wide}

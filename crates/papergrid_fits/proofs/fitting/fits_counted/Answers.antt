@@ -1,4 +1,4 @@
-use Rattle.std.proofs.Common.{◌≡◌, ◌∙◌, arith, sym, IsTrue}
+use Rattle.std.proofs.Common.{◌∙◌, arith, sym, IsTrue}
 use Rattle.papergrid_fits.proofs.Ranges.{first-is}
 use Rattle.papergrid_fits.proofs.fitting.fits_counted.Goals as goal
 

@@ -1,4 +1,4 @@
-use Rattle.std.proofs.Common.{◌≡◌, ◌<◌, sym, ◌∙◌, arith}
+use Rattle.std.proofs.Common.{◌<◌, sym, ◌∙◌, arith}
 use Rattle.std.proofs.lemmas.Bool.Decides.{nat_tests}
 use Rattle.papergrid_fits.proofs.Ranges.{in_range-both, in_range-not}
 use Rattle.papergrid_fits.proofs.fitting.is_in_range.Goals as goal

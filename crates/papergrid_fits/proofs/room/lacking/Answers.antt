@@ -1,4 +1,4 @@
-use Rattle.std.proofs.Common.{◌≡◌, ◌+◌, ◌-◌, ◌<◌, ◌≤◌, ◌&&◌, nat_lt, ℕ, Bool, ap, ◌∙◌, arith}
+use Rattle.std.proofs.Common.{◌≡◌, ◌+◌, ◌-◌, ◌≤◌, ◌&&◌, nat_lt, ℕ, Bool, ap, ◌∙◌, arith}
 use Rattle.grid_config_values.specs.Glyphs.{boundary_kind, has_column_boundary}
 use Rattle.papergrid_picture.specs.Frame.{thickness}
 use Rattle.papergrid_fits.proofs.Reach.{left-more, strip_length, stretch-strip}

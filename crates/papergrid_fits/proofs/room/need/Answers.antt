@@ -1,4 +1,4 @@
-use Rattle.std.proofs.Common.{◌≡◌, ◌+◌, ap, arith}
+use Rattle.std.proofs.Common.{ap, arith}
 use Rattle.grid_records_traits.specs.Rows.{text_at}
 use Rattle.papergrid_fits.proofs.Widths.{text_width-is}
 use Rattle.papergrid_fits.proofs.room.need.Goals as goal

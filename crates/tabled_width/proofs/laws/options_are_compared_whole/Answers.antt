@@ -1,25 +1,13 @@
-use Rattle.std.proofs.Common.{◌≡◌, ◌&&◌, ℕ, Bool, true, false, refl, ap, ◌∙◌, sym}
-use Rattle.std.proofs.Math.Bool.{beq}
+use Rattle.std.proofs.Common.{◌≡◌, ◌&&◌, ℕ, Bool, true, refl, ap, ◌∙◌, sym}
 use Rattle.std.proofs.lemmas.Bool.{and_parts}
 use Rattle.std.specs.Cmp.{unsigned_Decides}
 use Rattle.std.specs.Cmp.Lexicographic.{pointwise_decides}
+use Rattle.grid_config_values.proofs.Equality.{switch_passes as switch-itself, switch_same as same-switch}
 use Rattle.tabled_size_dimension.specs.contracts.suffix.SuffixLimitPartialEq.TheImpl.{ghosts as limits}
 use Rattle.tabled_size_dimension.specs.declared.suffix.SuffixLimit.{SuffixLimit}
 use Rattle.tabled_size_dimension.specs.declared.suffix.SuffixLimit.TheVariants.{Cut, Ignore, Replace}
 use Rattle.tabled_width.specs.Options.{Truncation}
 use Rattle.tabled_width.proofs.laws.options_are_compared_whole.Goals as goal
-
-same-switch : (a b : Bool) → beq a b ≡ true → a ≡ b
-same-switch true true e = refl
-same-switch false false e = refl
-same-switch true false e = sym e
-same-switch false true e = e
-
-switch-itself : (a b : Bool) → a ≡ b → beq a b ≡ true
-switch-itself true true e = refl
-switch-itself false false e = refl
-switch-itself true false e = sym e
-switch-itself false true e = e
 
 same-limit : (a b : SuffixLimit) → limits.eq a b ≡ true → a ≡ b
 same-limit Cut Cut e = refl

@@ -1,7 +1,5 @@
 use Rattle.tabled.proofs.ShownIn.{looks_in}
 use Rattle.grid_config.specs.Looks.{look_of}
-use Rattle.grid_config_values.specs.Settings.{value_at}
-use Rattle.grid_records_traits.specs.Sources.{texts_of_rows}
 use Rattle.grid_config_values.specs.declared.sides.Indent.{Indent}
 use Rattle.grid_config_values.specs.declared.sides.Sides.{Sides}
 use Rattle.tabled.specs.Shown.{lacking, margin_in}

@@ -1,5 +1,4 @@
-use Rattle.std.proofs.Common.{◌≡◌, ◌⊎◌, Err, Ok, inl, subst, ◌∙◌}
-use Rattle.std.proofs.lemmas.Result.{err_from_is_err_and}
+use Rattle.std.proofs.Common.{◌≡◌, ◌⊎◌, Err, Ok, subst}
 use Rattle.std.specs.Prelude.{IfErr, IfOk, OnOk, string_bytes}
 use Rattle.grid_config.specs.Looks.{Look}
 use Rattle.grid_config_values.specs.Settings.{value_at}

@@ -1,5 +1,4 @@
-use Rattle.std.proofs.Common.{List, ℕ, ◌∙◌, sym}
-use Rattle.tabled_text.specs.Rows.{text_rows}
+use Rattle.std.proofs.Common.{◌∙◌}
 use Rattle.tabled.specs.Making.{named_rows}
 use Rattle.tabled.proofs.Even.{even_rows}
 use Rattle.tabled.proofs.Naming.{named_rows_wide}

@@ -1,0 +1,17 @@
+//! Laws of what the contracts cite.
+
+ghost use Rattle.std.specs.Prelude.{◌≡◌, ◌↔◌, Some, true};
+ghost use Rattle.tabled_output.specs.Faults.{fault_text};
+ghost use Rattle.tabled_output.specs.declared.writing.WriteFault.{WriteFault as OneFault};
+
+use crate::writing::WriteFault;
+use std::fmt::Display;
+
+/// `==` of the reasons for which not all was written is equality; a clone is the same reason, and is never
+/// refused; one is printed in its own words.
+pub fn faults_are_compared_cloned_and_printed_whole()
+    ensures equality { (a b : OneFault) → (⟦<WriteFault as PartialEq>⟧.eq a b ≡ true) ↔ (a ≡ b) }
+    ensures clone { (source clone : OneFault) → ⟦<WriteFault as Clone>⟧.is_clone source clone → clone ≡ source }
+    ensures comes { (source : OneFault) → ⟦<WriteFault as Clone>⟧.is_infallible source }
+    ensures printed { (fault : OneFault) → ⟦<WriteFault as Display>⟧.output fault ≡ Some (fault_text fault) }
+{}
