@@ -1,8 +1,11 @@
 //! Laws of the definitions that the other contracts cite.
 
-ghost use Rattle.std.specs.Prelude.{◌≡◌, ◌↔◌, ℕ, List, map, ◌++◌, IsSome, true};
+ghost use Rattle.std.specs.Prelude.{◌≡◌, ◌↔◌, ℕ, List, Option, map, ◌++◌, IsSome, true};
+ghost use Rattle.std.specs.Iterator.{YieldsFirst};
 ghost use Rattle.ansi_scan.specs.declared.items.Item.{Item as OneItem};
 ghost use Rattle.ansi_scan.specs.declared.items.Kind.{Kind as OneKind};
+ghost use Rattle.ansi_scan.specs.declared.items.Scan.{Scan as OneScan};
+ghost use Rattle.ansi_scan.specs.Scan.{items_left};
 ghost use Rattle.ansi_scan.specs.Sequences.{Piece, ArePiecesOf, IsWhole, IsFirstBroken, IsSgr, NoneBroken};
 ghost use Rattle.ansi_scan.specs.Pieces.{pieces};
 ghost use Rattle.ansi_scan.specs.Places.{placed, piece_at};
@@ -10,10 +13,10 @@ ghost use Rattle.ansi_scan.specs.Joining.{put_all_before};
 ghost use Rattle.ansi_scan_style.specs.Attributes.{Attributes};
 ghost use Rattle.ansi_scan_style.specs.Rendition.{applied, sgr_parameters};
 
-use crate::items::{Item, Kind};
+use crate::items::{Item, Kind, Scan};
 pub use ansi_scan_style::laws::{
-    bytes_are_few, bytes_are_sequences, clones_set_the_same, end_clears_its_style,
-    equal_colors_are_the_same, equal_styles_set_the_same, no_color_is_purple,
+    bytes_are_few, bytes_are_sequences, clones_set_the_same, colors_have_their_names,
+    end_clears_its_style, equal_colors_are_the_same, equal_styles_set_the_same, no_color_is_purple,
     parameters_are_numbers, parameters_in_order, plain_writes_nothing, reset_clears_all,
     sequence_form, sequences_give_renditions, start_reads_as_its_style,
     starts_and_ends_are_printed_whole,
@@ -67,4 +70,9 @@ pub fn clones_of_items_are_the_same()
     ensures items { (source clone : OneItem) → ⟦<Item as Clone>⟧.is_clone source clone → clone ≡ source }
     ensures kinds_come { (source : OneKind) → ⟦<Kind as Clone>⟧.is_infallible source }
     ensures items_come { (source : OneItem) → ⟦<Item as Clone>⟧.is_infallible source }
+{}
+
+/// The items of a text come one after the other, and then none.
+pub fn items_come_in_their_order()
+    ensures { (before after : OneScan) (given : Option OneItem) → ⟦<Scan<'static> as Iterator>⟧.next_gives before given after → YieldsFirst items_left before given after }
 {}

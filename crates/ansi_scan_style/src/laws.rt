@@ -115,6 +115,11 @@ pub fn equal_colors_are_the_same()
     ensures ansi_colors_order { (a b : OneAnsiColor) → (⟦<AnsiColor as Ord>⟧.cmp a b ≡ Equal) ↔ (a ≡ b) }
 {}
 
+/// A colour that a sequence sets becomes the one of its name.
+pub fn colors_have_their_names()
+    ensures { (color : OneAnsiColor) (name : OneColor) → ⟦<Color as From<AnsiColor>>⟧.from_gives color name → name ≡ color_of color }
+{}
+
 /// A start and an end of a style are printed as their bytes.
 pub fn starts_and_ends_are_printed_whole()
     ensures starts { (style : Attributes) → ⟦<AnsiSequenceStart as Display>⟧.output style ≡ Some (start_bytes style) }

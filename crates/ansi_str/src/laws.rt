@@ -22,12 +22,14 @@ ghost use Rattle.ansi_str.specs.Equality.{AreSame};
 use crate::edits::Edit;
 pub use ansi_str_search::laws::{
     closed_lines_join, cut_at_places, nothing_to_strip, one_list_of_matches,
-    parts_are_closed_texts, parts_are_slices, parts_are_stripped_slices, parts_in_order,
-    parts_show_their_slices, split_as_std, split_at_nothing, split_at_one_byte,
+    parts_are_closed_texts, parts_are_slices, parts_are_stripped_slices, parts_come_in_their_order,
+    parts_in_order, parts_show_their_slices, split_as_std, split_at_nothing, split_at_one_byte,
     split_between_characters, split_shows_its_slices, starts_and_ends_as_texts, stripped_once,
     worked_parts, worked_splits,
 };
-pub use ansi_str_text::laws::{blocks_in_order, clones_of_blocks_are_the_same};
+pub use ansi_str_text::laws::{
+    blocks_and_characters_come_in_their_order, blocks_in_order, clones_of_blocks_are_the_same,
+};
 
 /// A prefix is taken away exactly where the text begins with it, and a suffix where it ends with it.
 pub fn taken_where_they_are()

@@ -1,6 +1,6 @@
 //! Laws of the definitions that the other contracts cite.
 
-ghost use Rattle.std.specs.Prelude.{All, ◌≡◌, ◌<◌, ◌≤◌, ◌-◌, ◌==◌, ℕ, List, [], ◌∷◌, ◌++◌, chars, codes, drop, encode_utf8, false, length, map, slice_range, take, true};
+ghost use Rattle.std.specs.Prelude.{All, ◌≡◌, ◌<◌, ◌≤◌, ◌-◌, ◌==◌, ℕ, List, Option, Result, [], ◌∷◌, ◌++◌, chars, codes, drop, encode_utf8, false, length, map, slice_range, take, true};
 ghost use Rattle.std.specs.Borrow.{Bor};
 ghost use Rattle.std.specs.Iterator.{AlwaysYields};
 ghost use Rattle.std.specs.List.{join_with_byte, slice_split};
@@ -13,10 +13,16 @@ ghost use Rattle.ansi_scan.specs.Sequences.{Piece, ArePiecesOf, NoneBroken, join
 ghost use Rattle.ansi_scan.specs.Attributes.{Attributes, IsRendition, plain_attributes};
 ghost use Rattle.ansi_str_text.specs.StyledText.{IsClosed, has_escape, strip, style_after_all, styled, styled_from};
 ghost use Rattle.ansi_scan.specs.StartsAndEnds.{start_bytes, end_bytes};
+ghost use Rattle.std.specs.declared.alloc.AllocError.{AllocError as Refused};
+ghost use Rattle.std.specs.declared.borrow.CowStr.{CowStr as PartText};
+ghost use Rattle.std.proofs.Common.{Global as Heap};
+ghost use Rattle.ansi_str_search.specs.Splitting.{GivesPart, PartsLeft};
 ghost use Rattle.ansi_str_search.specs.Parts.{before_place, dressed, from_place, split_part, through_place};
 ghost use Rattle.ansi_str_search.specs.Matches.{AreMatches, IsCutBetweenCharacters, split_bounds, styled_parts, styled_slice, text_parts};
 ghost use Rattle.ansi_str_search.specs.Lines.{IsClosedLine, IsClosedText};
 ghost use Rattle.ansi_str_search.specs.WorkedParts.{SplitsInto, black_text, two_lines};
+
+use crate::split::AnsiSplit;
 
 /// Read as a text, the start of a style gives it from plain, and leaves it where it is known; its end
 /// gives plain from it. Both are whole texts of sequences alone, which show nothing.
@@ -232,4 +238,9 @@ pub fn split_at_one_byte()
         text_parts text (split_bounds (c ∷ []) text matches) ≡ slice_split (λ b. b == c) text }
     ensures worked { text_parts (codes "a,b,") (split_bounds (codes ",") (codes "a,b,") (1 ∷ 3 ∷ []))
         ≡ codes "a" ∷ codes "b" ∷ [] ∷ [] }
+{}
+
+/// The parts of a split come one after the other, and then none; after a refusal none comes.
+pub fn parts_come_in_their_order()
+    ensures { (before after : PartsLeft) (given : Option (Result (PartText Heap) Refused)) → ⟦<AnsiSplit<'static> as Iterator>⟧.next_gives before given after → GivesPart before given after }
 {}

@@ -1,13 +1,15 @@
 //! Laws of the definitions that the other contracts cite.
 
-ghost use Rattle.std.specs.Prelude.{◌≡◌, ℕ, List, ◌∷◌, ◌++◌, flat_map};
+ghost use Rattle.std.specs.Prelude.{◌≡◌, ℕ, List, Option, ◌∷◌, ◌++◌, flat_map};
+ghost use Rattle.std.specs.Iterator.{YieldsFirst, YieldsLast};
 ghost use Rattle.ansi_scan.specs.Sequences.{Piece, ArePiecesOf, escape, string_terminator};
 ghost use Rattle.ansi_scan.specs.Attributes.{plain_attributes};
 ghost use Rattle.ansi_str_text.specs.StyledText.{strip, styled};
 ghost use Rattle.ansi_str_text.specs.Cutting.{IsOpenString, EndsNoString, string_kind};
 ghost use Rattle.ansi_str_text.specs.Blocks.{Block, blocks_from, text_of_block, styled_of_block};
 
-use crate::blocks::AnsiBlock;
+use crate::blocks::{AnsiBlock, AnsiBlockIter};
+use crate::characters::StrippedChars;
 
 /// The blocks of a text, one after the other, are the text without its sequences, and their
 /// characters are those that the text shows, in the same styles.
@@ -35,4 +37,11 @@ pub fn parted_at_an_escape()
 pub fn clones_of_blocks_are_the_same()
     ensures clone { (source clone : Block) → ⟦<AnsiBlock<'static> as Clone>⟧.is_clone source clone → clone ≡ source }
     ensures comes { (source : Block) → ⟦<AnsiBlock<'static> as Clone>⟧.is_infallible source }
+{}
+
+/// Blocks and characters come one after the other, and then none; characters from the back too.
+pub fn blocks_and_characters_come_in_their_order()
+    ensures blocks { (before after : List Block) (given : Option Block) → ⟦<AnsiBlockIter<'static> as Iterator>⟧.next_gives before given after → YieldsFirst (λ (blocks : List Block). blocks) before given after }
+    ensures characters { (before after : List ℕ) (given : Option ℕ) → ⟦<StrippedChars<'static> as Iterator>⟧.next_gives before given after → YieldsFirst (λ (characters : List ℕ). characters) before given after }
+    ensures from_the_back { (before after : List ℕ) (given : Option ℕ) → ⟦<StrippedChars<'static> as DoubleEndedIterator>⟧.next_back_gives before given after → YieldsLast (λ (characters : List ℕ). characters) before given after }
 {}

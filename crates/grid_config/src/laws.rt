@@ -18,7 +18,7 @@ pub use grid_config_spans::laws::{
     visible_cells_own_themselves, without_spans_all_is_visible,
 };
 pub use grid_config_values::laws::{
-    boundaries_by_name, clones_are_never_refused, clones_are_the_same,
+    boundaries_by_name, cells_come_in_their_order, clones_are_never_refused, clones_are_the_same,
     clones_of_parts_are_the_same, equal_values_are_the_same, equality_compares_all_parts,
     faults_are_printed_whole, ordered_sides_are_the_same, positions_go_by_rows,
     the_last_call_decides,

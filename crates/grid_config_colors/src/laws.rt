@@ -1,12 +1,14 @@
 //! Laws of the definitions that the other contracts cite.
 
 ghost use Rattle.std.specs.Prelude.{◌≡◌, ◌↔◌, IsTrue, List, Some, true};
+ghost use Rattle.std.specs.declared.alloc.AllocError.{AllocError as Refused};
 ghost use Rattle.std.specs.declared.cmp.Ordering.TheVariants.{Equal};
 ghost use Rattle.ansi_scan.specs.Sequences.{Piece};
 ghost use Rattle.ansi_scan.specs.Attributes.{Attributes, plain_attributes};
 ghost use Rattle.ansi_str_text.specs.StyledText.{style_after_all};
 ghost use Rattle.grid_config_colors.specs.declared.borrowed.ANSIStr.{ANSIStr as Borrowed};
 ghost use Rattle.grid_config_colors.specs.declared.fault.BufFault.{BufFault as OneFault};
+ghost use Rattle.grid_config_colors.specs.declared.fault.BufFault.TheVariants.{Memory};
 ghost use Rattle.grid_config_colors.specs.Closing.{Clears};
 ghost use Rattle.grid_config_colors.specs.Clearing.{ClearsEach, codes_of};
 ghost use Rattle.grid_config_colors.specs.Colors.{color_of};
@@ -15,6 +17,7 @@ ghost use Rattle.grid_config_colors.specs.Fault.{fault_text};
 
 use crate::borrowed::ANSIStr;
 use crate::fault::BufFault;
+use std::alloc::AllocError;
 use std::fmt::Display;
 
 /// The two wordings of a suffix that clears a style are one: read from plain and from the style it ends
@@ -37,10 +40,11 @@ pub fn clones_of_colors_have_the_same_texts()
 {}
 
 /// `==` of the reasons for which a text has no colour is equality; a clone is the same reason, and is never
-/// refused; one is printed in its own words.
+/// refused; one is printed in its own words, and one of memory becomes `Memory`.
 pub fn color_faults_are_compared_cloned_and_printed_whole()
     ensures equality { (a b : OneFault) → (⟦<BufFault as PartialEq>⟧.eq a b ≡ true) ↔ (a ≡ b) }
     ensures clone { (source clone : OneFault) → ⟦<BufFault as Clone>⟧.is_clone source clone → clone ≡ source }
     ensures comes { (source : OneFault) → ⟦<BufFault as Clone>⟧.is_infallible source }
     ensures printed { (fault : OneFault) → ⟦<BufFault as Display>⟧.output fault ≡ Some (fault_text fault) }
+    ensures of_memory { (given : Refused) (fault : OneFault) → ⟦<BufFault as From<AllocError>>⟧.from_gives given fault → fault ≡ Memory }
 {}

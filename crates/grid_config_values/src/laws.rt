@@ -1,5 +1,7 @@
 //! Laws of the definitions that the other contracts cite.
-ghost use Rattle.std.specs.Prelude.{◌≡◌, ◌<◌, ◌||◌, ◌⊎◌, ◌↔◌, All, IsTrue, List, Some, ◌∷◌, ◌++◌, false, is_some, true};
+ghost use Rattle.std.specs.Prelude.{◌≡◌, ◌<◌, ◌||◌, ◌⊎◌, ◌↔◌, All, IsTrue, List, Option, Some, ◌∷◌, ◌++◌, false, is_some, true};
+ghost use Rattle.std.specs.Iterator.{YieldsFirst};
+ghost use Rattle.std.specs.declared.alloc.AllocError.{AllocError as Refused};
 ghost use Rattle.std.specs.declared.cmp.Ordering.TheVariants.{Equal, Less};
 ghost use Rattle.grid_config_values.specs.declared.alignment.AlignmentHorizontal.{AlignmentHorizontal as Horizontal};
 ghost use Rattle.grid_config_values.specs.declared.alignment.AlignmentVertical.{AlignmentVertical as Vertical};
@@ -8,6 +10,7 @@ ghost use Rattle.grid_config_values.specs.declared.borders.Borders.{Borders as B
 ghost use Rattle.grid_config_values.specs.declared.entity.Entity.{Entity as CellSet};
 ghost use Rattle.grid_config_values.specs.declared.entity_map.EntityMap.{EntityMap as CellMap};
 ghost use Rattle.grid_config_values.specs.declared.fault.Fault.{Fault as OneFault};
+ghost use Rattle.grid_config_values.specs.declared.fault.Fault.TheVariants.{Memory};
 ghost use Rattle.grid_config_values.specs.declared.formatting.Formatting.{Formatting as TextFormatting};
 ghost use Rattle.grid_config_values.specs.declared.position.Position.{Position as Place};
 ghost use Rattle.grid_config_values.specs.declared.sides.Indent.{Indent as OneIndent};
@@ -21,10 +24,12 @@ ghost use Rattle.grid_config_values.specs.Settings.{AreSet, value_at};
 use crate::alignment::{AlignmentHorizontal, AlignmentVertical};
 use crate::borders::{Border, Borders};
 use crate::entity::Entity;
+use crate::entity_iterator::EntityIterator;
 use crate::fault::Fault;
 use crate::formatting::Formatting;
 use crate::position::Position;
 use crate::sides::{Indent, Sides};
+use std::alloc::AllocError;
 use std::fmt::Display;
 
 /// Of settings made one after the other, the last one that covers a position decides, whatever stands
@@ -116,7 +121,13 @@ pub fn clones_are_never_refused<T: Copy>()
     ensures borders { (source : BorderSet T) → ⟦<Borders<T> as Clone>⟧.is_infallible source }
 {}
 
-/// A refusal is printed in its own words.
+/// A refusal is printed in its own words; one of memory becomes `Memory`.
 pub fn faults_are_printed_whole()
-    ensures { (fault : OneFault) → ⟦<Fault as Display>⟧.output fault ≡ Some (fault_text fault) }
+    ensures printed { (fault : OneFault) → ⟦<Fault as Display>⟧.output fault ≡ Some (fault_text fault) }
+    ensures of_memory { (given : Refused) (fault : OneFault) → ⟦<Fault as From<AllocError>>⟧.from_gives given fault → fault ≡ Memory }
+{}
+
+/// The cells of an entity come one after the other, and then none.
+pub fn cells_come_in_their_order()
+    ensures { (before after : List Place) (given : Option Place) → ⟦<EntityIterator as Iterator>⟧.next_gives before given after → YieldsFirst (λ (places : List Place). places) before given after }
 {}

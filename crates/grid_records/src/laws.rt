@@ -6,7 +6,8 @@ pub use grid_records_estimate::laws::{
 };
 pub use grid_records_measure::laws::{
     closed_lines_join, cuts_show_their_fronts, lines_are_closed, lines_are_shown_lines,
-    lines_of_texts, one_list_of_lines, one_longest_front, plain_characters_add_up, trimmed_texts,
+    lines_come_in_their_order, lines_of_texts, one_list_of_lines, one_longest_front,
+    plain_characters_add_up, trimmed_texts,
 };
 pub use grid_records_rows::laws::{
     empty_records_are_compared_and_cloned_whole, truncated_texts_are_cuts,

@@ -1,10 +1,14 @@
 //! Laws of the definitions that the other contracts cite.
 
-ghost use Rattle.std.specs.Prelude.{All, ◌≡◌, ◌<◌, ℕ, List, length, map, true};
+ghost use Rattle.std.specs.Prelude.{All, ◌≡◌, ◌<◌, ℕ, List, Option, Result, length, map, true};
+ghost use Rattle.std.specs.declared.alloc.AllocError.{AllocError as Refused};
+ghost use Rattle.std.specs.declared.borrow.CowStr.{CowStr as LineText};
+ghost use Rattle.std.proofs.Common.{Global as Heap};
 ghost use Rattle.std.specs.List.{join_with_byte, list_all, sum_by};
 ghost use Rattle.std.specs.Str.{IsUtf8};
 ghost use Rattle.ansi_scan.specs.Pieces.{pieces as pieces_of};
 ghost use Rattle.ansi_scan.specs.Sequences.{Piece, ArePiecesOf, NoneBroken};
+ghost use Rattle.ansi_str.specs.Splitting.{GivesPart, PartsLeft};
 ghost use Rattle.ansi_str.specs.StyledText.{strip};
 ghost use Rattle.ansi_str.specs.Keeping.{IsTrimmed};
 ghost use Rattle.ansi_str.specs.Lines.{IsClosedLine};
@@ -13,6 +17,8 @@ ghost use Rattle.grid_records_measure.specs.PlainCharacters.{is_one_column, is_p
 ghost use Rattle.grid_records_measure.specs.TextLines.{AreLinesOf, line_feed, shown_lines, text_height, text_lines};
 ghost use Rattle.grid_records_measure.specs.Trimming.{trimmed};
 ghost use Rattle.grid_records_measure.specs.Cutting.{IsCutAt, IsLongestFront, ShowsCut};
+
+use crate::text_lines::Lines;
 
 /// The lines of a text are one list: there is such a list, and no other.
 pub fn one_list_of_lines()
@@ -85,4 +91,9 @@ pub fn plain_characters_add_up()
         measure characters ≡ sum_by own_width characters }
     ensures costs { (characters : List ℕ) → list_all is_plain_character characters ≡ true →
         columns characters ≡ measure characters }
+{}
+
+/// The lines of a text come one after the other, and then none; after a refusal none comes.
+pub fn lines_come_in_their_order()
+    ensures { (before after : PartsLeft) (given : Option (Result (LineText Heap) Refused)) → ⟦<Lines<'static> as Iterator>⟧.next_gives before given after → GivesPart before given after }
 {}
