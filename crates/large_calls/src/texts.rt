@@ -21,37 +21,59 @@ fn repeated(alloc: Global, text: &str, count: usize) -> Result<String, AllocErro
     Ok(out)
 }
 
-fn print_part(rt: &impl Print, what: &str, part: Option<CowStr<'_>>) -> io::Result<()> {
+// How long a text is that a call gave.
+fn print_text(
+    rt: &impl Print,
+    what: &str,
+    text: Result<CowStr<'_>, AllocError>,
+) -> io::Result<()> {
+    match text {
+        Ok(text) => println!(rt; "{what}: {}", text.as_str().len()),
+        Err(_) => println!(rt; "{what}: out of memory"),
+    }
+}
+
+fn print_part(
+    rt: &impl Print,
+    what: &str,
+    part: Result<Option<CowStr<'_>>, AllocError>,
+) -> io::Result<()> {
     match part {
-        Some(part) => println!(rt; "{what}: {}", part.as_str().len()),
-        None => println!(rt; "{what}: none"),
+        Ok(Some(part)) => println!(rt; "{what}: {}", part.as_str().len()),
+        Ok(None) => println!(rt; "{what}: none"),
+        Err(_) => println!(rt; "{what}: out of memory"),
     }
 }
 
 fn print_strips(rt: &impl Print, alloc: Global, text: &str) -> io::Result<()> {
-    let shown = text.ansi_strip(alloc)?;
-    println!(rt; "stripped: {}", shown.as_str().len())?;
-    let trimmed = text.ansi_trim(alloc)?;
-    println!(rt; "trimmed: {}", trimmed.as_str().len())?;
-    let without = text.ansi_strip_prefix(alloc, "ab")?;
-    print_part(rt, "without a prefix", without)?;
-    let without = text.ansi_strip_suffix(alloc, "ef\t")?;
-    print_part(rt, "without a suffix", without)
+    print_text(rt, "stripped", text.ansi_strip(alloc))?;
+    print_text(rt, "trimmed", text.ansi_trim(alloc))?;
+    print_part(rt, "without a prefix", text.ansi_strip_prefix(alloc, "ab"))?;
+    print_part(
+        rt,
+        "without a suffix",
+        text.ansi_strip_suffix(alloc, "ef\t"),
+    )
 }
 
-fn print_cuts(rt: &impl Print, alloc: Global, text: &str) -> io::Result<()> {
-    let cut = text.ansi_get(alloc, 1..479_999)?;
-    print_part(rt, "got", cut)?;
+fn print_cut(rt: &impl Print, alloc: Global, text: &str) -> io::Result<()> {
+    print_part(rt, "got", text.ansi_get(alloc, 1..479_999))?;
     if is_good_range(text, &(1..479_999)) {
-        let cut = text.ansi_cut(alloc, 1..479_999)?;
-        println!(rt; "cut: {}", cut.as_str().len())?;
+        print_text(rt, "cut", text.ansi_cut(alloc, 1..479_999))
+    } else {
+        println!(rt; "these are no places")
     }
-    if is_good_range(text, &(240_003..)) {
-        let (left, right) = text.ansi_split_at(alloc, 240_003)?;
-        let (left, right) = (left.as_str().len(), right.as_str().len());
-        println!(rt; "in two: {left}, {right}")?;
+}
+
+fn print_halves(rt: &impl Print, alloc: Global, text: &str) -> io::Result<()> {
+    if !is_good_range(text, &(240_003..)) {
+        return println!(rt; "this is no place");
     }
-    Ok(())
+    let Ok((left, right)) = text.ansi_split_at(alloc, 240_003) else {
+        return println!(rt; "in two: out of memory");
+    };
+    let (left, right) = (left.as_str().len(), right.as_str().len());
+    println!(rt; "in two: {left}, {right}")
 }
 
 // How many parts there are, and how long they are together.
@@ -88,11 +110,14 @@ fn print_lines(rt: &impl Print, alloc: Global, text: &str) -> io::Result<()> {
         count = count.wrapping_add(1);
         bytes = bytes.wrapping_add(line?.as_str().len());
     }
-    println!(rt; "lines: {count}, {bytes} bytes")?;
-    let wrapped = wrap_styled(alloc, text, 3, false)?;
-    let wrapped = wrapped.as_str();
-    let shown = wrapped.ansi_strip(alloc)?;
-    println!(rt; "wrapped: {}", shown.as_str().len())
+    println!(rt; "lines: {count}, {bytes} bytes")
+}
+
+fn print_front(rt: &impl Print, alloc: Global, text: &str) -> io::Result<()> {
+    match cut_width(alloc, text, 70_001) {
+        Ok(text) => print_text(rt, "cut at a width", text.as_str().ansi_strip(alloc)),
+        Err(_) => println!(rt; "cut at a width: out of memory"),
+    }
 }
 
 fn print_edits(rt: &impl Print, alloc: Global, text: &str) -> io::Result<()> {
@@ -100,30 +125,37 @@ fn print_edits(rt: &impl Print, alloc: Global, text: &str) -> io::Result<()> {
     for _ in 0..100 {
         edits.push(Edit::Right(8))?;
     }
-    let Some(left) = edit(alloc, text, &edits)? else {
-        return println!(rt; "no edit");
-    };
-    let left = left.as_str();
-    let shown = left.ansi_strip(alloc)?;
-    println!(rt; "edited: {}", shown.as_str().len())
+    match edit(alloc, text, &edits) {
+        Ok(Some(left)) => print_text(rt, "edited", left.as_str().ansi_strip(alloc)),
+        Ok(None) => println!(rt; "no edit"),
+        Err(_) => println!(rt; "edited: out of memory"),
+    }
+}
+
+fn print_words(rt: &impl Print, alloc: Global, text: &str) -> io::Result<()> {
+    print_strips(rt, alloc, text)?;
+    print_cut(rt, alloc, text)?;
+    print_halves(rt, alloc, text)?;
+    print_parts(rt, alloc, text)?;
+    print_places(rt, alloc, text)?;
+    print_text(rt, "without tabs", replace_tab(alloc, text, 4))?;
+    print_front(rt, alloc, text)
+}
+
+fn print_broken(rt: &impl Print, alloc: Global, text: &str) -> io::Result<()> {
+    print_lines(rt, alloc, text)?;
+    match wrap_styled(alloc, text, 3, false) {
+        Ok(text) => print_text(rt, "wrapped", text.as_str().ansi_strip(alloc)),
+        Err(_) => println!(rt; "wrapped: out of memory"),
+    }
 }
 
 /// Prints how long the results are of calls on a styled text of a megabyte, and how many.
 pub fn print_texts(rt: &impl Print, alloc: Global) -> io::Result<()> {
     let text = repeated(alloc, WORDS, 60_000)?;
-    let text = text.as_str();
-    print_strips(rt, alloc, text)?;
-    print_cuts(rt, alloc, text)?;
-    print_parts(rt, alloc, text)?;
-    print_places(rt, alloc, text)?;
-    let spaced = replace_tab(alloc, text, 4)?;
-    println!(rt; "without tabs: {}", spaced.as_str().len())?;
-    let front = cut_width(alloc, text, 70_001)?;
-    let front = front.as_str();
-    let front = front.ansi_strip(alloc)?;
-    println!(rt; "cut at a width: {}", front.as_str().len())?;
+    print_words(rt, alloc, text.as_str())?;
     let lines = repeated(alloc, WORDS_ON_A_LINE, 60_000)?;
-    print_lines(rt, alloc, lines.as_str())?;
+    print_broken(rt, alloc, lines.as_str())?;
     let small = repeated(alloc, WORDS, 5_000)?;
     print_edits(rt, alloc, small.as_str())
 }

@@ -97,3 +97,16 @@ fn hands_each_call_on_as_it_is(rt: HostRuntime) -> Result<(), Fail> {
     assert_eq!(rt; inner.written.as_slice(), b"abcde".as_slice());
     Ok(())
 }
+
+// A piece and a room of many bytes come to the inner stream whole.
+#[test]
+fn hands_large_pieces_on_whole(rt: HostRuntime) {
+    let mut stream = Counted::new(Recorder::new(rt.alloc()));
+    let mut buf = [b'x'; 1000];
+    assert_eq!(rt; stream.write(&buf).ok(), Some(999));
+    assert_eq!(rt; stream.read(&mut buf[1..]).ok(), Some(1));
+    assert_eq!(rt; (buf[0], buf[1], buf[2]), (b'x', b'!', b'x'));
+    let inner = stream.into_inner();
+    assert_eq!(rt; inner.room, 999);
+    assert_eq!(rt; inner.written.as_slice(), [b'x'; 1000].as_slice());
+}

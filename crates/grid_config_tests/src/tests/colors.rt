@@ -164,9 +164,12 @@ fn takes_the_color_of_a_text(rt: HostRuntime) -> Result<(), Fail> {
         let fault = ANSIBuf::from_text(rt.alloc(), text).err();
         expect(&rt, fault == Some(BufFault::NoBlock), text);
     }
+    let alloc = rt.alloc();
     for (fault, text) in FAULTS {
-        let printed = fault.to_string(rt.alloc())?;
-        expect_text(&rt, printed.as_str(), text, "a fault");
+        // also in holes with options
+        let printed = format!(in alloc; "{fault}|{fault:>40}|{fault:8}")?;
+        let wanted = format!(in alloc; "{text}|{text}|{text}")?;
+        expect_text(&rt, printed.as_str(), wanted.as_str(), "a fault");
     }
     Ok(())
 }

@@ -23,9 +23,12 @@ const FAULTS: &[(Fault, &str)] = &[
 
 #[test]
 fn faults_are_printed(rt: HostRuntime) -> Result<(), Fail> {
+    let alloc = rt.alloc();
     for (fault, text) in FAULTS {
-        let printed = fault.to_string(rt.alloc())?;
-        expect_text(&rt, printed.as_str(), text, "a fault");
+        // also in holes with options
+        let printed = format!(in alloc; "{fault}|{fault:>40}|{fault:8}")?;
+        let wanted = format!(in alloc; "{text}|{text}|{text}")?;
+        expect_text(&rt, printed.as_str(), wanted.as_str(), "a fault");
         expect(&rt, (*fault == ROOM) == text.starts_with("row"), text);
     }
     expect(&rt, Fault::from(AllocError) == Fault::Memory, "a refusal");
