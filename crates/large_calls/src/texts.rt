@@ -22,11 +22,7 @@ fn repeated(alloc: Global, text: &str, count: usize) -> Result<String, AllocErro
 }
 
 // How long a text is that a call gave.
-fn print_text(
-    rt: &impl Print,
-    what: &str,
-    text: Result<CowStr<'_>, AllocError>,
-) -> io::Result<()> {
+fn print_text(rt: &impl Print, what: &str, text: Result<CowStr<'_>, AllocError>) -> io::Result<()> {
     match text {
         Ok(text) => println!(rt; "{what}: {}", text.as_str().len()),
         Err(_) => println!(rt; "{what}: out of memory"),
