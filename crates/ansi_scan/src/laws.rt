@@ -72,7 +72,8 @@ pub fn clones_of_items_are_the_same()
     ensures items_come { (source : OneItem) → ⟦<Item as Clone>⟧.is_infallible source }
 {}
 
-/// The items of a text come one after the other, and then none.
+/// The items of a text come one after the other, and then none; the next may be asked for at any time.
 pub fn items_come_in_their_order()
-    ensures { (before after : OneScan) (given : Option OneItem) → ⟦<Scan<'static> as Iterator>⟧.next_gives before given after → YieldsFirst items_left before given after }
+    ensures asked { (items : OneScan) → ⟦<Scan<'static> as Iterator>⟧.can_next items }
+    ensures next { (before after : OneScan) (given : Option OneItem) → ⟦<Scan<'static> as Iterator>⟧.next_gives before given after → YieldsFirst items_left before given after }
 {}

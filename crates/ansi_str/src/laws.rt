@@ -1,8 +1,16 @@
 //! Laws of the definitions that the other contracts cite.
 
-ghost use Rattle.std.specs.Prelude.{All, ◌≡◌, ◌≤◌, ◌-◌, ℕ, List, [], ◌∷◌, ◌++◌, chars, codes, length, slice_range, take, ◌↔◌, Bool, IsTrue, MatchOption, Option, is_some, None, Some, ◌⊎◌, true};
+ghost use Rattle.std.specs.Prelude.{All, ◌≡◌, ◌≤◌, ◌-◌, ℕ, List, [], ◌∷◌, ◌++◌, chars, codes, length, slice_range, take, ◌↔◌, Bool, IsTrue, MatchOption, Option, is_some, None, Some, String as Bytes, ◌⊎◌, string_bytes, true};
 ghost use Rattle.std.specs.Borrow.{Bor};
+ghost use Rattle.std.specs.Range.{range_inclusive_end, range_inclusive_exhausted, range_inclusive_start};
 ghost use Rattle.std.specs.Str.{IsCharBoundary, IsUtf8, trim};
+ghost use Rattle.std.specs.declared.ops.Range.{Range as Between};
+ghost use Rattle.std.specs.declared.ops.RangeFrom.{RangeFrom as Onward};
+ghost use Rattle.std.specs.declared.ops.RangeFull.{RangeFull as Full};
+ghost use Rattle.std.specs.declared.ops.RangeInclusive.{RangeInclusive as Through};
+ghost use Rattle.std.specs.declared.ops.RangeTo.{RangeTo as UpTo};
+ghost use Rattle.std.specs.declared.ops.RangeToInclusive.{RangeToInclusive as UpThrough};
+ghost use Rattle.std.proofs.Common.{Global as Heap};
 ghost use Rattle.ansi_scan.specs.Sequences.{Piece, ArePiecesOf, IsWhole, NoneBroken, joined};
 ghost use Rattle.ansi_scan.specs.Attributes.{after_code, plain_attributes};
 ghost use Rattle.ansi_scan.specs.Pieces.{pieces as pieces_of};
@@ -17,9 +25,12 @@ ghost use Rattle.ansi_str.specs.Keeping.{IsTrimmed, kept, sequences_among, witho
 ghost use Rattle.ansi_str.specs.declared.edits.Edit.{Edit as OneEdit};
 ghost use Rattle.ansi_str.specs.Edits.{IsInUtf8, OneFails, ShowsItsSlice, StandAmong, TakeInTurn, TakesTo};
 ghost use Rattle.ansi_str.specs.Matches.{styled_slice};
+ghost use Rattle.ansi_str.specs.Ranges.{end_behind, inclusive_start};
 ghost use Rattle.ansi_str.specs.Equality.{AreSame};
 
 use crate::edits::Edit;
+use crate::ranges::AnsiRange;
+use crate::text::AnsiStr;
 pub use ansi_str_search::laws::{
     closed_lines_join, cut_at_places, nothing_to_strip, one_list_of_matches,
     parts_are_closed_texts, parts_are_slices, parts_are_stripped_slices, parts_come_in_their_order,
@@ -30,6 +41,7 @@ pub use ansi_str_search::laws::{
 pub use ansi_str_text::laws::{
     blocks_and_characters_come_in_their_order, blocks_in_order, clones_of_blocks_are_the_same,
 };
+use std::ops::{Range, RangeFrom, RangeFull, RangeInclusive, RangeTo, RangeToInclusive};
 
 /// A prefix is taken away exactly where the text begins with it, and a suffix where it ends with it.
 pub fn taken_where_they_are()
@@ -206,4 +218,22 @@ pub fn equal_edits_are_the_same()
 pub fn clones_of_edits_are_the_same()
     ensures clone { (source clone : OneEdit) → ⟦<Edit<'static> as Clone>⟧.is_clone source clone → AreSame clone source }
     ensures comes { (source : OneEdit) → ⟦<Edit<'static> as Clone>⟧.is_infallible source }
+{}
+
+/// What is read of each kind of range, and of a text.
+pub fn ranges_and_texts_are_read_as_they_are()
+    ensures range_start { (range : Between ℕ) → ⟦<Range<usize> as AnsiRange>⟧.start range ≡ range.start }
+    ensures range_end { (range : Between ℕ) → ⟦<Range<usize> as AnsiRange>⟧.end range ≡ Some range.end }
+    ensures from_start { (range : Onward ℕ) → ⟦<RangeFrom<usize> as AnsiRange>⟧.start range ≡ range.start }
+    ensures from_end { (range : Onward ℕ) → ⟦<RangeFrom<usize> as AnsiRange>⟧.end range ≡ None }
+    ensures to_start { (range : UpTo ℕ) → ⟦<RangeTo<usize> as AnsiRange>⟧.start range ≡ 0 }
+    ensures to_end { (range : UpTo ℕ) → ⟦<RangeTo<usize> as AnsiRange>⟧.end range ≡ Some range.end }
+    ensures full_start { (range : Full) → ⟦<RangeFull as AnsiRange>⟧.start range ≡ 0 }
+    ensures full_end { (range : Full) → ⟦<RangeFull as AnsiRange>⟧.end range ≡ None }
+    ensures through_start { (range : Through ℕ) → ⟦<RangeInclusive<usize> as AnsiRange>⟧.start range ≡ inclusive_start (range_inclusive_exhausted range) (range_inclusive_start range) (range_inclusive_end range) }
+    ensures through_end { (range : Through ℕ) → ⟦<RangeInclusive<usize> as AnsiRange>⟧.end range ≡ end_behind (range_inclusive_end range) }
+    ensures to_through_start { (range : UpThrough ℕ) → ⟦<RangeToInclusive<usize> as AnsiRange>⟧.start range ≡ 0 }
+    ensures to_through_end { (range : UpThrough ℕ) → ⟦<RangeToInclusive<usize> as AnsiRange>⟧.end range ≡ end_behind range.end }
+    ensures borrowed { (text : Bor (List ℕ)) → ⟦<&'static str as AnsiStr>⟧.text text ≡ text.now }
+    ensures owned { (text : Bytes Heap) → ⟦<String as AnsiStr>⟧.text text ≡ string_bytes text }
 {}

@@ -240,7 +240,9 @@ pub fn split_at_one_byte()
         ≡ codes "a" ∷ codes "b" ∷ [] ∷ [] }
 {}
 
-/// The parts of a split come one after the other, and then none; after a refusal none comes.
+/// The parts of a split come one after the other, and then none; after a refusal none comes. The next may be
+/// asked for at any time.
 pub fn parts_come_in_their_order()
-    ensures { (before after : PartsLeft) (given : Option (Result (PartText Heap) Refused)) → ⟦<AnsiSplit<'static> as Iterator>⟧.next_gives before given after → GivesPart before given after }
+    ensures asked { (parts : PartsLeft) → ⟦<AnsiSplit<'static> as Iterator>⟧.can_next parts }
+    ensures next { (before after : PartsLeft) (given : Option (Result (PartText Heap) Refused)) → ⟦<AnsiSplit<'static> as Iterator>⟧.next_gives before given after → GivesPart before given after }
 {}

@@ -39,8 +39,11 @@ pub fn clones_of_blocks_are_the_same()
     ensures comes { (source : Block) → ⟦<AnsiBlock<'static> as Clone>⟧.is_infallible source }
 {}
 
-/// Blocks and characters come one after the other, and then none; characters from the back too.
+/// Blocks and characters come one after the other, and then none; characters from the back too. The next may be
+/// asked for at any time.
 pub fn blocks_and_characters_come_in_their_order()
+    ensures asked { (blocks : List Block) → ⟦<AnsiBlockIter<'static> as Iterator>⟧.can_next blocks }
+    ensures asked_for_characters { (characters : List ℕ) → ⟦<StrippedChars<'static> as Iterator>⟧.can_next characters }
     ensures blocks { (before after : List Block) (given : Option Block) → ⟦<AnsiBlockIter<'static> as Iterator>⟧.next_gives before given after → YieldsFirst (λ (blocks : List Block). blocks) before given after }
     ensures characters { (before after : List ℕ) (given : Option ℕ) → ⟦<StrippedChars<'static> as Iterator>⟧.next_gives before given after → YieldsFirst (λ (characters : List ℕ). characters) before given after }
     ensures from_the_back { (before after : List ℕ) (given : Option ℕ) → ⟦<StrippedChars<'static> as DoubleEndedIterator>⟧.next_back_gives before given after → YieldsLast (λ (characters : List ℕ). characters) before given after }

@@ -176,7 +176,8 @@ pub fn streamed_tables_are_tables()
 {}
 
 /// `==` of faults is equality; a clone is the same fault, and is never refused; one is printed in its own
-/// words, and those of a table, of a writer and of memory become the one of the same meaning.
+/// words, and those of a table, of a writer and of memory become the one of the same name, but that bad
+/// spans, which no table of a text has, become `Range`.
 pub fn faults_are_compared_cloned_and_printed_whole()
     ensures equality { (a b : RunFault) → (⟦<Refusal as PartialEq>⟧.eq a b ≡ true) ↔ (a ≡ b) }
     ensures clone { (source clone : RunFault) → ⟦<Refusal as Clone>⟧.is_clone source clone → clone ≡ source }

@@ -20,8 +20,8 @@ pub use grid_config_spans::laws::{
 pub use grid_config_values::laws::{
     boundaries_by_name, cells_come_in_their_order, clones_are_never_refused, clones_are_the_same,
     clones_of_parts_are_the_same, equal_values_are_the_same, equality_compares_all_parts,
-    faults_are_printed_whole, ordered_sides_are_the_same, positions_go_by_rows,
-    the_last_call_decides,
+    faults_are_printed_whole, indents_begin_empty, ordered_sides_are_the_same,
+    positions_go_by_rows, refused_growth_is_memory, the_last_call_decides,
 };
 
 /// `==` of the settings of compact tables is equality of all seven values, and `cmp` finds the same ones equal.

@@ -12,7 +12,7 @@ pub enum Fault {
     Range,
     /// A span of 0, or spans that overlap or reach out of the table.
     Spans,
-    /// A cell does not fit its columns or rows. Both count from 0.
+    /// A line of a cell is wider than the columns that the cell takes. Rows and columns count from 0.
     Room { row: usize, column: usize },
 }
 

@@ -74,7 +74,8 @@ pub fn equality_compares_all_parts()
     ensures indents_order { (a b : OneIndent) → (⟦<Indent as Ord>⟧.cmp a b ≡ Equal) ↔ (a ≡ b) }
 {}
 
-/// `==` of sides and borders is equality of all their parts, where it is that of the parts.
+/// Sides and borders that are equal by `==` have the same parts, where what is equal by `==` of the parts is the
+/// same.
 pub fn equal_values_are_the_same<T: PartialEq>()
     ensures indents { (a b : OneIndent) → ⟦<Indent as PartialEq>⟧.eq a b ≡ true → a ≡ b }
     ensures sides { ((x y : T) → T.eq x y ≡ true → x ≡ y) → (a b : FourSides T) → ⟦<Sides<T> as PartialEq>⟧.eq a b ≡ true → a ≡ b }
@@ -82,7 +83,7 @@ pub fn equal_values_are_the_same<T: PartialEq>()
     ensures borders { ((x y : T) → T.eq x y ≡ true → x ≡ y) → (a b : BorderSet T) → ⟦<Borders<T> as PartialEq>⟧.eq a b ≡ true → a ≡ b }
 {}
 
-/// `cmp` of sides finds equal what has the same parts, where that of the parts does.
+/// Sides that `cmp` finds equal have the same parts, where what it finds equal of the parts is the same.
 pub fn ordered_sides_are_the_same<T: Ord>()
     ensures { ((x y : T) → T.Ord.cmp x y ≡ Equal → x ≡ y) → (a b : FourSides T) → ⟦<Sides<T> as Ord>⟧.cmp a b ≡ Equal → a ≡ b }
 {}
@@ -105,11 +106,14 @@ pub fn clones_of_parts_are_the_same<T: Copy>()
     ensures borders { (source clone : BorderSet T) → ⟦<Borders<T> as Clone>⟧.is_clone source clone → clone ≡ source }
 {}
 
-/// A clone of one of these values is never refused, of sides where one of a part never is; and an indent that is
-/// made by default has no size, and spaces.
+/// An indent that is made by default has no size, and spaces.
+pub fn indents_begin_empty()
+    ensures { (begun : OneIndent) → ⟦<Indent as Default>⟧.is_default begun → begun ≡ record { size = 0; fill = 32 } }
+{}
+
+/// A clone of one of these values is never refused, of sides where one of a part never is.
 pub fn clones_are_never_refused<T: Copy>()
     ensures sides { ((x : T) → T.Clone.is_infallible x) → (source : FourSides T) → ⟦<Sides<T> as Clone>⟧.is_infallible source }
-    ensures at_first { (begun : OneIndent) → ⟦<Indent as Default>⟧.is_default begun → begun ≡ record { size = 0; fill = 32 } }
     ensures positions { (source : Place) → ⟦<Position as Clone>⟧.is_infallible source }
     ensures entities { (source : CellSet) → ⟦<Entity as Clone>⟧.is_infallible source }
     ensures faults { (source : OneFault) → ⟦<Fault as Clone>⟧.is_infallible source }
@@ -121,13 +125,18 @@ pub fn clones_are_never_refused<T: Copy>()
     ensures borders { (source : BorderSet T) → ⟦<Borders<T> as Clone>⟧.is_infallible source }
 {}
 
-/// A refusal is printed in its own words; one of memory becomes `Memory`.
+/// A refusal is printed in its own words.
 pub fn faults_are_printed_whole()
-    ensures printed { (fault : OneFault) → ⟦<Fault as Display>⟧.output fault ≡ Some (fault_text fault) }
-    ensures of_memory { (given : Refused) (fault : OneFault) → ⟦<Fault as From<AllocError>>⟧.from_gives given fault → fault ≡ Memory }
+    ensures { (fault : OneFault) → ⟦<Fault as Display>⟧.output fault ≡ Some (fault_text fault) }
 {}
 
-/// The cells of an entity come one after the other, and then none.
+/// A growth that was refused becomes `Memory`.
+pub fn refused_growth_is_memory()
+    ensures { (given : Refused) (fault : OneFault) → ⟦<Fault as From<AllocError>>⟧.from_gives given fault → fault ≡ Memory }
+{}
+
+/// The cells of an entity come one after the other, and then none; the next may be asked for at any time.
 pub fn cells_come_in_their_order()
-    ensures { (before after : List Place) (given : Option Place) → ⟦<EntityIterator as Iterator>⟧.next_gives before given after → YieldsFirst (λ (places : List Place). places) before given after }
+    ensures asked { (places : List Place) → ⟦<EntityIterator as Iterator>⟧.can_next places }
+    ensures next { (before after : List Place) (given : Option Place) → ⟦<EntityIterator as Iterator>⟧.next_gives before given after → YieldsFirst (λ (places : List Place). places) before given after }
 {}

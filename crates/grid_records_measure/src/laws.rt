@@ -93,7 +93,9 @@ pub fn plain_characters_add_up()
         columns characters ≡ measure characters }
 {}
 
-/// The lines of a text come one after the other, and then none; after a refusal none comes.
+/// The lines of a text come one after the other, and then none; after a refusal none comes. The next may be
+/// asked for at any time.
 pub fn lines_come_in_their_order()
-    ensures { (before after : PartsLeft) (given : Option (Result (LineText Heap) Refused)) → ⟦<Lines<'static> as Iterator>⟧.next_gives before given after → GivesPart before given after }
+    ensures asked { (lines : PartsLeft) → ⟦<Lines<'static> as Iterator>⟧.can_next lines }
+    ensures next { (before after : PartsLeft) (given : Option (Result (LineText Heap) Refused)) → ⟦<Lines<'static> as Iterator>⟧.next_gives before given after → GivesPart before given after }
 {}

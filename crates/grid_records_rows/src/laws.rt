@@ -1,5 +1,5 @@
 //! Laws of the definitions that the other contracts cite.
-ghost use Rattle.std.specs.Prelude.{◌≡◌, ◌↔◌, ℕ, List, Some, length, true};
+ghost use Rattle.std.specs.Prelude.{◌≡◌, ◌↔◌, ℕ, List, Some, false, length, true};
 ghost use Rattle.ansi_scan.specs.Pieces.{pieces};
 ghost use Rattle.grid_records_measure.specs.Cutting.{IsCutAt};
 ghost use Rattle.grid_records_measure.specs.CutTexts.{cut_at};
@@ -19,17 +19,19 @@ pub fn truncated_texts_are_cuts()
 {}
 
 /// Rows in vectors have as many columns as the first row has cells, and give their count as the hint;
-/// so that both follow from the texts, also after one was set.
+/// so that both follow from the texts, also after one was set. They refuse no cell.
 pub fn vectors_count_what_they_hold<T: Cell>()
     ensures columns { (records : Vectors T) → ⟦<VecRecords<T> as RecordColumns>⟧.columns records ≡ length (row_at (⟦<VecRecords<T> as RecordTexts>⟧.rows records) 0) }
+    ensures refuses_none { (records : Vectors T) → ⟦<VecRecords<T> as RecordTexts>⟧.may_refuse records ≡ false }
     ensures hint { (records : Vectors T) → ⟦<VecRecords<T> as Records>⟧.hint records ≡ Some (length (⟦<VecRecords<T> as RecordTexts>⟧.rows records)) }
 {}
 
 /// `==` of rows of empty texts is equality of both counts; a clone has the same, and is never refused; those
-/// that are made by default have no row and no column.
+/// that are made by default have no row and no column; none of them refuses a cell.
 pub fn empty_records_are_compared_and_cloned_whole()
     ensures equality { (a b : Blank) → (⟦<EmptyRecords as PartialEq>⟧.eq a b ≡ true) ↔ (a ≡ b) }
     ensures clone { (source clone : Blank) → ⟦<EmptyRecords as Clone>⟧.is_clone source clone → clone ≡ source }
     ensures comes { (source : Blank) → ⟦<EmptyRecords as Clone>⟧.is_infallible source }
     ensures at_first { (begun : Blank) → ⟦<EmptyRecords as Default>⟧.is_default begun → begun ≡ record { rows = 0; columns = 0 } }
+    ensures refuses_none { (records : Blank) → ⟦<EmptyRecords as RecordTexts>⟧.may_refuse records ≡ false }
 {}

@@ -52,7 +52,7 @@ pub fn texts_have_their_answers()
     ensures line_width { (text : List ℕ) (index : ℕ) → HasLineWidth text index (line_measure (line_at (shown_lines (pieces_of text)) index)) }
 {}
 
-/// Vectors and arrays of cells have a row for each of them, with the texts of its cells, and refuse no cell.
+/// Vectors, slices and arrays of rows have the texts of their cells, row by row, and refuse no cell.
 pub fn sources_have_their_rows<'a, T: Cell + 'a, const C: usize, const R: usize>()
     ensures slice { (rows : Bor (List (VecOf T))) → ⟦<&'a [Vec<T>] as RecordTexts>⟧.rows rows ≡ texts_of_rows T.text rows.now }
     ensures vector { (rows : VecOf (VecOf T)) → ⟦<Vec<Vec<T>> as RecordTexts>⟧.rows rows ≡ texts_of_rows T.text rows.items }

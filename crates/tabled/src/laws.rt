@@ -60,14 +60,15 @@ pub fn batches_by_hand()
 {}
 
 /// `==` of iterators over batches is equality of all their parts, and `cmp` finds the same ones equal. A clone
-/// is the same iterator and is never refused; one gives the numbers that are left, one after the other, and
-/// that which is made by default none.
+/// is the same iterator and is never refused. An iterator gives the numbers that are left, one after the other,
+/// and may be asked for the next at any time; one that is made by default gives none.
 pub fn iterators_are_compared_and_cloned_whole()
     ensures equality { (a b : BatchRows) → (⟦<LayoutIterator as PartialEq>⟧.eq a b ≡ true) ↔ (a ≡ b) }
     ensures order { (a b : BatchRows) → (⟦<LayoutIterator as Ord>⟧.cmp a b ≡ Equal) ↔ (a ≡ b) }
     ensures clone { (source clone : BatchRows) → ⟦<LayoutIterator as Clone>⟧.is_clone source clone → clone ≡ source }
     ensures comes { (source : BatchRows) → ⟦<LayoutIterator as Clone>⟧.is_infallible source }
     ensures at_first { (begun : BatchRows) → ⟦<LayoutIterator as Default>⟧.is_default begun → values_left begun ≡ [] }
+    ensures asked { (begun : BatchRows) → ⟦<LayoutIterator as Iterator>⟧.can_next begun }
     ensures gives { (begun after : BatchRows) (given : Option ℕ) → ⟦<LayoutIterator as Iterator>⟧.next_gives begun given after → YieldsFirst values_left begun given after }
 {}
 

@@ -20,6 +20,10 @@ pub use tabled_list::{Amount, Setting};
 pub use tabled_options::object::{Columns, Rows, Segment};
 pub use tabled_options::{Alignment, Margin, Padding, PaddingExpand, Span, Style, object};
 pub use tabled_output::Counted;
+pub use tabled_size_dimension::SuffixLimit;
+pub use tabled_size_priority::{
+    Choice, Peaker, Priority, PriorityLeft, PriorityMax, PriorityMin, PriorityNone, PriorityRight,
+};
 pub use tabled_steps::{CellOption, Max, Measurement, Min, Percent, TableOption};
 pub use tabled_text::{Builder, CellText, Tabled};
 pub use tabled_width::{Justify, MinWidth, Truncate, Width, WidthList, Wrap};

@@ -84,8 +84,8 @@ pub fn clones_are_the_same<I: RecordTexts + Clone, D: Dimension + Clone>()
     ensures comes { ((x : I) → I.Clone.is_infallible x) → ((x : D) → D.Clone.is_infallible x) → (source : OneTable I D) → ⟦<CompactTable<I, D> as Clone>⟧.is_infallible source }
 {}
 
-/// A table that is made of an array of rows has them in a column for each cell of a row, as wide as their texts
-/// ask.
+/// A table that is made of an array of rows has a column for each cell of a row, each as wide as its widest text
+/// and 2 more, or `usize::MAX` where that passes it.
 pub fn tables_of_arrays_are_as_wide_as_their_texts<
     I: RowArray<COLUMNS, ROWS>,
     const COLUMNS: usize,

@@ -6,8 +6,8 @@ ghost use Rattle.tabled_iter.specs.declared.table.IterTable.{IterTable as OneTab
 use crate::table::IterTable;
 use grid_records_traits::RecordTexts;
 
-/// `==` of tables is equality of their rows, their settings and all that is set of their shapes, where that
-/// of their sources is equality of the rows.
+/// Tables that are equal by `==` have the same rows, the same settings and all that is set of their shapes, where
+/// sources that are equal by `==` have the same rows; and a table is equal to itself, where its source is.
 pub fn equal_tables_are_the_same<I: RecordTexts + PartialEq>()
     ensures equality { ((x y : I) → I.PartialEq.eq x y ≡ true → I.RecordTexts.rows x ≡ I.RecordTexts.rows y) →
         (a b : OneTable I) → ⟦<IterTable<I> as PartialEq>⟧.eq a b ≡ true → streamed I.RecordTexts.rows a ≡ streamed I.RecordTexts.rows b }

@@ -6,6 +6,7 @@ ghost use Rattle.tabled_size_priority.specs.Growing.{IsGrownByNarrowest, IsGrown
 ghost use Rattle.tabled_size_priority.specs.Levels.{AreAtLeast, AreAtMost, CouldBeGrown, CouldBeShrunk, IsGreatestLevel, IsLeastLevel};
 ghost use Rattle.tabled_size_priority.specs.Peaks.{narrowest_peaks, side_peaks, turn_peaks, widest_peaks};
 ghost use Rattle.tabled_size_priority.specs.Shrinking.{IsOfForm, IsShrunkByNarrowest, IsShrunkByWidest, IsShrunkFromSide, IsShrunkInTurns, shrunk_sum, shrunk_to_level};
+ghost use Rattle.tabled_size_priority.specs.Turns.{grows_in_turns, shrinks_in_turns};
 ghost use Rattle.tabled_size_priority.specs.declared.choice.Choice.{Choice as OneChoice};
 ghost use Rattle.tabled_size_priority.specs.declared.left.PriorityLeft.{PriorityLeft as FromLeft};
 ghost use Rattle.tabled_size_priority.specs.declared.right.PriorityRight.{PriorityRight as FromRight};
@@ -97,9 +98,9 @@ pub fn narrowest_first_is_best()
         AreAtLeast widths 1 → IsGrownByNarrowest right by widths sizes → CouldBeGrown widths sizes others → AreAtLeast others fewest → AreAtLeast sizes fewest }
 {}
 
-/// `==` of priorities and of their names is equality of what they keep, and `cmp` finds the same ones equal; a
-/// clone is the same, and is never refused; made by default, one goes on at the first column, or prefers the
-/// left.
+/// `==` of priorities and of `Choice` is equality of what they keep, and where they have an order `cmp` finds the
+/// same ones equal; a clone is the same, and is never refused; made by default, a priority goes on at the first
+/// column, or prefers the left.
 pub fn priorities_are_compared_and_cloned_whole()
     ensures none { (a b : ℕ) → (⟦<PriorityNone as PartialEq>⟧.eq a b ≡ true) ↔ (a ≡ b) }
     ensures widest { (a b : Bool) → (⟦<PriorityMax as PartialEq>⟧.eq a b ≡ true) ↔ (a ≡ b) }
@@ -125,8 +126,11 @@ pub fn priorities_are_compared_and_cloned_whole()
     ensures narrowest_at_first { (begun : Bool) → ⟦<PriorityMin as Default>⟧.is_default begun → begun ≡ false }
 {}
 
-/// A priority but `PriorityNone` keeps what it kept when it shrinks or grows.
+/// A priority but `PriorityNone` keeps what it kept when it shrinks or grows. That one goes round, from the
+/// column at which it goes on, which then is the one after the last that it changed, or where it stood.
 pub fn sides_are_kept()
+    ensures shrunk_in_turns { (next after : ℕ) (least widths sizes : List ℕ) (by : ℕ) → ⟦<PriorityNone as Peaker>⟧.shrinks next least by widths after sizes → shrinks_in_turns next least by widths after sizes }
+    ensures grown_in_turns { (next after : ℕ) (widths sizes : List ℕ) (by : ℕ) → ⟦<PriorityNone as Peaker>⟧.grows next by widths after sizes → grows_in_turns next by widths after sizes }
     ensures shrunk_by_widest { (side after : Bool) (least widths sizes : List ℕ) (by : ℕ) → ⟦<PriorityMax as Peaker>⟧.shrinks side least by widths after sizes → after ≡ side }
     ensures grown_by_widest { (side after : Bool) (widths sizes : List ℕ) (by : ℕ) → ⟦<PriorityMax as Peaker>⟧.grows side by widths after sizes → after ≡ side }
     ensures shrunk_by_narrowest { (side after : Bool) (least widths sizes : List ℕ) (by : ℕ) → ⟦<PriorityMin as Peaker>⟧.shrinks side least by widths after sizes → after ≡ side }

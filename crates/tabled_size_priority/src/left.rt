@@ -24,7 +24,7 @@ impl PriorityLeft {
         ensures shrunk { IsShrunkFromSide false least.now by widths.old widths.new }
         ensures between { StaysBetween least.now widths.old widths.new }
         ensures at_most { sum widths.old ≤ sum widths.new + by }
-        ensures walks { result ≤ 200 }
+        ensures walks { result ≤ 2 }
     {
         take_whole(Order::FromSide(false), widths, least, by).walks
     }
@@ -35,7 +35,7 @@ impl PriorityLeft {
         ensures grown { IsGrownFromSide false by widths.old widths.new }
         ensures never_falls { NeverFalls widths.old widths.new }
         ensures at_most { sum widths.new ≤ sum widths.old + by }
-        ensures walks { result ≤ 200 }
+        ensures walks { result ≤ 1 }
     {
         if let Some(column) = self.peak(&[], widths) {
             widths[column] += by;

@@ -52,7 +52,7 @@ impl PriorityMax {
         ensures shrunk { IsShrunkByWidest self.old least.now by widths.old widths.new × (self.new ≡ self.old) }
         ensures between { StaysBetween least.now widths.old widths.new }
         ensures at_most { sum widths.old ≤ sum widths.new + by }
-        ensures walks { result ≤ 200 }
+        ensures walks { result ≤ 68 }
     {
         take(Rule::Widest, Order::FromSide(self.right), widths, least, by).walks
     }
@@ -63,7 +63,7 @@ impl PriorityMax {
         ensures grown { IsGrownByWidest self.old by widths.old widths.new × (self.new ≡ self.old) }
         ensures never_falls { NeverFalls widths.old widths.new }
         ensures at_most { sum widths.new ≤ sum widths.old + by }
-        ensures walks { result ≤ 200 }
+        ensures walks { result ≤ 1 }
     {
         if let Some(column) = self.peak(&[], widths) {
             widths[column] += by;

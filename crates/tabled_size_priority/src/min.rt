@@ -52,7 +52,7 @@ impl PriorityMin {
         ensures shrunk { IsShrunkByNarrowest self.old least.now by widths.old widths.new × (self.new ≡ self.old) }
         ensures between { StaysBetween least.now widths.old widths.new }
         ensures at_most { sum widths.old ≤ sum widths.new + by }
-        ensures walks { result ≤ 200 }
+        ensures walks { result ≤ 68 }
     {
         let order = Order::FromSide(self.right);
         take(Rule::Narrowest, order, widths, least, by).walks
@@ -64,7 +64,7 @@ impl PriorityMin {
         ensures grown { IsGrownByNarrowest self.old by widths.old widths.new × (self.new ≡ self.old) }
         ensures never_falls { NeverFalls widths.old widths.new }
         ensures at_most { sum widths.new ≤ sum widths.old + by }
-        ensures walks { result ≤ 200 }
+        ensures walks { result ≤ 69 }
     {
         // nothing grows where a width is 0
         if widths.contains(&0) {

@@ -41,7 +41,7 @@ impl PriorityNone {
         ensures shrunk { shrinks_in_turns self.old least.now by widths.old self.new widths.new }
         ensures between { StaysBetween least.now widths.old widths.new }
         ensures at_most { sum widths.old ≤ sum widths.new + by }
-        ensures walks { result ≤ 200 }
+        ensures walks { result ≤ 68 }
     {
         let order = Order::FromColumn(self.start(widths.len()));
         let moved = take(Rule::Turns, order, widths, least, by);
@@ -55,7 +55,7 @@ impl PriorityNone {
         ensures grown { grows_in_turns self.old by widths.old self.new widths.new }
         ensures never_falls { NeverFalls widths.old widths.new }
         ensures at_most { sum widths.new ≤ sum widths.old + by }
-        ensures walks { result ≤ 200 }
+        ensures walks { result ≤ 68 }
     {
         let order = Order::FromColumn(self.start(widths.len()));
         let moved = give(Rule::Shared, order, widths, by);

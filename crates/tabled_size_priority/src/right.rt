@@ -23,7 +23,7 @@ impl PriorityRight {
         ensures shrunk { IsShrunkFromSide true least.now by widths.old widths.new }
         ensures between { StaysBetween least.now widths.old widths.new }
         ensures at_most { sum widths.old ≤ sum widths.new + by }
-        ensures walks { result ≤ 200 }
+        ensures walks { result ≤ 2 }
     {
         take_whole(Order::FromSide(true), widths, least, by).walks
     }
@@ -34,7 +34,7 @@ impl PriorityRight {
         ensures grown { IsGrownFromSide true by widths.old widths.new }
         ensures never_falls { NeverFalls widths.old widths.new }
         ensures at_most { sum widths.new ≤ sum widths.old + by }
-        ensures walks { result ≤ 200 }
+        ensures walks { result ≤ 1 }
     {
         if let Some(column) = self.peak(&[], widths) {
             widths[column] += by;

@@ -40,7 +40,7 @@ pub fn fields_by_hand()
     ensures yes { bool_text true ≡ codes "true" }
 {}
 
-/// The text of each single value, what may be borrowed of it, and the one name that its field has.
+/// The text of each single value, and which of them lend theirs.
 pub fn values_have_their_texts<'a>()
     ensures borrowed { (value : Bor (List ℕ)) → ⟦<&'a str as CellText>⟧.text value ≡ value.now }
     ensures owned { (value : Bytes Heap) → ⟦<String as CellText>⟧.text value ≡ string_bytes value }

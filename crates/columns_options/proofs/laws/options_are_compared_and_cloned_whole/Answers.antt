@@ -1,5 +1,5 @@
 -- Options that are equal by `==` have equal parts, and the other way round.
-use Rattle.std.proofs.Common.{rules, ◌≡◌, Bool, true, List, [], ◌∷◌}
+use Rattle.std.proofs.Common.{◌≡◌, Bool, true, List, [], ◌∷◌}
 use Rattle.std.proofs.Math.Bool.{beq}
 use Rattle.std.proofs.lemmas.Bool.{eqb-true}
 use Rattle.std.specs.Option.{option_eq}
@@ -8,14 +8,8 @@ use Rattle.columns_options.proofs.laws.options_are_compared_and_cloned_whole.Goa
 use Rattle.grid_config.proofs.Equality.{settings_pass, settings_same}
 use Rattle.grid_config.specs.Equality.{equal}
 use Rattle.grid_config_values.proofs.Equality.{each_passes, number_eq, numbers_pass, passes_all, same_option, switch_passes, switch_same}
+use Rattle.tabled_size_priority.proofs.Names.{name_passes, name_same}
 use Rattle.tabled_size_priority.specs.contracts.choice.ChoicePartialEq.TheImpl.{ghosts as names}
-use Rattle.tabled_size_priority.specs.declared.choice.Choice.{Choice}
-
-name_same : (a b : Choice) → names.eq a b ≡ true → a ≡ b
-name_same a b = search rules
-
-name_passes : (a b : Choice) → a ≡ b → names.eq a b ≡ true
-name_passes a b = search rules
 
 -- the tests behind that of the width
 abbrev other_tests : Asked → Asked → List Bool
