@@ -1,7 +1,7 @@
 //! Laws of the definitions that the other contracts cite.
 
 ghost use Rattle.std.specs.Prelude.{◌≡◌, ◌↔◌, ℕ, List, Option, map, ◌++◌, IsSome, true};
-ghost use Rattle.std.specs.Iterator.{YieldsFirst};
+ghost use Rattle.std.specs.Iterator.{YieldsFirst, item_count};
 ghost use Rattle.ansi_scan.specs.declared.items.Item.{Item as OneItem};
 ghost use Rattle.ansi_scan.specs.declared.items.Kind.{Kind as OneKind};
 ghost use Rattle.ansi_scan.specs.declared.items.Scan.{Scan as OneScan};
@@ -72,8 +72,10 @@ pub fn clones_of_items_are_the_same()
     ensures items_come { (source : OneItem) → ⟦<Item as Clone>⟧.is_infallible source }
 {}
 
-/// The items of a text come one after the other, and then none; the next may be asked for at any time.
+/// The items of a text come one after the other, and then none; the next may be asked for at any time, and as
+/// many are left as are still to come.
 pub fn items_come_in_their_order()
     ensures asked { (items : OneScan) → ⟦<Scan<'static> as Iterator>⟧.can_next items }
+    ensures left { (items : OneScan) → ⟦<Scan<'static> as Iterator>⟧.remaining items ≡ item_count items_left items }
     ensures next { (before after : OneScan) (given : Option OneItem) → ⟦<Scan<'static> as Iterator>⟧.next_gives before given after → YieldsFirst items_left before given after }
 {}

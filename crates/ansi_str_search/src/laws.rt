@@ -2,7 +2,7 @@
 
 ghost use Rattle.std.specs.Prelude.{All, ◌≡◌, ◌<◌, ◌≤◌, ◌-◌, ◌==◌, ℕ, List, Option, Result, [], ◌∷◌, ◌++◌, chars, codes, drop, encode_utf8, false, length, map, slice_range, take, true};
 ghost use Rattle.std.specs.Borrow.{Bor};
-ghost use Rattle.std.specs.Iterator.{AlwaysYields};
+ghost use Rattle.std.specs.Iterator.{AlwaysYields, at_most};
 ghost use Rattle.std.specs.List.{join_with_byte, slice_split};
 ghost use Rattle.std.specs.Str.{IsCharBoundary, IsUtf8};
 ghost use Rattle.std.specs.Str.Iter.{split_has_more, split_pattern, split_steps, split_text};
@@ -241,8 +241,9 @@ pub fn split_at_one_byte()
 {}
 
 /// The parts of a split come one after the other, and then none; after a refusal none comes. The next may be
-/// asked for at any time.
+/// asked for at any time, and no more are left than there are parts.
 pub fn parts_come_in_their_order()
     ensures asked { (parts : PartsLeft) → ⟦<AnsiSplit<'static> as Iterator>⟧.can_next parts }
+    ensures left { (parts : PartsLeft) → ⟦<AnsiSplit<'static> as Iterator>⟧.remaining parts ≡ at_most (length parts.parts) }
     ensures next { (before after : PartsLeft) (given : Option (Result (PartText Heap) Refused)) → ⟦<AnsiSplit<'static> as Iterator>⟧.next_gives before given after → GivesPart before given after }
 {}

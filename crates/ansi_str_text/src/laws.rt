@@ -1,7 +1,7 @@
 //! Laws of the definitions that the other contracts cite.
 
 ghost use Rattle.std.specs.Prelude.{◌≡◌, ℕ, List, Option, ◌∷◌, ◌++◌, flat_map};
-ghost use Rattle.std.specs.Iterator.{YieldsFirst, YieldsLast};
+ghost use Rattle.std.specs.Iterator.{YieldsFirst, YieldsLast, item_count};
 ghost use Rattle.ansi_scan.specs.Sequences.{Piece, ArePiecesOf, escape, string_terminator};
 ghost use Rattle.ansi_scan.specs.Attributes.{plain_attributes};
 ghost use Rattle.ansi_str_text.specs.StyledText.{strip, styled};
@@ -40,10 +40,13 @@ pub fn clones_of_blocks_are_the_same()
 {}
 
 /// Blocks and characters come one after the other, and then none; characters from the back too. The next may be
-/// asked for at any time.
+/// asked for at any time, and as many are left as are still to come.
 pub fn blocks_and_characters_come_in_their_order()
     ensures asked { (blocks : List Block) → ⟦<AnsiBlockIter<'static> as Iterator>⟧.can_next blocks }
     ensures asked_for_characters { (characters : List ℕ) → ⟦<StrippedChars<'static> as Iterator>⟧.can_next characters }
+    ensures asked_from_the_back { (characters : List ℕ) → ⟦<StrippedChars<'static> as DoubleEndedIterator>⟧.can_next_back characters }
+    ensures left { (blocks : List Block) → ⟦<AnsiBlockIter<'static> as Iterator>⟧.remaining blocks ≡ item_count (λ (blocks : List Block). blocks) blocks }
+    ensures characters_left { (characters : List ℕ) → ⟦<StrippedChars<'static> as Iterator>⟧.remaining characters ≡ item_count (λ (characters : List ℕ). characters) characters }
     ensures blocks { (before after : List Block) (given : Option Block) → ⟦<AnsiBlockIter<'static> as Iterator>⟧.next_gives before given after → YieldsFirst (λ (blocks : List Block). blocks) before given after }
     ensures characters { (before after : List ℕ) (given : Option ℕ) → ⟦<StrippedChars<'static> as Iterator>⟧.next_gives before given after → YieldsFirst (λ (characters : List ℕ). characters) before given after }
     ensures from_the_back { (before after : List ℕ) (given : Option ℕ) → ⟦<StrippedChars<'static> as DoubleEndedIterator>⟧.next_back_gives before given after → YieldsLast (λ (characters : List ℕ). characters) before given after }

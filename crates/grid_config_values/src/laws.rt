@@ -1,6 +1,6 @@
 //! Laws of the definitions that the other contracts cite.
 ghost use Rattle.std.specs.Prelude.{◌≡◌, ◌<◌, ◌||◌, ◌⊎◌, ◌↔◌, All, IsTrue, List, Option, Some, ◌∷◌, ◌++◌, false, is_some, true};
-ghost use Rattle.std.specs.Iterator.{YieldsFirst};
+ghost use Rattle.std.specs.Iterator.{YieldsFirst, item_count};
 ghost use Rattle.std.specs.declared.alloc.AllocError.{AllocError as Refused};
 ghost use Rattle.std.specs.declared.cmp.Ordering.TheVariants.{Equal, Less};
 ghost use Rattle.grid_config_values.specs.declared.alignment.AlignmentHorizontal.{AlignmentHorizontal as Horizontal};
@@ -135,8 +135,10 @@ pub fn refused_growth_is_memory()
     ensures { (given : Refused) (fault : OneFault) → ⟦<Fault as From<AllocError>>⟧.from_gives given fault → fault ≡ Memory }
 {}
 
-/// The cells of an entity come one after the other, and then none; the next may be asked for at any time.
+/// The cells of an entity come one after the other, and then none; the next may be asked for at any time, and as
+/// many are left as are still to come.
 pub fn cells_come_in_their_order()
     ensures asked { (places : List Place) → ⟦<EntityIterator as Iterator>⟧.can_next places }
+    ensures left { (places : List Place) → ⟦<EntityIterator as Iterator>⟧.remaining places ≡ item_count (λ (places : List Place). places) places }
     ensures next { (before after : List Place) (given : Option Place) → ⟦<EntityIterator as Iterator>⟧.next_gives before given after → YieldsFirst (λ (places : List Place). places) before given after }
 {}

@@ -10,10 +10,11 @@ pub use grid_records_measure::laws::{
     plain_characters_add_up, trimmed_texts,
 };
 pub use grid_records_rows::laws::{
-    empty_records_are_compared_and_cloned_whole, truncated_texts_are_cuts,
-    vectors_count_what_they_hold,
+    empty_records_are_compared_and_cloned_whole, references_give_the_same_hint,
+    texts_are_their_own, truncated_texts_are_cuts, vectors_count_what_they_hold,
 };
 pub use grid_records_traits::laws::{
-    cells_answer_by_their_texts, cells_have_their_texts, references_have_the_same_rows,
-    references_have_the_same_sizes, sources_have_their_rows, texts_have_their_answers,
+    cells_answer_by_their_texts, cells_have_their_texts, references_have_as_many_columns,
+    references_have_the_same_rows, references_have_the_same_sizes, sources_have_their_rows,
+    texts_have_their_answers,
 };

@@ -1,6 +1,7 @@
 //! Laws of the definitions that the other contracts cite.
 
 ghost use Rattle.std.specs.Prelude.{All, ◌≡◌, ◌<◌, ℕ, List, Option, Result, length, map, true};
+ghost use Rattle.std.specs.Iterator.{at_most};
 ghost use Rattle.std.specs.declared.alloc.AllocError.{AllocError as Refused};
 ghost use Rattle.std.specs.declared.borrow.CowStr.{CowStr as LineText};
 ghost use Rattle.std.proofs.Common.{Global as Heap};
@@ -94,8 +95,9 @@ pub fn plain_characters_add_up()
 {}
 
 /// The lines of a text come one after the other, and then none; after a refusal none comes. The next may be
-/// asked for at any time.
+/// asked for at any time, and no more are left than there are lines.
 pub fn lines_come_in_their_order()
     ensures asked { (lines : PartsLeft) → ⟦<Lines<'static> as Iterator>⟧.can_next lines }
+    ensures left { (lines : PartsLeft) → ⟦<Lines<'static> as Iterator>⟧.remaining lines ≡ at_most (length lines.parts) }
     ensures next { (before after : PartsLeft) (given : Option (Result (LineText Heap) Refused)) → ⟦<Lines<'static> as Iterator>⟧.next_gives before given after → GivesPart before given after }
 {}

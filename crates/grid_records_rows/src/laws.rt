@@ -1,14 +1,18 @@
 //! Laws of the definitions that the other contracts cite.
 ghost use Rattle.std.specs.Prelude.{◌≡◌, ◌↔◌, ℕ, List, Some, false, length, true};
+ghost use Rattle.std.specs.Borrow.{Bor};
 ghost use Rattle.ansi_scan.specs.Pieces.{pieces};
 ghost use Rattle.grid_records_measure.specs.Cutting.{IsCutAt};
 ghost use Rattle.grid_records_measure.specs.CutTexts.{cut_at};
 ghost use Rattle.grid_records_traits.specs.Rows.{row_at};
 ghost use Rattle.grid_records_rows.specs.declared.records.empty.EmptyRecords.{EmptyRecords as Blank};
+ghost use Rattle.grid_records_rows.specs.declared.records.iter_records.IterRecords.{IterRecords as Counted};
 ghost use Rattle.grid_records_rows.specs.declared.records.vec_records.VecRecords.{VecRecords as Vectors};
 
 use crate::records::empty::EmptyRecords;
-use crate::records::vec_records::{Cell, VecRecords};
+use crate::records::into_records::IntoRecords;
+use crate::records::iter_records::IterRecords;
+use crate::records::vec_records::{Cell, Text, VecRecords};
 use crate::records::{RecordColumns, RecordTexts, Records};
 
 /// What is left of a text that is wider than its column is its cut at the column's width, as `cut_width`
@@ -34,4 +38,15 @@ pub fn empty_records_are_compared_and_cloned_whole()
     ensures comes { (source : Blank) → ⟦<EmptyRecords as Clone>⟧.is_infallible source }
     ensures at_first { (begun : Blank) → ⟦<EmptyRecords as Default>⟧.is_default begun → begun ≡ record { rows = 0; columns = 0 } }
     ensures refuses_none { (records : Blank) → ⟦<EmptyRecords as RecordTexts>⟧.may_refuse records ≡ false }
+{}
+
+/// A reference to rows gives the hint of the rows that it refers to.
+pub fn references_give_the_same_hint<'a, T: Cell + 'a, I: IntoRecords + Copy + 'a>()
+    ensures vectors { (records : Bor (Vectors T)) → ⟦<&'a VecRecords<T> as Records>⟧.hint records ≡ ⟦<VecRecords<T> as Records>⟧.hint records.now }
+    ensures source { (records : Bor (Counted I)) → ⟦<&'a IterRecords<I> as Records>⟧.hint records ≡ ⟦<IterRecords<I> as Records>⟧.hint records.now }
+{}
+
+/// The text of a `Text` is its own.
+pub fn texts_are_their_own()
+    ensures { (text : List ℕ) → ⟦<Text as Cell>⟧.text text ≡ text }
 {}

@@ -9,12 +9,17 @@ ghost use Rattle.grid_records_traits.specs.Sources.{texts_of_rows};
 ghost use Rattle.grid_records_traits.specs.Cells.{HasLineCount, HasLineWidth, HasWidth, IsLineAt, line_at};
 
 use crate::dimension::Dimension;
-use crate::records::{Cell, RecordTexts};
+use crate::records::{Cell, RecordColumns, RecordTexts};
 
 /// A reference has the rows of the source that it refers to, and may refuse a cell where that may.
 pub fn references_have_the_same_rows<'a, R: RecordTexts + 'a>()
     ensures rows { (records : Bor R) → ⟦<&'a R as RecordTexts>⟧.rows records ≡ R.rows records.now }
     ensures may_refuse { (records : Bor R) → ⟦<&'a R as RecordTexts>⟧.may_refuse records ≡ R.may_refuse records.now }
+{}
+
+/// A reference has as many columns as the source that it refers to.
+pub fn references_have_as_many_columns<'a, R: RecordColumns + 'a>()
+    ensures { (records : Bor R) → ⟦<&'a R as RecordColumns>⟧.columns records ≡ R.columns records.now }
 {}
 
 /// A reference has the sizes of what it refers to.

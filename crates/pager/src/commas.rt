@@ -1,6 +1,8 @@
 //! A reader that makes tabs of commas.
 ghost use Rattle.std.specs.Prelude.{◌≡◌};
+ghost use Rattle.std.specs.Option.{option_map};
 ghost use Rattle.pager.specs.Commas.{tab_for, with_tabs};
+ghost use Rattle.pager.specs.declared.commas.Commas.{Commas as Reader};
 
 use std::io;
 use std::io::Read;
@@ -20,8 +22,6 @@ impl<R> Commas<R> {
 
 /// What is left is known where it is known of the other reader.
 impl<R: Read> Read for Commas<R> {
-    ghost use Rattle.std.specs.Option.{option_map};
-
     ghost remaining = { λ commas. option_map with_tabs (R.remaining commas.inner) };
 
     fn read(&mut self, buf: &mut [u8]) -> io::Result<usize> {
@@ -30,6 +30,11 @@ impl<R: Read> Read for Commas<R> {
         Ok(count)
     }
 }
+
+/// What is left to read is what is left of the reader below, with a tab in the place of each comma.
+pub fn commas_are_read_as_tabs<R: Read>()
+    ensures { (commas : Reader R) → ⟦<Commas<R> as Read>⟧.remaining commas ≡ option_map with_tabs (R.remaining commas.inner) }
+{}
 
 // Puts a tab in the place of each comma.
 fn replace_commas(bytes: &mut [u8])

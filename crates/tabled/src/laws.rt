@@ -1,5 +1,5 @@
 //! Laws of the definitions that the contracts cite.
-ghost use Rattle.std.specs.Iterator.{YieldsFirst};
+ghost use Rattle.std.specs.Iterator.{YieldsFirst, item_count};
 ghost use Rattle.std.specs.List.{join_with_byte, range_with_len};
 ghost use Rattle.std.specs.Prelude.{◌≡◌, ◌↔◌, ◌<◌, ◌≤◌, ◌-◌, ◌++◌, ℕ, Bool, IfSome, String, [], ◌∷◌, List, None, Ok, Option, Some, chars, length, map, true, unwrap_or};
 ghost use Rattle.std.specs.declared.cmp.Ordering.TheVariants.{Equal};
@@ -61,7 +61,8 @@ pub fn batches_by_hand()
 
 /// `==` of iterators over batches is equality of all their parts, and `cmp` finds the same ones equal. A clone
 /// is the same iterator and is never refused. An iterator gives the numbers that are left, one after the other,
-/// and may be asked for the next at any time; one that is made by default gives none.
+/// may be asked for the next at any time, and has as many left as are still to come; one that is made by default
+/// gives none.
 pub fn iterators_are_compared_and_cloned_whole()
     ensures equality { (a b : BatchRows) → (⟦<LayoutIterator as PartialEq>⟧.eq a b ≡ true) ↔ (a ≡ b) }
     ensures order { (a b : BatchRows) → (⟦<LayoutIterator as Ord>⟧.cmp a b ≡ Equal) ↔ (a ≡ b) }
@@ -69,6 +70,7 @@ pub fn iterators_are_compared_and_cloned_whole()
     ensures comes { (source : BatchRows) → ⟦<LayoutIterator as Clone>⟧.is_infallible source }
     ensures at_first { (begun : BatchRows) → ⟦<LayoutIterator as Default>⟧.is_default begun → values_left begun ≡ [] }
     ensures asked { (begun : BatchRows) → ⟦<LayoutIterator as Iterator>⟧.can_next begun }
+    ensures left { (begun : BatchRows) → ⟦<LayoutIterator as Iterator>⟧.remaining begun ≡ item_count values_left begun }
     ensures gives { (begun after : BatchRows) (given : Option ℕ) → ⟦<LayoutIterator as Iterator>⟧.next_gives begun given after → YieldsFirst values_left begun given after }
 {}
 

@@ -18,6 +18,7 @@ ghost use Rattle.tabled_steps.specs.Looks.{changing_inside, covering, placing, w
 ghost use Rattle.tabled_steps.specs.Outcomes.{◌≫=◌, all_sized, sized};
 ghost use Rattle.tabled_steps.specs.States.{Outcome, Settles, State, looking, positive, settled};
 ghost use Rattle.tabled_size_dimension.specs.Stored.{Stored, none_stored};
+ghost use Rattle.tabled_size_dimension.specs.declared.zero.ZeroDimension.{ZeroDimension as Zero};
 ghost use Rattle.tabled_steps.specs.Worked.{at, keeping, letters};
 ghost use Rattle.tabled_steps.specs.declared.measurement.Max.{Max as Greatest};
 ghost use Rattle.tabled_steps.specs.declared.measurement.Min.{Min as LeastThatHolds};
@@ -28,7 +29,7 @@ use crate::measurement::{Max, Measurement, Min, Percent};
 use crate::option::TableOption;
 use grid_config::{ColoredConfig, CompactConfig, SpannedConfig};
 use grid_records_traits::records::RecordTexts;
-use tabled_size_dimension::CompleteDimension;
+use tabled_size_dimension::{CompleteDimension, ZeroDimension};
 
 /// Texts that changed, worked out by hand: those of one column, those that their place names, those of a
 /// row that isn't there, and those that stay.
@@ -109,6 +110,7 @@ pub fn what_options_see<A>()
     ensures alike { (settings : CompactSettings) → ⟦<CompactConfig as Configuration>⟧.look settings ≡ compact_look (compact_of settings) }
     ensures plain { (settings : CompactSettings) (place : Place) → ⟦<CompactConfig as Configuration>⟧.colors settings place ≡ None }
     ensures sizes { (stored : Stored) → ⟦<CompleteDimension as KeptSizes>⟧.sizes stored ≡ stored }
+    ensures no_sizes { (zero : Zero) → ⟦<ZeroDimension as KeptSizes>⟧.sizes zero ≡ none_stored }
     ensures number { (n columns : ℕ) (rows : List (List (List ℕ))) (look : Look) (outcome : Result ℕ Refusal) →
         ⟦<usize as Measurement<A>>⟧.measures n columns rows look outcome → Ok n ≡ outcome }
 {}

@@ -5,7 +5,7 @@ use std::alloc::Global;
 use std::process::Abort;
 use tabled_compact::BuildFault;
 use tabled_fakes::StepWriter;
-use tabled_output::Counted;
+use tabled_output::{Counted, WriteFault};
 
 const TEXT: &[u8] = b"+---+\n| a |\n+---+";
 
@@ -85,13 +85,22 @@ fn tells(rt: &impl Abort, alloc: Global, fault: BuildFault, wanted: &str) {
     expect_text(rt, found.as_str(), wanted);
 }
 
+// That a fault of a writer prints this, in holes with options too.
+fn tells_of_writing(rt: &impl Abort, alloc: Global, fault: WriteFault, wanted: &str) {
+    let found = format!(in alloc; "{fault}|{fault:>40}|{fault:#}|{fault:8}").expect(rt, MEMORY);
+    let same = format!(in alloc; "{wanted}|{wanted}|{wanted}|{wanted}").expect(rt, MEMORY);
+    expect_text(rt, found.as_str(), same.as_str());
+}
+
 #[test]
-fn faults_are_told_in_words(rt: HostRuntime) {
-    let a = rt.alloc();
-    tells(&rt, a, BuildFault::Write, "write failed");
-    tells(&rt, a, BuildFault::WriteZero, "writer took nothing");
-    let range = format!(in a; "{}", Fault::Range).expect(&rt, MEMORY);
-    tells(&rt, a, BuildFault::Table(Fault::Range), range.as_str());
+fn faults_of_writers_are_told_in_words(rt: HostRuntime) {
+    tells_of_writing(&rt, rt.alloc(), WriteFault::Write, "write failed");
+    tells_of_writing(
+        &rt,
+        rt.alloc(),
+        WriteFault::WriteZero,
+        "writer took nothing",
+    );
 }
 
 // That a fault prints this in holes with options too. A `str` in the first one gets spaces up to 40 columns.
