@@ -40,7 +40,7 @@ pub fn clones_of_blocks_are_the_same()
 {}
 
 /// Blocks and characters come one after the other, and then none; characters from the back too. The next may be
-/// asked for at any time, and as many are left as are still to come.
+/// asked for at any time, and no more are left than are still to come.
 pub fn blocks_and_characters_come_in_their_order()
     ensures asked { (blocks : List Block) → ⟦<AnsiBlockIter<'static> as Iterator>⟧.can_next blocks }
     ensures asked_for_characters { (characters : List ℕ) → ⟦<StrippedChars<'static> as Iterator>⟧.can_next characters }

@@ -12,7 +12,7 @@ use Rattle.grid_config.specs.Looks.{compact_look}
 use Rattle.grid_config_values.specs.Glyphs.{boundary_kind, has_row_boundary}
 use Rattle.grid_config_values.specs.declared.position.Position.{Position}
 use Rattle.grid_records_measure.specs.TextLines.{line_feed, text_height, text_width, widest}
-use Rattle.grid_records_traits.specs.Rows.{fitted, fitted_row, text_at}
+use Rattle.grid_records_estimate.specs.Rows.{fitted, fitted_row, text_at}
 use Rattle.grid_records_estimate.specs.Estimates.{greatest, track_sizes}
 use Rattle.grid_records_estimate.specs.Sizes.{table_heights, table_widths}
 use Rattle.grid_records_estimate.specs.Sizing.{Sizing, column_axis, compact_sizing, place, row_axis}

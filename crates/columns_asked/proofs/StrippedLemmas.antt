@@ -17,7 +17,7 @@ use Rattle.grid_config_values.specs.Entities.{table_positions}
 use Rattle.grid_config_values.specs.Order.{same_place}
 use Rattle.grid_config_values.specs.declared.position.Position.{Position}
 use Rattle.grid_records_measure.specs.TextLines.{text_width}
-use Rattle.grid_records_traits.specs.Rows.{text_at}
+use Rattle.grid_records_estimate.specs.Rows.{text_at}
 use Rattle.papergrid_picture.specs.Fitting.{InRange, first_too_wide, need}
 use Rattle.papergrid_picture.specs.Frame.{Frame, block_width, column_count, frame_of, row_count}
 use Rattle.papergrid_picture.specs.Shown.{AreWholeTexts, IsWholeText, character_of, characters_of, in_plain, stripped_texts, styled_texts}

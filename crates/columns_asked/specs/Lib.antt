@@ -3,3 +3,4 @@ pub mod Shrunk
 pub mod Resizing
 pub mod Layout
 pub mod Worked
+pub use Rattle.tabled_size_wrap.specs.Bytes

@@ -11,11 +11,11 @@ use Rattle.columns_asked.specs.Resizing.{resized_text}
 use Rattle.columns_options.specs.declared.options.Options.{Options}
 use Rattle.grid_config.specs.Compact.{Compact, compact_of}
 use Rattle.grid_config.specs.Looks.{compact_look}
-use Rattle.grid_config_colors.specs.Colors.{Color}
+use Rattle.grid_config.specs.Colors.{Color}
 use Rattle.grid_config_values.specs.declared.position.Position.{Position}
 use Rattle.grid_records_measure.proofs.TextLineLemmas.{length-text_lines}
 use Rattle.grid_records_measure.specs.TextLines.{line_feed, shown_lines, text_height, text_lines}
-use Rattle.grid_records_traits.specs.Rows.{IsInside, row_at, text_at}
+use Rattle.grid_records_estimate.specs.Rows.{IsInside, row_at, text_at}
 use Rattle.papergrid_picture.proofs.JoinLemmas.{table_text-joined}
 use Rattle.papergrid_picture.proofs.RelatedLemmas.{related-picture_line}
 use Rattle.papergrid_picture.proofs.ShownLemmas.{IsShown-space, get_or-map, painted-nothing}

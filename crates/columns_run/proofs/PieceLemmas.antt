@@ -17,14 +17,14 @@ use Rattle.columns_options.specs.Settings.{default_settings}
 use Rattle.columns_options.specs.declared.options.Options.{Options}
 use Rattle.grid_config.specs.Compact.{Compact, compact_of}
 use Rattle.grid_config.specs.Looks.{Look, compact_look}
-use Rattle.grid_config_colors.specs.Colors.{Color}
+use Rattle.grid_config.specs.Colors.{Color}
 use Rattle.grid_config_values.specs.declared.position.Position.{Position}
 use Rattle.grid_records_measure.proofs.PlainLemmas.{measure-plain, one-column}
 use Rattle.grid_records_measure.proofs.TextLineLemmas.{text_lines-shown}
 use Rattle.grid_records_measure.specs.Measures.{columns, cost, measure, own_width}
 use Rattle.grid_records_measure.specs.PlainCharacters.{is_one_column, is_plain_character, is_two_columns}
 use Rattle.grid_records_measure.specs.TextLines.{line_measure, shown_lines, text_lines}
-use Rattle.grid_records_traits.specs.Rows.{text_at}
+use Rattle.grid_records_estimate.specs.Rows.{text_at}
 use Rattle.papergrid_picture.proofs.ItemLemmas.{Anything, colored-anyhow}
 use Rattle.papergrid_picture.proofs.RelatedLemmas.{All-get_or, parts-hold}
 use Rattle.papergrid_picture.proofs.ShownLemmas.{IsShown-space, pieces-nothing, those-map}

@@ -7,7 +7,7 @@ use Rattle.std.specs.Char.{IsScalar, is_control}
 use Rattle.grid_config.specs.Compact.{Compact, each_side, map_borders}
 use Rattle.grid_config.specs.Looks.{compact_look}
 use Rattle.grid_config.specs.Settings.{color_if, color_if_set, side_colors_if}
-use Rattle.grid_config_colors.specs.Colors.{Color, is_no_color, no_color}
+use Rattle.grid_config.specs.Colors.{Color, is_no_color, no_color}
 use Rattle.grid_config_values.specs.Glyphs.{BoundaryKind, First, Between, Last, along_column, crossing, in_row, no_borders}
 use Rattle.grid_config_values.specs.declared.borders.Borders.{Borders}
 use Rattle.grid_config_values.specs.declared.sides.Indent.{Indent}

@@ -19,9 +19,9 @@ use Rattle.grid_records_estimate.proofs.Lengths.{length-fitted}
 use Rattle.grid_records_estimate.proofs.RoomLemmas.{LeaveRoom-widths}
 use Rattle.grid_records_estimate.specs.Sizing.{column_axis, compact_sizing}
 use Rattle.grid_records_measure.specs.TextLines.{text_width}
-use Rattle.grid_records_traits.specs.Rows.{fitted, text_at}
-use Rattle.papergrid_fits.proofs.Estimated.{text_at-fitted}
-use Rattle.papergrid_fits.proofs.First.{none-in_row-more, none-more}
+use Rattle.grid_records_estimate.specs.Rows.{fitted, text_at}
+use Rattle.columns_table.proofs.Estimated.{text_at-fitted}
+use Rattle.columns_table.proofs.First.{none-in_row-more, none-more}
 use Rattle.papergrid_picture.specs.Fitting.{first_too_wide, is_too_wide, need, table_width}
 use Rattle.papergrid_picture.specs.Frame.{Frame, block_width, frame_of}
 use Rattle.papergrid_picture.specs.Picture.{at}

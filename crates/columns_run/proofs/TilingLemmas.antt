@@ -17,8 +17,8 @@ use Rattle.grid_config_spans.specs.declared.extent.Extent.{Extent}
 use Rattle.grid_config_values.specs.Order.{same_place}
 use Rattle.grid_config_values.specs.declared.position.Position.{Position}
 use Rattle.grid_records_measure.specs.TextLines.{shown_lines, text_width}
-use Rattle.grid_records_traits.specs.Rows.{text_at}
-use Rattle.papergrid_fits.proofs.RoomLemmas.{among-take, none-passes}
+use Rattle.grid_records_estimate.specs.Rows.{text_at}
+use Rattle.columns_table.proofs.FitLemmas.{among-take, none-passes}
 use Rattle.papergrid_picture.proofs.TilingLemmas.{Tiles-picture, rectangle-shown}
 use Rattle.papergrid_picture.specs.Blocks.{Grid, greatest}
 use Rattle.papergrid_picture.specs.CellLines.{cell_measures}

@@ -21,7 +21,7 @@ use Rattle.grid_records_estimate.specs.Sizes.{table_heights, table_widths}
 use Rattle.grid_records_measure.specs.TextLines.{text_height, text_lines, text_width}
 use Rattle.tabled_size_priority.specs.declared.choice.Choice.{Choice}
 use Rattle.tabled_size_priority.specs.declared.choice.Choice.TheVariants.{None as InTurns, MaxLeft}
-use Rattle.tabled_size_wrap.specs.Bytes.{cut_at, wrapped_text}
+use Rattle.columns_asked.specs.Bytes.{cut_at, wrapped_text}
 use Rattle.unicode_width.specs.Width.{alone, char_width, past_emoji, step, str_width}
 use Rattle.columns_run.specs.Rows.{cell_parts, rows_of}
 use Rattle.columns_run.specs.Layout.{asked_of, output_of, table_characters}

@@ -3,7 +3,7 @@ use Rattle.std.specs.Prelude.{◌≡◌, ◌&&◌, ℕ, Bool, false, true, IfSom
 use Rattle.std.specs.Char.{IsScalar, is_control}
 use Rattle.grid_config.specs.Compact.{Compact}
 use Rattle.grid_config.specs.Settings.{IsUncolored}
-use Rattle.grid_config_colors.specs.Colors.{Color, is_no_color}
+use Rattle.grid_config.specs.Colors.{Color, is_no_color}
 use Rattle.grid_config_values.specs.declared.borders.Borders.{Borders}
 use Rattle.grid_config_values.specs.declared.sides.Sides.{Sides}
 use Rattle.grid_records_measure.specs.Measures.{own_width}

@@ -14,7 +14,7 @@ ghost use Rattle.grid_config.specs.Compact.{compact_of};
 ghost use Rattle.grid_config_values.specs.declared.position.Position.{Position as Cell};
 ghost use Rattle.grid_records_measure.specs.Measures.{measure};
 ghost use Rattle.grid_records_measure.specs.TextLines.{text_lines};
-ghost use Rattle.grid_records_traits.specs.Rows.{IsInside, text_at};
+ghost use Rattle.grid_records_estimate.specs.Rows.{IsInside, text_at};
 ghost use Rattle.papergrid_picture.specs.Blocks.{Fill, Glyph, TextLine};
 ghost use Rattle.papergrid_picture.specs.Frame.{column_count, line_count, row_count, total_width};
 ghost use Rattle.papergrid_picture.specs.Picture.{Piece as TablePiece, at, picture_line};

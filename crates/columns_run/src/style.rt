@@ -3,11 +3,10 @@ ghost use Rattle.std.specs.Prelude.{◌≡◌, ◌↔◌, ◌&&◌, IfSome, IsTr
 ghost use Rattle.grid_config.specs.Compact.{border_colors, compact_of, side_colors};
 ghost use Rattle.columns_run.specs.Plain.{ArePlain, GlyphsAre, IsPlain, IsPlainCharacter, are_borders_uncolored, are_sides_uncolored, is_uncolored};
 ghost use Rattle.papergrid_picture.specs.Shown.{OnEachSide};
-ghost use Rattle.grid_config_colors.specs.Colors.{color_of};
+ghost use Rattle.grid_config.specs.Colors.{color_of};
 ghost use Rattle.std.specs.Option.{option_map};
 
-use grid_config::{Borders, CompactConfig, Indent, Sides};
-use grid_config_colors::ANSIStr;
+use grid_config::{ANSIStr, Borders, CompactConfig, Indent, Sides};
 use grid_records_measure::get_char_width;
 
 /// Whether each glyph and each fill of the style takes one column and is no control character, and no

@@ -13,3 +13,6 @@ pub mod RoomLemmas
 pub mod SizeLemmas
 pub mod StartLemmas
 pub mod WidestLemmas
+pub use Rattle.papergrid.proofs.Estimated
+pub use Rattle.papergrid.proofs.First
+pub use Rattle.papergrid.proofs.RoomLemmas as FitLemmas

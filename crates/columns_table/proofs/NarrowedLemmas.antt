@@ -8,7 +8,7 @@ use Rattle.grid_config.specs.Compact.{Compact}
 use Rattle.grid_config.specs.Looks.{compact_look, look_of}
 use Rattle.grid_config.specs.Settings.{Settings, StartsWith, compact_start}
 use Rattle.grid_config.proofs.Looks.{same_look}
-use Rattle.grid_config_colors.specs.Colors.{Color}
+use Rattle.grid_config.specs.Colors.{Color}
 use Rattle.grid_config_spans.specs.Spans.{AreGood, IsInTable}
 use Rattle.grid_config_values.specs.Glyphs.{boundary_count, has_row_boundary}
 use Rattle.grid_config_values.specs.declared.fault.Fault.{Fault}
@@ -28,8 +28,8 @@ use Rattle.grid_records_measure.specs.TextLines.{line_feed}
 use Rattle.papergrid_picture.specs.Fitting.{FitsAnswer, InRange, first_too_wide, table_width}
 use Rattle.papergrid_picture.specs.Frame.{Frame, frame_of, line_count, total_width}
 use Rattle.papergrid_picture.specs.Tables.{sizes_of, table_text}
-use Rattle.papergrid_fits.specs.Tables.{Fits, IsFitsAnswer, sized}
-use Rattle.papergrid_fits.proofs.Estimated.{text_at-fitted}
+use Rattle.papergrid.specs.Tables.{Fits, IsFitsAnswer, sized}
+use Rattle.papergrid.proofs.Estimated.{text_at-fitted}
 use Rattle.papergrid.specs.Grids.{grid_text}
 use Rattle.papergrid.proofs.SameTexts.{answer-same, first_too_wide-same, table_text-same}
 use Rattle.columns_asked.specs.Asked.{Keep}

@@ -9,7 +9,7 @@ use Rattle.grid_config.specs.Compact.{Compact}
 use Rattle.grid_config.specs.Looks.{compact_look, look_of}
 use Rattle.grid_config.specs.Settings.{Settings, StartsWith, compact_start}
 use Rattle.grid_config.proofs.Looks.{same_look}
-use Rattle.grid_config_colors.specs.Colors.{Color}
+use Rattle.grid_config.specs.Colors.{Color}
 use Rattle.grid_config_spans.specs.Spans.{AreGood, ArePositive, extent_at}
 use Rattle.grid_config_spans.proofs.Parting.{good_without}
 use Rattle.grid_config_values.specs.declared.position.Position.{Position}
@@ -19,8 +19,8 @@ use Rattle.grid_records_estimate.specs.Sizing.{sizing_of}
 use Rattle.grid_records_estimate.proofs.CompactLemmas.{compact-sizing}
 use Rattle.grid_records_measure.specs.TextLines.{line_feed}
 use Rattle.papergrid.specs.Grids.{grid_text}
-use Rattle.papergrid_fits.specs.Tables.{Fits, sized}
-use Rattle.papergrid_fits.proofs.Estimated.{none-too_wide}
+use Rattle.papergrid.specs.Tables.{Fits, sized}
+use Rattle.papergrid.proofs.Estimated.{none-too_wide}
 use Rattle.papergrid_picture.specs.Fitting.{InRange, first_too_wide}
 use Rattle.papergrid_picture.specs.Frame.{Frame, frame_of, line_count}
 use Rattle.papergrid_picture.specs.Tables.{sizes_of, table_text}

@@ -8,7 +8,7 @@ ghost use Rattle.grid_records_measure.specs.TextLines.{line_feed};
 ghost use Rattle.papergrid_picture.specs.Fitting.{FitsAnswer, InRange, first_too_wide};
 ghost use Rattle.papergrid_picture.specs.Frame.{line_count};
 ghost use Rattle.papergrid.specs.Grids.{grid_text};
-ghost use Rattle.papergrid_fits.specs.Tables.{Fits, IsFitsAnswer};
+ghost use Rattle.papergrid.specs.Tables.{Fits, IsFitsAnswer};
 ghost use Rattle.columns_asked.specs.Layout.{asked_frame, asked_text, frame_under, heights_of, kept_texts, narrow, narrowed, paddings, too_wide, widths_of};
 ghost use Rattle.columns_table.specs.Answers.{HasTable, MayRefuse, natural_text};
 ghost use Rattle.columns_table.specs.Records.{IsMeasured};

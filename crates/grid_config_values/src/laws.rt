@@ -135,8 +135,8 @@ pub fn refused_growth_is_memory()
     ensures { (given : Refused) (fault : OneFault) → ⟦<Fault as From<AllocError>>⟧.from_gives given fault → fault ≡ Memory }
 {}
 
-/// The cells of an entity come one after the other, and then none; the next may be asked for at any time, and as
-/// many are left as are still to come.
+/// The cells of an entity come one after the other, and then none; the next may be asked for at any time, and no
+/// more are left than are still to come.
 pub fn cells_come_in_their_order()
     ensures asked { (places : List Place) → ⟦<EntityIterator as Iterator>⟧.can_next places }
     ensures left { (places : List Place) → ⟦<EntityIterator as Iterator>⟧.remaining places ≡ item_count (λ (places : List Place). places) places }

@@ -9,7 +9,7 @@ use Rattle.grid_config_spans.specs.Rectangles.{Holds}
 use Rattle.grid_config_spans.specs.Spans.{extent_at, single}
 use Rattle.grid_config_spans.specs.declared.extent.Extent.{Extent}
 use Rattle.grid_config_values.specs.declared.position.Position.{Position}
-use Rattle.grid_records_measure.specs.TextLines.{text_height, text_width}
+use Rattle.grid_records_traits.specs.TextLines.{text_height, text_width}
 use Rattle.grid_records_traits.specs.Rows.{fitted, text_at}
 use Rattle.grid_records_estimate.specs.Alike.{AreAlike, HaveSameSizes}
 use Rattle.grid_records_estimate.specs.Estimates.{track_sizes}

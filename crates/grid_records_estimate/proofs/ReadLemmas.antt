@@ -7,7 +7,7 @@ use Rattle.ansi_scan.specs.Sequences.{ArePiecesOf, Piece}
 use Rattle.ansi_scan.proofs.Existence.{ArePiecesOf-pieces}
 use Rattle.grid_config.specs.Spans.{extent_at}
 use Rattle.grid_config_values.specs.declared.position.Position.{Position}
-use Rattle.grid_records_measure.specs.TextLines.{shown_lines, text_height, text_width, widest}
+use Rattle.grid_records_traits.specs.TextLines.{shown_lines, text_height, text_width, widest}
 use Rattle.grid_records_estimate.specs.Collecting.{Collected, HasCollected}
 use Rattle.grid_records_estimate.specs.Reading.{HasRead, Placed, cell_heights, cell_widths, row_cells, table_cells}
 use Rattle.grid_records_estimate.specs.Sizing.{Sizing, is_visible, place}

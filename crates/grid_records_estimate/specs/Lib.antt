@@ -8,3 +8,4 @@ pub mod Reading
 pub mod Sizes
 pub mod Alike
 pub mod Kept
+pub use Rattle.grid_records_traits.specs.Rows

@@ -13,7 +13,7 @@ use Rattle.grid_config_values.specs.declared.borders.Borders.{Borders}
 use Rattle.grid_config_values.specs.declared.position.Position.{Position}
 use Rattle.grid_config_values.specs.declared.sides.Indent.{Indent}
 use Rattle.grid_config_values.specs.declared.sides.Sides.{Sides}
-use Rattle.grid_records_measure.specs.TextLines.{text_height, text_width}
+use Rattle.grid_records_traits.specs.TextLines.{text_height, text_width}
 use Rattle.grid_records_traits.specs.Rows.{text_at}
 use Rattle.grid_records_estimate.specs.Estimates.{Axis}
 

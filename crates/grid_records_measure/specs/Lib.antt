@@ -7,3 +7,5 @@ pub mod Filling
 pub mod CutTexts
 pub mod RawLines
 pub mod PlainCharacters
+pub use Rattle.ansi_str_text.specs.StyledText
+pub use Rattle.ansi_str_search.specs.Splitting

@@ -1,5 +1,5 @@
 -- Cells that are cut at the widths of their columns.
-use Rattle.std.specs.Prelude.{◌≡◌, ◌<◌, ◌+◌, ◌^◌, ◌-◌, ℕ, List, [], ◌∷◌, MatchOption, MatchResult, None, Option, Result, Some, if◌then◌else◌, map, nat_lt, string_bytes}
+use Rattle.std.specs.Prelude.{◌≡◌, ◌<◌, ◌≤◌, ◌+◌, ◌^◌, ◌-◌, ℕ, List, [], ◌∷◌, MatchOption, MatchResult, None, Option, Result, Some, if◌then◌else◌, map, nat_lt, string_bytes}
 pub use Rattle.grid_records_measure.specs.CutTexts.{truncated_text}
 use Rattle.grid_records_measure.specs.TextLines.{text_width}
 use Rattle.grid_records_rows.specs.declared.records.into_records.truncate_content.Truncated.{Truncated}
@@ -23,11 +23,12 @@ abbrev pub text_of_truncated : {C : Type 0} → (C → List ℕ) → Truncated C
 text_of_truncated text (Whole cell) = text cell
 text_of_truncated text (Cut kept) = string_bytes kept
 
--- the result is what is left of the cell that came, or a refusal: the one that came, or of a text that is wider
+-- the result is what is left of the cell that came, which is the cell itself where its text is no wider, or a refusal: the
+-- one that came, or of a text that is wider
 abbrev pub IsTruncated : {C E : Type 0} → (C → List ℕ) → ℕ → Result C E → Result (Truncated C) E → Type 0
 IsTruncated text width given answer =
     MatchResult answer
-    (λ cell. MatchResult given (λ whole. text_of_truncated text cell ≡ truncated_text width (text whole)) (λ _. ⊥))
+    (λ cell. MatchResult given (λ whole. (text_of_truncated text cell ≡ truncated_text width (text whole)) × (text_width (text whole) ≤ width → cell ≡ Whole whole)) (λ _. ⊥))
     (λ _. MatchResult given (λ whole. width < text_width (text whole)) (λ _. Unit {0}))
 
 -- a call returns what is left of the next cell, cut at the width of its column, as long as the row has one; after a refusal

@@ -7,7 +7,7 @@ use Rattle.grid_records_measure.specs.TextLines.{line_measure}
 use Rattle.std.specs.Prelude.{None, Ok, Result, Some}
 use Rattle.std.specs.declared.borrow.CowStr.{CowStr}
 use Rattle.std.specs.Cow.{cow_str_bytes}
-use Rattle.ansi_str_search.specs.Splitting.{GivesPart, PartsLeft}
+use Rattle.grid_records_measure.specs.Splitting.{GivesPart, PartsLeft}
 
 -- the line that comes is sought where none is to be passed over
 pub line_found : {E Z : Type 0} (old new first made : PartsLeft) (answer : Result (CowStr Z) E) (part : CowStr Z) (before index : ℕ) (lines : List (List ℕ)) →

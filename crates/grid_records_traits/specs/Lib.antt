@@ -5,3 +5,4 @@ pub mod Cells
 pub mod PlainRows
 pub mod PlainTexts
 pub mod Laws
+pub use Rattle.grid_records_measure.specs.TextLines

@@ -1,7 +1,7 @@
 //! One line of a text.
 ghost use Rattle.std.specs.Prelude.{◌≡◌, IfOk, IsOk, false};
 ghost use Rattle.std.specs.Cow.{IsOwnedStr, cow_str_bytes};
-ghost use Rattle.ansi_str_text.specs.StyledText.{has_escape};
+ghost use Rattle.grid_records_measure.specs.StyledText.{has_escape};
 ghost use Rattle.grid_records_traits.specs.Cells.{HasLineWidth, IsLineAt};
 
 use grid_records_measure::{get_line_width, get_lines, split_line};

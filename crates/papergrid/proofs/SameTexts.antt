@@ -15,11 +15,11 @@ use Rattle.grid_config_values.specs.Order.{same_place}
 use Rattle.grid_config_spans.specs.Owners.{owner}
 use Rattle.grid_config_spans.specs.Spans.{IsInTable}
 use Rattle.grid_config_spans.proofs.Owners.{owner_in_table}
-use Rattle.grid_config_colors.specs.Colors.{Color}
+use Rattle.grid_config.specs.Colors.{Color}
 use Rattle.grid_config.specs.Looks.{Look, look_of}
 use Rattle.grid_config.specs.Settings.{Settings}
 use Rattle.grid_records_traits.specs.Rows.{text_at}
-use Rattle.grid_records_measure.specs.TextLines.{text_width}
+use Rattle.grid_records_traits.specs.TextLines.{text_width}
 use Rattle.papergrid_picture.specs.Blocks.{Content, Fill, Glyph, TextLine, Grid, Part, block, fill, free_above, text_line}
 use Rattle.papergrid_picture.specs.CellLines.{cell_lines, cell_measures}
 use Rattle.papergrid_picture.specs.Fitting.{FitsAnswer, first_too_wide, is_too_wide}

@@ -1,1 +1,2 @@
 pub mod Grids
+pub use Rattle.papergrid_fits.specs.Tables

@@ -9,7 +9,7 @@ use Rattle.std.proofs.Math.Seq.{drop-append_seam, take-append_seam}
 use Rattle.std.proofs.lemmas.List.{at_drop_more, length-append, length-replicate, replicate-append-replicate}
 use Rattle.std.proofs.lemmas.Str.{IsCharBoundary-at_seam, IsUtf8-append, IsUtf8-drop, IsUtf8-nil, IsUtf8-string_bytes}
 use Rattle.ansi_str_search.proofs.FindLemmas.{IsUtf8-byte}
-use Rattle.grid_config_colors.specs.Colors.{color_of}
+use Rattle.grid_config.specs.Colors.{color_of}
 use Rattle.grid_config_values.specs.declared.alignment.AlignmentHorizontal.{AlignmentHorizontal}
 use Rattle.grid_config_values.specs.declared.alignment.AlignmentHorizontal.TheVariants.{Left, Center, Right}
 use Rattle.papergrid_picture.specs.Blocks.{free_left}
@@ -173,11 +173,20 @@ free_left-within Right free = omega arith
 -- ---- the same by what is kept of a room
 
 module _ (rows : FlatRows) (widths before : List ℕ) (j : ℕ) (inside : j < length widths) {all : List ℕ}
-    (are : all ≡ before ++ empty_from (joints_of rows) (length widths) j (drop j widths)) (room : Room)
-    (wide : room.width ≡ room_in (joints_of rows) (get_or widths j 0)) (left : room.rest ≡ length (empty_from (joints_of rows) (length widths) j (drop j widths)))
+    (are : all ≡ before ++ empty_from (joints_of rows) (length widths) j (drop j widths))
+    (rooms : List Room) (kept : rooms ≡ rooms_from (joints_of rows) (length widths) 0 widths) (room : Room) (found : room ≡ get_or rooms j room)
     (len : ℕ) (counted : len ≡ length all) where
   abbrev tail_from : ℕ → List ℕ
   tail_from k = empty_from (joints_of rows) (length widths) k (drop k widths)
+
+  room-is : room ≡ record { width = room_in (joints_of rows) (get_or widths j 0); rest = length (tail_from j) }
+  room-is = found ∙ (ap (λ rooms. get_or rooms j room) kept ∙ room-of (joints_of rows) (length widths) j widths room inside)
+
+  pub room-wide : room.width ≡ room_in (joints_of rows) (get_or widths j 0)
+  room-wide = ap (λ (r : Room). r.width) room-is
+
+  left : room.rest ≡ length (tail_from j)
+  left = ap (λ (r : Room). r.rest) room-is
 
   abbrev after_room : List ℕ
   after_room = joint_behind (joints_of rows) j (length widths) ++ tail_from (j + 1)
@@ -208,7 +217,7 @@ module _ (rows : FlatRows) (widths before : List ℕ) (j : ℕ) (inside : j < le
   taken = ap (λ n. take n all) begin-is ∙ (ap (take (length before)) are ∙ take-append_seam before (tail_from j))
 
   parts : all ≡ before ++ (fill room.width ++ after_room)
-  parts = are ∙ (ap (λ l. before ++ l) (empty-more (joints_of rows) (length widths) j widths inside) ∙ ap (λ n. before ++ (fill n ++ after_room)) (sym wide))
+  parts = are ∙ (ap (λ l. before ++ l) (empty-more (joints_of rows) (length widths) j widths inside) ∙ ap (λ n. before ++ (fill n ++ after_room)) (sym room-wide))
 
   module _ (width : ℕ) (fits : width ≤ room.width) (indent : ℕ) (is : indent ≡ free_left rows.alignment (room.width - width)) where
     both : indent + width ≤ room.width

@@ -7,7 +7,7 @@ use Rattle.std.proofs.lemmas.List.{length-append, take-replicate}
 use Rattle.std.proofs.lemmas.List.Concat.{flat_map-cons}
 use Rattle.std.proofs.lemmas.Slice.Eq.{bytes_eq-Decides}
 use Rattle.std.proofs.lemmas.Str.{length-encode, len_utf8_bounds}
-use Rattle.grid_config_colors.specs.Colors.{Color, color_of}
+use Rattle.grid_config.specs.Colors.{Color, color_of}
 use Rattle.papergrid_picture.specs.Blocks.{Content, Fill, Glyph, TextLine, Part}
 use Rattle.papergrid_picture.specs.Reading.{continues, is_glyph, is_shown, line_items, onto_runs, part_items, run_items, runs_of, same_color, content_items}
 use Rattle.papergrid_cells.specs.Painting.{bare, color_change, colored, fill_bytes, glyph_part, glyphs_behind, prefix_of, suffix_of}

@@ -4,7 +4,7 @@ use Rattle.std.specs.Option.{option_map}
 use Rattle.grid_config_values.specs.declared.alignment.AlignmentHorizontal.{AlignmentHorizontal}
 use Rattle.grid_config_values.specs.declared.position.Position.{Position}
 use Rattle.grid_config_values.specs.Settings.{value_at}
-use Rattle.grid_config_colors.specs.Colors.{Color, color_of}
+use Rattle.grid_config.specs.Colors.{Color, color_of}
 use Rattle.grid_config.specs.Looks.{Look, look_of}
 use Rattle.grid_config.specs.Settings.{AreUniform, Settings}
 use Rattle.papergrid_picture.specs.Blocks.{free_left}

@@ -1,7 +1,7 @@
 -- What is printed in a colour.
 use Rattle.std.specs.Prelude.{ℕ, ◌==◌, ◌++◌, List, [], ◌∷◌, Option, None, Some, encode_utf8, flat_map, replicate, if◌then◌else◌}
 use Rattle.std.specs.Option.{option_map}
-use Rattle.grid_config_colors.specs.Colors.{Color, color_of}
+use Rattle.grid_config.specs.Colors.{Color, color_of}
 use Rattle.papergrid_picture.specs.Blocks.{Part, Glyph}
 use Rattle.papergrid_picture.specs.Reading.{Reading, painted, same_color}
 use Rattle.papergrid_picture.specs.Tables.{in_color}

@@ -2,7 +2,7 @@
 ghost use Rattle.std.specs.Prelude.{◌≡◌, ◌++◌, OnOk, length, string_bytes};
 ghost use Rattle.std.specs.Option.{option_map};
 ghost use Rattle.grid_config.specs.Looks.{look_of};
-ghost use Rattle.grid_config_colors.specs.Colors.{color_of};
+ghost use Rattle.grid_config.specs.Colors.{color_of};
 ghost use Rattle.papergrid_picture.specs.Blocks.{free_above, free_left};
 ghost use Rattle.papergrid_cells.specs.BlockLines.{alone_bytes, indent, justified, kind_at, line_kind};
 ghost use Rattle.papergrid_cells.specs.Painting.{colored, fill_bytes};
@@ -11,8 +11,7 @@ ghost use Rattle.papergrid_cells.specs.declared.block.BlockLine.TheVariants.{Tex
 
 use crate::cell_lines::CellLines;
 use crate::painting::{push_fill, push_text};
-use grid_config::SpannedConfig;
-use grid_config_colors::{ANSIBuf, ANSIStr};
+use grid_config::{ANSIBuf, ANSIStr, SpannedConfig};
 use grid_config_values::{AlignmentHorizontal, AlignmentVertical, Indent, Position};
 use std::alloc::AllocError;
 

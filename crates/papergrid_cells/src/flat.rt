@@ -3,7 +3,7 @@
 ghost use Rattle.std.specs.Prelude.{◌≡◌, ⊤, ◌<◌, ◌++◌, ℕ, IfOk, IsTrue, MatchOption, None, OnOk, length, string_bytes};
 ghost use Rattle.std.specs.Option.{option_map};
 ghost use Rattle.grid_config.specs.Looks.{Look, look_of};
-ghost use Rattle.grid_config_colors.specs.Colors.{color_of};
+ghost use Rattle.grid_config.specs.Colors.{color_of};
 ghost use Rattle.papergrid_picture.specs.Blocks.{free_left};
 ghost use Rattle.papergrid_cells.specs.Boundaries.{upright_bytes};
 ghost use Rattle.papergrid_cells.specs.Flat.{AreFlat, AreFlatRows, HasEmptyRow, IsEmptyRow, behind_text, empty_from, joints_of, placed, room_in, rooms_from, spaced_text, standing_of};
@@ -14,8 +14,7 @@ use crate::empty_row::{EmptyRow, Room};
 use crate::glyphs::push_upright;
 use crate::painting::{push_fill, push_text};
 use crate::spaced::Spaced;
-use grid_config::SpannedConfig;
-use grid_config_colors::{ANSIBuf, ANSIStr};
+use grid_config::{ANSIBuf, ANSIStr, SpannedConfig};
 use grid_config_values::{AlignmentHorizontal, Indent, Position};
 use std::alloc::{AllocError, Global};
 

@@ -1,11 +1,11 @@
 //! Fills, texts and boundary lines in their colours.
 ghost use Rattle.std.specs.Prelude.{◌≡◌, ◌<◌, ◌≤◌, ◌++◌, OnOk, length, map, replicate, string_bytes};
 ghost use Rattle.std.specs.Option.{option_map};
-ghost use Rattle.grid_config_colors.specs.Colors.{color_of};
+ghost use Rattle.grid_config.specs.Colors.{color_of};
 ghost use Rattle.papergrid_picture.specs.Reading.{line_items, same_color};
 ghost use Rattle.papergrid_cells.specs.Painting.{bare, color_change, colored, fill_bytes, glyph_part, prefix_of, suffix_of};
 
-use grid_config_colors::ANSIStr;
+use grid_config::ANSIStr;
 use std::alloc::AllocError;
 
 /// A glyph of a boundary line, in `width` columns, and its colour.

@@ -15,10 +15,10 @@ use Rattle.grid_config_spans.specs.Owners.{owner}
 use Rattle.grid_config_spans.specs.Spans.{AreGood, ArePositive, extent_at}
 use Rattle.grid_config_spans.proofs.Order.{same_itself}
 use Rattle.grid_config_spans.proofs.Owners.{owner_goes_on, owner_holds, owner_in_table}
-use Rattle.grid_config_colors.specs.Colors.{Color}
+use Rattle.grid_config.specs.Colors.{Color}
 use Rattle.grid_config.specs.Looks.{look_of}
 use Rattle.grid_config.specs.Settings.{Settings}
-use Rattle.grid_records_measure.specs.TextLines.{line_measure, shown_lines, text_width, widest}
+use Rattle.grid_records_traits.specs.TextLines.{line_measure, shown_lines, text_width, widest}
 use Rattle.grid_records_traits.specs.Rows.{text_at}
 use Rattle.papergrid_picture.specs.Blocks.{Grid, greatest}
 use Rattle.papergrid_picture.specs.CellLines.{cell_measures, kept_lines}

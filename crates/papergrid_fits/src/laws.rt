@@ -2,7 +2,7 @@
 ghost use Rattle.std.specs.Prelude.{◌≡◌, ◌<◌, ℕ, List, None, Option, length, slice_index};
 ghost use Rattle.grid_config_values.specs.declared.position.Position.{Position as Cell};
 ghost use Rattle.grid_config_values.specs.Glyphs.{boundary_count, has_column_boundary, has_row_boundary};
-ghost use Rattle.grid_config_colors.specs.Colors.{Color};
+ghost use Rattle.grid_config.specs.Colors.{Color};
 ghost use Rattle.grid_config.specs.Looks.{Look, look_of};
 ghost use Rattle.grid_config.specs.Settings.{Settings};
 ghost use Rattle.grid_config_spans.specs.Spans.{AreGood, ArePositive};

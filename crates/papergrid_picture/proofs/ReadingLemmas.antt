@@ -5,7 +5,7 @@ use Rattle.std.specs.List.{filter}
 use Rattle.std.proofs.lemmas.List.Concat.{flat_map-append, flat_map-cons}
 use Rattle.std.proofs.lemmas.List.Elements.{filter-append}
 use Rattle.grid_config_values.specs.declared.position.Position.{Position}
-use Rattle.grid_config_colors.specs.Colors.{Color}
+use Rattle.grid_config.specs.Colors.{Color}
 use Rattle.papergrid_picture.specs.Blocks.{Content, Fill, Glyph, TextLine, Part}
 use Rattle.papergrid_picture.specs.Reading.{Reading, is_glyph, is_shown, continues, onto_runs, runs_of, content_items, part_items, painted, run_items, line_items, same_color}
 

@@ -22,7 +22,7 @@ use Rattle.ansi_str_search.proofs.FindLemmas.{IsUtf8-byte}
 use Rattle.ansi_str_search.proofs.CutLemmas.{shown-parts}
 use Rattle.ansi_str_search.proofs.Utf8Lemmas.{All-closed, All-utf8}
 use Rattle.grid_config_values.specs.declared.position.Position.{Position}
-use Rattle.grid_config_colors.specs.Colors.{Color}
+use Rattle.grid_config.specs.Colors.{Color}
 use Rattle.grid_config.specs.Looks.{Look}
 use Rattle.grid_records_measure.specs.Measures.{measure}
 use Rattle.grid_records_measure.specs.TextLines.{line_feed, line_feed_places, line_measure, shown_lines, text_lines}

@@ -24,7 +24,7 @@ use Rattle.ansi_str.specs.Keeping.{kept as kept_text}
 use Rattle.ansi_str.proofs.KeepLemmas.{kept-plain}
 use Rattle.ansi_str.proofs.KeptPieces.{kept_shown, kept_whole}
 use Rattle.grid_config_values.specs.declared.position.Position.{Position}
-use Rattle.grid_config_colors.specs.Colors.{Color}
+use Rattle.grid_config.specs.Colors.{Color}
 use Rattle.grid_config.specs.Looks.{Look}
 use Rattle.grid_records_measure.specs.TextLines.{is_line_feed, line_feed, line_feed_places, line_measure, shown_lines, text_lines}
 use Rattle.grid_records_measure.specs.Trimming.{trimmed, trimmed_from, trimmed_to}

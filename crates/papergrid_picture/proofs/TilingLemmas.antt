@@ -16,7 +16,7 @@ use Rattle.grid_config_values.specs.Glyphs.{boundary_kind, crossing, in_row}
 use Rattle.grid_config_spans.specs.declared.extent.Extent.{Extent}
 use Rattle.grid_config_spans.specs.Rectangles.{Holds, IsInside}
 use Rattle.grid_config_spans.specs.Spans.{IsInTable}
-use Rattle.grid_config_colors.specs.Colors.{Color}
+use Rattle.grid_config.specs.Colors.{Color}
 use Rattle.papergrid_picture.specs.Frame.{Tracks, thickness, boundary_at, track_at, stretch, Place, Boundary, Row, Outside, block_height, block_width, column_count, place, row_count, total_width}
 use Rattle.papergrid_picture.specs.Blocks.{Content, Fill, Glyph, Part, Grid, block, fill, free_above, free_left, greatest, text_line}
 use Rattle.papergrid_picture.specs.Picture.{Piece, across, along, at, blank, block_pieces, boundary_part, corner, edge, laid, margin_line, picture_line, pieces_at, row_part, seen, upright}

@@ -7,7 +7,7 @@ use Rattle.grid_config_values.specs.declared.alignment.AlignmentHorizontal.TheVa
 use Rattle.grid_config_values.specs.declared.alignment.AlignmentVertical.{AlignmentVertical}
 use Rattle.grid_config_values.specs.declared.alignment.AlignmentVertical.TheVariants.{Top, Center as Middle, Bottom}
 use Rattle.grid_config_values.specs.declared.position.Position.{Position}
-use Rattle.grid_config_colors.specs.Colors.{Color}
+use Rattle.grid_config.specs.Colors.{Color}
 use Rattle.papergrid_picture.specs.Frame.{Frame}
 
 pub data Content : Type 0 where

@@ -2,7 +2,7 @@
 use Rattle.std.specs.Prelude.{ℕ, ◌==◌, ◌&&◌, not, Bool, true, false, List, [], ◌∷◌, ◌++◌, Option, None, Some, flat_map, replicate, bytes_eq, if◌then◌else◌}
 use Rattle.std.specs.List.{filter, range_with_len}
 use Rattle.grid_config_values.specs.declared.position.Position.{Position}
-use Rattle.grid_config_colors.specs.Colors.{Color}
+use Rattle.grid_config.specs.Colors.{Color}
 use Rattle.papergrid_picture.specs.Frame.{line_count}
 use Rattle.papergrid_picture.specs.Blocks.{Content, Fill, Glyph, TextLine, Part, Grid}
 use Rattle.papergrid_picture.specs.Picture.{parts_of, picture_line}

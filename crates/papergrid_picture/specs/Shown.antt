@@ -10,7 +10,7 @@ use Rattle.ansi_str.specs.StyledText.{IsClosed, has_escape, strip, styled}
 use Rattle.grid_config_values.specs.declared.position.Position.{Position}
 use Rattle.grid_config_values.specs.declared.sides.Sides.{Sides}
 use Rattle.grid_config_values.specs.Glyphs.{BoundaryKind, along_column, crossing, in_row}
-use Rattle.grid_config_colors.specs.Colors.{Color, no_color}
+use Rattle.grid_config.specs.Colors.{Color, no_color}
 use Rattle.grid_config.specs.Looks.{Look}
 use Rattle.grid_records_measure.specs.Measures.{cost, measure}
 use Rattle.grid_records_measure.specs.PlainCharacters.{is_plain_character}

@@ -2,7 +2,7 @@
 use Rattle.std.specs.Prelude.{ℕ, List, [], ◌++◌, Option, map, slice_index_or, encode_utf8}
 use Rattle.std.specs.List.{range_with_len}
 use Rattle.grid_config_values.specs.declared.position.Position.{Position}
-use Rattle.grid_config_colors.specs.Colors.{Color}
+use Rattle.grid_config.specs.Colors.{Color}
 use Rattle.grid_config.specs.Looks.{Look}
 use Rattle.grid_records_traits.specs.Rows.{text_at}
 use Rattle.papergrid_picture.specs.Frame.{frame_of}

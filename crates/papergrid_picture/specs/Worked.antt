@@ -12,7 +12,7 @@ use Rattle.grid_config_values.specs.Order.{same_place}
 use Rattle.grid_config_values.specs.Glyphs.{no_borders}
 use Rattle.grid_config_spans.specs.declared.extent.Extent.{Extent}
 use Rattle.grid_config_spans.specs.Spans.{single}
-use Rattle.grid_config_colors.specs.Colors.{Color}
+use Rattle.grid_config.specs.Colors.{Color}
 use Rattle.grid_config.specs.Compact.{each_side, no_indent}
 use Rattle.grid_config.specs.Looks.{Look}
 use Rattle.papergrid_picture.specs.Frame.{frame_of}

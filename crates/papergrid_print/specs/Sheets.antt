@@ -2,7 +2,7 @@
 use Rattle.std.specs.Prelude.{◌≡◌, ◌==◌, if◌then◌else◌, ◌<◌, ℕ, List, [], Option, None, MatchOption, flat_map, length, slice_index_or, encode_utf8}
 use Rattle.std.specs.Option.{option_map}
 use Rattle.grid_config_values.specs.declared.position.Position.{Position}
-use Rattle.grid_config_colors.specs.Colors.{Color, color_of}
+use Rattle.grid_config.specs.Colors.{Color, color_of}
 use Rattle.grid_config.specs.Looks.{look_of}
 use Rattle.grid_config.specs.Settings.{Settings}
 use Rattle.grid_config_spans.specs.Spans.{AreGood}

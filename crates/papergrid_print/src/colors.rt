@@ -1,12 +1,11 @@
 //! The colours of a table's cells.
 ghost use Rattle.std.specs.Prelude.{◌≡◌, Option, None};
 ghost use Rattle.std.specs.Option.{option_map};
-ghost use Rattle.grid_config_colors.specs.Colors.{Color, color_of};
+ghost use Rattle.grid_config.specs.Colors.{Color, color_of};
 ghost use Rattle.grid_config_values.specs.declared.position.Position.{Position as Place};
 ghost use Rattle.grid_config_values.specs.Settings.{value_at};
 
-use grid_config::ColorMap;
-use grid_config_colors::{ANSIBuf, ANSIStr};
+use grid_config::{ANSIBuf, ANSIStr, ColorMap};
 use grid_config_values::Position;
 
 /// Colours of the texts of a table's cells.

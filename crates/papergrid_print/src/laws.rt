@@ -1,7 +1,7 @@
 //! Laws that the contracts of tables with colours cite.
 ghost use Rattle.std.specs.Borrow.{Bor};
 ghost use Rattle.std.specs.Prelude.{◌≡◌, None, Option};
-ghost use Rattle.grid_config_colors.specs.Colors.{Color};
+ghost use Rattle.grid_config.specs.Colors.{Color};
 ghost use Rattle.grid_config_values.specs.declared.entity_map.EntityMap.{EntityMap};
 ghost use Rattle.grid_config_values.specs.declared.position.Position.{Position as Place};
 ghost use Rattle.grid_config_values.specs.Settings.{value_at};

@@ -23,8 +23,7 @@ use crate::colors::Colors;
 use crate::extents::{Axis, stretch, thickness};
 use crate::seen::{SeenCell, kept_at};
 use ansi_str::AnsiStr;
-use grid_config::SpannedConfig;
-use grid_config_colors::ANSIBuf;
+use grid_config::{ANSIBuf, SpannedConfig};
 use grid_config_values::{Indent, Position};
 use grid_records_traits::PeekableRecords;
 use papergrid_cells::{

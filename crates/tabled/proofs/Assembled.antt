@@ -1,7 +1,7 @@
 -- A state of equal parts.
 use Rattle.std.proofs.Common.{◌≡◌, List, ℕ, None, Option, ◌∙◌, ap}
 use Rattle.std.proofs.Math.Path.{fun_ext}
-use Rattle.grid_config_colors.specs.Colors.{Color}
+use Rattle.grid_config.specs.Colors.{Color}
 use Rattle.grid_config_values.specs.declared.entity_map.EntityMap.{EntityMap}
 use Rattle.grid_config_values.specs.declared.position.Position.{Position}
 use Rattle.grid_config_values.specs.Settings.{value_at}

@@ -1,7 +1,7 @@
 -- Why a table fits its sizes, or doesn't.
 use Rattle.std.proofs.Common.{◌≡◌, Bool, IsTrue, ◌↔◌, ℕ, zero, suc, ◌+◌, ◌<◌, ◌≤◌, ◌^◌, ◌⊎◌, inl, inr, List, [], ◌∷◌, Option, None, Result, Ok, Err, ap, sym, subst, refl, ◌∙◌, arith, length, get_or, slice_index, unwrap_or}
 use Rattle.std.proofs.lemmas.List.FromFn.{get_or-map-range_with_len, length-map-range_with_len}
-use Rattle.grid_config_colors.specs.Colors.{Color}
+use Rattle.grid_config.specs.Colors.{Color}
 use Rattle.grid_config_values.specs.declared.fault.Fault.{Fault}
 use Rattle.grid_config_values.specs.declared.fault.Fault.TheVariants.{Memory, Range, Spans, Room}
 use Rattle.grid_config_values.specs.declared.position.Position.{Position}

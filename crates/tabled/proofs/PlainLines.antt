@@ -1,6 +1,6 @@
 -- Lines of plain characters take the columns of the total width.
 use Rattle.std.proofs.Common.{◌≡◌, ◌<◌, ℕ, List, Option, None, Ok, length, refl, sym, subst, ◌∙◌}
-use Rattle.grid_config_colors.specs.Colors.{Color}
+use Rattle.grid_config.specs.Colors.{Color}
 use Rattle.grid_config_values.specs.declared.position.Position.{Position}
 use Rattle.grid_config_spans.specs.Spans.{ArePositive}
 use Rattle.grid_config.specs.Looks.{Look, look_of}

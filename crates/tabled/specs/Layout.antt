@@ -17,5 +17,9 @@ abbrev pub values_from : ℕ → ℕ → ℕ → List ℕ
 values_from next batch zero = []
 values_from next batch (suc left) = next ∷ values_from (min (next + batch) (2 ^ 64 - 1)) batch left
 
+-- all batches of `rows` rows, before the first is given
+abbrev pub begun_batches : ℕ → ℕ → LayoutIterator
+begun_batches rows batch = record { next = 0; batch = batch; left = batches rows batch }
+
 abbrev pub values_left : LayoutIterator → List ℕ
 values_left iterator = values_from iterator.next iterator.batch iterator.left

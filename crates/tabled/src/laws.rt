@@ -14,7 +14,7 @@ ghost use Rattle.grid_records_measure.specs.Measures.{measure};
 ghost use Rattle.grid_records_measure.specs.TextLines.{line_feed};
 ghost use Rattle.grid_records_traits.specs.Rows.{IsInside, text_at};
 ghost use Rattle.papergrid_picture.specs.Shown.{IsWholeText};
-ghost use Rattle.tabled.specs.Layout.{batches, multiples, values_left};
+ghost use Rattle.tabled.specs.Layout.{batches, begun_batches, multiples, values_left};
 ghost use Rattle.tabled.specs.Narrowed.{GivesOnly, IsPlainlyPrinted, TakesAll, least_total, line_columns};
 ghost use Rattle.tabled.specs.Printing.{printed};
 ghost use Rattle.tabled.specs.Tables.{new_state};
@@ -61,14 +61,14 @@ pub fn batches_by_hand()
 
 /// `==` of iterators over batches is equality of all their parts, and `cmp` finds the same ones equal. A clone
 /// is the same iterator and is never refused. An iterator gives the numbers that are left, one after the other,
-/// may be asked for the next at any time, and has as many left as are still to come; one that is made by default
-/// gives none.
+/// may be asked for the next at any time, and has no more left than are still to come; one that is made by
+/// default is that over no rows.
 pub fn iterators_are_compared_and_cloned_whole()
     ensures equality { (a b : BatchRows) → (⟦<LayoutIterator as PartialEq>⟧.eq a b ≡ true) ↔ (a ≡ b) }
     ensures order { (a b : BatchRows) → (⟦<LayoutIterator as Ord>⟧.cmp a b ≡ Equal) ↔ (a ≡ b) }
     ensures clone { (source clone : BatchRows) → ⟦<LayoutIterator as Clone>⟧.is_clone source clone → clone ≡ source }
     ensures comes { (source : BatchRows) → ⟦<LayoutIterator as Clone>⟧.is_infallible source }
-    ensures at_first { (begun : BatchRows) → ⟦<LayoutIterator as Default>⟧.is_default begun → values_left begun ≡ [] }
+    ensures at_first { (begun : BatchRows) → ⟦<LayoutIterator as Default>⟧.is_default begun → begun ≡ begun_batches 0 0 }
     ensures asked { (begun : BatchRows) → ⟦<LayoutIterator as Iterator>⟧.can_next begun }
     ensures left { (begun : BatchRows) → ⟦<LayoutIterator as Iterator>⟧.remaining begun ≡ item_count values_left begun }
     ensures gives { (begun after : BatchRows) (given : Option ℕ) → ⟦<LayoutIterator as Iterator>⟧.next_gives begun given after → YieldsFirst values_left begun given after }

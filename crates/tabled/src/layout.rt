@@ -1,7 +1,7 @@
 //! Rows in batches.
 ghost use Rattle.std.specs.Prelude.{◌≡◌, ◌-◌, length};
 ghost use Rattle.std.specs.Iterator.{YieldsFirst, item_count};
-ghost use Rattle.tabled.specs.Layout.{batches, multiples, values_left};
+ghost use Rattle.tabled.specs.Layout.{batches, begun_batches, multiples, values_left};
 ghost use Rattle.tabled.specs.Tables.{state_of};
 ghost use Rattle.tabled_text.specs.Fields.{saturated};
 
@@ -21,7 +21,8 @@ impl LayoutIterator {
     /// 0, `batch`, twice `batch` and so on: one for each batch of the rows from `from` to `to`. The last
     /// batch may be smaller. None where `batch` is 0 or there are no rows.
     pub fn new(from: usize, to: usize, batch: usize) -> LayoutIterator
-        ensures { values_left result ≡ multiples (batches (to - from) batch) batch }
+        ensures values { values_left result ≡ multiples (batches (to - from) batch) batch }
+        ensures begun { result ≡ begun_batches (to - from) batch }
     {
         LayoutIterator {
             next: 0,
@@ -32,7 +33,8 @@ impl LayoutIterator {
 
     /// One for each batch of as many rows of the table as the type has fields.
     pub fn kv_batches<T: Tabled>(table: &Table) -> LayoutIterator
-        ensures { let batch = saturated (length T.names) in values_left result ≡ multiples (batches (length (state_of (λ text. text) table.now).rows) batch) batch }
+        ensures values { let batch = saturated (length T.names) in values_left result ≡ multiples (batches (length (state_of (λ text. text) table.now).rows) batch) batch }
+        ensures begun { result ≡ begun_batches (length (state_of (λ text. text) table.now).rows) (saturated (length T.names)) }
     {
         LayoutIterator::new(0, table.count_rows(), T::length())
     }

@@ -11,7 +11,7 @@ mod table;
 pub use building::BuildTable;
 pub use layout::LayoutIterator;
 pub use table::Table;
-pub use tabled_compact::{BuildFault, CompactTable};
+pub use tabled_compact::{BuildFault, CompactTable, RowArray};
 pub use tabled_height::{
     CellHeightIncrease, CellHeightLimit, Height, HeightList, TableHeightIncrease, TableHeightLimit,
 };

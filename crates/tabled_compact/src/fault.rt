@@ -1,5 +1,6 @@
 //! Why a table was not written.
 use grid_config::Fault;
+use std::alloc::AllocError;
 use std::error::Error;
 use std::fmt;
 use tabled_output::WriteFault;
@@ -57,5 +58,18 @@ impl From<WriteFault> for BuildFault {
             WriteFault::Write => BuildFault::Write,
             WriteFault::WriteZero => BuildFault::WriteZero,
         }
+    }
+}
+
+/// A growth that was refused: the table has no text for want of memory.
+impl From<AllocError> for BuildFault {
+    ghost use Rattle.std.specs.Prelude.{◌≡◌};
+    ghost use Rattle.grid_config_values.specs.declared.fault.Fault.TheVariants.{Memory};
+    ghost use Rattle.tabled_compact.specs.declared.fault.BuildFault.TheVariants.{Table as OfTable};
+
+    ghost from_gives = { λ _ fault. fault ≡ OfTable Memory };
+
+    fn from(_error: AllocError) -> BuildFault {
+        BuildFault::Table(Fault::Memory)
     }
 }

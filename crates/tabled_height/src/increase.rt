@@ -1,15 +1,18 @@
 //! Heights of at least a given number of lines.
-ghost use Rattle.std.specs.Prelude.{◌≡◌, None, Some};
+ghost use Rattle.std.specs.Prelude.{◌≡◌, IsOk, None, Some, length};
+ghost use Rattle.grid_config.specs.Looks.{look_of};
+ghost use Rattle.grid_config_values.specs.Settings.{value_at};
 ghost use Rattle.grid_config_values.specs.declared.entity.Entity.TheVariants.{Global as EveryCell};
 ghost use Rattle.tabled_height.specs.Options.{increase_height, table_increase};
 ghost use Rattle.tabled_height.specs.Steps.{RaisesCells, RaisesTable};
+ghost use Rattle.tabled_steps.specs.States.{Steps, state_with};
 
 use crate::height::Height;
 use crate::lines::Raising;
 use crate::rows::RowHeights;
 use grid_config::{ColoredConfig, Entity, Fault};
 use grid_records_rows::{FromText, VecRecords};
-use grid_records_traits::records::{ExactRecords, RecordColumns};
+use grid_records_traits::records::{ExactRecords, RecordColumns, RecordTexts};
 use std::alloc::Global;
 use tabled_size_dimension::CompleteDimension;
 use tabled_size_priority::{Peaker, PriorityNone};
@@ -138,7 +141,12 @@ impl<T: FromText, W: Measurement<Height> + Drop, P: Peaker + Drop> TableOption<
         records: &mut VecRecords<T>,
         cfg: &mut ColoredConfig,
         dims: &mut CompleteDimension,
-    ) -> Result<(), Fault> {
+    ) -> Result<(), Fault>
+        ensures no_rows { length (⟦<VecRecords<T> as RecordTexts>⟧.rows records.old) ≡ 0 → IsOk result }
+        ensures no_columns { ⟦<VecRecords<T> as RecordColumns>⟧.columns records.old ≡ 0 → IsOk result }
+        ensures step { Steps (RaisesTable (W.measures (table_increase self).0) P.grows (table_increase self).1) result
+            (state_with (⟦<VecRecords<T> as RecordTexts>⟧.rows records.old) (look_of cfg.old.settings) (value_at cfg.old.colors) dims.old) (state_with (⟦<VecRecords<T> as RecordTexts>⟧.rows records.new) (look_of cfg.new.settings) (value_at cfg.new.colors) dims.new) }
+    {
         if records.count_rows() == 0 || records.count_columns() == 0 {
             return Ok(());
         }

@@ -2,7 +2,7 @@
 use Rattle.std.proofs.Common.{◌≡◌, ℕ, List}
 use Rattle.ansi_scan.specs.Pieces.{pieces}
 use Rattle.ansi_scan.proofs.Existence.{ArePiecesOf-pieces}
-use Rattle.grid_records_measure.specs.TextLines.{text_height}
+use Rattle.grid_records_traits.specs.TextLines.{text_height}
 use Rattle.grid_records_traits.specs.Cells.{HasLineCount}
 
 pub height_of_text : (text : List ℕ) (count : ℕ) → HasLineCount text count → count ≡ text_height text

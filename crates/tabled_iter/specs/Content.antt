@@ -3,7 +3,7 @@
 use Rattle.std.specs.Prelude.{ℕ, List, Option, None, Some, length, map, max, take}
 use Rattle.std.specs.List.{range_with_len}
 use Rattle.grid_records_estimate.specs.Estimates.{greatest}
-use Rattle.grid_records_measure.specs.TextLines.{text_height}
+use Rattle.grid_records_traits.specs.TextLines.{text_height}
 use Rattle.tabled_compact.specs.Columns.{column_width}
 use Rattle.tabled_size_dimension.specs.Sizes.{Sizes, Alike, Listed, ListedBefore}
 

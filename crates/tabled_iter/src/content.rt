@@ -2,7 +2,7 @@
 ghost use Rattle.std.specs.List.{range_with_len};
 ghost use Rattle.std.specs.Prelude.{◌≡◌, IfOk, length, map, max, take};
 ghost use Rattle.grid_records_estimate.specs.Estimates.{greatest};
-ghost use Rattle.grid_records_measure.specs.TextLines.{text_height};
+ghost use Rattle.grid_records_traits.specs.TextLines.{text_height};
 ghost use Rattle.grid_records_traits.specs.Sources.{texts_of_rows};
 ghost use Rattle.tabled_compact.specs.Columns.{column_width};
 ghost use Rattle.tabled_iter.specs.Content.{columns_or, heights_or, row_height, widths_or};

@@ -6,7 +6,7 @@ ghost use Rattle.grid_config_values.specs.declared.fault.Fault.TheVariants.{Memo
 ghost use Rattle.grid_records_rows.specs.Truncating.{truncated_rows};
 ghost use Rattle.grid_records_traits.specs.Rows.{fitted};
 ghost use Rattle.papergrid.specs.Grids.{grid_text};
-ghost use Rattle.papergrid_fits.specs.Tables.{Fits, IsFitsAnswer};
+ghost use Rattle.papergrid.specs.Tables.{Fits, IsFitsAnswer};
 ghost use Rattle.tabled_compact.specs.Tables.{kept_of, no_colors};
 ghost use Rattle.tabled_iter.specs.Drawing.{IsDrawn};
 ghost use Rattle.tabled_size_dimension.specs.Sizes.{size_at};

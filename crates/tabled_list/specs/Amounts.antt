@@ -1,11 +1,18 @@
 -- What sizes by name are of a table.
-use Rattle.std.specs.Prelude.{ℕ, List, Result, Ok}
+use Rattle.std.specs.Prelude.{ℕ, Bool, true, false, List, Result, Ok}
 use Rattle.grid_config_values.specs.declared.fault.Fault.{Fault}
 use Rattle.grid_config.specs.Looks.{Look}
 use Rattle.tabled_height.specs.Heights.{fewest_lines, most_lines, percent_of_height}
 use Rattle.tabled_width.specs.Measures.{greatest_least_width, greatest_width, percent_of_width}
 use Rattle.tabled_list.specs.declared.amount.Amount.{Amount}
 use Rattle.tabled_list.specs.declared.amount.Amount.TheVariants.{Exact, Max, Min, Percent}
+
+-- what may be refused for want of memory: only a share of what the table takes
+abbrev pub allocates : Amount → Bool
+allocates (Exact n) = false
+allocates Max = false
+allocates Min = false
+allocates (Percent n) = true
 
 -- as a width, of `columns` columns
 abbrev pub width_of : Amount → ℕ → List (List (List ℕ)) → Look → Result ℕ Fault

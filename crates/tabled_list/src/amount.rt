@@ -1,6 +1,8 @@
 //! Sizes by name.
-ghost use Rattle.std.specs.Prelude.{◌≡◌};
-ghost use Rattle.tabled_list.specs.Amounts.{height_of, width_of};
+ghost use Rattle.std.specs.Prelude.{◌≡◌, IsOk, false};
+ghost use Rattle.grid_config.specs.Looks.{look_of};
+ghost use Rattle.tabled_list.specs.Amounts.{allocates, height_of, width_of};
+ghost use Rattle.tabled_steps.specs.Outcomes.{Gives};
 
 use grid_config::{Fault, SpannedConfig};
 use grid_records_traits::records::{ExactRecords, PeekableRecords};
@@ -31,7 +33,10 @@ impl Measurement<Width> for Amount {
         alloc: Global,
         records: &R,
         cfg: &SpannedConfig,
-    ) -> Result<usize, Fault> {
+    ) -> Result<usize, Fault>
+        ensures gives { Gives (λ n. n) result (λ outcome. width_of self.now (R.columns records.now) (R.ExactRecords.rows records.now) (look_of cfg.now) ≡ outcome) }
+        ensures answers { allocates self.now ≡ false → IsOk result }
+    {
         match *self {
             Amount::Exact(n) => Ok(n),
             Amount::Max => Measurement::<Width>::measure(&Max, alloc, records, cfg),
@@ -50,7 +55,10 @@ impl Measurement<Height> for Amount {
         alloc: Global,
         records: &R,
         cfg: &SpannedConfig,
-    ) -> Result<usize, Fault> {
+    ) -> Result<usize, Fault>
+        ensures gives { Gives (λ n. n) result (λ outcome. height_of self.now (R.columns records.now) (R.ExactRecords.rows records.now) (look_of cfg.now) ≡ outcome) }
+        ensures answers { allocates self.now ≡ false → IsOk result }
+    {
         match *self {
             Amount::Exact(n) => Ok(n),
             Amount::Max => Measurement::<Height>::measure(&Max, alloc, records, cfg),

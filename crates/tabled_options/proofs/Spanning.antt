@@ -11,9 +11,9 @@ use Rattle.grid_config_spans.specs.Spans.{extent_at}
 use Rattle.grid_config_spans.specs.declared.extent.Extent.{Extent}
 use Rattle.grid_config.specs.Looks.{Look, look_of}
 use Rattle.grid_config.specs.Settings.{Settings}
-use Rattle.grid_config_colors.specs.Colors.{Color}
+use Rattle.grid_config.specs.Colors.{Color}
 use Rattle.grid_config_values.specs.declared.fault.Fault.TheVariants.{Spans}
-use Rattle.tabled_size_dimension.specs.Stored.{Stored}
+use Rattle.tabled_steps.specs.Stored.{Stored}
 use Rattle.tabled_steps.specs.Looks.{changing_inside, placing, with_extents}
 use Rattle.tabled_steps.specs.States.{State, column_count, looking, state_with}
 use Rattle.tabled_options.specs.Spanning.{placed_all, span_extent, span_size, spanned_at, spanning, taking}

@@ -8,7 +8,7 @@ ghost use Rattle.tabled_steps.specs.Looks.{with_alignment_horizontal, with_align
 ghost use Rattle.tabled_steps.specs.States.{Steps, looking, state_with};
 ghost use Rattle.grid_config.specs.Looks.{look_of};
 ghost use Rattle.grid_config_values.specs.Settings.{value_at};
-ghost use Rattle.tabled_size_dimension.specs.Stored.{Stored};
+ghost use Rattle.tabled_steps.specs.Stored.{Stored};
 
 use grid_config::{AlignmentHorizontal, AlignmentVertical, ColoredConfig, Entity, Fault};
 use grid_records_traits::records::RecordTexts;

@@ -7,7 +7,7 @@ ghost use Rattle.tabled_options.specs.Spanning.{span_extent, span_size, spanned_
 ghost use Rattle.tabled_steps.specs.Looks.{with_columns, with_extents, with_rows};
 ghost use Rattle.tabled_steps.specs.States.{Steps, state_with};
 ghost use Rattle.grid_config_values.specs.Settings.{value_at};
-ghost use Rattle.tabled_size_dimension.specs.Stored.{Stored};
+ghost use Rattle.tabled_steps.specs.Stored.{Stored};
 
 use grid_config::{ColoredConfig, Entity, EntityIterator, Fault, Position, SpannedConfig};
 use grid_records_rows::{FromText, VecRecords};

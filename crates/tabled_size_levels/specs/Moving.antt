@@ -112,10 +112,11 @@ pub record IsGiven (rule : Rule) (place : ℕ → ℕ) (by : ℕ) (widths sizes 
   pub sums : sum sizes ≡ sum widths + amount_of rule [] by widths
   pub given : IsMovedByRule rule place [] widths (λ column. slice_index sizes column - slice_index widths column) (amount_of rule [] by widths) last
 
--- each column before one of them gives all that it has above its least, and none after it gives any
-pub record IsTakenWhole (place : ℕ → ℕ) (least : List ℕ) (by : ℕ) (widths sizes : List ℕ) : Type 0 where
+-- each column before the last that gives has given all that it has above its least, and none after it gives any
+pub record IsTakenWhole (place : ℕ → ℕ) (least : List ℕ) (by : ℕ) (widths sizes : List ℕ) (last : Option ℕ) : Type 0 where
   pub lower : NoneRises widths sizes
   pub sums : sum sizes + amount_of Narrowest least by widths ≡ sum widths
-  pub taken : (EachIndex widths (λ column. slice_index sizes column ≡ slice_index widths column))
-      ⊎ ((column : ℕ) × IsMovedInOrder place (λ other. 0) (λ other. slice_index widths other - slice_index least other)
+  pub taken : MatchOption last
+      (EachIndex widths (λ column. slice_index sizes column ≡ slice_index widths column))
+      (λ column. IsMovedInOrder place (λ other. 0) (λ other. slice_index widths other - slice_index least other)
       (λ other. slice_index widths other - slice_index sizes other) (length widths) column)

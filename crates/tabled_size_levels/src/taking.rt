@@ -85,7 +85,7 @@ pub fn take(rule: Rule, order: Order, widths: &mut [usize], least: &[usize], by:
 pub fn take_whole(order: Order, widths: &mut [usize], least: &[usize], by: usize) -> Moved
     requires begins { BeginsWithin order (length widths.old) }
     requires fits { sum widths.old < 2 ^ 64 }
-    ensures taken { IsTakenWhole (place_of order (length widths.old)) least.now by widths.old widths.new }
+    ensures taken { IsTakenWhole (place_of order (length widths.old)) least.now by widths.old widths.new result.last }
     ensures walks { result.walks ≤ 2 }
 {
     let room = moved_in_all(Rule::Narrowest, 1 << 64, widths, least);

@@ -1,7 +1,7 @@
 -- A setter of settings is a step of their look.
 use Rattle.std.proofs.Common.{◌≡◌, ℕ, Bool, List, Option, Result, Ok, Err, IfErr, OnErr, OnOk, ap, sym, subst}
 use Rattle.std.proofs.Math.Path.{fun_ext}
-use Rattle.grid_config_colors.specs.Colors.{Color}
+use Rattle.grid_config.specs.Colors.{Color}
 use Rattle.grid_config_values.specs.declared.alignment.AlignmentHorizontal.{AlignmentHorizontal}
 use Rattle.grid_config_values.specs.declared.alignment.AlignmentVertical.{AlignmentVertical}
 use Rattle.grid_config_values.specs.declared.entity.Entity.{Entity}

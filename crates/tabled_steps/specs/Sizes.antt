@@ -9,7 +9,7 @@ use Rattle.grid_config_spans.specs.declared.extent.Extent.{Extent}
 use Rattle.grid_config.specs.Looks.{Look}
 use Rattle.grid_records_estimate.specs.Estimates.{Axis, track_sizes}
 use Rattle.grid_records_estimate.specs.Sizing.{place}
-use Rattle.grid_records_measure.specs.TextLines.{text_height, text_width}
+use Rattle.grid_records_traits.specs.TextLines.{text_height, text_width}
 use Rattle.grid_records_traits.specs.Rows.{fitted, text_at}
 use Rattle.tabled_steps.specs.Outcomes.{all_sized}
 

@@ -1,6 +1,6 @@
 //! The settings of a table, and the sizes that it keeps, as its options see them.
 ghost use Rattle.std.specs.Prelude.{Option};
-ghost use Rattle.grid_config_colors.specs.Colors.{Color};
+ghost use Rattle.grid_config.specs.Colors.{Color};
 ghost use Rattle.grid_config_values.specs.declared.position.Position.{Position as Place};
 ghost use Rattle.grid_config_values.specs.Settings.{value_at};
 ghost use Rattle.grid_config.specs.Looks.{Look, look_of};

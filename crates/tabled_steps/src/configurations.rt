@@ -4,6 +4,7 @@ ghost use Rattle.grid_config_values.specs.declared.entity.Entity.TheVariants.{Gl
 ghost use Rattle.grid_config_values.specs.Settings.{value_at};
 ghost use Rattle.grid_config.specs.Compact.{compact_of};
 ghost use Rattle.grid_config.specs.Looks.{compact_look, look_of};
+ghost use Rattle.grid_config.specs.Settings.{IsUncolored};
 ghost use Rattle.tabled_steps.specs.States.{Steps, looking, state_with};
 
 use crate::configuration::KeptSizes;
@@ -16,7 +17,8 @@ use std::mem;
 // Lets a value go that has many parts: dropping it in place would be proved part by part.
 fn let_go<T: Drop>(_value: T) {}
 
-/// Replaces all settings but the colours of the cells. Fails only where allocation fails.
+/// Replaces all settings but the colours of the cells. Fails only where allocation fails, and not where no margin,
+/// padding or border of the new settings has a colour with text.
 impl<R: RecordTexts, D: KeptSizes> TableOption<R, ColoredConfig, D> for CompactConfig {
     ghost step = { λ config state outcome. looking (λ _. compact_look (compact_of config)) state ≡ outcome };
 
@@ -25,10 +27,14 @@ impl<R: RecordTexts, D: KeptSizes> TableOption<R, ColoredConfig, D> for CompactC
     fn change(
         self,
         alloc: Global,
-        _records: &mut R,
+        records: &mut R,
         cfg: &mut ColoredConfig,
-        _dims: &mut D,
-    ) -> Result<(), Fault> {
+        dims: &mut D,
+    ) -> Result<(), Fault>
+        ensures answers { IsUncolored (compact_of self) → IsOk result }
+        ensures step { Steps (λ state outcome. looking (λ _. compact_look (compact_of self)) state ≡ outcome) result
+            (state_with (R.rows records.old) (look_of cfg.old.settings) (value_at cfg.old.colors) (D.sizes dims.old)) (state_with (R.rows records.new) (look_of cfg.new.settings) (value_at cfg.new.colors) (D.sizes dims.new)) }
+    {
         let config = SpannedConfig::from_compact_config(alloc, self)?;
         let_go(mem::replace(cfg.spanned_mut(), config));
         Ok(())

@@ -1,29 +1,21 @@
 //! Laws of the definitions that the other contracts cite, and rows worked by hand.
-ghost use Rattle.std.specs.Prelude.{◌≡◌, ◌++◌, ℕ, ℤ, Bool, List, String as Bytes, [], ◌∷◌, IfOk, None, Some, codes, decimal, encode_utf8, length, map, replicate, string_bytes, true};
+ghost use Rattle.std.specs.Prelude.{◌≡◌, ◌++◌, ℕ, ℤ, Bool, List, String as Bytes, [], ◌∷◌, None, Some, codes, decimal, encode_utf8, length, map, replicate, string_bytes, true, vec_len};
 ghost use Rattle.std.specs.Borrow.{Bor};
 ghost use Rattle.std.specs.Fmt.{signed_decimal};
 ghost use Rattle.std.specs.Global.{Box as BoxOf};
 ghost use Rattle.std.proofs.Common.{Global as Heap};
-ghost use Rattle.tabled_text.specs.Fields.{bool_text, fields_or_empty, numbers};
+ghost use Rattle.tabled_text.specs.Fields.{bool_text, fields_or_empty, numbers, saturated};
 ghost use Rattle.tabled_text.specs.Rows.{filled, longest};
 
 use crate::cell_text::CellText;
 use crate::tabled::Tabled;
-use std::alloc::{AllocError, Global};
+use std::borrow::CowStr;
 
-/// The fields of a value are `length()` texts.
-pub fn fields_have_length<T: Tabled>(alloc: Global, value: &T) -> Result<bool, AllocError>
-    ensures { IfOk result (λ same. same ≡ true) }
-{
-    Ok(value.fields(alloc)?.len() == T::length())
-}
-
-/// The names of the fields are `length()` texts.
-pub fn headers_have_length<T: Tabled>(alloc: Global) -> Result<bool, AllocError>
-    ensures { IfOk result (λ same. same ≡ true) }
-{
-    Ok(T::headers(alloc)?.len() == T::length())
-}
+/// Fields, or names of fields, that are as many as the names are `length()` texts: a vector holds no more of
+/// them than a `usize` counts.
+pub fn fields_have_length<'a, T: Tabled>(fields: &Vec<CowStr<'a>>)
+    ensures { vec_len fields.now ≡ length T.names → vec_len fields.now ≡ saturated (length T.names) }
+{}
 
 /// Rows of two texts and of one are two texts long, and an empty text stands after the one.
 pub fn rows_are_filled()

@@ -3,7 +3,7 @@ use std::alloc::{AllocError, Global};
 use std::borrow::CowStr;
 use std::process::Abort;
 use std::test::Fail;
-use tabled_text::{Builder, CellText, Tabled, laws};
+use tabled_text::{Builder, CellText, Tabled};
 
 // The proof of a function grows faster than its calls, and most of all with each `?`: so the helpers end
 // a test where memory is refused, and a test is a few functions of a few calls each.
@@ -81,14 +81,12 @@ fn each_value_has_its_display_text(rt: HostRuntime) {
 
 // A value has these names and these fields, each after a `|`, and both are `length()` texts.
 fn has<T: Tabled>(rt: &impl Abort, alloc: Global, value: &T, names: &str, fields: &str) {
-    let counted = laws::fields_have_length(alloc, value).expect(rt, MEMORY);
-    expect(rt, counted, fields);
-    let counted = laws::headers_have_length::<T>(alloc).expect(rt, MEMORY);
-    expect(rt, counted, names);
     let found = T::headers(alloc).expect(rt, MEMORY);
+    expect(rt, found.len() == T::length(), names);
     let found = joined(alloc, found).expect(rt, MEMORY);
     expect_text(rt, found.as_str(), names, "the names");
     let found = value.fields(alloc).expect(rt, MEMORY);
+    expect(rt, found.len() == T::length(), fields);
     let found = joined(alloc, found).expect(rt, MEMORY);
     expect_text(rt, found.as_str(), fields, names);
 }

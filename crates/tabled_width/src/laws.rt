@@ -31,7 +31,6 @@ ghost use Rattle.tabled_width.specs.declared.min_width.MinWidth.{MinWidth as One
 ghost use Rattle.tabled_width.specs.declared.truncate.Truncate.{Truncate as OneTruncate};
 ghost use Rattle.tabled_width.specs.declared.wrap.Wrap.{Wrap as OneWrap};
 ghost use Rattle.tabled_width.specs.declared.justify.Justify.{Justify as OneJustify};
-ghost use Rattle.tabled_width.specs.declared.list.WidthList.{WidthList as OneList};
 
 use crate::justify::Justify;
 use crate::list::WidthList;
@@ -47,9 +46,9 @@ use tabled_steps::{CellOption, Max, Measurement, Min, Percent, TableOption};
 
 /// A list is the step that keeps its widths, and clears nothing.
 pub fn lists_are_their_steps<T: FromText>()
-    ensures step { (list : OneList) (state : State) (outcome : Outcome) → ⟦<WidthList as TableOption<VecRecords<T>, ColoredConfig, CompleteDimension>>⟧.step list state outcome →
-        with_width_list list.list.items state ≡ outcome }
-    ensures hint { (list : OneList) → ⟦<WidthList as TableOption<VecRecords<T>, ColoredConfig, CompleteDimension>>⟧.hint list ≡ None }
+    ensures step { (widths : List ℕ) (state : State) (outcome : Outcome) → ⟦<WidthList as TableOption<VecRecords<T>, ColoredConfig, CompleteDimension>>⟧.step widths state outcome →
+        with_width_list widths state ≡ outcome }
+    ensures hint { (widths : List ℕ) → ⟦<WidthList as TableOption<VecRecords<T>, ColoredConfig, CompleteDimension>>⟧.hint widths ≡ None }
 {}
 
 /// An option of cells is the step that fills, breaks or cuts the texts of an entity at a width that its
@@ -145,7 +144,7 @@ pub fn worked_lists()
 
 /// A list of widths is the numbers of its vector.
 pub fn lists_are_made_of_their_widths()
-    ensures { (widths : VecOf ℕ) (list : OneList) → ⟦<WidthList as From<Vec<usize>>>⟧.from_gives widths list → list.list.items ≡ widths.items }
+    ensures { (widths : VecOf ℕ) (list : List ℕ) → ⟦<WidthList as From<Vec<usize>>>⟧.from_gives widths list → list ≡ widths.items }
 {}
 
 /// `==` of options by numbers is equality of all that they hold, of a suffix by its text; and `cmp` of those

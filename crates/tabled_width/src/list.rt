@@ -1,5 +1,5 @@
 //! Lists of widths.
-ghost use Rattle.std.specs.Prelude.{◌≡◌, IfOk, IsOk, None, Option};
+ghost use Rattle.std.specs.Prelude.{◌≡◌, ℕ, IfOk, IsOk, List, None};
 ghost use Rattle.std.specs.Iterator.{Drains, IsFinite};
 ghost use Rattle.tabled_width.specs.Lists.{with_width_list};
 ghost use Rattle.tabled_steps.specs.States.{Steps, state_with};
@@ -10,6 +10,7 @@ use grid_config::{ColoredConfig, Entity, Fault};
 use grid_records_rows::{FromText, VecRecords};
 use grid_records_traits::records::{RecordColumns, RecordTexts};
 use std::alloc::{AllocError, Global};
+use std::marker::Model;
 use tabled_size_dimension::CompleteDimension;
 use tabled_steps::{KeptSizes, TableOption};
 
@@ -17,15 +18,21 @@ use tabled_steps::{KeptSizes, TableOption};
 /// effect.
 #[derive(Debug, Drop)]
 pub struct WidthList {
-    list: Vec<usize>,
+    widths: Vec<usize>,
+}
+
+impl Model for WidthList {
+    ghost Value = { List ℕ };
+
+    ghost view = { λ list. list.widths.items };
 }
 
 impl WidthList {
     /// These widths. Does not allocate.
     pub fn new(list: Vec<usize>) -> WidthList
-        ensures { result.list.items ≡ list.items }
+        ensures { result ≡ list.items }
     {
-        WidthList { list }
+        WidthList { widths: list }
     }
 
     /// The items in their order, on condition that they end. It fails only where allocation fails.
@@ -36,19 +43,19 @@ impl WidthList {
     where
         I::IntoIter: Drop,
         requires { (s : I.IntoIter) → I.into_iter_gives items s → I.IntoIter.can_next s × IsFinite (I.IntoIter.remaining s) }
-        ensures { IfOk result (λ list. (s : I.IntoIter) × I.into_iter_gives items s × Drains I.IntoIter.next_gives s list.list.items) }
+        ensures { IfOk result (λ list. (s : I.IntoIter) × (taken : List ℕ) × I.into_iter_gives items s × Drains I.IntoIter.next_gives s taken × (list ≡ taken)) }
     {
-        let mut list = Vec::new(alloc);
-        for item in items {
-            list.push(item)?;
+        let mut widths = Vec::new(alloc);
+        for width in items {
+            widths.push(width)?;
         }
-        Ok(WidthList { list })
+        Ok(WidthList { widths })
     }
 }
 
 /// These widths. Does not allocate.
 impl From<Vec<usize>> for WidthList {
-    ghost from_gives = { λ list widths. widths.list.items ≡ list.items };
+    ghost from_gives = { λ widths list. list ≡ widths.items };
 
     fn from(list: Vec<usize>) -> WidthList {
         WidthList::new(list)
@@ -57,7 +64,7 @@ impl From<Vec<usize>> for WidthList {
 
 /// Keeps these widths, where there are as many as columns. Does not allocate.
 impl<T: FromText> TableOption<VecRecords<T>, ColoredConfig, CompleteDimension> for WidthList {
-    ghost step = { λ widths state outcome. with_width_list widths.list.items state ≡ outcome };
+    ghost step = { λ widths state outcome. with_width_list widths state ≡ outcome };
 
     ghost hint = { λ _. None };
 
@@ -69,11 +76,11 @@ impl<T: FromText> TableOption<VecRecords<T>, ColoredConfig, CompleteDimension> f
         dims: &mut CompleteDimension,
     ) -> Result<(), Fault>
         ensures answers { IsOk result }
-        ensures step { Steps (λ state outcome. with_width_list self.list.items state ≡ outcome) result
+        ensures step { Steps (λ state outcome. with_width_list self state ≡ outcome) result
             (state_with (⟦<VecRecords<T> as RecordTexts>⟧.rows records.old) (look_of cfg.old.settings) (value_at cfg.old.colors) dims.old) (state_with (⟦<VecRecords<T> as RecordTexts>⟧.rows records.new) (look_of cfg.new.settings) (value_at cfg.new.colors) dims.new) }
     {
-        if self.list.len() >= records.count_columns() {
-            dims.set_widths(self.list);
+        if self.widths.len() >= records.count_columns() {
+            dims.set_widths(self.widths);
         }
         Ok(())
     }

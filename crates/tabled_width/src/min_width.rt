@@ -1,7 +1,10 @@
 //! Tables, and cells, that are at least so wide.
-ghost use Rattle.std.specs.Prelude.{◌≡◌, None, Some};
+ghost use Rattle.std.specs.Prelude.{◌≡◌, IsOk, None, Some, length};
+ghost use Rattle.grid_config.specs.Looks.{look_of};
+ghost use Rattle.grid_config_values.specs.Settings.{value_at};
 ghost use Rattle.grid_config_values.specs.declared.entity.Entity.TheVariants.{Global as EveryCell};
 ghost use Rattle.tabled_steps.specs.Changes.{changing};
+ghost use Rattle.tabled_steps.specs.States.{Steps, state_with};
 ghost use Rattle.tabled_width_texts.specs.Filling.{filling};
 ghost use Rattle.tabled_width.specs.Options.{widening};
 ghost use Rattle.tabled_width_tables.specs.Steps.{Measured};
@@ -11,6 +14,7 @@ use crate::table::widen_table;
 use crate::width::Width;
 use grid_config::{ColoredConfig, Entity, Fault};
 use grid_records_rows::{FromText, VecRecords};
+use grid_records_traits::records::{RecordColumns, RecordTexts};
 use std::alloc::Global;
 use tabled_size_dimension::CompleteDimension;
 use tabled_size_priority::{Peaker, PriorityNone};
@@ -108,7 +112,12 @@ impl<T: FromText, W: Measurement<Width> + Drop, P: Peaker + Drop> TableOption<
         records: &mut VecRecords<T>,
         cfg: &mut ColoredConfig,
         dims: &mut CompleteDimension,
-    ) -> Result<(), Fault> {
+    ) -> Result<(), Fault>
+        ensures no_rows { length (⟦<VecRecords<T> as RecordTexts>⟧.rows records.old) ≡ 0 → IsOk result }
+        ensures no_columns { ⟦<VecRecords<T> as RecordColumns>⟧.columns records.old ≡ 0 → IsOk result }
+        ensures step { Steps (WidensTable P.grows (widening self).priority (W.measures (widening self).width)) result
+            (state_with (⟦<VecRecords<T> as RecordTexts>⟧.rows records.old) (look_of cfg.old.settings) (value_at cfg.old.colors) dims.old) (state_with (⟦<VecRecords<T> as RecordTexts>⟧.rows records.new) (look_of cfg.new.settings) (value_at cfg.new.colors) dims.new) }
+    {
         let width = self.width;
         let priority = self.priority;
         widen_table(alloc, &*records, cfg.spanned(), dims, &width, priority)

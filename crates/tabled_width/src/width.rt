@@ -1,5 +1,5 @@
 //! Makers of options of widths.
-ghost use Rattle.std.specs.Prelude.{◌≡◌, [], IfOk, false};
+ghost use Rattle.std.specs.Prelude.{◌≡◌, ℕ, [], IfOk, List, false};
 ghost use Rattle.tabled_size_dimension.specs.declared.suffix.SuffixLimit.TheVariants.{Cut as CutSuffix};
 ghost use Rattle.std.specs.Iterator.{Drains, IsFinite};
 ghost use Rattle.tabled_width.specs.Options.{justified_width, truncation, widening, wrapping};
@@ -54,7 +54,7 @@ impl Width {
     where
         I::IntoIter: Drop,
         requires { (s : I.IntoIter) → I.into_iter_gives items s → I.IntoIter.can_next s × IsFinite (I.IntoIter.remaining s) }
-        ensures { IfOk result (λ list. (s : I.IntoIter) × I.into_iter_gives items s × Drains I.IntoIter.next_gives s list.list.items) }
+        ensures { IfOk result (λ list. (s : I.IntoIter) × (taken : List ℕ) × I.into_iter_gives items s × Drains I.IntoIter.next_gives s taken × (list ≡ taken)) }
     {
         WidthList::from_iter(alloc, items)
     }

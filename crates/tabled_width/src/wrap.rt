@@ -1,8 +1,11 @@
 //! Texts that are broken at a width.
-ghost use Rattle.std.specs.Prelude.{◌≡◌, IfOk, Some, false, string_bytes};
+ghost use Rattle.std.specs.Prelude.{◌≡◌, IfOk, IsOk, Some, false, length, string_bytes};
+ghost use Rattle.grid_config.specs.Looks.{look_of};
+ghost use Rattle.grid_config_values.specs.Settings.{value_at};
 ghost use Rattle.grid_config_values.specs.declared.entity.Entity.TheVariants.{Global as EveryCell, Row as OneRow};
 ghost use Rattle.tabled_size_wrap.specs.Bytes.{wrapped_text};
 ghost use Rattle.tabled_steps.specs.Changes.{changing};
+ghost use Rattle.tabled_steps.specs.States.{Steps, state_with};
 ghost use Rattle.tabled_width_texts.specs.Breaking.{breaking, wrapping_wider};
 ghost use Rattle.tabled_width.specs.Options.{wrapping};
 ghost use Rattle.tabled_width_tables.specs.Steps.{Measured};
@@ -12,6 +15,7 @@ use crate::table::narrow_table;
 use crate::width::Width;
 use grid_config::{ColoredConfig, Entity, Fault};
 use grid_records_rows::{FromText, VecRecords};
+use grid_records_traits::records::{RecordColumns, RecordTexts};
 use std::alloc::{AllocError, Global};
 use tabled_size_dimension::CompleteDimension;
 use tabled_size_priority::{Peaker, PriorityNone};
@@ -130,7 +134,12 @@ impl<T: FromText, W: Measurement<Width> + Drop, P: Peaker + Drop> TableOption<
         records: &mut VecRecords<T>,
         cfg: &mut ColoredConfig,
         dims: &mut CompleteDimension,
-    ) -> Result<(), Fault> {
+    ) -> Result<(), Fault>
+        ensures no_rows { length (⟦<VecRecords<T> as RecordTexts>⟧.rows records.old) ≡ 0 → IsOk result }
+        ensures no_columns { ⟦<VecRecords<T> as RecordColumns>⟧.columns records.old ≡ 0 → IsOk result }
+        ensures step { Steps (NarrowsTable P.shrinks (wrapping self).priority (breaking (wrapping self).keep_words) (W.measures (wrapping self).width)) result
+            (state_with (⟦<VecRecords<T> as RecordTexts>⟧.rows records.old) (look_of cfg.old.settings) (value_at cfg.old.colors) dims.old) (state_with (⟦<VecRecords<T> as RecordTexts>⟧.rows records.new) (look_of cfg.new.settings) (value_at cfg.new.colors) dims.new) }
+    {
         let change = Breaking {
             keep_words: self.keep_words,
         };

@@ -1,6 +1,6 @@
 //! Cells whose texts change at a width.
 ghost use Rattle.std.specs.Prelude.{Option};
-ghost use Rattle.grid_config_colors.specs.Colors.{Color};
+ghost use Rattle.grid_config.specs.Colors.{Color};
 ghost use Rattle.grid_config_values.specs.declared.position.Position.{Position as Place};
 ghost use Rattle.grid_config.specs.Looks.{Look};
 ghost use Rattle.tabled_size_dimension.specs.Stored.{Stored};

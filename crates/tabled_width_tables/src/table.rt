@@ -1,6 +1,6 @@
 //! Tables that become narrower or wider as a whole.
 ghost use Rattle.std.specs.Prelude.{◌≡◌, ◌<◌, Option, Some, length};
-ghost use Rattle.grid_config_colors.specs.Colors.{Color};
+ghost use Rattle.grid_config.specs.Colors.{Color};
 ghost use Rattle.grid_config_values.specs.declared.position.Position.{Position as Place};
 ghost use Rattle.grid_config.specs.Looks.{look_of};
 ghost use Rattle.tabled_steps.specs.States.{Steps, state_with};

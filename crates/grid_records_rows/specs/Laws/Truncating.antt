@@ -9,6 +9,7 @@ use Rattle.grid_records_measure.specs.TextLines.{text_width}
 use Rattle.grid_records_traits.specs.Giving.{Gives, GivesCells, GivesEach, GivesTexts, HasEnded}
 use Rattle.grid_records_rows.specs.Truncating.{GivesTruncated, GivesTruncatedRow, IsTruncated, next_column, text_of_truncated, truncated_row, truncated_rows, truncated_text}
 use Rattle.grid_records_rows.specs.declared.records.into_records.truncate_content.Truncated.{Truncated}
+use Rattle.grid_records_rows.specs.declared.records.into_records.truncate_content.Truncated.TheVariants.{Whole}
 use Rattle.grid_records_rows.specs.declared.records.into_records.truncate_content.TruncatedCells.{TruncatedCells}
 use Rattle.grid_records_rows.specs.declared.records.into_records.truncate_content.TruncatedRows.{TruncatedRows}
 
@@ -16,7 +17,7 @@ module _ {S C E D : Type 0} (steps : S → Option (Result C E) → S → Type 0)
   -- the cell that came, of which this is left
   came : (s t : S) (given : Result C E) (cell : Truncated C) (w : ℕ) → steps s (Some given) t → IsTruncated text w given (Ok cell) →
       (whole : C) × steps s (Some (Ok whole)) t × (text_of_truncated text cell ≡ truncated_text w (text whole))
-  came s t (Ok whole) cell w step is = (whole, step, is)
+  came s t (Ok whole) cell w step is = (whole, step, is.0)
   came s t (Err _) cell w step never = absurd never
 
   ended_truncated : (s : TruncatedCells S D) → s.cells ≡ None → HasEnded (GivesTruncated steps text width) s
@@ -102,6 +103,12 @@ is_wider (Err _) width found text is lt = omega (arith, is, lt)
 
 -- what is left of a cell that came
 pub is_left : {C E : Type 0} (text : C → List ℕ) (width found : ℕ) (cell : C) (out : Result (Truncated C) E) → found ≡ width → IfOk out (λ kept. text_of_truncated text kept ≡ truncated_text found (text cell)) →
-    IfErr out (λ _. found < text_width (text cell)) → IsTruncated text width (Ok cell) out
-is_left text width found cell (Ok _) wide is _ = is ∙ ap (λ v. truncated_text v (text cell)) wide
-is_left text width found cell (Err _) wide _ wider = subst (λ v. v < text_width (text cell)) wide wider
+    (text_width (text cell) ≤ found → out ≡ Ok (Whole cell)) → IfErr out (λ _. found < text_width (text cell)) → IsTruncated text width (Ok cell) out
+is_left text width found cell (Ok kept) wide is whole _ =
+    (is ∙ ap (λ v. truncated_text v (text cell)) wide, λ fits. cc (whole (subst (λ v. text_width (text cell) ≤ v) (sym wide) fits)))
+is_left text width found cell (Err _) wide _ _ wider = subst (λ v. v < text_width (text cell)) wide wider
+
+-- a cell that fits is no wider
+pub fits_whole : {C E : Type 0} (text : C → List ℕ) (width found : ℕ) (cell : C) (out : Result (Truncated C) E) → found ≡ text_width (text cell) → width < found →
+    text_width (text cell) ≤ width → out ≡ Ok (Whole cell)
+fits_whole text width found cell out is lt fits = absurd (omega (arith, is, lt, fits))

@@ -1,7 +1,7 @@
 //! Records looked up by place.
 ghost use Rattle.std.specs.Prelude.{◌≡◌, IfOk, IfSome, IsOk, false};
 ghost use Rattle.std.specs.Cow.{IsOwnedStr, cow_str_bytes};
-ghost use Rattle.ansi_str_text.specs.StyledText.{has_escape};
+ghost use Rattle.grid_records_measure.specs.StyledText.{has_escape};
 ghost use Rattle.grid_records_traits.specs.Cells.{HasLineCount, HasLineWidth, HasWidth, IsLineAt};
 ghost use Rattle.grid_records_traits.specs.PlainTexts.{plain_texts};
 ghost use Rattle.grid_records_traits.specs.Rows.{row_at, text_at};

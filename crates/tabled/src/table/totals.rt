@@ -1,9 +1,10 @@
 //! How much a table takes as a whole.
-ghost use Rattle.std.specs.Prelude.{◌≡◌, ◌≤◌, ◌^◌, IfErr, IfOk};
+ghost use Rattle.std.specs.Prelude.{◌≡◌, ◌≤◌, ◌^◌, ◌==◌, ◌||◌, IfErr, IfOk, Ok, length, true};
 ghost use Rattle.grid_records_estimate.specs.Sizes.{IsRefusal};
 ghost use Rattle.tabled.specs.Printing.{drawn_sizes};
 ghost use Rattle.tabled.specs.Tables.{state_of};
 ghost use Rattle.tabled.specs.Totals.{drawn_height, drawn_width};
+ghost use Rattle.tabled_steps.specs.States.{column_count};
 
 use crate::table::Table;
 use grid_config::Fault;
@@ -18,6 +19,7 @@ impl<T: FromText> Table<T> {
     /// where allocation fails.
     pub fn total_width(&self) -> Result<usize, Fault>
         ensures total { IfOk result (λ total. total ≡ drawn_width (state_of T.text self.now)) }
+        ensures no_cells { let rows = (state_of T.text self.now).rows in (length rows == 0 || column_count rows == 0) ≡ true → result ≡ Ok 0 }
         ensures refused { IfErr result (λ fault. IsRefusal fault (2 ^ 64 ≤ drawn_width (state_of T.text self.now))) }
     {
         if self.is_empty() {
@@ -35,6 +37,7 @@ impl<T: FromText> Table<T> {
     /// allocation fails.
     pub fn total_height(&self) -> Result<usize, Fault>
         ensures total { IfOk result (λ total. total ≡ drawn_height (state_of T.text self.now)) }
+        ensures no_cells { let rows = (state_of T.text self.now).rows in (length rows == 0 || column_count rows == 0) ≡ true → result ≡ Ok 0 }
         ensures refused { IfErr result (λ fault. IsRefusal fault (2 ^ 64 ≤ drawn_height (state_of T.text self.now))) }
     {
         if self.is_empty() {

@@ -296,29 +296,27 @@ nothing-taken place least widths sizes total same sums =
     let P : List ℕ → Type 0 = IsOfForm (shrunk_in_order place least widths) total in
     subst P (sym same) (order-form place least widths widths total refl (order-start place least widths) (sym (ap sum same) ∙ sums))
 
-pub side-taken : (place : ℕ → ℕ) (least : List ℕ) (by : ℕ) (widths sizes : List ℕ) → IsPlacing place (length widths) → sum widths < 2 ^ 64 → length sizes ≡ length widths
-    → IsTakenWhole place least by widths sizes → IsOfForm (shrunk_in_order place least widths) (shrunk_sum least widths by) sizes
-side-taken place least by widths sizes placing fits size taken =
+pub side-taken : (place : ℕ → ℕ) (least : List ℕ) (by : ℕ) (widths sizes : List ℕ) (last : Option ℕ) → IsPlacing place (length widths) → sum widths < 2 ^ 64 → length sizes ≡ length widths
+    → IsTakenWhole place least by widths sizes last → IsOfForm (shrunk_in_order place least widths) (shrunk_sum least widths by) sizes
+side-taken place least by widths sizes None placing fits size taken =
     let sums = taken-sum Narrowest tt least by widths sizes fits taken.sums in
-    elim taken.taken [
-      | inl none ↦ nothing-taken place least widths sizes (shrunk_sum least widths by) (same-sizes widths sizes size none) sums.0
-      | inr some ↦
-          let column : ℕ = some.0 in
-          let order = some.1 in
-          order-formed place (λ (i : ℕ). get_or widths i 0 - get_or sizes i 0) least widths sizes (shrunk_sum least widths by) column placing size sums.0 order.inside taken.lower (λ i. refl) order.at_most
-          order.before order.behind
-    ]
+    nothing-taken place least widths sizes (shrunk_sum least widths by) (same-sizes widths sizes size taken.taken) sums.0
+side-taken place least by widths sizes (Some column) placing fits size taken =
+    let sums = taken-sum Narrowest tt least by widths sizes fits taken.sums in
+    let order = taken.taken in
+    order-formed place (λ (i : ℕ). get_or widths i 0 - get_or sizes i 0) least widths sizes (shrunk_sum least widths by) column placing size sums.0 order.inside taken.lower (λ i. refl) order.at_most
+    order.before order.behind
 
-pub side-between : (place : ℕ → ℕ) (least : List ℕ) (by : ℕ) (widths sizes : List ℕ) → IsPlacing place (length widths) → IsTakenWhole place least by widths sizes → StaysBetween least widths sizes
-side-between place least by widths sizes placing taken = λ i below.
+pub side-between : (place : ℕ → ℕ) (least : List ℕ) (by : ℕ) (widths sizes : List ℕ) (last : Option ℕ) → IsPlacing place (length widths) → IsTakenWhole place least by widths sizes last → StaysBetween least widths sizes
+side-between place least by widths sizes None placing taken = λ i below.
     let le : get_or sizes i 0 ≤ get_or widths i 0 = taken.lower i below in
-    elim taken.taken [
-      | inl none ↦ let same : get_or sizes i 0 ≡ get_or widths i 0 = none i below in (omega arith, omega arith)
-      | inr some ↦
-          let limit : get_or widths i 0 - get_or sizes i 0 ≤ get_or widths i 0 - get_or least i 0 =
-          change-limit place (λ (j : ℕ). 0) (gap_of least widths) (λ (j : ℕ). get_or widths j 0 - get_or sizes j 0) (gap_of least widths) (length widths) some.0 placing some.1 (λ j. omega arith) (λ j. omega arith) i below in
-          (omega arith, omega arith)
-    ]
+    let same : get_or sizes i 0 ≡ get_or widths i 0 = taken.taken i below in
+    (omega arith, omega arith)
+side-between place least by widths sizes (Some column) placing taken = λ i below.
+    let le : get_or sizes i 0 ≤ get_or widths i 0 = taken.lower i below in
+    let limit : get_or widths i 0 - get_or sizes i 0 ≤ get_or widths i 0 - get_or least i 0 =
+    change-limit place (λ (j : ℕ). 0) (gap_of least widths) (λ (j : ℕ). get_or widths j 0 - get_or sizes j 0) (gap_of least widths) (length widths) column placing taken.taken (λ j. omega arith) (λ j. omega arith) i below in
+    (omega arith, omega arith)
 
 -- what goes first by its width, and what the rule of the narrowest moves there
 narrow-order : (right : Bool) (least widths sizes : List ℕ) (number column : ℕ) → length sizes ≡ length widths

@@ -5,7 +5,7 @@ use Rattle.grid_config.specs.Looks.{look_of}
 use Rattle.grid_records_estimate.specs.Estimates.{greatest}
 use Rattle.grid_records_measure.specs.TextLines.{line_feed}
 use Rattle.papergrid.specs.Grids.{grid_text}
-use Rattle.papergrid_fits.specs.Tables.{Fits}
+use Rattle.papergrid.specs.Tables.{Fits}
 use Rattle.columns_table.proofs.NaturalLemmas.{OnOk-always, fits, natural-room, prints, some-heights}
 use Rattle.columns_table.proofs.table.natural_table.Goals as goal
 

@@ -3,7 +3,7 @@ use Rattle.std.proofs.lemmas.Bool.Decides.{nat_tests}
 use Rattle.grid_config.specs.Looks.{look_of}
 use Rattle.grid_records_measure.specs.TextLines.{line_feed}
 use Rattle.papergrid.specs.Grids.{grid_text}
-use Rattle.papergrid_fits.specs.Tables.{Fits}
+use Rattle.papergrid.specs.Tables.{Fits}
 use Rattle.columns_table.proofs.table.text_of_grid.Goals as goal
 
 pub to_string-requires : goal.to_string-requires

@@ -1,9 +1,10 @@
 //! The cells of a source, cut at the widths of their columns.
-ghost use Rattle.std.specs.Prelude.{◌≡◌, ◌<◌, IfErr, IfOk, IfSome, refl, true};
+ghost use Rattle.std.specs.Prelude.{◌≡◌, ◌<◌, ◌≤◌, IfErr, IfOk, IfSome, Ok, refl, true};
 ghost use Rattle.std.specs.Iterator.{at_most};
 ghost use Rattle.grid_records_measure.specs.TextLines.{text_width};
 ghost use Rattle.grid_records_rows.specs.Buffering.{of_rest};
 ghost use Rattle.grid_records_rows.specs.Truncating.{GivesTruncated, GivesTruncatedRow, next_column, text_of_truncated, truncated_row, truncated_rows, truncated_text};
+ghost use Rattle.grid_records_rows.specs.declared.records.into_records.truncate_content.Truncated.TheVariants.{Whole};
 ghost use Rattle.grid_records_traits.specs.Laws.Leaving.{passed_made};
 ghost use Rattle.grid_records_rows.specs.Laws.Truncating.{truncated_rows_give};
 
@@ -86,9 +87,10 @@ impl<C: Cell> Cell for Truncated<C> {
     }
 }
 
-/// The cell, cut where it measures more than this width. Only a cut may fail, where allocation fails.
+/// The cell as it is, or cut where it measures more than this width. Only a cut may fail, where allocation fails.
 fn truncate<C: Cell>(alloc: Global, cell: C, width: usize) -> Result<Truncated<C>, AllocError>
     ensures ok { IfOk result (λ out. text_of_truncated C.text out ≡ truncated_text width (C.text cell)) }
+    ensures whole { text_width (C.text cell) ≤ width → result ≡ Ok (Whole cell) }
     ensures refused { IfErr result (λ _. width < text_width (C.text cell)) }
 {
     if cell.width() <= width {

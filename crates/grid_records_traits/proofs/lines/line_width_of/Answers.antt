@@ -4,7 +4,7 @@ use Rattle.ansi_scan.specs.Sequences.{Piece}
 use Rattle.ansi_scan.specs.Pieces.{pieces}
 use Rattle.ansi_scan.proofs.Existence.{ArePiecesOf-pieces}
 use Rattle.ansi_scan.proofs.Uniqueness.{ArePiecesOf-unique}
-use Rattle.ansi_str_text.specs.StyledText.{strip}
+use Rattle.grid_records_measure.specs.StyledText.{strip}
 use Rattle.grid_records_measure.specs.RawLines.{lines_behind}
 use Rattle.grid_records_measure.specs.TextLines.{line_measure, shown_lines}
 use Rattle.grid_records_traits.specs.Cells.{line_at}

@@ -1,6 +1,6 @@
 use Rattle.std.proofs.Common.{◌≡◌, ◌++◌, string_bytes, drop}
 use Rattle.std.specs.Option.{option_map}
-use Rattle.grid_config_colors.specs.Colors.{color_of}
+use Rattle.grid_config.specs.Colors.{color_of}
 use Rattle.papergrid_cells.specs.Painting.{glyphs_behind}
 use Rattle.std.specs.Prelude.{None}
 use Rattle.papergrid_cells.proofs.painting.push_glyphs.Given as goal

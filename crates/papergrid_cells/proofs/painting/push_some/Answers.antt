@@ -1,6 +1,6 @@
 use Rattle.std.specs.Option.{option_map}
 use Rattle.std.proofs.lemmas.Result.{on_ok_weaker}
-use Rattle.grid_config_colors.specs.Colors.{color_of}
+use Rattle.grid_config.specs.Colors.{color_of}
 use Rattle.papergrid_cells.proofs.PaintingLemmas.{appended3, filled}
 use Rattle.papergrid_cells.proofs.painting.push_some.Goals as goal
 

@@ -1,6 +1,6 @@
 use Rattle.std.proofs.Common.{arith, ◌≡◌}
 use Rattle.std.proofs.lemmas.Grind.{common_steps}
-use Rattle.grid_records_measure.specs.TextLines.{text_height}
+use Rattle.grid_records_traits.specs.TextLines.{text_height}
 use Rattle.tabled_iter.proofs.Measures.{height_of_text}
 use Rattle.tabled_iter.proofs.content.most_lines.Goals as goal
 

@@ -1,6 +1,6 @@
 use Rattle.std.proofs.Common.{◌≡◌, drop, map, max}
 use Rattle.grid_records_estimate.specs.Estimates.{greatest}
-use Rattle.grid_records_measure.specs.TextLines.{text_height}
+use Rattle.grid_records_traits.specs.TextLines.{text_height}
 use Rattle.tabled_iter.proofs.content.most_lines.Given as goal
 
 abbrev pub invariant-loop-cell : goal.invariant-loop-cell

@@ -1,7 +1,7 @@
 use Rattle.std.proofs.Common.{◌∙◌, ap, map, max, sym}
 use Rattle.std.proofs.lemmas.List.{take-map}
 use Rattle.grid_records_estimate.specs.Estimates.{greatest}
-use Rattle.grid_records_measure.specs.TextLines.{text_height}
+use Rattle.grid_records_traits.specs.TextLines.{text_height}
 use Rattle.tabled_iter.proofs.content.row_height.Goals as goal
 
 pub returns : goal.returns

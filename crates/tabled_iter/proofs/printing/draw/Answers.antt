@@ -11,7 +11,7 @@ use Rattle.grid_records_rows.specs.Truncating.{truncated_rows}
 use Rattle.grid_records_traits.specs.Rows.{fitted}
 use Rattle.papergrid.specs.Grids.{grid_text}
 use Rattle.papergrid.proofs.Flat.{answer-good, none_good}
-use Rattle.papergrid_fits.specs.Tables.{Fits, IsFitsAnswer, table_frame}
+use Rattle.papergrid.specs.Tables.{Fits, IsFitsAnswer, table_frame}
 use Rattle.tabled_compact.specs.Tables.{kept_of, no_colors}
 use Rattle.tabled_iter.specs.Drawing.{IsDrawn}
 use Rattle.tabled_size_dimension.specs.Sizes.{Sizes, size_at}

@@ -10,8 +10,8 @@ use Rattle.tabled_width.proofs.Stepping.{measured_steps}
 use Rattle.tabled_width.proofs.Tabling.{some_cells, where_holds}
 use Rattle.tabled_width.proofs.table.widen_table.Goals as goal
 
-pub returns : goal.returns
-returns g c = λ colors.
+pub returns-clause-step : goal.returns-clause-step
+returns-clause-step g c = λ colors.
     let look = look_of c.args.cfg.now in
     let rows = texts_of_rows g.T.Cell.text c.args.records.now.rows.items in
     let columns : columns_of c.args.records.now.rows.items ≡ column_count rows = sym (count_texts g.T.Cell.text c.args.records.now.rows.items) in

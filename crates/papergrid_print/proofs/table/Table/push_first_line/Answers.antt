@@ -2,7 +2,7 @@ use Rattle.std.proofs.Common.{◌++◌, ℕ, List, get_or, length, string_bytes,
 use Rattle.std.proofs.lemmas.Result.{on_ok_weaker}
 use Rattle.std.specs.Option.{option_map}
 use Rattle.std.specs.Cow.{cow_str_bytes}
-use Rattle.grid_config_colors.specs.Colors.{color_of}
+use Rattle.grid_config.specs.Colors.{color_of}
 use Rattle.grid_records_traits.specs.Cells.{HasLineCount, HasWidth}
 use Rattle.grid_records_traits.specs.Rows.{text_at}
 use Rattle.papergrid_picture.specs.Blocks.{greatest}

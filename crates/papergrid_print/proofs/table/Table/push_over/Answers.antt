@@ -1,17 +1,16 @@
 use Rattle.std.proofs.Common.{◌≡◌, ◌-◌, ◌≤◌, ◌++◌, [], None, drop, get_or, length, string_bytes, ap, subst, sym, ◌∙◌, arith, ℕ}
 use Rattle.std.specs.Prelude.{slice_index_or}
 use Rattle.std.specs.Option.{option_map}
-use Rattle.grid_config_colors.specs.Colors.{color_of}
+use Rattle.grid_config.specs.Colors.{color_of}
 use Rattle.grid_records_traits.specs.Cells.{HasWidth}
 use Rattle.grid_records_traits.specs.Rows.{text_at}
 use Rattle.papergrid_picture.specs.Blocks.{free_left}
 use Rattle.papergrid_picture.specs.Picture.{at}
-use Rattle.papergrid_cells.specs.Flat.{empty_from, joints_of, room_in, standing_of}
-use Rattle.papergrid_print.specs.FlatSheets.{first_placed, row_front}
+use Rattle.papergrid_cells.specs.Flat.{joints_of, room_in, standing_of}
+use Rattle.papergrid_print.specs.FlatSheets.{first_placed}
 use Rattle.papergrid_cells.specs.Painting.{fill_bytes}
 use Rattle.papergrid_print.specs.Sheets.{sheet_of}
-use Rattle.papergrid_cells.specs.declared.empty_row.Room.{Room}
-use Rattle.papergrid_cells.proofs.EmptyRowLemmas.{length-rooms, none-of, placed-plain, rest-inside, room-of, split-begin, split-behind, split-text, taken, text-inside, text-over}
+use Rattle.papergrid_cells.proofs.EmptyRowLemmas.{length-rooms, none-of, placed-plain, rest-inside, room-wide, split-begin, split-behind, split-text, taken, text-inside, text-over}
 use Rattle.papergrid_print.proofs.PlacedLemmas.{plain-placed, written-more}
 use Rattle.papergrid_print.proofs.table.Table.push_over.Goals as goal
 
@@ -22,130 +21,61 @@ index-requires g c =
 
 pub overflow_sub-start : goal.overflow_sub-start
 overflow_sub-start g c =
-    let widths = c.args.self.now.widths.now in
-    let rows = c.args.flat.now in
-    let j = c.loop-j.j in
-    let room = c.index.result.now in
-    let before = string_bytes c.args.out.now ++ row_front (sheet_of c.args.self.now.cfg.now (g.R.RecordTexts.rows c.args.self.now.records.now) (g.C.Colors.color c.args.self.now.colors.now) c.args.self.now.widths.now c.args.self.now.heights.now) c.args.i j in
-    let is : room ≡ record { width = room_in (joints_of rows) (get_or widths j 0); rest = length (empty_from (joints_of rows) (length widths) j (drop j widths)) } =
-    c.index.ensures ∙ (ap (λ rooms. get_or rooms j room) c.requires.empty.rooms ∙ room-of (joints_of rows) (length widths) j widths room c.loop-j-test.true) in
-    let wide : room.width ≡ room_in (joints_of rows) (get_or widths j 0) = ap (λ (r : Room). r.width) is in
-    let left : room.rest ≡ length (empty_from (joints_of rows) (length widths) j (drop j widths)) = ap (λ (r : Room). r.rest) is in
-    let counted : c.len.result ≡ length (string_bytes c.loop-j.out) = c.len.ensures ∙ c.loop-j.out.bytes.ok.0 in
-    rest-inside rows widths before j c.loop-j-test.true c.loop-j.invariant room wide left c.len.result counted
+    rest-inside c.args.flat.now _ _ _ c.loop-j-test.true c.loop-j.invariant _ c.requires.empty.rooms _ c.index.ensures _ (c.len.ensures ∙ c.loop-j.out.bytes.ok.0)
 
 pub truncate-requires : goal.truncate-requires
 truncate-requires g c =
-    let widths = c.args.self.now.widths.now in
-    let rows = c.args.flat.now in
-    let j = c.loop-j.j in
-    let room = c.index.result.now in
-    let before = string_bytes c.args.out.now ++ row_front (sheet_of c.args.self.now.cfg.now (g.R.RecordTexts.rows c.args.self.now.records.now) (g.C.Colors.color c.args.self.now.colors.now) c.args.self.now.widths.now c.args.self.now.heights.now) c.args.i j in
-    let is : room ≡ record { width = room_in (joints_of rows) (get_or widths j 0); rest = length (empty_from (joints_of rows) (length widths) j (drop j widths)) } =
-    c.index.ensures ∙ (ap (λ rooms. get_or rooms j room) c.requires.empty.rooms ∙ room-of (joints_of rows) (length widths) j widths room c.loop-j-test.true) in
-    let wide : room.width ≡ room_in (joints_of rows) (get_or widths j 0) = ap (λ (r : Room). r.width) is in
-    let left : room.rest ≡ length (empty_from (joints_of rows) (length widths) j (drop j widths)) = ap (λ (r : Room). r.rest) is in
-    let counted : c.len.result ≡ length (string_bytes c.loop-j.out) = c.len.ensures ∙ c.loop-j.out.bytes.ok.0 in
-    λ _. split-begin rows widths before j c.loop-j-test.true c.loop-j.invariant room wide left c.len.result counted
+    λ _. split-begin c.args.flat.now _ _ _ c.loop-j-test.true c.loop-j.invariant _ c.requires.empty.rooms _ c.index.ensures _ (c.len.ensures ∙ c.loop-j.out.bytes.ok.0)
 
 pub returns-then-is_some-clause-front : goal.returns-then-is_some-clause-front
 returns-then-is_some-clause-front g c =
-    let widths = c.args.self.now.widths.now in
-    let rows = c.args.flat.now in
-    let j = c.loop-j.j in
-    let room = c.index.result.now in
-    let before = string_bytes c.args.out.now ++ row_front (sheet_of c.args.self.now.cfg.now (g.R.RecordTexts.rows c.args.self.now.records.now) (g.C.Colors.color c.args.self.now.colors.now) c.args.self.now.widths.now c.args.self.now.heights.now) c.args.i j in
-    let is : room ≡ record { width = room_in (joints_of rows) (get_or widths j 0); rest = length (empty_from (joints_of rows) (length widths) j (drop j widths)) } =
-    c.index.ensures ∙ (ap (λ rooms. get_or rooms j room) c.requires.empty.rooms ∙ room-of (joints_of rows) (length widths) j widths room c.loop-j-test.true) in
-    let wide : room.width ≡ room_in (joints_of rows) (get_or widths j 0) = ap (λ (r : Room). r.width) is in
-    let left : room.rest ≡ length (empty_from (joints_of rows) (length widths) j (drop j widths)) = ap (λ (r : Room). r.rest) is in
-    let counted : c.len.result ≡ length (string_bytes c.loop-j.out) = c.len.ensures ∙ c.loop-j.out.bytes.ok.0 in
-    c.truncate.ensures.bytes ∙ taken rows widths before j c.loop-j-test.true c.loop-j.invariant room wide left c.len.result counted
+    c.truncate.ensures.bytes ∙ taken c.args.flat.now _ _ _ c.loop-j-test.true c.loop-j.invariant _ c.requires.empty.rooms _ c.index.ensures _ (c.len.ensures ∙ c.loop-j.out.bytes.ok.0)
 
 pub overflow_add-start : goal.overflow_add-start
 overflow_add-start g c =
-    let widths = c.args.self.now.widths.now in
-    let rows = c.args.flat.now in
-    let j = c.loop-j.j in
-    let room = c.index.result.now in
-    let before = string_bytes c.args.out.now ++ row_front (sheet_of c.args.self.now.cfg.now (g.R.RecordTexts.rows c.args.self.now.records.now) (g.C.Colors.color c.args.self.now.colors.now) c.args.self.now.widths.now c.args.self.now.heights.now) c.args.i j in
-    let is : room ≡ record { width = room_in (joints_of rows) (get_or widths j 0); rest = length (empty_from (joints_of rows) (length widths) j (drop j widths)) } =
-    c.index.ensures ∙ (ap (λ rooms. get_or rooms j room) c.requires.empty.rooms ∙ room-of (joints_of rows) (length widths) j widths room c.loop-j-test.true) in
-    let wide : room.width ≡ room_in (joints_of rows) (get_or widths j 0) = ap (λ (r : Room). r.width) is in
-    let left : room.rest ≡ length (empty_from (joints_of rows) (length widths) j (drop j widths)) = ap (λ (r : Room). r.rest) is in
-    let counted : c.len.result ≡ length (string_bytes c.loop-j.out) = c.len.ensures ∙ c.loop-j.out.bytes.ok.0 in
-    let fits : length c.cell-cell.result.text.now ≤ room.width = omega (arith, c.if-room-width.false) in
-    omega (arith, text-inside rows widths before j c.loop-j-test.true c.loop-j.invariant room wide left c.len.result counted (length c.cell-cell.result.text.now) fits c.indent-indent.result c.indent-indent.ensures, c.len.type_inv)
+    let fits : length c.cell-cell.result.text.now ≤ c.index.result.now.width = omega (arith, c.if-room-width.false) in
+    let inside = text-inside c.args.flat.now _ _ _ c.loop-j-test.true c.loop-j.invariant _ c.requires.empty.rooms _ c.index.ensures _ (c.len.ensures ∙ c.loop-j.out.bytes.ok.0)
+    _ fits _ c.indent-indent.ensures in
+    omega (arith, inside, c.len.type_inv)
 
 pub write_over-requires-clause-range : goal.write_over-requires-clause-range
 write_over-requires-clause-range g c =
-    let widths = c.args.self.now.widths.now in
-    let rows = c.args.flat.now in
-    let j = c.loop-j.j in
-    let room = c.index.result.now in
-    let before = string_bytes c.args.out.now ++ row_front (sheet_of c.args.self.now.cfg.now (g.R.RecordTexts.rows c.args.self.now.records.now) (g.C.Colors.color c.args.self.now.colors.now) c.args.self.now.widths.now c.args.self.now.heights.now) c.args.i j in
-    let is : room ≡ record { width = room_in (joints_of rows) (get_or widths j 0); rest = length (empty_from (joints_of rows) (length widths) j (drop j widths)) } =
-    c.index.ensures ∙ (ap (λ rooms. get_or rooms j room) c.requires.empty.rooms ∙ room-of (joints_of rows) (length widths) j widths room c.loop-j-test.true) in
-    let wide : room.width ≡ room_in (joints_of rows) (get_or widths j 0) = ap (λ (r : Room). r.width) is in
-    let left : room.rest ≡ length (empty_from (joints_of rows) (length widths) j (drop j widths)) = ap (λ (r : Room). r.rest) is in
-    let counted : c.len.result ≡ length (string_bytes c.loop-j.out) = c.len.ensures ∙ c.loop-j.out.bytes.ok.0 in
-    let fits : length c.cell-cell.result.text.now ≤ room.width = omega (arith, c.if-room-width.false) in
-    omega (arith, text-inside rows widths before j c.loop-j-test.true c.loop-j.invariant room wide left c.len.result counted (length c.cell-cell.result.text.now) fits c.indent-indent.result c.indent-indent.ensures, c.len.type_inv)
+    let fits : length c.cell-cell.result.text.now ≤ c.index.result.now.width = omega (arith, c.if-room-width.false) in
+    let inside = text-inside c.args.flat.now _ _ _ c.loop-j-test.true c.loop-j.invariant _ c.requires.empty.rooms _ c.index.ensures _ (c.len.ensures ∙ c.loop-j.out.bytes.ok.0)
+    _ fits _ c.indent-indent.ensures in
+    omega (arith, inside, c.len.type_inv)
 
 pub write_over-requires-clause-start : goal.write_over-requires-clause-start
 write_over-requires-clause-start g c =
-    let widths = c.args.self.now.widths.now in
-    let rows = c.args.flat.now in
-    let j = c.loop-j.j in
-    let room = c.index.result.now in
-    let before = string_bytes c.args.out.now ++ row_front (sheet_of c.args.self.now.cfg.now (g.R.RecordTexts.rows c.args.self.now.records.now) (g.C.Colors.color c.args.self.now.colors.now) c.args.self.now.widths.now c.args.self.now.heights.now) c.args.i j in
-    let is : room ≡ record { width = room_in (joints_of rows) (get_or widths j 0); rest = length (empty_from (joints_of rows) (length widths) j (drop j widths)) } =
-    c.index.ensures ∙ (ap (λ rooms. get_or rooms j room) c.requires.empty.rooms ∙ room-of (joints_of rows) (length widths) j widths room c.loop-j-test.true) in
-    let wide : room.width ≡ room_in (joints_of rows) (get_or widths j 0) = ap (λ (r : Room). r.width) is in
-    let left : room.rest ≡ length (empty_from (joints_of rows) (length widths) j (drop j widths)) = ap (λ (r : Room). r.rest) is in
-    let counted : c.len.result ≡ length (string_bytes c.loop-j.out) = c.len.ensures ∙ c.loop-j.out.bytes.ok.0 in
-    let fits : length c.cell-cell.result.text.now ≤ room.width = omega (arith, c.if-room-width.false) in
-    split-text rows widths before j c.loop-j-test.true c.loop-j.invariant room wide left c.len.result counted (length c.cell-cell.result.text.now) fits c.indent-indent.result c.indent-indent.ensures
+    let fits : length c.cell-cell.result.text.now ≤ c.index.result.now.width = omega (arith, c.if-room-width.false) in
+    split-text c.args.flat.now _ _ _ c.loop-j-test.true c.loop-j.invariant _ c.requires.empty.rooms _ c.index.ensures _ (c.len.ensures ∙ c.loop-j.out.bytes.ok.0)
+    _ fits _ c.indent-indent.ensures
 
 pub write_over-requires-clause-end : goal.write_over-requires-clause-end
 write_over-requires-clause-end g c =
-    let widths = c.args.self.now.widths.now in
-    let rows = c.args.flat.now in
-    let j = c.loop-j.j in
-    let room = c.index.result.now in
-    let before = string_bytes c.args.out.now ++ row_front (sheet_of c.args.self.now.cfg.now (g.R.RecordTexts.rows c.args.self.now.records.now) (g.C.Colors.color c.args.self.now.colors.now) c.args.self.now.widths.now c.args.self.now.heights.now) c.args.i j in
-    let is : room ≡ record { width = room_in (joints_of rows) (get_or widths j 0); rest = length (empty_from (joints_of rows) (length widths) j (drop j widths)) } =
-    c.index.ensures ∙ (ap (λ rooms. get_or rooms j room) c.requires.empty.rooms ∙ room-of (joints_of rows) (length widths) j widths room c.loop-j-test.true) in
-    let wide : room.width ≡ room_in (joints_of rows) (get_or widths j 0) = ap (λ (r : Room). r.width) is in
-    let left : room.rest ≡ length (empty_from (joints_of rows) (length widths) j (drop j widths)) = ap (λ (r : Room). r.rest) is in
-    let counted : c.len.result ≡ length (string_bytes c.loop-j.out) = c.len.ensures ∙ c.loop-j.out.bytes.ok.0 in
-    let fits : length c.cell-cell.result.text.now ≤ room.width = omega (arith, c.if-room-width.false) in
-    split-behind rows widths before j c.loop-j-test.true c.loop-j.invariant room wide left c.len.result counted (length c.cell-cell.result.text.now) fits c.indent-indent.result c.indent-indent.ensures
+    let fits : length c.cell-cell.result.text.now ≤ c.index.result.now.width = omega (arith, c.if-room-width.false) in
+    split-behind c.args.flat.now _ _ _ c.loop-j-test.true c.loop-j.invariant _ c.requires.empty.rooms _ c.index.ensures _ (c.len.ensures ∙ c.loop-j.out.bytes.ok.0)
+    _ fits _ c.indent-indent.ensures
 
 pub loop-j-preserved : goal.loop-j-preserved
 loop-j-preserved g c =
-    let widths = c.args.self.now.widths.now in
     let rows = c.args.flat.now in
+    let i = c.args.i in
     let j = c.loop-j.j in
     let room = c.index.result.now in
-    let before = string_bytes c.args.out.now ++ row_front (sheet_of c.args.self.now.cfg.now (g.R.RecordTexts.rows c.args.self.now.records.now) (g.C.Colors.color c.args.self.now.colors.now) c.args.self.now.widths.now c.args.self.now.heights.now) c.args.i j in
-    let is : room ≡ record { width = room_in (joints_of rows) (get_or widths j 0); rest = length (empty_from (joints_of rows) (length widths) j (drop j widths)) } =
-    c.index.ensures ∙ (ap (λ rooms. get_or rooms j room) c.requires.empty.rooms ∙ room-of (joints_of rows) (length widths) j widths room c.loop-j-test.true) in
-    let wide : room.width ≡ room_in (joints_of rows) (get_or widths j 0) = ap (λ (r : Room). r.width) is in
-    let left : room.rest ≡ length (empty_from (joints_of rows) (length widths) j (drop j widths)) = ap (λ (r : Room). r.rest) is in
-    let counted : c.len.result ≡ length (string_bytes c.loop-j.out) = c.len.ensures ∙ c.loop-j.out.bytes.ok.0 in
-    let fits : length c.cell-cell.result.text.now ≤ room.width = omega (arith, c.if-room-width.false) in
-    let sheet = (sheet_of c.args.self.now.cfg.now (g.R.RecordTexts.rows c.args.self.now.records.now) (g.C.Colors.color c.args.self.now.colors.now) c.args.self.now.widths.now c.args.self.now.heights.now) in
-    let i = c.args.i in
+    let sheet = sheet_of c.args.self.now.cfg.now (g.R.RecordTexts.rows c.args.self.now.records.now) (g.C.Colors.color c.args.self.now.colors.now) c.args.self.now.widths.now c.args.self.now.heights.now in
     let cell = c.cell-cell.result in
     let indent = c.indent-indent.result in
     let pos = at i j in
-    let own : cell.text.now ≡ text_at sheet.rows pos = c.cell-cell.ensures.text ∙ ap (λ texts. slice_index_or texts j []) c.requires.cells in
-    let none : c.get_color-color.result ≡ None = none-of c.get_color-color.result (sym c.is_some.ensures ∙ c.if-is_some.false) in
-    let shade : None ≡ sheet.colors pos = ap (option_map color_of) (sym none) ∙ (c.get_color-color.ensures ∙ ap sheet.colors c.new-pos.ensures) in
-    let column = get_or widths j 0 in
     let text = cell.text.now in
     let width = length text in
+    let column = get_or c.args.self.now.widths.now j 0 in
+    let counted : c.len.result ≡ length (string_bytes c.loop-j.out) = c.len.ensures ∙ c.loop-j.out.bytes.ok.0 in
+    let wide : room.width ≡ room_in (joints_of rows) column = room-wide rows _ _ _ c.loop-j-test.true c.loop-j.invariant _ c.requires.empty.rooms _ c.index.ensures _ counted in
+    let fits : width ≤ room.width = omega (arith, c.if-room-width.false) in
+    let own : text ≡ text_at sheet.rows pos = c.cell-cell.ensures.text ∙ ap (λ texts. slice_index_or texts j []) c.requires.cells in
+    let none : c.get_color-color.result ≡ None = none-of c.get_color-color.result (sym c.is_some.ensures ∙ c.if-is_some.false) in
+    let shade : None ≡ sheet.colors pos = ap (option_map color_of) (sym none) ∙ (c.get_color-color.ensures ∙ ap sheet.colors c.new-pos.ensures) in
     let takes : cell.width ≡ width = omega (arith, c.if-cell-width.false) in
     let has : HasWidth text width = subst (λ (n : ℕ). HasWidth text n) takes c.cell-cell.ensures.width in
     let shown : fill_bytes 0x20 indent ++ (text ++ fill_bytes 0x20 (room.width - indent - width)) ≡ first_placed sheet (standing_of rows) pos =
@@ -156,4 +86,4 @@ loop-j-preserved g c =
     written-more sheet c.requires.flat rows c.requires.made i j (string_bytes c.args.out.now)
     (fill_bytes 0x20 indent ++ (text ++ fill_bytes 0x20 (room.width - indent - width)))
     c.requires.row c.loop-j-test.true c.requires.high shown
-    (c.in_ok-write_over.ensures ∙ text-over rows widths before j c.loop-j-test.true c.loop-j.invariant room wide left c.len.result counted width fits indent c.indent-indent.ensures text)
+    (c.in_ok-write_over.ensures ∙ text-over rows _ _ _ c.loop-j-test.true c.loop-j.invariant _ c.requires.empty.rooms _ c.index.ensures _ counted width fits indent c.indent-indent.ensures text)

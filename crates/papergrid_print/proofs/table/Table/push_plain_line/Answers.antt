@@ -1,7 +1,7 @@
 use Rattle.std.proofs.Common.{◌≡◌, ◌++◌, [], length, string_bytes, ap, refl, sym, ◌∙◌, arith, append_assoc}
 use Rattle.std.specs.Prelude.{slice_index_or}
 use Rattle.std.specs.Option.{option_map}
-use Rattle.grid_config_colors.specs.Colors.{color_of}
+use Rattle.grid_config.specs.Colors.{color_of}
 use Rattle.grid_records_traits.specs.Rows.{text_at}
 use Rattle.papergrid_cells.specs.Flat.{behind_text, standing_of}
 use Rattle.papergrid_print.specs.FlatSheets.{first_placed}

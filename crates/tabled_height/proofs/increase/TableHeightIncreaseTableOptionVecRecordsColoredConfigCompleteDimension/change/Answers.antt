@@ -15,8 +15,8 @@ use Rattle.tabled_height.specs.Steps.{GrownRows, keeping_heights}
 use Rattle.tabled_height.proofs.increase.TableHeightIncreaseTableOptionVecRecordsColoredConfigCompleteDimension.change.Goals as goal
 use Rattle.tabled_height.proofs.increase.TableHeightIncreaseTableOptionVecRecordsColoredConfigCompleteDimension.change.Goals.{in-None, in-Some}
 
-pub returns-in_err-rows : goal.returns-in_err-rows
-returns-in_err-rows g c =
+pub returns-in_err-rows-clause-step : goal.returns-in_err-rows-clause-step
+returns-in_err-rows-clause-step g c =
     let p = err_from_is_err_and c.from_residual-in_err-rows.result c.from_residual-in_err-rows.ensures.1 in
     let rows = texts_of_rows g.T.Cell.text c.args.records.now.rows.items in
     let settings = c.args.cfg.now.settings in
@@ -32,8 +32,8 @@ returns-in_err-rows g c =
           (subst (λ (estimate : Result Estimate Fault). MayRefuse c.in_err-rows.field-0.0 (λ outcome. estimate ≡ outcome)) estimate c.in_err-rows.ensures),
     )
 
-pub returns : goal.returns
-returns g c =
+pub returns-clause-step : goal.returns-clause-step
+returns-clause-step g c =
     let rows = texts_of_rows g.T.Cell.text c.args.records.now.rows.items in
     let settings = c.args.cfg.now.settings in
     let columns : columns_of c.args.records.now.rows.items ≡ column_count rows = sym (count_texts g.T.Cell.text c.args.records.now.rows.items) in

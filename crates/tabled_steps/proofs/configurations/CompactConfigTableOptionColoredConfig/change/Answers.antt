@@ -6,7 +6,7 @@ use Rattle.grid_config.specs.Looks.{Look, look_of}
 use Rattle.tabled_steps.specs.States.{state_with}
 use Rattle.tabled_steps.proofs.configurations.CompactConfigTableOptionColoredConfig.change.Goals as goal
 
-pub returns : goal.returns
-returns g c =
-    ap (λ (look : Look). Ok (state_with (g.R.RecordTexts.rows c.args._records.now) look (value_at c.args.cfg.now.colors) (g.D.KeptSizes.sizes c.args._dims.now)))
+pub returns-clause-step : goal.returns-clause-step
+returns-clause-step g c =
+    ap (λ (look : Look). Ok (state_with (g.R.RecordTexts.rows c.args.records.now) look (value_at c.args.cfg.now.colors) (g.D.KeptSizes.sizes c.args.dims.now)))
     (sym (ap look_of c.replace.ensures.after ∙ same_look (compact_of c.args.self) c.in_ok-config.config c.in_ok-config.ensures.settings))

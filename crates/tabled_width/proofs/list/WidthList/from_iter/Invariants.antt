@@ -1,5 +1,6 @@
+-- The widths are the items that came so far.
 use Rattle.std.proofs.Common.{◌≡◌}
 use Rattle.tabled_width.proofs.list.WidthList.from_iter.Given as goal
 
-abbrev pub invariant-loop-item : goal.invariant-loop-item
-invariant-loop-item g l = l.list.items ≡ l.yielded
+abbrev pub invariant-loop-width : goal.invariant-loop-width
+invariant-loop-width g l = l.widths.items ≡ l.yielded

@@ -9,8 +9,8 @@ use Rattle.tabled_width_tables.specs.Tables.{NarrowsTable}
 use Rattle.tabled_width.proofs.Sparing.{narrows_table, spared}
 use Rattle.tabled_width.proofs.wrap.WrapTableOptionVecRecordsColoredConfigCompleteDimension.change.Goals as goal
 
-pub returns : goal.returns
-returns g c =
+pub returns-clause-step : goal.returns-clause-step
+returns-clause-step g c =
     let keep_words = c.args.self.keep_words in
     let colors = value_at c.args.cfg.now.colors in
     let measures = g.W.Measurement.measures c.args.self.width in
@@ -18,5 +18,5 @@ returns g c =
     let new = state_with (texts_of_rows g.T.Cell.text c.narrow_table.new.records.rows.items) (look_of c.args.cfg.now.settings) colors c.narrow_table.new.dims in
     let done = subst (λ (settings : Settings). Steps (NarrowsTable g.P.Peaker.shrinks c.args.self.priority (breaking_others keep_words) measures) c.narrow_table.result
     (state_with (texts_of_rows g.T.Cell.text c.args.records.now.rows.items) (look_of settings) colors c.args.dims.now)
-    (state_with (texts_of_rows g.T.Cell.text c.narrow_table.new.records.rows.items) (look_of settings) colors c.narrow_table.new.dims)) c.spanned.ensures (c.narrow_table.ensures colors) in
+    (state_with (texts_of_rows g.T.Cell.text c.narrow_table.new.records.rows.items) (look_of settings) colors c.narrow_table.new.dims)) c.spanned.ensures (c.narrow_table.ensures.step colors) in
     narrows_table g.P.Peaker.shrinks c.args.self.priority (breaking_others keep_words) (breaking keep_words) (spared keep_words) measures c.narrow_table.result old new done

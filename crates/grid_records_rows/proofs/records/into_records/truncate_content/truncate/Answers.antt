@@ -3,7 +3,7 @@ use Rattle.ansi_scan.proofs.Existence.{ArePiecesOf-pieces}
 use Rattle.std.specs.Cow.{cow_str_bytes}
 use Rattle.std.specs.String.{string_bytes}
 use Rattle.grid_records_measure.specs.TextLines.{text_width}
-use Rattle.grid_records_rows.specs.Laws.Truncating.{cut_is_left, is_wider, whole_text}
+use Rattle.grid_records_rows.specs.Laws.Truncating.{cut_is_left, fits_whole, is_wider, whole_text}
 use Rattle.grid_records_rows.proofs.records.into_records.truncate_content.truncate.Goals as goal
 
 pub returns-then-width-clause-ok : goal.returns-then-width-clause-ok
@@ -30,3 +30,21 @@ unfolding text_width
 returns-in_err-cut-clause-refused g c =
     let text = g.C.Cell.text c.args.cell in
     is_wider c.from_residual-in_err-cut.result c.args.width c.width.result text (c.width.ensures (pieces text) (ArePiecesOf-pieces text)) c.if-width.false
+
+pub returns-clause-whole : goal.returns-clause-whole
+unfolding text_width
+returns-clause-whole g c =
+    let text = g.C.Cell.text c.args.cell in
+    fits_whole g.C.Cell.text c.args.width c.width.result c.args.cell _ (c.width.ensures (pieces text) (ArePiecesOf-pieces text)) c.if-width.false
+
+pub returns-in_err-cut_width-clause-whole : goal.returns-in_err-cut_width-clause-whole
+unfolding text_width
+returns-in_err-cut_width-clause-whole g c =
+    let text = g.C.Cell.text c.args.cell in
+    fits_whole g.C.Cell.text c.args.width c.width.result c.args.cell _ (c.width.ensures (pieces text) (ArePiecesOf-pieces text)) c.if-width.false
+
+pub returns-in_err-cut-clause-whole : goal.returns-in_err-cut-clause-whole
+unfolding text_width
+returns-in_err-cut-clause-whole g c =
+    let text = g.C.Cell.text c.args.cell in
+    fits_whole g.C.Cell.text c.args.width c.width.result c.args.cell _ (c.width.ensures (pieces text) (ArePiecesOf-pieces text)) c.if-width.false

@@ -14,7 +14,7 @@ returns-in-Ok-answer-clause-steps g c =
       | in-Ok w ↦
           subst (λ v. IsTruncated text width given v) (sym w.answer-is)
           (subst (λ v. IsTruncated text width v w.truncate-answer.result) (sym w.in-Ok.is)
-          (is_left text width w.get_width.result w.in-Ok.cell w.truncate-answer.result w.get_width.ensures w.truncate-answer.ensures.ok w.truncate-answer.ensures.refused))
+          (is_left text width w.get_width.result w.in-Ok.cell w.truncate-answer.result w.get_width.ensures w.truncate-answer.ensures.ok w.truncate-answer.ensures.whole w.truncate-answer.ensures.refused))
       | in-Err w ↦
           subst (λ v. IsTruncated text width given v) (sym w.answer-is)
           (subst (λ v. IsTruncated text width v (Err w.in-Err.refusal)) (sym w.in-Err.is) tt)
@@ -40,7 +40,7 @@ returns-in-Err-answer-clause-steps g c =
       | in-Ok w ↦
           subst (λ v. IsTruncated text width given v) (sym w.answer-is)
           (subst (λ v. IsTruncated text width v w.truncate-answer.result) (sym w.in-Ok.is)
-          (is_left text width w.get_width.result w.in-Ok.cell w.truncate-answer.result w.get_width.ensures w.truncate-answer.ensures.ok w.truncate-answer.ensures.refused))
+          (is_left text width w.get_width.result w.in-Ok.cell w.truncate-answer.result w.get_width.ensures w.truncate-answer.ensures.ok w.truncate-answer.ensures.whole w.truncate-answer.ensures.refused))
       | in-Err w ↦
           subst (λ v. IsTruncated text width given v) (sym w.answer-is)
           (subst (λ v. IsTruncated text width v (Err w.in-Err.refusal)) (sym w.in-Err.is) tt)
