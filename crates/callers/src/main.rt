@@ -8,7 +8,7 @@ use grid_config::Fault;
 use std::io::Print;
 use std::process::ExitCode;
 
-/// Prints what each caller makes. Its status is 1 where an allocation fails.
+/// Prints what each caller makes. Its status is 1 where an allocation fails, or a table is refused.
 fn main(rt: HostRuntime) -> ExitCode {
     match print(&rt) {
         Ok(()) => ExitCode::SUCCESS,

@@ -84,9 +84,9 @@ pub fn breaks_are_chosen_on_characters()
 {}
 
 /// Styles change nothing of a table but styles. The characters of its picture are those of the picture of
-/// the characters alone; of texts without sequences its text is these characters. Without its sequences its
-/// text is that of the table of the stripped texts, which has a table where the others have one, with the
-/// same cell too wide.
+/// the characters alone. Where the glyphs and fills of the style begin no sequence and no colour is set, of
+/// texts without sequences its text is these characters, and without its sequences its text is that of the
+/// table of the stripped texts. These have a table where the others have one, with the same cell too wide.
 pub fn without_styles()
     ensures picture { (style : Compact) (asked : Asked) (rows : List (List (List Styled))) →
         map character_of (asked_picture style asked rows) ≡ map character_of (asked_picture style asked (map (map (map in_plain)) (characters_of rows))) }

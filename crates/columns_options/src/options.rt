@@ -15,7 +15,8 @@ pub struct Options {
     /// Whether what passes the width is cut off, and not broken over lines. Without a width it does
     /// nothing.
     pub truncate: bool,
-    /// Whether lines are broken between words where they can be. Without a width it does nothing.
+    /// Whether lines are broken between words where they can be. It does nothing without a width, nor where
+    /// cells are cut.
     pub keep_words: bool,
     /// Which columns give first where the table is made narrower. Without a width it does nothing.
     pub priority: Choice,

@@ -19,8 +19,8 @@ read_limit = 2 ^ 40
 abbrev pub HasTable : Options → List ℕ → Type 0
 HasTable options input = IsUtf8 input × IsWhole input × TableFits options input × (wide_cell options input ≡ None)
 
--- a run of an input may give up so. The cases exclude one another, but for the faults of reading, writing and memory, which
--- the counts of the reader and the writer tell
+-- a run of an input may give up so. The cases exclude one another, but for the faults of reading and writing, which the
+-- counts of the reader and the writer tell, and that of memory, which may come at any step
 abbrev pub MayRefuse : Options → List ℕ → RunFault → Type 0
 MayRefuse options input Read = ⊤
 MayRefuse options input ReadTooLong = read_limit ≤ length input

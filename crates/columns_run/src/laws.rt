@@ -92,7 +92,7 @@ pub fn places_match()
 
 /// Styles change no character of the picture, which is that of the characters alone. A text without its sequences has
 /// a table where the text has one, and it is, byte for byte, the output without its sequences; it is in range where the
-/// text is, and the same cell of it is too wide.
+/// text is, and the same cell of it is too wide. What is said of bytes (`plain`, `output`) is said of a plain style.
 pub fn without_styles()
     ensures picture { (options : Options) (characters : List Styled) →
         characters_of (picture options characters) ≡ characters_of (picture options (map in_plain (characters_of characters))) }

@@ -169,7 +169,8 @@ pub fn stripped_reading()
 
 /// Styles change no character of a picture, which is that of the characters alone; each line feed in it has
 /// the plain style, so that no style is open where a line ends. The text of a table of texts without
-/// sequences is the picture of their characters.
+/// sequences is the picture of their characters, where the table has no colours, its glyphs and fills begin
+/// no sequence, and no line is trimmed at its ends.
 pub fn character_reading()
     ensures characters { (look : Look) (rows : List (List (List Styled))) (widths heights : List ℕ) →
         map character_of (styled_picture look rows widths heights) ≡ character_picture look (characters_of rows) widths heights }

@@ -8,7 +8,8 @@ ghost use Rattle.tabled_text.specs.Fields.{saturated};
 use crate::table::Table;
 use tabled_text::Tabled;
 
-/// The number of the first row of each batch of rows. After the last it gives `None` forever.
+/// The number of the first row of each batch of rows, counted from `from`. After the last it gives `None`
+/// forever.
 #[derive(Clone, Copy, Debug, Default, PartialEq, Eq, PartialOrd, Ord, Hash)]
 pub struct LayoutIterator {
     next: usize,

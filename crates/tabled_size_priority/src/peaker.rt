@@ -7,7 +7,7 @@ ghost use Rattle.tabled_size_priority.specs.Shrinking.{StaysBetween, room_of};
 use tabled_size_levels::least_at;
 
 /// A priority of columns: it is asked for one column after another, from which a column of width is
-/// taken, or to which one is given. The five of this crate come to the same without being asked.
+/// taken, or to which one is given. The five of this crate come to the same, and are asked at most once.
 pub trait Peaker {
     /// Which columns it may name for these leasts and widths, and what it is then.
     ghost peaks: { Self → List ℕ → List ℕ → Option ℕ → Self → Type 0 };

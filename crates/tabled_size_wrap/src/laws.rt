@@ -21,8 +21,8 @@ ghost use Rattle.tabled_size_wrap.specs.declared.line_units.Unit.{Unit as OneUni
 
 use crate::line_units::Unit;
 
-/// The runs that units are broken into are one list, that of the function `runs_of`: there is such a list,
-/// and no other.
+/// The runs that units are broken into at a width of at least 1 are one list, that of the function
+/// `runs_of`: there is such a list, and no other.
 pub fn one_list_of_runs()
     ensures there { (width : ℕ) (units : List LineUnit) → 0 < width → AreRunsOf width units (runs_of width units) }
     ensures one { (width : ℕ) (units : List LineUnit) (runs others : List (List LineUnit)) →
@@ -51,8 +51,8 @@ pub fn the_cut_text()
         IsCutAt width pieces bytes → bytes ≡ cut_at width text }
 {}
 
-/// The runs that units are broken into are a breaking of them, and no breaking of the same units has fewer
-/// runs.
+/// The runs that units are broken into at a width of at least 1 are a breaking of them, and no breaking of
+/// the same units has fewer runs.
 pub fn fewest_runs()
     ensures joined { (width : ℕ) (units : List LineUnit) (runs : List (List LineUnit)) → 0 < width →
         AreRunsOf width units runs → IsBreaking width units runs }
@@ -66,9 +66,9 @@ pub fn units_make_up_the_line()
         flat_map (λ (unit : LineUnit). unit.text) (line_units width keep_words line) ≡ line }
 {}
 
-/// A whole text that is wrapped shows the lines of the text, each broken by itself: the characters of its
-/// runs in the styles that they have in the text, and U+FFFD in the plain style. Its lines are closed as
-/// they stand: no style is open at the end of one.
+/// A whole text that is wrapped at a width of at least 1 shows the lines of the text, each broken by
+/// itself: the characters of its runs in the styles that they have in the text, and U+FFFD in the plain
+/// style. Its lines are closed as they stand: no style is open at the end of one.
 pub fn wrapped_lines_show_their_runs()
     ensures shown { (width : ℕ) (keep_words : Bool) (text bytes : List ℕ) (pieces of_wrapped : List Piece) → 0 < width → IsUtf8 text →
         ArePiecesOf text pieces → NoneBroken pieces → IsWrapped width keep_words pieces bytes → ArePiecesOf bytes of_wrapped →
@@ -78,16 +78,17 @@ pub fn wrapped_lines_show_their_runs()
         AreLinesOf of_wrapped lines → All IsClosedLine lines × (join_with_byte line_feed lines ≡ bytes) }
 {}
 
-/// A whole text that is wrapped at a width that no character exceeds is the text with breaks put into
-/// its lines: without them it shows the same characters, all but the line feeds in the same styles.
+/// A whole text that is wrapped at a width of at least 1, which no character exceeds, is the text with
+/// breaks put into its lines: without them it shows the same characters, all but the line feeds in the same
+/// styles.
 pub fn wrapping_adds_breaks()
     ensures { (width : ℕ) (keep_words : Bool) (text bytes : List ℕ) (pieces of_wrapped : List Piece) → 0 < width → IsUtf8 text →
         ArePiecesOf text pieces → NoneBroken pieces → IsWrapped width keep_words pieces bytes → ArePiecesOf bytes of_wrapped →
         All (λ c. own_width c ≤ width) (chars (strip pieces)) → AddsBreaks (styled pieces) (styled of_wrapped) }
 {}
 
-/// A whole text of plain characters and line feeds that is wrapped at a width that no character exceeds
-/// has no line that measures more than the width.
+/// A whole text of plain characters and line feeds that is wrapped at a width of at least 1, which no
+/// character exceeds, has no line that measures more than the width.
 pub fn wrapped_lines_fit()
     ensures { (width : ℕ) (keep_words : Bool) (text bytes : List ℕ) (pieces of_wrapped : List Piece) → 0 < width → IsUtf8 text →
         ArePiecesOf text pieces → NoneBroken pieces → IsWrapped width keep_words pieces bytes → ArePiecesOf bytes of_wrapped →

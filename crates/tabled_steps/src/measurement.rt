@@ -12,8 +12,8 @@ use std::alloc::Global;
 #[derive(Clone, Copy, Debug)]
 pub struct Max;
 
-/// The least size that holds: of widths the greatest over the rows of a row's least, of heights the least
-/// over the rows of a row's greatest.
+/// Of widths the greatest over the rows of a row's least, of heights the least over the rows of a row's
+/// greatest.
 #[derive(Clone, Copy, Debug)]
 pub struct Min;
 

@@ -30,7 +30,7 @@ module _ (columns : ℕ) (rows : List (List (List ℕ))) where
   abbrev pub greatest_least_width : ℕ
   greatest_least_width = greatest (map (λ row. least (row_widths row)) (range_with_len 0 (length rows)))
 
--- this percentage of what the table takes in its least widths, rounded down
+-- this percentage of what the table takes in the least widths that hold its texts, whatever is kept, rounded down
 abbrev pub percent_of_width : ℕ → ℕ → List (List (List ℕ)) → Look → Result ℕ Fault
 percent_of_width percent columns rows look =
     all_sized (natural_widths look columns rows) ≫= λ widths. sized (table_width look widths) ≫= λ whole. sized (whole * percent) ≫= λ product. Ok (product / 100)

@@ -53,9 +53,9 @@ impl Measurement<Width> for Min {
     }
 }
 
-/// This percentage of what the table takes in its least widths, with boundaries and margins, rounded
-/// down. Refused as `Range` where one of these, or their product, passes `usize::MAX`, and as
-/// `Memory` where allocation fails.
+/// This percentage of what the table takes in the least widths that hold its texts, whatever is kept, with
+/// boundaries and margins, rounded down. Refused as `Range` where one of these, or their product, passes
+/// `usize::MAX`, and as `Memory` where allocation fails.
 impl Measurement<Width> for Percent {
     ghost measures = { λ percent columns rows look outcome. percent_of_width percent.0 columns rows look ≡ outcome };
 

@@ -1,4 +1,4 @@
-//! The line of a row of cells that are each one line without ESC.
+//! The line of a row of cells that are each one line, which is its whole text.
 ghost use Rattle.std.specs.Prelude.{◌≡◌, ◌++◌, ◌<◌, ◌≤◌, IfOk, OnOk, length, slice_index, string_bytes};
 ghost use Rattle.grid_config.specs.Looks.{look_of};
 ghost use Rattle.grid_records_traits.specs.PlainTexts.{plain_texts};
@@ -16,8 +16,8 @@ use papergrid_cells::{EmptyRow, FlatRows, write_over};
 use std::alloc::AllocError;
 
 impl<'a, R: PeekableRecords, C: Colors> Table<'a, R, C> {
-    /// Appends the line of row `i`, which has but one, by these cells of it, which are each one line without
-    /// ESC.
+    /// Appends the line of row `i`, which has but one, by these cells of it. Each is one line that is its
+    /// whole text: it has no ESC, or opens and ends its own styles.
     pub(super) fn push_plain_line(
         &self,
         out: &mut String,

@@ -34,6 +34,7 @@ fn spans_are_set_for_each_cell(rt: HostRuntime) {
     expect_spanned(&rt, a, Columns::first(), Span::column(2), Ok(()), WIDE);
     expect_spanned(&rt, a, Rows::first(), Span::row(2), Ok(()), HIGH);
     expect_spanned(&rt, a, Segment::all(), Span::row(1), Ok(()), WHOLE);
+    expect_spanned(&rt, a, Cell::new(5, 5), Span::row(2), Ok(()), WHOLE);
 }
 
 #[test]

@@ -72,7 +72,7 @@ impl<I: IntoRecords, D: Dimension + Copy> IntoRecords for TruncateContent<I, D> 
 pub enum Truncated<C> {
     /// The cell as it came.
     Whole(C),
-    /// The front of its text.
+    /// Its text, cut at the width.
     Cut(String),
 }
 
