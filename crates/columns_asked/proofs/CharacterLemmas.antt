@@ -1,7 +1,7 @@
 -- One resized cell in different items, and one table.
 use Rattle.std.proofs.Common.{◌≡◌, ◌==◌, ◌-◌, ◌+◌, ℕ, zero, suc, Bool, true, false, List, [], ◌∷◌, ◌++◌, map, length, take, drop, replicate, slice_range, nat_le, refl, ap, sym, ◌∙◌, if◌then◌else◌}
 use Rattle.std.specs.Prelude.{encode_utf8_all}
-use Rattle.std.specs.List.{flat_map, join_by, repeat, slice_split, sum_by}
+use Rattle.std.specs.List.{flat_map, join_by, repeat, sum_by}
 use Rattle.std.proofs.lemmas.List.{map-append}
 use Rattle.std.proofs.lemmas.Simd.{map-map}
 use Rattle.grid_config.specs.Compact.{Compact}

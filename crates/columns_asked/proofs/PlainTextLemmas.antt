@@ -1,5 +1,5 @@
 -- Texts without ESC: resized they have none either, and the text of their table is its characters.
-use Rattle.std.proofs.Common.{◌≡◌, ◌≢◌, ◌==◌, ◌-◌, ◌+◌, ◌||◌, ℕ, zero, suc, Bool, true, false, List, [], ◌∷◌, ◌++◌, length, map, take, drop, replicate, slice_range, nat_le, refl, ap, sym, subst, ◌∙◌, if◌then◌else◌}
+use Rattle.std.proofs.Common.{◌≡◌, ◌≢◌, ◌==◌, ◌-◌, ◌+◌, ◌||◌, ℕ, zero, suc, Bool, true, false, List, [], ◌∷◌, ◌++◌, length, map, drop, replicate, slice_range, nat_le, refl, ap, sym, subst, ◌∙◌, if◌then◌else◌}
 use Rattle.std.specs.Prelude.{chars, encode_utf8_all, nat_lt, None, ◌&&◌}
 use Rattle.std.specs.List.{AllByRecursion, flat_map, join_with_byte, repeat, sum_by}
 use Rattle.std.proofs.Math.Utf8.{encode}

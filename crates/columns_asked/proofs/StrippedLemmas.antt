@@ -5,7 +5,6 @@ use Rattle.std.specs.List.{AllByRecursion, find}
 use Rattle.std.proofs.lemmas.Simd.{map-map}
 use Rattle.std.proofs.lemmas.Str.{encodes-chars}
 use Rattle.ansi_scan.specs.Pieces.{pieces}
-use Rattle.ansi_str.specs.StyledText.{strip}
 use Rattle.ansi_scan.proofs.Existence.{ArePiecesOf-pieces}
 use Rattle.ansi_str.specs.StyledText.{has_escape}
 use Rattle.ansi_str_text.proofs.Stripping.{has_escape-strip}

@@ -1,13 +1,12 @@
 -- The text of a table in a width that is asked shows its picture.
 use Rattle.std.proofs.Common.{◌≡◌, ◌==◌, ℕ, ◌+◌, Bool, true, false, All, List, [], ◌∷◌, ◌++◌, map, refl, ap, sym, subst, ◌∙◌, lit<, if◌then◌else◌}
-use Rattle.std.specs.Prelude.{chars, encode_utf8_all, Option}
+use Rattle.std.specs.Prelude.{encode_utf8_all, Option}
 use Rattle.std.specs.List.{AllByRecursion}
 use Rattle.std.proofs.lemmas.List.Elements.{All-nil, All-push}
 use Rattle.std.proofs.lemmas.Simd.{map-map}
 use Rattle.std.proofs.lemmas.Str.{encode_ascii, encodes-chars}
 use Rattle.ansi_scan.specs.Attributes.{plain_attributes}
 use Rattle.ansi_scan.specs.Pieces.{pieces}
-use Rattle.ansi_scan.specs.Sequences.{ArePiecesOf}
 use Rattle.ansi_scan.proofs.Uniqueness.{pieces-ArePiecesOf}
 use Rattle.ansi_str.specs.StyledText.{IsClosed, strip, styled}
 use Rattle.ansi_str_text.proofs.Utf8Pieces.{IsUtf8-shown_text}

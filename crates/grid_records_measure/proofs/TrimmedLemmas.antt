@@ -1,5 +1,5 @@
 -- A text without the white space at both its ends, as a function of it.
-use Rattle.std.proofs.Common.{◌≡◌, ◌+◌, ◌-◌, ◌∙◌, ◌&&◌, ◌==◌, ℕ, true, false, List, [], ◌∷◌, ◌++◌, ap, arith, length, refl, sym}
+use Rattle.std.proofs.Common.{◌≡◌, ◌+◌, ◌∙◌, ◌&&◌, ◌==◌, ℕ, true, false, List, [], ◌∷◌, ◌++◌, ap, arith, length, refl, sym}
 use Rattle.std.proofs.Math.Utf8.{scalars}
 use Rattle.std.proofs.lemmas.Bool.{and_parts}
 use Rattle.std.proofs.lemmas.Bool.Decides.{nat_tests}

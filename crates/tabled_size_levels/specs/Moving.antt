@@ -1,5 +1,5 @@
 -- What a column gives or gets at a number, and what is moved of all columns in an order.
-use Rattle.std.specs.Prelude.{◌≡◌, ◌≤◌, ◌<◌, ℕ, ◌+◌, ◌-◌, ◌^◌, ◌==◌, nat_lt, List, [], length, map, min, sum, slice_index, EachIndex, Option, MatchOption, ◌⊎◌, if◌then◌else◌}
+use Rattle.std.specs.Prelude.{◌≡◌, ◌≤◌, ◌<◌, ℕ, ◌+◌, ◌-◌, ◌^◌, ◌==◌, nat_lt, List, [], length, map, min, sum, slice_index, EachIndex, Option, MatchOption, if◌then◌else◌}
 use Rattle.tabled_size_levels.specs.declared.rule.Rule.{Rule}
 use Rattle.tabled_size_levels.specs.declared.rule.Rule.TheVariants.{Turns, Widest, Narrowest, Raised, Shared}
 use Rattle.tabled_size_levels.specs.declared.order.Order.{Order}

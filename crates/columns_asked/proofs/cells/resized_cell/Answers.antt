@@ -1,5 +1,5 @@
 -- A text that fits stays where it is cut, and where it is broken and plainly stays.
-use Rattle.std.proofs.Common.{◌≡◌, ◌≤◌, ℕ, Bool, true, false, cond, nat_le, ap, sym, ◌∙◌, arith}
+use Rattle.std.proofs.Common.{◌≡◌, ◌≤◌, ℕ, Bool, true, cond, nat_le, ap, sym, ◌∙◌, arith}
 use Rattle.std.proofs.lemmas.Bool.Decides.{nat_tests}
 use Rattle.grid_records_measure.specs.TextLines.{text_width}
 use Rattle.tabled_size_wrap.proofs.Unbroken.{stays-is}

@@ -1,5 +1,5 @@
 -- Options that are equal by `==` have equal parts, and the other way round.
-use Rattle.std.proofs.Common.{◌≡◌, Bool, true, List, [], ◌∷◌}
+use Rattle.std.proofs.Common.{Bool, List, [], ◌∷◌}
 use Rattle.std.proofs.Math.Bool.{beq}
 use Rattle.std.proofs.lemmas.Bool.{eqb-true}
 use Rattle.std.specs.Option.{option_eq}

@@ -1,6 +1,6 @@
 use Rattle.std.proofs.Common.{◌≡◌, ◌<◌, ap, arith}
 use Rattle.grid_config_values.specs.Glyphs.{boundary_kind, has_row_boundary}
-use Rattle.papergrid_fits.proofs.Reach.{reach, reach-more, total-passes, total-ends}
+use Rattle.papergrid_fits.proofs.Reach.{reach-more, total-passes, total-ends}
 use Rattle.papergrid_fits.proofs.totals.total_height.Goals as goal
 
 pub loop-row-init : goal.loop-row-init

@@ -1,4 +1,4 @@
-use Rattle.std.proofs.Common.{arith, length, map, string_bytes, sym, ◌∙◌}
+use Rattle.std.proofs.Common.{arith, map, string_bytes, sym, ◌∙◌}
 use Rattle.std.proofs.lemmas.List.{length-map}
 use Rattle.tabled.proofs.Naming.{named_pushed}
 use Rattle.tabled.proofs.makers.named.push_named.Goals as goal
