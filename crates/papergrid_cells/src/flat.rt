@@ -1,6 +1,6 @@
 //! Rows of one line, where all cells of a table have the same settings: what stands between their texts
 //! is made once.
-ghost use Rattle.std.specs.Prelude.{◌≡◌, ⊤, ◌<◌, ◌++◌, ℕ, IfOk, IsTrue, MatchOption, None, OnOk, length, string_bytes};
+ghost use Rattle.std.specs.Prelude.{◌≡◌, ⊤, ◌<◌, ◌++◌, ℕ, IfOk, IsSome, IsTrue, MatchOption, None, OnOk, length, string_bytes};
 ghost use Rattle.std.specs.Option.{option_map};
 ghost use Rattle.grid_config.specs.Looks.{Look, look_of};
 ghost use Rattle.grid_config.specs.Colors.{color_of};
@@ -90,6 +90,7 @@ impl<'a> FlatRows<'a> {
     pub fn with_empty_row(self, alloc: Global, widths: &[usize]) -> Result<FlatRows<'a>, AllocError>
         ensures rows { IfOk result (λ rows. (look : Look) (columns : ℕ) → AreFlatRows look columns self.entry → AreFlatRows look columns rows) }
         ensures empty { IfOk result (λ rows. HasEmptyRow widths.now rows) }
+        ensures made { IfOk result (λ rows. self.entry.fill ≡ 0x20 → self.entry.fill_color ≡ None → IsSome rows.empty) }
     {
         let mut rows = self;
         rows.empty = rows.empty_row(alloc, widths)?;
@@ -98,7 +99,8 @@ impl<'a> FlatRows<'a> {
 
     // The line of a row of empty cells.
     fn empty_row(&self, alloc: Global, widths: &[usize]) -> Result<Option<EmptyRow>, AllocError>
-        ensures { IfOk result (λ made. MatchOption made ⊤ (IsEmptyRow self.now widths.now)) }
+        ensures row { IfOk result (λ row. MatchOption row ⊤ (IsEmptyRow self.now widths.now)) }
+        ensures made { IfOk result (λ row. self.now.fill ≡ 0x20 → self.now.fill_color ≡ None → IsSome row) }
     {
         if self.fill != ' ' || self.fill_color.is_some() {
             return Ok(None);
