@@ -1,7 +1,11 @@
 -- A source whose first rows are kept.
 use Rattle.std.specs.Prelude.{◌≡◌, MatchOption, None, Option, Some}
+use Rattle.std.specs.Global.{Global, Vec}
+use Rattle.std.specs.declared.vec.IntoIter.{IntoIter}
 use Rattle.either.specs.Either.{MatchEither}
 use Rattle.either.specs.declared.Either.{Either}
+use Rattle.grid_records_traits.specs.declared.records.into_records.given.GivenRows.{GivenRows}
+use Rattle.grid_records_rows.specs.declared.records.into_records.buf_records.BufferedRows.{BufferedRows}
 
 -- what is said of the rest of the source, and what where none is left
 abbrev pub of_rest : {S B : Type 0} → (S → B) → B → Option S → B
@@ -23,3 +27,8 @@ GivesBuffered {R = R} kept_steps rest_steps before found after =
     MatchEither cells
     (λ row. kept_steps before.kept (Some row) after.kept × (after.rest ≡ before.rest))
     (λ row. kept_steps before.kept None after.kept × ((it : R) × (then : R) × (before.rest ≡ Some it) × (after.rest ≡ Some then) × rest_steps it (Some row) then)))
+
+-- the same of rows that are left of a source whose first rows are kept
+abbrev pub GivesKeptFirst : {C R Kept Rest : Type 0} → (GivenRows (IntoIter (Vec C) Global) → Option Kept → GivenRows (IntoIter (Vec C) Global) → Type 0) → (R → Option Rest → R → Type 0) → BufferedRows C R → Option (Either Kept Rest) → BufferedRows C R → Type 0
+GivesKeptFirst kept_steps rest_steps before found after =
+    GivesBuffered kept_steps rest_steps (record { kept = before.kept; rest = before.rest }) found (record { kept = after.kept; rest = after.rest })

@@ -7,22 +7,42 @@ ghost use Rattle.ansi_scan.specs.Pieces.{pieces};
 ghost use Rattle.grid_records_measure.specs.Cutting.{IsCutAt};
 ghost use Rattle.grid_records_measure.specs.CutTexts.{cut_at};
 ghost use Rattle.grid_records_traits.specs.Rows.{row_at};
-ghost use Rattle.grid_records_rows.specs.Truncating.{GivesTruncated};
+ghost use Rattle.std.specs.declared.iter.Take.{Take as FirstOf};
+ghost use Rattle.std.specs.declared.vec.IntoIter.{IntoIter as CellsIn};
+ghost use Rattle.std.specs.Global.{Global as Heap};
+ghost use Rattle.either.specs.declared.Either.{Either as KeptOrRest};
+ghost use Rattle.grid_records_traits.specs.declared.records.into_records.given.GivenCells.{GivenCells as CellsKept};
+ghost use Rattle.grid_records_rows.specs.Buffering.{GivesKeptFirst};
+ghost use Rattle.grid_records_rows.specs.Fitting.{FitsCell, GivesFitted};
+ghost use Rattle.grid_records_rows.specs.Sources.{GivesTaken};
+ghost use Rattle.grid_records_rows.specs.Truncating.{GivesTruncated, GivesTruncatedRow};
+ghost use Rattle.grid_records_rows.specs.declared.records.empty.EmptyCells.{EmptyCells as BlankCells};
 ghost use Rattle.grid_records_rows.specs.declared.records.empty.EmptyRecords.{EmptyRecords as Blank};
 ghost use Rattle.grid_records_rows.specs.declared.records.empty.EmptyRows.{EmptyRows as BlankRows};
 ghost use Rattle.grid_records_rows.specs.declared.records.into_records.truncate_content.Truncated.{Truncated as CutCell};
 ghost use Rattle.grid_records_rows.specs.declared.records.into_records.truncate_content.TruncatedCells.{TruncatedCells as CutCells};
+ghost use Rattle.grid_records_rows.specs.declared.records.into_records.truncate_content.TruncatedRows.{TruncatedRows as CutRows};
+ghost use Rattle.grid_records_rows.specs.declared.records.into_records.buf_records.BufferedRows.{BufferedRows as RowsBuffered};
+ghost use Rattle.grid_records_rows.specs.declared.records.into_records.fitted.FittedCells.{FittedCells as CellsInFit};
+ghost use Rattle.grid_records_rows.specs.declared.records.into_records.fitted.FittedRows.{FittedRows as RowsInFit};
+ghost use Rattle.grid_records_rows.specs.declared.records.into_records.limit_columns.LimitedRows.{LimitedRows as RowsInLimit};
+ghost use Rattle.grid_records_rows.specs.declared.records.peeked_records.PeekedCells.{PeekedCells as CellsByPlace};
+ghost use Rattle.grid_records_rows.specs.declared.records.peeked_records.PeekedRows.{PeekedRows as RowsByPlace};
 ghost use Rattle.grid_records_rows.specs.declared.records.iter_records.IterRecords.{IterRecords as Sequence};
 ghost use Rattle.grid_records_rows.specs.declared.records.vec_records.VecRecords.{VecRecords as Vectors};
 
 use crate::dimension::Dimension;
-use crate::records::empty::{EmptyRecords, EmptyRows};
-use crate::records::into_records::IntoRecords;
-use crate::records::into_records::truncate_content::TruncatedCells;
+use crate::records::empty::{EmptyCells, EmptyRecords, EmptyRows};
+use crate::records::into_records::buf_records::BufferedRows;
+use crate::records::into_records::fitted::{FittedCells, FittedRows};
+use crate::records::into_records::truncate_content::{TruncatedCells, TruncatedRows};
+use crate::records::into_records::{GivenRows, IntoRecords, LimitedRows};
 use crate::records::iter_records::IterRecords;
+use crate::records::peeked_records::{PeekedCells, PeekedRecords, PeekedRows};
 use crate::records::vec_records::{Cell, Text, VecRecords};
-use crate::records::{RecordColumns, RecordTexts, Records};
+use crate::records::{ExactRecords, PeekableRecords, RecordColumns, RecordTexts, Records};
 use std::alloc::AllocError;
+use std::vec;
 
 /// What is left of a text that is wider than its column is its cut at the column's width, as `cut_width`
 /// gives it: it is one, and there is no other.
@@ -56,6 +76,12 @@ pub fn empty_rows_end_for_good()
     ensures left { (rows : BlankRows) → ⟦<EmptyRows as Iterator>⟧.remaining rows ≡ at_most (length (⟦<EmptyRecords as IntoRecords>⟧.rows_left rows)) }
 {}
 
+/// An iterator over the empty texts of a row has as many left as the row has columns, and after its end none.
+pub fn empty_texts_end_for_good()
+    ensures row { (before after : BlankRows) (texts : BlankCells) → ⟦<EmptyRows as Iterator>⟧.next_gives before (Some texts) after → ⟦<EmptyCells as Iterator>⟧.remaining texts ≡ at_most (length (row_at (⟦<EmptyRecords as IntoRecords>⟧.rows_left before) 0)) }
+    ensures end { (before after : BlankCells) → ⟦<EmptyCells as Iterator>⟧.next_gives before None after → ⟦<EmptyCells as Iterator>⟧.remaining after ≡ at_most 0 }
+{}
+
 /// A call gives what is left of the next cell of a row at its width, and refuses none that fits.
 pub fn cut_cells_come_in_their_order<
     C: Cell,
@@ -63,6 +89,44 @@ pub fn cut_cells_come_in_their_order<
     I: Iterator<Item = Result<C, AllocError>>,
 >()
     ensures { (before after : CutCells I D) (given : Option (Result (CutCell C) Refused)) → ⟦<TruncatedCells<I, D> as Iterator>⟧.next_gives before given after → GivesTruncated I.next_gives C.text D.width before given after }
+{}
+
+/// A call gives the next row of those that are cut, from its first column on; at the end it stays where the rows do.
+pub fn cut_rows_come_in_their_order<C: Cell, D: Dimension + Copy, I: Iterator>()
+where
+    I::Item: Iterator<Item = Result<C, AllocError>>,
+    ensures { (before after : CutRows I D) (given : Option (CutCells I.Item D)) → ⟦<TruncatedRows<I, D> as Iterator>⟧.next_gives before given after → GivesTruncatedRow I.next_gives before given after }
+{}
+
+/// A call gives the next row, of which as many cells are wanted as of any; at the end it stays where the rows do.
+pub fn fitted_rows_come_in_their_order<C, I: Iterator>()
+where
+    I::Item: Iterator<Item = Result<C, AllocError>>,
+    ensures { (before after : RowsInFit I) (given : Option (CellsInFit I.Item)) → ⟦<FittedRows<I> as Iterator>⟧.next_gives before given after → GivesFitted I.next_gives before given after }
+{}
+
+/// A call gives the next cell of a row, or none where it lacks one, as long as one is wanted; then it stays where it is.
+pub fn fitted_cells_come_in_their_order<C, I: Iterator<Item = Result<C, AllocError>>>()
+    ensures { (before after : CellsInFit I) (given : Option (Result (Option C) Refused)) → ⟦<FittedCells<I> as Iterator>⟧.next_gives before given after → FitsCell I.next_gives before given after }
+{}
+
+/// A call gives the first cells of the next row; at the end it stays where the rows do.
+pub fn first_cells_come_in_their_order<I: Iterator>()
+where
+    I::Item: Iterator,
+    ensures { (before after : RowsInLimit I) (given : Option (FirstOf I.Item)) → ⟦<LimitedRows<I> as Iterator>⟧.next_gives before given after → GivesTaken I.next_gives before given after }
+{}
+
+/// A call gives the next of the rows that are kept, and after the last of them the next of the rest; at the end it stays
+/// where both do.
+pub fn kept_rows_come_first<C: Drop, I: Iterator>()
+    ensures { (before after : RowsBuffered C I) (given : Option (KeptOrRest (CellsKept (CellsIn C Heap)) I.Item)) → ⟦<BufferedRows<C, I> as Iterator>⟧.next_gives before given after → GivesKeptFirst ⟦<GivenRows<vec::IntoIter<Vec<C>>> as Iterator>⟧.next_gives I.next_gives before given after }
+{}
+
+/// After its end an iterator over rows that are looked up has none left, nor has one over the cells of such a row.
+pub fn peeked_rows_end_for_good<'a, R: ExactRecords + PeekableRecords + 'a>()
+    ensures rows { (before after : RowsByPlace R) → ⟦<PeekedRows<'a, R> as Iterator>⟧.next_gives before None after → ⟦<PeekedRecords<'a, R> as IntoRecords>⟧.rows_left after ≡ [] }
+    ensures cells { (before after : CellsByPlace R) → ⟦<PeekedCells<'a, R> as Iterator>⟧.next_gives before None after → ⟦<PeekedCells<'a, R> as Iterator>⟧.remaining after ≡ at_most 0 }
 {}
 
 /// A reference to rows gives the hint of the rows that it refers to.

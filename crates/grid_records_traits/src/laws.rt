@@ -1,14 +1,19 @@
 //! Laws of the definitions that the other contracts cite.
 ghost use Rattle.std.specs.Borrow.{Bor};
-ghost use Rattle.std.specs.Prelude.{◌≡◌, ℕ, List, None, Some, String as Bytes, [], false, length, map, string_bytes};
+ghost use Rattle.std.specs.Prelude.{◌≡◌, ℕ, List, None, Option, Result, Some, String as Bytes, [], false, length, map, string_bytes};
 ghost use Rattle.std.specs.Global.{Vec as VecOf};
 ghost use Rattle.std.proofs.Common.{Global as Heap};
 ghost use Rattle.ansi_scan.specs.Pieces.{pieces as pieces_of};
 ghost use Rattle.grid_records_measure.specs.TextLines.{line_measure, shown_lines, text_height, text_lines, text_width};
+ghost use Rattle.std.specs.declared.alloc.AllocError.{AllocError as Refused};
+ghost use Rattle.grid_records_traits.specs.Giving.{AnswersCell, GivesCellsOf};
 ghost use Rattle.grid_records_traits.specs.Sources.{texts_of_rows};
+ghost use Rattle.grid_records_traits.specs.declared.records.into_records.given.GivenCells.{GivenCells as CellsGiven};
+ghost use Rattle.grid_records_traits.specs.declared.records.into_records.given.GivenRows.{GivenRows as RowsGiven};
 ghost use Rattle.grid_records_traits.specs.Cells.{HasLineCount, HasLineWidth, HasWidth, IsLineAt, line_at};
 
 use crate::dimension::Dimension;
+use crate::records::into_records::{GivenCells, GivenRows};
 use crate::records::{Cell, RecordColumns, RecordTexts};
 
 /// A reference has the rows of the source that it refers to, and may refuse a cell where that may.
@@ -65,4 +70,17 @@ pub fn sources_have_their_rows<'a, T: Cell + 'a, const C: usize, const R: usize>
     ensures slice_comes { (rows : Bor (List (VecOf T))) → ⟦<&'a [Vec<T>] as RecordTexts>⟧.may_refuse rows ≡ false }
     ensures vector_comes { (rows : VecOf (VecOf T)) → ⟦<Vec<Vec<T>> as RecordTexts>⟧.may_refuse rows ≡ false }
     ensures array_comes { (rows : List (List T)) → ⟦<[[T; C]; R] as RecordTexts>⟧.may_refuse rows ≡ false }
+{}
+
+/// Rows that came from an iterator over them come in its order, each as an iterator over its cells; at the end they
+/// stay where it does.
+pub fn given_rows_come_in_their_order<I: Iterator>()
+where
+    I::Item: IntoIterator,
+    ensures { (before after : RowsGiven I) (given : Option (CellsGiven I.Item.IntoIter)) → ⟦<GivenRows<I> as Iterator>⟧.next_gives before given after → GivesCellsOf I.next_gives I.Item.into_iter_gives before.0 given (λ cells. cells.0) after.0 }
+{}
+
+/// Cells that came from an iterator over them come in its order, none refused; at the end they stay where it does.
+pub fn given_cells_come_in_their_order<I: Iterator>()
+    ensures { (before after : CellsGiven I) (given : Option (Result I.Item Refused)) → ⟦<GivenCells<I> as Iterator>⟧.next_gives before given after → AnswersCell I.next_gives before.0 given after.0 }
 {}
