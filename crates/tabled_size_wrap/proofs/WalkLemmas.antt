@@ -1,11 +1,11 @@
 -- A walk through the units of a line that writes its lines.
 use Rattle.std.proofs.Common.{if◌then◌else◌, ◌≡◌, ◌≤◌, ◌<◌, ℕ, ◌+◌, ◌-◌, Bool, true, false, cond, nat_le, nat_lt, List, [], ◌∷◌, ◌++◌, length, refl, ap, sym, subst, ◌∙◌, arith, append_assoc, length-append}
-use Rattle.std.specs.Prelude.{chars, encode_utf8, encode_utf8_all}
+use Rattle.std.specs.Prelude.{chars, encode_utf8_all}
 use Rattle.std.specs.Str.{IsUtf8, IsCharBoundary}
 use Rattle.std.proofs.Math.Utf8.{scalars}
 use Rattle.std.specs.List.{join_with_byte, repeat}
 use Rattle.std.proofs.lemmas.Bool.Decides.{nat_tests}
-use Rattle.std.proofs.lemmas.Str.{encodes-append, encodes-chars, length-le-encodes, scalars-chars, encode_ascii, IsCharBoundary-at_seam}
+use Rattle.std.proofs.lemmas.Str.{encodes-append, encodes-chars, length-le-encodes, scalars-chars, IsCharBoundary-at_seam}
 use Rattle.ansi_scan.specs.Sequences.{Piece}
 use Rattle.ansi_scan.specs.Pieces.{pieces}
 use Rattle.ansi_scan.specs.Attributes.{Attributes}
@@ -18,6 +18,8 @@ use Rattle.tabled_size_wrap.specs.Units.{LineUnit, line_units, unit_len, placed}
 use Rattle.tabled_size_wrap.specs.Wrapping.{line_part, replacement_bytes, shown_lines}
 use Rattle.tabled_size_wrap.specs.Runs.{has_room, runs_of, broken_lines}
 use Rattle.tabled_size_wrap.specs.Standing.{StandsAt}
+use Rattle.tabled_size_wrap.specs.Room.{MakesRoom, room}
+use Rattle.tabled_size_wrap.specs.declared.broken_lines.Run.{Run}
 use Rattle.tabled_size_wrap.proofs.UnitLemmas.{texts, AllSome, texts-units, some-units}
 use Rattle.tabled_size_wrap.proofs.RunLemmas.{left_bytes, put, lines-all}
 use Rattle.tabled_size_wrap.proofs.StandingLemmas.{stands-good}
@@ -280,9 +282,6 @@ module _ (line : List Piece) (width : ℕ) (all out rest : List ℕ) (style : At
 
 -- ---- a line that has room for the unit that comes next
 
-abbrev pub room : ℕ → ℕ → ℕ → Bool
-room width used cost = if nat_le cost width then nat_le (used + cost) width else nat_lt used width
-
 pub room-start : (width cost : ℕ) → 0 < width → room width 0 cost ≡ true
 room-start width cost some = by (nat_le cost width) refl
   where
@@ -290,34 +289,24 @@ room-start width cost some = by (nat_le cost width) refl
     by true e = ap (λ t. cond t (nat_le (0 + cost) width) (nat_lt 0 width)) e ∙ grind (arith, nat_tests)
     by false e = ap (λ t. cond t (nat_le (0 + cost) width) (nat_lt 0 width)) e ∙ grind (arith, nat_tests)
 
-pub record Roomy (line : List Piece) (width : ℕ) (all out rest : List ℕ) (style : Attributes) (kept used : ℕ) (units : List Unit) (cost : ℕ) : Type 0 where
-  pub walked : Walked line width all out rest style kept used units
-  pub has_room : room width used cost ≡ true
+pub record Roomy (line : List Piece) (width : ℕ) (all out : List ℕ) (run : Run) (units : List Unit) (cost : ℕ) : Type 0 where
+  pub walked : Walked line width all out run.place.rest.now run.place.style run.kept run.used units
+  pub has_room : room width run.used cost ≡ true
 
-pub Roomy-same : (line : List Piece) (width : ℕ) (all out rest : List ℕ) (style : Attributes) (kept used : ℕ) (units : List Unit) (cost : ℕ) (out' rest' : List ℕ) (style' : Attributes) (kept' used' : ℕ)
-    → out' ≡ out → rest' ≡ rest → style' ≡ style → kept' ≡ kept → used' ≡ used → Roomy line width all out rest style kept used units cost → Roomy line width all out' rest' style' kept' used' units cost
-Roomy-same line width all out rest style kept used units cost out' rest' style' kept' used' a b c d e is =
-    subst (λ o. Roomy line width all o rest' style' kept' used' units cost) (sym a)
-    (subst (λ r. Roomy line width all out r style' kept' used' units cost) (sym b)
-    (subst (λ s. Roomy line width all out rest s kept' used' units cost) (sym c)
-    (subst (λ k. Roomy line width all out rest style k used' units cost) (sym d)
-    (subst (λ u. Roomy line width all out rest style kept u units cost) (sym e) is))))
-
-module _ (line : List Piece) (width : ℕ) (all out rest : List ℕ) (style : Attributes) (kept used : ℕ) (units : List Unit) (walked : Walked line width all out rest style kept used units)
-    (unit : Unit) (others : List Unit) (step : units ≡ unit ∷ others) (answer : Bool) (is : answer ≡ room width used unit.cost)
-    (out' rest' : List ℕ) (style' : Attributes) (kept' used' : ℕ) where
-  -- it had room before
-  pub Roomy-before : answer ≡ true → out' ≡ out → rest' ≡ rest → style' ≡ style → kept' ≡ kept → used' ≡ used → Roomy line width all out' rest' style' kept' used' units unit.cost
-  Roomy-before same a b c d e =
-      Roomy-same line width all out rest style kept used units unit.cost out' rest' style' kept' used' a b c d e (record { walked = walked; has_room = sym is ∙ same })
-
-  -- a new line was begun
-  pub Roomy-behind : answer ≡ false → 0 < width → 0 < length (strip line) → (middle end : List ℕ) (end_style : Attributes)
-      → ((l : List Piece) (at : ℕ) → StandsAt l at rest style → 0 < length (strip l) → middle ≡ out ++ line_part l at (at + kept))
-      → ((l : List Piece) (at : ℕ) → StandsAt l at rest style → StandsAt l (at + kept) end end_style)
-      → out' ≡ middle ++ encode_utf8 line_feed → rest' ≡ end → style' ≡ end_style → kept' ≡ 0 → used' ≡ 0 → Roomy line width all out' rest' style' kept' used' units unit.cost
-  Roomy-behind full some shown middle end end_style pushes stands a b c d e =
-      let low : line_feed < 128 = omega arith in
-      let written : out' ≡ (out ++ line_part line walked.at (walked.at + kept)) ++ line_feed ∷ [] = a ∙ ap (λ bytes. middle ++ bytes) (encode_ascii line_feed low) ∙ ap (λ bytes. bytes ++ line_feed ∷ []) (pushes line walked.at walked.stands shown) in
-      let ended = line-ends line width all out rest style kept used units walked unit others step some (sym is ∙ full) end end_style (stands line walked.at walked.stands) out' written in
-      Roomy-same line width all out' end end_style 0 0 units unit.cost out' rest' style' kept' used' refl b c d e (record { walked = ended; has_room = room-start width unit.cost some })
+-- room was made for it
+pub Roomy-made : (line : List Piece) (width : ℕ) (all out : List ℕ) (before after : Run) (units : List Unit) → Walked line width all out before.place.rest.now before.place.style before.kept before.used units
+    → (unit : Unit) (others : List Unit) → units ≡ unit ∷ others → 0 < width → 0 < length (strip line) → (new : List ℕ) → MakesRoom width unit.cost before after out new → Roomy line width all new after units unit.cost
+Roomy-made line width all out before after units walked unit others step some shown new made = by (room width before.used unit.cost) refl
+  where
+    by : (answer : Bool) → room width before.used unit.cost ≡ answer → Roomy line width all new after units unit.cost
+    by true has =
+        let same : Roomy line width all out before units unit.cost = record { walked = walked; has_room = has } in
+        subst (λ bytes. Roomy line width all bytes after units unit.cost) (sym (made.silent has)) (subst (λ run. Roomy line width all out run units unit.cost) (sym (made.stays has)) same)
+    by false full =
+        let ended = line-ends line width all out before.place.rest.now before.place.style before.kept before.used units walked unit others step some full after.place.rest.now after.place.style
+        (made.stands full line walked.at walked.stands) new (made.pushes full line walked.at walked.stands shown) in
+        record {
+          walked = subst (λ n. Walked line width all new after.place.rest.now after.place.style n after.used units) (sym (made.kept full))
+              (subst (λ n. Walked line width all new after.place.rest.now after.place.style 0 n units) (sym (made.used full)) ended);
+          has_room = ap (λ n. room width n unit.cost) (made.used full) ∙ room-start width unit.cost some;
+        }

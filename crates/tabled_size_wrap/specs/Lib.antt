@@ -4,6 +4,7 @@ pub mod Breaking
 pub mod Wrapping
 pub mod Runs
 pub mod Standing
+pub mod Room
 pub mod Showing
 pub mod Worked
 pub mod Bytes

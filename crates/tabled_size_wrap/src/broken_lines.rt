@@ -1,5 +1,5 @@
 //! A line that is broken, part by part.
-ghost use Rattle.std.specs.Prelude.{◌≡◌, ◌<◌, ◌≤◌, ◌+◌, ◌++◌, ℕ, List, [], OnOk, length, nat_le, nat_lt, false, if◌then◌else◌, string_bytes};
+ghost use Rattle.std.specs.Prelude.{◌≡◌, ◌<◌, ◌≤◌, ◌+◌, ◌++◌, ℕ, List, [], OnOk, length, false, string_bytes};
 ghost use Rattle.std.specs.List.{join_with_byte, repeat};
 ghost use Rattle.std.specs.Str.{IsAscii, IsCharBoundary};
 ghost use Rattle.ansi_scan.specs.Sequences.{Piece};
@@ -11,6 +11,7 @@ ghost use Rattle.grid_records_measure.specs.TextLines.{line_feed};
 ghost use Rattle.tabled_size_wrap.specs.Wrapping.{line_part, replacement_bytes};
 ghost use Rattle.tabled_size_wrap.specs.Runs.{broken_lines};
 ghost use Rattle.tabled_size_wrap.specs.Standing.{StandsAt};
+ghost use Rattle.tabled_size_wrap.specs.Room.{MakesRoom, room};
 
 use crate::line_units::LineUnits;
 use ansi_str::AnsiStr;
@@ -52,30 +53,61 @@ fn push_runs(
     requires some_text { 0 < length stripped.now }
     ensures { OnOk result (string_bytes out.new ≡ string_bytes out.old ++ join_with_byte line_feed (broken_lines width keep_words (pieces line.now))) }
 {
-    let mut place = Place::start_of(line);
-    // the bytes after the place that this line of the result keeps, and the columns that it has taken
-    let mut kept = 0;
-    let mut used = 0;
+    let mut run = Run {
+        place: Place::start_of(line),
+        kept: 0,
+        used: 0,
+    };
     for unit in LineUnits::new(stripped, width, keep_words) {
         let len = unit.end - unit.start;
-        if !has_room(unit.cost, used, width) {
-            push_part(alloc, out, &mut place, kept)?;
-            out.push('\n')?;
-            kept = 0;
-            used = 0;
-        }
+        run.make_room(alloc, out, unit.cost, width)?;
         if unit.cost <= width {
-            kept += len;
-            used += unit.cost;
+            run.kept += len;
+            run.used += unit.cost;
         } else {
-            push_part(alloc, out, &mut place, kept)?;
-            place = place.through(len);
-            push_replacements(out, width - used)?;
-            kept = 0;
-            used = width;
+            let kept = run.kept;
+            push_part(alloc, out, &mut run.place, kept)?;
+            run.place = run.place.through(len);
+            push_replacements(out, width - run.used)?;
+            run.kept = 0;
+            run.used = width;
         }
     }
-    push_part(alloc, out, &mut place, kept)
+    let kept = run.kept;
+    push_part(alloc, out, &mut run.place, kept)
+}
+
+// The line of the result that is being written: the place at which it begins, the bytes after the place that
+// it keeps, and the columns that they take.
+#[derive(Drop)]
+struct Run<'a> {
+    place: Place<'a>,
+    kept: usize,
+    used: usize,
+}
+
+impl<'a> Run<'a> {
+    // Makes room for a unit of this cost: where the line has none, writes it, and begins the next one.
+    fn make_room(
+        &mut self,
+        alloc: Global,
+        out: &mut String,
+        cost: usize,
+        width: usize,
+    ) -> Result<(), AllocError>
+        requires fits { self.old.used ≤ width }
+        requires good { self.old.kept < length (strip (pieces self.old.place.rest.now)) → IsCharBoundary (strip (pieces self.old.place.rest.now)) self.old.kept }
+        ensures { OnOk result (MakesRoom width cost self.old self.new (string_bytes out.old) (string_bytes out.new)) }
+    {
+        if has_room(cost, self.used, width) {
+            return Ok(());
+        }
+        push_part(alloc, out, &mut self.place, self.kept)?;
+        out.push('\n')?;
+        self.kept = 0;
+        self.used = 0;
+        Ok(())
+    }
 }
 
 // The same of a line that shows some ASCII text, `len` bytes of it, where words are not kept: each byte
@@ -107,7 +139,7 @@ fn push_full_lines(
 // width, where a column is left.
 fn has_room(cost: usize, used: usize, width: usize) -> bool
     requires { used ≤ width }
-    ensures { result ≡ if nat_le cost width then nat_le (used + cost) width else nat_lt used width }
+    ensures { result ≡ room width used cost }
 {
     if cost <= width {
         cost <= width - used

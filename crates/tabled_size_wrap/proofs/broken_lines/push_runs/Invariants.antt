@@ -12,5 +12,5 @@ invariant-loop-unit l =
     record {
       goes : (goal.iterator-loop-unit).can_next l.unit-iterator × (goal.iterator-loop-unit).is_finite l.unit-iterator;
       walked : Walked (pieces l.line) l.width (string_bytes l.fn.out ++ join_with_byte line_feed (broken_lines l.width l.keep_words (pieces l.line)))
-          (string_bytes l.out) l.place.rest.now l.place.style l.kept l.used l.unit-iterator;
+          (string_bytes l.out) l.run.place.rest.now l.run.place.style l.run.kept l.run.used l.unit-iterator;
     }
