@@ -1,8 +1,9 @@
 //! How many columns or rows a cell takes.
-ghost use Rattle.std.specs.Prelude.{◌≡◌, ◌<◌, [], ◌∷◌, Err, IfErr, IfOk, OnErr, OnOk, Some};
+ghost use Rattle.std.specs.Prelude.{◌≡◌, ◌≢◌, ◌<◌, ◌≤◌, ◌⊎◌, ℕ, [], ◌∷◌, Err, IfErr, IfOk, IsOk, OnErr, OnOk, Some, length};
 ghost use Rattle.grid_config_values.specs.declared.entity.Entity.TheVariants.{Cell as OneCell, Global as EveryCell};
 ghost use Rattle.grid_config_values.specs.declared.fault.Fault.TheVariants.{Memory, Spans as BadSpan};
 ghost use Rattle.grid_config.specs.Looks.{look_of};
+ghost use Rattle.grid_config.specs.Spans.{IsAnchor};
 ghost use Rattle.tabled_options.specs.Spanning.{span_extent, span_size, spanned_at, spanning};
 ghost use Rattle.tabled_steps.specs.Looks.{with_columns, with_extents, with_rows};
 ghost use Rattle.tabled_steps.specs.States.{Steps, state_with};
@@ -53,12 +54,15 @@ impl Span {
         }
     }
 
-    // Sets it at this place. Fails only where allocation fails, and then nothing has changed.
+    // Sets it at this place. Fails only where allocation fails, and then nothing has changed: never for a size
+    // of 1, and never for a cell that has a span.
     fn set(self, config: &mut SpannedConfig, pos: Position) -> Result<(), Fault>
         requires { 0 < span_size self }
         ensures set { OnOk result (look_of config.new ≡ spanned_at self (pos ∷ []) (look_of config.old)) }
         ensures kept { OnErr result (look_of config.new ≡ look_of config.old) }
         ensures fault { IfErr result (λ fault. fault ≡ Memory) }
+        ensures one { span_size self ≡ 1 → IsOk result }
+        ensures again { IsAnchor config.old.spans pos → IsOk result }
     {
         match self.of {
             Tracks::Columns => config.set_column_span(pos, self.size),
@@ -67,7 +71,8 @@ impl Span {
     }
 
     // Sets it at this place, where a table of `rows` rows and `columns` columns has it. Fails only where
-    // allocation fails, and then nothing has changed.
+    // allocation fails, and then nothing has changed: never outside the table, for a size of 1, or for a cell
+    // that has a span.
     fn set_inside(
         self,
         config: &mut SpannedConfig,
@@ -79,6 +84,9 @@ impl Span {
         ensures set { OnOk result (look_of config.new ≡ with_extents (span_extent self) (OneCell pos.row pos.col) rows columns (look_of config.old)) }
         ensures kept { OnErr result (look_of config.new ≡ look_of config.old) }
         ensures fault { IfErr result (λ fault. fault ≡ Memory) }
+        ensures one { span_size self ≡ 1 → IsOk result }
+        ensures again { IsAnchor config.old.spans pos → IsOk result }
+        ensures outside { (rows ≤ pos.row) ⊎ (columns ≤ pos.col) → IsOk result }
     {
         if pos.row < rows && pos.col < columns {
             self.set(config, pos)
@@ -125,7 +133,8 @@ impl Span {
 fn let_go<T: Drop>(_value: T) {}
 
 /// Sets how many columns or rows each of the cells takes that the table has. Refused as `Spans` for 0, and
-/// as `Memory` where allocation fails. The span of one cell is set in place; those of several are set in a
+/// as `Memory` where allocation fails. The span of one cell is set in place, and never refused as `Memory`
+/// where the table has no such cell, the size is 1, or the cell has a span; those of several are set in a
 /// copy of the settings, which then takes their place.
 impl<T: FromText> CellOption<VecRecords<T>, ColoredConfig> for Span {
     ghost step = { λ span at state outcome. spanning span at state ≡ outcome };
@@ -140,6 +149,9 @@ impl<T: FromText> CellOption<VecRecords<T>, ColoredConfig> for Span {
         entity: Entity,
     ) -> Result<(), Fault>
         ensures zero { span_size self.now ≡ 0 → result ≡ Err BadSpan }
+        ensures one { (row col : ℕ) → entity ≡ OneCell row col → span_size self.now ≡ 1 → IsOk result }
+        ensures again { (row col : ℕ) → entity ≡ OneCell row col → span_size self.now ≢ 0 → IsAnchor cfg.old.settings.spans (record { row = row; col = col }) → IsOk result }
+        ensures outside { (row col : ℕ) → entity ≡ OneCell row col → span_size self.now ≢ 0 → (length (⟦<VecRecords<T> as RecordTexts>⟧.rows records.old) ≤ row) ⊎ (⟦<VecRecords<T> as RecordColumns>⟧.columns records.old ≤ col) → IsOk result }
         ensures step { (sizes : Stored) → Steps (λ state outcome. spanning self.now entity state ≡ outcome) result
             (state_with (⟦<VecRecords<T> as RecordTexts>⟧.rows records.old) (look_of cfg.old.settings) (value_at cfg.old.colors) sizes) (state_with (⟦<VecRecords<T> as RecordTexts>⟧.rows records.new) (look_of cfg.new.settings) (value_at cfg.new.colors) sizes) }
     {
