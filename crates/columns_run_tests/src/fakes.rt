@@ -14,12 +14,12 @@ pub struct ByteReader<'a> {
 
 impl<'a> ByteReader<'a> {
     /// A reader that never fails.
-    pub fn new(bytes: &'a [u8]) -> ByteReader<'a> {
+    pub(crate) fn new(bytes: &'a [u8]) -> ByteReader<'a> {
         ByteReader::failing(bytes, 0, ErrorKind::Other)
     }
 
     /// A reader that fails once, with an error of this kind.
-    pub fn failing(bytes: &'a [u8], bad_call: usize, kind: ErrorKind) -> ByteReader<'a> {
+    pub(crate) fn failing(bytes: &'a [u8], bad_call: usize, kind: ErrorKind) -> ByteReader<'a> {
         ByteReader {
             rest: bytes,
             calls: 0,
@@ -75,12 +75,17 @@ pub struct StepWriter {
 
 impl StepWriter {
     /// A writer that never fails.
-    pub fn new(alloc: Global, step: usize) -> StepWriter {
+    pub(crate) fn new(alloc: Global, step: usize) -> StepWriter {
         StepWriter::failing(alloc, step, 0, ErrorKind::Other)
     }
 
     /// A writer that fails once, with an error of this kind.
-    pub fn failing(alloc: Global, step: usize, bad_call: usize, kind: ErrorKind) -> StepWriter {
+    pub(crate) fn failing(
+        alloc: Global,
+        step: usize,
+        bad_call: usize,
+        kind: ErrorKind,
+    ) -> StepWriter {
         StepWriter {
             taken: Vec::new(alloc),
             step,
@@ -92,7 +97,7 @@ impl StepWriter {
     }
 
     /// A writer that takes this many bytes in all, and then nothing.
-    pub fn filling(alloc: Global, step: usize, room: usize) -> StepWriter {
+    pub(crate) fn filling(alloc: Global, step: usize, room: usize) -> StepWriter {
         let mut writer = StepWriter::new(alloc, step);
         writer.room = room;
         writer
@@ -134,7 +139,7 @@ pub struct Recorder {
 
 impl Recorder {
     /// To which no call came.
-    pub fn new(alloc: Global) -> Recorder {
+    pub(crate) fn new(alloc: Global) -> Recorder {
         Recorder {
             room: 0,
             reads: 0,

@@ -66,7 +66,7 @@ fn print_clone(rt: &impl Print, alloc: Global, cfg: &SpannedConfig) -> io::Resul
 }
 
 /// Prints what settings of a thousand rows return at their middle and their end.
-pub fn print_settings(rt: &impl Print, alloc: Global) -> io::Result<()> {
+pub(crate) fn print_settings(rt: &impl Print, alloc: Global) -> io::Result<()> {
     let mut cfg = SpannedConfig::new(alloc);
     print_spanned(rt, &mut cfg)?;
     print_clone(rt, alloc, &cfg)

@@ -147,7 +147,7 @@ fn print_broken(rt: &impl Print, alloc: Global, text: &str) -> io::Result<()> {
 }
 
 /// Prints how long the results are of calls on a styled text of a megabyte, and how many.
-pub fn print_texts(rt: &impl Print, alloc: Global) -> io::Result<()> {
+pub(crate) fn print_texts(rt: &impl Print, alloc: Global) -> io::Result<()> {
     let text = repeated(alloc, WORDS, 60_000)?;
     print_words(rt, alloc, text.as_str())?;
     let lines = repeated(alloc, WORDS_ON_A_LINE, 60_000)?;

@@ -4,35 +4,35 @@ use tabled::object::{Cell, Columns, Rows};
 use tabled::{Alignment, Height, Margin, Padding, Span, Style, Table, Width};
 
 /// In double lines.
-pub fn doubled(table: &mut Table) -> Result<(), Fault> {
+pub(crate) fn doubled(table: &mut Table) -> Result<(), Fault> {
     table.set(Style::extended())
 }
 
 /// Numbers stand at the right, and the names of the columns in the middle.
-pub fn aligned(table: &mut Table) -> Result<(), Fault> {
+pub(crate) fn aligned(table: &mut Table) -> Result<(), Fault> {
     table.set_cells(Columns::one(1), &Alignment::right())?;
     table.set_cells(Rows::first(), &Alignment::center())
 }
 
 /// Thin lines, and a margin of dots.
-pub fn bordered(table: &mut Table) -> Result<(), Fault> {
+pub(crate) fn bordered(table: &mut Table) -> Result<(), Fault> {
     table.set(Style::modern())?;
     table.set(Margin::new(2, 2, 1, 0).fill('.', '.', '.', '.'))
 }
 
 /// The title stands over both columns, with room below it.
-pub fn spanned(table: &mut Table) -> Result<(), Fault> {
+pub(crate) fn spanned(table: &mut Table) -> Result<(), Fault> {
     table.set_cells(Cell::new(0, 0), &Span::column(2))?;
     table.set_cells(Cell::new(0, 0), &Padding::new(1, 1, 0, 1))
 }
 
 /// The second column is broken between words at 17 columns.
-pub fn broken(table: &mut Table) -> Result<(), Fault> {
+pub(crate) fn broken(table: &mut Table) -> Result<(), Fault> {
     table.set_cells(Columns::one(1), &Width::wrap(17).keep_words(true))
 }
 
 /// Made wider and higher.
-pub fn spread(table: &mut Table) -> Result<(), Fault> {
+pub(crate) fn spread(table: &mut Table) -> Result<(), Fault> {
     table.set(Width::increase(22))?;
     table.set(Height::increase(9))
 }

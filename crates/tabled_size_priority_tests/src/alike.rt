@@ -104,7 +104,7 @@ fn print_alike<P: Peaker + Copy + Drop>(
 }
 
 /// Prints how often a priority and the trait's own bodies over it differ.
-pub fn print_all_alike(rt: &impl Print) -> io::Result<()> {
+pub(crate) fn print_all_alike(rt: &impl Print) -> io::Result<()> {
     // the one that goes round also where it stands after some columns
     let mut none = PriorityNone::new();
     for _ in 0..5 {

@@ -62,7 +62,7 @@ fn grown<P: Peaker>(priority: &mut P, widths: [usize; 2], by: usize) -> [usize; 
 }
 
 /// Prints what priorities of the tests' own are asked, and what is made of their answers.
-pub fn print_foreign(rt: &impl Print) -> io::Result<()> {
+pub(crate) fn print_foreign(rt: &impl Print) -> io::Result<()> {
     for (now, then) in ANSWERS {
         let mut priority = Named {
             now,

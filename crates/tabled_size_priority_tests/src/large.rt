@@ -115,7 +115,7 @@ fn print_long_lists(rt: &impl Print, alloc: Global) -> io::Result<()> {
 }
 
 /// Prints what they make of large widths and amounts, and of a million columns.
-pub fn print_large(rt: &impl Print, alloc: Global) -> io::Result<()> {
+pub(crate) fn print_large(rt: &impl Print, alloc: Global) -> io::Result<()> {
     print_large_rows(rt)?;
     print_counted(rt)?;
     print_long_lists(rt, alloc)

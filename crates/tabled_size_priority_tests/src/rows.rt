@@ -153,7 +153,7 @@ const GROWTHS: [Row; 8] = [
 ];
 
 /// Prints what the priorities make of worked rows.
-pub fn print_rows(rt: &impl Print) -> io::Result<()> {
+pub(crate) fn print_rows(rt: &impl Print) -> io::Result<()> {
     for row in &SHRINKS {
         let mut sizes = row.widths;
         let count = row.count.min(3);

@@ -135,7 +135,7 @@ fn print_values(rt: &impl Print) -> io::Result<()> {
 }
 
 /// Prints what the priorities keep from one call to the next.
-pub fn print_states(rt: &impl Print) -> io::Result<()> {
+pub(crate) fn print_states(rt: &impl Print) -> io::Result<()> {
     print_peaks(rt, "none", Priority::none())?;
     print_peaks(rt, "left", Priority::left())?;
     print_peaks(rt, "right", Priority::right())?;

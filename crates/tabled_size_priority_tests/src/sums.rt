@@ -2,7 +2,7 @@
 ghost use Rattle.std.specs.Prelude.{◌+◌, ◌^◌, ◌<◌, sum, IsTrue};
 
 /// Whether the widths and so much more sum to no more than the greatest `usize`.
-pub fn fits(widths: &[usize], more: usize) -> bool
+pub(crate) fn fits(widths: &[usize], more: usize) -> bool
     ensures { IsTrue result → sum widths.now + more < 2 ^ 64 }
 {
     let mut total = more;

@@ -20,7 +20,7 @@ pub const CHOICES: [Choice; 7] = [
 pub const COUNTS: [usize; 4] = [1, 6, 36, 216];
 
 /// The numbers of a list by its number among them.
-pub fn numbers(index: usize) -> [usize; 3] {
+pub(crate) fn numbers(index: usize) -> [usize; 3] {
     [index % 6, index / 6 % 6, index / 36 % 6]
 }
 
@@ -67,7 +67,7 @@ fn grown_digest(choice: Choice, widths: [usize; 3], count: usize) -> u64
 }
 
 /// Prints what the priorities make of every list of up to three small widths, as one number each.
-pub fn print_sweep(rt: &impl Print) -> io::Result<()> {
+pub(crate) fn print_sweep(rt: &impl Print) -> io::Result<()> {
     for choice in CHOICES {
         for count in 0..4 {
             for index in 0..COUNTS[count] {

@@ -6,7 +6,12 @@ use std::process::Abort;
 use std::test::Fail;
 
 /// That `failures` calls failed, and `empty_writes` writes took nothing.
-pub fn expect_counts<T>(rt: &impl Abort, counted: &Counted<T>, failures: u64, empty_writes: u64) {
+pub(crate) fn expect_counts<T>(
+    rt: &impl Abort,
+    counted: &Counted<T>,
+    failures: u64,
+    empty_writes: u64,
+) {
     assert_eq!(rt;
         (counted.failures(), counted.empty_writes()),
         (failures, empty_writes)

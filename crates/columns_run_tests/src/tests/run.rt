@@ -57,7 +57,7 @@ pub const FAULTS: &[(&[u8], RunFault)] = &[
 ];
 
 /// The defaults, whose style is plain.
-pub fn defaults(rt: &impl Abort) -> Options
+pub(crate) fn defaults(rt: &impl Abort) -> Options
     ensures { IsPlain (compact_of result.style) }
 {
     let options = Options::new();
