@@ -12,4 +12,3 @@ pub mod Rowing
 pub mod TrimmedRoom
 pub mod PlainLines
 pub mod Narrowing
-pub mod ChangedTexts

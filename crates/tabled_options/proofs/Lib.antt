@@ -1,2 +1,1 @@
-pub mod Places
 pub mod Spanning

@@ -20,7 +20,7 @@ use Rattle.tabled_options.specs.Spanning.{placed_all, span_extent, span_size, sp
 use Rattle.tabled_options.specs.declared.span.Span.{Span}
 use Rattle.tabled_options.specs.declared.span.Tracks.{Tracks}
 use Rattle.tabled_options.specs.declared.span.Tracks.TheVariants.{Columns, Rows}
-use Rattle.tabled_options.proofs.Places.{among_covered, is_among}
+use Rattle.tabled_steps.proofs.Places.{among_covered, is_among}
 
 symmetric : (a b : Position) → same_place a b ≡ same_place b a
 symmetric a b = grind (arith, nat_tests)

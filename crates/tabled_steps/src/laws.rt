@@ -1,6 +1,6 @@
 //! Laws of the definitions that the contracts cite.
 ghost use Rattle.std.specs.Borrow.{Bor};
-ghost use Rattle.std.specs.Prelude.{◌≡◌, ◌+◌, ◌-◌, ◌^◌, ℕ, List, Result, ◌==◌, ◌++◌, if◌then◌else◌, [], ◌∷◌, Err, None, Ok, Option, Some, codes};
+ghost use Rattle.std.specs.Prelude.{◌≡◌, ◌<◌, ◌+◌, ◌-◌, ◌^◌, length, unwrap_or, ℕ, List, Result, ◌==◌, ◌++◌, if◌then◌else◌, [], ◌∷◌, Err, None, Ok, Option, Some, codes};
 ghost use Rattle.grid_config_spans.specs.Spans.{single};
 ghost use Rattle.grid_config.specs.Coloring.{Coloring};
 ghost use Rattle.grid_config.specs.Compact.{compact_of};
@@ -13,10 +13,12 @@ ghost use Rattle.grid_config_values.specs.declared.position.Position.{Position a
 ghost use Rattle.grid_config_values.specs.declared.entity.Entity.{Entity as Cells};
 ghost use Rattle.grid_config_values.specs.declared.entity.Entity.TheVariants.{Cell as OneCell, Column, Global as EveryCell, Row};
 ghost use Rattle.grid_config_values.specs.declared.fault.Fault.TheVariants.{Range as Passed, Spans as BadSpan};
+ghost use Rattle.grid_config_values.specs.Entities.{covers};
+ghost use Rattle.grid_records_traits.specs.Rows.{IsInside, row_at, text_at};
 ghost use Rattle.tabled_steps.specs.Changes.{changed_rows};
 ghost use Rattle.tabled_steps.specs.Looks.{changing_inside, covering, placing, with_column_span, with_columns, with_extents, with_row_span, with_rows};
 ghost use Rattle.tabled_steps.specs.Outcomes.{◌≫=◌, all_sized, sized};
-ghost use Rattle.tabled_steps.specs.States.{Outcome, Settles, State, looking, positive, settled};
+ghost use Rattle.tabled_steps.specs.States.{Outcome, Settles, State, column_count, looking, positive, settled};
 ghost use Rattle.tabled_size_dimension.specs.Stored.{Stored, none_stored};
 ghost use Rattle.tabled_size_dimension.specs.declared.zero.ZeroDimension.{ZeroDimension as Zero};
 ghost use Rattle.tabled_steps.specs.Worked.{at, keeping, letters};
@@ -38,6 +40,16 @@ pub fn worked_changes()
     ensures by_place { changed_rows (λ p text. if p.row == p.col then Some (text ++ codes "!") else None) EveryCell 2 letters ≡ (codes "a!" ∷ codes "b" ∷ []) ∷ (codes "c" ∷ codes "d!" ∷ []) ∷ [] }
     ensures outside { changed_rows (λ _ _. Some (codes "x")) (Row 2) 2 letters ≡ letters }
     ensures kept { changed_rows (λ _ _. None) EveryCell 2 letters ≡ letters }
+{}
+
+/// Where the entity covers a place of the table, its text becomes what the change answers for it, if it answers;
+/// elsewhere it stays, and there are as many rows, each of as many texts.
+pub fn texts_change_where_the_entity_covers()
+    ensures texts { (change : Place → List ℕ → Option (List ℕ)) (at : Cells) (rows : List (List (List ℕ))) (p : Place) → IsInside rows p → p.col < column_count rows →
+        text_at (changed_rows change at (column_count rows) rows) p ≡ (if covers at p then unwrap_or (change p (text_at rows p)) (text_at rows p) else text_at rows p) }
+    ensures rows { (change : Place → List ℕ → Option (List ℕ)) (at : Cells) (columns : ℕ) (rows : List (List (List ℕ))) → length (changed_rows change at columns rows) ≡ length rows }
+    ensures row { (change : Place → List ℕ → Option (List ℕ)) (at : Cells) (columns : ℕ) (rows : List (List (List ℕ))) (i : ℕ) → i < length rows →
+        length (row_at (changed_rows change at columns rows) i) ≡ length (row_at rows i) }
 {}
 
 /// What is worked out one after the other, up to the first refusal, by hand.

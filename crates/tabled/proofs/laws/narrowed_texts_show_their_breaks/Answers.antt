@@ -12,11 +12,12 @@ use Rattle.grid_records_measure.proofs.CutLemmas.{cut_at-meets}
 use Rattle.tabled_size_wrap.proofs.BytesLemmas.{wrapped_text-meets}
 use Rattle.tabled_size_wrap.proofs.WrappedLemmas.{wrapped-shows}
 use Rattle.tabled_width.specs.Rooms.{in_room, room}
-use Rattle.tabled.proofs.ChangedTexts.{text-changed}
+use Rattle.tabled_steps.proofs.ChangedTexts.{text-at}
+use Rattle.grid_config_values.specs.declared.entity.Entity.TheVariants.{Global}
 use Rattle.tabled.proofs.laws.narrowed_texts_show_their_breaks.Goals as goal
 
 pub returns-clause-texts : goal.returns-clause-texts
-returns-clause-texts c = λ change least widths s place inside column. text-changed (λ place text. in_room change text (room s.look least widths place)) s.rows place inside column
+returns-clause-texts c = λ change least widths s place inside column. text-at (λ place text. in_room change text (room s.look least widths place)) s.rows place inside Global column
 
 pub returns-clause-broken : goal.returns-clause-broken
 returns-clause-broken c = λ width keep_words text some whole.
