@@ -76,7 +76,7 @@ pub fn empty_rows_end_for_good()
     ensures left { (rows : BlankRows) → ⟦<EmptyRows as Iterator>⟧.remaining rows ≡ at_most (length (⟦<EmptyRecords as IntoRecords>⟧.rows_left rows)) }
 {}
 
-/// An iterator over the empty texts of a row has as many left as the row has columns, and after its end none.
+/// Of the empty texts of a row no more are left than the row has columns, and after their end none.
 pub fn empty_texts_end_for_good()
     ensures row { (before after : BlankRows) (texts : BlankCells) → ⟦<EmptyRows as Iterator>⟧.next_gives before (Some texts) after → ⟦<EmptyCells as Iterator>⟧.remaining texts ≡ at_most (length (row_at (⟦<EmptyRecords as IntoRecords>⟧.rows_left before) 0)) }
     ensures end { (before after : BlankCells) → ⟦<EmptyCells as Iterator>⟧.next_gives before None after → ⟦<EmptyCells as Iterator>⟧.remaining after ≡ at_most 0 }

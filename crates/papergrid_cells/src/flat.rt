@@ -90,7 +90,7 @@ impl<'a> FlatRows<'a> {
     pub fn with_empty_row(self, alloc: Global, widths: &[usize]) -> Result<FlatRows<'a>, AllocError>
         ensures rows { IfOk result (λ rows. (look : Look) (columns : ℕ) → AreFlatRows look columns self.entry → AreFlatRows look columns rows) }
         ensures empty { IfOk result (λ rows. HasEmptyRow widths.now rows) }
-        ensures made { IfOk result (λ rows. self.entry.fill ≡ 0x20 → self.entry.fill_color ≡ None → IsSome rows.empty) }
+        ensures made { IfOk result (λ rows. rows.fill ≡ 0x20 → rows.fill_color ≡ None → IsSome rows.empty) }
     {
         let mut rows = self;
         rows.empty = rows.empty_row(alloc, widths)?;

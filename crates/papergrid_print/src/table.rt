@@ -3,7 +3,7 @@ mod line;
 mod plain;
 mod seeing;
 
-ghost use Rattle.std.specs.Prelude.{◌≡◌, ◌++◌, ◌<◌, ◌≤◌, ◌+◌, ◌-◌, ◌*◌, ◌^◌, ⊤, IfOk, IfSome, List, MatchOption, OnOk, ℕ, [], false, map, length, slice_index, string_bytes};
+ghost use Rattle.std.specs.Prelude.{◌≡◌, ◌++◌, ◌<◌, ◌≤◌, ◌+◌, ◌-◌, ◌*◌, ◌^◌, ⊤, IfOk, IfSome, IsSome, List, MatchOption, None, OnOk, ℕ, [], false, map, length, slice_index, string_bytes};
 ghost use Rattle.grid_config_spans.specs.Spans.{AreGood, ArePositive, extent_at};
 ghost use Rattle.papergrid_picture.specs.Frame.{Boundary, Row, boundary_at, line_count, total_width, track_at};
 ghost use Rattle.papergrid_picture.specs.Picture.{boundary_part, parts_of, row_part};
@@ -311,7 +311,8 @@ impl<'a, R: PeekableRecords, C: Colors> Table<'a, R, C> {
 
     // What rows of one line have in common, where all cells have the same settings.
     fn flat_rows(&self, alloc: Global) -> Result<Option<FlatRows<'a>>, AllocError>
-        ensures { IfOk result (λ made. AreMadeFor self.now.cfg.now self.now.widths.now made) }
+        ensures made { IfOk result (λ made. AreMadeFor self.now.cfg.now self.now.widths.now made) }
+        ensures empty { IfOk result (λ made. MatchOption made ⊤ (λ rows. MANY_ROWS ≤ length self.now.heights.now → rows.fill ≡ 0x20 → rows.fill_color ≡ None → IsSome rows.empty)) }
     {
         if !are_flat(self.cfg) {
             return Ok(None);

@@ -77,8 +77,8 @@ fn push_runs(
     push_part(alloc, out, &mut run.place, kept)
 }
 
-// The line of the result that is being written: the place at which it begins, the bytes after the place that
-// it keeps, and the columns that they take.
+// The line of the result that is being written: the place up to which it is written, the bytes after the place
+// that it keeps, and the columns that it has taken.
 #[derive(Drop)]
 struct Run<'a> {
     place: Place<'a>,

@@ -1,5 +1,5 @@
 //! A text that is wrapped at a width.
-ghost use Rattle.std.specs.Prelude.{◌≡◌, List, IfOk, string_bytes};
+ghost use Rattle.std.specs.Prelude.{◌≡◌, List, IfOk, IsOk, string_bytes};
 ghost use Rattle.ansi_scan.specs.Sequences.{Piece, ArePiecesOf};
 ghost use Rattle.tabled_size_wrap.specs.Bytes.{wrapped_text};
 ghost use Rattle.tabled_size_wrap.specs.Wrapping.{IsWrapped};
@@ -13,7 +13,8 @@ use std::alloc::{AllocError, Global};
 /// more than the width takes the columns that its run has left, or those of a new run where none is left.
 /// In each stands a U+FFFD without style, and the part of the unit is left out with its sequences. The
 /// bytes of a run are the parts of `split_places` at its ends and around such a unit, and runs are joined
-/// by line feeds. At width 0 the result is the empty text. It fails only where allocation fails.
+/// by line feeds. At width 0 the result is the empty text. It fails only where allocation fails, and never at
+/// width 0.
 pub fn wrap_styled(
     alloc: Global,
     text: &str,
@@ -22,6 +23,7 @@ pub fn wrap_styled(
 ) -> Result<String, AllocError>
     ensures wrapped { IfOk result (λ out. (pieces : List Piece) → ArePiecesOf text.now pieces → IsWrapped width keep_words pieces (string_bytes out)) }
     ensures bytes { IfOk result (λ out. string_bytes out ≡ wrapped_text width keep_words text.now) }
+    ensures nothing { width ≡ 0 → IsOk result }
 {
     let mut out = String::new(alloc);
     if width == 0 {

@@ -1,7 +1,7 @@
 //! A source whose first rows are kept.
 ghost use Rattle.std.proofs.Common.{◌∙◌};
 ghost use Rattle.std.specs.Iterator.{Drains, IsFinite, at_most, count_add};
-ghost use Rattle.std.specs.Prelude.{◌≡◌, ◌++◌, Bool, IfOk, IfSome, IsTrue, List, Ok, [], false, map, take, ℕ};
+ghost use Rattle.std.specs.Prelude.{◌≡◌, ◌++◌, Bool, IfOk, IfSome, IsOk, IsTrue, List, Ok, [], false, map, take, ℕ};
 ghost use Rattle.grid_records_rows.specs.Buffering.{GivesBuffered, of_rest};
 ghost use Rattle.grid_records_traits.specs.Sources.{items_left, texts_of_rows};
 ghost use Rattle.grid_records_traits.specs.Giving.{GivesTexts};
@@ -30,11 +30,14 @@ pub struct BufRecords<I: IntoRecords> {
 
 impl<I: IntoRecords> BufRecords<I> {
     /// The rows of the source, whose first `count` rows are read and kept, or all where it has fewer. It
-    /// fails only where allocation fails, of a cell that is read or of room to keep it.
+    /// fails only where allocation fails, of a cell that is read or of room to keep it: never of a source without
+    /// rows, and never at a count of 0.
     pub fn new(alloc: Global, records: I, count: usize) -> Result<BufRecords<I>, AllocError>
         ensures rows { IfOk result (λ out. ⟦<BufRecords<I> as RecordTexts>⟧.rows out ≡ I.RecordTexts.rows records) }
         ensures kept { IfOk result (λ out. ⟦<BufRecords<I> as KeptTexts>⟧.kept out ≡ take count (I.RecordTexts.rows records)) }
         ensures refuses { IfOk result (λ out. IsTrue (⟦<BufRecords<I> as RecordTexts>⟧.may_refuse out) → IsTrue (I.RecordTexts.may_refuse records)) }
+        ensures none { I.RecordTexts.rows records ≡ [] → IsOk result }
+        ensures no_count { count ≡ 0 → IsOk result }
     {
         let mut rest = records.iter_rows();
         let mut kept = Vec::new(alloc);
