@@ -42,7 +42,8 @@ use Rattle.columns_asked.proofs.ShrunkLemmas.{shrunk_list-meets}
 use Rattle.columns_table.specs.Answers.{natural_text}
 use Rattle.columns_table.specs.Kept.{kept_row}
 use Rattle.columns_table.proofs.KeptLemmas.{kept-fitted}
-use Rattle.columns_table.proofs.NaturalLemmas.{by_number, good-spans}
+use Rattle.columns_table.proofs.NaturalLemmas.{good-spans}
+use Rattle.papergrid_picture.proofs.ByNumber.{by_number}
 use Rattle.columns_table.proofs.SizeLemmas.{height-each, too_high, width-each}
 
 -- ---- rows of as many texts

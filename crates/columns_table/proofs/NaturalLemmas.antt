@@ -1,10 +1,7 @@
 -- The rows in their own sizes fit, and print as the rows' text.
-use Rattle.std.proofs.Common.{◌≡◌, ◌≢◌, ◌==◌, ℕ, zero, suc, ◌+◌, ◌<◌, ◌≤◌, Bool, true, false, Option, None, List, [], ◌∷◌, ◌++◌, map, length, sum, take, slice_index, refl, ap, sym, subst, ◌∙◌, arith, add-one, if◌then◌else◌}
+use Rattle.std.proofs.Common.{◌≡◌, ◌≢◌, ◌==◌, ℕ, ◌+◌, ◌<◌, ◌≤◌, Bool, true, false, Option, None, List, [], ◌∷◌, ◌++◌, map, length, sum, slice_index, refl, ap, sym, subst, ◌∙◌, arith, if◌then◌else◌}
 use Rattle.std.specs.Prelude.{Err, Ok, OnOk, Result}
-use Rattle.std.specs.List.{range_with_len}
 use Rattle.std.proofs.lemmas.Bool.Decides.{nat_tests}
-use Rattle.std.proofs.lemmas.List.{take_all, take_more}
-use Rattle.std.proofs.lemmas.List.FromFn.{map-range_with_len_more}
 use Rattle.grid_config.specs.Compact.{Compact}
 use Rattle.grid_config.specs.Looks.{compact_look, look_of}
 use Rattle.grid_config.specs.Settings.{Settings, StartsWith, compact_start}
@@ -24,6 +21,7 @@ use Rattle.papergrid.proofs.Estimated.{none-too_wide}
 use Rattle.papergrid_picture.specs.Fitting.{InRange, first_too_wide}
 use Rattle.papergrid_picture.specs.Frame.{Frame, frame_of, line_count}
 use Rattle.papergrid_picture.specs.Tables.{sizes_of, table_text}
+use Rattle.papergrid_picture.proofs.ByNumber.{by_number}
 use Rattle.columns_asked.specs.Layout.{column_count, frame_under, heights_of, widths_of}
 use Rattle.columns_table.specs.Answers.{natural_text}
 use Rattle.columns_table.specs.Records.{placed_texts, starts_from}
@@ -36,22 +34,6 @@ use Rattle.columns_table.proofs.SizeLemmas.{columns-cut, cut_texts, height-each,
 pub OnOk-always : {T E P : Type 0} (r : Result T E) → P → OnOk r P
 OnOk-always (Ok x) p = p
 OnOk-always (Err e) p = tt
-
--- sizes by number
-taken : (sizes : List ℕ) (n : ℕ) → n ≤ length sizes → map (slice_index sizes) (range_with_len 0 n) ≡ take n sizes
-taken sizes zero h = refl
-taken sizes (suc n) h =
-    let place : 0 + n ≡ n = omega arith in
-    let less : n ≤ length sizes = omega arith in
-    let below : n < length sizes = omega arith in
-    ap (λ m. map (slice_index sizes) (range_with_len 0 m)) (sym (add-one n)) ∙ map-range_with_len_more (slice_index sizes) 0 n n place
-    ∙ ap (λ xs. xs ++ slice_index sizes n ∷ []) (taken sizes n less) ∙ sym (take_more sizes n 0 below) ∙ ap (λ m. take m sizes) (add-one n)
-
-pub by_number : (sizes : List ℕ) (n : ℕ) → length sizes ≡ n → sizes_of (slice_index sizes) n ≡ sizes
-by_number sizes n long =
-    let within : n ≤ length sizes = omega arith in
-    let all : length sizes ≤ n = omega arith in
-    taken sizes n within ∙ take_all n sizes all
 
 pub positive-none : ArePositive []
 unfolding extent_at

@@ -72,8 +72,10 @@ fn fill(text: &str, width: usize, before: usize) -> (usize, usize)
     (len, used)
 }
 
-/// The columns of a line with a character after `used` columns, where it has room.
-fn columns_with(c: char, used: usize, width: usize) -> Option<usize>
+/// The columns of a line with a character after `used` columns, where it has room: it costs the larger of 1
+/// and its own width, and no more than is left of the width. A line feed, where a column is left, begins a
+/// line. Does not allocate.
+pub fn columns_with(c: char, used: usize, width: usize) -> Option<usize>
     requires { used ≤ width }
     ensures columns { result ≡ columns_with width used c }
     ensures fits { IfSome result (λ columns. columns ≤ width) }

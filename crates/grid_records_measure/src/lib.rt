@@ -11,7 +11,7 @@ mod tabs;
 mod text_lines;
 
 pub use characters::{get_char_width, get_string_width};
-pub use cut::cut_width;
+pub use cut::{columns_with, cut_width};
 pub use measure::{get_line_width, get_text_dimension, get_text_width};
 pub use raw_lines::split_line;
 pub use tabs::replace_tab;

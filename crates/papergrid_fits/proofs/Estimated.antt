@@ -2,8 +2,7 @@
 use Rattle.std.proofs.Common.{◌≡◌, ◌&&◌, ℕ, zero, suc, ◌+◌, ◌-◌, ◌<◌, ◌≤◌, min, nat_lt, Bool, true, false, List, [], ◌∷◌, ◌++◌, None, length, map, take, drop, replicate, slice_index, slice_index_or, refl, ap, sym, ◌∙◌, arith, add-one}
 use Rattle.std.specs.List.{filter, find, range_with_len, sum}
 use Rattle.std.proofs.lemmas.Bool.Decides.{nat_tests}
-use Rattle.std.proofs.lemmas.List.{take_all, take_more}
-use Rattle.std.proofs.lemmas.List.FromFn.{length-map-range_with_len, map-range_with_len_more}
+use Rattle.std.proofs.lemmas.List.FromFn.{length-map-range_with_len}
 use Rattle.grid_config_values.specs.Entities.{table_positions}
 use Rattle.grid_config_values.specs.Glyphs.{boundary_kind, has_column_boundary}
 use Rattle.grid_config_values.specs.Order.{same_place}
@@ -23,6 +22,7 @@ use Rattle.grid_records_estimate.proofs.Visibility.{is_visible-decides}
 use Rattle.papergrid_picture.specs.Fitting.{first_too_wide, is_too_wide, need}
 use Rattle.papergrid_picture.specs.Frame.{block_width}
 use Rattle.papergrid_picture.specs.Picture.{at}
+use Rattle.papergrid_picture.proofs.ByNumber.{by_number}
 use Rattle.papergrid_fits.specs.Tables.{sized}
 use Rattle.papergrid_fits.proofs.First.{columns-inside, none-in_row-more, none-more}
 use Rattle.papergrid_fits.proofs.Ranges.{first-is}
@@ -52,23 +52,6 @@ text_at-fitted n [] zero k below = refl
 text_at-fitted n [] (suc i) k below = refl
 text_at-fitted n (row ∷ rows) zero k below = text-in_row n row k below
 text_at-fitted n (row ∷ rows) (suc i) k below = text_at-fitted n rows i k below
-
--- ---- sizes by number
-
-taken_by_number : (sizes : List ℕ) (n : ℕ) → n ≤ length sizes → map (slice_index sizes) (range_with_len 0 n) ≡ take n sizes
-taken_by_number sizes zero h = refl
-taken_by_number sizes (suc n) h =
-    let place : 0 + n ≡ n = omega arith in
-    let less : n ≤ length sizes = omega arith in
-    let below : n < length sizes = omega arith in
-    ap (λ m. map (slice_index sizes) (range_with_len 0 m)) (sym (add-one n)) ∙ map-range_with_len_more (slice_index sizes) 0 n n place
-    ∙ ap (λ xs. xs ++ slice_index sizes n ∷ []) (taken_by_number sizes n less) ∙ sym (take_more sizes n 0 below) ∙ ap (λ m. take m sizes) (add-one n)
-
-by_number : (sizes : List ℕ) (n : ℕ) → length sizes ≡ n → map (slice_index sizes) (range_with_len 0 n) ≡ sizes
-by_number sizes n long =
-    let within : n ≤ length sizes = omega arith in
-    let all : length sizes ≤ n = omega arith in
-    taken_by_number sizes n within ∙ take_all n sizes all
 
 -- ---- room
 

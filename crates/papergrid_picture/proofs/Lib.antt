@@ -1,3 +1,4 @@
+pub mod ByNumber
 pub mod ReadingLemmas
 pub mod RelatedLemmas
 pub mod ShownLemmas

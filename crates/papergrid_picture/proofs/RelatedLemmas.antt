@@ -43,6 +43,32 @@ either : {A : Type 0} (P : A → Type 0) (b : Bool) (x y : A) → P x → P y �
 either P true x y first second = first
 either P false x y first second = second
 
+-- ---- the lines of a block
+
+-- what holds of the lines of padding and of the lines of text holds of all lines
+pub block-all : (P : List Part → Type 0) (grid : Grid) (cell : Position) (width : ℕ)
+    → P (fill width (grid.frame.look.padding cell).top.fill (grid.frame.look.padding_color cell).top ∷ [])
+    → P (fill width (grid.frame.look.padding cell).bottom.fill (grid.frame.look.padding_color cell).bottom ∷ [])
+    → ((k : ℕ) → P (text_line grid cell width k)) → (height : ℕ) → AllByRecursion P (block grid cell width height)
+block-all P grid cell width above_all below_all texts height =
+    let look = grid.frame.look in
+    let padding = look.padding cell in
+    let color = look.padding_color cell in
+    let count = length (grid.measures cell) in
+    let free = height - padding.top.size - count - padding.bottom.size in
+    let above = free_above (look.alignment_vertical cell) free in
+    let line = text_line grid cell width in
+    let top = replicate padding.top.size (fill width padding.top.fill color.top ∷ []) in
+    let blanks = replicate above (line count) in
+    let lines = map line (range_with_len 0 count) in
+    let behind = replicate (free - above) (line count) in
+    let bottom = replicate padding.bottom.size (fill width padding.bottom.fill color.bottom ∷ []) in
+    All-append P top (blanks ++ (lines ++ (behind ++ bottom))) (All-replicate P padding.top.size (fill width padding.top.fill color.top ∷ []) above_all)
+    (All-append P blanks (lines ++ (behind ++ bottom)) (All-replicate P above (line count) (texts count))
+    (All-append P lines (behind ++ bottom) (All-map P line texts (range_with_len 0 count))
+    (All-append P behind bottom (All-replicate P (free - above) (line count) (texts count))
+    (All-replicate P padding.bottom.size (fill width padding.bottom.fill color.bottom ∷ []) below_all))))
+
 -- ---- the parts of a picture
 
 module _ (P : Part → Type 0) (C : ℕ → Type 0) (Q : Option Color → Type 0) (grid : Grid) (space : C blank)
@@ -85,24 +111,12 @@ module _ (P : Part → Type 0) (C : ℕ → Type 0) (Q : Option Color → Type 0
 
   block-holds : (cell : Position) (width height : ℕ) → AllByRecursion Holds (block grid cell width height)
   block-holds cell width height =
-      let look = grid.frame.look in
-      let padding = look.padding cell in
-      let color = look.padding_color cell in
-      let count = length (grid.measures cell) in
-      let free = height - padding.top.size - count - padding.bottom.size in
-      let above = free_above (look.alignment_vertical cell) free in
-      let line = text_line grid cell width in
-      let top = replicate padding.top.size (fill width padding.top.fill color.top ∷ []) in
-      let blanks = replicate above (line count) in
-      let lines = map line (range_with_len 0 count) in
-      let behind = replicate (free - above) (line count) in
-      let bottom = replicate padding.bottom.size (fill width padding.bottom.fill color.bottom ∷ []) in
-      All-append Holds top (blanks ++ (lines ++ (behind ++ bottom)))
-      (All-replicate Holds padding.top.size (fill width padding.top.fill color.top ∷ []) (fills width padding.top.fill color.top (shown.paddings cell).2 (colored.paddings cell).2, tt))
-      (All-append Holds blanks (lines ++ (behind ++ bottom)) (All-replicate Holds above (line count) (text_line-holds cell width count))
-      (All-append Holds lines (behind ++ bottom) (All-map Holds line (λ k. text_line-holds cell width k) (range_with_len 0 count))
-      (All-append Holds behind bottom (All-replicate Holds (free - above) (line count) (text_line-holds cell width count))
-      (All-replicate Holds padding.bottom.size (fill width padding.bottom.fill color.bottom ∷ []) (fills width padding.bottom.fill color.bottom (shown.paddings cell).3 (colored.paddings cell).3, tt)))))
+      let padding = grid.frame.look.padding cell in
+      let color = grid.frame.look.padding_color cell in
+      let in_cell = shown.paddings cell in
+      let of_cell = colored.paddings cell in
+      block-all Holds grid cell width (fills width padding.top.fill color.top in_cell.2 of_cell.2, tt) (fills width padding.bottom.fill color.bottom in_cell.3 of_cell.3, tt)
+      (text_line-holds cell width) height
 
   block_pieces-hold : (cell : Position) (y : ℕ) → InPieces (block_pieces grid cell y)
   block_pieces-hold cell y =

@@ -24,7 +24,7 @@ use Rattle.papergrid_picture.specs.Tiling.{BeginsBehindMargin, HasGoodSpans, Has
 use Rattle.papergrid_picture.proofs.FrameLemmas.{boundary-behind, boundary-first, boundary-next, boundary-order, range-at, range_with_len-more}
 use Rattle.papergrid_picture.proofs.PlaceLemmas.{place-shown}
 use Rattle.papergrid_picture.proofs.SeenLemmas.{seen-above, seen-goes_on, seen-holds, seen-in_table, seen-inside}
-use Rattle.papergrid_picture.proofs.RelatedLemmas.{All-append, All-map, All-replicate}
+use Rattle.papergrid_picture.proofs.RelatedLemmas.{block-all}
 
 -- ---- parts side by side
 
@@ -83,30 +83,8 @@ module _ (grid : Grid) (cell : Position) (width : ℕ) where
       let lined : padding.left.size + (indent + (measure + ((room - indent - measure) + (padding.right.size + 0)))) ≡ width = omega (arith, both, fits) in
       lined
 
-  -- what holds of the lines of padding and of the lines of text holds of all lines
-  pub block-all : (P : List Part → Type 0) → ((c : ℕ) (color : Option Color) → P (fill width c color ∷ [])) → ((k : ℕ) → P (text_line grid cell width k))
-      → (height : ℕ) → AllByRecursion P (block grid cell width height)
-  block-all P pads texts height =
-      let look = grid.frame.look in
-      let padding = look.padding cell in
-      let color = look.padding_color cell in
-      let count = length (grid.measures cell) in
-      let free = height - padding.top.size - count - padding.bottom.size in
-      let above = free_above (look.alignment_vertical cell) free in
-      let line = text_line grid cell width in
-      let top = replicate padding.top.size (fill width padding.top.fill color.top ∷ []) in
-      let blanks = replicate above (line count) in
-      let lines = map line (range_with_len 0 count) in
-      let behind = replicate (free - above) (line count) in
-      let bottom = replicate padding.bottom.size (fill width padding.bottom.fill color.bottom ∷ []) in
-      All-append P top (blanks ++ (lines ++ (behind ++ bottom))) (All-replicate P padding.top.size (fill width padding.top.fill color.top ∷ []) (pads padding.top.fill color.top))
-      (All-append P blanks (lines ++ (behind ++ bottom)) (All-replicate P above (line count) (texts count))
-      (All-append P lines (behind ++ bottom) (All-map P line texts (range_with_len 0 count))
-      (All-append P behind bottom (All-replicate P (free - above) (line count) (texts count))
-      (All-replicate P padding.bottom.size (fill width padding.bottom.fill color.bottom ∷ []) (pads padding.bottom.fill color.bottom)))))
-
   block-wide : HasRoomFor → (height : ℕ) → AllByRecursion IsWide (block grid cell width height)
-  block-wide fits height = block-all IsWide (λ c color. omega arith) (text_line-wide fits) height
+  block-wide fits height = block-all IsWide grid cell width (omega arith) (omega arith) (text_line-wide fits) height
 
   -- there are lines for the whole height
   pub block-high : (height : ℕ) → height ≤ length (block grid cell width height)

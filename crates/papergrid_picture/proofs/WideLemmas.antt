@@ -18,7 +18,8 @@ use Rattle.papergrid_picture.specs.Tiling.{BeginsBehindMargin, HasGoodSpans, Has
 use Rattle.papergrid_picture.proofs.FrameLemmas.{boundary-first, boundary-next}
 use Rattle.papergrid_picture.proofs.PlaceLemmas.{place-shown}
 use Rattle.papergrid_picture.proofs.SeenLemmas.{seen-above, seen-goes_on, seen-holds, seen-in_table, seen-inside}
-use Rattle.papergrid_picture.proofs.TilingLemmas.{All-inside, Goes-columns, IsLine, Tiles-laid, along-tiles, block-all, block-ends, block-ends_below, block-high, edge-tiles, free_above-within, located, order, track-before, track-before_line, widths_of, within}
+use Rattle.papergrid_picture.proofs.RelatedLemmas.{block-all}
+use Rattle.papergrid_picture.proofs.TilingLemmas.{All-inside, Goes-columns, IsLine, Tiles-laid, along-tiles, block-ends, block-ends_below, block-high, edge-tiles, free_above-within, located, order, track-before, track-before_line, widths_of, within}
 
 -- the pieces reach at least from a to b, side by side
 abbrev pub Reaches : ℕ → List Piece → ℕ → Type 0
@@ -52,7 +53,7 @@ module _ (grid : Grid) (cell : Position) (width : ℕ) where
   text_line-more k wide = omega (arith, wide)
 
   block-least : (height : ℕ) → AllByRecursion (λ parts. width ≤ widths_of parts) (block grid cell width height)
-  block-least height = block-all grid cell width (λ parts. width ≤ widths_of parts) (λ c color. omega arith) text_line-least height
+  block-least height = block-all (λ parts. width ≤ widths_of parts) grid cell width (omega arith) (omega arith) text_line-least height
 
 get_or-past : {A : Type 0} (xs ys : List A) (i : ℕ) (d : A) → get_or (xs ++ ys) (length xs + i) d ≡ get_or ys i d
 get_or-past [] ys i d = let same : 0 + i ≡ i = omega arith in ap (λ k. get_or ys k d) same

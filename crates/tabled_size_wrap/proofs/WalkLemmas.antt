@@ -1,5 +1,5 @@
 -- A walk through the units of a line that writes its lines.
-use Rattle.std.proofs.Common.{if◌then◌else◌, ◌≡◌, ◌≤◌, ◌<◌, ℕ, ◌+◌, ◌-◌, Bool, true, false, cond, nat_le, nat_lt, List, [], ◌∷◌, ◌++◌, length, refl, ap, sym, subst, ◌∙◌, arith, append_assoc, length-append}
+use Rattle.std.proofs.Common.{◌≡◌, ◌≤◌, ◌<◌, ℕ, ◌+◌, ◌-◌, Bool, true, false, cond, nat_le, nat_lt, List, [], ◌∷◌, ◌++◌, length, refl, ap, sym, subst, ◌∙◌, arith, append_assoc, length-append}
 use Rattle.std.specs.Prelude.{chars, encode_utf8_all}
 use Rattle.std.specs.Str.{IsUtf8, IsCharBoundary}
 use Rattle.std.proofs.Math.Utf8.{scalars}
@@ -16,9 +16,9 @@ use Rattle.grid_records_measure.proofs.CutLemmas.{scalars-behind}
 use Rattle.tabled_size_wrap.specs.declared.line_units.Unit.{Unit}
 use Rattle.tabled_size_wrap.specs.Units.{LineUnit, line_units, unit_len, placed}
 use Rattle.tabled_size_wrap.specs.Wrapping.{line_part, replacement_bytes, shown_lines}
-use Rattle.tabled_size_wrap.specs.Runs.{has_room, runs_of, broken_lines}
+use Rattle.tabled_size_wrap.specs.Runs.{broken_lines, has_room, room, runs_of}
 use Rattle.tabled_size_wrap.specs.Standing.{StandsAt}
-use Rattle.tabled_size_wrap.specs.Room.{MakesRoom, room}
+use Rattle.tabled_size_wrap.specs.Room.{MakesRoom}
 use Rattle.tabled_size_wrap.specs.declared.broken_lines.Run.{Run}
 use Rattle.tabled_size_wrap.proofs.UnitLemmas.{texts, AllSome, texts-units, some-units}
 use Rattle.tabled_size_wrap.proofs.RunLemmas.{left_bytes, put, lines-all}
@@ -159,8 +159,8 @@ module _ (line : List Piece) (width : ℕ) (all out rest : List ℕ) (style : At
     pub unit-good : (end : List ℕ) (end_style : Attributes) → StandsAt line (walked.at + kept) end end_style → IsGoodBound (strip (pieces end)) (unit.end - unit.start)
     unit-good end end_style stands = stands-good line end end_style (unit.end - unit.start) (walked.at + kept) stands (λ _. boundary-more)
 
-    room-is : has_room width used next.first ≡ (if nat_le unit.cost width then nat_le (used + unit.cost) width else nat_lt used width)
-    room-is = ap (λ n. if nat_le n width then nat_le (used + n) width else nat_lt used width) (sym next.cost)
+    room-is : has_room width used next.first ≡ room width used unit.cost
+    room-is = ap (room width used) (sym next.cost)
 
     goes-on : out ++ left_bytes (line_part line) replacement_bytes width walked.at (walked.at + kept) used (next.first ∷ next.others) ≡ all
     goes-on = ap (λ us. out ++ left_bytes (line_part line) replacement_bytes width walked.at (walked.at + kept) used us) (sym next.left_are) ∙ walked.goes_on
@@ -177,7 +177,7 @@ module _ (line : List Piece) (width : ℕ) (all out rest : List ℕ) (style : At
     behind c d n = left_bytes (line_part line) replacement_bytes width c d n next.others
 
     -- a line without room ends
-    pub line-ends : 0 < width → (if nat_le unit.cost width then nat_le (used + unit.cost) width else nat_lt used width) ≡ false
+    pub line-ends : 0 < width → room width used unit.cost ≡ false
         → (end : List ℕ) (end_style : Attributes) → StandsAt line (walked.at + kept) end end_style → (written : List ℕ) → written ≡ (out ++ line_part line walked.at (walked.at + kept)) ++ line_feed ∷ []
         → Walked line width all written end end_style 0 0 units
     line-ends some full end end_style stands written is =
@@ -206,7 +206,7 @@ module _ (line : List Piece) (width : ℕ) (all out rest : List ℕ) (style : At
           some = walked.some;
         }
 
-    put-here : (if nat_le unit.cost width then nat_le (used + unit.cost) width else nat_lt used width) ≡ true
+    put-here : room width used unit.cost ≡ true
         → out ++ put (line_part line) replacement_bytes width behind walked.at (walked.at + kept) used next.first ≡ all
     put-here room =
         let part = line_part line walked.at (walked.at + kept) in
@@ -218,7 +218,7 @@ module _ (line : List Piece) (width : ℕ) (all out rest : List ℕ) (style : At
     front-len = omega (arith, length-append walked.front (encode_utf8_all next.first.text), walked.passed, len-is)
 
     -- a unit that has room is kept
-    pub unit-kept : (if nat_le unit.cost width then nat_le (used + unit.cost) width else nat_lt used width) ≡ true → unit.cost ≤ width
+    pub unit-kept : room width used unit.cost ≡ true → unit.cost ≤ width
         → Walked line width all out rest style (kept + (unit.end - unit.start)) (used + unit.cost) others
     unit-kept room narrow =
         let here = walked.at + kept in
@@ -247,7 +247,7 @@ module _ (line : List Piece) (width : ℕ) (all out rest : List ℕ) (style : At
         }
 
     -- one that costs more than the width is marked
-    pub unit-marked : (if nat_le unit.cost width then nat_le (used + unit.cost) width else nat_lt used width) ≡ true → width < unit.cost
+    pub unit-marked : room width used unit.cost ≡ true → width < unit.cost
         → (end : List ℕ) (end_style : Attributes) → StandsAt line (walked.at + kept + (unit.end - unit.start)) end end_style
         → (written : List ℕ) → written ≡ (out ++ line_part line walked.at (walked.at + kept)) ++ repeat (width - used) replacement_bytes
         → Walked line width all written end end_style 0 width others

@@ -1,16 +1,12 @@
 -- Room for a unit on the line of the result that is being written.
-use Rattle.std.specs.Prelude.{◌≡◌, ◌<◌, ◌+◌, ◌++◌, ℕ, Bool, List, [], ◌∷◌, false, true, if◌then◌else◌, length, nat_le, nat_lt}
+use Rattle.std.specs.Prelude.{◌≡◌, ◌<◌, ◌+◌, ◌++◌, ℕ, List, [], ◌∷◌, false, true, length}
 use Rattle.ansi_scan.specs.Sequences.{Piece}
 use Rattle.ansi_str.specs.StyledText.{strip}
 use Rattle.grid_records_measure.specs.TextLines.{line_feed}
+use Rattle.tabled_size_wrap.specs.Runs.{room}
 use Rattle.tabled_size_wrap.specs.Standing.{StandsAt}
 use Rattle.tabled_size_wrap.specs.Wrapping.{line_part}
 use Rattle.tabled_size_wrap.specs.declared.broken_lines.Run.{Run}
-
--- a line that has taken `used` columns has room for a unit of this cost; for one that costs more than the width, where a
--- column is left
-abbrev pub room : ℕ → ℕ → ℕ → Bool
-room width used cost = if nat_le cost width then nat_le (used + cost) width else nat_lt used width
 
 -- where the line has room for the unit, nothing changes; where it has none, it is written to its end, and the next one begins
 pub record MakesRoom (width cost : ℕ) (before after : Run) (old new : List ℕ) : Type 0 where

@@ -9,9 +9,9 @@ ghost use Rattle.ansi_str.specs.Parts.{dressed, from_place, through_place};
 ghost use Rattle.ansi_str.specs.Walking.{from_text};
 ghost use Rattle.grid_records_measure.specs.TextLines.{line_feed};
 ghost use Rattle.tabled_size_wrap.specs.Wrapping.{line_part, replacement_bytes};
-ghost use Rattle.tabled_size_wrap.specs.Runs.{broken_lines};
+ghost use Rattle.tabled_size_wrap.specs.Runs.{broken_lines, room};
 ghost use Rattle.tabled_size_wrap.specs.Standing.{StandsAt};
-ghost use Rattle.tabled_size_wrap.specs.Room.{MakesRoom, room};
+ghost use Rattle.tabled_size_wrap.specs.Room.{MakesRoom};
 
 use crate::line_units::LineUnits;
 use ansi_str::AnsiStr;

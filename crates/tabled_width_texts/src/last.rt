@@ -1,13 +1,12 @@
 //! The style of the last character that a cut keeps.
-ghost use Rattle.std.specs.Prelude.{◌≡◌, ◌≤◌, ◌++◌, ℕ, IfSome, List, chars, if◌then◌else◌, map};
+ghost use Rattle.std.specs.Prelude.{◌≡◌, ◌≤◌, ◌++◌, ℕ, List, chars, if◌then◌else◌, map};
 ghost use Rattle.ansi_scan.specs.Attributes.{Attributes, plain_attributes};
-ghost use Rattle.grid_records_measure.specs.Filling.{columns_with};
 ghost use Rattle.tabled_width_texts.specs.Cutting.{kept, last_style as style_of_last};
 ghost use Rattle.tabled_width_texts.specs.Keeping.{last_kept};
 
 use ansi_scan::Style;
 use ansi_str::get_blocks;
-use grid_records_measure::get_char_width;
+use grid_records_measure::columns_with;
 
 /// The style of the last character of a text that its cut at the width keeps, and where it keeps none the
 /// plain one. Does not allocate.
@@ -44,31 +43,11 @@ fn past_piece(
     let mut used = before;
     let mut last = known;
     for c in text.chars() {
-        let Some(columns) = columns_after(c, used, width) else {
+        let Some(columns) = columns_with(c, used, width) else {
             return (used, last, false);
         };
         used = columns;
         last = style;
     }
     (used, last, true)
-}
-
-// The columns of a line with a character after `used` columns, where it has room.
-fn columns_after(c: char, used: usize, width: usize) -> Option<usize>
-    requires { used ≤ width }
-    ensures columns { result ≡ columns_with width used c }
-    ensures fits { IfSome result (λ columns. columns ≤ width) }
-{
-    if used == width {
-        return None;
-    }
-    if c == '\n' {
-        return Some(0);
-    }
-    let cost = get_char_width(c).max(1);
-    if cost <= width - used {
-        Some(used + cost)
-    } else {
-        None
-    }
 }

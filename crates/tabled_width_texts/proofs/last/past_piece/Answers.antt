@@ -14,7 +14,7 @@ pub returns-in_default-clause-last : goal.returns-in_default-clause-last
 returns-in_default-clause-last c = λ rest.
     let l = c.loop-c in
     l.invariant.left rest
-    ∙ stops c.args.width l.used c.in-Some.c c.args.style l.last (chars_rest l.c-iterator) (chars_rest c.next.new.self) l.invariant.text c.in-Some.ensures.steps.0 rest (sym c.columns_after.ensures.columns ∙ c.in_default.is)
+    ∙ stops c.args.width l.used c.in-Some.c c.args.style l.last (chars_rest l.c-iterator) (chars_rest c.next.new.self) l.invariant.text c.in-Some.ensures.steps.0 rest (sym c.columns_with.ensures.columns ∙ c.in_default.is)
 
 pub loop-c-preserved : goal.loop-c-preserved
 loop-c-preserved c =
@@ -22,10 +22,10 @@ loop-c-preserved c =
     record {
       goes = search rules;
       text = IsUtf8-past_char (chars_rest l.c-iterator) (chars_rest c.next.new.self) c.in-Some.c l.invariant.text c.in-Some.ensures.steps.0;
-      fits = c.in-Some-columns_after.ensures.fits;
+      fits = c.in-Some-columns_with.ensures.fits;
       left = λ rest. l.invariant.left rest
           ∙ goes_on c.args.width l.used c.in-Some.c c.args.style l.last (chars_rest l.c-iterator) (chars_rest c.next.new.self) l.invariant.text c.in-Some.ensures.steps.0 rest
-          c.in-Some-columns_after.columns (sym c.columns_after.ensures.columns ∙ c.in-Some-columns_after.is);
+          c.in-Some-columns_with.columns (sym c.columns_with.ensures.columns ∙ c.in-Some-columns_with.is);
     }
 
 pub returns-clause-last : goal.returns-clause-last

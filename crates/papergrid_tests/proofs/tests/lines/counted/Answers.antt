@@ -1,8 +1,8 @@
-use Rattle.std.proofs.Common.{◌^◌, ◌<◌, ℕ, List, length, slice_index, subst}
+use Rattle.std.proofs.Common.{◌^◌, ◌<◌, ℕ, List, length, slice_index, refl, subst}
 use Rattle.grid_config.specs.Looks.{look_of}
 use Rattle.papergrid_picture.specs.Frame.{frame_of, line_count}
 use Rattle.papergrid_picture.specs.Tables.{sizes_of}
-use Rattle.papergrid_tests.proofs.ByNumber.{by_number}
+use Rattle.papergrid_picture.proofs.ByNumber.{by_number}
 use Rattle.papergrid_tests.proofs.tests.lines.counted.Goals as goal
 
 pub count_lines-requires : goal.count_lines-requires
@@ -11,6 +11,6 @@ count_lines-requires g c =
     let widths = c.args.widths.now in
     let heights = c.args.heights.now in
     record {
-      range = subst (λ (sizes : List ℕ). line_count (frame_of look sizes heights) < 2 ^ 64) (by_number widths)
-          (subst (λ (sizes : List ℕ). line_count (frame_of look (sizes_of (slice_index widths) (length widths)) sizes) < 2 ^ 64) (by_number heights) c.in_ok-fits_counted.ensures.1.1);
+      range = subst (λ (sizes : List ℕ). line_count (frame_of look sizes heights) < 2 ^ 64) (by_number widths (length widths) refl)
+          (subst (λ (sizes : List ℕ). line_count (frame_of look (sizes_of (slice_index widths) (length widths)) sizes) < 2 ^ 64) (by_number heights (length heights) refl) c.in_ok-fits_counted.ensures.1.1);
     }

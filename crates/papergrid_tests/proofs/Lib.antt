@@ -1,2 +1,0 @@
--- Why the tests' calls meet what is asked of them.
-mod ByNumber
