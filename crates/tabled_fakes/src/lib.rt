@@ -1,59 +1,8 @@
-//! A writer for tests of tables that are written.
+//! For tests of tables: a writer that fails, and options that are refused.
 #![tactic(auto)]
 
-use std::alloc::Global;
-use std::io;
-use std::io::{ErrorKind, Write};
+mod refused;
+mod writer;
 
-/// Takes at most `step` bytes a call, and fails at the call of number `bad_call`, counted from 1: writes
-/// and flushes are calls.
-#[derive(Drop)]
-pub struct StepWriter {
-    pub taken: Vec<u8>,
-    pub calls: usize,
-    step: usize,
-    bad_call: usize,
-    room: usize,
-}
-
-impl StepWriter {
-    /// A writer that never fails where `bad_call` is 0.
-    pub fn new(alloc: Global, step: usize, bad_call: usize) -> StepWriter {
-        StepWriter {
-            taken: Vec::new(alloc),
-            calls: 0,
-            step,
-            bad_call,
-            room: usize::MAX,
-        }
-    }
-
-    /// A writer that never fails, and takes this many bytes in all, and then nothing.
-    pub fn filling(alloc: Global, step: usize, room: usize) -> StepWriter {
-        let mut writer = StepWriter::new(alloc, step, 0);
-        writer.room = room;
-        writer
-    }
-
-    fn call(&mut self) -> io::Result<()> {
-        self.calls = self.calls.wrapping_add(1);
-        if self.calls == self.bad_call {
-            return Err(io::Error::from(ErrorKind::Other));
-        }
-        Ok(())
-    }
-}
-
-impl Write for StepWriter {
-    fn write(&mut self, buf: &[u8]) -> io::Result<usize> {
-        self.call()?;
-        let count = buf.len().min(self.step).min(self.room);
-        self.taken.extend_from_slice(&buf[..count])?;
-        self.room -= count;
-        Ok(count)
-    }
-
-    fn flush(&mut self) -> io::Result<()> {
-        self.call()
-    }
-}
+pub use refused::{OutOfMemory, OutOfRange};
+pub use writer::StepWriter;
