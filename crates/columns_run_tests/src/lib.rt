@@ -1,7 +1,0 @@
-//! Tests of `columns_run`. They stand apart, so that the library is proved once.
-#![tactic(auto)]
-
-#[cfg(test)]
-mod fakes;
-#[cfg(test)]
-mod tests;

@@ -1,0 +1,10 @@
+//! What the tests share.
+mod counted;
+mod fault;
+mod input;
+mod narrowed;
+mod run;
+mod sides;
+mod styles;
+mod tables;
+mod widths;

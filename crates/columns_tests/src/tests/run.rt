@@ -1,0 +1,226 @@
+//! What a run writes, whole and streamed, and when it gives up.
+ghost use Rattle.std.specs.Prelude.{◌≡◌, IfOk};
+ghost use Rattle.grid_config.specs.Compact.{compact_of};
+ghost use Rattle.columns_run.specs.Layout.{output_of};
+ghost use Rattle.columns_run.specs.Plain.{IsPlain};
+
+use super::counted::{expect_counts, expect_taken};
+use crate::fakes::ByteReader;
+use columns_run::{Counted, Options, RunFault, run, run_streamed, style_is_plain};
+use std::alloc::Global;
+use std::io::{ErrorKind, Read, Write};
+use std::process::Abort;
+use tabled_fakes::StepWriter;
+
+const INPUT: &[u8] = b"a\tb\n1\t2\n";
+
+// The table of `INPUT`.
+const TABLE: &[u8] = b"+---+---+\n| a | b |\n+---+---+\n| 1 | 2 |\n+---+---+\n";
+
+// Inputs, and their tables worked out by hand.
+pub const TABLES: &[(&str, &str)] = &[
+    ("", ""),
+    (
+        "a\tb\n1\t2\n",
+        "+---+---+\n| a | b |\n+---+---+\n| 1 | 2 |\n+---+---+\n",
+    ),
+    (
+        "\u{1b}[31mab\tc\n",
+        "+----+---+\n| \u{1b}[31mab\u{1b}[39m | \u{1b}[31mc\u{1b}[39m |\n+----+---+\n",
+    ),
+    (
+        "\u{1b}[1ma\nb\u{1b}[0m\n",
+        "+---+\n| \u{1b}[1ma\u{1b}[22m |\n+---+\n| \u{1b}[1mb\u{1b}[0m |\n+---+\n",
+    ),
+    (
+        "a\tb\nc\n",
+        "+---+---+\n| a | b |\n+---+---+\n| c |   |\n+---+---+\n",
+    ),
+    ("\n", "+--+\n|  |\n+--+\n"),
+    ("\u{1b}[31m", ""),
+    (
+        "\u{1b}]0;a\tb\u{7}x\n",
+        "+---+\n| \u{1b}]0;a\tb\u{7}x |\n+---+\n",
+    ),
+    (
+        "\u{1b}[31ma\u{1b}[31mb\n",
+        "+----+\n| \u{1b}[31ma\u{1b}[31mb\u{1b}[39m |\n+----+\n",
+    ),
+];
+
+// Inputs that have no table, and why.
+pub const FAULTS: &[(&[u8], RunFault)] = &[
+    (b"\x1b", RunFault::Escape { at: 0 }),
+    (b"a\xff", RunFault::NotUtf8 { at: 1 }),
+    (b"\x1b\xff", RunFault::NotUtf8 { at: 1 }),
+    (b"\x1b[31m\x1b[1", RunFault::Escape { at: 5 }),
+    (b"\x1b]0;a", RunFault::Escape { at: 0 }),
+];
+
+/// The call that prints a table.
+#[derive(Clone, Copy)]
+pub(crate) enum Way {
+    Whole,
+    Streamed,
+}
+
+/// Both.
+pub(crate) const WAYS: [Way; 2] = [Way::Whole, Way::Streamed];
+
+/// The defaults, whose style is plain.
+pub(crate) fn defaults(rt: &impl Abort) -> Options
+    ensures { IsPlain (compact_of result.style) }
+{
+    let options = Options::new();
+    assert!(rt; style_is_plain(&options.style));
+    options
+}
+
+/// What the call returns.
+pub(crate) fn print<R: Read, W: Write>(
+    way: Way,
+    alloc: Global,
+    options: &Options,
+    reader: &mut Counted<R>,
+    writer: &mut Counted<W>,
+) -> Result<(), RunFault>
+    requires { IsPlain (compact_of options.now.style) }
+{
+    match way {
+        Way::Whole => run(alloc, options, reader, writer),
+        Way::Streamed => run_streamed(alloc, &options.style, reader, writer),
+    }
+}
+
+// The contract of `run` tells its caller which bytes these are.
+fn table_bytes(alloc: Global, options: &Options, input: &[u8]) -> Result<Vec<u8>, RunFault>
+    requires { IsPlain (compact_of options.now.style) }
+    ensures { IfOk result (λ bytes. bytes.items ≡ output_of options.now input.now) }
+{
+    let mut writer = Counted::new(Vec::new(alloc));
+    run(alloc, options, &mut Counted::new(input), &mut writer)?;
+    Ok(writer.into_inner())
+}
+
+// The table, by pieces, to any reader and writer.
+fn expect_pieces(rt: &impl Abort, alloc: Global, way: Way, input: &[u8], table: &[u8]) {
+    for step in 1..7 {
+        let mut reader = Counted::new(ByteReader::new(input));
+        let mut writer = Counted::new(StepWriter::new(alloc, step, 0));
+        let result = print(way, alloc, &defaults(rt), &mut reader, &mut writer);
+        assert_eq!(rt; result, Ok(()), "by {step}");
+        expect_taken(rt, writer, (0, 0), table);
+    }
+}
+
+#[test]
+fn writes_the_table(rt: HostRuntime) -> Result<(), RunFault> {
+    for (input, table) in TABLES {
+        let (input, table) = (input.as_bytes(), table.as_bytes());
+        assert_eq!(&rt;
+            table_bytes(rt.alloc(), &defaults(&rt), input)?.as_slice(),
+            table
+        );
+        expect_pieces(&rt, rt.alloc(), Way::Whole, input, table);
+        expect_pieces(&rt, rt.alloc(), Way::Streamed, input, table);
+    }
+    Ok(())
+}
+
+// The fault of an input, and that nothing is written before it.
+fn expect_input_fault(rt: &impl Abort, alloc: Global, way: Way, input: &[u8], fault: RunFault) {
+    let mut writer = Counted::new(StepWriter::new(alloc, 1, 0));
+    let mut reader = Counted::new(input);
+    let result = print(way, alloc, &defaults(rt), &mut reader, &mut writer);
+    assert_eq!(rt; result, Err(fault), "{input:?}");
+    expect_taken(rt, writer, (0, 0), b"");
+}
+
+#[test]
+fn refuses_what_is_no_whole_text(rt: HostRuntime) {
+    for (input, fault) in FAULTS {
+        expect_input_fault(&rt, rt.alloc(), Way::Whole, input, *fault);
+        expect_input_fault(&rt, rt.alloc(), Way::Streamed, input, *fault);
+    }
+}
+
+fn expect_read_fault(rt: &impl Abort, alloc: Global, way: Way, kind: ErrorKind) {
+    for bad_call in 1..4 {
+        let mut reader = Counted::new(ByteReader::failing(b"\x1b\xff", bad_call, kind));
+        let mut writer = Counted::new(StepWriter::new(alloc, 1, 0));
+        let result = print(way, alloc, &defaults(rt), &mut reader, &mut writer);
+        assert_eq!(rt; result, Err(RunFault::Read), "at call {bad_call}");
+        expect_counts(rt, &reader, 1, 0);
+        expect_taken(rt, writer, (0, 0), b"");
+    }
+}
+
+#[test]
+fn a_read_that_fails_comes_first(rt: HostRuntime) {
+    for way in WAYS {
+        expect_read_fault(&rt, rt.alloc(), way, ErrorKind::Other);
+        expect_read_fault(&rt, rt.alloc(), way, ErrorKind::Interrupted);
+    }
+}
+
+// What the call returns with this writer, the counts then, and what the writer took.
+fn expect_written(
+    rt: &impl Abort,
+    alloc: Global,
+    way: Way,
+    input: &[u8],
+    writer: StepWriter,
+    answer: Result<(), RunFault>,
+    counts: (u64, u64),
+    taken: &[u8],
+) {
+    let mut reader = Counted::new(input);
+    let mut writer = Counted::new(writer);
+    let result = print(way, alloc, &defaults(rt), &mut reader, &mut writer);
+    assert_eq!(rt; result, answer, "{taken:?}");
+    expect_taken(rt, writer, counts, taken);
+}
+
+// A write that fails leaves a front.
+fn expect_front(rt: &impl Abort, alloc: Global, way: Way, kind: ErrorKind) {
+    let fault = Err(RunFault::Write);
+    for bad_call in 1..=TABLE.len() {
+        let writer = StepWriter::failing(alloc, 1, bad_call, kind);
+        let front = &TABLE[..bad_call - 1];
+        expect_written(rt, alloc, way, INPUT, writer, fault, (1, 0), front);
+    }
+}
+
+#[test]
+fn a_write_that_fails_leaves_a_front(rt: HostRuntime) {
+    for way in WAYS {
+        expect_front(&rt, rt.alloc(), way, ErrorKind::Other);
+        expect_front(&rt, rt.alloc(), way, ErrorKind::Interrupted);
+    }
+}
+
+// A writer that takes nothing once it is full is refused.
+fn expect_full(rt: &impl Abort, alloc: Global, way: Way) {
+    let fault = Err(RunFault::WriteZero);
+    for room in 0..TABLE.len() {
+        let writer = StepWriter::filling(alloc, 1, room);
+        expect_written(rt, alloc, way, INPUT, writer, fault, (0, 1), &TABLE[..room]);
+    }
+}
+
+// So is one that takes nothing at all, but where there is nothing to write.
+fn expect_closed(rt: &impl Abort, alloc: Global, way: Way) {
+    let closed = StepWriter::new(alloc, 0, 0);
+    expect_written(rt, alloc, way, b"", closed, Ok(()), (0, 0), b"");
+    let closed = StepWriter::new(alloc, 0, 0);
+    let fault = Err(RunFault::WriteZero);
+    expect_written(rt, alloc, way, INPUT, closed, fault, (0, 1), b"");
+}
+
+#[test]
+fn a_writer_that_takes_nothing_is_refused(rt: HostRuntime) {
+    for way in WAYS {
+        expect_full(&rt, rt.alloc(), way);
+        expect_closed(&rt, rt.alloc(), way);
+    }
+}

@@ -1,0 +1,3 @@
+//! What was counted by hand.
+mod settings;
+mod texts;
