@@ -1,175 +1,175 @@
 //! Colours of a table.
-use super::{expect, expect_text};
+use super::{MEMORY, expect, expect_order, expect_printed, expect_text};
 use grid_config_colors::{ANSIBuf, ANSIStr, BufFault};
 use std::alloc::{AllocError, Global};
-use std::hash::{DefaultHasher, Hash, Hasher};
+use std::cmp::Ordering;
 use std::process::Abort;
-use std::test::Fail;
 
 // ---- parts
 
-// A prefix, a suffix, and whether both are empty.
-const COLORS: &[(&str, &str, bool)] = &[
-    ("\x1b[31m", "\x1b[39m", false),
-    ("\x1b[34m", "\x1b[0m", false),
-    ("\x1b[31m", "", false),
-    ("", "\x1b[39m", false),
-    ("a", "", false),
-    ("", "a", false),
-    ("", "", true),
+// A prefix, a suffix, whether both are empty, and whether the colour is closed.
+type Parts = (&'static str, &'static str, bool, bool);
+
+const EMPTY: Parts = ("", "", true, true);
+
+const COLORS: &[Parts] = &[
+    EMPTY,
+    ("\x1b[31m", "\x1b[39m", false, true),
+    ("\x1b[34m", "\x1b[0m", false, true),
+    ("\x1b[31m", "", false, false),
+    ("", "\x1b[39m", false, true),
+    ("a", "", false, false),
+    ("", "a", false, false),
+    ("\x1b[1;31m", "\x1b[22;39m", false, true),
+    ("\x1b[1;31m", "\x1b[39m", false, false),
+    ("\x1b[1;31m", "\x1b[0m", false, true),
+    ("\x1b[1;31m", "\x1b[22m\x1b[39m", false, true),
+    ("\x1b[1m", "", false, false),
+    // the suffix sets what it does not clear
+    ("", "\x1b[1m", false, false),
+    ("\x1b[1m", "\x1b[22;4m", false, false),
+    ("\x1b[1m", "\x1b[4;22;24m", false, true),
+    // the prefix clears what it set itself
+    ("\x1b[1;22m", "", false, true),
+    // a colour by numbers, and codes that a bad colour hides
+    ("\x1b[38;5;1m", "\x1b[39m", false, true),
+    ("\x1b[1m", "\x1b[38;5;300;22m", false, false),
+    // other sequences set nothing
+    ("\x1b]0;t\x07", "\x1b[K", false, true),
+    // text, and escapes that begin no sequence
+    ("\x1b[31mx", "\x1b[39m", false, false),
+    ("\x1b[31m", "x\x1b[39m", false, false),
+    ("\x1b[31m\x1b", "\x1b[39m", false, false),
+    ("\x1b[31m", "\x1b[39m\x1b", false, false),
+    ("<", ">", false, false),
 ];
 
-fn expect_borrowed(rt: &impl Abort, color: ANSIStr<'_>, prefix: &str, suffix: &str, none: bool) {
+fn expect_borrowed(rt: &impl Abort, color: ANSIStr<'_>, wanted: Parts) {
+    let (prefix, suffix, is_empty, is_closed) = wanted;
     expect_text(rt, color.get_prefix(), prefix, "a prefix");
     expect_text(rt, color.get_suffix(), suffix, "a suffix");
-    expect(rt, color.is_empty() == none, prefix);
+    expect(rt, color.is_empty() == is_empty, prefix);
+    expect(rt, color.closes() == is_closed, suffix);
 }
 
-fn expect_owned(rt: &impl Abort, color: &ANSIBuf, prefix: &str, suffix: &str, none: bool) {
+fn expect_owned(rt: &impl Abort, color: &ANSIBuf, wanted: Parts) {
+    let (prefix, suffix, is_empty, is_closed) = wanted;
     expect_text(rt, color.get_prefix(), prefix, "a prefix");
     expect_text(rt, color.get_suffix(), suffix, "a suffix");
-    expect(rt, color.is_empty() == none, prefix);
-    expect(rt, color.as_ref() == ANSIStr::new(prefix, suffix), prefix);
+    expect(rt, color.is_empty() == is_empty, prefix);
+    expect(rt, color.closes() == is_closed, suffix);
+    expect_borrowed(rt, color.as_ref(), wanted);
+}
+
+fn expect_made(rt: &impl Abort, made: Result<ANSIBuf, AllocError>, wanted: Parts) {
+    let color = made.expect(rt, MEMORY);
+    expect_owned(rt, &color, wanted);
 }
 
 // A colour that is owned, its copy, and one that is made of a borrowed one.
-fn expect_owners(
-    rt: &impl Abort,
-    alloc: Global,
-    prefix: &str,
-    suffix: &str,
-    none: bool,
-) -> Result<(), AllocError> {
-    let color = ANSIBuf::new(alloc, prefix, suffix)?;
-    expect_owned(rt, &color, prefix, suffix, none);
-    let copy = color.clone(alloc)?;
-    expect_owned(rt, &copy, prefix, suffix, none);
-    let made = ANSIBuf::from_ansi_str(alloc, color.as_ref())?;
-    expect_owned(rt, &made, prefix, suffix, none);
-    Ok(())
+fn expect_owners(rt: &impl Abort, alloc: Global, wanted: Parts) {
+    let color = ANSIBuf::new(alloc, wanted.0, wanted.1).expect(rt, MEMORY);
+    expect_owned(rt, &color, wanted);
+    expect_made(rt, color.clone(alloc), wanted);
+    expect_made(rt, ANSIBuf::from_ansi_str(alloc, color.as_ref()), wanted);
 }
 
-// ---- comparisons
-
-fn hash_of(color: &ANSIStr) -> u64 {
-    let mut hasher = DefaultHasher::new();
-    color.hash(&mut hasher);
-    hasher.finish()
-}
-
-fn compare(rt: &impl Abort) {
-    let red = ANSIStr::new("\x1b[31m", "\x1b[39m");
-    let same = ANSIStr::new("\x1b[31m", "\x1b[39m");
-    expect(rt, red == same, "the same");
-    expect(rt, hash_of(&red) == hash_of(&same), "the same hash");
-    // by the prefix, then by the suffix, each by its bytes
-    let other_end = ANSIStr::new("\x1b[31m", "\x1b[0m");
-    expect(rt, red < ANSIStr::new("\x1b[32m", "\x1b[0m"), "a prefix");
-    expect(rt, other_end < red, "a suffix");
-    expect(rt, red != other_end, "another suffix");
-    expect(rt, red != ANSIStr::new("\x1b[32m", "\x1b[39m"), "a prefix");
-}
-
-#[test]
-fn colors_have_their_parts_and_are_compared(rt: HostRuntime) -> Result<(), Fail> {
-    for (prefix, suffix, none) in COLORS {
-        expect_borrowed(&rt, ANSIStr::new(prefix, suffix), prefix, suffix, *none);
-        expect_owners(&rt, rt.alloc(), prefix, suffix, *none)?;
-    }
-    expect_borrowed(&rt, ANSIStr::empty(), "", "", true);
-    expect_owned(&rt, &ANSIBuf::empty(rt.alloc()), "", "", true);
-    compare(&rt);
-    Ok(())
-}
-
-// ---- what is closed
-
-// A prefix, a suffix, and whether the colour is closed.
-const CLOSED: &[(&str, &str, bool)] = &[
-    ("\x1b[1;31m", "\x1b[22;39m", true),
-    ("\x1b[1;31m", "\x1b[39m", false),
-    ("\x1b[1;31m", "\x1b[0m", true),
-    ("\x1b[1;31m", "\x1b[22m\x1b[39m", true),
-    ("", "", true),
-    ("\x1b[1m", "", false),
-    // the suffix sets what it does not clear
-    ("", "\x1b[1m", false),
-    ("\x1b[1m", "\x1b[22;4m", false),
-    ("\x1b[1m", "\x1b[4;22;24m", true),
-    // the prefix clears what it set itself
-    ("\x1b[1;22m", "", true),
-    // a colour by numbers, and codes that a bad colour hides
-    ("\x1b[38;5;1m", "\x1b[39m", true),
-    ("\x1b[1m", "\x1b[38;5;300;22m", false),
-    // other sequences set nothing
-    ("\x1b]0;t\x07", "\x1b[K", true),
-    // text, and escapes that begin no sequence
-    ("\x1b[31mx", "\x1b[39m", false),
-    ("\x1b[31m", "x\x1b[39m", false),
-    ("\x1b[31m\x1b", "\x1b[39m", false),
-    ("\x1b[31m", "\x1b[39m\x1b", false),
-    ("<", ">", false),
+// A prefix, a suffix, those of another colour, and how the two compare: by the prefix, then by the suffix,
+// each by its bytes.
+const COMPARED: &[(&str, &str, &str, &str, Ordering)] = &[
+    (
+        "\x1b[31m",
+        "\x1b[39m",
+        "\x1b[31m",
+        "\x1b[39m",
+        Ordering::Equal,
+    ),
+    (
+        "\x1b[31m",
+        "\x1b[39m",
+        "\x1b[32m",
+        "\x1b[0m",
+        Ordering::Less,
+    ),
+    (
+        "\x1b[31m",
+        "\x1b[0m",
+        "\x1b[31m",
+        "\x1b[39m",
+        Ordering::Less,
+    ),
+    (
+        "\x1b[31m",
+        "\x1b[39m",
+        "\x1b[31m",
+        "\x1b[0m",
+        Ordering::Greater,
+    ),
+    (
+        "\x1b[31m",
+        "\x1b[39m",
+        "\x1b[32m",
+        "\x1b[39m",
+        Ordering::Less,
+    ),
 ];
 
-#[test]
-fn tells_closed_colors(rt: HostRuntime) -> Result<(), Fail> {
-    for (prefix, suffix, wanted) in CLOSED {
-        let borrowed = ANSIStr::new(prefix, suffix);
-        expect(&rt, borrowed.closes() == *wanted, prefix);
-        let owned = ANSIBuf::new(rt.alloc(), prefix, suffix)?;
-        expect(&rt, owned.closes() == *wanted, suffix);
+fn compare(rt: &impl Abort) {
+    for (prefix, suffix, other_prefix, other_suffix, wanted) in COMPARED {
+        let color = ANSIStr::new(prefix, suffix);
+        let other = ANSIStr::new(other_prefix, other_suffix);
+        expect_order(rt, &color, &other, *wanted, "two colours");
     }
-    Ok(())
+}
+
+#[test]
+fn colors_have_their_parts_and_are_compared(rt: HostRuntime) {
+    for wanted in COLORS {
+        expect_borrowed(&rt, ANSIStr::new(wanted.0, wanted.1), *wanted);
+        expect_owners(&rt, rt.alloc(), *wanted);
+    }
+    expect_borrowed(&rt, ANSIStr::empty(), EMPTY);
+    expect_owned(&rt, &ANSIBuf::empty(rt.alloc()), EMPTY);
+    compare(&rt);
 }
 
 // ---- colours of texts
 
-// A text, and the prefix and the suffix of its first block.
-const TEXTS: &[(&str, &str, &str)] = &[
-    ("\x1b[1;31mx\x1b[0m", "\x1b[1m\x1b[31m", "\x1b[22m\x1b[39m"),
+// A text, and the prefix and the suffix of its first block, none where it shows nothing.
+const TEXTS: &[(&str, Option<(&str, &str)>)] = &[
+    (
+        "\x1b[1;31mx\x1b[0m",
+        Some(("\x1b[1m\x1b[31m", "\x1b[22m\x1b[39m")),
+    ),
     // of the first block alone
-    ("a\x1b[1mb", "", ""),
-    ("\x1b[4ma\x1b[1mb", "\x1b[4m", "\x1b[24m"),
-    ("\x1b[1m\x1b[22mx", "", ""),
+    ("a\x1b[1mb", Some(("", ""))),
+    ("\x1b[4ma\x1b[1mb", Some(("\x1b[4m", "\x1b[24m"))),
+    ("\x1b[1m\x1b[22mx", Some(("", ""))),
+    ("", None),
+    ("\x1b[31m", None),
+    ("\x1b[31m\x1b", None),
 ];
 
-fn expect_color_of(
-    rt: &impl Abort,
-    alloc: Global,
-    text: &str,
-    prefix: &str,
-    suffix: &str,
-) -> Result<(), BufFault> {
-    let color = ANSIBuf::from_text(alloc, text)?;
-    expect_text(rt, color.get_prefix(), prefix, text);
-    expect_text(rt, color.get_suffix(), suffix, text);
-    Ok(())
+fn expect_color_of(rt: &impl Abort, alloc: Global, text: &str, wanted: Option<(&str, &str)>) {
+    match ANSIBuf::from_text(alloc, text) {
+        Ok(color) => {
+            let (prefix, suffix) = wanted.expect(rt, "a text that shows nothing");
+            expect_text(rt, color.get_prefix(), prefix, text);
+            expect_text(rt, color.get_suffix(), suffix, text);
+        }
+        Err(fault) => {
+            expect(rt, fault == BufFault::NoBlock, text);
+            expect(rt, wanted.is_none(), text);
+        }
+    }
 }
 
-// Texts that show nothing.
-const NO_BLOCK: &[&str] = &["", "\x1b[31m", "\x1b[31m\x1b"];
-
-// A fault, and how it is printed.
-const FAULTS: &[(BufFault, &str)] = &[
-    (BufFault::NoBlock, "no text to take a colour from"),
-    (BufFault::Memory, "out of memory"),
-];
-
 #[test]
-fn takes_the_color_of_a_text(rt: HostRuntime) -> Result<(), Fail> {
-    for (text, prefix, suffix) in TEXTS {
-        expect_color_of(&rt, rt.alloc(), text, prefix, suffix)?;
+fn takes_the_color_of_a_text(rt: HostRuntime) {
+    for (text, wanted) in TEXTS {
+        expect_color_of(&rt, rt.alloc(), text, *wanted);
     }
-    for text in NO_BLOCK {
-        let fault = ANSIBuf::from_text(rt.alloc(), text).err();
-        expect(&rt, fault == Some(BufFault::NoBlock), text);
-    }
-    let alloc = rt.alloc();
-    for (fault, text) in FAULTS {
-        // also in holes with options
-        let printed = format!(in alloc; "{fault}|{fault:>40}|{fault:8}")?;
-        let wanted = format!(in alloc; "{text}|{text}|{text}")?;
-        expect_text(&rt, printed.as_str(), wanted.as_str(), "a fault");
-    }
-    Ok(())
+    let no_block = BufFault::NoBlock;
+    expect_printed(&rt, rt.alloc(), &no_block, "no text to take a colour from");
+    expect_printed(&rt, rt.alloc(), &BufFault::Memory, "out of memory");
 }

@@ -1,13 +1,13 @@
 //! Values of settings, sets of cells and maps over them.
-use super::{at, expect, expect_text};
+use super::{MEMORY, NO_GLYPHS, at, expect, expect_order, expect_printed, expect_text};
+use Ordering::*;
 use grid_config_values::{
     AlignmentHorizontal, AlignmentVertical, Borders, Entity, EntityMap, Fault, Formatting, Indent,
     Sides,
 };
 use std::alloc::{AllocError, Global};
-use std::hash::{DefaultHasher, Hash, Hasher};
+use std::cmp::Ordering;
 use std::process::Abort;
-use std::test::Fail;
 
 // ---- faults
 
@@ -22,17 +22,12 @@ const FAULTS: &[(Fault, &str)] = &[
 ];
 
 #[test]
-fn faults_are_printed(rt: HostRuntime) -> Result<(), Fail> {
-    let alloc = rt.alloc();
+fn faults_are_printed(rt: HostRuntime) {
     for (fault, text) in FAULTS {
-        // also in holes with options
-        let printed = format!(in alloc; "{fault}|{fault:>40}|{fault:8}")?;
-        let wanted = format!(in alloc; "{text}|{text}|{text}")?;
-        expect_text(&rt, printed.as_str(), wanted.as_str(), "a fault");
+        expect_printed(&rt, rt.alloc(), fault, text);
         expect(&rt, (*fault == ROOM) == text.starts_with("row"), text);
     }
     expect(&rt, Fault::from(AllocError) == Fault::Memory, "a refusal");
-    Ok(())
 }
 
 // ---- cells
@@ -53,9 +48,6 @@ fn cover(rt: &impl Abort) {
         let found = p.has_coverage(at(*row, *col));
         expect(rt, found == *wanted, "coverage");
     }
-    // by rows, and in a row by columns
-    expect(rt, at(0, 9) < at(1, 0), "an order by rows");
-    expect(rt, at(1, 0) < at(1, 1), "an order by columns");
 }
 
 // An entity, the rows and columns of a table, and the cells that it has there.
@@ -118,12 +110,11 @@ const CENTER: AlignmentHorizontal = AlignmentHorizontal::Center;
 
 const RIGHT: AlignmentHorizontal = AlignmentHorizontal::Right;
 
-// Calls in turn: which cells get which value, and what some cells have then.
-const CALLS: &[(
-    Entity,
-    AlignmentHorizontal,
-    &[(usize, usize, AlignmentHorizontal)],
-)] = &[
+// A call, which cells get which value, and what some cells have then.
+type Call<T> = (Entity, T, &'static [(usize, usize, T)]);
+
+// Calls in turn, each a cell has the value of the last that covers it.
+const CALLS: &[Call<AlignmentHorizontal>] = &[
     (Entity::Column(1), RIGHT, &[]),
     (
         Entity::Row(0),
@@ -150,20 +141,19 @@ const CALLS: &[(
     (Entity::Row(2), RIGHT, &[(2, 0, RIGHT), (1, 0, LEFT)]),
 ];
 
-fn decide_alignments(rt: &impl Abort, alloc: Global) -> Result<(), AllocError> {
+fn decide_alignments(rt: &impl Abort, alloc: Global) {
     let mut map = EntityMap::new(alloc, LEFT);
     expect(rt, *map.get(at(7, 7)) == LEFT, "before the first call");
     for (entity, value, cells) in CALLS {
-        map.insert(*entity, *value)?;
+        map.insert(*entity, *value).expect(rt, MEMORY);
         for (row, col, wanted) in *cells {
             expect(rt, *map.get(at(*row, *col)) == *wanted, "a call of many");
         }
     }
-    Ok(())
 }
 
 // The same of texts, which own memory.
-const TEXTS: &[(Entity, &str, &[(usize, usize, &str)])] = &[
+const TEXTS: &[Call<&str>] = &[
     (Entity::Row(1), "a", &[]),
     (
         Entity::Cell(1, 1),
@@ -173,22 +163,29 @@ const TEXTS: &[(Entity, &str, &[(usize, usize, &str)])] = &[
     (Entity::Global, "c", &[(1, 1, "c")]),
 ];
 
-fn decide_texts(rt: &impl Abort, alloc: Global) -> Result<(), AllocError> {
+fn text(rt: &impl Abort, alloc: Global, text: &str) -> String {
+    String::from_str(alloc, text).expect(rt, MEMORY)
+}
+
+fn expect_texts(rt: &impl Abort, map: &EntityMap<String>, cells: &[(usize, usize, &str)]) {
+    for (row, col, wanted) in cells {
+        expect_text(rt, map.get(at(*row, *col)).as_str(), wanted, "a text");
+    }
+}
+
+fn decide_texts(rt: &impl Abort, alloc: Global) {
     let mut map = EntityMap::new(alloc, String::new(alloc));
     for (entity, value, cells) in TEXTS {
-        map.insert(*entity, String::from_str(alloc, value)?)?;
-        for (row, col, wanted) in *cells {
-            expect_text(rt, map.get(at(*row, *col)).as_str(), wanted, value);
-        }
+        let done = map.insert(*entity, text(rt, alloc, value));
+        expect(rt, done == Ok(()), MEMORY);
+        expect_texts(rt, &map, cells);
     }
-    Ok(())
 }
 
 #[test]
-fn the_last_call_that_covers_a_cell_decides(rt: HostRuntime) -> Result<(), Fail> {
-    decide_alignments(&rt, rt.alloc())?;
-    decide_texts(&rt, rt.alloc())?;
-    Ok(())
+fn the_last_call_that_covers_a_cell_decides(rt: HostRuntime) {
+    decide_alignments(&rt, rt.alloc());
+    decide_texts(&rt, rt.alloc());
 }
 
 // ---- parts
@@ -200,59 +197,100 @@ const FORMATTINGS: &[(bool, bool, bool)] = &[
     (true, true, false),
 ];
 
+fn format(rt: &impl Abort) {
+    for (horizontal, vertical, lines) in FORMATTINGS {
+        let formatting = Formatting::new(*horizontal, *vertical, *lines);
+        expect(
+            rt,
+            formatting.horizontal_trim == *horizontal,
+            "at the sides",
+        );
+        expect(rt, formatting.vertical_trim == *vertical, "above and below");
+        expect(rt, formatting.allow_lines_alignment == *lines, "lines");
+    }
+}
+
 #[test]
 fn indents_and_sides_have_their_parts(rt: HostRuntime) {
-    let starred = Indent { size: 2, fill: '*' };
-    expect(&rt, Indent::new(2, '*') == starred, "an indent");
-    expect(&rt, Indent::spaced(3) == Indent::new(3, ' '), "spaces");
-    expect(&rt, Indent::zero() == Indent::new(0, ' '), "spaces");
-    expect(&rt, Indent::default() == Indent::new(0, ' '), "spaces");
+    let made = [
+        Indent::new(2, '*'),
+        Indent::spaced(3),
+        Indent::zero(),
+        Indent::default(),
+    ];
+    let wanted = [
+        Indent { size: 2, fill: '*' },
+        Indent { size: 3, fill: ' ' },
+        Indent { size: 0, fill: ' ' },
+        Indent { size: 0, fill: ' ' },
+    ];
+    expect(&rt, made == wanted, "indents");
     let sides = Sides::new(1, 2, 3, 4);
-    expect(&rt, sides.left == 1 && sides.right == 2, "left and right");
-    expect(&rt, sides.top == 3 && sides.bottom == 4, "top and bottom");
+    let parts = [sides.left, sides.right, sides.top, sides.bottom];
+    expect(&rt, parts == [1, 2, 3, 4], "left, right, top and bottom");
     let filled = Sides::filled('x');
     expect(&rt, filled == Sides::new('x', 'x', 'x', 'x'), "each side");
-    for wanted in FORMATTINGS {
-        let formatting = Formatting::new(wanted.0, wanted.1, wanted.2);
-        expect(&rt, formatting.horizontal_trim == wanted.0, "at the sides");
-        expect(&rt, formatting.vertical_trim == wanted.1, "above and below");
-        expect(&rt, formatting.allow_lines_alignment == wanted.2, "lines");
-    }
+    format(&rt);
 }
 
 // ---- boundaries
 
-// Whether there is a left, an inner and a right boundary, and a top, an inner and a bottom one.
-fn expect_boundaries(rt: &impl Abort, borders: &Borders<char>, wanted: [bool; 6], name: &str) {
-    let found = [
-        borders.has_left(),
-        borders.has_vertical(),
-        borders.has_right(),
-        borders.has_top(),
-        borders.has_horizontal(),
-        borders.has_bottom(),
-    ];
-    expect(rt, found == wanted, name);
-}
+// A glyph, and whether there is a left, an inner and a right boundary, and a top, an inner and a bottom one.
+const BOUNDARIES: &[(&str, Borders<char>, [bool; 6])] = &[
+    (
+        "a crossing",
+        Borders {
+            top_intersection: Some('+'),
+            ..NO_GLYPHS
+        },
+        [false, true, false, true, false, false],
+    ),
+    (
+        "between columns",
+        Borders {
+            vertical: Some('+'),
+            ..NO_GLYPHS
+        },
+        [false, true, false, false, false, false],
+    ),
+    (
+        "a corner",
+        Borders {
+            bottom_right: Some('+'),
+            ..NO_GLYPHS
+        },
+        [false, false, true, false, false, true],
+    ),
+    (
+        "the frame",
+        Borders {
+            right: Some('+'),
+            ..NO_GLYPHS
+        },
+        [false, false, true, false, false, false],
+    ),
+];
 
 fn make_boundaries(rt: &impl Abort) {
-    let mut borders = Borders::empty();
-    borders.top_intersection = Some('+');
-    let wanted = [false, true, false, true, false, false];
-    expect_boundaries(rt, &borders, wanted, "a crossing");
-    let mut borders = Borders::empty();
-    borders.vertical = Some('+');
-    let wanted = [false, true, false, false, false, false];
-    expect_boundaries(rt, &borders, wanted, "between columns");
-    let mut borders = Borders::empty();
-    borders.bottom_right = Some('+');
-    let wanted = [false, false, true, false, false, true];
-    expect_boundaries(rt, &borders, wanted, "a corner");
-    let mut borders = Borders::empty();
-    borders.right = Some('+');
-    let wanted = [false, false, true, false, false, false];
-    expect_boundaries(rt, &borders, wanted, "the frame");
+    for (name, borders, wanted) in BOUNDARIES {
+        let found = [
+            borders.has_left(),
+            borders.has_vertical(),
+            borders.has_right(),
+            borders.has_top(),
+            borders.has_horizontal(),
+            borders.has_bottom(),
+        ];
+        expect(rt, found == *wanted, name);
+    }
 }
+
+const COUNTED: Borders<char> = Borders {
+    left: Some('|'),
+    vertical: Some('|'),
+    bottom: Some('|'),
+    ..NO_GLYPHS
+};
 
 // A number, of how many columns or rows, and whether there is a boundary of columns and of rows with it.
 const NUMBERED: &[(usize, usize, bool, bool)] = &[
@@ -265,20 +303,19 @@ const NUMBERED: &[(usize, usize, bool, bool)] = &[
 ];
 
 // How many columns and rows, and how many boundaries each have.
-const COUNTED: &[(usize, usize, usize)] = &[(0, 1, 0), (1, 1, 1), (2, 2, 1), (3, 3, 1)];
+const COUNTS: &[(usize, usize, usize)] = &[(0, 1, 0), (1, 1, 1), (2, 2, 1), (3, 3, 1)];
 
-fn count_boundaries(rt: &impl Abort) {
-    let mut borders = Borders::empty();
-    borders.left = Some('|');
-    borders.vertical = Some('|');
-    borders.bottom = Some('|');
+fn number_boundaries(rt: &impl Abort, borders: &Borders<char>) {
     for (n, count, vertical, horizontal) in NUMBERED {
         let found = borders.has_vertical_at(*n, *count);
         expect(rt, found == *vertical, "a boundary of columns");
         let found = borders.has_horizontal_at(*n, *count);
         expect(rt, found == *horizontal, "a boundary of rows");
     }
-    for (n, columns, rows) in COUNTED {
+}
+
+fn count_boundaries(rt: &impl Abort, borders: &Borders<char>) {
+    for (n, columns, rows) in COUNTS {
         expect(rt, borders.count_vertical(*n) == *columns, "of columns");
         expect(rt, borders.count_horizontal(*n) == *rows, "of rows");
     }
@@ -287,37 +324,44 @@ fn count_boundaries(rt: &impl Abort) {
 #[test]
 fn a_glyph_makes_its_boundaries_which_are_counted(rt: HostRuntime) {
     make_boundaries(&rt);
-    count_boundaries(&rt);
+    number_boundaries(&rt, &COUNTED);
+    count_boundaries(&rt, &COUNTED);
 }
 
 // ---- comparisons
 
-fn hash_of(value: &impl Hash) -> u64 {
-    let mut hasher = DefaultHasher::new();
-    value.hash(&mut hasher);
-    hasher.finish()
-}
+const SPACED: Sides<Indent> = Sides {
+    left: Indent { size: 1, fill: ' ' },
+    right: Indent { size: 1, fill: ' ' },
+    top: Indent { size: 1, fill: ' ' },
+    bottom: Indent { size: 1, fill: ' ' },
+};
+
+const DASHED: Sides<Indent> = Sides {
+    bottom: Indent { size: 1, fill: '-' },
+    ..SPACED
+};
+
+const TOP: Borders<char> = Borders {
+    top: Some('-'),
+    ..NO_GLYPHS
+};
 
 #[test]
 fn equal_values_compare_and_hash_alike(rt: HostRuntime) {
-    let one = Sides::filled(Indent::spaced(1));
-    let copy = one;
-    let mut other = one;
-    other.bottom = Indent::new(1, '-');
-    expect(&rt, one == copy && one.cmp(&copy).is_eq(), "equal sides");
-    expect(&rt, hash_of(&one) == hash_of(&copy), "the hash of sides");
-    expect(&rt, one != other && one.cmp(&other).is_ne(), "other sides");
-    let none: Borders<char> = Borders::empty();
-    let mut top = none;
-    top.top = Some('-');
-    let copy = top;
-    expect(&rt, top == copy && top.cmp(&copy).is_eq(), "equal borders");
-    expect(&rt, hash_of(&top) == hash_of(&copy), "the hash of borders");
-    expect(&rt, top != none && top.cmp(&none).is_ne(), "other borders");
-    expect(&rt, LEFT < RIGHT, "left and right");
-    let is_less = AlignmentVertical::Top < AlignmentVertical::Bottom;
-    expect(&rt, is_less, "top and bottom");
+    // by rows, and in a row by columns
+    expect_order(&rt, &at(0, 9), &at(1, 0), Less, "rows");
+    expect_order(&rt, &at(1, 0), &at(1, 1), Less, "columns");
+    let spaced = Sides::filled(Indent::spaced(1));
+    expect_order(&rt, &spaced, &SPACED, Equal, "equal sides");
+    expect_order(&rt, &spaced, &DASHED, Less, "other sides");
+    expect_order(&rt, &TOP, &TOP, Equal, "equal borders");
+    expect_order(&rt, &TOP, &Borders::empty(), Greater, "other borders");
+    expect_order(&rt, &NO_GLYPHS, &Borders::empty(), Equal, "no glyphs");
+    expect_order(&rt, &LEFT, &RIGHT, Less, "left and right");
+    let (top, bottom) = (AlignmentVertical::Top, AlignmentVertical::Bottom);
+    expect_order(&rt, &top, &bottom, Less, "top and bottom");
     let less = Formatting::new(false, false, true);
     let more = Formatting::new(false, true, false);
-    expect(&rt, less < more, "formattings");
+    expect_order(&rt, &less, &more, Less, "formattings");
 }

@@ -1,22 +1,17 @@
 //! Settings of a compact table.
 use super::*;
-use std::hash::{DefaultHasher, Hash, Hasher};
+use Set::*;
+use std::cmp::Ordering;
 
 // ---- compact settings
 
-fn expect_new(rt: &impl Abort, new: &CompactConfig) {
-    expect_indents(rt, new.get_margin(), &NO_INDENTS);
-    expect_indents(rt, new.get_padding(), &NO_INDENTS);
-    expect(rt, *new.get_borders() == Borders::empty(), "glyphs");
-    let is_left = new.get_alignment_horizontal() == AlignmentHorizontal::Left;
-    expect(rt, is_left, "alignment");
-    expect(rt, new.get_margin_color().top.is_empty(), "margin colour");
-    expect(
-        rt,
-        new.get_padding_color().left.is_empty(),
-        "padding colour",
-    );
-    expect(rt, new.get_borders_color().top.is_none(), "glyph colour");
+const fn red() -> ANSIStr<'static> {
+    ANSIStr::new("\x1b[31m", "\x1b[39m")
+}
+
+// A colour at the left.
+const fn red_left() -> Sides<ANSIStr<'static>> {
+    Sides::new(red(), ANSIStr::empty(), ANSIStr::empty(), ANSIStr::empty())
 }
 
 // A colour for the left glyphs.
@@ -27,111 +22,189 @@ const fn red_glyphs() -> Borders<ANSIStr<'static>> {
     }
 }
 
-fn set_indents(rt: &impl Abort, new: CompactConfig) {
-    let margin = new.set_margin(INDENTS);
-    expect_indents(rt, margin.get_margin(), &INDENTS);
-    expect_indents(rt, margin.get_padding(), &NO_INDENTS);
-    let padding = new.set_padding(INDENTS);
-    expect_indents(rt, padding.get_padding(), &INDENTS);
-    expect_indents(rt, padding.get_margin(), &NO_INDENTS);
+// What is set.
+#[derive(Clone, Copy)]
+enum Set {
+    Margin,
+    Padding,
+    Glyphs,
+    Alignment(AlignmentHorizontal),
+    MarginColor,
+    PaddingColor,
+    GlyphColor,
 }
 
-fn set_glyphs(rt: &impl Abort, new: CompactConfig) {
-    let config = new.set_borders(glyphs());
-    expect_glyphs(rt, config.get_borders());
-    let config = config.set_alignment_horizontal(AlignmentHorizontal::Center);
-    let is_center = config.get_alignment_horizontal() == AlignmentHorizontal::Center;
-    expect(rt, is_center, "alignment");
-    let config = new.set_borders_color(red_glyphs());
-    expect(
-        rt,
-        config.get_borders_color().left == Some(red()),
-        "left glyphs",
-    );
-    expect(
-        rt,
-        config.get_borders_color().right.is_none(),
-        "right glyphs",
-    );
+fn with(config: CompactConfig, set: Set) -> CompactConfig {
+    match set {
+        Margin => config.set_margin(INDENTS),
+        Padding => config.set_padding(INDENTS),
+        Glyphs => config.set_borders(GLYPHS),
+        Alignment(alignment) => config.set_alignment_horizontal(alignment),
+        MarginColor => config.set_margin_color(red_left()),
+        PaddingColor => config.set_padding_color(red_left()),
+        GlyphColor => config.set_borders_color(red_glyphs()),
+    }
 }
 
-fn set_colors(rt: &impl Abort, new: CompactConfig) {
-    let margin = new.set_margin_color(red_left());
-    expect(rt, margin.get_margin_color().left == red(), "left margin");
-    expect(
-        rt,
-        margin.get_margin_color().right.is_empty(),
-        "right margin",
-    );
-    expect(rt, margin.get_padding_color().left.is_empty(), "padding");
-    let padding = new.set_padding_color(red_left());
-    expect(
-        rt,
-        padding.get_padding_color().left == red(),
-        "left padding",
-    );
-    expect(rt, padding.get_margin_color().left.is_empty(), "margin");
+fn with_all(sets: &[Set]) -> CompactConfig {
+    let mut config = CompactConfig::new();
+    for set in sets {
+        config = with(config, *set);
+    }
+    config
 }
 
-fn hash_of(config: &CompactConfig) -> u64 {
-    let mut hasher = DefaultHasher::new();
-    config.hash(&mut hasher);
-    hasher.finish()
+// What compact settings have, and which of the sides at the left are red.
+#[derive(Clone, Copy)]
+struct Compact {
+    margin: Sides<Indent>,
+    padding: Sides<Indent>,
+    glyphs: Borders<char>,
+    alignment: AlignmentHorizontal,
+    margin_color: bool,
+    padding_color: bool,
+    glyph_color: bool,
 }
 
-fn compare(rt: &impl Abort, new: CompactConfig) {
-    let copy = new;
-    expect(rt, copy == new, "the same");
-    expect(rt, hash_of(&copy) == hash_of(&new), "the same hash");
-    let other = new.set_margin(INDENTS);
-    expect(rt, new != other && new < other, "others");
+const NEW: Compact = Compact {
+    margin: NO_INDENTS,
+    padding: NO_INDENTS,
+    glyphs: NO_GLYPHS,
+    alignment: AlignmentHorizontal::Left,
+    margin_color: false,
+    padding_color: false,
+    glyph_color: false,
+};
+
+const SETS: &[(Set, Compact)] = &[
+    (
+        Margin,
+        Compact {
+            margin: INDENTS,
+            ..NEW
+        },
+    ),
+    (
+        Padding,
+        Compact {
+            padding: INDENTS,
+            ..NEW
+        },
+    ),
+    (
+        Glyphs,
+        Compact {
+            glyphs: GLYPHS,
+            ..NEW
+        },
+    ),
+    (
+        Alignment(AlignmentHorizontal::Center),
+        Compact {
+            alignment: AlignmentHorizontal::Center,
+            ..NEW
+        },
+    ),
+    (
+        MarginColor,
+        Compact {
+            margin_color: true,
+            ..NEW
+        },
+    ),
+    (
+        PaddingColor,
+        Compact {
+            padding_color: true,
+            ..NEW
+        },
+    ),
+    (
+        GlyphColor,
+        Compact {
+            glyph_color: true,
+            ..NEW
+        },
+    ),
+];
+
+// No side but the left has a colour.
+fn expect_side(rt: &impl Abort, found: &Sides<ANSIStr<'static>>, is_red: bool) {
+    expect(rt, (found.left == red()) == is_red, "the left");
+    expect(rt, found.left.is_empty() != is_red, "the left");
+    expect(rt, found.right.is_empty(), "the right");
+    expect(rt, found.top.is_empty(), "the top");
+    expect(rt, found.bottom.is_empty(), "the bottom");
+}
+
+fn expect_compact(rt: &impl Abort, found: &CompactConfig, wanted: &Compact) {
+    expect_indents(rt, found.get_margin(), &wanted.margin);
+    expect_indents(rt, found.get_padding(), &wanted.padding);
+    expect_glyphs(rt, found.get_borders(), &wanted.glyphs);
+    let alignment = found.get_alignment_horizontal();
+    expect(rt, alignment == wanted.alignment, "alignment");
+    expect_side(rt, found.get_margin_color(), wanted.margin_color);
+    expect_side(rt, found.get_padding_color(), wanted.padding_color);
+    let colors = found.get_borders_color();
+    let left = if wanted.glyph_color {
+        Some(red())
+    } else {
+        None
+    };
+    expect(rt, colors.left == left, "left glyphs");
+    expect(rt, colors.right.is_none(), "right glyphs");
+    expect(rt, colors.top.is_none(), "top glyphs");
 }
 
 #[test]
 fn sets_and_compares_compact_settings(rt: HostRuntime) {
     let new = CompactConfig::new();
-    expect_new(&rt, &new);
-    set_indents(&rt, new);
-    set_glyphs(&rt, new);
-    set_colors(&rt, new);
-    compare(&rt, new);
+    expect_compact(&rt, &new, &NEW);
+    for (set, wanted) in SETS {
+        expect_compact(&rt, &with(new, *set), wanted);
+    }
+    let margin = new.set_margin(INDENTS);
+    expect_order(
+        &rt,
+        &new,
+        &CompactConfig::new(),
+        Ordering::Equal,
+        "new ones",
+    );
+    expect_order(&rt, &new, &margin, Ordering::Less, "a new one and another");
 }
 
 // ---- settings of a table that begins as a compact one
 
-fn compact() -> CompactConfig {
-    CompactConfig::new()
-        .set_margin(INDENTS)
-        .set_padding(INDENTS)
-        .set_borders(glyphs())
-        .set_alignment_horizontal(AlignmentHorizontal::Right)
-        .set_margin_color(red_left())
-        .set_borders_color(red_glyphs())
-}
+const SETTINGS: &[Set] = &[
+    Margin,
+    Padding,
+    Glyphs,
+    Alignment(AlignmentHorizontal::Right),
+    MarginColor,
+    GlyphColor,
+];
 
-fn expect_compact_values(rt: &impl Abort, config: &SpannedConfig) {
-    expect_indents(rt, config.get_margin(), &INDENTS);
-    expect_indents(rt, config.get_padding(at(3, 4)), &INDENTS);
-    expect_glyphs(rt, config.get_borders());
-    let alignment = config.get_alignment_horizontal(at(3, 4));
-    expect(rt, alignment == AlignmentHorizontal::Right, "alignment");
-    expect_layout(rt, config, at(3, 4));
-}
+const TABLE: Whole = Whole {
+    margin: INDENTS,
+    margin_color: ("\x1b[31m", "-"),
+    borders: GLYPHS,
+    top: "-",
+    left: "\x1b[31m",
+};
 
-fn expect_compact_colors(rt: &impl Abort, config: &SpannedConfig) {
-    expect_sides(rt, config.get_margin_color(), "\x1b[31m", "-");
-    // an empty colour is none
-    expect_sides(rt, config.get_padding_color(at(3, 4)), "-", "-");
-    let left = shown(&config.get_borders_color().left);
-    expect(rt, left == "\x1b[31m", "left glyphs");
-    expect(rt, config.get_borders_color().top.is_none(), "top glyphs");
-}
+// An empty colour is none.
+const EVERY_CELL: Cell = Cell {
+    padding: INDENTS,
+    horizontal: AlignmentHorizontal::Right,
+    ..NEW_CELL
+};
 
 #[test]
-fn takes_compact_settings(rt: HostRuntime) -> Result<(), AllocError> {
-    let config = SpannedConfig::from_compact_config(rt.alloc(), compact())?;
-    expect_compact_values(&rt, &config);
-    expect_compact_colors(&rt, &config);
-    end(config);
-    Ok(())
+fn takes_compact_settings(rt: HostRuntime) {
+    let config = SpannedConfig::from_compact_config(rt.alloc(), with_all(SETTINGS));
+    let config = made(&rt, config);
+    expect_whole(&rt, &config, &TABLE);
+    expect_cell(&rt, &config, at(3, 4), &EVERY_CELL);
+    let_go(config);
 }

@@ -1,74 +1,33 @@
 //! Refusals, which change nothing: what was set before a refused call is kept, what the call was to set is
 //! not there, and the refusal is handed on. `tests/memory` runs this test with each allocation failing.
 use super::*;
+use Kept::*;
 use grid_config::EntityMap;
 
-fn expect_map(rt: &impl Abort, map: &EntityMap<char>, set: usize) {
-    for col in 0..set {
-        expect(rt, *map.get(at(1, col)) == 'b', "a value that was set");
-    }
-    expect(rt, *map.get(at(1, set)) == 'a', "the value for all");
+// What is set for one row or column after another.
+#[derive(Clone, Copy)]
+enum Kept {
+    Value,
+    Padding,
+    Span,
+    Color,
 }
 
-fn fill_map(rt: &impl Abort, map: &mut EntityMap<char>) -> Result<(), Fault> {
-    for col in 0..9 {
-        if let Err(fault) = map.insert(Entity::Column(col), 'b') {
-            expect_map(rt, map, col);
-            return Err(fault.into());
-        }
-    }
-    Ok(())
-}
+// For how many it is set, what is read where it is set, and what is read where it is not.
+type Row = (Kept, usize, [usize; 2], [usize; 2]);
 
-fn expect_paddings(rt: &impl Abort, config: &SpannedConfig, set: usize) {
-    for row in 0..set {
-        let is_set = config.get_padding(at(row, 1)).left.size == 1;
-        expect(rt, is_set, "a padding that was set");
-    }
-    expect(
-        rt,
-        config.get_padding(at(set, 1)).left.size == 0,
-        "a padding",
-    );
-    expect(rt, config.get_margin().left.size == 0, "the margin");
-}
+const ALL: &[Row] = &[
+    (Value, 9, ['b' as usize, 0], ['a' as usize, 0]),
+    (Padding, 9, [1, 0], [0, 0]),
+    (Span, 40, [2, 1], [0, 0]),
+    (Color, 9, [1, 0], [0, 0]),
+];
 
-fn set_paddings(rt: &impl Abort, config: &mut SpannedConfig) -> Result<(), Fault> {
-    for row in 0..9 {
-        if let Err(fault) = config.set_padding(Entity::Row(row), INDENTS) {
-            expect_paddings(rt, config, row);
-            return Err(fault);
-        }
-    }
-    Ok(())
-}
-
-fn expect_spans(rt: &impl Abort, config: &SpannedConfig, set: usize) {
-    for row in 0..set {
-        let span = config.get_column_span(at(row, 0));
-        expect(rt, span == Some(2), "a span that was set");
-    }
-    expect(rt, config.get_column_span(at(set, 0)) == None, "a span");
-    expect(rt, config.is_cell_visible(at(set, 1)), "a visible cell");
-}
-
-fn set_spans(rt: &impl Abort, config: &mut SpannedConfig) -> Result<(), Fault> {
-    for row in 0..40 {
-        if let Err(fault) = config.set_column_span(at(row, 0), 2) {
-            expect_spans(rt, config, row);
-            return Err(fault);
-        }
-    }
-    Ok(())
-}
-
-fn expect_colors(rt: &impl Abort, config: &ColoredConfig, set: usize) {
-    for col in 0..set {
-        let is_set = config.get_colors().get_color(at(0, col)).is_some();
-        expect(rt, is_set, "a colour that was set");
-    }
-    let is_none = config.get_colors().get_color(at(0, set)).is_none();
-    expect(rt, is_none, "a colour");
+// What it is set in.
+#[derive(Drop)]
+struct Settings {
+    map: EntityMap<char>,
+    config: ColoredConfig,
 }
 
 fn set_color(config: &mut ColoredConfig, alloc: Global, col: usize) -> Result<(), Fault> {
@@ -76,43 +35,97 @@ fn set_color(config: &mut ColoredConfig, alloc: Global, col: usize) -> Result<()
     config.set_color(Entity::Column(col), bold)
 }
 
-fn set_colors(rt: &impl Abort, config: &mut ColoredConfig, alloc: Global) -> Result<(), Fault> {
-    for col in 0..9 {
-        if let Err(fault) = set_color(config, alloc, col) {
-            expect_colors(rt, config, col);
+fn set(settings: &mut Settings, alloc: Global, kept: Kept, place: usize) -> Result<(), Fault> {
+    match kept {
+        Value => Ok(settings.map.insert(Entity::Column(place), 'b')?),
+        Padding => {
+            let config = settings.config.spanned_mut();
+            config.set_padding(Entity::Row(place), INDENTS)
+        }
+        Span => {
+            let config = settings.config.spanned_mut();
+            config.set_column_span(at(place, 0), 2)
+        }
+        Color => set_color(&mut settings.config, alloc, place),
+    }
+}
+
+// What is read of one place, as numbers: a value; the padding at the left, and the margin there, which is
+// never set; a span, none as 0, and whether the cell beside it is hidden; whether there is a colour.
+fn read(settings: &Settings, kept: Kept, place: usize) -> [usize; 2] {
+    let config = settings.config.spanned();
+    match kept {
+        Value => [*settings.map.get(at(1, place)) as usize, 0],
+        Padding => [
+            config.get_padding(at(place, 1)).left.size,
+            config.get_margin().left.size,
+        ],
+        Span => [
+            config.get_column_span(at(place, 0)).unwrap_or(0),
+            usize::from(!config.is_cell_visible(at(place, 1))),
+        ],
+        Color => {
+            let color = settings.config.get_colors().get_color(at(0, place));
+            [usize::from(color.is_some()), 0]
+        }
+    }
+}
+
+// The first so many are set, and the next one is not.
+fn expect_kept(rt: &impl Abort, settings: &Settings, row: Row, count: usize) {
+    let (kept, _, set, unset) = row;
+    for place in 0..count {
+        expect(rt, read(settings, kept, place) == set, "what was set");
+    }
+    expect(rt, read(settings, kept, count) == unset, "what was not set");
+}
+
+fn expect_all(rt: &impl Abort, settings: &Settings) {
+    for row in ALL {
+        expect_kept(rt, settings, *row, row.1);
+    }
+}
+
+fn fill(rt: &impl Abort, settings: &mut Settings, alloc: Global, row: Row) -> Result<(), Fault> {
+    for place in 0..row.1 {
+        if let Err(fault) = set(settings, alloc, row.0, place) {
+            expect_kept(rt, settings, row, place);
             return Err(fault);
         }
     }
     Ok(())
 }
 
-fn set_all(rt: &impl Abort, config: &mut ColoredConfig, alloc: Global) -> Result<(), Fault> {
-    fill_map(rt, &mut EntityMap::new(alloc, 'a'))?;
-    set_paddings(rt, config.spanned_mut())?;
-    set_spans(rt, config.spanned_mut())?;
-    set_colors(rt, config, alloc)?;
-    clone_all(rt, config, alloc)
+fn fill_all(rt: &impl Abort, settings: &mut Settings, alloc: Global) -> Result<(), Fault> {
+    for row in ALL {
+        fill(rt, settings, alloc, *row)?;
+    }
+    Ok(())
+}
+
+fn copied(settings: &Settings, alloc: Global) -> Result<Settings, AllocError> {
+    let map = settings.map.clone(alloc)?;
+    let config = settings.config.clone(alloc)?;
+    Ok(Settings { map, config })
 }
 
 // A clone has all that was set, and what was cloned has it still.
-fn expect_all(rt: &impl Abort, config: &ColoredConfig) {
-    expect_paddings(rt, config.spanned(), 9);
-    expect_spans(rt, config.spanned(), 40);
-    expect_colors(rt, config, 9);
-}
-
-fn clone_all(rt: &impl Abort, config: &ColoredConfig, alloc: Global) -> Result<(), Fault> {
-    let copy = config.clone(alloc)?;
+fn keep_all(rt: &impl Abort, settings: &mut Settings, alloc: Global) -> Result<(), Fault> {
+    fill_all(rt, settings, alloc)?;
+    let copy = copied(settings, alloc)?;
     expect_all(rt, &copy);
-    end_colored(copy);
-    expect_all(rt, config);
+    let_go(copy);
+    expect_all(rt, settings);
     Ok(())
 }
 
 #[test]
 fn keeps_what_was_set(rt: HostRuntime) -> Result<(), Fault> {
-    let mut config = ColoredConfig::new(SpannedConfig::new(rt.alloc()));
-    let outcome = set_all(&rt, &mut config, rt.alloc());
-    end_colored(config);
+    let mut settings = Settings {
+        map: EntityMap::new(rt.alloc(), 'a'),
+        config: ColoredConfig::new(SpannedConfig::new(rt.alloc())),
+    };
+    let outcome = keep_all(&rt, &mut settings, rt.alloc());
+    let_go(settings);
     outcome
 }
