@@ -9,6 +9,7 @@ use std::alloc::{AllocError, Global};
 use std::process::Abort;
 use tabled::object::{Cell, Columns, Rows, Segment};
 use tabled::{Alignment, Builder, Margin, Padding, Span, Style, Table, TableOption};
+use tabled_fakes::OutOfRange;
 use tabled_options::PaddingExpand;
 use tabled_size_dimension::CompleteDimension;
 
@@ -24,7 +25,7 @@ mod totals;
 mod unprinted;
 mod writing;
 
-use foreign::{Keeping, Refusing};
+use foreign::Keeping;
 
 // The proof of a function grows faster than its calls, and most of all with each `?`. So the helpers below
 // take what a call returned, end the test where it was refused, and let a table go in one place.
@@ -381,7 +382,7 @@ fn settings_clear(rt: &impl Abort, a: Global) {
 fn a_hint_clears_what_it_names(rt: HostRuntime) {
     keeps(&rt, rt.alloc(), Keeping, Ok(()), true, "no hint");
     let range = Err(Fault::Range);
-    keeps(&rt, rt.alloc(), Refusing, range, true, "a refusal");
+    keeps(&rt, rt.alloc(), OutOfRange, range, true, "a refusal");
     options_clear(&rt, rt.alloc());
     settings_clear(&rt, rt.alloc());
 }

@@ -1,6 +1,5 @@
 //! Tables whose changes are refused by what a caller brings.
 use super::copies::{TEXT, changed};
-use super::foreign::Refusing;
 use super::{REFUSED, expect_done, prints};
 use grid_config::{ColoredConfig, Entity, Fault};
 use grid_records_rows::{Text, VecRecords};
@@ -8,6 +7,7 @@ use std::alloc::Global;
 use std::process::Abort;
 use tabled::object::Cell;
 use tabled::{CellOption, Height, Table, TableOption, Width};
+use tabled_fakes::OutOfRange;
 use tabled_size_dimension::CompleteDimension;
 
 // That a change was refused as `Range`, and the table prints what it did, in the width that it keeps.
@@ -41,12 +41,12 @@ fn stays_in_its_cell<O: CellOption<VecRecords<Text>, ColoredConfig>>(
 }
 
 fn chained(table: &mut Table) -> Result<(), Fault> {
-    table.with(Refusing)?;
+    table.with(OutOfRange)?;
     Ok(())
 }
 
 fn modified(table: &mut Table) -> Result<(), Fault> {
-    table.modify(Entity::Global, &Refusing)?;
+    table.modify(Entity::Global, &OutOfRange)?;
     Ok(())
 }
 
@@ -61,26 +61,26 @@ fn stay_in_chains(rt: &impl Abort, alloc: Global) {
 
 #[test]
 fn a_refused_option_leaves_the_table(rt: HostRuntime) {
-    stays(&rt, rt.alloc(), Refusing, "an option");
-    stays_in_its_cell(&rt, rt.alloc(), &Refusing, "an option of a cell");
+    stays(&rt, rt.alloc(), OutOfRange, "an option");
+    stays_in_its_cell(&rt, rt.alloc(), &OutOfRange, "an option of a cell");
     stay_in_chains(&rt, rt.alloc());
 }
 
 fn measure_tables(rt: &impl Abort, a: Global) {
-    stays(rt, a, Width::wrap(Refusing), "wrap");
-    stays(rt, a, Width::truncate(Refusing), "truncate");
-    stays(rt, a, Width::increase(Refusing), "increase");
-    stays(rt, a, Width::justify(Refusing), "justify");
-    stays(rt, a, Height::increase(Refusing), "increase of lines");
-    stays(rt, a, Height::limit(Refusing), "limit of lines");
+    stays(rt, a, Width::wrap(OutOfRange), "wrap");
+    stays(rt, a, Width::truncate(OutOfRange), "truncate");
+    stays(rt, a, Width::increase(OutOfRange), "increase");
+    stays(rt, a, Width::justify(OutOfRange), "justify");
+    stays(rt, a, Height::increase(OutOfRange), "increase of lines");
+    stays(rt, a, Height::limit(OutOfRange), "limit of lines");
 }
 
 fn measure_cells(rt: &impl Abort, a: Global) {
-    stays_in_its_cell(rt, a, &Width::wrap(Refusing), "wrap");
-    stays_in_its_cell(rt, a, &Width::truncate(Refusing), "truncate");
-    stays_in_its_cell(rt, a, &Width::increase(Refusing), "increase");
-    stays_in_its_cell(rt, a, &Height::increase(Refusing), "more lines");
-    stays_in_its_cell(rt, a, &Height::limit(Refusing), "fewer lines");
+    stays_in_its_cell(rt, a, &Width::wrap(OutOfRange), "wrap");
+    stays_in_its_cell(rt, a, &Width::truncate(OutOfRange), "truncate");
+    stays_in_its_cell(rt, a, &Width::increase(OutOfRange), "increase");
+    stays_in_its_cell(rt, a, &Height::increase(OutOfRange), "more lines");
+    stays_in_its_cell(rt, a, &Height::limit(OutOfRange), "fewer lines");
 }
 
 #[test]

@@ -1,7 +1,8 @@
 //! Tables of more than a hundred rows.
-use super::{MEMORY, expect_text};
+use super::iter::Call::*;
+use super::iter::table_of;
+use super::{MEMORY, Streamed, prints};
 use grid_records_fakes::RefusedRows;
-use grid_records_traits::IntoRecords;
 use std::alloc::{AllocError, Global};
 use std::process::Abort;
 use tabled_iter::IterTable;
@@ -9,13 +10,6 @@ use tabled_iter::IterTable;
 // 150 rows of the cell `a`, of which none is refused.
 fn rows() -> RefusedRows {
     RefusedRows::new(150, 1, 150)
-}
-
-// A table of these rows in a set width, of which so many are sniffed and kept.
-fn long(sniff: usize, kept: usize) -> IterTable<RefusedRows> {
-    let mut table = IterTable::new(rows());
-    table.columns(1).width(1).sniff(sniff).rows(kept);
-    table
 }
 
 // The text of so many of these rows.
@@ -35,17 +29,10 @@ fn line_feeds(text: &str) -> usize {
 }
 
 // That the table has the text of so many rows, with so many line feeds.
-fn prints_rows<R: IntoRecords>(
-    rt: &impl Abort,
-    alloc: Global,
-    table: IterTable<R>,
-    rows: usize,
-    feeds: usize,
-) {
-    let found = table.to_string(alloc).expect(rt, "a table is refused");
+fn prints_rows<T: Streamed>(rt: &impl Abort, alloc: Global, table: T, rows: usize, feeds: usize) {
     let wanted = text_of(alloc, rows).expect(rt, MEMORY);
-    expect_text(rt, found.as_str(), wanted.as_str());
-    assert_eq!(rt; line_feeds(found.as_str()), feeds);
+    assert_eq!(rt; line_feeds(wanted.as_str()), feeds);
+    prints(rt, alloc, table, Ok(wanted.as_str()));
 }
 
 // How many rows are sniffed.
@@ -60,7 +47,9 @@ fn many_rows_are_printed_whole(rt: HostRuntime) {
     let read = IterTable::from_rows(a, rows()).expect(&rt, MEMORY);
     prints_rows(&rt, a, read, 150, 300);
     for sniff in SNIFFED {
-        prints_rows(&rt, a, long(sniff, 150), 150, 300);
-        prints_rows(&rt, a, long(sniff, 101), 101, 202);
+        let all = [Columns(1), Width(1), Sniff(sniff), Rows(150)];
+        prints_rows(&rt, a, table_of(rows(), &all), 150, 300);
+        let kept = [Columns(1), Width(1), Sniff(sniff), Rows(101)];
+        prints_rows(&rt, a, table_of(rows(), &kept), 101, 202);
     }
 }

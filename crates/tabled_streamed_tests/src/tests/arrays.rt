@@ -1,5 +1,5 @@
 //! Tables of arrays of rows.
-use super::expect_text;
+use super::{MEMORY, expect_found};
 use grid_config::Fault;
 use grid_records_traits::IntoRecords;
 use std::alloc::{AllocError, Global};
@@ -20,14 +20,9 @@ fn lines(alloc: Global) -> Result<[[String; 1]; 2], AllocError> {
     Ok([[first], [second]])
 }
 
-fn text_of_pair(alloc: Global) -> Result<String, Fault> {
-    let rows = pair(alloc)?;
-    let table = CompactTable::from(rows);
-    table.to_string(alloc)
-}
-
-// The same of an array of two texts of any kind.
-fn text_of<I: RowArray<2, 1> + IntoRecords + Drop>(
+// The text of a table of such a row. It takes an array by its bound: one of borrowed texts has no proof by its
+// own type, and of one whose sizes are parameters it is not known that it has room.
+fn text_of_pair<I: RowArray<2, 1> + IntoRecords + Drop>(
     alloc: Global,
     rows: I,
 ) -> Result<String, Fault> {
@@ -41,20 +36,6 @@ fn text_of_lines(alloc: Global) -> Result<String, Fault> {
     table.to_string(alloc)
 }
 
-fn expect_found(rt: &impl Abort, found: Result<String, Fault>, wanted: &str) {
-    let text = found.expect(rt, "an array is refused");
-    expect_text(rt, text.as_str(), wanted);
-}
-
-#[test]
-fn columns_are_as_wide_as_the_widest_line(rt: HostRuntime) {
-    let text = "+---+----+\n| a | bc |\n+---+----+";
-    expect_found(&rt, text_of_pair(rt.alloc()), text);
-    expect_found(&rt, text_of(rt.alloc(), [["a", "bc"]]), text);
-    let text = "+-----+\n| a   |\n+-----+\n| e   |\n+-----+";
-    expect_found(&rt, text_of_lines(rt.alloc()), text);
-}
-
 // The same of an array of four rows.
 fn text_of_four<I: RowArray<2, 4> + IntoRecords + Drop>(
     alloc: Global,
@@ -63,6 +44,10 @@ fn text_of_four<I: RowArray<2, 4> + IntoRecords + Drop>(
     let table = CompactTable::from(rows);
     table.to_string(alloc)
 }
+
+const PAIR: &str = "+---+----+\n| a | bc |\n+---+----+";
+
+const LINES: &str = "+-----+\n| a   |\n+-----+\n| e   |\n+-----+";
 
 // The widest texts of the columns stand in the second row and in the last.
 const FOUR: &str = "\
@@ -77,7 +62,12 @@ const FOUR: &str = "\
 +-----+-------+";
 
 #[test]
-fn rows_of_an_array_stand_in_order(rt: HostRuntime) {
+fn columns_are_as_wide_as_the_widest_line(rt: HostRuntime) {
+    let a = rt.alloc();
+    let owned = pair(a).expect(&rt, MEMORY);
+    expect_found(&rt, text_of_pair(a, owned), Ok(PAIR));
+    expect_found(&rt, text_of_pair(a, [["a", "bc"]]), Ok(PAIR));
+    expect_found(&rt, text_of_lines(a), Ok(LINES));
     let rows = [["a", "bc"], ["def", "g"], ["h", "i"], ["j", "klmno"]];
-    expect_found(&rt, text_of_four(rt.alloc(), rows), FOUR);
+    expect_found(&rt, text_of_four(a, rows), Ok(FOUR));
 }
