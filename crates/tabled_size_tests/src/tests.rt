@@ -5,6 +5,7 @@ use tabled_size::CompleteDimension;
 mod estimate;
 mod given;
 mod kept;
+mod wrap;
 
 type Lists = (Option<&'static [usize]>, Option<&'static [usize]>);
 

@@ -1,14 +1,64 @@
 //! Least sizes of tables, totals, and their refusals.
-ghost use Rattle.std.specs.Prelude.{◌<◌};
-
-use super::{MEMORY, expect_number};
+use super::{Texts, expect, expect_same, table};
 use grid_config::{Borders, CompactConfig, Entity, Fault, Indent, Position, Sides, SpannedConfig};
 use grid_records_estimate::{
     CompactGridDimension, Estimate, IterGridDimension, PeekableGridDimension,
 };
-use grid_records_rows::{Dimension, EmptyRecords, Records, VecRecords, are_equally_long};
-use std::alloc::{AllocError, Global};
+use grid_records_rows::{Dimension, EmptyRecords, Records, VecRecords};
+use std::alloc::Global;
 use std::process::Abort;
+
+// What is set of a table: all boundaries, columns at the left and right with lines at the top and bottom,
+// and the row and column of a cell with how many columns or rows it spans.
+#[derive(Clone, Copy)]
+enum Set {
+    Borders,
+    Margin([usize; 4]),
+    Padding([usize; 4]),
+    Columns(usize, usize, usize),
+    Rows(usize, usize, usize),
+}
+
+// Widths or heights, or why there are none.
+type Sizes = Result<&'static [usize], Fault>;
+
+// What is asked of a table, and the answer. The last two are asked of one whose cells are looked up.
+#[derive(Clone, Copy)]
+enum Asked {
+    Widths(Sizes),
+    Heights(Sizes),
+    Both(Result<(&'static [usize], &'static [usize]), Fault>),
+    WidthTotal(Result<usize, Fault>),
+    HeightTotal(Result<usize, Fault>),
+    LookedUpWidths(Sizes),
+    LookedUpHeights(Sizes),
+}
+
+fn expect_sizes(
+    rt: &impl Abort,
+    found: Result<Vec<usize>, Fault>,
+    wanted: Result<&[usize], Fault>,
+    what: &str,
+) {
+    match (found, wanted) {
+        (Ok(found), Ok(wanted)) => expect_same(rt, found.as_slice(), wanted, what),
+        (found, wanted) => expect_same(rt, found.err(), wanted.err(), what),
+    }
+}
+
+fn expect_both(
+    rt: &impl Abort,
+    found: Result<(Vec<usize>, Vec<usize>), Fault>,
+    wanted: Result<(&[usize], &[usize]), Fault>,
+) {
+    match (found, wanted) {
+        (Ok(found), Ok(wanted)) => {
+            expect_same(rt, found.0.as_slice(), wanted.0, "widths of both");
+            expect_same(rt, found.1.as_slice(), wanted.1, "heights of both");
+        }
+        (found, wanted) => expect_same(rt, found.err(), wanted.err(), "both"),
+    }
+}
 
 // All boundaries are there.
 fn ascii() -> Borders<char> {
@@ -20,385 +70,376 @@ fn ascii() -> Borders<char> {
     }
 }
 
-// 1 column at the left and 2 at the right, 3 lines at the top and 4 at the bottom.
-const INDENTS: Sides<Indent> = Sides {
-    left: Indent { size: 1, fill: ' ' },
-    right: Indent { size: 2, fill: ' ' },
-    top: Indent { size: 3, fill: ' ' },
-    bottom: Indent { size: 4, fill: ' ' },
-};
+fn indents(sizes: [usize; 4]) -> Sides<Indent> {
+    let [left, right, top, bottom] = sizes;
+    Sides::new(
+        Indent::spaced(left),
+        Indent::spaced(right),
+        Indent::spaced(top),
+        Indent::spaced(bottom),
+    )
+}
 
-// As many columns at the left as there can be.
-const ENDLESS: Sides<Indent> = Sides {
-    left: Indent {
-        size: usize::MAX,
-        fill: ' ',
-    },
-    right: Indent { size: 0, fill: ' ' },
-    top: Indent { size: 0, fill: ' ' },
-    bottom: Indent { size: 0, fill: ' ' },
-};
+// Settings of a table, and the sizes that it has with them.
+trait Settings: Drop {
+    fn begin(alloc: Global) -> Self;
 
-fn row(alloc: Global, cells: &[&str]) -> Result<Vec<String>, AllocError> {
-    let mut row = Vec::new(alloc);
-    for cell in cells {
-        row.push(String::from_str(alloc, *cell)?)?;
+    fn set(&mut self, rt: &impl Abort, value: Set);
+
+    fn ask<R: Records + Copy>(&self, rt: &impl Abort, alloc: Global, records: R, asked: Asked);
+}
+
+impl Settings for SpannedConfig {
+    fn begin(alloc: Global) -> SpannedConfig {
+        SpannedConfig::new(alloc)
     }
-    Ok(row)
-}
 
-fn rows_of(alloc: Global, columns: usize, cells: &[&str]) -> Result<Vec<Vec<String>>, AllocError>
-    requires { 0 < columns }
-{
-    let mut rows = Vec::new(alloc);
-    for cells in cells.chunks(columns) {
-        rows.push(row(alloc, cells)?)?;
+    fn set(&mut self, rt: &impl Abort, value: Set) {
+        let done = match value {
+            Set::Borders => {
+                self.set_borders(ascii());
+                Ok(())
+            }
+            Set::Margin(sizes) => {
+                self.set_margin(indents(sizes));
+                Ok(())
+            }
+            Set::Padding(sizes) => self.set_padding(Entity::Global, indents(sizes)),
+            Set::Columns(row, col, n) => self.set_column_span(Position::new(row, col), n),
+            Set::Rows(row, col, n) => self.set_row_span(Position::new(row, col), n),
+        };
+        expect_same(rt, done, Ok(()), "a setting");
     }
-    Ok(rows)
+
+    fn ask<R: Records + Copy>(&self, rt: &impl Abort, alloc: Global, records: R, asked: Asked) {
+        match asked {
+            Asked::Widths(wanted) => {
+                let sizes = IterGridDimension::width(alloc, records, self);
+                expect_sizes(rt, sizes, wanted, "widths");
+            }
+            Asked::Heights(wanted) => {
+                let sizes = IterGridDimension::height(alloc, records, self);
+                expect_sizes(rt, sizes, wanted, "heights");
+            }
+            Asked::Both(wanted) => {
+                let both = IterGridDimension::dimension(alloc, records, self);
+                expect_both(rt, both, wanted);
+            }
+            Asked::WidthTotal(wanted) => {
+                let total = IterGridDimension::width_total(alloc, records, self);
+                expect_same(rt, total, wanted, "a total");
+            }
+            Asked::HeightTotal(wanted) => {
+                let total = IterGridDimension::height_total(alloc, records, self);
+                expect_same(rt, total, wanted, "a total");
+            }
+            Asked::LookedUpWidths(wanted) => {
+                let widths = PeekableGridDimension::width(alloc, records, self);
+                expect_sizes(rt, widths, wanted, "widths");
+            }
+            Asked::LookedUpHeights(wanted) => {
+                let heights = PeekableGridDimension::height(alloc, records, self);
+                expect_sizes(rt, heights, wanted, "heights");
+            }
+        }
+    }
 }
 
-// The table of these cells, row by row.
-fn table(rt: &impl Abort, alloc: Global, columns: usize, cells: &[&str]) -> VecRecords<String>
-    requires { 0 < columns }
-{
-    let rows = rows_of(alloc, columns, cells).expect(rt, MEMORY);
-    assert!(rt; are_equally_long(&rows));
-    VecRecords::new(rows)
-}
+impl Settings for CompactConfig {
+    fn begin(_alloc: Global) -> CompactConfig {
+        CompactConfig::new()
+    }
 
-// Drops the settings of a test. They are large, and each place that drops them is proved by itself: so
-// the tests lend them to functions, and end here.
-fn end(cfg: SpannedConfig) {
-    drop(cfg);
-}
+    fn set(&mut self, rt: &impl Abort, value: Set) {
+        *self = match value {
+            Set::Borders => self.set_borders(ascii()),
+            Set::Margin(sizes) => self.set_margin(indents(sizes)),
+            Set::Padding(sizes) => self.set_padding(indents(sizes)),
+            _ => *self,
+        };
+        expect(
+            rt,
+            !matches!(&value, Set::Columns(..) | Set::Rows(..)),
+            "a span",
+        );
+    }
 
-// That a call was accepted.
-fn expect_done(rt: &impl Abort, done: Result<(), Fault>) {
-    assert_eq!(rt; done, Ok(()));
-}
-
-fn expect_sizes(rt: &impl Abort, found: Result<Vec<usize>, Fault>, wanted: &[usize], what: &str) {
-    let found = found.expect(rt, "the sizes were refused");
-    assert_eq!(rt; found.as_slice(), wanted, "{what}");
-}
-
-fn expect_both(
-    rt: &impl Abort,
-    found: Result<(Vec<usize>, Vec<usize>), Fault>,
-    widths: &[usize],
-    heights: &[usize],
-) {
-    let (found_widths, found_heights) = found.expect(rt, "the sizes were refused");
-    expect_sizes(rt, Ok(found_widths), widths, "widths of both");
-    expect_sizes(rt, Ok(found_heights), heights, "heights of both");
-}
-
-fn expect_total(rt: &impl Abort, found: Result<usize, Fault>, wanted: Result<usize, Fault>) {
-    assert_eq!(rt; found, wanted);
-}
-
-// That sizes were refused as past the range.
-fn expect_range<T: Drop>(rt: &impl Abort, found: Result<T, Fault>) {
-    assert!(rt; matches!(found, Err(Fault::Range)));
-}
-
-// What an estimate found of a column and of a row.
-fn expect_at<D: Dimension>(rt: &impl Abort, sizes: &D, n: usize, width: usize, height: usize) {
-    expect_number(rt, sizes.get_width(n), width, "a column");
-    expect_number(rt, sizes.get_height(n), height, "a row");
-}
-
-// An estimate through the traits: of two columns of 4 and 3, and of two rows of 1 and 3.
-fn expect_estimate<R, C, D: Estimate<R, C> + Dimension>(
-    rt: &impl Abort,
-    alloc: Global,
-    sizes: &mut D,
-    records: R,
-    cfg: &C,
-) {
-    expect_at(rt, sizes, 0, 0, 0);
-    expect_at(rt, sizes, 1, 0, 0);
-    expect_done(rt, sizes.estimate(alloc, records, cfg));
-    expect_at(rt, sizes, 0, 4, 1);
-    expect_at(rt, sizes, 1, 3, 3);
-    expect_at(rt, sizes, 2, 0, 0);
+    fn ask<R: Records + Copy>(&self, rt: &impl Abort, alloc: Global, records: R, asked: Asked) {
+        match asked {
+            Asked::Widths(wanted) => {
+                let sizes = CompactGridDimension::width(alloc, records, self);
+                expect_sizes(rt, sizes, wanted, "widths");
+            }
+            Asked::Heights(wanted) => {
+                let sizes = CompactGridDimension::height(alloc, records, self);
+                expect_sizes(rt, sizes, wanted, "heights");
+            }
+            Asked::Both(wanted) => {
+                let both = CompactGridDimension::dimension(alloc, records, self);
+                expect_both(rt, both, wanted);
+            }
+            Asked::WidthTotal(wanted) => {
+                let total = CompactGridDimension::width_total(alloc, records, self);
+                expect_same(rt, total, wanted, "a total");
+            }
+            Asked::HeightTotal(wanted) => {
+                let total = CompactGridDimension::height_total(alloc, records, self);
+                expect_same(rt, total, wanted, "a total");
+            }
+            _ => expect(rt, false, "no cell is looked up"),
+        }
+    }
 }
 
 // ---- tables
 
-// A table whose first cell spans both columns, with all boundaries, a margin and no padding.
-const SHARED: &[&str] = &["abcdefgh", "hidden", "a", "b\nc\nd"];
+// What a table shows, what is set of it and what is asked.
+type Case = (Texts, &'static [Set], &'static [Asked]);
 
-fn set_shared(rt: &impl Abort, cfg: &mut SpannedConfig) {
-    cfg.set_borders(ascii());
-    cfg.set_margin(INDENTS);
-    expect_done(rt, cfg.set_column_span(Position::new(0, 0), 2));
-}
-
-fn expect_read_once<R: Records + Copy>(
-    rt: &impl Abort,
-    alloc: Global,
-    records: R,
-    cfg: &SpannedConfig,
-) {
-    let widths = IterGridDimension::width(alloc, records, cfg);
-    expect_sizes(rt, widths, &[4, 3], "widths");
-    let heights = IterGridDimension::height(alloc, records, cfg);
-    expect_sizes(rt, heights, &[1, 3], "heights");
-    let both = IterGridDimension::dimension(alloc, records, cfg);
-    expect_both(rt, both, &[4, 3], &[1, 3]);
-    let total = IterGridDimension::width_total(alloc, records, cfg);
-    expect_total(rt, total, Ok(13));
-    let total = IterGridDimension::height_total(alloc, records, cfg);
-    expect_total(rt, total, Ok(14));
-}
-
-#[test]
-fn sizes_of_a_table_that_is_read_once(rt: HostRuntime) {
-    let records = table(&rt, rt.alloc(), 2, SHARED);
-    let mut cfg = SpannedConfig::new(rt.alloc());
-    set_shared(&rt, &mut cfg);
-    expect_read_once(&rt, rt.alloc(), &records, &cfg);
-    let mut sizes = IterGridDimension::default(rt.alloc());
-    expect_estimate(&rt, rt.alloc(), &mut sizes, &records, &cfg);
-    end(cfg);
-}
-
-// ---- compact tables
-
-fn expect_compact<R: Records + Copy>(
-    rt: &impl Abort,
-    alloc: Global,
-    records: R,
-    cfg: &CompactConfig,
-) {
-    let widths = CompactGridDimension::width(alloc, records, cfg);
-    expect_sizes(rt, widths, &[5, 8], "widths");
-    let heights = CompactGridDimension::height(alloc, records, cfg);
-    expect_sizes(rt, heights, &[8, 9], "heights");
-    let both = CompactGridDimension::dimension(alloc, records, cfg);
-    expect_both(rt, both, &[5, 8], &[8, 9]);
-    let total = CompactGridDimension::width_total(alloc, records, cfg);
-    expect_total(rt, total, Ok(16));
-    let total = CompactGridDimension::height_total(alloc, records, cfg);
-    expect_total(rt, total, Ok(20));
-}
-
-fn expect_padded(rt: &impl Abort, alloc: Global) {
-    let padded = table(rt, alloc, 2, &["ab", "c", "d\ne", "fghij"]);
-    let cfg = CompactConfig::new()
-        .set_borders(ascii())
-        .set_padding(INDENTS);
-    expect_compact(rt, alloc, &padded, &cfg);
-}
-
-fn estimate_compact(rt: &impl Abort, alloc: Global) {
-    let records = table(rt, alloc, 2, &["abcd", "c", "", "fgh\n\n"]);
-    let mut sizes = CompactGridDimension::default(alloc);
-    expect_estimate(rt, alloc, &mut sizes, &records, &CompactConfig::new());
-}
-
-// The rows and columns of tables without a cell.
-const EMPTY: &[(usize, usize)] = &[(0, 2), (2, 0)];
-
-fn expect_empty(rt: &impl Abort, alloc: Global, rows: usize, columns: usize) {
-    let records = EmptyRecords::new(rows, columns);
-    let cfg = CompactConfig::new()
-        .set_borders(ascii())
-        .set_margin(INDENTS);
-    let both = CompactGridDimension::dimension(alloc, records, &cfg);
-    expect_both(rt, both, &[], &[]);
-    let total = CompactGridDimension::width_total(alloc, records, &cfg);
-    expect_total(rt, total, Ok(0));
-    let total = CompactGridDimension::height_total(alloc, records, &cfg);
-    expect_total(rt, total, Ok(0));
-}
-
-#[test]
-fn sizes_of_compact_tables(rt: HostRuntime) {
-    expect_padded(&rt, rt.alloc());
-    estimate_compact(&rt, rt.alloc());
-    for (rows, columns) in EMPTY {
-        expect_empty(&rt, rt.alloc(), *rows, *columns);
+fn set_all<C: Settings>(rt: &impl Abort, cfg: &mut C, values: &[Set]) {
+    for value in values {
+        cfg.set(rt, *value);
     }
 }
 
-// ---- spans
+fn ask_all<R: Records + Copy, C: Settings>(
+    rt: &impl Abort,
+    alloc: Global,
+    records: R,
+    cfg: &C,
+    asked: &[Asked],
+) {
+    for asked in asked {
+        cfg.ask(rt, alloc, records, *asked);
+    }
+}
 
-// Cells that span columns: their row and column, and how many.
-type Spanning = &'static [(usize, usize, usize)];
+fn expect_case<C: Settings>(rt: &impl Abort, alloc: Global, mut cfg: C, case: Case) {
+    let (texts, values, asked) = case;
+    let records: VecRecords<String> = table(rt, alloc, texts);
+    set_all(rt, &mut cfg, values);
+    ask_all(rt, alloc, &records, &cfg, asked);
+}
 
-// The cells of a table of three columns without boundaries, those that span columns, and the widths.
-const SPANS: &[(&[&str], Spanning, [usize; 3])] = &[
+fn expect_cases<C: Settings>(rt: &impl Abort, alloc: Global, cases: &[Case]) {
+    for case in cases {
+        expect_case(rt, alloc, C::begin(alloc), *case);
+    }
+}
+
+// The first cell spans both columns.
+const SHARED: Texts = &[&["abcdefgh", "hidden"], &["a", "b\nc\nd"]];
+
+const SET_SHARED: &[Set] = &[
+    Set::Borders,
+    Set::Margin([1, 2, 3, 4]),
+    Set::Columns(0, 0, 2),
+];
+
+const HIGH: Texts = &[&["a\nb\nc\nd\ne", "f"], &["hidden", "g"]];
+
+const SPANNED: &[Case] = &[
+    (
+        SHARED,
+        SET_SHARED,
+        &[
+            Asked::Widths(Ok(&[4, 3])),
+            Asked::Heights(Ok(&[1, 3])),
+            Asked::Both(Ok((&[4, 3], &[1, 3]))),
+            Asked::WidthTotal(Ok(13)),
+            Asked::HeightTotal(Ok(14)),
+        ],
+    ),
     // the whole remainder goes to the first
-    (&["xx", "", ""], &[(0, 0, 3)], [2, 0, 0]),
+    (
+        &[&["xx", "", ""]],
+        &[Set::Columns(0, 0, 3)],
+        &[Asked::Widths(Ok(&[2, 0, 0]))],
+    ),
     // a span that reaches out of the table is clipped, and then the shorter
     (
-        &["xxxxxx", "", "", "", "yyyyy", ""],
-        &[(0, 0, 3), (1, 1, 4)],
-        [1, 3, 2],
+        &[&["xxxxxx", "", ""], &["", "yyyyy", ""]],
+        &[Set::Columns(0, 0, 3), Set::Columns(1, 1, 4)],
+        &[Asked::Widths(Ok(&[1, 3, 2]))],
     ),
     // two spans that both take the second column
     (
-        &["xxxx", "hidden", "x", "x", "yyyyy", "hidden"],
-        &[(0, 0, 2), (1, 1, 2)],
-        [3, 3, 2],
+        &[&["xxxx", "hidden", "x"], &["x", "yyyyy", "hidden"]],
+        &[Set::Columns(0, 0, 2), Set::Columns(1, 1, 2)],
+        &[Asked::Widths(Ok(&[3, 3, 2]))],
     ),
     // a span that has one column in the table, and one after the last row
     (
-        &["x", "", "zzz", "", "yy", ""],
-        &[(0, 2, 5), (2, 0, 3)],
-        [1, 2, 3],
+        &[&["x", "", "zzz"], &["", "yy", ""]],
+        &[Set::Columns(0, 2, 5), Set::Columns(2, 0, 3)],
+        &[Asked::Widths(Ok(&[1, 2, 3]))],
+    ),
+    // a span of rows, which shares a boundary out too
+    (
+        HIGH,
+        &[Set::Rows(0, 0, 2)],
+        &[Asked::LookedUpHeights(Ok(&[3, 2]))],
+    ),
+    (
+        HIGH,
+        &[Set::Rows(0, 0, 2), Set::Borders],
+        &[Asked::LookedUpHeights(Ok(&[2, 2]))],
     ),
 ];
 
-fn expect_spanned(
-    rt: &impl Abort,
-    alloc: Global,
-    cfg: &mut SpannedConfig,
-    cells: &[&str],
-    spans: Spanning,
-    wanted: &[usize],
-) {
-    let records = table(rt, alloc, 3, cells);
-    for (row, col, n) in spans {
-        expect_done(rt, cfg.set_column_span(Position::new(*row, *col), *n));
-    }
-    let widths = IterGridDimension::width(alloc, &records, cfg);
-    expect_sizes(rt, widths, wanted, "widths");
-}
+const COMPACT: &[Case] = &[(
+    &[&["ab", "c"], &["d\ne", "fghij"]],
+    &[Set::Borders, Set::Padding([1, 2, 3, 4])],
+    &[
+        Asked::Widths(Ok(&[5, 8])),
+        Asked::Heights(Ok(&[8, 9])),
+        Asked::Both(Ok((&[5, 8], &[8, 9]))),
+        Asked::WidthTotal(Ok(16)),
+        Asked::HeightTotal(Ok(20)),
+    ],
+)];
 
-fn expect_spanned_rows(rt: &impl Abort, alloc: Global, cfg: &mut SpannedConfig) {
-    let records = table(rt, alloc, 2, &["a\nb\nc\nd\ne", "f", "hidden", "g"]);
-    expect_done(rt, cfg.set_row_span(Position::new(0, 0), 2));
-    let heights = PeekableGridDimension::height(alloc, &records, cfg);
-    expect_sizes(rt, heights, &[3, 2], "heights");
-    cfg.set_borders(ascii());
-    let heights = PeekableGridDimension::height(alloc, &records, cfg);
-    expect_sizes(rt, heights, &[2, 2], "heights with boundaries");
+// The rows and columns of tables without a cell, and what is asked of them.
+const EMPTY: &[(usize, usize)] = &[(0, 2), (2, 0)];
+
+const ASKED_OF_EMPTY: &[Asked] = &[
+    Asked::Both(Ok((&[], &[]))),
+    Asked::WidthTotal(Ok(0)),
+    Asked::HeightTotal(Ok(0)),
+];
+
+#[test]
+fn tables_have_sizes(rt: HostRuntime) {
+    expect_cases::<SpannedConfig>(&rt, rt.alloc(), SPANNED);
+    expect_cases::<CompactConfig>(&rt, rt.alloc(), COMPACT);
 }
 
 #[test]
-fn spans_are_shared_out(rt: HostRuntime) {
-    for (cells, spans, wanted) in SPANS {
-        let mut cfg = SpannedConfig::new(rt.alloc());
-        expect_spanned(&rt, rt.alloc(), &mut cfg, cells, spans, wanted);
-        end(cfg);
+fn tables_without_cells_have_no_sizes(rt: HostRuntime) {
+    let mut cfg = CompactConfig::new();
+    set_all(&rt, &mut cfg, &[Set::Borders, Set::Margin([1, 2, 3, 4])]);
+    for (rows, columns) in EMPTY {
+        let records = EmptyRecords::new(*rows, *columns);
+        ask_all(&rt, rt.alloc(), records, &cfg, ASKED_OF_EMPTY);
     }
-    let mut cfg = SpannedConfig::new(rt.alloc());
-    expect_spanned_rows(&rt, rt.alloc(), &mut cfg);
-    end(cfg);
 }
 
 // ---- refusals
 
-// That an estimate is refused, and the sizes of one column and one line stay.
-fn expect_refused<R, C, D: Estimate<R, C> + Dimension>(
+// As many columns at the left as there can be, or as many lines above.
+const ENDLESS: [usize; 4] = [usize::MAX, 0, 0, 0];
+
+const TALL: [usize; 4] = [0, 0, usize::MAX, 0];
+
+// Half of all columns at the left, so that one column fits and two do not.
+const HALF: [usize; 4] = [usize::MAX / 2 + 1, 0, 0, 0];
+
+const EACH: usize = usize::MAX / 2 + 2;
+
+const PAST_SPANNED: &[Case] = &[
+    (
+        &[&["a"]],
+        &[Set::Padding(ENDLESS)],
+        &[Asked::LookedUpWidths(Err(Fault::Range))],
+    ),
+    (
+        &[&["a"]],
+        &[Set::Padding(TALL)],
+        &[
+            Asked::Heights(Err(Fault::Range)),
+            Asked::HeightTotal(Err(Fault::Range)),
+            Asked::Both(Err(Fault::Range)),
+        ],
+    ),
+];
+
+const PAST_COMPACT: &[Case] = &[
+    (
+        &[&["a"]],
+        &[Set::Padding(ENDLESS)],
+        &[Asked::Heights(Ok(&[1]))],
+    ),
+    (
+        &[&["a"]],
+        &[Set::Margin(ENDLESS)],
+        &[
+            Asked::Widths(Ok(&[1])),
+            Asked::WidthTotal(Err(Fault::Range)),
+        ],
+    ),
+    // two columns that fit apart, and pass `usize::MAX` together
+    (
+        &[&["a", "b"]],
+        &[Set::Padding(HALF)],
+        &[
+            Asked::Widths(Ok(&[EACH, EACH])),
+            Asked::WidthTotal(Err(Fault::Range)),
+        ],
+    ),
+];
+
+#[test]
+fn a_size_past_the_range_is_no_want_of_memory(rt: HostRuntime) {
+    expect_cases::<SpannedConfig>(&rt, rt.alloc(), PAST_SPANNED);
+    expect_cases::<CompactConfig>(&rt, rt.alloc(), PAST_COMPACT);
+}
+
+// ---- sizes that are kept
+
+// What is set before an estimate, its outcome, and the widths and heights by their numbers then.
+type Step = (&'static [Set], Result<(), Fault>, &'static [(usize, usize)]);
+
+// A refused estimate keeps the sizes.
+const REFUSED: &[Step] = &[
+    (&[], Ok(()), &[(1, 1)]),
+    (&[Set::Padding(ENDLESS)], Err(Fault::Range), &[(1, 1)]),
+];
+
+fn expect_kept<D: Dimension>(rt: &impl Abort, sizes: &D, wanted: &[(usize, usize)]) {
+    for (n, (width, height)) in wanted.iter().enumerate() {
+        expect_same(rt, sizes.get_width(n), *width, "a column");
+        expect_same(rt, sizes.get_height(n), *height, "a row");
+    }
+}
+
+// Estimates in turn, through the traits.
+fn expect_estimates<R: Copy, C: Settings, D: Estimate<R, C> + Dimension + Drop>(
     rt: &impl Abort,
     alloc: Global,
-    sizes: &mut D,
+    mut sizes: D,
     records: R,
-    cfg: &C,
+    steps: &[Step],
 ) {
-    expect_at(rt, sizes, 0, 1, 1);
-    let outcome = sizes.estimate(alloc, records, cfg);
-    assert_eq!(rt; outcome, Err(Fault::Range));
-    expect_at(rt, sizes, 0, 1, 1);
+    let mut cfg = C::begin(alloc);
+    expect_kept(rt, &sizes, &[(0, 0), (0, 0)]);
+    for (values, outcome, wanted) in steps {
+        set_all(rt, &mut cfg, values);
+        let found = sizes.estimate(alloc, records, &cfg);
+        expect_same(rt, found, *outcome, "an estimate");
+        expect_kept(rt, &sizes, wanted);
+    }
 }
 
-fn refuse_padded(rt: &impl Abort, alloc: Global, records: &VecRecords<String>) {
-    let cfg = CompactConfig::new();
-    let mut sizes = CompactGridDimension::default(alloc);
-    expect_done(rt, sizes.estimate(alloc, records, &cfg));
-    let padded = cfg.set_padding(ENDLESS);
-    expect_refused(rt, alloc, &mut sizes, records, &padded);
-    let heights = CompactGridDimension::height(alloc, records, &padded);
-    expect_sizes(rt, heights, &[1], "heights");
-}
+// Of two columns of 4 and 3, and of two rows of 1 and 3.
+const TWO: &[(usize, usize)] = &[(4, 1), (3, 3), (0, 0)];
 
-fn refuse_margin(rt: &impl Abort, alloc: Global, records: &VecRecords<String>) {
-    let margin = CompactConfig::new().set_margin(ENDLESS);
-    let widths = CompactGridDimension::width(alloc, records, &margin);
-    expect_sizes(rt, widths, &[1], "widths");
-    let total = CompactGridDimension::width_total(alloc, records, &margin);
-    expect_total(rt, total, Err(Fault::Range));
-}
-
-fn refuse_peekable(
-    rt: &impl Abort,
-    alloc: Global,
-    records: &VecRecords<String>,
-    cfg: &mut SpannedConfig,
-) {
-    let mut sizes = PeekableGridDimension::default(alloc);
-    expect_done(rt, sizes.estimate(alloc, records, cfg));
-    expect_done(rt, cfg.set_padding(Entity::Global, ENDLESS));
-    let width = PeekableGridDimension::width(alloc, records, cfg);
-    expect_range(rt, width);
-    expect_refused(rt, alloc, &mut sizes, records, cfg);
+#[test]
+fn estimates_are_kept(rt: HostRuntime) {
+    let alloc = rt.alloc();
+    let shared: VecRecords<String> = table(&rt, alloc, SHARED);
+    let sizes = IterGridDimension::default(alloc);
+    expect_estimates(&rt, alloc, sizes, &shared, &[(SET_SHARED, Ok(()), TWO)]);
+    let plain: VecRecords<String> = table(&rt, alloc, &[&["abcd", "c"], &["", "fgh\n\n"]]);
+    let sizes = CompactGridDimension::default(alloc);
+    expect_estimates(&rt, alloc, sizes, &plain, &[(&[], Ok(()), TWO)]);
 }
 
 #[test]
 fn a_refused_estimate_keeps_the_sizes(rt: HostRuntime) {
-    let records = table(&rt, rt.alloc(), 1, &["a"]);
-    refuse_padded(&rt, rt.alloc(), &records);
-    refuse_margin(&rt, rt.alloc(), &records);
-    let mut cfg = SpannedConfig::new(rt.alloc());
-    refuse_peekable(&rt, rt.alloc(), &records, &mut cfg);
-    end(cfg);
-}
-
-// As many lines above as there can be.
-const TALL: Sides<Indent> = Sides {
-    left: Indent { size: 0, fill: ' ' },
-    right: Indent { size: 0, fill: ' ' },
-    top: Indent {
-        size: usize::MAX,
-        fill: ' ',
-    },
-    bottom: Indent { size: 0, fill: ' ' },
-};
-
-// Half of all columns at the left, so that one column fits and two do not.
-const HALF: Sides<Indent> = Sides {
-    left: Indent {
-        size: usize::MAX / 2 + 1,
-        fill: ' ',
-    },
-    right: Indent { size: 0, fill: ' ' },
-    top: Indent { size: 0, fill: ' ' },
-    bottom: Indent { size: 0, fill: ' ' },
-};
-
-// Two columns that fit apart, and pass `usize::MAX` together.
-fn refuse_sum(rt: &impl Abort, alloc: Global) {
-    let records = table(rt, alloc, 2, &["a", "b"]);
-    let half = CompactConfig::new().set_padding(HALF);
-    let each = usize::MAX / 2 + 2;
-    let widths = CompactGridDimension::width(alloc, &records, &half);
-    expect_sizes(rt, widths, &[each, each], "widths");
-    let total = CompactGridDimension::width_total(alloc, &records, &half);
-    expect_total(rt, total, Err(Fault::Range));
-}
-
-fn refuse_heights(
-    rt: &impl Abort,
-    alloc: Global,
-    records: &VecRecords<String>,
-    cfg: &mut SpannedConfig,
-) {
-    expect_done(rt, cfg.set_padding(Entity::Global, TALL));
-    expect_range(rt, IterGridDimension::height(alloc, records, cfg));
-    let total = IterGridDimension::height_total(alloc, records, cfg);
-    expect_total(rt, total, Err(Fault::Range));
-    expect_range(rt, IterGridDimension::dimension(alloc, records, cfg));
-}
-
-#[test]
-fn a_size_past_the_range_is_no_want_of_memory(rt: HostRuntime) {
-    refuse_sum(&rt, rt.alloc());
-    let records = table(&rt, rt.alloc(), 1, &["a"]);
-    let mut cfg = SpannedConfig::new(rt.alloc());
-    refuse_heights(&rt, rt.alloc(), &records, &mut cfg);
-    end(cfg);
+    let alloc = rt.alloc();
+    let records: VecRecords<String> = table(&rt, alloc, &[&["a"]]);
+    let sizes = CompactGridDimension::default(alloc);
+    expect_estimates(&rt, alloc, sizes, &records, REFUSED);
+    let sizes = PeekableGridDimension::default(alloc);
+    expect_estimates(&rt, alloc, sizes, &records, REFUSED);
 }

@@ -1,13 +1,12 @@
 //! Measures, lines, tabs and cuts.
-use super::{expect, expect_number, expect_text};
+use super::{expect, expect_same};
 use grid_records_measure::{
     Lines, count_lines, cut_width, get_char_width, get_line_width, get_lines, get_string_width,
     get_text_dimension, get_text_width, replace_tab,
 };
-use std::alloc::{AllocError, Global};
+use std::alloc::AllocError;
 use std::borrow::CowStr;
 use std::process::Abort;
-use std::test::Fail;
 
 // ---- widths
 
@@ -39,11 +38,11 @@ const TEXTS: &[(&str, usize)] = &[
 #[test]
 fn measures_characters_and_texts(rt: HostRuntime) {
     for (c, own, in_text, text) in CHARACTERS {
-        expect_number(&rt, get_char_width(*c), *own, text);
-        expect_number(&rt, get_string_width(text), *in_text, text);
+        expect_same(&rt, get_char_width(*c), *own, text);
+        expect_same(&rt, get_string_width(text), *in_text, text);
     }
     for (text, width) in TEXTS {
-        expect_number(&rt, get_string_width(text), *width, text);
+        expect_same(&rt, get_string_width(text), *width, text);
     }
 }
 
@@ -86,15 +85,21 @@ const DIMENSIONS: &[(&str, usize, usize)] = &[
 #[test]
 fn measures_lines(rt: HostRuntime) {
     for (text, width) in LINE_WIDTHS {
-        expect_number(&rt, get_line_width(text), *width, text);
+        expect_same(&rt, get_line_width(text), *width, text);
     }
     for (text, lines, width) in DIMENSIONS {
         expect(&rt, get_text_dimension(text) == (*lines, *width), text);
-        expect_number(&rt, get_text_width(text), *width, text);
+        expect_same(&rt, get_text_width(text), *width, text);
     }
 }
 
 // ---- lines
+
+// What was made of a text, and whether it is a borrow.
+fn expect_made(rt: &impl Abort, made: &CowStr<'_>, wanted: &str, text: &str) -> bool {
+    expect_same(rt, made.as_str(), wanted, text);
+    matches!(made, CowStr::Borrowed(_))
+}
 
 // The next line, which is a borrow where the text has no ESC. After a refusal, which `tests/memory`
 // makes, none comes any more.
@@ -104,31 +109,35 @@ fn expect_line(
     wanted: &str,
     text: &str,
 ) -> Result<(), AllocError> {
-    let found = lines.next().expect(rt, "a line is missing");
-    if found.is_err() {
-        expect(rt, lines.next().is_none(), "a refusal");
-        expect(rt, lines.next().is_none(), "a refusal");
+    match lines.next().expect(rt, "a line is missing") {
+        Ok(line) => {
+            let is_borrow = expect_made(rt, &line, wanted, text);
+            expect(rt, is_borrow || text.contains('\x1b'), text);
+            Ok(())
+        }
+        Err(refused) => {
+            expect_end(rt, lines, "a refusal");
+            Err(refused)
+        }
     }
-    let line = found?;
-    expect_text(rt, line.as_str(), wanted, text);
-    let is_borrow = matches!(line, CowStr::Borrowed(_));
-    expect(rt, is_borrow || text.contains('\x1b'), text);
-    Ok(())
+}
+
+// No line comes any more.
+fn expect_end(rt: &impl Abort, lines: &mut Lines<'_>, what: &str) {
+    expect(rt, lines.next().is_none(), what);
+    expect(rt, lines.next().is_none(), what);
 }
 
 fn expect_lines(
     rt: &impl Abort,
-    alloc: Global,
-    text: &str,
+    lines: &mut Lines<'_>,
     wanted: &[&str],
+    text: &str,
 ) -> Result<(), AllocError> {
-    expect_number(rt, count_lines(text), wanted.len(), text);
-    let mut lines = get_lines(alloc, text);
     for line in wanted {
-        expect_line(rt, &mut lines, line, text)?;
+        expect_line(rt, lines, line, text)?;
     }
-    expect(rt, lines.next().is_none(), text);
-    expect(rt, lines.next().is_none(), text);
+    expect_end(rt, lines, text);
     Ok(())
 }
 
@@ -152,9 +161,10 @@ const LINES: &[(&str, &[&str])] = &[
 ];
 
 #[test]
-fn gives_lines(rt: HostRuntime) -> Result<(), Fail> {
+fn gives_lines(rt: HostRuntime) -> Result<(), AllocError> {
     for (text, wanted) in LINES {
-        expect_lines(&rt, rt.alloc(), text, wanted)?;
+        expect_same(&rt, count_lines(text), wanted.len(), text);
+        expect_lines(&rt, &mut get_lines(rt.alloc(), text), wanted, text)?;
     }
     Ok(())
 }
@@ -177,24 +187,12 @@ const TABS: &[(&str, usize, &str)] = &[
     ("\x1b]0;a\tb\x07c", usize::MAX, "\x1b]0;a\tb\x07c"),
 ];
 
-fn expect_spaces(
-    rt: &impl Abort,
-    alloc: Global,
-    text: &str,
-    n: usize,
-    wanted: &str,
-) -> Result<(), AllocError> {
-    let found = replace_tab(alloc, text, n)?;
-    expect_text(rt, found.as_str(), wanted, text);
-    let is_borrow = matches!(found, CowStr::Borrowed(_));
-    expect(rt, is_borrow == (wanted == text), text);
-    Ok(())
-}
-
 #[test]
-fn replaces_tabs(rt: HostRuntime) -> Result<(), Fail> {
+fn replaces_tabs(rt: HostRuntime) -> Result<(), AllocError> {
     for (text, n, wanted) in TABS {
-        expect_spaces(&rt, rt.alloc(), text, *n, wanted)?;
+        let made = replace_tab(rt.alloc(), text, *n)?;
+        let is_borrow = expect_made(&rt, &made, wanted, text);
+        expect(&rt, is_borrow == (wanted == text), text);
     }
     Ok(())
 }
@@ -262,25 +260,12 @@ const CUTS: &[(&str, usize, &str, bool)] = &[
     ("表漢", 2, "表", true),
 ];
 
-fn expect_cut(
-    rt: &impl Abort,
-    alloc: Global,
-    text: &str,
-    width: usize,
-    wanted: &str,
-    is_plain: bool,
-) -> Result<(), AllocError> {
-    let found = cut_width(alloc, text, width)?;
-    expect_text(rt, found.as_str(), wanted, text);
-    let is_borrow = matches!(found, CowStr::Borrowed(_));
-    expect(rt, is_borrow || !is_plain, text);
-    Ok(())
-}
-
 #[test]
-fn cuts_at_a_width(rt: HostRuntime) -> Result<(), Fail> {
+fn cuts_at_a_width(rt: HostRuntime) -> Result<(), AllocError> {
     for (text, width, wanted, is_plain) in CUTS {
-        expect_cut(&rt, rt.alloc(), text, *width, wanted, *is_plain)?;
+        let made = cut_width(rt.alloc(), text, *width)?;
+        let is_borrow = expect_made(&rt, &made, wanted, text);
+        expect(&rt, is_borrow || !*is_plain, text);
     }
     Ok(())
 }

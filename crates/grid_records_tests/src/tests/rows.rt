@@ -1,7 +1,7 @@
 //! Rows of cells: sources, adapters, and cells that are set.
 ghost use Rattle.std.specs.Iterator.{IsFinite};
 
-use super::{expect, expect_number, expect_text};
+use super::{MEMORY, Make, Texts, expect, expect_same, rows_of, table};
 use grid_config_values::Position;
 use grid_records_rows::{
     BufRecords, Cell, Dimension, EmptyRecords, ExactRecords, IntoRecords, IterRecords,
@@ -11,7 +11,6 @@ use grid_records_rows::{
 use std::alloc::{AllocError, Global};
 use std::borrow::CowStr;
 use std::process::Abort;
-use std::test::Fail;
 
 // The cells of a source, each with a bar after it and a row to a line.
 fn text_of_source<R: IntoRecords>(alloc: Global, records: R) -> Result<String, AllocError> {
@@ -45,69 +44,50 @@ fn push_cells<C: Cell, I: Iterator<Item = Result<C, AllocError>>>(
     out.push('\n')
 }
 
-fn expect_source<R: IntoRecords>(
-    rt: &impl Abort,
-    alloc: Global,
-    records: R,
-    wanted: &str,
-) -> Result<(), AllocError> {
-    let found = text_of_source(alloc, records)?;
-    expect_text(rt, found.as_str(), wanted, "a source");
-    Ok(())
+fn expect_made(rt: &impl Abort, made: Result<String, AllocError>, wanted: &str) {
+    let text = made.expect(rt, MEMORY);
+    expect_same(rt, text.as_str(), wanted, "what is made of rows");
 }
 
-fn expect_records<R: Records>(
-    rt: &impl Abort,
-    alloc: Global,
-    records: R,
-    wanted: &str,
-) -> Result<(), AllocError> {
-    let found = text_of_records(alloc, records)?;
-    expect_text(rt, found.as_str(), wanted, "records");
-    Ok(())
+fn expect_source<R: IntoRecords>(rt: &impl Abort, alloc: Global, records: R, wanted: &str) {
+    expect_made(rt, text_of_source(alloc, records), wanted);
 }
 
-type Row = Vec<&'static str>;
-
-fn row_of(alloc: Global, cells: &[&'static str]) -> Result<Row, AllocError> {
-    let mut row = Vec::new(alloc);
-    for cell in cells {
-        row.push(*cell)?;
-    }
-    Ok(row)
+fn expect_records<R: Records>(rt: &impl Abort, alloc: Global, records: R, wanted: &str) {
+    expect_made(rt, text_of_records(alloc, records), wanted);
 }
 
-fn rows_of(alloc: Global, rows: &[&[&'static str]]) -> Result<Vec<Row>, AllocError> {
-    let mut found = Vec::new(alloc);
-    for cells in rows {
-        found.push(row_of(alloc, cells)?)?;
-    }
-    Ok(found)
-}
+// The helpers below take any source: what holds of it is proved from its bounds, which costs far less than
+// of an adapter whose types are known.
 
 // ---- sources
 
-fn expect_rows(rt: &impl Abort, alloc: Global) -> Result<(), AllocError> {
-    let rows = rows_of(alloc, &[&["a", "b"], &["c"]])?;
-    expect_source(rt, alloc, rows.as_slice(), "a|b|\nc|\n")?;
-    expect_source(rt, alloc, rows, "a|b|\nc|\n")
+const UNEVEN: Texts = &[&["a", "b"], &["c"]];
+
+const PAIRS: Texts = &[&["a", "b"], &["c", "d"], &["e", "f"]];
+
+fn give_rows<T: Cell>(rt: &impl Abort, alloc: Global, rows: Vec<Vec<T>>) {
+    expect_source(rt, alloc, rows.as_slice(), "a|b|\nc|\n");
+    expect_source(rt, alloc, rows, "a|b|\nc|\n");
 }
 
-const PAIRS: &str = "a|b|\nc|d|\ne|f|\n";
-
-fn expect_arrays(rt: &impl Abort, alloc: Global) -> Result<(), AllocError> {
-    expect_source(rt, alloc, [["a", "b"], ["c", "d"], ["e", "f"]], PAIRS)
-}
-
-fn expect_limited(rt: &impl Abort, alloc: Global) -> Result<(), AllocError> {
-    let rows = rows_of(alloc, &[&["a", "b"], &["c", "d"], &["e", "f"]])?;
-    let rows = rows.as_slice();
-    expect_source(rt, alloc, LimitRows::new(rows, 2), "a|b|\nc|d|\n")?;
-    expect_source(rt, alloc, LimitRows::new(rows, 0), "")?;
-    expect_source(rt, alloc, LimitColumns::new(rows, 1), "a|\nc|\ne|\n")?;
-    expect_source(rt, alloc, SkipRows::new(rows, 1), "c|d|\ne|f|\n")?;
+fn give_parts<R: IntoRecords + Copy>(rt: &impl Abort, alloc: Global, rows: R) {
+    expect_source(rt, alloc, LimitRows::new(rows, 2), "a|b|\nc|d|\n");
+    expect_source(rt, alloc, LimitRows::new(rows, 0), "");
+    expect_source(rt, alloc, LimitColumns::new(rows, 1), "a|\nc|\ne|\n");
+    expect_source(rt, alloc, SkipRows::new(rows, 1), "c|d|\ne|f|\n");
     let limited = LimitColumns::new(rows, 9);
-    expect_source(rt, alloc, SkipRows::new(limited, 3), "")
+    expect_source(rt, alloc, SkipRows::new(limited, 3), "");
+}
+
+#[test]
+fn gives_the_rows_of_sources(rt: HostRuntime) {
+    let rows: Vec<Vec<&str>> = rows_of(rt.alloc(), UNEVEN).expect(&rt, MEMORY);
+    give_rows(&rt, rt.alloc(), rows);
+    let arrays = [["a", "b"], ["c", "d"], ["e", "f"]];
+    expect_source(&rt, rt.alloc(), arrays, "a|b|\nc|d|\ne|f|\n");
+    let pairs: Vec<Vec<&str>> = rows_of(rt.alloc(), PAIRS).expect(&rt, MEMORY);
+    give_parts(&rt, rt.alloc(), pairs.as_slice());
 }
 
 // The same size for each number.
@@ -130,213 +110,199 @@ impl Dimension for Same {
 
 const WIDE: [[&str; 2]; 2] = [["😳😳", "ab"], ["\x1b[31mabcd\x1b[39m", "abc"]];
 
-fn expect_cut(rt: &impl Abort, alloc: Global) -> Result<(), AllocError> {
-    let cut = TruncateContent::new(alloc, WIDE, Same(3));
-    let wanted = "😳\u{fffd}|ab|\n\x1b[31mabc\x1b[39m|abc|\n";
-    expect_source(rt, alloc, cut, wanted)?;
-    let sizes = Same(1);
-    let cut = TruncateContent::new(alloc, [["ab\ncd"]], &sizes);
-    expect_source(rt, alloc, cut, "a|\n")
+fn give_cut<R: IntoRecords, D: Dimension + Copy>(
+    rt: &impl Abort,
+    alloc: Global,
+    records: R,
+    sizes: D,
+    wanted: &str,
+) {
+    let cut = TruncateContent::new(alloc, records, sizes);
+    expect_made(rt, text_of_source(alloc, cut), wanted);
+}
+
+// Cut cells behind a row that is left out, of rows of which one is kept.
+fn keep_cut<R: IntoRecords, D: Dimension + Copy>(
+    rt: &impl Abort,
+    alloc: Global,
+    records: R,
+    sizes: D,
+    wanted: (&str, &str),
+) {
+    let cut = SkipRows::new(TruncateContent::new(alloc, records, sizes), 1);
+    expect_buffered(rt, alloc, BufRecords::new(alloc, cut, 1), wanted);
 }
 
 #[test]
-fn gives_the_rows_of_sources(rt: HostRuntime) -> Result<(), Fail> {
-    expect_rows(&rt, rt.alloc())?;
-    expect_arrays(&rt, rt.alloc())?;
-    expect_limited(&rt, rt.alloc())?;
-    expect_cut(&rt, rt.alloc())?;
-    Ok(())
+fn cuts_cells(rt: HostRuntime) {
+    let alloc = rt.alloc();
+    let wanted = "😳\u{fffd}|ab|\n\x1b[31mabc\x1b[39m|abc|\n";
+    give_cut(&rt, alloc, WIDE, Same(3), wanted);
+    give_cut(&rt, alloc, [["ab\ncd"]], &Same(1), "a|\n");
+    let source = [["abc", "d"], ["ef", "ghi"], ["j", "k"]];
+    let wanted = ("ef|gh|\n", "ef|gh|\nj|k|\n");
+    keep_cut(&rt, alloc, source, Same(2), wanted);
 }
 
 // ---- rows that are kept
 
 // The rows that are kept of a source, and then all its rows.
-fn text_of_buffered<R: IntoRecords + Drop>(
-    alloc: Global,
-    records: R,
-    count: usize,
-) -> Result<String, AllocError> {
-    let buffered = BufRecords::new(alloc, records, count)?;
-    let mut out = text_of_source(alloc, buffered.as_slice())?;
-    out.push_str("and\n")?;
-    out.push_str(text_of_source(alloc, buffered)?.as_str())?;
-    Ok(out)
-}
-
-fn expect_buffered<R: IntoRecords + Drop>(
+fn expect_buffered<R: IntoRecords>(
     rt: &impl Abort,
     alloc: Global,
-    records: R,
-    count: usize,
-    wanted: &str,
-) -> Result<(), AllocError> {
-    let found = text_of_buffered(alloc, records, count)?;
-    expect_text(rt, found.as_str(), wanted, "rows that are kept");
-    Ok(())
+    buffered: Result<BufRecords<R>, AllocError>,
+    wanted: (&str, &str),
+) {
+    let buffered = buffered.expect(rt, MEMORY);
+    expect_source(rt, alloc, buffered.as_slice(), wanted.0);
+    expect_source(rt, alloc, buffered, wanted.1);
 }
 
-const ALL: &str = "a|b|\n\nc|\nand\na|b|\n\nc|\n";
+const ALL: &str = "a|b|\n\nc|\n";
 
 // How many rows are kept, and the rows.
-const KEPT: &[(usize, &str)] = &[
-    (0, "and\na|b|\n\nc|\n"),
-    (1, "a|b|\nand\na|b|\n\nc|\n"),
-    (3, ALL),
-];
+const KEPT: &[(usize, &str)] = &[(0, ""), (1, "a|b|\n"), (3, ALL)];
 
-fn keep_rows(rt: &impl Abort, alloc: Global) -> Result<(), AllocError> {
-    let rows = rows_of(alloc, &[&["a", "b"], &[], &["c"]])?;
-    for (count, wanted) in KEPT {
-        expect_buffered(rt, alloc, rows.as_slice(), *count, wanted)?;
+fn keep_rows<T: Cell>(rt: &impl Abort, alloc: Global, rows: Vec<Vec<T>>) {
+    for (count, kept) in KEPT {
+        let buffered = BufRecords::new(alloc, rows.as_slice(), *count);
+        expect_buffered(rt, alloc, buffered, (kept, ALL));
     }
-    expect_buffered(rt, alloc, rows, usize::MAX, ALL)
+    expect_buffered(
+        rt,
+        alloc,
+        BufRecords::new(alloc, rows, usize::MAX),
+        (ALL, ALL),
+    );
 }
 
-fn keep_cut(rt: &impl Abort, alloc: Global) -> Result<(), AllocError> {
-    let source = [["abc", "d"], ["ef", "ghi"], ["j", "k"]];
-    let cut = SkipRows::new(TruncateContent::new(alloc, source, Same(2)), 1);
-    expect_buffered(rt, alloc, cut, 1, "ef|gh|\nand\nef|gh|\nj|k|\n")
-}
-
-fn strings(alloc: Global, texts: &[&str]) -> Result<Vec<Vec<String>>, AllocError> {
-    let mut rows = Vec::new(alloc);
-    for text in texts {
-        rows.push(vec![in alloc; String::from_str(alloc, text)?]?)?;
-    }
-    Ok(rows)
-}
-
-fn keep_twice(rt: &impl Abort, alloc: Global) -> Result<(), AllocError> {
-    let once = BufRecords::new(alloc, strings(alloc, &["a", "b", "c"])?, 1)?;
-    expect_buffered(rt, alloc, once, 2, "a|\nb|\nand\na|\nb|\nc|\n")
+// One row is kept, and then two of all.
+fn keep_twice<R: IntoRecords>(rt: &impl Abort, alloc: Global, records: R, wanted: (&str, &str)) {
+    let once = BufRecords::new(alloc, records, 1).expect(rt, MEMORY);
+    expect_buffered(rt, alloc, BufRecords::new(alloc, once, 2), wanted);
 }
 
 #[test]
-fn keeps_the_first_rows(rt: HostRuntime) -> Result<(), Fail> {
-    keep_rows(&rt, rt.alloc())?;
-    keep_cut(&rt, rt.alloc())?;
-    keep_twice(&rt, rt.alloc())?;
-    expect_buffered(
-        &rt,
-        rt.alloc(),
-        EmptyRecords::new(2, 1),
-        1,
-        "|\nand\n|\n|\n",
-    )?;
-    Ok(())
+fn keeps_the_first_rows(rt: HostRuntime) {
+    let alloc = rt.alloc();
+    let rows: Vec<Vec<&str>> = rows_of(alloc, &[&["a", "b"], &[], &["c"]]).expect(&rt, MEMORY);
+    keep_rows(&rt, alloc, rows);
+    let rows: Vec<Vec<String>> = rows_of(alloc, &[&["a"], &["b"], &["c"]]).expect(&rt, MEMORY);
+    keep_twice(&rt, alloc, rows, ("a|\nb|\n", "a|\nb|\nc|\n"));
+    let buffered = BufRecords::new(alloc, EmptyRecords::new(2, 1), 1);
+    expect_buffered(&rt, alloc, buffered, ("|\n", "|\n|\n"));
 }
 
 // ---- records
 
-fn fit_rows(rt: &impl Abort, alloc: Global, rows: &[Row]) -> Result<(), AllocError> {
+fn fit_rows<R: IntoRecords + Copy>(rt: &impl Abort, alloc: Global, rows: R) {
     // the hint is wrong, and decides nothing
     let records = IterRecords::new(rows, 2, Some(7));
-    expect_number(rt, records.count_columns(), 2, "columns");
+    expect_same(rt, records.count_columns(), 2, "columns");
     expect(rt, records.hint_count_rows() == Some(7), "the hint");
-    expect_records(rt, alloc, &records, "a|b|\n||\nd||\n")?;
-    expect_records(rt, alloc, records, "a|b|\n||\nd||\n")?;
-    expect_source(rt, alloc, IterRecords::new(rows, 2, None), "a|b|c|\n\nd|\n")
+    expect_made(rt, text_of_records(alloc, &records), "a|b|\n||\nd||\n");
+    expect_made(rt, text_of_records(alloc, records), "a|b|\n||\nd||\n");
+    let uneven = IterRecords::new(rows, 2, None);
+    expect_made(rt, text_of_source(alloc, uneven), "a|b|c|\n\nd|\n");
 }
 
-fn have_empty_rows(rt: &impl Abort, alloc: Global) -> Result<(), AllocError> {
+fn fit_none<R: IntoRecords>(rt: &impl Abort, alloc: Global, rows: R) {
+    let records = IterRecords::new(rows, 0, None);
+    expect_made(rt, text_of_records(alloc, records), "\n\n\n");
+}
+
+fn have_empty_rows(rt: &impl Abort, alloc: Global) {
     let records = EmptyRecords::new(2, 3);
-    expect_number(rt, records.count_rows(), 2, "rows");
-    expect_number(rt, records.count_columns(), 3, "columns");
-    expect_records(rt, alloc, records, "|||\n|||\n")?;
-    expect_source(rt, alloc, EmptyRecords::default(), "")
+    expect_same(rt, records.count_rows(), 2, "rows");
+    expect_same(rt, records.count_columns(), 3, "columns");
+    expect_records(rt, alloc, records, "|||\n|||\n");
+    expect_source(rt, alloc, EmptyRecords::default(), "");
 }
 
 #[test]
-fn fits_rows_to_the_column_count(rt: HostRuntime) -> Result<(), Fail> {
-    let rows = rows_of(rt.alloc(), &[&["a", "b", "c"], &[], &["d"]])?;
-    fit_rows(&rt, rt.alloc(), rows.as_slice())?;
-    expect_records(&rt, rt.alloc(), IterRecords::new(rows, 0, None), "\n\n\n")?;
-    have_empty_rows(&rt, rt.alloc())?;
-    Ok(())
+fn fits_rows_to_the_column_count(rt: HostRuntime) {
+    let alloc = rt.alloc();
+    let rows: Vec<Vec<&str>> = rows_of(alloc, &[&["a", "b", "c"], &[], &["d"]]).expect(&rt, MEMORY);
+    fit_rows(&rt, alloc, rows.as_slice());
+    fit_none(&rt, alloc, rows);
+    have_empty_rows(&rt, alloc);
 }
 
 // ---- tables
 
-fn expect_at<R: PeekableRecords>(
-    rt: &impl Abort,
-    records: &R,
-    row: usize,
-    col: usize,
-    wanted: &str,
-) {
-    expect_text(
-        rt,
-        records.get_text(Position::new(row, col)),
-        wanted,
-        "a cell",
-    );
+// The row, column and text of cells.
+fn expect_cells<R: PeekableRecords>(rt: &impl Abort, records: &R, wanted: &[(usize, usize, &str)]) {
+    for (row, col, text) in wanted {
+        let found = records.get_text(Position::new(*row, *col));
+        expect_same(rt, found, text, "a cell");
+    }
 }
 
 // The first cell, `a` over `漢b`, and how many rows there are.
-fn expect_shape<R: PeekableRecords + ExactRecords + Drop>(
+fn expect_shape<R: PeekableRecords + ExactRecords>(
     rt: &impl Abort,
     alloc: Global,
-    records: R,
+    records: &R,
     rows: usize,
-) -> Result<(), AllocError> {
+) {
     let first = Position::new(0, 0);
-    expect_number(rt, records.count_rows(), rows, "rows");
-    expect_text(rt, records.get_text(first), "a\n漢b", "the first cell");
-    expect_number(rt, records.count_lines(first), 2, "lines");
-    expect_number(rt, records.get_width(first), 3, "columns");
-    expect_number(rt, records.get_line_width(first, 0), 1, "the first line");
-    expect_number(rt, records.get_line_width(first, 1), 3, "the second");
-    expect_number(rt, records.get_line_width(first, 2), 0, "no line");
-    let line = records.get_line(alloc, first, 0)?;
-    expect_text(rt, line.as_str(), "a", "the first line");
-    let line = records.get_line(alloc, first, 1)?;
-    expect_text(rt, line.as_str(), "漢b", "the second line");
-    Ok(())
+    expect_same(rt, records.count_rows(), rows, "rows");
+    expect_cells(rt, records, &[(0, 0, "a\n漢b")]);
+    expect_same(rt, records.count_lines(first), 2, "lines");
+    expect_same(rt, records.get_width(first), 3, "columns");
+    expect_first_line(rt, alloc, records, 0, "a", 1);
+    expect_first_line(rt, alloc, records, 1, "漢b", 3);
+    expect_same(rt, records.get_line_width(first, 2), 0, "no line");
 }
 
-fn look_up(rt: &impl Abort, alloc: Global) -> Result<(), AllocError> {
-    let rows = rows_of(alloc, &[&["a\n漢b", "b"], &["c", "d"]])?;
-    assert!(rt; are_equally_long(rows.as_slice()));
-    let records = VecRecords::new(rows);
-    expect_number(rt, (&records).count_columns(), 2, "columns");
-    expect_at(rt, &records, 1, 0, "c");
-    expect_at(rt, &records, 1, 2, "");
-    expect_at(rt, &records, 2, 0, "");
-    expect_shape(rt, alloc, &records, 2)?;
-    expect_records(rt, alloc, &records, "a\n漢b|b|\nc|d|\n")?;
-    expect_records(rt, alloc, PeekedRecords::new(&records), "a\n漢b|b|\nc|d|\n")?;
-    expect_records(rt, alloc, records, "a\n漢b|b|\nc|d|\n")
+// A line of the first cell.
+fn expect_first_line<R: PeekableRecords>(
+    rt: &impl Abort,
+    alloc: Global,
+    records: &R,
+    index: usize,
+    wanted: &str,
+    width: usize,
+) {
+    let first = Position::new(0, 0);
+    expect_same(rt, records.get_line_width(first, index), width, wanted);
+    let line = records.get_line(alloc, first, index).expect(rt, MEMORY);
+    expect_same(rt, line.as_str(), wanted, "a line");
 }
 
-fn text(alloc: Global, shown: &str) -> Result<Text, AllocError> {
-    Text::new(alloc, String::from_str(alloc, shown)?)
+const LOOKED_UP: &[(usize, usize, &str)] = &[(1, 0, "c"), (1, 2, ""), (2, 0, "")];
+
+fn look_up<T: Cell>(rt: &impl Abort, alloc: Global, records: VecRecords<T>) {
+    expect_same(rt, (&records).count_columns(), 2, "columns");
+    expect_cells(rt, &records, LOOKED_UP);
+    expect_shape(rt, alloc, &&records, 2);
+    expect_records(rt, alloc, &records, "a\n漢b|b|\nc|d|\n");
+    expect_records(rt, alloc, PeekedRecords::new(&records), "a\n漢b|b|\nc|d|\n");
+    expect_records(rt, alloc, records, "a\n漢b|b|\nc|d|\n");
 }
 
-fn look_up_text(rt: &impl Abort, alloc: Global) -> Result<(), AllocError> {
-    let rows = vec![in alloc; vec![in alloc; text(alloc, "a\n漢b")?]?]?;
-    assert!(rt; are_equally_long(rows.as_slice()));
-    expect_shape(rt, alloc, &VecRecords::new(rows), 1)
-}
-
-fn set_text(rt: &impl Abort, alloc: Global) -> Result<(), AllocError> {
-    let cells = vec![in alloc; text(alloc, "a")?, text(alloc, "b")?]?;
-    let rows = vec![in alloc; cells]?;
+fn set_text(rt: &impl Abort, alloc: Global) {
+    let first = Text::make(alloc, "a").expect(rt, MEMORY);
+    let second = Text::make(alloc, "b").expect(rt, MEMORY);
+    let row = vec![in alloc; first, second].expect(rt, MEMORY);
+    let rows = vec![in alloc; row].expect(rt, MEMORY);
     assert!(rt; are_equally_long(rows.as_slice()));
     let mut records = VecRecords::new(rows);
-    records.set(Position::new(0, 1), text(alloc, "c")?);
-    expect_at(rt, &records, 0, 0, "a");
-    expect_at(rt, &records, 0, 1, "c");
-    Ok(())
+    let other = Text::make(alloc, "c").expect(rt, MEMORY);
+    records.set(Position::new(0, 1), other);
+    expect_cells(rt, &records, &[(0, 0, "a"), (0, 1, "c")]);
 }
 
 #[test]
-fn looks_up_cells(rt: HostRuntime) -> Result<(), Fail> {
-    look_up(&rt, rt.alloc())?;
-    look_up_text(&rt, rt.alloc())?;
-    set_text(&rt, rt.alloc())?;
-    let rows = rows_of(rt.alloc(), &[&["a", "b"], &["c"]])?;
+fn looks_up_cells(rt: HostRuntime) {
+    let alloc = rt.alloc();
+    let records: VecRecords<&str> = table(&rt, alloc, &[&["a\n漢b", "b"], &["c", "d"]]);
+    look_up(&rt, alloc, records);
+    let texts: VecRecords<Text> = table(&rt, alloc, &[&["a\n漢b"]]);
+    expect_shape(&rt, alloc, &texts, 1);
+    set_text(&rt, alloc);
+    let rows: Vec<Vec<&str>> = rows_of(alloc, UNEVEN).expect(&rt, MEMORY);
     expect(&rt, !are_equally_long(rows.as_slice()), "other lengths");
-    Ok(())
 }
 
 // ---- cells
@@ -348,15 +314,16 @@ fn expect_lines<C: Cell>(
     cell: &C,
     width: usize,
     wanted: &[(&str, usize)],
-) -> Result<(), AllocError> {
-    expect_number(rt, cell.count_lines(), wanted.len(), "lines");
-    expect_number(rt, cell.width(), width, "a cell");
+) {
+    expect_same(rt, cell.count_lines(), wanted.len(), "lines");
+    expect_same(rt, cell.width(), width, "a cell");
     for (index, (line, width)) in wanted.iter().enumerate() {
-        expect_line(rt, alloc, cell, index, line, *width)?;
+        expect_line(rt, alloc, cell, index, line, *width);
     }
-    expect_line(rt, alloc, cell, wanted.len(), "", 0)
+    expect_line(rt, alloc, cell, wanted.len(), "", 0);
 }
 
+// A line, which is a borrow where it has no ESC, as then none of these cells has one.
 fn expect_line<C: Cell>(
     rt: &impl Abort,
     alloc: Global,
@@ -364,33 +331,30 @@ fn expect_line<C: Cell>(
     index: usize,
     wanted: &str,
     width: usize,
-) -> Result<(), AllocError> {
-    let found = cell.line(alloc, index)?;
-    expect_text(rt, found.as_str(), wanted, "a line");
-    expect_number(rt, cell.line_width(index), width, wanted);
-    Ok(())
+) {
+    let found = cell.line(alloc, index).expect(rt, MEMORY);
+    expect_same(rt, found.as_str(), wanted, "a line");
+    let is_borrow = matches!(&found, CowStr::Borrowed(_));
+    expect(rt, is_borrow || wanted.contains('\x1b'), wanted);
+    expect_same(rt, cell.line_width(index), width, wanted);
 }
 
 const STYLED: &[(&str, usize)] = &[("\x1b[1ma\x1b[22m", 1), ("\x1b[1mbc\x1b[22m", 2)];
 
 const OWNED: &[(&str, usize)] = &[("表", 2), ("", 0)];
 
-fn expect_owned(rt: &impl Abort, alloc: Global) -> Result<(), AllocError> {
-    let owned = String::from_str(alloc, "表\n")?;
-    expect_lines(rt, alloc, &owned, 2, OWNED)?;
-    let text = Text::new(alloc, owned)?;
-    expect_lines(rt, alloc, &&text, 2, OWNED)
-}
+const PLAIN: &[(&str, usize)] = &[("a", 1), ("b", 1)];
 
 #[test]
-fn cells_have_lines(rt: HostRuntime) -> Result<(), Fail> {
-    expect_lines(&rt, rt.alloc(), &"\x1b[1ma\nbc", 2, STYLED)?;
-    expect_owned(&rt, rt.alloc())?;
+fn cells_have_lines(rt: HostRuntime) {
+    let alloc = rt.alloc();
+    expect_lines(&rt, alloc, &"\x1b[1ma\nbc", 2, STYLED);
+    expect_lines(&rt, alloc, &"a\nb", 1, PLAIN);
+    let owned = String::make(alloc, "表\n").expect(&rt, MEMORY);
+    expect_lines(&rt, alloc, &owned, 2, OWNED);
+    let text = Text::new(alloc, owned).expect(&rt, MEMORY);
+    expect_lines(&rt, alloc, &&text, 2, OWNED);
     let none: Option<&str> = None;
-    expect_lines(&rt, rt.alloc(), &none, 0, &[("", 0)])?;
-    expect_lines(&rt, rt.alloc(), &Some("x"), 1, &[("x", 1)])?;
-    // a line of plain text is a borrow
-    let line = "a\nb".line(rt.alloc(), 1)?;
-    expect(&rt, matches!(&line, CowStr::Borrowed(_)), "a borrow");
-    Ok(())
+    expect_lines(&rt, alloc, &none, 0, &[("", 0)]);
+    expect_lines(&rt, alloc, &Some("x"), 1, &[("x", 1)]);
 }

@@ -1,8 +1,8 @@
 //! Units, wraps and cuts. `tests/memory` runs these tests with each request for memory refused, and a
 //! refusal is handed on.
-use std::alloc::{AllocError, Global};
+use grid_config::Fault;
 use std::process::Abort;
-use tabled_size_wrap::{Unit, cut_styled, units, wrap_styled};
+use tabled_size::{Unit, cut_styled, units, wrap_styled};
 
 // What was found, and of what.
 fn expect_text(rt: &impl Abort, found: &str, wanted: &str, what: &str) {
@@ -58,24 +58,13 @@ const BREAKS: &[(&str, usize, &str, &str)] = &[
     ),
 ];
 
-fn expect_break(
-    rt: &impl Abort,
-    alloc: Global,
-    text: &str,
-    width: usize,
-    keep_words: bool,
-    wanted: &str,
-) -> Result<(), AllocError> {
-    let found = wrap_styled(alloc, text, width, keep_words)?;
-    expect_text(rt, found.as_str(), wanted, text);
-    Ok(())
-}
-
 #[test]
-fn breaks_lines(rt: HostRuntime) -> Result<(), AllocError> {
+fn breaks_lines(rt: HostRuntime) -> Result<(), Fault> {
     for (text, width, divided, kept) in BREAKS {
-        expect_break(&rt, rt.alloc(), text, *width, false, divided)?;
-        expect_break(&rt, rt.alloc(), text, *width, true, kept)?;
+        let found = wrap_styled(rt.alloc(), text, *width, false)?;
+        expect_text(&rt, found.as_str(), divided, text);
+        let found = wrap_styled(rt.alloc(), text, *width, true)?;
+        expect_text(&rt, found.as_str(), kept, text);
     }
     Ok(())
 }
@@ -92,102 +81,39 @@ const CUTS: &[(&str, usize, &str)] = &[
     ("123\n456789", 4, "123\n4567"),
 ];
 
-fn expect_cut(
-    rt: &impl Abort,
-    alloc: Global,
-    text: &str,
-    width: usize,
-    wanted: &str,
-) -> Result<(), AllocError> {
-    let found = cut_styled(alloc, text, width)?;
-    expect_text(rt, found.as_str(), wanted, text);
-    Ok(())
-}
-
 #[test]
-fn cuts_lines(rt: HostRuntime) -> Result<(), AllocError> {
+fn cuts_lines(rt: HostRuntime) -> Result<(), Fault> {
     for (text, width, wanted) in CUTS {
-        expect_cut(&rt, rt.alloc(), text, *width, wanted)?;
+        let found = cut_styled(rt.alloc(), text, *width)?;
+        expect_text(&rt, found.as_str(), wanted, text);
     }
     Ok(())
 }
 
-// Where units start and end, and what they cost.
-const DIVIDED: &[Unit] = &[
-    Unit {
-        start: 0,
-        end: 1,
-        cost: 1,
-    },
-    Unit {
-        start: 1,
-        end: 2,
-        cost: 1,
-    },
-    Unit {
-        start: 2,
-        end: 3,
-        cost: 1,
-    },
-    Unit {
-        start: 3,
-        end: 4,
-        cost: 1,
-    },
-    Unit {
-        start: 4,
-        end: 7,
-        cost: 2,
-    },
-    Unit {
-        start: 7,
-        end: 11,
-        cost: 2,
-    },
+// Where units start and end, and what they cost, without and with the words kept.
+const DIVIDED: &[(usize, usize, usize)] = &[
+    (0, 1, 1),
+    (1, 2, 1),
+    (2, 3, 1),
+    (3, 4, 1),
+    (4, 7, 2),
+    (7, 11, 2),
 ];
 
-const KEPT: &[Unit] = &[
-    Unit {
-        start: 0,
-        end: 2,
-        cost: 2,
-    },
-    Unit {
-        start: 2,
-        end: 3,
-        cost: 1,
-    },
-    Unit {
-        start: 3,
-        end: 4,
-        cost: 1,
-    },
-    Unit {
-        start: 4,
-        end: 7,
-        cost: 2,
-    },
-    Unit {
-        start: 7,
-        end: 11,
-        cost: 2,
-    },
-];
+const KEPT: &[(usize, usize, usize)] = &[(0, 2, 2), (2, 3, 1), (3, 4, 1), (4, 7, 2), (7, 11, 2)];
 
-fn expect_units(
-    rt: &impl Abort,
-    alloc: Global,
-    keep_words: bool,
-    wanted: &[Unit],
-) -> Result<(), AllocError> {
-    let line = "\u{1b}[1mab\u{1b}[0m  漢😳";
-    let found = units(alloc, line, 3, keep_words)?;
-    assert_eq!(rt; found.as_slice(), wanted);
-    Ok(())
+fn expect_units(rt: &impl Abort, found: &[Unit], wanted: &[(usize, usize, usize)]) {
+    assert_eq!(rt; found.len(), wanted.len(), "how many units");
+    for (unit, (start, end, cost)) in found.iter().zip(wanted) {
+        let (start, end, cost) = (*start, *end, *cost);
+        assert_eq!(rt; *unit, Unit { start, end, cost });
+    }
 }
 
 #[test]
-fn gives_units(rt: HostRuntime) -> Result<(), AllocError> {
-    expect_units(&rt, rt.alloc(), false, DIVIDED)?;
-    expect_units(&rt, rt.alloc(), true, KEPT)
+fn gives_units(rt: HostRuntime) -> Result<(), Fault> {
+    let line = "\u{1b}[1mab\u{1b}[0m  漢😳";
+    expect_units(&rt, units(rt.alloc(), line, 3, false)?.as_slice(), DIVIDED);
+    expect_units(&rt, units(rt.alloc(), line, 3, true)?.as_slice(), KEPT);
+    Ok(())
 }
