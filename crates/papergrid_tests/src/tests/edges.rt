@@ -1,295 +1,330 @@
 //! Tables at the edges: spans, sizes and fills that are hard, and what is refused.
-use super::grids::{Case, ascii, expect_lines};
-use super::{Sizes, end, expect, expect_no_text, rows_of};
-use grid_config::{
-    ANSIBuf, AlignmentHorizontal, Borders, ColoredConfig, Entity, Fault, Indent, Position, Sides,
-    SpannedConfig,
-};
-use grid_records_rows::{VecRecords, are_equally_long};
-use papergrid::{IterGrid, NoColors, fits};
-use std::alloc::Global;
-use std::process::Abort;
+use super::Table;
+use super::grids::Wanted::{Lines, Refused};
+use super::grids::{Case, Group, Start, expect_groups};
+use super::settings::{ASCII, ENDLESS, NO_BORDERS, NONE, Set};
+use grid_config::{AlignmentHorizontal, Borders, Fault};
 
-// One cell spans the whole table.
-const WHOLE: Case = Case {
-    cells: &[&["a\nb", "x"], &["y", "z"]],
-    widths: &[2, 2],
-    heights: &[1, 1],
-    lines: "+--+--+\n|a    |\n+b    +\n|     |\n+--+--+",
-};
-
-// A cell of two rows and two columns, with more lines than rows.
-const MIDDLE: Case = Case {
-    cells: &[&["a", "b\nc\nd", "."], &["e", ".", "."], &["f", "g", "h"]],
-    widths: &[1, 1, 2],
-    heights: &[1, 1, 1],
-    lines: "+-+-+--+\n|a|b   |\n+-+c   +\n|e|d   |\n+-+-+--+\n|f|g|h |\n+-+-+--+",
-};
-
-fn expect_spans(rt: &impl Abort, alloc: Global, cfg: &mut SpannedConfig) -> Result<(), Fault> {
-    cfg.set_borders(ascii());
-    cfg.set_column_span(Position::new(0, 0), 2)?;
-    cfg.set_row_span(Position::new(0, 0), 2)?;
-    expect_lines(rt, alloc, &WHOLE, cfg, &NoColors)?;
-    cfg.set_column_span(Position::new(0, 0), 1)?;
-    cfg.set_row_span(Position::new(0, 0), 1)?;
-    cfg.set_column_span(Position::new(0, 1), 2)?;
-    cfg.set_row_span(Position::new(0, 1), 2)?;
-    expect_lines(rt, alloc, &MIDDLE, cfg, &NoColors)
-}
-
-#[test]
-fn spans_of_rows_and_columns_hide_cells(rt: HostRuntime) -> Result<(), Fault> {
-    let mut cfg = SpannedConfig::new(rt.alloc());
-    let outcome = expect_spans(&rt, rt.alloc(), &mut cfg);
-    end(cfg);
-    outcome
-}
-
-// Fewer sizes than rows and columns: what lacks is 0.
-const SHORT: Case = Case {
-    cells: &[&["a", ""], &["", ""]],
-    widths: &[1],
-    heights: &[1],
-    lines: "+-++\n|a||\n+-++\n+-++",
-};
-
-// More lines than the row is high.
-const HIGH: Case = Case {
-    cells: &[&["a\nb\nc"]],
-    widths: &[1],
-    heights: &[2],
-    lines: "+-+\n|a|\n|b|\n+-+",
-};
-
-// No rows.
-const NO_ROWS: Case = Case {
-    cells: &[],
-    widths: &[1],
-    heights: &[1],
-    lines: "",
-};
-
-// Rows without columns.
-const NO_COLUMNS: Case = Case {
-    cells: &[&[], &[]],
-    widths: &[],
-    heights: &[1, 1],
-    lines: "",
-};
-
-fn expect_sizes(rt: &impl Abort, alloc: Global, cfg: &mut SpannedConfig) -> Result<(), Fault> {
-    cfg.set_borders(ascii());
-    expect_lines(rt, alloc, &SHORT, cfg, &NoColors)?;
-    expect_lines(rt, alloc, &HIGH, cfg, &NoColors)?;
-    let sign = Indent::new(1, '#');
-    cfg.set_margin(Sides::new(sign, sign, sign, sign));
-    expect_lines(rt, alloc, &NO_ROWS, cfg, &NoColors)?;
-    expect_lines(rt, alloc, &NO_COLUMNS, cfg, &NoColors)
-}
-
-#[test]
-fn sizes_decide_how_much_is_shown(rt: HostRuntime) -> Result<(), Fault> {
-    let mut cfg = SpannedConfig::new(rt.alloc());
-    let outcome = expect_sizes(&rt, rt.alloc(), &mut cfg);
-    end(cfg);
-    outcome
-}
-
-// Wide, combining and control characters as glyphs and fills: each counts as one column.
-const FILLS: Case = Case {
-    cells: &[&["a"]],
-    widths: &[5],
-    heights: &[2],
-    lines: "+漢漢漢漢漢+\n\u{301}\u{1b}\u{1b}\u{1b}\u{1b}\u{1b}|\n\u{301}漢漢a\t\u{301}|\n+-----+",
-};
-
-// Two boundaries alone; no other glyph is set.
-const ABSENT: Case = Case {
-    cells: &[&["a", "b"], &["c", "d"]],
-    widths: &[1, 1],
-    heights: &[1, 1],
-    lines: "|ab\n --\n|cd",
-};
-
-fn expect_fills(rt: &impl Abort, alloc: Global, cfg: &mut SpannedConfig) -> Result<(), Fault> {
-    let mut borders = Borders::empty();
-    borders.left = Some('|');
-    borders.horizontal = Some('-');
-    cfg.set_borders(borders);
-    expect_lines(rt, alloc, &ABSENT, cfg, &NoColors)?;
-    let mut borders = ascii();
-    borders.left = Some('\u{301}');
-    borders.top = Some('漢');
-    cfg.set_borders(borders);
-    cfg.set_padding(
-        Entity::Global,
-        Sides::new(
-            Indent::new(2, '漢'),
-            Indent::new(1, '\u{301}'),
-            Indent::new(1, '\u{1b}'),
-            Indent::zero(),
-        ),
-    )?;
-    cfg.set_justification(Entity::Global, '\t')?;
-    expect_lines(rt, alloc, &FILLS, cfg, &NoColors)
-}
-
-#[test]
-fn every_fill_takes_one_column(rt: HostRuntime) -> Result<(), Fault> {
-    let mut cfg = SpannedConfig::new(rt.alloc());
-    let outcome = expect_fills(&rt, rt.alloc(), &mut cfg);
-    end(cfg);
-    outcome
-}
-
-// A colour without sequences, and a coloured padding of no columns.
-const NO_COLOR: Case = Case {
-    cells: &[&["a", ""]],
-    widths: &[1, 1],
-    heights: &[1],
-    lines: "+-+-+\n|a| |\n+-+-+",
-};
-
-fn expect_no_color(rt: &impl Abort, alloc: Global, cfg: &mut ColoredConfig) -> Result<(), Fault> {
-    cfg.set_color(Entity::Global, ANSIBuf::new(alloc, "", "")?)?;
-    let spanned = cfg.spanned_mut();
-    spanned.set_borders(ascii());
-    let green = ANSIBuf::new(alloc, "\u{1b}[32m", "\u{1b}[39m")?;
-    spanned.set_padding_color(Entity::Global, Sides::new(Some(green), None, None, None))?;
-    expect_lines(rt, alloc, &NO_COLOR, cfg.spanned(), cfg.get_colors())
-}
-
-#[test]
-fn nothing_has_no_color(rt: HostRuntime) -> Result<(), Fault> {
-    let mut cfg = ColoredConfig::new(SpannedConfig::new(rt.alloc()));
-    let outcome = expect_no_color(&rt, rt.alloc(), &mut cfg);
-    drop(cfg);
-    outcome
-}
-
-// `fits` and a grid that reads its records once refuse the table, and leave the text as it was.
-fn expect_refusal(
-    rt: &impl Abort,
-    alloc: Global,
-    case: &Case,
-    cfg: &SpannedConfig,
-    fault: Fault,
-) -> Result<(), Fault> {
-    let rows = rows_of(alloc, case.cells)?;
-    assert!(rt; are_equally_long(&rows));
-    let records = VecRecords::new(rows);
-    let sizes = Sizes {
-        widths: case.widths,
-        heights: case.heights,
-    };
-    expect(rt, fits(&records, cfg, &sizes), Err(fault), "sizes");
-    let mut text = String::from_str(alloc, "before")?;
-    let answer = IterGrid::new(&records, cfg, &sizes, NoColors).build(alloc, &mut text);
-    expect(rt, answer, Err(fault), "a table that is read once");
-    assert_eq!(rt; text.as_str(), case.lines);
-    let made = IterGrid::new(&records, cfg, &sizes, NoColors).to_string(alloc);
-    expect_no_text(rt, made, fault, "a text of its own");
-    Ok(())
-}
-
-// Its cell is too wide.
-const FIRST: Case = Case {
-    cells: &[&["abc"]],
-    widths: &[2],
-    heights: &[1],
-    lines: "before",
-};
+// A cell of three columns, in a column of two.
+const TOO_WIDE: Table = Table(&[&["abc"]], &[2], &[1]);
 
 // A table that fits.
-const SMALL: Case = Case {
-    cells: &[&["a"]],
-    widths: &[1],
-    heights: &[1],
-    lines: "before",
-};
+const SMALL: Table = Table(&[&["a"]], &[1], &[1]);
 
-// A cell is too wide, and the columns pass the range.
-const ENDLESS: Case = Case {
-    cells: &[&["a", "b"], &["ccc", "d"]],
-    widths: &[1, usize::MAX],
-    heights: &[1, 1],
-    lines: "before",
-};
+const FITTING: &[Case] = &[
+    Case {
+        name: "a narrow column",
+        set: &[],
+        table: TOO_WIDE,
+        wanted: Refused(Fault::Room { row: 0, column: 0 }),
+    },
+    Case {
+        name: "a row of height 0",
+        set: &[],
+        table: Table(&[&["abc"]], &[3], &[0]),
+        wanted: Lines(""),
+    },
+    Case {
+        name: "the first by row",
+        set: &[],
+        table: Table(&[&["a", "bb"], &["cc", "d"]], &[1, 1], &[1, 1]),
+        wanted: Refused(Fault::Room { row: 0, column: 1 }),
+    },
+    Case {
+        name: "columns past the range",
+        set: &[],
+        table: Table(&[&["a", "b"]], &[usize::MAX, 1], &[1]),
+        wanted: Refused(Fault::Range),
+    },
+    Case {
+        name: "a hidden cell",
+        set: &[Set::ColumnSpan(0, 0, 2)],
+        table: Table(&[&["ab", "cde"]], &[1, 1], &[1]),
+        wanted: Lines("ab"),
+    },
+    Case {
+        name: "a span that reaches out",
+        set: &[Set::ColumnSpan(0, 0, 3)],
+        table: Table(&[&["a", "b"], &["c", "d"]], &[1, usize::MAX], &[1, 1]),
+        wanted: Refused(Fault::Spans),
+    },
+];
+
+// Boundaries and paddings count.
+const COUNTING: &[Case] = &[
+    Case {
+        name: "a boundary within a cell",
+        set: &[
+            Set::Borders(Borders {
+                vertical: Some('|'),
+                top: Some('-'),
+                ..NO_BORDERS
+            }),
+            Set::ColumnSpan(0, 0, 2),
+        ],
+        table: Table(&[&["abc", ""]], &[1, 1], &[1]),
+        wanted: Lines("- -\nabc"),
+    },
+    Case {
+        name: "lines past the range",
+        set: &[],
+        table: Table(&[&["a", ""]], &[1, 1], &[usize::MAX]),
+        wanted: Refused(Fault::Range),
+    },
+    Case {
+        name: "an endless padding",
+        set: &[Set::Padding([ENDLESS, NONE, NONE, NONE])],
+        table: Table(&[&["a", ""]], &[1, 1], &[1]),
+        wanted: Refused(Fault::Room { row: 0, column: 0 }),
+    },
+    Case {
+        name: "no rows in endless margins",
+        set: &[Set::Margin([ENDLESS, ENDLESS, NONE, NONE])],
+        table: Table(&[], &[], &[]),
+        wanted: Lines(""),
+    },
+];
+
+// Spans of rows and columns hide cells.
+const SPANS: &[Case] = &[
+    Case {
+        name: "one cell spans the whole table",
+        set: &[
+            Set::Borders(ASCII),
+            Set::ColumnSpan(0, 0, 2),
+            Set::RowSpan(0, 0, 2),
+        ],
+        table: Table(&[&["a\nb", "x"], &["y", "z"]], &[2, 2], &[1, 1]),
+        wanted: Lines("+--+--+\n|a    |\n+b    +\n|     |\n+--+--+"),
+    },
+    Case {
+        name: "a cell of two rows and two columns, with more lines than rows",
+        set: &[
+            Set::ColumnSpan(0, 0, 1),
+            Set::RowSpan(0, 0, 1),
+            Set::ColumnSpan(0, 1, 2),
+            Set::RowSpan(0, 1, 2),
+        ],
+        table: Table(
+            &[&["a", "b\nc\nd", "."], &["e", ".", "."], &["f", "g", "h"]],
+            &[1, 1, 2],
+            &[1, 1, 1],
+        ),
+        wanted: Lines("+-+-+--+\n|a|b   |\n+-+c   +\n|e|d   |\n+-+-+--+\n|f|g|h |\n+-+-+--+"),
+    },
+];
+
+// Sizes decide how much is shown.
+const SIZES: &[Case] = &[
+    Case {
+        name: "fewer sizes than rows and columns: what lacks is 0",
+        set: &[Set::Borders(ASCII)],
+        table: Table(&[&["a", ""], &["", ""]], &[1], &[1]),
+        wanted: Lines("+-++\n|a||\n+-++\n+-++"),
+    },
+    Case {
+        name: "more lines than the row is high",
+        set: &[],
+        table: Table(&[&["a\nb\nc"]], &[1], &[2]),
+        wanted: Lines("+-+\n|a|\n|b|\n+-+"),
+    },
+    Case {
+        name: "no rows",
+        set: &[Set::Margin([(1, '#'), (1, '#'), (1, '#'), (1, '#')])],
+        table: Table(&[], &[1], &[1]),
+        wanted: Lines(""),
+    },
+    Case {
+        name: "rows without columns",
+        set: &[],
+        table: Table(&[&[], &[]], &[], &[1, 1]),
+        wanted: Lines(""),
+    },
+];
+
+// Every fill takes one column.
+const FILLS: &[Case] = &[
+    Case {
+        name: "two boundaries alone; no other glyph is set",
+        set: &[Set::Borders(Borders {
+            left: Some('|'),
+            horizontal: Some('-'),
+            ..NO_BORDERS
+        })],
+        table: Table(&[&["a", "b"], &["c", "d"]], &[1, 1], &[1, 1]),
+        wanted: Lines("|ab\n --\n|cd"),
+    },
+    Case {
+        name: "wide, combining and control characters as glyphs and fills",
+        set: &[
+            Set::Borders(Borders {
+                left: Some('\u{301}'),
+                top: Some('漢'),
+                ..ASCII
+            }),
+            Set::Padding([(2, '漢'), (1, '\u{301}'), (1, '\u{1b}'), NONE]),
+            Set::Justification('\t'),
+        ],
+        table: Table(&[&["a"]], &[5], &[2]),
+        wanted: Lines(
+            "+漢漢漢漢漢+\n\u{301}\u{1b}\u{1b}\u{1b}\u{1b}\u{1b}|\n\u{301}漢漢a\t\u{301}|\n+-----+",
+        ),
+    },
+];
 
 // Two cells are too wide.
-const NARROW: Case = Case {
-    cells: &[&["a", "bcd"], &["efg", "h"]],
-    widths: &[1, 1],
-    heights: &[1, 1],
-    lines: "before",
-};
+const NARROW: Table = Table(&[&["a", "bcd"], &["efg", "h"]], &[1, 1], &[1, 1]);
 
-fn expect_refusals(rt: &impl Abort, alloc: Global, cfg: &mut SpannedConfig) -> Result<(), Fault> {
-    cfg.set_borders(ascii());
-    let second = Fault::Room { row: 0, column: 1 };
-    expect_refusal(rt, alloc, &FIRST, cfg, Fault::Room { row: 0, column: 0 })?;
-    expect_refusal(rt, alloc, &NARROW, cfg, second)?;
-    expect_refusal(rt, alloc, &ENDLESS, cfg, Fault::Range)?;
-    // they overlap
-    cfg.set_column_span(Position::new(0, 0), 2)?;
-    cfg.set_row_span(Position::new(0, 1), 2)?;
-    expect_refusal(rt, alloc, &ENDLESS, cfg, Fault::Spans)?;
-    // one reaches out
-    cfg.set_column_span(Position::new(0, 0), 1)?;
-    cfg.set_row_span(Position::new(0, 1), 1)?;
-    cfg.set_row_span(Position::new(1, 0), 2)?;
-    expect_refusal(rt, alloc, &NARROW, cfg, Fault::Spans)?;
-    cfg.set_row_span(Position::new(1, 0), 1)?;
-    let (none, endless) = (Indent::zero(), Indent::spaced(usize::MAX));
-    cfg.set_margin(Sides::new(endless, none, none, none));
-    expect_refusal(rt, alloc, &SMALL, cfg, Fault::Range)
-}
+// A cell is too wide, and the columns pass the range.
+const WIDE: Table = Table(&[&["a", "b"], &["ccc", "d"]], &[1, usize::MAX], &[1, 1]);
+
+// Tables are refused in order.
+const REFUSALS: &[Case] = &[
+    Case {
+        name: "its cell is too wide",
+        set: &[Set::Borders(ASCII)],
+        table: TOO_WIDE,
+        wanted: Refused(Fault::Room { row: 0, column: 0 }),
+    },
+    Case {
+        name: "two cells are too wide",
+        set: &[],
+        table: NARROW,
+        wanted: Refused(Fault::Room { row: 0, column: 1 }),
+    },
+    Case {
+        name: "a cell is too wide, and the columns pass the range",
+        set: &[],
+        table: WIDE,
+        wanted: Refused(Fault::Range),
+    },
+    Case {
+        name: "spans overlap",
+        set: &[Set::ColumnSpan(0, 0, 2), Set::RowSpan(0, 1, 2)],
+        table: WIDE,
+        wanted: Refused(Fault::Spans),
+    },
+    Case {
+        name: "a span reaches out",
+        set: &[
+            Set::ColumnSpan(0, 0, 1),
+            Set::RowSpan(0, 1, 1),
+            Set::RowSpan(1, 0, 2),
+        ],
+        table: NARROW,
+        wanted: Refused(Fault::Spans),
+    },
+    Case {
+        name: "an endless margin",
+        set: &[
+            Set::RowSpan(1, 0, 1),
+            Set::Margin([ENDLESS, NONE, NONE, NONE]),
+        ],
+        table: SMALL,
+        wanted: Refused(Fault::Range),
+    },
+];
+
+// Trimmed lines need room as they stand.
+const TRIMS: &[Case] = &[
+    Case {
+        name: "a space at the end of a line, in a column without room for it",
+        set: &[Set::Borders(ASCII), Set::TrimHorizontal],
+        table: Table(&[&["a "]], &[1], &[1]),
+        wanted: Refused(Fault::Room { row: 0, column: 0 }),
+    },
+    Case {
+        name: "in one with room",
+        set: &[],
+        table: Table(&[&["a "]], &[2], &[1]),
+        wanted: Lines("+--+\n|a |\n+--+"),
+    },
+    Case {
+        name: "it takes room, and is not shown",
+        set: &[Set::Horizontal(AlignmentHorizontal::Right)],
+        table: Table(&[&["a "]], &[2], &[1]),
+        wanted: Lines("+--+\n| a|\n+--+"),
+    },
+];
+
+// As many columns or lines as no memory holds.
+const MOST: usize = usize::MAX - 8;
+
+const WIDEST: Table = Table(&[&["a"]], &[MOST], &[1]);
+
+// What no memory holds is refused at once.
+const LIMITS: &[Case] = &[
+    Case {
+        name: "a fill of spaces",
+        set: &[],
+        table: WIDEST,
+        wanted: Refused(Fault::Memory),
+    },
+    Case {
+        name: "a fill of three bytes a column",
+        set: &[Set::Justification('漢')],
+        table: WIDEST,
+        wanted: Refused(Fault::Memory),
+    },
+    Case {
+        name: "a boundary",
+        set: &[Set::Borders(Borders {
+            top: Some('-'),
+            ..NO_BORDERS
+        })],
+        table: WIDEST,
+        wanted: Refused(Fault::Memory),
+    },
+    Case {
+        name: "a margin",
+        set: &[Set::Margin([(MOST, ' '), NONE, NONE, NONE])],
+        table: SMALL,
+        wanted: Refused(Fault::Memory),
+    },
+    Case {
+        name: "lines of a margin",
+        set: &[Set::Margin([NONE, NONE, (MOST, ' '), NONE])],
+        table: SMALL,
+        wanted: Refused(Fault::Memory),
+    },
+];
+
+const GROUPS: &[Group] = &[
+    Group {
+        start: Start::New,
+        cases: FITTING,
+    },
+    Group {
+        start: Start::New,
+        cases: COUNTING,
+    },
+    Group {
+        start: Start::New,
+        cases: SPANS,
+    },
+    Group {
+        start: Start::New,
+        cases: SIZES,
+    },
+    Group {
+        start: Start::New,
+        cases: FILLS,
+    },
+    Group {
+        start: Start::New,
+        cases: REFUSALS,
+    },
+    Group {
+        start: Start::New,
+        cases: TRIMS,
+    },
+    Group {
+        start: Start::New,
+        cases: LIMITS,
+    },
+];
 
 #[test]
-fn tables_are_refused_in_order(rt: HostRuntime) -> Result<(), Fault> {
-    let mut cfg = SpannedConfig::new(rt.alloc());
-    let outcome = expect_refusals(&rt, rt.alloc(), &mut cfg);
-    end(cfg);
-    outcome
-}
-
-// A space at the end of a line, in a column without room for it, and in one with room.
-const NO_SPACE: Case = Case {
-    cells: &[&["a "]],
-    widths: &[1],
-    heights: &[1],
-    lines: "before",
-};
-
-const SPACE: Case = Case {
-    cells: &[&["a "]],
-    widths: &[2],
-    heights: &[1],
-    lines: "+--+\n|a |\n+--+",
-};
-
-// It takes room, and is not shown.
-const TRIMMED: Case = Case {
-    cells: &[&["a "]],
-    widths: &[2],
-    heights: &[1],
-    lines: "+--+\n| a|\n+--+",
-};
-
-fn expect_trims(rt: &impl Abort, alloc: Global, cfg: &mut SpannedConfig) -> Result<(), Fault> {
-    cfg.set_borders(ascii());
-    cfg.set_trim_horizontal(Entity::Global, true)?;
-    expect_refusal(rt, alloc, &NO_SPACE, cfg, Fault::Room { row: 0, column: 0 })?;
-    expect_lines(rt, alloc, &SPACE, cfg, &NoColors)?;
-    cfg.set_alignment_horizontal(Entity::Global, AlignmentHorizontal::Right)?;
-    expect_lines(rt, alloc, &TRIMMED, cfg, &NoColors)
-}
-
-#[test]
-fn trimmed_lines_need_room_as_they_stand(rt: HostRuntime) -> Result<(), Fault> {
-    let mut cfg = SpannedConfig::new(rt.alloc());
-    let outcome = expect_trims(&rt, rt.alloc(), &mut cfg);
-    end(cfg);
-    outcome
+fn grids_print_or_refuse_at_the_edges(rt: HostRuntime) {
+    expect_groups(&rt, rt.alloc(), &[], GROUPS);
 }

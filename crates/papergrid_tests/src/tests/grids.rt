@@ -1,79 +1,92 @@
-//! What grids print.
-use super::{Sizes, end, rows_of};
-use grid_config::{
-    ANSIBuf, AlignmentHorizontal, AlignmentVertical, Borders, ColoredConfig, Entity, Fault, Indent,
-    Position, Sides, SpannedConfig,
-};
-use grid_records_rows::{PeekableRecords, VecRecords, are_equally_long};
+//! Tables by their settings, and what each grid makes of them.
+use super::compact::expect_compact;
+use super::plain::{Pair, PlainRows, plain_rows};
+use super::settings::{Set, change_all, compact, spanned};
+use super::{BEFORE, Table, expect_appended, expect_made, records_of};
+use grid_config::{ColoredConfig, CompactConfig, Fault, SpannedConfig};
+use grid_records_rows::PeekableRecords;
+use grid_records_traits::PlainRow;
 use papergrid::{Colors, IterGrid, NoColors, PeekableGrid, count_lines, fits};
 use papergrid_fits::fits_counted;
 use papergrid_print::print_line;
 use std::alloc::Global;
 use std::process::Abort;
 
-// A table: its rows, all of as many cells, its widths, its heights and its lines.
-#[derive(Drop)]
+// What is wanted of a table.
+pub(super) enum Wanted {
+    // these lines
+    Lines(&'static str),
+    // these lines in the colours of its cells, and these without
+    Colored(&'static str, &'static str),
+    // no lines, for this reason; as `Memory` a table that fits is refused
+    Refused(Fault),
+}
+
+// What is set, and the table that is printed then.
 pub(super) struct Case {
-    pub(super) cells: &'static [&'static [&'static str]],
-    pub(super) widths: &'static [usize],
-    pub(super) heights: &'static [usize],
-    pub(super) lines: &'static str,
+    pub(super) name: &'static str,
+    pub(super) set: &'static [Set],
+    pub(super) table: Table,
+    pub(super) wanted: Wanted,
 }
 
-pub(super) fn ascii() -> Borders<char> {
-    let mut borders = Borders::empty();
-    borders.top = Some('-');
-    borders.bottom = Some('-');
-    borders.horizontal = Some('-');
-    borders.left = Some('|');
-    borders.right = Some('|');
-    borders.vertical = Some('|');
-    borders.top_left = Some('+');
-    borders.top_right = Some('+');
-    borders.top_intersection = Some('+');
-    borders.bottom_left = Some('+');
-    borders.bottom_right = Some('+');
-    borders.bottom_intersection = Some('+');
-    borders.left_intersection = Some('+');
-    borders.right_intersection = Some('+');
-    borders.intersection = Some('+');
-    borders
+// How the settings of tables begin.
+pub(super) enum Start {
+    New,
+    // as these of a compact table
+    Compact(&'static [Set]),
+    // the same, and a compact grid prints the same
+    Alike(&'static [Set]),
 }
 
-// The table by a grid whose cells are looked up, on its condition.
-fn looked_up<C: Colors>(
+// Tables under the same settings, which each case goes on to change.
+pub(super) struct Group {
+    pub(super) start: Start,
+    pub(super) cases: &'static [Case],
+}
+
+// By a grid whose cells are looked up, on its condition.
+fn expect_looked_up<C: Colors>(
     rt: &impl Abort,
     alloc: Global,
     case: &Case,
     cfg: &SpannedConfig,
     colors: &C,
-) -> Result<String, Fault> {
-    let rows = rows_of(alloc, case.cells)?;
-    assert!(rt; are_equally_long(&rows));
-    let records = VecRecords::new(rows);
-    let sizes = Sizes {
-        widths: case.widths,
-        heights: case.heights,
-    };
-    fits(&records, cfg, &sizes)?;
-    PeekableGrid::new(records, cfg, sizes, colors).to_string(alloc)
+    wanted: Result<&str, Fault>,
+) {
+    let what = &[case.name, "looked up"];
+    let records = records_of(rt, alloc, &case.table).expect(rt, "rows are refused");
+    match fits(&records, cfg, &case.table) {
+        Ok(()) => {
+            let grid = PeekableGrid::new(records, cfg, case.table, colors);
+            expect_made(rt, grid.to_string(alloc), wanted, what);
+            let mut text = String::from_str(alloc, BEFORE).expect(rt, "a text is refused");
+            let outcome = grid.build(alloc, &mut text);
+            expect_appended(rt, outcome, &text, BEFORE, wanted, what);
+            text.clear();
+            let outcome = grid.build(alloc, &mut text);
+            expect_appended(rt, outcome, &text, "", wanted, what);
+        }
+        Err(fault) => assert_eq!(rt; Err(fault), wanted, "of {what:?}"),
+    }
 }
 
-// The table by a grid whose records are read once.
-fn read_once<C: Colors>(
+// By a grid whose records are read once.
+fn expect_read<C: Colors>(
     rt: &impl Abort,
     alloc: Global,
     case: &Case,
     cfg: &SpannedConfig,
     colors: &C,
-) -> Result<String, Fault> {
-    let rows = rows_of(alloc, case.cells)?;
-    assert!(rt; are_equally_long(&rows));
-    let sizes = Sizes {
-        widths: case.widths,
-        heights: case.heights,
-    };
-    IterGrid::new(VecRecords::new(rows), cfg, sizes, colors).to_string(alloc)
+    wanted: Result<&str, Fault>,
+) {
+    let what = &[case.name, "read once"];
+    let records = records_of(rt, alloc, &case.table).expect(rt, "rows are refused");
+    let mut text = String::from_str(alloc, BEFORE).expect(rt, "a text is refused");
+    let outcome = IterGrid::new(&records, cfg, &case.table, colors).build(alloc, &mut text);
+    expect_appended(rt, outcome, &text, BEFORE, wanted, what);
+    let made = IterGrid::new(records, cfg, case.table, colors).to_string(alloc);
+    expect_made(rt, made, wanted, what);
 }
 
 // The text of a table of these sizes, each of its lines printed by itself, where the records fit it.
@@ -82,11 +95,10 @@ fn line_by_line<R: PeekableRecords, C: Colors>(
     records: &R,
     cfg: &SpannedConfig,
     colors: &C,
-    widths: &[usize],
-    heights: &[usize],
+    table: &Table,
 ) -> Result<String, Fault> {
-    let sizes = Sizes { widths, heights };
-    fits_counted(records, cfg, &sizes, heights.len(), widths.len())?;
+    let (widths, heights) = (table.1, table.2);
+    fits_counted(records, cfg, table, heights.len(), widths.len())?;
     let mut text = String::new(alloc);
     for y in 0..count_lines(cfg, widths, heights) {
         if y > 0 {
@@ -97,168 +109,113 @@ fn line_by_line<R: PeekableRecords, C: Colors>(
     Ok(text)
 }
 
-// So it prints the table, which has as many rows and columns as there are heights and widths.
+// So, where there are as many rows as heights. Lines that no memory holds are not gone through.
 fn expect_each_line<C: Colors>(
     rt: &impl Abort,
     alloc: Global,
     case: &Case,
     cfg: &SpannedConfig,
     colors: &C,
-) -> Result<(), Fault> {
-    let rows = rows_of(alloc, case.cells)?;
-    assert!(rt; are_equally_long(&rows));
-    let records = VecRecords::new(rows);
-    let text = line_by_line(alloc, &records, cfg, colors, case.widths, case.heights)?;
-    assert_eq!(rt; text.as_str(), case.lines, "line by line");
-    Ok(())
+    wanted: Result<&str, Fault>,
+) {
+    let is_whole = case.table.2.len() == case.table.0.len();
+    if !is_whole || wanted == Err(Fault::Memory) {
+        return;
+    }
+    let records = records_of(rt, alloc, &case.table).expect(rt, "rows are refused");
+    let made = line_by_line(alloc, &records, cfg, colors, &case.table);
+    expect_made(rt, made, wanted, &[case.name, "line by line"]);
 }
 
-pub(super) fn expect_lines<C: Colors>(
+// By a grid whose rows are known to be plain, where they are.
+fn expect_plain<C: Colors>(
     rt: &impl Abort,
     alloc: Global,
+    rows: &[PlainRow<'static>],
     case: &Case,
     cfg: &SpannedConfig,
     colors: &C,
-) -> Result<(), Fault> {
-    let text = looked_up(rt, alloc, case, cfg, colors)?;
-    assert_eq!(rt; text.as_str(), case.lines);
-    let text = read_once(rt, alloc, case, cfg, colors)?;
-    assert_eq!(rt; text.as_str(), case.lines);
-    if case.heights.len() != case.cells.len() {
-        return Ok(());
+    wanted: Result<&str, Fault>,
+) {
+    if rows.is_empty() {
+        return;
     }
-    expect_each_line(rt, alloc, case, cfg, colors)
+    let what = &[case.name, "plain rows"];
+    let records = PlainRows { rows, columns: 2 };
+    match fits(&records, cfg, &case.table) {
+        Ok(()) => {
+            let made = PeekableGrid::new(&records, cfg, &case.table, colors).to_string(alloc);
+            expect_made(rt, made, wanted, what);
+        }
+        Err(fault) => assert_eq!(rt; Err(fault), wanted, "of {what:?}"),
+    }
 }
 
-// A row span in the middle of its height.
-const TWO_ROWS: Case = Case {
-    cells: &[&["0-0", "0-1"], &["1-0", "1-1"]],
-    widths: &[3, 3],
-    heights: &[1, 1],
-    lines: "+---+---+\n|   |0-1|\n+0-0+---+\n|   |1-1|\n+---+---+",
-};
-
-fn expect_two_rows(rt: &impl Abort, alloc: Global, cfg: &mut SpannedConfig) -> Result<(), Fault> {
-    cfg.set_borders(ascii());
-    cfg.set_row_span(Position::new(0, 0), 2)?;
-    cfg.set_alignment_vertical(Entity::Global, AlignmentVertical::Center)?;
-    expect_lines(rt, alloc, &TWO_ROWS, cfg, &NoColors)
+// By each grid that prints the table, in these colours.
+fn expect_printed<C: Colors>(
+    rt: &impl Abort,
+    alloc: Global,
+    rows: &[PlainRow<'static>],
+    compact: Option<&CompactConfig>,
+    case: &Case,
+    cfg: &SpannedConfig,
+    colors: &C,
+    wanted: Result<&str, Fault>,
+) {
+    expect_looked_up(rt, alloc, case, cfg, colors, wanted);
+    expect_read(rt, alloc, case, cfg, colors, wanted);
+    expect_each_line(rt, alloc, case, cfg, colors, wanted);
+    expect_plain(rt, alloc, rows, case, cfg, colors, wanted);
+    if let Some(compact) = compact {
+        expect_compact(rt, alloc, case.name, &case.table, compact, colors, wanted);
+    }
 }
 
-// Row spans whose texts stand on boundary lines.
-const THREE_SPANS: Case = Case {
-    cells: &[
-        &["0-0", "0-1", "0-2"],
-        &["1-0", "1-1", "1-2"],
-        &["2-0", "2-1", "2-2"],
-    ],
-    widths: &[3, 3, 3],
-    heights: &[0, 0, 1],
-    lines: "+---+---+---+\n+0-0+0-1+0-2+\n+   +---+---+\n|   |2-1|2-2|\n+---+---+---+",
-};
-
-fn expect_spans(rt: &impl Abort, alloc: Global, cfg: &mut SpannedConfig) -> Result<(), Fault> {
-    cfg.set_borders(ascii());
-    cfg.set_row_span(Position::new(0, 0), 3)?;
-    cfg.set_row_span(Position::new(0, 1), 2)?;
-    cfg.set_row_span(Position::new(0, 2), 2)?;
-    expect_lines(rt, alloc, &THREE_SPANS, cfg, &NoColors)
+fn expect_case(
+    rt: &impl Abort,
+    alloc: Global,
+    rows: &[PlainRow<'static>],
+    compact: Option<&CompactConfig>,
+    case: &Case,
+    cfg: &ColoredConfig,
+) {
+    let (settings, colors) = (cfg.spanned(), cfg.get_colors());
+    let plain = match case.wanted {
+        Wanted::Lines(lines) => Ok(lines),
+        Wanted::Colored(lines, plain) => {
+            expect_printed(rt, alloc, rows, compact, case, settings, colors, Ok(lines));
+            expect_printed(rt, alloc, rows, compact, case, settings, &colors, Ok(lines));
+            Ok(plain)
+        }
+        Wanted::Refused(fault) => Err(fault),
+    };
+    expect_printed(rt, alloc, rows, compact, case, settings, &NoColors, plain);
 }
 
-// Lines to the right, with the indent of the widest; styles are closed in each line.
-const RIGHT: Case = Case {
-    cells: &[&["ab\nc"], &["abcd"], &["\u{1b}[31mx\ny"]],
-    widths: &[4],
-    heights: &[2, 1, 2],
-    lines: "+----+\n|  ab|\n|  c |\n+----+\n|abcd|\n+----+\n|   \u{1b}[31mx\u{1b}[39m|\n|   \u{1b}[31my\u{1b}[39m|\n+----+",
-};
-
-// The same, each line for itself.
-const APART: Case = Case {
-    cells: &[&["ab\nc"]],
-    widths: &[4],
-    heights: &[2],
-    lines: "+----+\n|  ab|\n|   c|\n+----+",
-};
-
-// The same without the white space at the ends of lines, and the blank lines at both ends.
-const TRIMMED: Case = Case {
-    cells: &[&["ab\nc"], &[" \n  a b  \n\n"]],
-    widths: &[7],
-    heights: &[2, 2],
-    lines: "+-------+\n|     ab|\n|      c|\n+-------+\n|    a b|\n|       |\n+-------+",
-};
-
-fn expect_right(rt: &impl Abort, alloc: Global, cfg: &mut SpannedConfig) -> Result<(), Fault> {
-    cfg.set_borders(ascii());
-    cfg.set_alignment_horizontal(Entity::Global, AlignmentHorizontal::Right)?;
-    expect_lines(rt, alloc, &RIGHT, cfg, &NoColors)?;
-    cfg.set_line_alignment(Entity::Global, true)?;
-    expect_lines(rt, alloc, &APART, cfg, &NoColors)?;
-    cfg.set_trim_horizontal(Entity::Global, true)?;
-    cfg.set_trim_vertical(Entity::Global, true)?;
-    expect_lines(rt, alloc, &TRIMMED, cfg, &NoColors)
+fn started(rt: &impl Abort, alloc: Global, start: &Start) -> SpannedConfig {
+    match *start {
+        Start::New => SpannedConfig::new(alloc),
+        Start::Compact(sets) | Start::Alike(sets) => spanned(rt, alloc, sets),
+    }
 }
 
-// Margins of all sides and paddings, with their fills.
-const FRAMED: Case = Case {
-    cells: &[&["a"]],
-    widths: &[3],
-    heights: &[3],
-    lines: "<<<<<<<\n<+---+>\n<|<<<|>\n<|<a>|>\n<|>>>|>\n<+---+>\n>>>>>>>",
-};
-
-fn expect_framed(rt: &impl Abort, alloc: Global, cfg: &mut SpannedConfig) -> Result<(), Fault> {
-    let (before, behind) = (Indent::new(1, '<'), Indent::new(1, '>'));
-    cfg.set_borders(ascii());
-    cfg.set_margin(Sides::new(before, behind, before, behind));
-    cfg.set_padding(Entity::Global, Sides::new(before, behind, before, behind))?;
-    expect_lines(rt, alloc, &FRAMED, cfg, &NoColors)
-}
-
-#[test]
-fn grids_print_their_picture(rt: HostRuntime) -> Result<(), Fault> {
-    let mut cfg = SpannedConfig::new(rt.alloc());
-    let outcome = expect_two_rows(&rt, rt.alloc(), &mut cfg);
-    end(cfg);
-    outcome?;
-    let mut cfg = SpannedConfig::new(rt.alloc());
-    let outcome = expect_spans(&rt, rt.alloc(), &mut cfg);
-    end(cfg);
-    outcome
-}
-
-#[test]
-fn grids_lay_out_lines(rt: HostRuntime) -> Result<(), Fault> {
-    let mut cfg = SpannedConfig::new(rt.alloc());
-    let outcome = expect_right(&rt, rt.alloc(), &mut cfg);
-    end(cfg);
-    outcome?;
-    let mut cfg = SpannedConfig::new(rt.alloc());
-    let outcome = expect_framed(&rt, rt.alloc(), &mut cfg);
-    end(cfg);
-    outcome
-}
-
-// A cell in a colour of its own.
-const GREEN: Case = Case {
-    cells: &[&["a", ""]],
-    widths: &[1, 1],
-    heights: &[1],
-    lines: "+-+-+\n|\u{1b}[32ma\u{1b}[39m| |\n+-+-+",
-};
-
-fn expect_green(rt: &impl Abort, alloc: Global, cfg: &mut ColoredConfig) -> Result<(), Fault> {
-    let green = ANSIBuf::new(alloc, "\u{1b}[32m", "\u{1b}[39m")?;
-    cfg.set_color(Entity::Global, green)?;
-    cfg.spanned_mut().set_borders(ascii());
-    expect_lines(rt, alloc, &GREEN, cfg.spanned(), cfg.get_colors())
-}
-
-#[test]
-fn grids_color_their_cells(rt: HostRuntime) -> Result<(), Fault> {
-    let mut cfg = ColoredConfig::new(SpannedConfig::new(rt.alloc()));
-    let outcome = expect_green(&rt, rt.alloc(), &mut cfg);
+fn expect_group(rt: &impl Abort, alloc: Global, rows: &[PlainRow<'static>], group: &Group) {
+    let alike = match group.start {
+        Start::Alike(sets) => Some(compact(rt, sets)),
+        _ => None,
+    };
+    let mut cfg = ColoredConfig::new(started(rt, alloc, &group.start));
+    for case in group.cases {
+        change_all(rt, alloc, &mut cfg, case.set);
+        expect_case(rt, alloc, rows, alike.as_ref(), case, &cfg);
+    }
     drop(cfg);
-    outcome
+}
+
+// Each table, also of rows that are known to be plain, where these are given.
+pub(super) fn expect_groups(rt: &impl Abort, alloc: Global, pairs: &[Pair], groups: &[Group]) {
+    let rows = plain_rows(rt, alloc, pairs).expect(rt, "rows are refused");
+    for group in groups {
+        expect_group(rt, alloc, &rows, group);
+    }
 }

@@ -1,31 +1,23 @@
 //! Grids append a whole table or nothing. `tests/memory` runs these tests with each request for memory
 //! refused, also those of a source that cuts its cells as they are read.
-use super::compact::spaced;
 use super::plain::{PlainRows, plain_rows};
-use super::{Sizes, end, long, rows_of};
+use super::settings::{SPACED, compact, spanned};
+use super::{BEFORE, Table, expect_appended, long, records_of};
 use grid_config::{CompactConfig, Fault, SpannedConfig};
 use grid_records_fakes::RefusedRows;
-use grid_records_rows::{
-    Dimension, IntoRecords, IterRecords, TruncateContent, VecRecords, are_equally_long,
-};
+use grid_records_rows::{Dimension, IntoRecords, IterRecords, TruncateContent};
 use papergrid::{CompactGrid, IterGrid, NoColors, PeekableGrid, fits};
 use std::alloc::Global;
 use std::process::Abort;
 
-// What stands before the table, and the table.
-const BEFORE: &str = "before\n";
+const TABLE: Table = Table(&[&["a", "b"], &["1", "2"]], &[3, 3], &[1, 1]);
 
-const TABLE: &str = "+---+---+\n| a | b |\n+---+---+\n| 1 | 2 |\n+---+---+";
+const LINES: &str = "+---+---+\n| a | b |\n+---+---+\n| 1 | 2 |\n+---+---+";
 
-// The sizes of the table.
-fn table() -> Sizes<'static> {
-    Sizes {
-        widths: &[3, 3],
-        heights: &[1, 1],
-    }
-}
+// The same cells where each is cut at one column as it is read.
+const UNCUT: [[&str; 2]; 2] = [["abc", "b"], ["1", "234"]];
 
-// The sizes that cells are cut at as they are read.
+// The sizes that they are cut at.
 #[derive(Clone, Copy)]
 struct Single;
 
@@ -49,27 +41,23 @@ fn expect_all_or_nothing(
     outcome: Result<(), Fault>,
     text: &str,
     before: &str,
-    table: &str,
+    lines: &str,
 ) -> Result<(), Fault> {
-    match outcome {
-        Ok(()) => assert_eq!(rt; text.strip_prefix(before), Some(table)),
-        Err(fault) => {
-            assert_eq!(rt; fault, Fault::Memory);
-            assert_eq!(rt; text, before);
-        }
-    }
+    let wanted = match outcome {
+        Ok(()) => Ok(lines),
+        Err(_) => Err(Fault::Memory),
+    };
+    expect_appended(rt, outcome, text, before, wanted, &["a table", "appended"]);
     outcome
 }
 
 fn append_looked_up(rt: &impl Abort, alloc: Global, cfg: &SpannedConfig) -> Result<(), Fault> {
-    let rows = rows_of(alloc, &[&["a", "b"], &["1", "2"]])?;
-    assert!(rt; are_equally_long(&rows));
-    let records = VecRecords::new(rows);
-    let sizes = table();
+    let records = records_of(rt, alloc, &TABLE)?;
+    let sizes = TABLE;
     fits(&records, cfg, &sizes)?;
     let mut text = String::from_str(alloc, BEFORE)?;
     let outcome = PeekableGrid::new(records, cfg, sizes, NoColors).build(alloc, &mut text);
-    expect_all_or_nothing(rt, outcome, &text, BEFORE, TABLE)
+    expect_all_or_nothing(rt, outcome, &text, BEFORE, LINES)
 }
 
 // The same of nine rows that are known to be plain, also to an empty text.
@@ -79,7 +67,7 @@ fn append_long(rt: &impl Abort, alloc: Global, cfg: &SpannedConfig) -> Result<()
         rows: &rows,
         columns: 2,
     };
-    let sizes = long::sizes();
+    let sizes = long::TABLE;
     fits(&records, cfg, &sizes)?;
     let grid = PeekableGrid::new(&records, cfg, &sizes, NoColors);
     let mut text = String::new(alloc);
@@ -98,7 +86,7 @@ fn read<I: IntoRecords>(
     text: &mut String,
 ) -> Result<(), Fault> {
     let records = IterRecords::new(cells, 2, None);
-    IterGrid::new(records, cfg, table(), NoColors).build(alloc, text)
+    IterGrid::new(records, cfg, TABLE, NoColors).build(alloc, text)
 }
 
 // The same by a compact grid, with a hint that is wrong.
@@ -109,19 +97,10 @@ fn read_compact<I: IntoRecords>(
     text: &mut String,
 ) -> Result<(), Fault> {
     let records = IterRecords::new(cells, 2, Some(9));
-    CompactGrid::new(records, cfg, table(), NoColors).build(alloc, text)
+    CompactGrid::new(records, cfg, TABLE, NoColors).build(alloc, text)
 }
 
-// The same two of cells that are cut as they are read.
-fn read_cut<I: IntoRecords>(
-    alloc: Global,
-    cells: I,
-    cfg: &SpannedConfig,
-    text: &mut String,
-) -> Result<(), Fault> {
-    read(alloc, TruncateContent::new(alloc, cells, Single), cfg, text)
-}
-
+// The same of cells that are cut as they are read.
 fn read_compact_cut<I: IntoRecords>(
     alloc: Global,
     cells: I,
@@ -133,80 +112,72 @@ fn read_compact_cut<I: IntoRecords>(
 
 fn append_read(rt: &impl Abort, alloc: Global, cfg: &SpannedConfig) -> Result<(), Fault> {
     let mut text = String::from_str(alloc, BEFORE)?;
-    let outcome = read_cut(alloc, [["abc", "b"], ["1", "234"]], cfg, &mut text);
-    expect_all_or_nothing(rt, outcome, &text, BEFORE, TABLE)
+    let cells = TruncateContent::new(alloc, UNCUT, Single);
+    let outcome = read(alloc, cells, cfg, &mut text);
+    expect_all_or_nothing(rt, outcome, &text, BEFORE, LINES)
 }
 
 fn append_compact(rt: &impl Abort, alloc: Global, cfg: &CompactConfig) -> Result<(), Fault> {
     let mut text = String::from_str(alloc, BEFORE)?;
-    let outcome = read_compact_cut(alloc, [["abc", "b"], ["1", "234"]], cfg, &mut text);
-    expect_all_or_nothing(rt, outcome, &text, BEFORE, TABLE)
+    let outcome = read_compact_cut(alloc, UNCUT, cfg, &mut text);
+    expect_all_or_nothing(rt, outcome, &text, BEFORE, LINES)
 }
 
 #[test]
 fn looked_up_grids_append_all_or_nothing(rt: HostRuntime) -> Result<(), Fault> {
-    let cfg = SpannedConfig::from_compact_config(rt.alloc(), spaced())?;
+    let cfg = spanned(&rt, rt.alloc(), SPACED);
     let outcome = append_looked_up(&rt, rt.alloc(), &cfg);
-    end(cfg);
+    drop(cfg);
     outcome
 }
 
 #[test]
 fn long_tables_are_appended_all_or_not(rt: HostRuntime) -> Result<(), Fault> {
-    let cfg = SpannedConfig::from_compact_config(rt.alloc(), spaced())?;
+    let cfg = spanned(&rt, rt.alloc(), SPACED);
     let outcome = append_long(&rt, rt.alloc(), &cfg);
-    end(cfg);
+    drop(cfg);
     outcome
 }
 
 #[test]
 fn read_grids_append_all_or_nothing(rt: HostRuntime) -> Result<(), Fault> {
-    let cfg = SpannedConfig::from_compact_config(rt.alloc(), spaced())?;
+    let cfg = spanned(&rt, rt.alloc(), SPACED);
     let outcome = append_read(&rt, rt.alloc(), &cfg);
-    end(cfg);
+    drop(cfg);
     outcome
 }
 
 #[test]
 fn compact_grids_append_all_or_nothing(rt: HostRuntime) -> Result<(), Fault> {
-    append_compact(&rt, rt.alloc(), &spaced())
+    append_compact(&rt, rt.alloc(), &compact(&rt, SPACED))
 }
 
 // The table of two rows of two cells, all of them given.
 const GIVEN: &str = "+---+---+\n| a | a |\n+---+---+\n| a | a |\n+---+---+";
 
 // Two rows of two cells, of which the first so many are given and any other is refused.
-fn given(whole: usize) -> RefusedRows {
-    RefusedRows::new(2, 2, whole)
-}
-
-fn expect_refusals(rt: &impl Abort, alloc: Global, cfg: &SpannedConfig) -> Result<(), Fault> {
-    let compact = spaced();
-    let mut text = String::from_str(alloc, BEFORE)?;
-    for whole in 0..4 {
-        let outcome = read(alloc, given(whole), cfg, &mut text);
-        assert_eq!(rt; outcome, Err(Fault::Memory), "{whole} cells");
-        let outcome = read_compact(alloc, given(whole), &compact, &mut text);
-        assert_eq!(rt;
-            outcome,
-            Err(Fault::Memory),
-            "{whole} cells of a compact grid"
-        );
-        assert_eq!(rt; text.as_str(), BEFORE);
-    }
-    text.clear();
-    read(alloc, given(4), cfg, &mut text)?;
-    assert_eq!(rt; text.as_str(), GIVEN);
-    text.clear();
-    read_compact(alloc, given(4), &compact, &mut text)?;
-    assert_eq!(rt; text.as_str(), GIVEN);
-    Ok(())
+fn expect_given(
+    rt: &impl Abort,
+    alloc: Global,
+    cfg: &SpannedConfig,
+    whole: usize,
+    wanted: Result<&str, Fault>,
+) {
+    let cells = RefusedRows::new(2, 2, whole);
+    let mut text = String::from_str(alloc, BEFORE).expect(rt, "a text is refused");
+    let outcome = read(alloc, cells, cfg, &mut text);
+    expect_appended(rt, outcome, &text, BEFORE, wanted, &["cells", "read once"]);
+    let mut text = String::from_str(alloc, BEFORE).expect(rt, "a text is refused");
+    let outcome = read_compact(alloc, cells, &compact(rt, SPACED), &mut text);
+    expect_appended(rt, outcome, &text, BEFORE, wanted, &["cells", "compact"]);
 }
 
 #[test]
-fn a_cell_that_is_refused_leaves_the_text(rt: HostRuntime) -> Result<(), Fault> {
-    let cfg = SpannedConfig::from_compact_config(rt.alloc(), spaced())?;
-    let outcome = expect_refusals(&rt, rt.alloc(), &cfg);
-    end(cfg);
-    outcome
+fn a_cell_that_is_refused_leaves_the_text(rt: HostRuntime) {
+    let cfg = spanned(&rt, rt.alloc(), SPACED);
+    for whole in 0..4 {
+        expect_given(&rt, rt.alloc(), &cfg, whole, Err(Fault::Memory));
+    }
+    expect_given(&rt, rt.alloc(), &cfg, 4, Ok(GIVEN));
+    drop(cfg);
 }

@@ -8,8 +8,8 @@ use Rattle.papergrid_tests.proofs.tests.lines.counted.Goals as goal
 pub count_lines-requires : goal.count_lines-requires
 count_lines-requires g c =
     let look = look_of c.args.cfg.now in
-    let widths = c.args.widths.now in
-    let heights = c.args.heights.now in
+    let widths = c.args.table.now.1.now in
+    let heights = c.args.table.now.2.now in
     record {
       range = subst (λ (sizes : List ℕ). line_count (frame_of look sizes heights) < 2 ^ 64) (by_number widths (length widths) refl)
           (subst (λ (sizes : List ℕ). line_count (frame_of look (sizes_of (slice_index widths) (length widths)) sizes) < 2 ^ 64) (by_number heights (length heights) refl) c.in_ok-fits_counted.ensures.1.1);
