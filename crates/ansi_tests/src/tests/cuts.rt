@@ -1,6 +1,8 @@
 //! Cuts, splits at places, and which bounds and places are good.
-use super::{expect, expect_found, expect_text};
+use super::calls::{Case, expect_all, expect_sides};
+use super::{Bounds, expect, expect_found, expect_text};
 use Bounds::*;
+use Case::Sides;
 use ansi_str::{AnsiRange, AnsiStr, are_places, is_good_range, split_places};
 use std::alloc::{AllocError, Global};
 use std::borrow::CowStr;
@@ -8,17 +10,6 @@ use std::process::Abort;
 use std::test::Fail;
 
 // ---- cuts
-
-// Each kind of range.
-#[derive(Clone, Copy)]
-enum Bounds {
-    Between(usize, usize),
-    Through(usize, usize),
-    From(usize),
-    To(usize),
-    ToThrough(usize),
-    All,
-}
 
 const BOLD: &str = "\x1b[1maé\x1b[0mb";
 
@@ -105,7 +96,8 @@ fn cuts(rt: HostRuntime) -> Result<(), Fail> {
 #[test]
 fn spent_range(rt: HostRuntime) {
     let mut range = 0..=1;
-    for _ in &mut range {}
+    let found = [range.next(), range.next(), range.next()];
+    expect(&rt, found == [Some(0), Some(1), None], "places", "0..=1");
     expect(&rt, range.start_place() == 2, "the start", "0..=1");
     expect(&rt, range.end_place() == Some(2), "the end", "0..=1");
     let mut last = usize::MAX..=usize::MAX;
@@ -116,44 +108,6 @@ fn spent_range(rt: HostRuntime) {
 
 // ---- splits at a place
 
-fn expect_sides(
-    rt: &impl Abort,
-    found: (CowStr<'_>, CowStr<'_>),
-    first: &str,
-    second: &str,
-    text: &str,
-) {
-    expect_text(rt, found.0.as_str(), first, text);
-    expect_text(rt, found.1.as_str(), second, text);
-}
-
-fn split_text(
-    rt: &impl Abort,
-    alloc: Global,
-    text: &str,
-    mid: usize,
-    first: &str,
-    second: &str,
-) -> Result<(), AllocError> {
-    assert!(rt; text.ansi_is_char_boundary(mid));
-    expect_sides(rt, text.ansi_split_at(alloc, mid)?, first, second, text);
-    Ok(())
-}
-
-fn split_string(
-    rt: &impl Abort,
-    alloc: Global,
-    text: &str,
-    mid: usize,
-    first: &str,
-    second: &str,
-) -> Result<(), AllocError> {
-    let string = String::from_str(alloc, text)?;
-    assert!(rt; string.ansi_is_char_boundary(mid));
-    expect_sides(rt, string.ansi_split_at(alloc, mid)?, first, second, text);
-    Ok(())
-}
-
 // A place past the end is the end.
 fn split_past_the_end(rt: &impl Abort, alloc: Global) -> Result<(), AllocError> {
     let text = "\x1b[1mab";
@@ -163,21 +117,23 @@ fn split_past_the_end(rt: &impl Abort, alloc: Global) -> Result<(), AllocError> 
     Ok(())
 }
 
-// A text, a place, and the two sides.
-const SIDES: &[(&str, usize, &str, &str)] = &[
-    ("\x1b[1mab\x1b[0m", 1, "\x1b[1ma\x1b[22m", "\x1b[1mb\x1b[0m"),
-    ("\x1b[1mab\x1b[0m", 0, "\x1b[1m\x1b[22m", "\x1b[1mab\x1b[0m"),
-    ("\x1b[1mab\x1b[0m", 2, "\x1b[1mab\x1b[0m", ""),
-    ("éa", 2, "é", "a"),
-    ("", 0, "", ""),
+const SPLIT: &[(&str, Case)] = &[
+    (
+        "\x1b[1mab\x1b[0m",
+        Sides(1, "\x1b[1ma\x1b[22m", "\x1b[1mb\x1b[0m"),
+    ),
+    (
+        "\x1b[1mab\x1b[0m",
+        Sides(0, "\x1b[1m\x1b[22m", "\x1b[1mab\x1b[0m"),
+    ),
+    ("\x1b[1mab\x1b[0m", Sides(2, "\x1b[1mab\x1b[0m", "")),
+    ("éa", Sides(2, "é", "a")),
+    ("", Sides(0, "", "")),
 ];
 
 #[test]
 fn splits_at(rt: HostRuntime) -> Result<(), Fail> {
-    for (text, mid, first, second) in SIDES {
-        split_text(&rt, rt.alloc(), text, *mid, first, second)?;
-        split_string(&rt, rt.alloc(), text, *mid, first, second)?;
-    }
+    expect_all(&rt, rt.alloc(), SPLIT)?;
     split_past_the_end(&rt, rt.alloc())?;
     Ok(())
 }

@@ -1,5 +1,5 @@
 //! Edits of a text, one after the other.
-use super::expect;
+use super::expect_found;
 use ansi_str::{Edit, edit};
 use std::test::Fail;
 
@@ -147,9 +147,7 @@ const EDITS: &[(&str, &[Edit<'static>], Option<&str>)] = &[
 #[test]
 fn edits_in_turn(rt: HostRuntime) -> Result<(), Fail> {
     for (text, edits, wanted) in EDITS {
-        let found = edit(rt.alloc(), text, edits)?;
-        let found = found.as_ref().map(|left| left.as_str());
-        expect(&rt, found == *wanted, "what is left", text);
+        expect_found(&rt, edit(rt.alloc(), text, edits)?, *wanted, text);
     }
     Ok(())
 }

@@ -97,6 +97,123 @@ const ITEMS: &[(&str, &[(Kind, usize, usize)], Option<usize>)] = &[
         ],
         Some(0),
     ),
+    // one item
+    ("ab\tc\r\n", &[(Kind::Text, 0, 6)], None),
+    ("é漢😳\u{9b}31m", &[(Kind::Text, 0, 14)], None),
+    ("\x1b[m", &[(Kind::Sgr, 0, 3)], None),
+    ("\x1b[0001m", &[(Kind::Sgr, 0, 7)], None),
+    ("\x1b[;1;38:5:20m", &[(Kind::Sgr, 0, 13)], None),
+    // no graphic renditions
+    ("\x1b[?1m", &[(Kind::Csi, 0, 5)], None),
+    ("\x1b[ m", &[(Kind::Csi, 0, 4)], None),
+    ("\x1b[1 m", &[(Kind::Csi, 0, 5)], None),
+    ("\x1b[1n", &[(Kind::Csi, 0, 4)], None),
+    ("\x1b[2J", &[(Kind::Csi, 0, 4)], None),
+    ("\x1b[?25h", &[(Kind::Csi, 0, 6)], None),
+    ("\x1b[<0;1 !/@", &[(Kind::Csi, 0, 10)], None),
+    ("\x1b[~", &[(Kind::Csi, 0, 3)], None),
+    ("\x1b]\x07", &[(Kind::Osc, 0, 3)], None),
+    ("\x1b]0;a\tb\n\x07", &[(Kind::Osc, 0, 9)], None),
+    ("\x1b]8;;é\x1b\\", &[(Kind::Osc, 0, 9)], None),
+    ("\x1bPq\x1b\\", &[(Kind::Str, 0, 5)], None),
+    ("\x1bX\x1b\\", &[(Kind::Str, 0, 4)], None),
+    ("\x1b^漢\x1b\\", &[(Kind::Str, 0, 7)], None),
+    ("\x1b_a\x07b\x1b\\", &[(Kind::Str, 0, 7)], None),
+    ("\x1b(B", &[(Kind::Esc, 0, 3)], None),
+    ("\x1b\\", &[(Kind::Esc, 0, 2)], None),
+    ("\x1bc", &[(Kind::Esc, 0, 2)], None),
+    ("\x1b7", &[(Kind::Esc, 0, 2)], None),
+    ("\x1b #/[", &[(Kind::Esc, 0, 5)], None),
+    ("\x1b~", &[(Kind::Esc, 0, 2)], None),
+    // an ESC by which no sequence begins, and text: of a control sequence
+    (
+        "\x1b[2\x7f",
+        &[(Kind::Broken, 0, 1), (Kind::Text, 1, 4)],
+        Some(0),
+    ),
+    (
+        "\x1b[1",
+        &[(Kind::Broken, 0, 1), (Kind::Text, 1, 3)],
+        Some(0),
+    ),
+    (
+        "\x1b[ 1m",
+        &[(Kind::Broken, 0, 1), (Kind::Text, 1, 5)],
+        Some(0),
+    ),
+    (
+        "\x1b[1\x18m",
+        &[(Kind::Broken, 0, 1), (Kind::Text, 1, 5)],
+        Some(0),
+    ),
+    (
+        "\x1b[é",
+        &[(Kind::Broken, 0, 1), (Kind::Text, 1, 4)],
+        Some(0),
+    ),
+    // operating system commands
+    (
+        "\x1b]0;a",
+        &[(Kind::Broken, 0, 1), (Kind::Text, 1, 5)],
+        Some(0),
+    ),
+    (
+        "\x1b]0\x18\x07",
+        &[(Kind::Broken, 0, 1), (Kind::Text, 1, 5)],
+        Some(0),
+    ),
+    (
+        "\x1b]0\x1a\x07",
+        &[(Kind::Broken, 0, 1), (Kind::Text, 1, 5)],
+        Some(0),
+    ),
+    // control strings
+    (
+        "\x1bPa\x07",
+        &[(Kind::Broken, 0, 1), (Kind::Text, 1, 4)],
+        Some(0),
+    ),
+    (
+        "\x1bX",
+        &[(Kind::Broken, 0, 1), (Kind::Text, 1, 2)],
+        Some(0),
+    ),
+    (
+        "\x1b^\x18",
+        &[(Kind::Broken, 0, 1), (Kind::Text, 1, 3)],
+        Some(0),
+    ),
+    (
+        "\x1b_\x1a",
+        &[(Kind::Broken, 0, 1), (Kind::Text, 1, 3)],
+        Some(0),
+    ),
+    // escape sequences
+    (
+        "\x1b(",
+        &[(Kind::Broken, 0, 1), (Kind::Text, 1, 2)],
+        Some(0),
+    ),
+    (
+        "\x1b\x7f",
+        &[(Kind::Broken, 0, 1), (Kind::Text, 1, 2)],
+        Some(0),
+    ),
+    (
+        "\x1b\n",
+        &[(Kind::Broken, 0, 1), (Kind::Text, 1, 2)],
+        Some(0),
+    ),
+    (
+        "\x1bé",
+        &[(Kind::Broken, 0, 1), (Kind::Text, 1, 3)],
+        Some(0),
+    ),
+    (
+        "\x1b(\x7f",
+        &[(Kind::Broken, 0, 1), (Kind::Text, 1, 3)],
+        Some(0),
+    ),
 ];
 
 #[test]
@@ -104,72 +221,5 @@ fn gives_items(rt: HostRuntime) {
     for (text, items, broken) in ITEMS {
         expect_items(&rt, text, items, *broken);
         expect_slices(&rt, text);
-    }
-}
-
-// Texts that are one item, by its kind.
-const KINDS: &[(Kind, &[&str])] = &[
-    (Kind::Text, &["ab\tc\r\n", "é漢😳\u{9b}31m"]),
-    (Kind::Sgr, &["\x1b[m", "\x1b[0001m", "\x1b[;1;38:5:20m"]),
-    // no graphic renditions
-    (Kind::Csi, &["\x1b[?1m", "\x1b[ m", "\x1b[1 m", "\x1b[1n"]),
-    (
-        Kind::Csi,
-        &["\x1b[2J", "\x1b[?25h", "\x1b[<0;1 !/@", "\x1b[~"],
-    ),
-    (
-        Kind::Osc,
-        &["\x1b]\x07", "\x1b]0;a\tb\n\x07", "\x1b]8;;é\x1b\\"],
-    ),
-    (
-        Kind::Str,
-        &[
-            "\x1bPq\x1b\\",
-            "\x1bX\x1b\\",
-            "\x1b^漢\x1b\\",
-            "\x1b_a\x07b\x1b\\",
-        ],
-    ),
-    (
-        Kind::Esc,
-        &["\x1b(B", "\x1b\\", "\x1bc", "\x1b7", "\x1b #/[", "\x1b~"],
-    ),
-];
-
-// Texts that begin with an ESC by which no sequence begins, and go on with text.
-const BROKEN: &[&str] = &[
-    // control sequences
-    "\x1b[2\x7f",
-    "\x1b[1",
-    "\x1b[ 1m",
-    "\x1b[1\x18m",
-    "\x1b[é",
-    // operating system commands
-    "\x1b]0;a",
-    "\x1b]0\x18\x07",
-    "\x1b]0\x1a\x07",
-    // control strings
-    "\x1bPa\x07",
-    "\x1bX",
-    "\x1b^\x18",
-    "\x1b_\x1a",
-    // escape sequences
-    "\x1b(",
-    "\x1b\x7f",
-    "\x1b\n",
-    "\x1bé",
-    "\x1b(\x7f",
-];
-
-#[test]
-fn tells_kinds(rt: HostRuntime) {
-    for (kind, texts) in KINDS {
-        for text in *texts {
-            expect_items(&rt, text, &[(*kind, 0, text.len())], None);
-        }
-    }
-    for text in BROKEN {
-        let items = [(Kind::Broken, 0, 1), (Kind::Text, 1, text.len())];
-        expect_items(&rt, text, &items, Some(0));
     }
 }

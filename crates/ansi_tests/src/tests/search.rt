@@ -86,7 +86,8 @@ pub(super) fn expect_parts(
 // A text, a pattern, and the parts.
 type Row = (&'static str, &'static str, &'static [&'static str]);
 
-const AT_THE_EMPTY_PATTERN: &[Row] = &[
+const SPLITS: &[Row] = &[
+    // ---- at the empty pattern
     ("", "", &["", ""]),
     ("a", "", &["", "a", ""]),
     // what stands between two characters stands in both of their parts
@@ -112,9 +113,7 @@ const AT_THE_EMPTY_PATTERN: &[Row] = &[
             "\x1b[31m\x1b[39m",
         ],
     ),
-];
-
-const AT_ONE_BYTE: &[Row] = &[
+    // ---- at one byte
     // a sequence right before a match, and one right after it
     (
         "\x1b[31ma\x1b[1m:\x1b[4mb",
@@ -167,9 +166,7 @@ const AT_ONE_BYTE: &[Row] = &[
     ("\x1b[31ma", "\x1b", &["\x1b[31ma\x1b[39m"]),
     ("a\x1b", "\x1b", &["a\x1b"]),
     ("\x1b]0;t\x07", "\n", &["\x1b]0;t\x07"]),
-];
-
-const AT_SEVERAL_BYTES: &[Row] = &[
+    // ---- at several bytes
     // a sequence within a match stands in no part, and what it sets goes on
     (
         "\x1b[30m123:4\x1b[1m56\x1b[39m",
@@ -199,17 +196,12 @@ const AT_SEVERAL_BYTES: &[Row] = &[
     ("\x1b[31mab", "abc", &["\x1b[31mab\x1b[39m"]),
     ("\x1b[31ma", "\x1b[31m", &["\x1b[31ma\x1b[39m"]),
     ("è\x1b[3m", "é", &["è\x1b[3m\x1b[23m"]),
-];
-
-const WITHOUT_SEQUENCES: &[Row] = &[
+    // ---- without sequences
     ("é漢a", "", &["", "é", "漢", "a", ""]),
     (",a,,漢,", ",", &["", "a", "", "漢", ""]),
     ("漢字漢\u{9b}", "字", &["漢", "漢\u{9b}"]),
     ("ab", "abc", &["ab"]),
-];
-
-// Lines whose styles are closed come back as they are.
-const CLOSED_LINES: &[Row] = &[
+    // ---- lines whose styles are closed, which come back as they are
     (
         "\x1b[31ma\x1b[39m\n\n\x1b[1mé\x1b[0m b\n\x1b]0;t\n\x07漢",
         "\n",
@@ -230,21 +222,11 @@ const CLOSED_LINES: &[Row] = &[
     ),
 ];
 
-const SPLITS: &[&[Row]] = &[
-    AT_THE_EMPTY_PATTERN,
-    AT_ONE_BYTE,
-    AT_SEVERAL_BYTES,
-    WITHOUT_SEQUENCES,
-    CLOSED_LINES,
-];
-
 #[test]
 fn splits(rt: HostRuntime) -> Result<(), Fail> {
-    for rows in SPLITS {
-        for (text, pattern, wanted) in *rows {
-            let parts = AnsiSplit::new(rt.alloc(), text, pattern);
-            expect_parts(&rt, parts, wanted, text)?;
-        }
+    for (text, pattern, wanted) in SPLITS {
+        let parts = AnsiSplit::new(rt.alloc(), text, pattern);
+        expect_parts(&rt, parts, wanted, text)?;
     }
     Ok(())
 }

@@ -1,10 +1,10 @@
 //! Styles, colours and codes.
-use super::{expect, expect_text};
+use super::{MEMORY, expect, expect_text, expect_written};
+use AnsiColor::*;
 use ansi_scan::{AnsiColor, Color, RESET_ALL, Style};
-use std::alloc::{AllocError, Global};
+use std::alloc::Global;
 use std::hash::{DefaultHasher, Hash, Hasher};
 use std::process::Abort;
-use std::test::Fail;
 
 // The style after the sequences, from plain on. `ansi_scan` gives the same types out again.
 fn style_after(sequences: &[&str]) -> Style {
@@ -16,48 +16,80 @@ fn style_after(sequences: &[&str]) -> Style {
 }
 
 // Looks at the start and the end of a style, and at what they are read as.
-fn expect_style(
-    rt: &impl Abort,
-    alloc: Global,
-    style: Style,
-    start: &str,
-    end: &str,
-) -> Result<(), AllocError> {
-    let written = style.start().to_string(alloc)?;
-    expect_text(rt, written.as_str(), start, start);
-    let written = style.end().to_string(alloc)?;
-    expect_text(rt, written.as_str(), end, start);
+fn expect_style(rt: &impl Abort, alloc: Global, style: Style, start: &str, end: &str) {
+    expect_written(rt, alloc, &style.start(), start, start);
+    expect_written(rt, alloc, &style.end(), end, start);
     expect(rt, style.is_plain() == start.is_empty(), "plain", start);
-    Ok(())
 }
 
 // ---- codes
 
-// The codes from the first to the last, and what clears them.
-const CODES: &[(u8, u8, u8)] = &[
-    (1, 2, 22),
-    (3, 3, 23),
-    (4, 4, 24),
-    (5, 6, 25),
-    (7, 7, 27),
-    (8, 8, 28),
-    (9, 9, 29),
-    (11, 19, 10),
-    (20, 20, 23),
-    (21, 21, 24),
-    (26, 26, 50),
-    (30, 37, 39),
-    (40, 47, 49),
-    (51, 52, 54),
-    (53, 53, 55),
-    (60, 64, 65),
-    (73, 74, 75),
-    (90, 97, 39),
-    (100, 107, 49),
-];
-
-// Colours by their numbers, and what clears them.
-const NUMBERED: &[(&str, &str)] = &[
+// What sets something, and what clears it.
+const SETS: &[(&str, &str)] = &[
+    ("\x1b[1m", "\x1b[22m"),
+    ("\x1b[2m", "\x1b[22m"),
+    ("\x1b[3m", "\x1b[23m"),
+    ("\x1b[4m", "\x1b[24m"),
+    ("\x1b[5m", "\x1b[25m"),
+    ("\x1b[6m", "\x1b[25m"),
+    ("\x1b[7m", "\x1b[27m"),
+    ("\x1b[8m", "\x1b[28m"),
+    ("\x1b[9m", "\x1b[29m"),
+    ("\x1b[11m", "\x1b[10m"),
+    ("\x1b[12m", "\x1b[10m"),
+    ("\x1b[13m", "\x1b[10m"),
+    ("\x1b[14m", "\x1b[10m"),
+    ("\x1b[15m", "\x1b[10m"),
+    ("\x1b[16m", "\x1b[10m"),
+    ("\x1b[17m", "\x1b[10m"),
+    ("\x1b[18m", "\x1b[10m"),
+    ("\x1b[19m", "\x1b[10m"),
+    ("\x1b[20m", "\x1b[23m"),
+    ("\x1b[21m", "\x1b[24m"),
+    ("\x1b[26m", "\x1b[50m"),
+    ("\x1b[30m", "\x1b[39m"),
+    ("\x1b[31m", "\x1b[39m"),
+    ("\x1b[32m", "\x1b[39m"),
+    ("\x1b[33m", "\x1b[39m"),
+    ("\x1b[34m", "\x1b[39m"),
+    ("\x1b[35m", "\x1b[39m"),
+    ("\x1b[36m", "\x1b[39m"),
+    ("\x1b[37m", "\x1b[39m"),
+    ("\x1b[40m", "\x1b[49m"),
+    ("\x1b[41m", "\x1b[49m"),
+    ("\x1b[42m", "\x1b[49m"),
+    ("\x1b[43m", "\x1b[49m"),
+    ("\x1b[44m", "\x1b[49m"),
+    ("\x1b[45m", "\x1b[49m"),
+    ("\x1b[46m", "\x1b[49m"),
+    ("\x1b[47m", "\x1b[49m"),
+    ("\x1b[51m", "\x1b[54m"),
+    ("\x1b[52m", "\x1b[54m"),
+    ("\x1b[53m", "\x1b[55m"),
+    ("\x1b[60m", "\x1b[65m"),
+    ("\x1b[61m", "\x1b[65m"),
+    ("\x1b[62m", "\x1b[65m"),
+    ("\x1b[63m", "\x1b[65m"),
+    ("\x1b[64m", "\x1b[65m"),
+    ("\x1b[73m", "\x1b[75m"),
+    ("\x1b[74m", "\x1b[75m"),
+    ("\x1b[90m", "\x1b[39m"),
+    ("\x1b[91m", "\x1b[39m"),
+    ("\x1b[92m", "\x1b[39m"),
+    ("\x1b[93m", "\x1b[39m"),
+    ("\x1b[94m", "\x1b[39m"),
+    ("\x1b[95m", "\x1b[39m"),
+    ("\x1b[96m", "\x1b[39m"),
+    ("\x1b[97m", "\x1b[39m"),
+    ("\x1b[100m", "\x1b[49m"),
+    ("\x1b[101m", "\x1b[49m"),
+    ("\x1b[102m", "\x1b[49m"),
+    ("\x1b[103m", "\x1b[49m"),
+    ("\x1b[104m", "\x1b[49m"),
+    ("\x1b[105m", "\x1b[49m"),
+    ("\x1b[106m", "\x1b[49m"),
+    ("\x1b[107m", "\x1b[49m"),
+    // colours by their numbers
     ("\x1b[38;5;0m", "\x1b[39m"),
     ("\x1b[38;5;255m", "\x1b[39m"),
     ("\x1b[38;2;0;0;0m", "\x1b[39m"),
@@ -72,44 +104,22 @@ const NUMBERED: &[(&str, &str)] = &[
     ("\x1b[58;2;255;16;1m", "\x1b[59m"),
 ];
 
-// What clears everything.
-const RESETS: &[&str] = &["\x1b[0m", "\x1b[m", RESET_ALL];
-
-// What a sequence sets is all that is set, and is cleared.
-fn expect_set(
-    rt: &impl Abort,
-    alloc: Global,
-    before: Style,
-    set: &str,
-    clear: &str,
-) -> Result<(), AllocError> {
+// What a sequence sets is all that is set, and is cleared by its own code and by each reset.
+fn expect_set(rt: &impl Abort, alloc: Global, before: Style, set: &str, clear: &str) {
     let style = before.apply(set);
-    expect_style(rt, alloc, style, set, clear)?;
-    expect_style(rt, alloc, style.apply(clear), "", "")?;
-    for reset in RESETS {
-        expect_style(rt, alloc, style.apply(reset), "", "")?;
+    expect_style(rt, alloc, style, set, clear);
+    for reset in [clear, "\x1b[0m", "\x1b[m", RESET_ALL] {
+        expect_style(rt, alloc, style.apply(reset), "", "");
     }
-    Ok(())
-}
-
-fn expect_code(rt: &impl Abort, alloc: Global, code: u8, clear: u8) -> Result<(), AllocError> {
-    let set = format!(in alloc; "\x1b[{code}m")?;
-    let clear = format!(in alloc; "\x1b[{clear}m")?;
-    expect_set(rt, alloc, Style::plain(), set.as_str(), clear.as_str())
 }
 
 #[test]
-fn each_code_sets_and_is_cleared(rt: HostRuntime) -> Result<(), Fail> {
-    for (first, last, clear) in CODES {
-        for code in *first..=*last {
-            expect_code(&rt, rt.alloc(), code, *clear)?;
-        }
+fn each_code_sets_and_is_cleared(rt: HostRuntime) {
+    let cleared = style_after(&["\x1b[31m", "\x1b[42m", "\x1b[39;49m"]);
+    for (set, clear) in SETS {
+        expect_set(&rt, rt.alloc(), Style::plain(), set, clear);
+        expect_set(&rt, rt.alloc(), cleared, set, clear);
     }
-    let before = style_after(&["\x1b[31m", "\x1b[42m", "\x1b[39;49m"]);
-    for (set, clear) in NUMBERED {
-        expect_set(&rt, rt.alloc(), before, set, clear)?;
-    }
-    Ok(())
 }
 
 // ---- sequences
@@ -188,16 +198,15 @@ const UNREAD: &[&str] = &[
 ];
 
 #[test]
-fn sequences_are_read(rt: HostRuntime) -> Result<(), Fail> {
+fn sequences_are_read(rt: HostRuntime) {
     for (sequence, start, end) in READ {
-        expect_style(&rt, rt.alloc(), style_after(&[sequence]), start, end)?;
+        expect_style(&rt, rt.alloc(), style_after(&[sequence]), start, end);
     }
     let style = style_after(&["\x1b[4m"]);
     for text in UNREAD {
         expect(&rt, style.apply(text) == style, "nothing is set", text);
     }
-    expect_style(&rt, rt.alloc(), style, "\x1b[4m", "\x1b[24m")?;
-    Ok(())
+    expect_style(&rt, rt.alloc(), style, "\x1b[4m", "\x1b[24m");
 }
 
 // A sequence that sets all there is, with the longest colours.
@@ -212,116 +221,109 @@ const END: &str =
     "\x1b[10m\x1b[22m\x1b[23m\x1b[24m\x1b[25m\x1b[27m\x1b[28m\x1b[29m\x1b[39m\x1b[49m\x1b[50m\x1b[54m\x1b[55m\x1b[59m\x1b[65m\x1b[75m";
 
 // What is left to clear after a code is all but its own.
-fn expect_cleared(
-    rt: &impl Abort,
-    alloc: Global,
-    style: Style,
-    clear: &str,
-) -> Result<(), AllocError> {
-    let left = style.apply(clear).end().to_string(alloc)?;
+fn expect_cleared(rt: &impl Abort, alloc: Global, style: Style, clear: &str) {
+    let left = style.apply(clear).end().to_string(alloc);
+    let left = left.expect(rt, MEMORY);
     let is_shorter = left.len() + clear.len() == END.len();
     expect(rt, is_shorter, "the end", clear);
     expect(rt, !left.as_str().contains(clear), "the end", clear);
-    Ok(())
 }
 
 #[test]
-fn everything_in_ascending_order(rt: HostRuntime) -> Result<(), Fail> {
+fn everything_in_ascending_order(rt: HostRuntime) {
     let style = style_after(&[EVERYTHING]);
-    expect_style(&rt, rt.alloc(), style, START, END)?;
-    expect(&rt, START.len() == 163, "163 bytes", START);
-    expect(&rt, END.len() == 80, "80 bytes", END);
-    expect_style(&rt, rt.alloc(), style.apply(RESET_ALL), "", "")?;
+    expect_style(&rt, rt.alloc(), style, START, END);
+    expect(&rt, [START.len(), END.len()] == [163, 80], "bytes", START);
+    expect_style(&rt, rt.alloc(), style.apply(RESET_ALL), "", "");
     for clear in END.split_inclusive('m') {
-        expect_cleared(&rt, rt.alloc(), style, clear)?;
+        expect_cleared(&rt, rt.alloc(), style, clear);
     }
-    Ok(())
 }
 
 // No clause of std says what a hole with options writes that is not a number or a text.
 #[test]
-fn options_of_a_hole_change_nothing(rt: HostRuntime) -> Result<(), Fail> {
+fn options_of_a_hole_change_nothing(rt: HostRuntime) {
     let alloc = rt.alloc();
     let style = style_after(&["\x1b[1;31m"]);
     let (start, end) = (style.start(), style.end());
-    let wide = format!(in alloc; "{start:20}{end:>30}")?;
-    expect_text(
-        &rt,
-        wide.as_str(),
-        "\x1b[1m\x1b[31m\x1b[22m\x1b[39m",
-        "wide",
-    );
-    let other = format!(in alloc; "{start:#}{end:#}")?;
-    expect_text(
-        &rt,
-        other.as_str(),
-        "\x1b[1m\x1b[31m\x1b[22m\x1b[39m",
-        "other",
-    );
-    Ok(())
+    let wide = format!(in alloc; "{start:20}{end:>30}|{start:#}{end:#}");
+    let wanted = "\x1b[1m\x1b[31m\x1b[22m\x1b[39m|\x1b[1m\x1b[31m\x1b[22m\x1b[39m";
+    expect_text(&rt, wide.expect(&rt, MEMORY).as_str(), wanted, "options");
 }
 
 // ---- colours
 
-fn expect_color(rt: &impl Abort, code: AnsiColor, wanted: Color) {
-    assert_eq!(rt; Color::from(code), wanted, "of {code:?}");
-}
-
-// The code of a foreground, that of a background, and the colour.
-const NAMED: &[(u8, u8, Color)] = &[
-    (30, 40, Color::Black),
-    (31, 41, Color::Red),
-    (32, 42, Color::Green),
-    (33, 43, Color::Yellow),
-    (34, 44, Color::Blue),
-    (35, 45, Color::Magenta),
-    (36, 46, Color::Cyan),
-    (37, 47, Color::White),
-    (90, 100, Color::BrightBlack),
-    (91, 101, Color::BrightRed),
-    (92, 102, Color::BrightGreen),
-    (93, 103, Color::BrightYellow),
-    (94, 104, Color::BrightBlue),
-    (95, 105, Color::BrightMagenta),
-    (96, 106, Color::BrightCyan),
-    (97, 107, Color::BrightWhite),
+// What sets a colour, and the colour.
+const NAMED: &[(AnsiColor, Color)] = &[
+    (Bit4(30), Color::Black),
+    (Bit4(40), Color::Black),
+    (Bit4(31), Color::Red),
+    (Bit4(41), Color::Red),
+    (Bit4(32), Color::Green),
+    (Bit4(42), Color::Green),
+    (Bit4(33), Color::Yellow),
+    (Bit4(43), Color::Yellow),
+    (Bit4(34), Color::Blue),
+    (Bit4(44), Color::Blue),
+    (Bit4(35), Color::Magenta),
+    (Bit4(45), Color::Magenta),
+    (Bit4(36), Color::Cyan),
+    (Bit4(46), Color::Cyan),
+    (Bit4(37), Color::White),
+    (Bit4(47), Color::White),
+    (Bit4(90), Color::BrightBlack),
+    (Bit4(100), Color::BrightBlack),
+    (Bit4(91), Color::BrightRed),
+    (Bit4(101), Color::BrightRed),
+    (Bit4(92), Color::BrightGreen),
+    (Bit4(102), Color::BrightGreen),
+    (Bit4(93), Color::BrightYellow),
+    (Bit4(103), Color::BrightYellow),
+    (Bit4(94), Color::BrightBlue),
+    (Bit4(104), Color::BrightBlue),
+    (Bit4(95), Color::BrightMagenta),
+    (Bit4(105), Color::BrightMagenta),
+    (Bit4(96), Color::BrightCyan),
+    (Bit4(106), Color::BrightCyan),
+    (Bit4(97), Color::BrightWhite),
+    (Bit4(107), Color::BrightWhite),
+    // codes next to those of colours
+    (Bit4(0), Color::Fixed(0)),
+    (Bit4(29), Color::Fixed(29)),
+    (Bit4(38), Color::Fixed(38)),
+    (Bit4(39), Color::Fixed(39)),
+    (Bit4(48), Color::Fixed(48)),
+    (Bit4(89), Color::Fixed(89)),
+    (Bit4(98), Color::Fixed(98)),
+    (Bit4(99), Color::Fixed(99)),
+    (Bit4(108), Color::Fixed(108)),
+    (Bit4(255), Color::Fixed(255)),
+    // the same numbers in a palette, and a colour by its parts
+    (Bit8(30), Color::Fixed(30)),
+    (Bit8(31), Color::Fixed(31)),
+    (Bit8(32), Color::Fixed(32)),
+    (Bit8(33), Color::Fixed(33)),
+    (Bit8(34), Color::Fixed(34)),
+    (Bit8(35), Color::Fixed(35)),
+    (Bit8(36), Color::Fixed(36)),
+    (Bit8(37), Color::Fixed(37)),
+    (Bit8(90), Color::Fixed(90)),
+    (Bit8(91), Color::Fixed(91)),
+    (Bit8(92), Color::Fixed(92)),
+    (Bit8(93), Color::Fixed(93)),
+    (Bit8(94), Color::Fixed(94)),
+    (Bit8(95), Color::Fixed(95)),
+    (Bit8(96), Color::Fixed(96)),
+    (Bit8(97), Color::Fixed(97)),
+    (Bit24 { r: 1, g: 2, b: 3 }, Color::Rgb(1, 2, 3)),
 ];
-
-// Codes next to those of colours.
-const UNNAMED: &[u8] = &[0, 29, 38, 39, 48, 89, 98, 99, 108, 255];
 
 #[test]
 fn named_colors(rt: HostRuntime) {
-    for (foreground, background, color) in NAMED {
-        expect_color(&rt, AnsiColor::Bit4(*foreground), *color);
-        expect_color(&rt, AnsiColor::Bit4(*background), *color);
-        expect_color(&rt, AnsiColor::Bit8(*foreground), Color::Fixed(*foreground));
+    for (code, wanted) in NAMED {
+        assert_eq!(rt; Color::from(*code), *wanted, "of {code:?}");
     }
-    for code in UNNAMED {
-        expect_color(&rt, AnsiColor::Bit4(*code), Color::Fixed(*code));
-    }
-    expect_color(
-        &rt,
-        AnsiColor::Bit24 { r: 1, g: 2, b: 3 },
-        Color::Rgb(1, 2, 3),
-    );
 }
-
-// A sequence, and the colours of the style after it.
-const COLORS: &[(&str, Option<Color>, Option<Color>)] = &[
-    ("", None, None),
-    ("\x1b[31;44m", Some(Color::Red), Some(Color::Blue)),
-    (
-        "\x1b[31;48;5;20;58;5;1m",
-        Some(Color::Red),
-        Some(Color::Fixed(20)),
-    ),
-    (
-        "\x1b[97;48;2;1;2;3m",
-        Some(Color::BrightWhite),
-        Some(Color::Rgb(1, 2, 3)),
-    ),
-];
 
 // The ten tests of a style, in the order of their codes.
 fn tests_of(style: &Style) -> [bool; 10] {
@@ -339,42 +341,49 @@ fn tests_of(style: &Style) -> [bool; 10] {
     ]
 }
 
-// A sequence for each test, which it answers alone, and one that none answers.
-const TESTED: &[&str] = &[
-    "\x1b[1m",
-    "\x1b[2m",
-    "\x1b[3m",
-    "\x1b[4m",
-    "\x1b[5m",
-    "\x1b[6m",
-    "\x1b[7m",
-    "\x1b[8m",
-    "\x1b[9m",
-    "\x1b[20m",
-    "\x1b[21;31;53m",
+// A sequence, the colours of the style after it, and the place of the test that it alone answers, if one does.
+const TOLD: &[(&str, Option<Color>, Option<Color>, Option<usize>)] = &[
+    ("", None, None, None),
+    ("\x1b[31;44m", Some(Color::Red), Some(Color::Blue), None),
+    (
+        "\x1b[31;48;5;20;58;5;1m",
+        Some(Color::Red),
+        Some(Color::Fixed(20)),
+        None,
+    ),
+    (
+        "\x1b[97;48;2;1;2;3m",
+        Some(Color::BrightWhite),
+        Some(Color::Rgb(1, 2, 3)),
+        None,
+    ),
+    ("\x1b[1m", None, None, Some(0)),
+    ("\x1b[2m", None, None, Some(1)),
+    ("\x1b[3m", None, None, Some(2)),
+    ("\x1b[4m", None, None, Some(3)),
+    ("\x1b[5m", None, None, Some(4)),
+    ("\x1b[6m", None, None, Some(5)),
+    ("\x1b[7m", None, None, Some(6)),
+    ("\x1b[8m", None, None, Some(7)),
+    ("\x1b[9m", None, None, Some(8)),
+    ("\x1b[20m", None, None, Some(9)),
+    ("\x1b[21;31;53m", Some(Color::Red), None, None),
 ];
+
+fn expect_tests(rt: &impl Abort, style: &Style, place: Option<usize>, sequence: &str) {
+    for (other, is_set) in tests_of(style).iter().enumerate() {
+        expect(rt, *is_set == (place == Some(other)), "a test", sequence);
+    }
+}
 
 #[test]
 fn styles_tell_what_is_set(rt: HostRuntime) {
-    for (sequence, foreground, background) in COLORS {
+    for (sequence, foreground, background, place) in TOLD {
         let style = style_after(&[sequence]);
-        expect(
-            &rt,
-            style.foreground() == *foreground,
-            "foreground",
-            sequence,
-        );
-        expect(
-            &rt,
-            style.background() == *background,
-            "background",
-            sequence,
-        );
-    }
-    for (place, sequence) in TESTED.iter().enumerate() {
-        for (other, is_set) in tests_of(&style_after(&[sequence])).iter().enumerate() {
-            expect(&rt, *is_set == (other == place), "a test", sequence);
-        }
+        let colors = [style.foreground(), style.background()];
+        let is_right = colors == [*foreground, *background];
+        expect(&rt, is_right, "colours", sequence);
+        expect_tests(&rt, &style, *place, sequence);
     }
 }
 

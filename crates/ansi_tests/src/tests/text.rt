@@ -1,42 +1,33 @@
 //! Blocks and shown characters.
-use super::{expect, expect_text};
+use super::{MEMORY, expect, expect_text, expect_written};
 use ansi_str_text::{AnsiBlock, get_blocks, stripped_chars};
-use std::alloc::{AllocError, Global};
+use std::alloc::Global;
 use std::process::Abort;
-use std::test::Fail;
 
 // ---- blocks
 
+// A block is its text and the start of its style, which is none where the style is plain.
 fn expect_block(
     rt: &impl Abort,
     alloc: Global,
     block: &AnsiBlock<'_>,
-    shown: &str,
-    start: &str,
+    wanted: (&str, &str),
     text: &str,
-) -> Result<(), AllocError> {
+) {
+    let (shown, start) = wanted;
     expect_text(rt, block.text(), shown, text);
-    let opened = block.style().start().to_string(alloc)?;
-    expect_text(rt, opened.as_str(), start, text);
+    expect_written(rt, alloc, &block.style().start(), start, text);
     expect(rt, block.has_ansi() == !start.is_empty(), "styled", text);
-    Ok(())
 }
 
-// Each block as its text and the start of its style, which is none where the style is plain.
-fn expect_blocks(
-    rt: &impl Abort,
-    alloc: Global,
-    text: &str,
-    wanted: &[(&str, &str)],
-) -> Result<(), AllocError> {
+fn expect_blocks(rt: &impl Abort, alloc: Global, text: &str, wanted: &[(&str, &str)]) {
     let mut blocks = get_blocks(text);
-    for (shown, start) in wanted {
+    for shown in wanted {
         let block = blocks.next().expect(rt, "a block is missing");
-        expect_block(rt, alloc, &block, shown, start, text)?;
+        expect_block(rt, alloc, &block, *shown, text);
     }
     expect(rt, blocks.next().is_none(), "the end", text);
     expect(rt, blocks.next().is_none(), "the end, again", text);
-    Ok(())
 }
 
 // A text and its blocks.
@@ -53,11 +44,10 @@ const BLOCKS: &[(&str, &[(&str, &str)])] = &[
 ];
 
 #[test]
-fn gives_blocks(rt: HostRuntime) -> Result<(), Fail> {
+fn gives_blocks(rt: HostRuntime) {
     for (text, wanted) in BLOCKS {
-        expect_blocks(&rt, rt.alloc(), text, wanted)?;
+        expect_blocks(&rt, rt.alloc(), text, wanted);
     }
-    Ok(())
 }
 
 // ---- characters
@@ -125,58 +115,59 @@ const LETTERS: [&str; 14] = [
 ];
 
 // The same text read from the front alone, item by item.
-fn expect_forward(rt: &impl Abort, alloc: Global, text: &str) -> Result<(), AllocError> {
+fn expect_forward(rt: &impl Abort, alloc: Global, text: &str) {
     let mut shown = String::new(alloc);
     for block in get_blocks(text) {
-        shown.push_str(block.text())?;
+        shown.push_str(block.text()).expect(rt, MEMORY);
     }
     expect_characters(rt, text, shown.as_str());
-    Ok(())
 }
 
 // The text of one letter, of two, and so on.
-fn expect_fronts(rt: &impl Abort, alloc: Global, letters: &[&str]) -> Result<(), AllocError> {
+fn expect_fronts(rt: &impl Abort, alloc: Global, letters: &[&str]) {
     let mut text = String::new(alloc);
     for letter in letters {
-        text.push_str(letter)?;
-        expect_forward(rt, alloc, text.as_str())?;
+        text.push_str(letter).expect(rt, MEMORY);
+        expect_forward(rt, alloc, text.as_str());
     }
-    Ok(())
 }
 
 #[test]
-fn gives_characters_of_each_short_text(rt: HostRuntime) -> Result<(), Fail> {
-    for first in &LETTERS {
-        for second in &LETTERS {
-            for third in &LETTERS {
-                expect_fronts(&rt, rt.alloc(), &[first, second, third])?;
-            }
-        }
+fn gives_characters_of_each_short_text(rt: HostRuntime) {
+    // each number is one choice of three letters
+    for number in 0..14 * 14 * 14usize {
+        let first = LETTERS[number / (14 * 14) % 14];
+        let second = LETTERS[number / 14 % 14];
+        let third = LETTERS[number % 14];
+        expect_fronts(&rt, rt.alloc(), &[first, second, third]);
     }
-    Ok(())
+}
+
+// A text of so many letters, drawn by a linear congruential generator.
+fn long_text(rt: &impl Abort, alloc: Global, state: &mut u64) -> String {
+    let mut text = String::new(alloc);
+    for _ in 0..24 {
+        *state = state
+            .wrapping_mul(6364136223846793005)
+            .wrapping_add(1442695040888963407);
+        let number = (*state >> 33) as usize;
+        // every other letter is one of those that make a sequence
+        let letter = if number % 2 == 0 {
+            number / 2 % 6
+        } else {
+            number / 2 % 14
+        };
+        text.push_str(LETTERS[letter]).expect(rt, MEMORY);
+    }
+    text
 }
 
 #[test]
-fn gives_characters_of_longer_texts(rt: HostRuntime) -> Result<(), Fail> {
-    let alloc = rt.alloc();
-    // a linear congruential generator, from a fixed seed
+fn gives_characters_of_longer_texts(rt: HostRuntime) {
+    // from a fixed seed
     let mut state = 20u64;
     for _ in 0..4000 {
-        let mut text = String::new(alloc);
-        for _ in 0..24 {
-            state = state
-                .wrapping_mul(6364136223846793005)
-                .wrapping_add(1442695040888963407);
-            let number = (state >> 33) as usize;
-            // every other letter is one of those that make a sequence
-            let letter = if number % 2 == 0 {
-                number / 2 % 6
-            } else {
-                number / 2 % 14
-            };
-            text.push_str(LETTERS[letter])?;
-        }
-        expect_forward(&rt, alloc, text.as_str())?;
+        let text = long_text(&rt, rt.alloc(), &mut state);
+        expect_forward(&rt, rt.alloc(), text.as_str());
     }
-    Ok(())
 }
