@@ -1,7 +1,8 @@
 //! Rows in batches.
+use super::tables::{Fields, Source, made};
 use super::{REFUSED, expect, let_go};
 use std::process::Abort;
-use tabled::{LayoutIterator, Table};
+use tabled::LayoutIterator;
 
 // That just these are given, and then none for good.
 fn gives(rt: &impl Abort, batches: LayoutIterator, wanted: &[usize], what: &str) {
@@ -34,8 +35,7 @@ fn batches_begin_at_each_multiple(rt: HostRuntime) {
     gives(&rt, LayoutIterator::default(), &[], "the default");
     let none = LayoutIterator::new(0, 0, 0);
     expect(&rt, LayoutIterator::default() == none, "the default");
-    let table = Table::kv(rt.alloc(), [("a", 1u8), ("b", 2u8)]);
-    let table = table.expect(&rt, REFUSED);
+    let table = made(rt.alloc(), Source::Named(Fields::Numbers)).expect(&rt, REFUSED);
     let batches = LayoutIterator::kv_batches::<(&str, u8)>(&table);
     let_go(table);
     gives(&rt, batches, &[0, 2], "a batch for each value");

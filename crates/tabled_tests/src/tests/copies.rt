@@ -1,50 +1,27 @@
-//! Copies of tables, and of options.
-use super::{REFUSED, at, expect, let_go, narrow, one, prints};
-use grid_config::{Entity, Fault};
+//! A table that was changed, and copies of records.
+use super::tables::{CellChange, Change, Place, SQUARE, Source, Target, made, table_of};
+use super::{REFUSED, expect_same, let_go};
+use grid_config::{Fault, Position};
 use grid_records_rows::{Text, VecRecords};
 use grid_records_traits::records::PeekableRecords;
 use std::alloc::Global;
 use std::process::Abort;
-use tabled::{Alignment, Margin, Table};
+use tabled::Table;
 
 /// What a changed table prints.
 pub const TEXT: &str = "<+-----+\n<|   a |\n<+-----+";
 
-/// A table of one cell at the right of a kept width, with a margin.
+/// A cell at the right of a kept width, with a margin. The first width is kept no longer.
+pub const CHANGED: &[Change] = &[
+    Change::Widths(&[5]),
+    Change::FilledMargin((1, 0, 0, 0), ('<', ' ', ' ', ' ')),
+    Change::Cells(Target::All, CellChange::Align(Place::Right)),
+    Change::Widths(&[5]),
+];
+
+/// A table of one cell that was changed so.
 pub fn changed(alloc: Global) -> Result<Table, Fault> {
-    let mut table = narrow(alloc, "a", 5)?;
-    let margin = table.set(Margin::new(1, 0, 0, 0).fill('<', ' ', ' ', ' '));
-    let aligned = table.set_cells(Entity::Global, &Alignment::right());
-    let widths = one(alloc, 5);
-    if margin.is_err() || aligned.is_err() {
-        let_go(table);
-        return Err(Fault::Memory);
-    }
-    table.get_dimension_mut().set_widths(widths?);
-    Ok(table)
-}
-
-// That its copy prints this text, after the table itself is gone.
-fn copy_prints(rt: &impl Abort, alloc: Global, made: Result<Table, Fault>, text: &str) {
-    let table = made.expect(rt, REFUSED);
-    let copy = table.clone(alloc);
-    let_go(table);
-    prints(rt, Ok(copy.expect(rt, REFUSED)), text);
-}
-
-#[test]
-fn a_copy_is_the_same_table(rt: HostRuntime) {
-    copy_prints(&rt, rt.alloc(), changed(rt.alloc()), TEXT);
-    let none = Table::default(rt.alloc());
-    copy_prints(&rt, rt.alloc(), Ok(none), "");
-}
-
-// A copy of the records of a table, after it is gone.
-fn kept(rt: &impl Abort, alloc: Global) -> VecRecords<Text> {
-    let table = Table::nohead(alloc, [("a", "b"), ("c", "d")]).expect(rt, REFUSED);
-    let copy = table.get_records().clone(alloc);
-    let_go(table);
-    copy.expect(rt, REFUSED)
+    table_of(alloc, Source::Text("a"), CHANGED)
 }
 
 // The last text of all.
@@ -58,12 +35,20 @@ fn last(records: VecRecords<Text>) -> Option<String> {
     Some(cell?.into_string())
 }
 
+// A copy of the records of a table, after it is gone.
+fn copied(rt: &impl Abort, alloc: Global) -> VecRecords<Text> {
+    let table = made(alloc, SQUARE).expect(rt, REFUSED);
+    let copy = table.get_records().clone(alloc);
+    let_go(table);
+    copy.expect(rt, REFUSED)
+}
+
 // A copy has texts of its own, and its rows become rows of strings.
 #[test]
 fn records_are_copied(rt: HostRuntime) {
-    let records = kept(&rt, rt.alloc());
-    let is_read = records.get_text(at(1, 0)) == "c";
-    let is_last = matches!(last(records), Some(it) if it.as_str() == "d");
-    expect(&rt, is_read, "the second row's first text");
-    expect(&rt, is_last, "the last text");
+    let records = copied(&rt, rt.alloc());
+    let read = records.get_text(Position::new(1, 0));
+    expect_same(&rt, read, "c", "the second row's first text");
+    let text = last(records).expect(&rt, "there is no last text");
+    expect_same(&rt, text.as_str(), "d", "the last text");
 }

@@ -1,57 +1,81 @@
-//! Tables of names beside fields, of rows of texts, and builders of tables.
-use super::{REFUSED, expect, expect_texts, let_go};
-use grid_config::Fault;
+//! The rows that makers and builders give a table.
+use super::tables::{Fields, Given, Source, made};
+use super::{REFUSED, expect, expect_same, let_go};
+use grid_config::Position;
+use grid_records_traits::records::PeekableRecords;
 use std::alloc::{AllocError, Global};
 use std::process::Abort;
 use tabled::{BuildTable, Builder, Table};
 
+// The texts of a table, each after a `|`, and each row ended by a `;`.
+fn texts(alloc: Global, table: &Table) -> Result<String, AllocError> {
+    let mut all = String::new(alloc);
+    for row in 0..table.count_rows() {
+        for column in 0..table.count_columns() {
+            all.push_str("|")?;
+            all.push_str(table.get_records().get_text(Position::new(row, column)))?;
+        }
+        all.push_str(";")?;
+    }
+    Ok(all)
+}
+
+// That the table is made, has `rows` rows and `columns` columns, and these texts.
+fn expect_texts(
+    rt: &impl Abort,
+    alloc: Global,
+    source: Source,
+    rows: usize,
+    columns: usize,
+    wanted: &str,
+) {
+    let table = made(alloc, source).expect(rt, REFUSED);
+    expect_same(rt, table.shape(), (rows, columns), wanted);
+    let is_empty = rows == 0 || columns == 0;
+    expect(rt, table.is_empty() == is_empty, wanted);
+    let found = texts(alloc, &table).expect(rt, REFUSED);
+    let_go(table);
+    expect_same(rt, found.as_str(), wanted, "the texts of a table");
+}
+
+// A table, how many rows and columns it has, and its texts.
+const TABLES: &[(Source, usize, usize, &str)] = &[
+    (Source::Nothing, 0, 0, ""),
+    (Source::Headed("x"), 2, 1, "|&str;|x;"),
+    (Source::Reserved("x"), 2, 1, "|&str;|x;"),
+    (Source::Numbered, 2, 2, "|a|1;|b|2;"),
+    // builders
+    (Source::Given(Given::Built("x")), 2, 1, "|&str;|x;"),
+    (Source::Given(Given::Records), 2, 2, "|a|b;|c|;"),
+    // names beside fields
+    (Source::Named(Fields::Number), 2, 2, "|&str|a;|u8|1;"),
+    (
+        Source::Named(Fields::Truths),
+        4,
+        2,
+        "|&str|a;|bool|true;|&str|b;|bool|false;",
+    ),
+    (Source::Named(Fields::Characters), 2, 2, "|char|;|char|c;"),
+    // rows of texts
+    (Source::Given(Given::One), 1, 1, "|x;"),
+    (Source::Given(Given::Four), 2, 2, "|a|b;|c|;"),
+    (Source::Given(Given::Ragged), 2, 2, "|a|b;|c|;"),
+    // a table that was a builder
+    (Source::Given(Given::Extended), 3, 2, "|a|b;|c|;|d|;"),
+];
+
 #[test]
-fn names_stand_beside_fields(rt: HostRuntime) {
-    let a = rt.alloc();
-    expect_texts(&rt, a, Table::kv(a, [("a", 1u8)]), 2, 2, "|&str|a;|u8|1;");
-    let two = Table::kv(a, [("a", true), ("b", false)]);
-    let text = "|&str|a;|bool|true;|&str|b;|bool|false;";
-    expect_texts(&rt, a, two, 4, 2, text);
-    let some = Table::kv(a, [None, Some('c')]);
-    expect_texts(&rt, a, some, 2, 2, "|char|;|char|c;");
-}
-
-// Two rows; the second is short.
-fn ragged(alloc: Global) -> Result<Vec<Vec<&'static str>>, AllocError> {
-    let first = vec![in alloc; "a", "b"]?;
-    let second = vec![in alloc; "c"]?;
-    Ok(vec![in alloc; first, second]?)
-}
-
-#[test]
-fn rows_of_texts_are_filled(rt: HostRuntime) {
-    let a = rt.alloc();
-    expect_texts(&rt, a, Table::from_rows(a, [["x"]]), 1, 1, "|x;");
-    let pairs = Table::from_rows(a, [["a", "b"], ["c", ""]]);
-    expect_texts(&rt, a, pairs, 2, 2, "|a|b;|c|;");
-    let rows = ragged(a).expect(&rt, REFUSED);
-    expect_texts(&rt, a, Table::from_rows(a, rows), 2, 2, "|a|b;|c|;");
-}
-
-// The table of the builder of a table, with one record more.
-fn extended(alloc: Global, table: Table) -> Result<Table, Fault> {
-    let mut builder = Builder::from_table(alloc, table)?;
-    builder.push_record(["d"])?;
-    builder.build()
-}
-
-fn is_empty(builder: Builder) -> bool {
-    let counts = (builder.count_rows(), builder.count_columns());
-    let_go(builder);
-    counts == (0, 0)
+fn makers_give_the_rows_of_their_source(rt: HostRuntime) {
+    for (source, rows, columns, wanted) in TABLES {
+        expect_texts(&rt, rt.alloc(), *source, *rows, *columns, wanted);
+    }
 }
 
 #[test]
 fn a_table_goes_back_into_a_builder(rt: HostRuntime) {
-    let a = rt.alloc();
-    let rows = ragged(a).expect(&rt, REFUSED);
-    let table = Table::from_rows(a, rows).expect(&rt, REFUSED);
-    expect_texts(&rt, a, extended(a, table), 3, 2, "|a|b;|c|;|d|;");
-    let builder = Builder::from_table(a, Table::default(a));
-    expect(&rt, is_empty(builder.expect(&rt, REFUSED)), "no rows");
+    let builder = Builder::from_table(rt.alloc(), Table::default(rt.alloc()));
+    let builder = builder.expect(&rt, REFUSED);
+    let counts = (builder.count_rows(), builder.count_columns());
+    let_go(builder);
+    expect_same(&rt, counts, (0, 0), "no rows");
 }

@@ -1,6 +1,6 @@
 //! How a table is written.
-use super::{REFUSED, let_go};
-use grid_config::Fault;
+use super::tables::{Source, made};
+use super::{REFUSED, expect, expect_same, let_go};
 use std::alloc::Global;
 use std::process::Abort;
 use tabled::{BuildFault, Counted, Table};
@@ -8,15 +8,11 @@ use tabled_fakes::StepWriter;
 
 const TEXT: &[u8] = b"+---+\n| a |\n+---+";
 
-// What a write returned, how many failures and empty writes were counted, and how many calls there were.
-type Written = (Result<(), BuildFault>, (u64, u64), usize);
+/// What a write returned, how many failures and empty writes were counted, and how many calls there were.
+pub type Written = (Result<(), BuildFault>, (u64, u64), usize);
 
-fn expect_answer(rt: &impl Abort, found: Written, wanted: Written) {
-    assert_eq!(rt; found, wanted);
-}
-
-// Writes a table to this writer: that `taken` bytes of its text are taken.
-fn expect_written(
+/// Writes a table to this writer: that `taken` bytes of its text are taken.
+pub fn expect_written(
     rt: &impl Abort,
     table: &Table,
     writer: StepWriter,
@@ -27,8 +23,11 @@ fn expect_written(
     let answer = table.build(&mut counted);
     let counts = (counted.failures(), counted.empty_writes());
     let writer = counted.into_inner();
-    assert!(rt; Some(writer.taken.as_slice()) == TEXT.get(..taken));
-    expect_answer(rt, (answer, counts, writer.calls), wanted);
+    let is_front = Some(writer.taken.as_slice()) == TEXT.get(..taken);
+    let found = (answer, counts, writer.calls);
+    let_go(writer);
+    expect(rt, is_front, "what is written");
+    expect_same(rt, found, wanted, "how a table is written");
 }
 
 // A writer that takes a byte a call, so many, and fails at the next call, which is the `bad`-th, or takes
@@ -42,30 +41,16 @@ fn expect_given_up(rt: &impl Abort, a: Global, table: &Table, taken: usize, bad:
     expect_written(rt, table, filling, taken, empty);
 }
 
-fn expect_all(rt: &impl Abort, a: Global, table: &Table) {
-    let all = TEXT.len();
-    let one = StepWriter::new(a, all, 0);
-    expect_written(rt, table, one, all, (Ok(()), (0, 0), 1));
-    let each = StepWriter::new(a, 1, 0);
-    expect_written(rt, table, each, all, (Ok(()), (0, 0), all));
-    for bad in 1..TEXT.len() + 1 {
-        expect_given_up(rt, a, table, bad - 1, bad);
-    }
-}
-
-// That a table whose kept width is too small isn't written.
-fn expect_not_written(rt: &impl Abort, a: Global) {
-    let table = super::narrow(a, "Hello", 2).expect(rt, REFUSED);
-    let room = Fault::Room { row: 0, column: 0 };
-    let answer = (Err(BuildFault::Table(room)), (0, 0), 0);
-    expect_written(rt, &table, StepWriter::new(a, 1, 1), 0, answer);
-    let_go(table);
-}
-
 #[test]
 fn a_table_is_written_until_the_writer_gives_up(rt: HostRuntime) {
-    let table = Table::nohead(rt.alloc(), ["a"]).expect(&rt, REFUSED);
-    expect_all(&rt, rt.alloc(), &table);
+    let (a, all) = (rt.alloc(), TEXT.len());
+    let table = made(a, Source::Text("a")).expect(&rt, REFUSED);
+    let one = StepWriter::new(a, all, 0);
+    expect_written(&rt, &table, one, all, (Ok(()), (0, 0), 1));
+    let each = StepWriter::new(a, 1, 0);
+    expect_written(&rt, &table, each, all, (Ok(()), (0, 0), all));
+    for bad in 1..TEXT.len() + 1 {
+        expect_given_up(&rt, a, &table, bad - 1, bad);
+    }
     let_go(table);
-    expect_not_written(&rt, rt.alloc());
 }
