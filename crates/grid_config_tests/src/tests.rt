@@ -1,5 +1,5 @@
 //! What the tests share.
-use grid_config_values::{Borders, Position};
+use grid_config_values::Position;
 use std::alloc::{AllocError, Global};
 use std::cmp::Ordering;
 use std::fmt::Display;
@@ -14,24 +14,6 @@ mod values;
 // The proof of a function grows faster than its calls, and most of all with each `?`. So the helpers end a
 // test where a call is refused, but for those that `tests/memory` needs.
 const MEMORY: &str = "memory is refused";
-
-const NO_GLYPHS: Borders<char> = Borders {
-    top: None,
-    top_left: None,
-    top_right: None,
-    top_intersection: None,
-    bottom: None,
-    bottom_left: None,
-    bottom_right: None,
-    bottom_intersection: None,
-    horizontal: None,
-    left_intersection: None,
-    right_intersection: None,
-    intersection: None,
-    left: None,
-    right: None,
-    vertical: None,
-};
 
 // The place in this row and this column.
 const fn at(row: usize, col: usize) -> Position {

@@ -1,5 +1,5 @@
 //! What stands at the sides of tables and texts.
-use grid_config::{Borders, Indent, Sides};
+use grid_config::{Indent, Sides};
 
 /// No column or line.
 pub(crate) const NONE: Indent = Indent { size: 0, fill: ' ' };
@@ -26,42 +26,4 @@ pub(crate) const SPACES: Sides<Indent> = Sides {
 pub(crate) const ENDLESS: Indent = Indent {
     size: usize::MAX,
     fill: ' ',
-};
-
-/// No boundaries. A constant has no call, so not `Borders::empty`.
-pub(crate) const NO_BORDERS: Borders<char> = Borders {
-    top: None,
-    top_left: None,
-    top_right: None,
-    top_intersection: None,
-    bottom: None,
-    bottom_left: None,
-    bottom_right: None,
-    bottom_intersection: None,
-    horizontal: None,
-    left_intersection: None,
-    right_intersection: None,
-    intersection: None,
-    vertical: None,
-    left: None,
-    right: None,
-};
-
-/// Boundaries of `-`, `|` and `+`.
-pub(crate) const ASCII: Borders<char> = Borders {
-    top: Some('-'),
-    top_left: Some('+'),
-    top_right: Some('+'),
-    top_intersection: Some('+'),
-    bottom: Some('-'),
-    bottom_left: Some('+'),
-    bottom_right: Some('+'),
-    bottom_intersection: Some('+'),
-    horizontal: Some('-'),
-    left_intersection: Some('+'),
-    right_intersection: Some('+'),
-    intersection: Some('+'),
-    vertical: Some('|'),
-    left: Some('|'),
-    right: Some('|'),
 };

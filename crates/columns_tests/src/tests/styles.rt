@@ -1,9 +1,10 @@
 //! Tables in other styles than the default one, worked out by hand.
 use super::counted::expect_taken;
 use super::run::{WAYS, Way, print};
-use super::sides::{ASCII, ENDLESS, NO_BORDERS, NO_SIDES, NONE, SPACES};
+use super::sides::{ENDLESS, NO_SIDES, NONE, SPACES};
 use columns_run::{Counted, Options, RunFault, style_is_plain};
 use grid_config::{AlignmentHorizontal, Borders, CompactConfig, Indent, Sides};
+use grid_config_fakes::{ASCII, NO_BORDERS};
 use std::alloc::Global;
 use std::process::Abort;
 use tabled_fakes::StepWriter;

@@ -1,10 +1,11 @@
 //! Tables worked out by hand, and rows that have none.
-use super::sides::{ASCII, ENDLESS, NONE, SPACES};
+use super::sides::{ENDLESS, NONE, SPACES};
 use crate::cells::{lines_of, written};
 use ansi_scan::is_whole;
 use columns_asked::Asked;
 use columns_table::{RowEnds, Rows, rows_table};
 use grid_config::{CompactConfig, Fault, Indent, Sides};
+use grid_config_fakes::ASCII;
 use std::alloc::Global;
 use tabled_size_priority::Choice;
 

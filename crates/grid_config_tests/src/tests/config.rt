@@ -1,9 +1,10 @@
 //! Settings of cells and of the whole table.
-use super::{MEMORY, NO_GLYPHS, at, expect, expect_order, let_go, made};
+use super::{MEMORY, at, expect, expect_order, let_go, made};
 use grid_config::{
     ANSIBuf, ANSIStr, AlignmentHorizontal, AlignmentVertical, Borders, ColoredConfig,
     CompactConfig, Entity, Fault, Indent, Position, Sides, SpannedConfig,
 };
+use grid_config_fakes::NO_BORDERS;
 use std::alloc::{AllocError, Global};
 use std::process::Abort;
 
@@ -37,7 +38,7 @@ const GLYPHS: Borders<char> = Borders {
     top: Some('-'),
     left: Some('|'),
     bottom_right: Some('+'),
-    ..NO_GLYPHS
+    ..NO_BORDERS
 };
 
 fn expect_glyphs(rt: &impl Abort, found: &Borders<char>, wanted: &Borders<char>) {
@@ -84,7 +85,7 @@ struct Whole {
 const NEW_TABLE: Whole = Whole {
     margin: NO_INDENTS,
     margin_color: ("-", "-"),
-    borders: NO_GLYPHS,
+    borders: NO_BORDERS,
     top: "-",
     left: "-",
 };

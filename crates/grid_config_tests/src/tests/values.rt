@@ -1,6 +1,7 @@
 //! Values of settings, sets of cells and maps over them.
-use super::{MEMORY, NO_GLYPHS, at, expect, expect_order, expect_printed, expect_text};
+use super::{MEMORY, at, expect, expect_order, expect_printed, expect_text};
 use Ordering::*;
+use grid_config_fakes::NO_BORDERS;
 use grid_config_values::{
     AlignmentHorizontal, AlignmentVertical, Borders, Entity, EntityMap, Fault, Formatting, Indent,
     Sides,
@@ -241,7 +242,7 @@ const BOUNDARIES: &[(&str, Borders<char>, [bool; 6])] = &[
         "a crossing",
         Borders {
             top_intersection: Some('+'),
-            ..NO_GLYPHS
+            ..NO_BORDERS
         },
         [false, true, false, true, false, false],
     ),
@@ -249,7 +250,7 @@ const BOUNDARIES: &[(&str, Borders<char>, [bool; 6])] = &[
         "between columns",
         Borders {
             vertical: Some('+'),
-            ..NO_GLYPHS
+            ..NO_BORDERS
         },
         [false, true, false, false, false, false],
     ),
@@ -257,7 +258,7 @@ const BOUNDARIES: &[(&str, Borders<char>, [bool; 6])] = &[
         "a corner",
         Borders {
             bottom_right: Some('+'),
-            ..NO_GLYPHS
+            ..NO_BORDERS
         },
         [false, false, true, false, false, true],
     ),
@@ -265,7 +266,7 @@ const BOUNDARIES: &[(&str, Borders<char>, [bool; 6])] = &[
         "the frame",
         Borders {
             right: Some('+'),
-            ..NO_GLYPHS
+            ..NO_BORDERS
         },
         [false, false, true, false, false, false],
     ),
@@ -289,7 +290,7 @@ const COUNTED: Borders<char> = Borders {
     left: Some('|'),
     vertical: Some('|'),
     bottom: Some('|'),
-    ..NO_GLYPHS
+    ..NO_BORDERS
 };
 
 // A number, of how many columns or rows, and whether there is a boundary of columns and of rows with it.
@@ -344,7 +345,7 @@ const DASHED: Sides<Indent> = Sides {
 
 const TOP: Borders<char> = Borders {
     top: Some('-'),
-    ..NO_GLYPHS
+    ..NO_BORDERS
 };
 
 #[test]
@@ -357,7 +358,7 @@ fn equal_values_compare_and_hash_alike(rt: HostRuntime) {
     expect_order(&rt, &spaced, &DASHED, Less, "other sides");
     expect_order(&rt, &TOP, &TOP, Equal, "equal borders");
     expect_order(&rt, &TOP, &Borders::empty(), Greater, "other borders");
-    expect_order(&rt, &NO_GLYPHS, &Borders::empty(), Equal, "no glyphs");
+    expect_order(&rt, &NO_BORDERS, &Borders::empty(), Equal, "no glyphs");
     expect_order(&rt, &LEFT, &RIGHT, Less, "left and right");
     let (top, bottom) = (AlignmentVertical::Top, AlignmentVertical::Bottom);
     expect_order(&rt, &top, &bottom, Less, "top and bottom");

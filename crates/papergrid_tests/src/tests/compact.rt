@@ -1,9 +1,10 @@
 //! What compact grids print.
-use super::settings::{ASCII, BOXED, ENDLESS, NONE, Set, change_all, compact};
+use super::settings::{BOXED, ENDLESS, NONE, Set, change_all, compact};
 use super::{BEFORE, Table, expect_appended, expect_made, records_of};
 use grid_config::{
     AlignmentHorizontal, ColoredConfig, CompactConfig, Entity, Fault, SpannedConfig,
 };
+use grid_config_fakes::ASCII;
 use papergrid::{Colors, CompactGrid, NoColors};
 use std::alloc::Global;
 use std::process::Abort;

@@ -2,8 +2,9 @@
 use super::Table;
 use super::grids::Wanted::{Lines, Refused};
 use super::grids::{Case, Group, Start, expect_groups};
-use super::settings::{ASCII, ENDLESS, NO_BORDERS, NONE, Set};
+use super::settings::{ENDLESS, NONE, Set};
 use grid_config::{AlignmentHorizontal, Borders, Fault};
+use grid_config_fakes::{ASCII, NO_BORDERS};
 
 // A cell of three columns, in a column of two.
 const TOO_WIDE: Table = Table(&[&["abc"]], &[2], &[1]);

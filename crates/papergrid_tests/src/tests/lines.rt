@@ -1,7 +1,8 @@
 //! How many lines tables have: their rows, the boundaries that are there, and the margins.
-use super::settings::{ASCII, NO_BORDERS, NONE, Set, change_all};
+use super::settings::{NONE, Set, change_all};
 use super::{Table, records_of};
 use grid_config::{Borders, ColoredConfig, Fault, SpannedConfig};
+use grid_config_fakes::{ASCII, NO_BORDERS};
 use grid_records_rows::PeekableRecords;
 use papergrid::{NoColors, PeekableGrid, count_lines, fits};
 use papergrid_fits::fits_counted;

@@ -4,8 +4,9 @@ use super::Table;
 use super::grids::Wanted::{Colored, Lines};
 use super::grids::{Case, Group, Start, expect_groups};
 use super::plain::Pair;
-use super::settings::{ASCII, Indents, NO_BORDERS, NONE, SPACE, Set};
+use super::settings::{Indents, NONE, SPACE, Set};
 use grid_config::{AlignmentHorizontal, Borders, Entity};
+use grid_config_fakes::{ASCII, NO_BORDERS};
 
 // Cells as wide as their columns, narrower ones and empty ones, and some that take other columns than bytes.
 const CELLS: &[&[&str]] = &[

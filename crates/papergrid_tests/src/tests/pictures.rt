@@ -2,8 +2,9 @@
 use super::Table;
 use super::grids::Wanted::{Colored, Lines};
 use super::grids::{Case, Group, Start, expect_groups};
-use super::settings::{ASCII, BOXED, Indents, SPACED, Set};
+use super::settings::{BOXED, Indents, SPACED, Set};
 use grid_config::{AlignmentHorizontal, AlignmentVertical, Entity};
+use grid_config_fakes::ASCII;
 
 const SIGNS: Indents = [(1, '<'), (1, '>'), (1, '<'), (1, '>')];
 

@@ -3,6 +3,7 @@ use grid_config::{
     ANSIBuf, ANSIStr, AlignmentHorizontal, AlignmentVertical, Borders, ColoredConfig,
     CompactConfig, Entity, Fault, Indent, Position, Sides, SpannedConfig,
 };
+use grid_config_fakes::ASCII;
 use std::alloc::Global;
 use std::process::Abort;
 
@@ -30,42 +31,6 @@ pub(super) enum Set {
     TopColor(&'static str, &'static str),
     BetweenColor(&'static str, &'static str),
 }
-
-pub(super) const NO_BORDERS: Borders<char> = Borders {
-    top: None,
-    top_left: None,
-    top_right: None,
-    top_intersection: None,
-    bottom: None,
-    bottom_left: None,
-    bottom_right: None,
-    bottom_intersection: None,
-    horizontal: None,
-    left_intersection: None,
-    right_intersection: None,
-    intersection: None,
-    vertical: None,
-    left: None,
-    right: None,
-};
-
-pub(super) const ASCII: Borders<char> = Borders {
-    top: Some('-'),
-    top_left: Some('+'),
-    top_right: Some('+'),
-    top_intersection: Some('+'),
-    bottom: Some('-'),
-    bottom_left: Some('+'),
-    bottom_right: Some('+'),
-    bottom_intersection: Some('+'),
-    horizontal: Some('-'),
-    left_intersection: Some('+'),
-    right_intersection: Some('+'),
-    intersection: Some('+'),
-    vertical: Some('|'),
-    left: Some('|'),
-    right: Some('|'),
-};
 
 pub(super) const NONE: (usize, char) = (0, ' ');
 

@@ -69,7 +69,7 @@ struct Compact {
 const NEW: Compact = Compact {
     margin: NO_INDENTS,
     padding: NO_INDENTS,
-    glyphs: NO_GLYPHS,
+    glyphs: NO_BORDERS,
     alignment: AlignmentHorizontal::Left,
     margin_color: false,
     padding_color: false,

@@ -49,7 +49,7 @@ const BOUNDARIES: &[(Borders<char>, [bool; 7], [usize; 3])] = &[
         Borders {
             bottom_right: Some('+'),
             intersection: Some('+'),
-            ..NO_GLYPHS
+            ..NO_BORDERS
         },
         [false, false, true, true, false, true, true],
         [3, 0, 2],
