@@ -114,7 +114,7 @@ const RIGHT: AlignmentHorizontal = AlignmentHorizontal::Right;
 // A call, which cells get which value, and what some cells have then.
 type Call<T> = (Entity, T, &'static [(usize, usize, T)]);
 
-// Calls in turn, each a cell has the value of the last that covers it.
+// Calls in turn: each cell has the value of the last that covers it.
 const CALLS: &[Call<AlignmentHorizontal>] = &[
     (Entity::Column(1), RIGHT, &[]),
     (
@@ -356,7 +356,9 @@ fn equal_values_compare_and_hash_alike(rt: HostRuntime) {
     let spaced = Sides::filled(Indent::spaced(1));
     expect_order(&rt, &spaced, &SPACED, Equal, "equal sides");
     expect_order(&rt, &spaced, &DASHED, Less, "other sides");
-    expect_order(&rt, &TOP, &TOP, Equal, "equal borders");
+    let mut top = Borders::empty();
+    top.top = Some('-');
+    expect_order(&rt, &TOP, &top, Equal, "equal borders");
     expect_order(&rt, &TOP, &Borders::empty(), Greater, "other borders");
     expect_order(&rt, &NO_BORDERS, &Borders::empty(), Equal, "no glyphs");
     expect_order(&rt, &LEFT, &RIGHT, Less, "left and right");

@@ -300,6 +300,7 @@ fn looks_up_cells(rt: HostRuntime) {
     look_up(&rt, alloc, records);
     let texts: VecRecords<Text> = table(&rt, alloc, &[&["a\n漢b"]]);
     expect_shape(&rt, alloc, &texts, 1);
+    expect_shape(&rt, alloc, &&texts, 1);
     set_text(&rt, alloc);
     let rows: Vec<Vec<&str>> = rows_of(alloc, UNEVEN).expect(&rt, MEMORY);
     expect(&rt, !are_equally_long(rows.as_slice()), "other lengths");
@@ -323,7 +324,7 @@ fn expect_lines<C: Cell>(
     expect_line(rt, alloc, cell, wanted.len(), "", 0);
 }
 
-// A line, which is a borrow where it has no ESC, as then none of these cells has one.
+// A line, which is a borrow where it has no ESC.
 fn expect_line<C: Cell>(
     rt: &impl Abort,
     alloc: Global,

@@ -109,7 +109,7 @@ const FREE: Table = Table(&[&["a", "b"], &["c", "d"]], &[2, 2], &[1, 1]);
 
 const PLAIN: &str = "+--+--+\n|a |b |\n+--+--+\n|c |d |\n+--+--+";
 
-// Colours of cells, also by their places, in tables that a compact grid prints too.
+// Colours of cells, also by their places. A compact grid prints the tables in the middle too.
 const COLORED: &[Group] = &[
     Group {
         start: Start::New,

@@ -155,29 +155,31 @@ fn compact_grids_append_all_or_nothing(rt: HostRuntime) -> Result<(), Fault> {
 // The table of two rows of two cells, all of them given.
 const GIVEN: &str = "+---+---+\n| a | a |\n+---+---+\n| a | a |\n+---+---+";
 
-// Two rows of two cells, of which the first so many are given and any other is refused.
+// Two rows of two cells, of which the first so many are given and any other is refused, appended to a text.
 fn expect_given(
     rt: &impl Abort,
     alloc: Global,
     cfg: &SpannedConfig,
+    before: &str,
     whole: usize,
     wanted: Result<&str, Fault>,
 ) {
     let cells = RefusedRows::new(2, 2, whole);
-    let mut text = String::from_str(alloc, BEFORE).expect(rt, "a text is refused");
+    let mut text = String::from_str(alloc, before).expect(rt, "a text is refused");
     let outcome = read(alloc, cells, cfg, &mut text);
-    expect_appended(rt, outcome, &text, BEFORE, wanted, &["cells", "read once"]);
-    let mut text = String::from_str(alloc, BEFORE).expect(rt, "a text is refused");
+    expect_appended(rt, outcome, &text, before, wanted, &["cells", "read once"]);
+    let mut text = String::from_str(alloc, before).expect(rt, "a text is refused");
     let outcome = read_compact(alloc, cells, &compact(rt, SPACED), &mut text);
-    expect_appended(rt, outcome, &text, BEFORE, wanted, &["cells", "compact"]);
+    expect_appended(rt, outcome, &text, before, wanted, &["cells", "compact"]);
 }
 
 #[test]
 fn a_cell_that_is_refused_leaves_the_text(rt: HostRuntime) {
     let cfg = spanned(&rt, rt.alloc(), SPACED);
     for whole in 0..4 {
-        expect_given(&rt, rt.alloc(), &cfg, whole, Err(Fault::Memory));
+        expect_given(&rt, rt.alloc(), &cfg, BEFORE, whole, Err(Fault::Memory));
     }
-    expect_given(&rt, rt.alloc(), &cfg, 4, Ok(GIVEN));
+    expect_given(&rt, rt.alloc(), &cfg, BEFORE, 4, Ok(GIVEN));
+    expect_given(&rt, rt.alloc(), &cfg, "", 4, Ok(GIVEN));
     drop(cfg);
 }

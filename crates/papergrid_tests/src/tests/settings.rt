@@ -10,7 +10,7 @@ use std::process::Abort;
 // Sizes and fills at the left, at the right, at the top and at the bottom.
 pub(super) type Indents = [(usize, char); 4];
 
-// One setting. That of a cell is set for all cells, but for the colour of its text. A colour is told by its texts.
+// One setting. That of a cell is set for all cells, but for spans and the colour of its text. A colour is told by its texts.
 pub(super) enum Set {
     Borders(Borders<char>),
     Margin(Indents),

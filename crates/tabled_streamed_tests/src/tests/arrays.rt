@@ -1,5 +1,5 @@
 //! Tables of arrays of rows.
-use super::{MEMORY, expect_found};
+use super::expect_found;
 use grid_config::Fault;
 use grid_records_traits::IntoRecords;
 use std::alloc::{AllocError, Global};
@@ -26,6 +26,13 @@ fn text_of_pair<I: RowArray<2, 1> + IntoRecords + Drop>(
     alloc: Global,
     rows: I,
 ) -> Result<String, Fault> {
+    let table = CompactTable::from(rows);
+    table.to_string(alloc)
+}
+
+// The same of that row of owned texts, by its own type.
+fn text_of_owned(alloc: Global) -> Result<String, Fault> {
+    let rows = pair(alloc)?;
     let table = CompactTable::from(rows);
     table.to_string(alloc)
 }
@@ -62,10 +69,9 @@ const FOUR: &str = "\
 +-----+-------+";
 
 #[test]
-fn columns_are_as_wide_as_the_widest_line(rt: HostRuntime) {
+fn rows_of_arrays_stand_in_order_as_wide_as_their_lines(rt: HostRuntime) {
     let a = rt.alloc();
-    let owned = pair(a).expect(&rt, MEMORY);
-    expect_found(&rt, text_of_pair(a, owned), Ok(PAIR));
+    expect_found(&rt, text_of_owned(a), Ok(PAIR));
     expect_found(&rt, text_of_pair(a, [["a", "bc"]]), Ok(PAIR));
     expect_found(&rt, text_of_lines(a), Ok(LINES));
     let rows = [["a", "bc"], ["def", "g"], ["h", "i"], ["j", "klmno"]];

@@ -35,6 +35,13 @@ fn prints_rows<T: Streamed>(rt: &impl Abort, alloc: Global, table: T, rows: usiz
     prints(rt, alloc, table, Ok(wanted.as_str()));
 }
 
+// A table of these rows whose setters are chained.
+fn chained() -> IterTable<RefusedRows> {
+    let mut table = IterTable::new(rows());
+    table.columns(1).width(1).sniff(1).rows(150);
+    table
+}
+
 // How many rows are sniffed.
 const SNIFFED: [usize; 4] = [0, 1, 101, 1000];
 
@@ -46,6 +53,7 @@ fn many_rows_are_printed_whole(rt: HostRuntime) {
     prints_rows(&rt, a, IterTable::new(rows()), 150, 300);
     let read = IterTable::from_rows(a, rows()).expect(&rt, MEMORY);
     prints_rows(&rt, a, read, 150, 300);
+    prints_rows(&rt, a, chained(), 150, 300);
     for sniff in SNIFFED {
         let all = [Columns(1), Width(1), Sniff(sniff), Rows(150)];
         prints_rows(&rt, a, table_of(rows(), &all), 150, 300);

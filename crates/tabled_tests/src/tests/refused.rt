@@ -6,7 +6,7 @@ use grid_records_rows::{Text, VecRecords};
 use std::alloc::Global;
 use std::process::Abort;
 use tabled::object::Cell;
-use tabled::{CellOption, Height, Table, TableOption, Width};
+use tabled::{CellOption, Height, Measurement, Table, TableOption, Width};
 use tabled_fakes::OutOfRange;
 use tabled_size_dimension::CompleteDimension;
 
@@ -66,8 +66,13 @@ fn a_refused_option_leaves_the_table(rt: HostRuntime) {
     stay_in_chains(&rt, rt.alloc());
 }
 
+// That a table stays that is wrapped at a width which is refused.
+fn stays_unwrapped<W: Measurement<Width> + Drop>(rt: &impl Abort, alloc: Global, width: W) {
+    stays(rt, alloc, Width::wrap(width), "wrap");
+}
+
 fn measure_tables(rt: &impl Abort, a: Global) {
-    stays(rt, a, Width::wrap(OutOfRange), "wrap");
+    stays_unwrapped(rt, a, OutOfRange);
     stays(rt, a, Width::truncate(OutOfRange), "truncate");
     stays(rt, a, Width::increase(OutOfRange), "increase");
     stays(rt, a, Width::justify(OutOfRange), "justify");

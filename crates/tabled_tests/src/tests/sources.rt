@@ -60,7 +60,7 @@ const TABLES: &[(Source, usize, usize, &str)] = &[
     (Source::Given(Given::One), 1, 1, "|x;"),
     (Source::Given(Given::Four), 2, 2, "|a|b;|c|;"),
     (Source::Given(Given::Ragged), 2, 2, "|a|b;|c|;"),
-    // a table that was a builder
+    // a table that went through a builder
     (Source::Given(Given::Extended), 3, 2, "|a|b;|c|;|d|;"),
 ];
 
