@@ -28,7 +28,7 @@ pub type Texts = Vec<Vec<&'static str>>;
 type Cells = &'static [&'static [&'static str]];
 
 /// These rows.
-pub fn rows_of(alloc: Global, cells: &[&[&'static str]]) -> Result<Texts, AllocError> {
+pub(crate) fn rows_of(alloc: Global, cells: &[&[&'static str]]) -> Result<Texts, AllocError> {
     let mut rows = Vec::new(alloc);
     for texts in cells {
         let mut row = Vec::new(alloc);

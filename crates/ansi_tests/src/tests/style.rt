@@ -15,7 +15,7 @@ fn style_after(sequences: &[&str]) -> Style {
     style
 }
 
-// Looks at the start and the end of a style, and at what they are read as.
+// Looks at the start and the end of a style, and at whether it is plain.
 fn expect_style(rt: &impl Abort, alloc: Global, style: Style, start: &str, end: &str) {
     expect_written(rt, alloc, &style.start(), start, start);
     expect_written(rt, alloc, &style.end(), end, start);
@@ -341,7 +341,7 @@ fn tests_of(style: &Style) -> [bool; 10] {
     ]
 }
 
-// A sequence, the colours of the style after it, and the place of the test that it alone answers, if one does.
+// A sequence, the colours of the style after it, and the place of the one test that says yes, if one does.
 const TOLD: &[(&str, Option<Color>, Option<Color>, Option<usize>)] = &[
     ("", None, None, None),
     ("\x1b[31;44m", Some(Color::Red), Some(Color::Blue), None),

@@ -143,7 +143,7 @@ fn gives_characters_of_each_short_text(rt: HostRuntime) {
     }
 }
 
-// A text of so many letters, drawn by a linear congruential generator.
+// A text of 24 letters, drawn by a linear congruential generator.
 fn long_text(rt: &impl Abort, alloc: Global, state: &mut u64) -> String {
     let mut text = String::new(alloc);
     for _ in 0..24 {

@@ -71,7 +71,7 @@ fn cells_are_cut(rt: HostRuntime) {
 }
 
 #[test]
-fn cells_are_filled_and_broken(rt: HostRuntime) {
+fn cells_are_cut_filled_and_broken(rt: HostRuntime) {
     let a = rt.alloc();
     let column = Width::truncate(1).priority(PriorityMax::left());
     let second = Entity::Column(1);

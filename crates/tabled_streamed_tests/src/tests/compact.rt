@@ -38,7 +38,7 @@ fn set<R: RecordTexts>(table: Begun<R>, call: Call) -> Begun<R> {
 }
 
 /// The table of these rows after these calls.
-pub fn table_of<R: RecordTexts>(rows: R, calls: &[Call]) -> Begun<R> {
+pub(crate) fn table_of<R: RecordTexts>(rows: R, calls: &[Call]) -> Begun<R> {
     let mut table = CompactTable::new(rows);
     for call in calls {
         table = set(table, *call);
@@ -58,7 +58,7 @@ fn table(
 }
 
 /// A table of these texts in two columns of these widths.
-pub fn listed(
+pub(crate) fn listed(
     rt: &impl Abort,
     alloc: Global,
     cells: &[&[&'static str]],
@@ -76,7 +76,7 @@ const THREE_WIDE: &[Call] = &[Columns(1), Width(3)];
 const SMALL: &str = "+---+\n| a |\n+---+";
 
 /// A table of one cell, of width 3.
-pub fn small(rt: &impl Abort, alloc: Global) -> Begun<Texts> {
+pub(crate) fn small(rt: &impl Abort, alloc: Global) -> Begun<Texts> {
     table(rt, alloc, ONE, THREE_WIDE)
 }
 

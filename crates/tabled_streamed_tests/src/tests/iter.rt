@@ -49,14 +49,14 @@ fn set_all<R: RecordTexts>(table: &mut IterTable<R>, calls: &[Call]) {
 }
 
 /// The table of these rows after these calls.
-pub fn table_of<R: RecordTexts>(rows: R, calls: &[Call]) -> IterTable<R> {
+pub(crate) fn table_of<R: RecordTexts>(rows: R, calls: &[Call]) -> IterTable<R> {
     let mut table = IterTable::new(rows);
     set_all(&mut table, calls);
     table
 }
 
 /// The same of these texts.
-pub fn table(
+pub(crate) fn table(
     rt: &impl Abort,
     alloc: Global,
     cells: &[&[&'static str]],
@@ -241,7 +241,7 @@ fn options_change_settings(rt: HostRuntime) {
 }
 
 /// The text of a table of these rows, which are read at once.
-pub fn text_of_read<R: IntoRecords>(alloc: Global, rows: R) -> Result<String, Fault> {
+pub(crate) fn text_of_read<R: IntoRecords>(alloc: Global, rows: R) -> Result<String, Fault> {
     let table = IterTable::from_rows(alloc, rows)?;
     table.to_string(alloc)
 }

@@ -105,7 +105,7 @@ impl Changed for IterTable<Texts> {
 }
 
 /// Changes the lines, the padding and the margin, if one is given, in a chain.
-pub fn chain<T: Changed>(
+pub(crate) fn chain<T: Changed>(
     alloc: Global,
     table: &mut T,
     padding: Padding,

@@ -20,7 +20,7 @@ pub const CHANGED: &[Change] = &[
 ];
 
 /// A table of one cell that was changed so.
-pub fn changed(alloc: Global) -> Result<Table, Fault> {
+pub(crate) fn changed(alloc: Global) -> Result<Table, Fault> {
     table_of(alloc, Source::Text("a"), CHANGED)
 }
 

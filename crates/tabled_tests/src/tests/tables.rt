@@ -55,7 +55,8 @@ pub type Texts = (&'static str, &'static str);
 /// Two rows of two texts.
 pub const SQUARE: Source = Source::Rows(("a", "b"), ("c", "d"));
 
-pub fn made(alloc: Global, source: Source) -> Result<Table, Fault> {
+/// The table that a source makes.
+pub(crate) fn made(alloc: Global, source: Source) -> Result<Table, Fault> {
     match source {
         Source::Nothing => Ok(Table::default(alloc)),
         Source::Headed(text) => Table::new(alloc, [text]),
@@ -150,7 +151,8 @@ pub type Sizes = (usize, usize, usize, usize);
 /// What fills the same sides.
 pub type Fills = (char, char, char, char);
 
-pub fn apply(alloc: Global, table: &mut Table, change: Change) -> Result<(), Fault> {
+/// Changes a table so, or says why that is refused.
+pub(crate) fn apply(alloc: Global, table: &mut Table, change: Change) -> Result<(), Fault> {
     match change {
         Change::Keeping => table.set(Keeping),
         Change::OutOfRange => table.set(OutOfRange),
@@ -321,7 +323,7 @@ fn apply_to_cells(table: &mut Table, target: Target, option: CellChange) -> Resu
 }
 
 /// Makes the changes, up to the first that is refused.
-pub fn apply_all(alloc: Global, table: &mut Table, changes: &[Change]) -> Result<(), Fault> {
+pub(crate) fn apply_all(alloc: Global, table: &mut Table, changes: &[Change]) -> Result<(), Fault> {
     for change in changes {
         apply(alloc, table, *change)?;
     }
@@ -329,7 +331,7 @@ pub fn apply_all(alloc: Global, table: &mut Table, changes: &[Change]) -> Result
 }
 
 /// A table that is made and changed.
-pub fn table_of(alloc: Global, source: Source, changes: &[Change]) -> Result<Table, Fault> {
+pub(crate) fn table_of(alloc: Global, source: Source, changes: &[Change]) -> Result<Table, Fault> {
     let mut table = made(alloc, source)?;
     if let Err(fault) = apply_all(alloc, &mut table, changes) {
         let_go(table);

@@ -12,7 +12,7 @@ const TEXT: &[u8] = b"+---+\n| a |\n+---+";
 pub type Written = (Result<(), BuildFault>, (u64, u64), usize);
 
 /// Writes a table to this writer: that `taken` bytes of its text are taken.
-pub fn expect_written(
+pub(crate) fn expect_written(
     rt: &impl Abort,
     table: &Table,
     writer: StepWriter,
