@@ -1,7 +1,7 @@
 # `rt` proves, builds and tests; `rt help` tells its commands. What follows only calls it.
 
 PROGRAM := crates/columns/out/columns
-TESTS := $(foreach crate,ansi_tests grid_config_tests grid_records_tests papergrid_tests tabled_list_tests tabled_size_tests tabled_streamed_tests,crates/$(crate)/out/$(crate)_tests)
+TESTS := $(foreach crate,ansi_tests grid_tests tabled_tests,crates/$(crate)/out/$(crate)_tests)
 INPUT ?= examples/nightly.tsv
 PREFIX ?= /usr/local
 

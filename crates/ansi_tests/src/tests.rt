@@ -7,10 +7,8 @@ use std::process::Abort;
 mod calls;
 mod cuts;
 mod edits;
-mod scan;
+mod rows;
 mod search;
-mod style;
-mod text;
 
 // The proof of a function grows faster than its calls, and most of all with each `?`. So the helpers end a
 // test where a call is refused, but for those that `tests/memory` needs.

@@ -1,9 +1,6 @@
-//! Tests of the libraries that make the tables of `columns`, by their public calls.
+//! Worked rows of `run` and of command lines. All other tests of the libraries that make the tables of `columns` stand in
+//! `tests/calls`.
 #![tactic(auto)]
 
-#[cfg(test)]
-mod cells;
-#[cfg(test)]
-mod fakes;
 #[cfg(test)]
 mod tests;

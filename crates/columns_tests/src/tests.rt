@@ -1,10 +1,6 @@
-//! What the tests share.
-mod counted;
-mod fault;
-mod input;
-mod narrowed;
+//! Tables that are written, and words that ask for them.
+mod printing;
+mod readers;
 mod run;
-mod sides;
-mod styles;
-mod tables;
 mod widths;
+mod words;

@@ -1,4 +1,5 @@
-//! Tests of `tabled`, of its steps and of its options. They stand apart, so that the libraries are proved once.
+//! Sizes, tables, and tables over a source: calls that `tests/memory` refuses memory, and rows that were worked out by
+//! hand. All other tests of these libraries stand in `tests/calls`.
 #![tactic(auto)]
 
 #[cfg(test)]

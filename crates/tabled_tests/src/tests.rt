@@ -1,55 +1,73 @@
-//! Tables as their makers and options leave them.
-use grid_config::Fault;
-use std::fmt::Debug;
+//! What the tests share.
+use grid_config::{Fault, Indent, Sides};
+use std::alloc::{AllocError, Global};
 use std::process::Abort;
-use tabled::Table;
+use tabled::{Amount, Padding, Setting};
+use tabled_size_priority::Choice;
 
-mod batches;
-mod chained;
-mod copies;
-mod foreign;
-mod in_widths;
-mod options;
+mod breaking;
+mod cuts;
+mod kept_sizes;
 mod printed;
 mod refused;
-mod sources;
-mod tables;
-mod totals;
-mod unprinted;
-mod writing;
+mod rows;
+mod sizes;
+mod streamed;
 
-// The proof of a function grows faster than its calls, and most of all with each `?`. So a case is data, one
-// helper makes the table that it names, and the helpers below take what a call returned, end the test where
-// it was refused, and let a table go in one place.
-const REFUSED: &str = "a call is refused";
-
-// Lets a value go that has many parts.
-fn let_go<T: Drop>(_value: T) {}
+// The proof of a function grows faster than its calls, and most of all with each `?`. So the helpers below
+// end a test where a call is refused, but for those that `tests/memory` needs, and a test has few calls.
+const MEMORY: &str = "memory is refused";
 
 // What has to hold.
 fn expect(rt: &impl Abort, holds: bool, what: &str) {
     assert!(rt; holds, "{what}");
 }
 
-// What was found.
-fn expect_same<T: PartialEq + Debug + Drop>(rt: &impl Abort, found: T, wanted: T, what: &str) {
-    assert_eq!(rt; found, wanted, "{what}");
+// What was found of a text.
+fn expect_text(rt: &impl Abort, found: &str, wanted: &str) {
+    assert_eq!(rt; found, wanted);
 }
 
-// What a call returned.
-fn expect_done(rt: &impl Abort, found: Result<(), Fault>, wanted: Result<(), Fault>, what: &str) {
-    expect_same(rt, found, wanted, what);
+// Lets a value go that has many parts.
+fn let_go<T: Drop>(_value: T) {}
+
+// A list of this setting alone.
+fn alone(alloc: Global, setting: Setting) -> Result<Vec<Setting>, AllocError> {
+    let mut list = Vec::new(alloc);
+    list.push(setting)?;
+    Ok(list)
 }
 
-// That the table was made, fits, and prints this text.
-fn prints(rt: &impl Abort, made: Result<Table, Fault>, text: &str) {
-    let table = made.expect(rt, REFUSED);
-    expect_picture(rt, &table, text);
-    let_go(table);
+// A list of three.
+fn three(
+    alloc: Global,
+    first: Setting,
+    second: Setting,
+    third: Setting,
+) -> Result<Vec<Setting>, AllocError> {
+    let mut list = Vec::new(alloc);
+    list.push(first)?;
+    list.push(second)?;
+    list.push(third)?;
+    Ok(list)
 }
 
-fn expect_picture(rt: &impl Abort, table: &Table, text: &str) {
-    expect_done(rt, table.fits(), Ok(()), text);
-    let printed = table.to_string().expect(rt, REFUSED);
-    expect_same(rt, printed.as_str(), text, "what a table prints");
+fn wrap(width: usize) -> Setting {
+    Setting::Wrap {
+        width: Amount::Exact(width),
+        keep_words: false,
+        priority: Choice::None,
+    }
+}
+
+fn spaced(left: usize, right: usize, top: usize, bottom: usize) -> Sides<Indent> {
+    Sides::from(Padding::new(left, right, top, bottom))
+}
+
+// The fault of a list that is refused.
+fn outcome(done: Result<(), (usize, Fault)>) -> Result<(), Fault> {
+    match done {
+        Ok(()) => Ok(()),
+        Err((_, fault)) => Err(fault),
+    }
 }

@@ -92,20 +92,6 @@ fn cuts(rt: HostRuntime) -> Result<(), Fail> {
     Ok(())
 }
 
-// A range that was gone through to its end is empty there.
-#[test]
-fn spent_range(rt: HostRuntime) {
-    let mut range = 0..=1;
-    let found = [range.next(), range.next(), range.next()];
-    expect(&rt, found == [Some(0), Some(1), None], "places", "0..=1");
-    expect(&rt, range.start_place() == 2, "the start", "0..=1");
-    expect(&rt, range.end_place() == Some(2), "the end", "0..=1");
-    let mut last = usize::MAX..=usize::MAX;
-    expect(&rt, last.next() == Some(usize::MAX), "the place", "MAX");
-    expect(&rt, last.start_place() == usize::MAX, "the start", "MAX");
-    expect(&rt, last.end_place() == None, "the end", "MAX");
-}
-
 // ---- splits at a place
 
 // A place past the end is the end.

@@ -4,11 +4,12 @@ ghost use Rattle.grid_config.specs.Compact.{compact_of};
 ghost use Rattle.columns_run.specs.Layout.{output_of};
 ghost use Rattle.columns_run.specs.Plain.{IsPlain};
 
-use super::counted::{expect_counts, expect_taken};
-use crate::fakes::ByteReader;
-use columns_run::{Counted, Options, RunFault, run, run_streamed, style_is_plain};
+use super::printing::{FAULTS, TABLES, WAYS, Way, defaults, expect_taken, print};
+use super::readers::ByteReader;
+use columns_run::{Counted, Options, RunFault, run, style_is_plain};
+use grid_config::{Indent, Sides};
 use std::alloc::Global;
-use std::io::{ErrorKind, Read, Write};
+use std::io::ErrorKind;
 use std::process::Abort;
 use tabled_fakes::StepWriter;
 
@@ -16,81 +17,6 @@ const INPUT: &[u8] = b"a\tb\n1\t2\n";
 
 // The table of `INPUT`.
 const TABLE: &[u8] = b"+---+---+\n| a | b |\n+---+---+\n| 1 | 2 |\n+---+---+\n";
-
-// Inputs, and their tables worked out by hand.
-pub const TABLES: &[(&str, &str)] = &[
-    ("", ""),
-    (
-        "a\tb\n1\t2\n",
-        "+---+---+\n| a | b |\n+---+---+\n| 1 | 2 |\n+---+---+\n",
-    ),
-    (
-        "\u{1b}[31mab\tc\n",
-        "+----+---+\n| \u{1b}[31mab\u{1b}[39m | \u{1b}[31mc\u{1b}[39m |\n+----+---+\n",
-    ),
-    (
-        "\u{1b}[1ma\nb\u{1b}[0m\n",
-        "+---+\n| \u{1b}[1ma\u{1b}[22m |\n+---+\n| \u{1b}[1mb\u{1b}[0m |\n+---+\n",
-    ),
-    (
-        "a\tb\nc\n",
-        "+---+---+\n| a | b |\n+---+---+\n| c |   |\n+---+---+\n",
-    ),
-    ("\n", "+--+\n|  |\n+--+\n"),
-    ("\u{1b}[31m", ""),
-    (
-        "\u{1b}]0;a\tb\u{7}x\n",
-        "+---+\n| \u{1b}]0;a\tb\u{7}x |\n+---+\n",
-    ),
-    (
-        "\u{1b}[31ma\u{1b}[31mb\n",
-        "+----+\n| \u{1b}[31ma\u{1b}[31mb\u{1b}[39m |\n+----+\n",
-    ),
-];
-
-// Inputs that have no table, and why.
-pub const FAULTS: &[(&[u8], RunFault)] = &[
-    (b"\x1b", RunFault::Escape { at: 0 }),
-    (b"a\xff", RunFault::NotUtf8 { at: 1 }),
-    (b"\x1b\xff", RunFault::NotUtf8 { at: 1 }),
-    (b"\x1b[31m\x1b[1", RunFault::Escape { at: 5 }),
-    (b"\x1b]0;a", RunFault::Escape { at: 0 }),
-];
-
-/// The call that prints a table.
-#[derive(Clone, Copy)]
-pub(crate) enum Way {
-    Whole,
-    Streamed,
-}
-
-/// Both.
-pub(crate) const WAYS: [Way; 2] = [Way::Whole, Way::Streamed];
-
-/// The defaults, whose style is plain.
-pub(crate) fn defaults(rt: &impl Abort) -> Options
-    ensures { IsPlain (compact_of result.style) }
-{
-    let options = Options::new();
-    assert!(rt; style_is_plain(&options.style));
-    options
-}
-
-/// What the call returns.
-pub(crate) fn print<R: Read, W: Write>(
-    way: Way,
-    alloc: Global,
-    options: &Options,
-    reader: &mut Counted<R>,
-    writer: &mut Counted<W>,
-) -> Result<(), RunFault>
-    requires { IsPlain (compact_of options.now.style) }
-{
-    match way {
-        Way::Whole => run(alloc, options, reader, writer),
-        Way::Streamed => run_streamed(alloc, &options.style, reader, writer),
-    }
-}
 
 // The contract of `run` tells its caller which bytes these are.
 fn table_bytes(alloc: Global, options: &Options, input: &[u8]) -> Result<Vec<u8>, RunFault>
@@ -141,25 +67,6 @@ fn refuses_what_is_no_whole_text(rt: HostRuntime) {
     for (input, fault) in FAULTS {
         expect_input_fault(&rt, rt.alloc(), Way::Whole, input, *fault);
         expect_input_fault(&rt, rt.alloc(), Way::Streamed, input, *fault);
-    }
-}
-
-fn expect_read_fault(rt: &impl Abort, alloc: Global, way: Way, kind: ErrorKind) {
-    for bad_call in 1..4 {
-        let mut reader = Counted::new(ByteReader::failing(b"\x1b\xff", bad_call, kind));
-        let mut writer = Counted::new(StepWriter::new(alloc, 1, 0));
-        let result = print(way, alloc, &defaults(rt), &mut reader, &mut writer);
-        assert_eq!(rt; result, Err(RunFault::Read), "at call {bad_call}");
-        expect_counts(rt, &reader, 1, 0);
-        expect_taken(rt, writer, (0, 0), b"");
-    }
-}
-
-#[test]
-fn a_read_that_fails_comes_first(rt: HostRuntime) {
-    for way in WAYS {
-        expect_read_fault(&rt, rt.alloc(), way, ErrorKind::Other);
-        expect_read_fault(&rt, rt.alloc(), way, ErrorKind::Interrupted);
     }
 }
 
@@ -223,4 +130,28 @@ fn a_writer_that_takes_nothing_is_refused(rt: HostRuntime) {
         expect_full(&rt, rt.alloc(), way);
         expect_closed(&rt, rt.alloc(), way);
     }
+}
+
+// A table past the greatest width is refused by that name.
+fn expect_range(rt: &impl Abort, alloc: Global, way: Way) {
+    let (none, endless) = (Indent::spaced(0), Indent::spaced(usize::MAX));
+    let style = defaults(rt)
+        .style
+        .set_padding(Sides::new(endless, none, none, none));
+    let options = Options {
+        style,
+        ..Options::new()
+    };
+    assert!(rt; style_is_plain(&options.style));
+    let mut reader = Counted::new(b"a\n".as_slice());
+    let mut writer = Counted::new(StepWriter::new(alloc, 1, 0));
+    let result = print(way, alloc, &options, &mut reader, &mut writer);
+    assert_eq!(rt; result, Err(RunFault::Range));
+    expect_taken(rt, writer, (0, 0), b"");
+}
+
+#[test]
+fn a_table_that_is_too_wide_is_refused(rt: HostRuntime) {
+    expect_range(&rt, rt.alloc(), Way::Whole);
+    expect_range(&rt, rt.alloc(), Way::Streamed);
 }

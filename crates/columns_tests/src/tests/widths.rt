@@ -1,22 +1,6 @@
 //! Tables in a width that is asked, worked out by hand.
-use super::counted::expect_taken;
-use super::run::{FAULTS, TABLES, defaults};
-use columns_run::{Counted, Options, RunFault, run, style_is_plain};
-use std::alloc::Global;
-use std::process::Abort;
-use tabled_fakes::StepWriter;
+use super::printing::{Case, expect_case};
 use tabled_size_priority::Choice;
-
-// What is asked, an input, and its table.
-#[derive(Clone, Copy)]
-struct Case {
-    width: Option<usize>,
-    truncate: bool,
-    keep_words: bool,
-    priority: Choice,
-    input: &'static str,
-    table: &'static str,
-}
 
 const CASES: &[Case] = &[
     // A text is wrapped, each line in its own colour.
@@ -147,106 +131,9 @@ const CASES: &[Case] = &[
     },
 ];
 
-const CHOICES: [Choice; 7] = [
-    Choice::None,
-    Choice::MinLeft,
-    Choice::MinRight,
-    Choice::MaxLeft,
-    Choice::MaxRight,
-    Choice::Left,
-    Choice::Right,
-];
-
-// Widths of no room, of little room, and of more than there is.
-const WIDTHS: [usize; 7] = [0, 1, 3, 7, 79, 1 << 63, usize::MAX];
-
-// Whether cells are cut, and whether words are kept.
-const MODES: [(bool, bool); 4] = [(false, false), (false, true), (true, false), (true, true)];
-
-fn expect_case(rt: &impl Abort, alloc: Global, case: &Case) {
-    let options = Options {
-        width: case.width,
-        truncate: case.truncate,
-        keep_words: case.keep_words,
-        priority: case.priority,
-        ..defaults(rt)
-    };
-    assert!(rt; style_is_plain(&options.style));
-    let mut reader = Counted::new(case.input.as_bytes());
-    let mut writer = Counted::new(StepWriter::new(alloc, 3, 0));
-    let result = run(alloc, &options, &mut reader, &mut writer);
-    assert_eq!(rt; result, Ok(()), "{}", case.input);
-    expect_taken(rt, writer, (0, 0), case.table.as_bytes());
-}
-
 #[test]
 fn keeps_to_the_width(rt: HostRuntime) {
     for case in CASES {
         expect_case(&rt, rt.alloc(), case);
-    }
-}
-
-// The result for an input at these options, and that nothing is written before it.
-fn expect_refusal(
-    rt: &impl Abort,
-    alloc: Global,
-    options: &Options,
-    input: &[u8],
-    fault: RunFault,
-) {
-    assert!(rt; style_is_plain(&options.style));
-    let mut reader = Counted::new(input);
-    let mut writer = Counted::new(StepWriter::new(alloc, 1, 0));
-    let result = run(alloc, options, &mut reader, &mut writer);
-    assert_eq!(rt; result, Err(fault), "{input:?}");
-    expect_taken(rt, writer, (0, 0), b"");
-}
-
-fn expect_refusals(rt: &impl Abort, alloc: Global, width: usize, priority: Choice) {
-    for (truncate, keep_words) in MODES {
-        let options = Options {
-            width: Some(width),
-            truncate,
-            keep_words,
-            priority,
-            ..defaults(rt)
-        };
-        for (input, fault) in FAULTS {
-            expect_refusal(rt, alloc, &options, input, *fault);
-        }
-    }
-}
-
-#[test]
-fn no_width_makes_an_input_good(rt: HostRuntime) {
-    for width in WIDTHS {
-        for priority in CHOICES {
-            expect_refusals(&rt, rt.alloc(), width, priority);
-        }
-    }
-}
-
-// The tables of a run without a width, in these options.
-fn expect_tables(rt: &impl Abort, alloc: Global, width: usize, priority: Choice) {
-    for (truncate, keep_words) in MODES {
-        for (input, table) in TABLES {
-            let case = Case {
-                width: Some(width),
-                truncate,
-                keep_words,
-                priority,
-                input,
-                table,
-            };
-            expect_case(rt, alloc, &case);
-        }
-    }
-}
-
-#[test]
-fn a_width_past_any_table_changes_none(rt: HostRuntime) {
-    for priority in CHOICES {
-        expect_tables(&rt, rt.alloc(), 1 << 63, priority);
-        expect_tables(&rt, rt.alloc(), usize::MAX, priority);
     }
 }

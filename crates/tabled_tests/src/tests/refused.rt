@@ -1,95 +1,80 @@
-//! Tables whose changes are refused by what a caller brings.
-use super::copies::{TEXT, changed};
-use super::{REFUSED, expect_done, prints};
-use grid_config::{ColoredConfig, Entity, Fault};
-use grid_records_rows::{Text, VecRecords};
-use std::alloc::Global;
+//! A refused setting leaves what those before it made of the table. `tests/memory` runs these tests with each
+//! request for memory refused in turn, and a refusal is handed on; the tests themselves ask for none behind it.
+use super::{let_go, spaced, three, wrap};
+use grid_config::{Entity, Fault, Position};
+use grid_records_traits::records::PeekableRecords;
 use std::process::Abort;
-use tabled::object::Cell;
-use tabled::{CellOption, Height, Measurement, Table, TableOption, Width};
-use tabled_fakes::OutOfRange;
-use tabled_size_dimension::CompleteDimension;
+use tabled::{Amount, Setting, Table};
 
-// That a change was refused as `Range`, and the table prints what it did, in the width that it keeps.
-fn is_left(rt: &impl Abort, table: Table, done: Result<(), Fault>, what: &str) {
-    expect_done(rt, done, Err(Fault::Range), what);
-    prints(rt, Ok(table), TEXT);
+const CELL: Position = Position { row: 0, col: 0 };
+
+// The text of a table of one cell, and the width that is kept.
+type State = (&'static str, Option<&'static [usize]>);
+
+// What the table is after none of the settings, after the first, and so on.
+const WRAPPED: &[State] = &[("Hello", None), ("Hel\nlo", Some(&[5]))];
+
+const FILLED: &[State] = &[
+    ("Hello", None),
+    ("Hello..", None),
+    ("Hello..", Some(&[12])),
+    ("Hello..\n", None),
+];
+
+// Whether the table is in this state, with no height that is kept and without a margin.
+fn is_in(table: &Table, state: &State) -> bool {
+    let (text, widths) = *state;
+    let sizes = table.get_dimension();
+    let margin = table.get_config().spanned().get_margin();
+    table.get_records().get_text(CELL) == text
+        && sizes.get_widths() == widths
+        && sizes.get_heights() == None
+        && margin.left.size == 0
 }
 
-// That a table stays that refuses this option.
-fn stays<O: TableOption<VecRecords<Text>, ColoredConfig, CompleteDimension> + Drop>(
+// Runs a list of three, and looks for the state that goes with the settings that were taken. A refusal for
+// memory is handed on.
+fn run(
     rt: &impl Abort,
-    alloc: Global,
-    option: O,
-    what: &str,
-) {
-    let mut table = changed(alloc).expect(rt, REFUSED);
-    let done = table.set(option);
-    is_left(rt, table, done, what);
-}
-
-// That a table stays that refuses this option of its cell.
-fn stays_in_its_cell<O: CellOption<VecRecords<Text>, ColoredConfig>>(
-    rt: &impl Abort,
-    alloc: Global,
-    option: &O,
-    what: &str,
-) {
-    let mut table = changed(alloc).expect(rt, REFUSED);
-    let done = table.set_cells(Cell::new(0, 0), option);
-    is_left(rt, table, done, what);
-}
-
-fn chained(table: &mut Table) -> Result<(), Fault> {
-    table.with(OutOfRange)?;
-    Ok(())
-}
-
-fn modified(table: &mut Table) -> Result<(), Fault> {
-    table.modify(Entity::Global, &OutOfRange)?;
-    Ok(())
-}
-
-// A table stays that refuses an option of a chain, and then one of its cells.
-fn stay_in_chains(rt: &impl Abort, alloc: Global) {
-    let mut table = changed(alloc).expect(rt, REFUSED);
-    let first = chained(&mut table);
-    let second = modified(&mut table);
-    expect_done(rt, first, Err(Fault::Range), "an option of a chain");
-    is_left(rt, table, second, "an option of cells in a chain");
+    table: &mut Table,
+    settings: &[Setting],
+    states: &[State],
+) -> Result<(), Fault> {
+    let (taken, outcome) = match table.with_list(settings) {
+        Ok(()) => (3, Ok(())),
+        Err((index, fault)) => (index, Err(fault)),
+    };
+    let is_wanted = states.get(taken).is_some_and(|state| is_in(table, state));
+    assert!(rt; is_wanted, "the table after {taken} settings");
+    outcome
 }
 
 #[test]
-fn a_refused_option_leaves_the_table(rt: HostRuntime) {
-    stays(&rt, rt.alloc(), OutOfRange, "an option");
-    stays_in_its_cell(&rt, rt.alloc(), &OutOfRange, "an option of a cell");
-    stay_in_chains(&rt, rt.alloc());
-}
-
-// That a table stays that is wrapped at a width which is refused.
-fn stays_unwrapped<W: Measurement<Width> + Drop>(rt: &impl Abort, alloc: Global, width: W) {
-    stays(rt, alloc, Width::wrap(width), "wrap");
-}
-
-fn measure_tables(rt: &impl Abort, a: Global) {
-    stays_unwrapped(rt, a, OutOfRange);
-    stays(rt, a, Width::truncate(OutOfRange), "truncate");
-    stays(rt, a, Width::increase(OutOfRange), "increase");
-    stays(rt, a, Width::justify(OutOfRange), "justify");
-    stays(rt, a, Height::increase(OutOfRange), "increase of lines");
-    stays(rt, a, Height::limit(OutOfRange), "limit of lines");
-}
-
-fn measure_cells(rt: &impl Abort, a: Global) {
-    stays_in_its_cell(rt, a, &Width::wrap(OutOfRange), "wrap");
-    stays_in_its_cell(rt, a, &Width::truncate(OutOfRange), "truncate");
-    stays_in_its_cell(rt, a, &Width::increase(OutOfRange), "increase");
-    stays_in_its_cell(rt, a, &Height::increase(OutOfRange), "more lines");
-    stays_in_its_cell(rt, a, &Height::limit(OutOfRange), "fewer lines");
+fn leaves_a_broken_text(rt: HostRuntime) -> Result<(), Fault> {
+    let (span, margin) = (
+        Setting::ColumnSpan(CELL, 0),
+        Setting::Margin(spaced(1, 1, 1, 1)),
+    );
+    let settings = three(rt.alloc(), wrap(7), span, margin)?;
+    let mut table = Table::nohead(rt.alloc(), ["Hello"])?;
+    let outcome = run(&rt, &mut table, &settings, WRAPPED);
+    let_go(table);
+    match outcome {
+        Err(Fault::Spans) => Ok(()),
+        other => other,
+    }
 }
 
 #[test]
-fn a_refused_measurement_leaves_the_table(rt: HostRuntime) {
-    measure_tables(&rt, rt.alloc());
-    measure_cells(&rt, rt.alloc());
+fn leaves_a_filled_text(rt: HostRuntime) -> Result<(), Fault> {
+    let (at, fill) = (Entity::Global, '.');
+    let (width, height) = (Amount::Exact(7), Amount::Exact(2));
+    let filled = Setting::CellMinWidth { at, width, fill };
+    let wide = Setting::WidthList(Vec::from_slice(rt.alloc(), &[12])?);
+    let high = Setting::CellHeightIncrease { at, height };
+    let settings = three(rt.alloc(), filled, wide, high)?;
+    let mut table = Table::nohead(rt.alloc(), ["Hello"])?;
+    let outcome = run(&rt, &mut table, &settings, FILLED);
+    let_go(table);
+    outcome
 }

@@ -1,0 +1,6 @@
+//! Settings, records and grids: calls that `tests/memory` refuses memory, and rows that were worked out by hand. All
+//! other tests of these libraries stand in `tests/calls`.
+#![tactic(auto)]
+
+#[cfg(test)]
+mod tests;

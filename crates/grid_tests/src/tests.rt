@@ -1,0 +1,31 @@
+//! What the tests share.
+use sized::{Table, records_of};
+use std::fmt::Debug;
+use std::process::Abort;
+
+mod grids;
+mod keeping;
+mod lines;
+mod nine_rows;
+mod plain;
+mod records;
+mod refusing;
+mod settings;
+mod sized;
+
+// The proof of a function grows faster than its calls, and most of all with each `?`. So the tests of worked
+// rows end where memory is refused, and the others hand a refusal on.
+const MEMORY: &str = "memory is refused";
+
+// What was found, and of what.
+fn expect_same<T: PartialEq + Debug + Drop>(rt: &impl Abort, found: T, wanted: T, what: &str) {
+    assert_eq!(rt; found, wanted, "of {what:?}");
+}
+
+// What has to hold.
+fn expect(rt: &impl Abort, holds: bool, what: &str) {
+    assert!(rt; holds, "of {what:?}");
+}
+
+// Lets a value go that has many parts.
+fn let_go<T: Drop>(_value: T) {}

@@ -1,3 +1,0 @@
-//! What was counted by hand.
-mod settings;
-mod texts;

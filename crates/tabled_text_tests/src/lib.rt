@@ -1,5 +1,0 @@
-//! Tests of `tabled_text`. They stand apart, so that the library is proved once.
-#![tactic(auto)]
-
-#[cfg(test)]
-mod tests;
