@@ -21,7 +21,7 @@ enum Set {
     Green,
 }
 
-fn set(alloc: Global, cfg: &mut ColoredConfig, value: Set) -> Result<(), Fault> {
+fn apply(alloc: Global, cfg: &mut ColoredConfig, value: Set) -> Result<(), Fault> {
     let settings = cfg.spanned_mut();
     match value {
         Right => settings.set_alignment_horizontal(Entity::Global, AlignmentHorizontal::Right),
@@ -86,7 +86,7 @@ fn settings(rt: &impl Abort, alloc: Global, values: &[Set]) -> ColoredConfig {
     let mut cfg = ColoredConfig::new(SpannedConfig::new(alloc));
     cfg.spanned_mut().set_borders(ASCII);
     for value in values {
-        set(alloc, &mut cfg, *value).expect(rt, MEMORY);
+        apply(alloc, &mut cfg, *value).expect(rt, MEMORY);
     }
     cfg
 }
