@@ -13,11 +13,16 @@ WORDS ?=
 # Standard input is taken as it comes and not opened anew.
 FROM = $(if $(filter /dev/stdin -,$(INPUT)),,< '$(INPUT)')
 
+# No rule of make's own makes a source file; so it looks for none.
+MAKEFLAGS += --no-builtin-rules
 .NOTPARALLEL:
-.PHONY: run test check fmt bench attack install clean help
+.PHONY: run build test check fmt bench attack install dist clean help
 
-run: $(PROGRAM)     ## print the table of INPUT (INPUT=/dev/stdin reads standard input) as WORDS ask
-	@$(PROGRAM) $(WORDS) $(FROM)
+# Where the program is not built, this is a run of a minute that is checked, and not proved.
+run:                ## print the table of INPUT (INPUT=/dev/stdin reads standard input) as WORDS ask
+	@tools/try $(WORDS) $(FROM)
+
+build: $(PROGRAM)   ## prove and build the program, which takes half an hour at first
 
 test:               ## the gate: every proof, every test, then the built program from outside
 	@tests/run
@@ -43,8 +48,11 @@ install: $(PROGRAM) ## put the program, its manual page and completions into PRE
 	install -m 644 completions/_columns '$(DESTDIR)$(PREFIX)/share/zsh/site-functions/_columns'
 	install -m 644 completions/columns.fish '$(DESTDIR)$(PREFIX)/share/fish/vendor_completions.d/columns.fish'
 
+dist: $(PROGRAM)    ## pack the program and what `install` puts beside it into dist/, for Linux on x86-64
+	@tools/dist
+
 clean:              ## remove everything that was built or generated
-	rm -rf crates/*/out bench/data
+	rm -rf crates/*/out bench/data dist
 	find . -name __pycache__ -prune -exec rm -rf {} +
 
 help:               ## this list
