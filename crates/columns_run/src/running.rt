@@ -40,7 +40,8 @@ pub fn run<R: Read, W: Write>(
         Serves options.now input result (W.contents (inner_of writer.old)) (W.contents (inner_of writer.new))
         × LeavesAlone options.now input writer.old writer.new) }
 
-    // Where they are not, the same holds of some bytes that the reader gave.
+    // Where they are not, the same holds of some bytes. Nothing but the counts below ties these to what the
+    // reader gave.
     ensures some_input { ConsumesSome (R.remaining (inner_of reader.old))
         (R.remaining (inner_of reader.new)) (λ input.
         Serves options.now input result (W.contents (inner_of writer.old)) (W.contents (inner_of writer.new))
@@ -87,7 +88,8 @@ pub fn run_streamed<R: Read, W: Write>(
         Serves (without_width style.now) input result (W.contents (inner_of writer.old)) (W.contents (inner_of writer.new))
         × LeavesAlone (without_width style.now) input writer.old writer.new) }
 
-    // Where they are not, the same holds of some bytes that the reader gave.
+    // Where they are not, the same holds of some bytes. Nothing but the counts below ties these to what the
+    // reader gave.
     ensures some_input { ConsumesSome (R.remaining (inner_of reader.old))
         (R.remaining (inner_of reader.new)) (λ input.
         Serves (without_width style.now) input result (W.contents (inner_of writer.old)) (W.contents (inner_of writer.new))

@@ -1,6 +1,7 @@
 pub mod Tables
 pub mod Lending
 pub mod Printing
+pub mod Writing
 pub mod Layout
 pub mod Making
 pub mod Totals

@@ -113,7 +113,8 @@ impl<T: FromText> Table<T> {
         Ok(())
     }
 
-    /// The table, changed by an option as `set` changes it.
+    /// The table, changed by an option, with no promise of what a refused one leaves: `set` has it. Else as
+    /// `set`.
     pub fn with<O: TableOption<VecRecords<T>, ColoredConfig, CompleteDimension>>(
         &mut self,
         option: O,
@@ -126,7 +127,8 @@ impl<T: FromText> Table<T> {
         Ok(self)
     }
 
-    /// The table, its target changed by an option as `set_cells` changes it.
+    /// The table, its target changed by an option, with no promise of what a refused one leaves:
+    /// `set_cells` has it. Else as `set_cells`.
     pub fn modify<O: CellOption<VecRecords<T>, ColoredConfig>>(
         &mut self,
         target: Entity,

@@ -8,7 +8,8 @@ use tabled_output::WriteFault;
 /// Why a table was not written to its end.
 #[derive(Clone, Copy, Debug, PartialEq, Eq)]
 pub enum BuildFault {
-    /// The table has no text, or allocation failed. Nothing was written.
+    /// The table has no text, and nothing was written; or allocation failed, and nothing was written but,
+    /// of a `Table`, perhaps a front of its text.
     Table(Fault),
     /// The writer failed in this call, by an error of any kind.
     Write,

@@ -114,7 +114,8 @@ impl<I: RecordTexts> IterTable<I> {
         option.change(alloc, &mut self.records, &mut self.config, &mut sizes)
     }
 
-    /// The table, changed by an option as `set` changes it.
+    /// The table, changed by an option, with no promise of what a refused one leaves: `set` has it. Else as
+    /// `set`.
     pub fn with<O: TableOption<I, CompactConfig, ZeroDimension>>(
         &mut self,
         alloc: Global,

@@ -3,7 +3,8 @@ ghost use Rattle.std.specs.Io.KnownBytes.{Appends};
 ghost use Rattle.std.specs.Prelude.{◌≡◌, [], IfErr, IsErrOf, Ok, OnOk};
 ghost use Rattle.tabled.specs.Printing.{IsFit, printed};
 ghost use Rattle.tabled.specs.Tables.{state_of};
-ghost use Rattle.tabled_compact.specs.Building.{BuildRefusal, NoTable};
+ghost use Rattle.tabled.specs.Writing.{HasNoText};
+ghost use Rattle.tabled_compact.specs.Building.{BuildRefusal};
 ghost use Rattle.tabled_output.specs.Counts.{FailsIff, OnlyWrites, TakesNothingIff, inner_of};
 ghost use Rattle.tabled_output.specs.Streams.{AppendsFront};
 
@@ -14,14 +15,15 @@ use tabled_compact::BuildFault;
 use tabled_output::{Counted, write_all};
 
 impl<T: FromText> Table<T> {
-    /// Makes the whole text, as `to_string`, and then writes it. A table that has no text, or none
-    /// because allocation fails, leaves the writer alone. It gives up with `Write` at the first error of
-    /// any kind, and with `WriteZero` where the writer takes nothing; a front of the text is then
-    /// written, and the writer isn't called again. Nothing is flushed.
+    /// Writes the text of `to_string`. A table that has none leaves the writer alone. It gives up with
+    /// `Write` at the first error of any kind, with `WriteZero` where the writer takes nothing, and with
+    /// `Table(Memory)` where allocation fails; a front of the text, or nothing, is then written, and the
+    /// writer isn't called again. Nothing is flushed.
+    #[tactic(auto, using(crate::proofs::Untouched::front_of_nothing))]
     pub fn build<W: Write>(&self, writer: &mut Counted<W>) -> Result<(), BuildFault>
         ensures whole { OnOk result (Appends (W.contents (inner_of writer.old)) (W.contents (inner_of writer.new)) (printed (state_of T.text self.now))) }
-        ensures front { IfErr result (λ fault. ¬ (NoTable fault) → AppendsFront (W.contents (inner_of writer.old)) (W.contents (inner_of writer.new)) (printed (state_of T.text self.now))) }
-        ensures untouched { IfErr result (λ fault. NoTable fault → writer.new ≡ writer.old) }
+        ensures front { IfErr result (λ fault. ¬ (HasNoText fault) → AppendsFront (W.contents (inner_of writer.old)) (W.contents (inner_of writer.new)) (printed (state_of T.text self.now))) }
+        ensures untouched { IfErr result (λ fault. HasNoText fault → writer.new ≡ writer.old) }
         ensures nothing { printed (state_of T.text self.now) ≡ [] → writer.new ≡ writer.old }
         ensures fits { OnOk result (IsFit (state_of T.text self.now) (Ok tt)) }
         ensures table { IfErr result (BuildRefusal (IsFit (state_of T.text self.now) (Ok tt)) (IsFit (state_of T.text self.now))) }
