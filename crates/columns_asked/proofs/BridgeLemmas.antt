@@ -89,7 +89,7 @@ lines-one width keep_words some (line ∷ lines) (xs ∷ shown) all =
     ap (λ (found : List (List Styled)). found ∷ shown) first
     ∙ ap (λ (rest : List (List (List Styled))). broken_line character_of in_plain width keep_words line ∷ rest) (lines-one width keep_words some lines shown all.1)
 
-flat-map : {A B : Type 0} (f : A → List B) (xs : List A) → flat_map (λ ys. ys) (map f xs) ≡ flat_map f xs
+pub flat-map : {A B : Type 0} (f : A → List B) (xs : List A) → flat_map (λ ys. ys) (map f xs) ≡ flat_map f xs
 flat-map f [] = refl
 flat-map f (x ∷ xs) = ap (λ rest. f x ++ rest) (flat-map f xs)
 

@@ -2,6 +2,8 @@ pub mod BridgeLemmas
 pub mod SizeLemmas
 pub mod TableLemmas
 pub mod CharacterLemmas
+pub mod RunsShown
+pub mod ResizedLemmas
 pub mod StrippedLemmas
 pub mod PlainTextLemmas
 pub mod ShrunkLemmas

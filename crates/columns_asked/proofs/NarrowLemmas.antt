@@ -1,18 +1,21 @@
 -- Widths that are shrunk in place are those of the narrower table.
-use Rattle.std.proofs.Common.{◌≡◌, ◌-◌, ◌<◌, ◌≤◌, ℕ, Bool, true, false, List, [], ◌∷◌, ◌++◌, None, Some, length, map, take, drop, get_or, replicate, nat_le, refl, ap, sym, ◌∙◌, arith, if◌then◌else◌}
+use Rattle.std.proofs.Common.{◌≡◌, ◌-◌, ◌<◌, ◌≤◌, ◌+◌, ℕ, zero, suc, Bool, true, false, List, [], ◌∷◌, ◌++◌, None, Some, length, map, max, sum, take, drop, get_or, slice_index, replicate, nat_le, refl, ap, sym, ◌∙◌, arith, if◌then◌else◌}
+use Rattle.std.specs.List.{range_with_len}
 use Rattle.std.proofs.Math.Seq.{take-append_seam}
 use Rattle.std.proofs.lemmas.Bool.Decides.{nat_tests}
+use Rattle.std.proofs.lemmas.List.{length-map}
 use Rattle.std.proofs.lemmas.List.FromFn.{length-map-range_with_len}
 use Rattle.grid_config.specs.Compact.{Compact}
+use Rattle.papergrid_picture.proofs.ByNumber.{by_number}
 use Rattle.tabled_size_priority.specs.Choices.{IsShrunkByChoice}
 use Rattle.tabled_size_priority.specs.Columns.{by_width, from_column, from_side}
-use Rattle.tabled_size_priority.specs.Shrinking.{IsOfForm, cut_to_level, given_in_order, given_in_turns, shrunk_in_order, shrunk_in_turns, shrunk_to_level}
+use Rattle.tabled_size_priority.specs.Shrinking.{IsOfForm, cut_to_level, floor_of, floors, given_in_order, given_in_turns, shrunk_in_order, shrunk_in_turns, shrunk_sum, shrunk_to_level}
 use Rattle.tabled_size_priority.specs.declared.choice.Choice.{Choice}
 use Rattle.tabled_size_priority.specs.declared.choice.Choice.TheVariants.{None as InTurns, MinLeft, MinRight, MaxLeft, MaxRight, Left, Right}
 use Rattle.columns_asked.specs.Asked.{Asked}
 use Rattle.columns_asked.specs.Layout.{narrow, paddings}
 use Rattle.columns_asked.specs.Shrunk.{shrunk_list}
-use Rattle.columns_asked.proofs.ShrunkLemmas.{shrunk_list-one}
+use Rattle.columns_asked.proofs.ShrunkLemmas.{shrunk_list-meets, shrunk_list-one}
 
 -- ---- as many widths
 
@@ -69,3 +72,40 @@ pub narrowed-none : (style : Compact) (asked : Asked) (widths : List ℕ) (total
 narrowed-none style asked widths total width is_width less =
     ap (narrow style asked widths total) is_width
     ∙ ap (λ (test : Bool). if test then None else Some (shrunk_list asked.priority (map (λ _. paddings style) widths) (total - width) widths)) (fitting total width less)
+
+-- ---- what the narrower widths sum to
+
+pub map-below : {X : Type 0} (f g : ℕ → X) (a n : ℕ) → ((k : ℕ) → a ≤ k → k < a + n → f k ≡ g k) → map f (range_with_len a n) ≡ map g (range_with_len a n)
+map-below f g a zero h = refl
+map-below f g a (suc n) h =
+    ap (λ x. x ∷ map f (range_with_len (a + 1) n)) (h a (omega arith) (omega arith))
+    ∙ ap (λ xs. g a ∷ xs) (map-below f g (a + 1) n (λ k low high. h k (omega (arith, low)) (omega (arith, high))))
+
+-- what a priority leaves sums to what is asked of it, but to no less than the floors
+shrunk-sum : (priority : Choice) (least : List ℕ) (by : ℕ) (widths sizes : List ℕ) → IsShrunkByChoice priority least by widths sizes → sum sizes ≡ shrunk_sum least widths by
+shrunk-sum InTurns least by widths sizes is = is.sums
+shrunk-sum MinLeft least by widths sizes is = is.sums
+shrunk-sum MinRight least by widths sizes is = is.sums
+shrunk-sum MaxLeft least by widths sizes is = is.sums
+shrunk-sum MaxRight least by widths sizes is = is.sums
+shrunk-sum Left least by widths sizes is = is.sums
+shrunk-sum Right least by widths sizes is = is.sums
+
+least-at : (p : ℕ) (widths : List ℕ) (k : ℕ) → get_or (map (λ _. p) widths) k 0 ≤ p
+least-at p [] k = omega arith
+least-at p (w ∷ widths) zero = omega arith
+least-at p (w ∷ widths) (suc k) = least-at p widths k
+
+-- where no width is below the least of all, the floors are the leasts
+floors-least : (p : ℕ) (widths : List ℕ) → ((k : ℕ) → k < length widths → p ≤ slice_index widths k) → floors (map (λ _. p) widths) widths ≡ map (λ _. p) widths
+floors-least p widths enough =
+    let least : List ℕ = map (λ _. p) widths in
+    map-below (floor_of least widths) (slice_index least) 0 (length widths) (λ k low high. let more = enough k (omega (arith, high)) in let less = least-at p widths k in omega (arith, more, less))
+    ∙ by_number least (length widths) (length-map widths (λ _. p))
+
+pub shrunk-leaves : (priority : Choice) (p by : ℕ) (widths : List ℕ) → ((k : ℕ) → k < length widths → p ≤ slice_index widths k)
+    → sum (shrunk_list priority (map (λ _. p) widths) by widths) ≡ max (sum widths - by) (sum (map (λ _. p) widths))
+shrunk-leaves priority p by widths enough =
+    let least : List ℕ = map (λ _. p) widths in
+    shrunk-sum priority least by widths (shrunk_list priority least by widths) (shrunk_list-meets priority least by widths)
+    ∙ ap (λ (found : List ℕ). max (sum widths - by) (sum found)) (floors-least p widths enough)

@@ -14,6 +14,7 @@ ghost use Rattle.tabled_size_priority.specs.declared.choice.Choice.{Choice};
 ghost use Rattle.tabled_size_priority.specs.declared.choice.Choice.TheVariants.{None as InTurns, MaxLeft};
 ghost use Rattle.columns_asked.specs.Asked.{Asked, Resize};
 ghost use Rattle.columns_asked.specs.Layout.{AskedFits, asked_characters, asked_frame, asked_picture, asked_text, asked_widths, ended, heights_of, kept_cells, kept_texts, too_wide};
+ghost use Rattle.columns_asked.specs.Resized.{IsResizedCell};
 ghost use Rattle.columns_asked.specs.Resizing.{resized, resized_text};
 ghost use Rattle.columns_asked.specs.Shrunk.{shrunk_list};
 ghost use Rattle.columns_asked.specs.Worked.{ascii_settings, cuts, no_width, one_row, wraps};
@@ -50,6 +51,18 @@ pub fn resized_texts_show_resized_cells()
     ensures shown { (resize : Resize) (text : List ℕ) → IsWholeText text →
         styled (pieces (resized_text resize text)) ≡ resized character_of in_plain resize (styled (pieces text)) }
     ensures whole { (resize : Resize) (text : List ℕ) → IsWholeText text → IsWholeText (resized_text resize text) }
+{}
+
+/// What becomes of a cell, whatever walk finds it: one that is cut shows the longest front of it that fits, and
+/// U+FFFD in the columns that are lacking; one that is broken shows, line by line, runs of its units, each the
+/// longest that fits of what the ones before it left. The functions that walk give such a cell, and no other
+/// cell is one. So it is of texts, by what their pieces show.
+pub fn resized_cells_are_longest_fronts_and_runs<X>()
+    ensures meets { (character : X → ℕ) (bare : ℕ → X) (resize : Resize) (cell : List X) → IsResizedCell character bare resize cell (resized character bare resize cell) }
+    ensures one { (character : X → ℕ) (bare : ℕ → X) (resize : Resize) (cell made : List X) →
+        IsResizedCell character bare resize cell made → made ≡ resized character bare resize cell }
+    ensures texts { (resize : Resize) (text : List ℕ) (ps qs : List Piece) → IsWholeText text → ArePiecesOf text ps → ArePiecesOf (resized_text resize text) qs →
+        IsResizedCell character_of in_plain resize (styled ps) (styled qs) }
 {}
 
 /// The texts that a table keeps once its cells are resized show the cells of the picture; and the table of

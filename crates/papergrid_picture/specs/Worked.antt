@@ -145,6 +145,30 @@ sided = record {
   bottom = Some (record { prefix = codes "*"; suffix = codes "*" });
 }
 
+-- a colour that writes this character before its text, and a point after it
+abbrev pub before_point : ℕ → Option Color
+before_point character = Some (record { prefix = character ∷ []; suffix = 0x2e ∷ [] })
+
+-- a colour of its own at each place: that of the glyph which `lettered` has there, by its capital letter
+abbrev pub capitals : Borders Color
+capitals = record {
+  top_left = before_point 0x41;
+  top = before_point 0x42;
+  top_intersection = before_point 0x43;
+  top_right = before_point 0x44;
+  left = before_point 0x45;
+  vertical = before_point 0x46;
+  right = before_point 0x47;
+  left_intersection = before_point 0x48;
+  horizontal = before_point 0x49;
+  intersection = before_point 0x4a;
+  right_intersection = before_point 0x4b;
+  bottom_left = before_point 0x4c;
+  bottom = before_point 0x4d;
+  bottom_intersection = before_point 0x4e;
+  bottom_right = before_point 0x4f;
+}
+
 abbrev pub indent : ℕ → ℕ → Indent
 indent size character = record { size = size; fill = character }
 

@@ -23,7 +23,7 @@ ghost use Rattle.papergrid_picture.specs.Reading.{Reading, grid_items};
 ghost use Rattle.papergrid_picture.specs.Shown.{ArePlainTexts, ArePlainlyShown, AreWholeTexts, CostsOne, IsBare, IsReadBy, KeepsLineEnds, Shows, ShowsOnly, Styled, character_of, character_picture, characters_of, stripped_texts, styled_picture, styled_texts};
 ghost use Rattle.papergrid_picture.specs.Tables.{table_grid, table_line, table_lines, table_text};
 ghost use Rattle.papergrid_picture.specs.Tiling.{BeginsBehindMargin, HasGoodSpans, HasRoom, IsLineOf, ShowsAllLines, ShowsBlock, ShowsPlace, Tiles};
-ghost use Rattle.papergrid_picture.specs.Worked.{ascii, bracketed, cells, crossed, drawn, drawn_in, drawn_unmeasured, each_its_own, extents, half_bracketed, hidden_cell, joined, lettered, named, no_top, outer, padded, plain, red_rows, round_bracketed, sided, span, spaced, with_margins};
+ghost use Rattle.papergrid_picture.specs.Worked.{ascii, bracketed, capitals, cells, crossed, drawn, drawn_in, drawn_unmeasured, each_its_own, extents, half_bracketed, hidden_cell, joined, lettered, named, no_top, outer, padded, plain, red_rows, round_bracketed, sided, span, spaced, with_margins};
 
 /// Pictures that were worked out by hand: two by two cells; cells of two lines to the right, with one
 /// indent and line by line; a cell of three lines in a row of two; a line in the middle of four, where
@@ -97,8 +97,9 @@ pub fn worked_edges()
 /// Colours, worked out by hand: a cell's text; a boundary line, whose neighbours in one colour are
 /// coloured together, past a column of width 0, whatever colour it has, and past a boundary that is absent,
 /// but not past a cell that goes on there, be it of width 0; two colours that begin or end in different
-/// ways; a text of no bytes, which has no colour; paddings and margins, each side in its own colour; two
-/// cells, each with its own settings and colour; the justification, in two parts, of a blank line too.
+/// ways; fifteen different glyphs, each in a colour of its own; a text of no bytes, which has no colour;
+/// paddings and margins, each side in its own colour; two cells, each with its own settings and colour; the
+/// justification, in two parts, of a blank line too.
 pub fn worked_colors()
     ensures text { drawn_in (λ _. Some bracketed) plain (1 ∷ []) (1 ∷ []) (cells (codes "a" ∷ []) ∷ [])
         ≡ joined (codes "+-+" ∷ codes "|[a]|" ∷ codes "+-+" ∷ []) }
@@ -116,6 +117,8 @@ pub fn worked_colors()
         ≡ joined (codes "+[-][+)[-]+" ∷ codes "|a|b|" ∷ codes "+-+-+" ∷ []) }
     ensures two_prefixes { drawn (record plain { borders_color = record no_borders { top = Some bracketed; top_intersection = Some round_bracketed } }) (1 ∷ 1 ∷ []) (1 ∷ []) (cells (codes "a" ∷ codes "b" ∷ []) ∷ [])
         ≡ joined (codes "+[-](+][-]+" ∷ codes "|a|b|" ∷ codes "+-+-+" ∷ []) }
+    ensures all_places { drawn (record plain { borders = lettered; borders_color = capitals }) (1 ∷ 1 ∷ []) (1 ∷ 1 ∷ []) (cells (codes "1" ∷ codes "2" ∷ []) ∷ cells (codes "3" ∷ codes "4" ∷ []) ∷ [])
+        ≡ joined (codes "Aa.Bb.Cc.Bb.Dd." ∷ codes "Ee.1Ff.2Gg." ∷ codes "Hh.Ii.Jj.Ii.Kk." ∷ codes "Ee.3Ff.4Gg." ∷ codes "Ll.Mm.Nn.Mm.Oo." ∷ []) }
     ensures past_a_cell { drawn (record plain { extent = extents (span 0 1 2 1 ∷ []); borders_color = record no_borders { horizontal = Some bracketed; intersection = Some bracketed } })
         (1 ∷ 1 ∷ 1 ∷ []) (0 ∷ 1 ∷ []) (cells (codes "a" ∷ codes "b" ∷ codes "c" ∷ []) ∷ cells (codes "d" ∷ codes "e" ∷ codes "f" ∷ []) ∷ [])
         ≡ joined (codes "+-+-+-+" ∷ codes "+[-+]b[+-]+" ∷ codes "|d| |f|" ∷ codes "+-+-+-+" ∷ []) }
@@ -260,7 +263,8 @@ pub fn worked_readings()
 {}
 
 /// The lines of a cell that are kept, worked out by hand: without blank lines at both ends, and without white
-/// space at the ends of a line; a text of blank lines keeps none.
+/// space at the ends of a line; a text of blank lines keeps none. White space is a tab, a no-break space, an
+/// ideographic space and a line separator too, but not a space of no width.
 pub fn worked_trims()
     ensures both { cell_lines true true (codes "\n  a \n\n") ≡ codes "a" ∷ [] }
     ensures measured { cell_measures true true (codes "\n  a \n\n") ≡ 1 ∷ [] }
@@ -268,4 +272,7 @@ pub fn worked_trims()
     ensures inner { cell_lines false true (codes "\na\n\nb\n") ≡ codes "a" ∷ [] ∷ codes "b" ∷ [] }
     ensures horizontal { cell_lines true false (codes "\n  a ") ≡ [] ∷ codes "a" ∷ [] }
     ensures blank { cell_lines false true (codes " \n") ≡ [] }
+    ensures white_space { cell_lines false true (encode_utf8_all (codes "\t\u{a0}\na\n\u{3000}\n\u{2028}")) ≡ codes "a" ∷ [] }
+    ensures white_ends { cell_lines true false (encode_utf8_all (codes "\t\u{a0}a\u{3000}\u{2028}")) ≡ codes "a" ∷ [] }
+    ensures no_width { cell_lines true true (encode_utf8_all (codes "\u{200b}")) ≡ encode_utf8_all (codes "\u{200b}") ∷ [] }
 {}

@@ -2,12 +2,14 @@
 ghost use Rattle.std.specs.Prelude.{◌≡◌, ◌↔◌, ◌+◌, ◌^◌, ℕ, Bool, List, Option, [], ◌∷◌, true, false, length};
 ghost use Rattle.std.specs.declared.cmp.Ordering.TheVariants.{Equal};
 ghost use Rattle.tabled_size_priority.specs.Columns.{from_side};
+ghost use Rattle.tabled_size_priority.specs.Choices.{IsGrownByChoice, IsShrunkByChoice};
 ghost use Rattle.tabled_size_priority.specs.Growing.{IsGrownByNarrowest, IsGrownByWidest, IsGrownFromSide, IsGrownInTurns, grown_to_level};
 ghost use Rattle.tabled_size_priority.specs.Levels.{AreAtLeast, AreAtMost, CouldBeGrown, CouldBeShrunk, IsGreatestLevel, IsLeastLevel};
-ghost use Rattle.tabled_size_priority.specs.Peaks.{narrowest_peaks, side_peaks, turn_peaks, widest_peaks};
+ghost use Rattle.tabled_size_priority.specs.Peaks.{narrowest_peaks, side_peaks, start_of, turn_peaks, widest_peaks};
 ghost use Rattle.tabled_size_priority.specs.Shrinking.{IsOfForm, IsShrunkByNarrowest, IsShrunkByWidest, IsShrunkFromSide, IsShrunkInTurns, shrunk_sum, shrunk_to_level};
 ghost use Rattle.tabled_size_priority.specs.Turns.{grows_in_turns, shrinks_in_turns};
 ghost use Rattle.tabled_size_priority.specs.declared.choice.Choice.{Choice as OneChoice};
+ghost use Rattle.tabled_size_priority.specs.declared.choice.Choice.TheVariants.{None as InTurns, MinLeft, MinRight, MaxLeft, MaxRight, Left, Right};
 ghost use Rattle.tabled_size_priority.specs.declared.left.PriorityLeft.{PriorityLeft as FromLeft};
 ghost use Rattle.tabled_size_priority.specs.declared.right.PriorityRight.{PriorityRight as FromRight};
 
@@ -135,6 +137,51 @@ pub fn sides_are_kept()
     ensures grown_by_widest { (side after : Bool) (widths sizes : List ℕ) (by : ℕ) → ⟦<PriorityMax as Peaker>⟧.grows side by widths after sizes → after ≡ side }
     ensures shrunk_by_narrowest { (side after : Bool) (least widths sizes : List ℕ) (by : ℕ) → ⟦<PriorityMin as Peaker>⟧.shrinks side least by widths after sizes → after ≡ side }
     ensures grown_by_narrowest { (side after : Bool) (widths sizes : List ℕ) (by : ℕ) → ⟦<PriorityMin as Peaker>⟧.grows side by widths after sizes → after ≡ side }
+{}
+
+/// What a priority makes of widths is the list of its closed form, so that the laws on those lists hold of what
+/// `shrink` and `grow` leave: from its side, by the widest or the narrowest with its side for ties, or in
+/// turns from the column at which it goes on.
+pub fn priorities_make_the_lists_of_their_forms()
+    ensures shrunk_from_left { (before after : FromLeft) (least widths sizes : List ℕ) (by : ℕ) → ⟦<PriorityLeft as Peaker>⟧.shrinks before least by widths after sizes → IsShrunkFromSide false least by widths sizes }
+    ensures grown_from_left { (before after : FromLeft) (widths sizes : List ℕ) (by : ℕ) → ⟦<PriorityLeft as Peaker>⟧.grows before by widths after sizes → IsGrownFromSide false by widths sizes }
+    ensures shrunk_from_right { (before after : FromRight) (least widths sizes : List ℕ) (by : ℕ) → ⟦<PriorityRight as Peaker>⟧.shrinks before least by widths after sizes → IsShrunkFromSide true least by widths sizes }
+    ensures grown_from_right { (before after : FromRight) (widths sizes : List ℕ) (by : ℕ) → ⟦<PriorityRight as Peaker>⟧.grows before by widths after sizes → IsGrownFromSide true by widths sizes }
+    ensures shrunk_by_widest { (side after : Bool) (least widths sizes : List ℕ) (by : ℕ) → ⟦<PriorityMax as Peaker>⟧.shrinks side least by widths after sizes → IsShrunkByWidest side least by widths sizes }
+    ensures grown_by_widest { (side after : Bool) (widths sizes : List ℕ) (by : ℕ) → ⟦<PriorityMax as Peaker>⟧.grows side by widths after sizes → IsGrownByWidest side by widths sizes }
+    ensures shrunk_by_narrowest { (side after : Bool) (least widths sizes : List ℕ) (by : ℕ) → ⟦<PriorityMin as Peaker>⟧.shrinks side least by widths after sizes → IsShrunkByNarrowest side least by widths sizes }
+    ensures grown_by_narrowest { (side after : Bool) (widths sizes : List ℕ) (by : ℕ) → ⟦<PriorityMin as Peaker>⟧.grows side by widths after sizes → IsGrownByNarrowest side by widths sizes }
+    ensures shrunk_in_turns { (next after : ℕ) (least widths sizes : List ℕ) (by : ℕ) → ⟦<PriorityNone as Peaker>⟧.shrinks next least by widths after sizes → IsShrunkInTurns (start_of next (length widths)) least by widths sizes }
+    ensures grown_in_turns { (next after : ℕ) (widths sizes : List ℕ) (by : ℕ) → ⟦<PriorityNone as Peaker>⟧.grows next by widths after sizes → IsGrownInTurns (start_of next (length widths)) by widths sizes }
+{}
+
+/// What `PriorityMax::shrink` leaves has the least greatest width, and what `PriorityMin::grow` leaves the greatest
+/// least width, where there are columns and none is 0: of all lists between the floors and the widths, or at or
+/// above the widths, with the same sum.
+pub fn priorities_leave_the_best_lists()
+    ensures widest { (side after : Bool) (least widths sizes others : List ℕ) (by most : ℕ) →
+        ⟦<PriorityMax as Peaker>⟧.shrinks side least by widths after sizes → CouldBeShrunk least widths sizes others → AreAtMost others most → AreAtMost sizes most }
+    ensures narrowest { (side after : Bool) (widths sizes others : List ℕ) (by fewest : ℕ) →
+        AreAtLeast widths 1 → ⟦<PriorityMin as Peaker>⟧.grows side by widths after sizes → CouldBeGrown widths sizes others → AreAtLeast others fewest → AreAtLeast sizes fewest }
+{}
+
+/// A name makes of widths what its priority, as its constructor gives it, makes of them: in turns from the first
+/// column, from the narrowest or the widest with the side for ties, or from a side.
+pub fn names_stand_for_their_priorities()
+    ensures shrunk_in_turns { (after : ℕ) (least widths sizes : List ℕ) (by : ℕ) → ⟦<PriorityNone as Peaker>⟧.shrinks 0 least by widths after sizes → IsShrunkByChoice InTurns least by widths sizes }
+    ensures shrunk_by_narrowest_left { (least widths sizes : List ℕ) (by : ℕ) → (IsShrunkByChoice MinLeft least by widths sizes ↔ ⟦<PriorityMin as Peaker>⟧.shrinks false least by widths false sizes) }
+    ensures shrunk_by_narrowest_right { (least widths sizes : List ℕ) (by : ℕ) → (IsShrunkByChoice MinRight least by widths sizes ↔ ⟦<PriorityMin as Peaker>⟧.shrinks true least by widths true sizes) }
+    ensures shrunk_by_widest_left { (least widths sizes : List ℕ) (by : ℕ) → (IsShrunkByChoice MaxLeft least by widths sizes ↔ ⟦<PriorityMax as Peaker>⟧.shrinks false least by widths false sizes) }
+    ensures shrunk_by_widest_right { (least widths sizes : List ℕ) (by : ℕ) → (IsShrunkByChoice MaxRight least by widths sizes ↔ ⟦<PriorityMax as Peaker>⟧.shrinks true least by widths true sizes) }
+    ensures shrunk_from_left { (before after : FromLeft) (least widths sizes : List ℕ) (by : ℕ) → (IsShrunkByChoice Left least by widths sizes ↔ ⟦<PriorityLeft as Peaker>⟧.shrinks before least by widths after sizes) }
+    ensures shrunk_from_right { (before after : FromRight) (least widths sizes : List ℕ) (by : ℕ) → (IsShrunkByChoice Right least by widths sizes ↔ ⟦<PriorityRight as Peaker>⟧.shrinks before least by widths after sizes) }
+    ensures grown_in_turns { (after : ℕ) (widths sizes : List ℕ) (by : ℕ) → ⟦<PriorityNone as Peaker>⟧.grows 0 by widths after sizes → IsGrownByChoice InTurns by widths sizes }
+    ensures grown_by_narrowest_left { (widths sizes : List ℕ) (by : ℕ) → (IsGrownByChoice MinLeft by widths sizes ↔ ⟦<PriorityMin as Peaker>⟧.grows false by widths false sizes) }
+    ensures grown_by_narrowest_right { (widths sizes : List ℕ) (by : ℕ) → (IsGrownByChoice MinRight by widths sizes ↔ ⟦<PriorityMin as Peaker>⟧.grows true by widths true sizes) }
+    ensures grown_by_widest_left { (widths sizes : List ℕ) (by : ℕ) → (IsGrownByChoice MaxLeft by widths sizes ↔ ⟦<PriorityMax as Peaker>⟧.grows false by widths false sizes) }
+    ensures grown_by_widest_right { (widths sizes : List ℕ) (by : ℕ) → (IsGrownByChoice MaxRight by widths sizes ↔ ⟦<PriorityMax as Peaker>⟧.grows true by widths true sizes) }
+    ensures grown_from_left { (before after : FromLeft) (widths sizes : List ℕ) (by : ℕ) → (IsGrownByChoice Left by widths sizes ↔ ⟦<PriorityLeft as Peaker>⟧.grows before by widths after sizes) }
+    ensures grown_from_right { (before after : FromRight) (widths sizes : List ℕ) (by : ℕ) → (IsGrownByChoice Right by widths sizes ↔ ⟦<PriorityRight as Peaker>⟧.grows before by widths after sizes) }
 {}
 
 /// A priority names the column of its kind, whether one is to give or to grow.

@@ -1,4 +1,5 @@
 pub mod UnitLemmas
+pub mod FrontLemmas
 pub mod RunLemmas
 pub mod LongestLemmas
 pub mod FewestLemmas

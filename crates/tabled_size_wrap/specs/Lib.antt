@@ -6,6 +6,7 @@ pub mod Runs
 pub mod Standing
 pub mod Room
 pub mod Showing
+pub mod Fronts
 pub mod Worked
 pub mod Bytes
 pub mod Staying

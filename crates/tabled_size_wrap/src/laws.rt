@@ -97,12 +97,13 @@ pub fn wrapped_lines_fit()
 {}
 
 /// Wraps worked out by hand: words are kept; a character that costs more than the width takes the columns
-/// that are left, or those of a new line; each line opens and ends its own styles; at width 0 nothing is
-/// left.
+/// that are left, or those of a new line, be they one or two, with U+FFFD in each; each line opens and ends
+/// its own styles; at width 0 nothing is left.
 pub fn worked_wraps()
     ensures words { WrapsTo 4 true (codes "111 234 1") (codes "111 \n234 \n1") }
     ensures marks { WrapsTo 1 false (encode_utf8_all (codes "😳12😳3"))
         (encode_utf8_all (codes "�\n1\n2\n�\n3")) }
+    ensures marks_in_each { WrapsTo 2 false (encode_utf8_all (codes "៘a៘b")) (encode_utf8_all (codes "��\na�\nb")) }
     ensures mark_between { WrapsTo 1 false (encode_utf8_all (codes "a😳b")) (encode_utf8_all (codes "a\n�\nb")) }
     ensures styles { WrapsTo 7 true (codes "\u{1b}[37mHello World\u{1b}[0m")
         (codes "\u{1b}[37mHello \u{1b}[39m\n\u{1b}[37mWorld\u{1b}[0m") }
@@ -110,13 +111,14 @@ pub fn worked_wraps()
 {}
 
 /// Cuts worked out by hand: sequences stay, also those after the cut that end the style; a line feed ends
-/// a line; a column that a wide character can't fill is marked.
+/// a line; a column that a wide character can't fill is marked, and so are two.
 pub fn worked_cuts()
     ensures all_sequences { CutsTo 0 (codes "\u{1b}[31;100m123456\u{1b}[39m\u{1b}[49m") (codes "\u{1b}[31;100m\u{1b}[39m\u{1b}[49m") }
     ensures styles { CutsTo 3 (codes "\u{1b}[31;100m123456\u{1b}[39m\u{1b}[49m") (codes "\u{1b}[31;100m123\u{1b}[39m\u{1b}[49m") }
     ensures whole { CutsTo 10 (codes "\u{1b}[31;100m123456\u{1b}[39m\u{1b}[49m") (codes "\u{1b}[31;100m123456\u{1b}[39m\u{1b}[49m") }
     ensures mark { CutsTo 3 (encode_utf8_all (codes "😳😳😳😳😳"))
         (encode_utf8_all (codes "😳�")) }
+    ensures marks { CutsTo 3 (encode_utf8_all (codes "a៘b")) (encode_utf8_all (codes "a��")) }
     ensures first_line { CutsTo 3 (codes "123\n456789") (codes "123") }
     ensures second_line { CutsTo 4 (codes "123\n456789") (codes "123\n4567") }
 {}

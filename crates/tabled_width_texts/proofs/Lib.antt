@@ -1,3 +1,4 @@
 pub mod Measuring
 pub mod Lining
 pub mod Keeping
+pub mod Fronts

@@ -6,6 +6,7 @@ mod cutting;
 mod filling;
 mod justifying;
 mod last;
+pub mod laws;
 mod lines;
 mod room;
 

@@ -13,4 +13,4 @@ use Rattle.papergrid_picture.proofs.laws.worked_trims.Goals as goal
 
 pub returns : goal.returns
 unfolding text_lines trimmed trim_start trim_end pieces first_pieces front at_escape sequence_front opened control_from string_from escape_from applied after_parameters plain_attributes start_bytes start_sequences end_bytes end_sequences digits str_width step past_emoji chars encode
-returns c = record { both = refl; measured = refl; vertical = refl; inner = refl; horizontal = refl; blank = refl }
+returns c = record { both = refl; measured = refl; vertical = refl; inner = refl; horizontal = refl; blank = refl; white_space = refl; white_ends = refl; no_width = refl }

@@ -3,6 +3,8 @@ use Rattle.std.specs.Fmt.{digits}
 use Rattle.std.specs.Prelude.{codes, encode_utf8_all}
 use Rattle.std.proofs.Common.{replicate, ◌-◌, [], ◌∷◌, ◌++◌, refl, ap}
 use Rattle.std.proofs.Math.Utf8.{encode}
+use Rattle.ucd_table.specs.Rows.{value_in}
+use Rattle.unicode_width.specs.Kind.{kind as width_kind, named_kind, named_rows}
 use Rattle.unicode_width.specs.Width.{alone, char_width, past_emoji, step, str_width}
 use Rattle.ansi_scan.specs.declared.items.Kind.TheVariants.{Text, Sgr}
 use Rattle.ansi_scan.specs.Pieces.{pieces, first_pieces, front as pieces_front, at_escape, sequence_front, opened, control_from, string_from, escape_from}
@@ -53,6 +55,15 @@ returns-clause-second_line c =
     let text = codes "123\n456789" in
     let ps = record { kind = Text; bytes = text } ∷ [] in
     cuts-worked 4 text (codes "123\n4567") ps text (codes "123\n4567") (codes "89") refl refl refl refl refl refl
+
+-- U+17D8 takes three columns
+pub returns-clause-marks : goal.returns-clause-marks
+unfolding pieces first_pieces pieces_front at_escape sequence_front opened control_from string_from escape_from matches_from first_match applied after_parameters plain_attributes start_bytes start_sequences end_bytes end_sequences digits encode char_width str_width step past_emoji alone width_kind named_kind named_rows value_in
+returns-clause-marks c =
+    let cs = codes "a៘b" in
+    let text = encode_utf8_all cs in
+    let ps = record { kind = Text; bytes = text } ∷ [] in
+    cuts-worked 3 text (encode_utf8_all (codes "a��")) ps cs (codes "a") (codes "៘b") refl refl refl refl refl refl
 
 pub returns-clause-mark : goal.returns-clause-mark
 unfolding pieces first_pieces pieces_front at_escape sequence_front opened control_from string_from escape_from matches_from first_match applied after_parameters plain_attributes start_bytes start_sequences end_bytes end_sequences digits encode char_width str_width step past_emoji alone

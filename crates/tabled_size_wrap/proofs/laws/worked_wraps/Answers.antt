@@ -3,6 +3,8 @@ use Rattle.std.specs.Fmt.{digits}
 use Rattle.std.specs.Prelude.{codes, encode_utf8_all}
 use Rattle.std.proofs.Common.{[], ◌∷◌, List, ℕ, refl, ap, sym, arith, true, false, ◌<◌}
 use Rattle.std.proofs.Math.Utf8.{encode}
+use Rattle.ucd_table.specs.Rows.{value_in}
+use Rattle.unicode_width.specs.Kind.{kind as width_kind, named_kind, named_rows}
 use Rattle.unicode_width.specs.Width.{alone, char_width, past_emoji, step, str_width}
 use Rattle.ansi_scan.specs.declared.items.Kind.TheVariants.{Text, Sgr}
 use Rattle.ansi_scan.specs.Pieces.{pieces, first_pieces, front as pieces_front, at_escape, sequence_front, opened, control_from, string_from, escape_from}
@@ -47,6 +49,19 @@ returns-clause-marks c =
     (line-worked 1 false text ps cs (unit (wide ∷ []) 2 ∷ one ∷ two ∷ unit (wide ∷ []) 2 ∷ three ∷ []) lines refl refl refl
     (ap (λ (u : LineUnit). u ∷ one ∷ two ∷ u ∷ three ∷ []) wide-unit) refl)
     refl
+
+-- U+17D8 takes three columns
+pub returns-clause-marks_in_each : goal.returns-clause-marks_in_each
+unfolding pieces first_pieces pieces_front at_escape sequence_front opened control_from string_from escape_from matches_from first_match applied after_parameters plain_attributes start_bytes start_sequences end_bytes end_sequences digits encode char_width str_width step past_emoji alone unit width_kind named_kind named_rows value_in
+returns-clause-marks_in_each c =
+    let some : 0 < 2 = omega arith in
+    let cs = codes "៘a៘b" in
+    let text = encode_utf8_all cs in
+    let ps = record { kind = Text; bytes = text } ∷ [] in
+    let three = unit (0x17d8 ∷ []) 3 in
+    let lines = encode_utf8_all (codes "��") ∷ encode_utf8_all (codes "a�") ∷ codes "b" ∷ [] in
+    wraps-worked 2 false text text (encode_utf8_all (codes "��\na�\nb")) ps lines some refl refl refl
+    (line-worked 2 false text ps cs (three ∷ unit (codes "a") 1 ∷ three ∷ unit (codes "b") 1 ∷ []) lines refl refl refl refl refl) refl
 
 pub returns-clause-mark_between : goal.returns-clause-mark_between
 unfolding pieces first_pieces pieces_front at_escape sequence_front opened control_from string_from escape_from matches_from first_match applied after_parameters plain_attributes start_bytes start_sequences end_bytes end_sequences digits encode char_width str_width step past_emoji alone unit
