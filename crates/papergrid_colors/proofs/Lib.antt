@@ -1,0 +1,9 @@
+pub mod ClosedLines
+pub mod UncoloredGrids
+pub mod PaintedLines
+pub mod CellLemmas
+pub mod LineLemmas
+pub mod PictureLemmas
+pub mod CharacterLemmas
+pub mod StrippedLemmas
+pub mod PieceLemmas

@@ -1,0 +1,5 @@
+use Rattle.papergrid_colors.proofs.CharacterLemmas.{characters-colored, feeds-plain}
+use Rattle.papergrid_colors.proofs.laws.colored_characters.Goals as goal
+
+pub returns : goal.returns
+returns c = record { characters = characters-colored; line_feeds = feeds-plain }

@@ -1,0 +1,4 @@
+pub mod ClosingColors
+pub mod ColoredPicture
+pub mod ColoredLines
+pub mod Worked
