@@ -10,12 +10,11 @@ use Rattle.ansi_scan.proofs.Uniqueness.{pieces-ArePiecesOf}
 use Rattle.ansi_str.specs.StyledText.{has_escape, strip}
 use Rattle.ansi_str_text.proofs.Stripping.{has_escape-strip, strip-without_escape}
 use Rattle.ansi_str_search.proofs.RestLemmas.{no_escape-behind}
-use Rattle.grid_config.specs.Compact.{compact_of}
 use Rattle.columns_asked.specs.Layout.{AskedFits, too_wide}
-use Rattle.columns_run.specs.Layout.{TableFits, asked_of, texts_of, wide_cell}
-use Rattle.columns_options.specs.declared.options.Options.{Options}
+use Rattle.columns_run.specs.Layout.{TableFits, texts_of, wide_cell}
 use Rattle.columns_run.specs.Rows.{stripped}
 use Rattle.columns_run.specs.Run.{HasTable}
+use Rattle.columns_run.specs.Wanted.{Wanted}
 use Rattle.ansi_str_text.proofs.Utf8Pieces.{IsUtf8-stripped}
 
 -- a broken piece holds an ESC
@@ -47,22 +46,22 @@ stripped-strip : (input : List ℕ) (ps : List Piece) → ArePiecesOf input ps �
 stripped-strip input ps of_input =
     ap strip (pieces-ArePiecesOf input ps of_input) ∙ sym (strip-without_escape (strip ps) (pieces (strip ps)) (ArePiecesOf-pieces (strip ps)) (has_escape-strip input ps of_input))
 
-pub fits-strip : (options : Options) (input : List ℕ) (ps : List Piece) → ArePiecesOf input ps → (TableFits options (strip ps) ↔ TableFits options input)
+pub fits-strip : (wanted : Wanted) (input : List ℕ) (ps : List Piece) → ArePiecesOf input ps → (TableFits wanted (strip ps) ↔ TableFits wanted input)
 unfolding TableFits
-fits-strip options input ps of_input =
-    let Fits : List ℕ → Type 0 = λ bytes. AskedFits (compact_of options.style) (asked_of options) (texts_of (chars bytes)) in
+fits-strip wanted input ps of_input =
+    let Fits : List ℕ → Type 0 = λ bytes. AskedFits wanted.style wanted.asked (texts_of (chars bytes)) in
     let same = stripped-strip input ps of_input in
     (λ fits. subst Fits (sym same) fits, λ fits. subst Fits same fits)
 
-pub wide_cell-strip : (options : Options) (input : List ℕ) (ps : List Piece) → ArePiecesOf input ps → wide_cell options (strip ps) ≡ wide_cell options input
+pub wide_cell-strip : (wanted : Wanted) (input : List ℕ) (ps : List Piece) → ArePiecesOf input ps → wide_cell wanted (strip ps) ≡ wide_cell wanted input
 unfolding wide_cell
-wide_cell-strip options input ps of_input =
-    ap (λ bytes. too_wide (compact_of options.style) (asked_of options) (texts_of (chars bytes))) (sym (stripped-strip input ps of_input))
+wide_cell-strip wanted input ps of_input =
+    ap (λ bytes. too_wide wanted.style wanted.asked (texts_of (chars bytes))) (sym (stripped-strip input ps of_input))
 
-pub HasTable-strip : (options : Options) (input : List ℕ) (ps : List Piece) → ArePiecesOf input ps → HasTable options input → HasTable options (strip ps)
-HasTable-strip options input ps of_input has = (
+pub HasTable-strip : (wanted : Wanted) (input : List ℕ) (ps : List Piece) → ArePiecesOf input ps → HasTable wanted input → HasTable wanted (strip ps)
+HasTable-strip wanted input ps of_input has = (
   IsUtf8-stripped input ps has.0 of_input,
   IsWhole-plain (strip ps) (has_escape-strip input ps of_input),
-  (fits-strip options input ps of_input).1 has.2,
-  wide_cell-strip options input ps of_input ∙ has.3,
+  (fits-strip wanted input ps of_input).1 has.2,
+  wide_cell-strip wanted input ps of_input ∙ has.3,
 )

@@ -8,8 +8,7 @@ use Rattle.std.proofs.lemmas.List.Folds.{flat_map-map}
 use Rattle.ansi_scan.specs.Pieces.{pieces}
 use Rattle.columns_asked.specs.Layout.{asked_text, asked_widths, by_column, heights_of, kept_texts, narrowed, resize_in}
 use Rattle.columns_asked.specs.Resizing.{resized_text}
-use Rattle.columns_options.specs.declared.options.Options.{Options}
-use Rattle.grid_config.specs.Compact.{Compact, compact_of}
+use Rattle.grid_config.specs.Compact.{Compact}
 use Rattle.grid_config.specs.Looks.{compact_look}
 use Rattle.grid_config.specs.Colors.{Color}
 use Rattle.grid_config_values.specs.declared.position.Position.{Position}
@@ -27,9 +26,10 @@ use Rattle.papergrid_picture.specs.Picture.{Piece, parts_of, picture_line}
 use Rattle.papergrid_picture.specs.Reading.{Reading, content_items, painted, part_items}
 use Rattle.papergrid_picture.specs.Shown.{IsBare, IsShown, WritesNothing}
 use Rattle.papergrid_picture.specs.Tables.{in_bytes, table_grid, table_line}
-use Rattle.columns_run.specs.Layout.{asked_of, grid_of, kept_of, line_bytes, output_of, piece_bytes, resize_of}
+use Rattle.columns_run.specs.Layout.{grid_of, kept_of, line_bytes, output_of, piece_bytes, resize_of}
 use Rattle.columns_run.specs.Plain.{IsPlain}
 use Rattle.columns_run.specs.Rows.{cell_parts}
+use Rattle.columns_run.specs.Wanted.{Wanted}
 use Rattle.columns_run.proofs.PlainLemmas.{bare}
 
 -- ---- lines
@@ -76,13 +76,13 @@ module _ (style : Compact) (plain : IsBare (compact_look style)) (texts : List (
 
 -- ---- the table of a text
 
-module _ (options : Options) (input : List ℕ) where
+module _ (wanted : Wanted) (input : List ℕ) where
   -- the output is the lines of its grid
-  pub output-lines : IsPlain (compact_of options.style) → output_of options input ≡ flat_map (λ y. line_bytes options input y ++ line_feed ∷ []) (range_with_len 0 (line_count (grid_of options input).frame))
+  pub output-lines : IsPlain wanted.style → output_of wanted input ≡ flat_map (λ y. line_bytes wanted input y ++ line_feed ∷ []) (range_with_len 0 (line_count (grid_of wanted input).frame))
   unfolding output_of asked_text grid_of kept_of piece_bytes
   output-lines plain =
-      let style = compact_of options.style in
-      let asked = asked_of options in
+      let style = wanted.style in
+      let asked = wanted.asked in
       let kept = kept_texts style asked (cell_parts input) in
       let widths = asked_widths style asked (cell_parts input) in
       let heights = heights_of style kept in
@@ -99,19 +99,19 @@ module _ (options : Options) (input : List ℕ) where
       let all : length lines ≤ length (shown_lines (pieces text)) = omega (arith, length-text_lines text) in
       ap (λ (found : List (List ℕ)). get_or found k []) (map-id _ ∙ take_all (length (shown_lines (pieces text))) lines all)
 
-  pub piece-text : (piece : Piece) (cell : Position) (k : ℕ) → piece.part.content ≡ TextLine cell k → piece_bytes options input piece ≡ get_or (text_lines (text_at (kept_of options input) cell)) k []
+  pub piece-text : (piece : Piece) (cell : Position) (k : ℕ) → piece.part.content ≡ TextLine cell k → piece_bytes wanted input piece ≡ get_or (text_lines (text_at (kept_of wanted input) cell)) k []
   unfolding piece_bytes
   piece-text piece cell k is =
-      ap (λ (content : Content). content_items (in_bytes (compact_look (compact_of options.style)) (kept_of options input)) content piece.part.width) is
-      ∙ line-text (text_at (kept_of options input) cell) k
+      ap (λ (content : Content). content_items (in_bytes (compact_look wanted.style) (kept_of wanted input)) content piece.part.width) is
+      ∙ line-text (text_at (kept_of wanted input) cell) k
 
-  pub piece-fill : (piece : Piece) (c : ℕ) → piece.part.content ≡ Fill c → piece_bytes options input piece ≡ flat_map encode_utf8 (replicate piece.part.width c)
+  pub piece-fill : (piece : Piece) (c : ℕ) → piece.part.content ≡ Fill c → piece_bytes wanted input piece ≡ flat_map encode_utf8 (replicate piece.part.width c)
   unfolding piece_bytes
-  piece-fill piece c is = ap (λ (content : Content). content_items (in_bytes (compact_look (compact_of options.style)) (kept_of options input)) content piece.part.width) is
+  piece-fill piece c is = ap (λ (content : Content). content_items (in_bytes (compact_look wanted.style) (kept_of wanted input)) content piece.part.width) is
 
-  pub piece-glyph : (piece : Piece) (c : ℕ) → piece.part.content ≡ Glyph c → piece_bytes options input piece ≡ flat_map encode_utf8 (replicate piece.part.width c)
+  pub piece-glyph : (piece : Piece) (c : ℕ) → piece.part.content ≡ Glyph c → piece_bytes wanted input piece ≡ flat_map encode_utf8 (replicate piece.part.width c)
   unfolding piece_bytes
-  piece-glyph piece c is = ap (λ (content : Content). content_items (in_bytes (compact_look (compact_of options.style)) (kept_of options input)) content piece.part.width) is
+  piece-glyph piece c is = ap (λ (content : Content). content_items (in_bytes (compact_look wanted.style) (kept_of wanted input)) content piece.part.width) is
 
 -- ---- cells
 
@@ -123,11 +123,11 @@ by_column-at f first (suc j) (text ∷ row) inside =
     by_column-at f (first + 1) j row (omega (arith, inside)) ∙ ap (λ n. f n (get_or row j [])) same
 
 -- a cell that is kept is the part of the text, resized
-pub kept-resized : (options : Options) (input : List ℕ) (cell : Position) → IsInside (cell_parts input) cell → text_at (kept_of options input) cell ≡ resized_text (resize_of options input cell.col) (text_at (cell_parts input) cell)
+pub kept-resized : (wanted : Wanted) (input : List ℕ) (cell : Position) → IsInside (cell_parts input) cell → text_at (kept_of wanted input) cell ≡ resized_text (resize_of wanted input cell.col) (text_at (cell_parts input) cell)
 unfolding kept_of kept_texts resize_of
-kept-resized options input cell inside =
-    let style = compact_of options.style in
-    let asked = asked_of options in
+kept-resized wanted input cell inside =
+    let style = wanted.style in
+    let asked = wanted.asked in
     let texts = cell_parts input in
     let resize : ℕ → List ℕ → List ℕ = λ column. resized_text (resize_in style asked (narrowed style asked texts) column) in
     ap (λ (row : List (List ℕ)). get_or row cell.col []) (get_or-map (by_column resize 0) texts cell.row [])

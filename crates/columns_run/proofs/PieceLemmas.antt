@@ -14,8 +14,7 @@ use Rattle.ansi_str_text.specs.Characters.{shown_chars}
 use Rattle.columns_asked.proofs.TableLemmas.{kept-whole}
 use Rattle.columns_asked.specs.Layout.{asked_widths, heights_of, kept_texts}
 use Rattle.columns_options.specs.Settings.{default_settings}
-use Rattle.columns_options.specs.declared.options.Options.{Options}
-use Rattle.grid_config.specs.Compact.{Compact, compact_of}
+use Rattle.grid_config.specs.Compact.{Compact}
 use Rattle.grid_config.specs.Looks.{Look, compact_look}
 use Rattle.grid_config.specs.Colors.{Color}
 use Rattle.grid_config_values.specs.declared.position.Position.{Position}
@@ -35,9 +34,10 @@ use Rattle.papergrid_picture.specs.Picture.{Piece, parts_of, picture_line}
 use Rattle.papergrid_picture.specs.Reading.{Reading, part_items}
 use Rattle.papergrid_picture.specs.Shown.{AreWholeTexts, IsShown, IsWholeText as IsWholeCell, ShowsOnly}
 use Rattle.papergrid_picture.specs.Tables.{in_bytes, table_grid}
-use Rattle.columns_run.specs.Layout.{asked_of, content_columns, grid_of, kept_of, piece_bytes, piece_columns}
+use Rattle.columns_run.specs.Layout.{content_columns, grid_of, kept_of, piece_bytes, piece_columns}
 use Rattle.columns_run.specs.Plain.{IsPlain, IsPlainCharacter}
 use Rattle.columns_run.specs.Rows.{cell_parts, stripped}
+use Rattle.columns_run.specs.Wanted.{Wanted}
 use Rattle.columns_run.proofs.CellLemmas.{whole_cells, whole_text}
 use Rattle.columns_run.proofs.PlainLemmas.{default-narrow, plain-space, shown-only, shown-plain}
 
@@ -158,19 +158,19 @@ module _ (style : Compact) (texts : List (List (List ℕ))) (widths heights : Li
 
 -- ---- the table of a text
 
-module _ (options : Options) (input : List ℕ) (y : ℕ) where
-  pub takes-columns : IsPlain (compact_of options.style) → IsUtf8 input → IsWhole input → All (λ piece. piece_columns options input piece ≡ piece.part.width) (picture_line (grid_of options input) y)
+module _ (wanted : Wanted) (input : List ℕ) (y : ℕ) where
+  pub takes-columns : IsPlain wanted.style → IsUtf8 input → IsWhole input → All (λ piece. piece_columns wanted input piece ≡ piece.part.width) (picture_line (grid_of wanted input) y)
   unfolding grid_of kept_of piece_bytes piece_columns
   takes-columns plain utf8 whole =
-      let style = compact_of options.style in
-      let asked = asked_of options in
+      let style = wanted.style in
+      let asked = wanted.asked in
       let kept = kept_texts style asked (cell_parts input) in
       columns-taken style kept (asked_widths style asked (cell_parts input)) (heights_of style kept) (kept-whole style asked (cell_parts input) (whole_cells input (whole_text input utf8 whole))) plain y
 
-  pub takes-measures : compact_of options.style ≡ default_settings → IsUtf8 input → IsWhole input → All (λ piece. measure (shown_chars (piece_bytes options input piece)) ≡ piece.part.width) (picture_line (grid_of options input) y)
+  pub takes-measures : wanted.style ≡ default_settings → IsUtf8 input → IsWhole input → All (λ piece. measure (shown_chars (piece_bytes wanted input piece)) ≡ piece.part.width) (picture_line (grid_of wanted input) y)
   unfolding grid_of kept_of piece_bytes
   takes-measures same utf8 whole =
-      let style = compact_of options.style in
-      let asked = asked_of options in
+      let style = wanted.style in
+      let asked = wanted.asked in
       let kept = kept_texts style asked (cell_parts input) in
       measures-taken style kept (asked_widths style asked (cell_parts input)) (heights_of style kept) (kept-whole style asked (cell_parts input) (whole_cells input (whole_text input utf8 whole))) same y

@@ -4,16 +4,16 @@ use Rattle.std.specs.Prelude.{IsUtf8}
 use Rattle.std.specs.Str.Lossy.{utf8_valid_len}
 use Rattle.ansi_scan.specs.Sequences.{IsFirstBroken, IsWhole}
 use Rattle.ansi_scan.proofs.FirstBroken.{IsFirstBroken-same, IsWhole-IsFirstBroken}
-use Rattle.columns_options.specs.declared.options.Options.{Options}
 use Rattle.grid_config_values.specs.declared.position.Position.{Position}
 use Rattle.columns_run.specs.Fault.{TellsOfInput}
 use Rattle.columns_run.specs.Layout.{TableFits, wide_cell}
 use Rattle.columns_run.specs.Run.{HasTable, MayRefuse}
+use Rattle.columns_run.specs.Wanted.{Wanted}
 use Rattle.columns_run.specs.declared.fault.RunFault.{RunFault}
 use Rattle.columns_run.specs.declared.fault.RunFault.TheVariants.{Escape, LineTooWide, Memory, NotUtf8, Range, Read, ReadTooLong, Write, WriteZero}
 
 -- the reasons, of which each excludes the others
-module _ (options : Options) (input : List ℕ) (fault : RunFault) where
+module _ (wanted : Wanted) (input : List ℕ) (fault : RunFault) where
   record HasNoText : Type 0 where
     at : ℕ
     is : fault ≡ NotUtf8 at
@@ -30,7 +30,7 @@ module _ (options : Options) (input : List ℕ) (fault : RunFault) where
     is : fault ≡ Range
     text : IsUtf8 input
     whole : IsWhole input
-    high : ¬ (TableFits options input)
+    high : ¬ (TableFits wanted input)
 
   record HasWideCell : Type 0 where
     row : ℕ
@@ -38,26 +38,26 @@ module _ (options : Options) (input : List ℕ) (fault : RunFault) where
     is : fault ≡ LineTooWide row column
     text : IsUtf8 input
     whole : IsWhole input
-    fits : TableFits options input
-    wide : wide_cell options input ≡ Some (record { row = row; col = column })
+    fits : TableFits wanted input
+    wide : wide_cell wanted input ≡ Some (record { row = row; col = column })
 
   abbrev Reason : Type 0
   Reason = HasNoText ⊎ (Breaks ⊎ (Passes ⊎ HasWideCell))
 
-reason : (options : Options) (input : List ℕ) (fault : RunFault) → TellsOfInput fault → MayRefuse options input fault → Reason options input fault
-reason options input (NotUtf8 at) tells may = inl (record { at = at; is = refl; none = may.0; place = may.1 })
-reason options input (Escape at) tells may = inr (inl (record { at = at; is = refl; text = may.0; first = may.1 }))
-reason options input Range tells may = inr (inr (inl (record { is = refl; text = may.0; whole = may.1; high = may.2 })))
-reason options input (LineTooWide row column) tells may =
+reason : (wanted : Wanted) (input : List ℕ) (fault : RunFault) → TellsOfInput fault → MayRefuse wanted input fault → Reason wanted input fault
+reason wanted input (NotUtf8 at) tells may = inl (record { at = at; is = refl; none = may.0; place = may.1 })
+reason wanted input (Escape at) tells may = inr (inl (record { at = at; is = refl; text = may.0; first = may.1 }))
+reason wanted input Range tells may = inr (inr (inl (record { is = refl; text = may.0; whole = may.1; high = may.2 })))
+reason wanted input (LineTooWide row column) tells may =
     inr (inr (inr (record { row = row; column = column; is = refl; text = may.0; whole = may.1; fits = may.2; wide = may.3 })))
-reason options input Read tells may = absurd tells
-reason options input ReadTooLong tells may = absurd tells
-reason options input Write tells may = absurd tells
-reason options input WriteZero tells may = absurd tells
-reason options input Memory tells may = absurd tells
+reason wanted input Read tells may = absurd tells
+reason wanted input ReadTooLong tells may = absurd tells
+reason wanted input Write tells may = absurd tells
+reason wanted input WriteZero tells may = absurd tells
+reason wanted input Memory tells may = absurd tells
 
-module _ (options : Options) (input : List ℕ) where
-  wide-same : (fault other : RunFault) → HasWideCell options input fault → HasWideCell options input other → fault ≡ other
+module _ (wanted : Wanted) (input : List ℕ) where
+  wide-same : (fault other : RunFault) → HasWideCell wanted input fault → HasWideCell wanted input other → fault ≡ other
   wide-same fault other x y =
       let first : Position = record { row = x.row; col = x.column } in
       let second : Position = record { row = y.row; col = y.column } in
@@ -65,7 +65,7 @@ module _ (options : Options) (input : List ℕ) where
       let same : first ≡ second = cc both in
       x.is ∙ ap (λ (p : Position). LineTooWide p.row p.col) same ∙ sym y.is
 
-  one : (fault other : RunFault) → Reason options input fault → Reason options input other → fault ≡ other
+  one : (fault other : RunFault) → Reason wanted input fault → Reason wanted input other → fault ≡ other
   one fault other (inl x) (inl y) = x.is ∙ ap NotUtf8 (x.place ∙ sym y.place) ∙ sym y.is
   one fault other (inl x) (inr (inl y)) = absurd (x.none y.text)
   one fault other (inl x) (inr (inr (inl y))) = absurd (x.none y.text)
@@ -83,14 +83,14 @@ module _ (options : Options) (input : List ℕ) where
   one fault other (inr (inr (inr x))) (inr (inr (inl y))) = absurd (y.high x.fits)
   one fault other (inr (inr (inr x))) (inr (inr (inr y))) = wide-same fault other x y
 
-  none : (fault : RunFault) → Reason options input fault → HasTable options input → ⊥
+  none : (fault : RunFault) → Reason wanted input fault → HasTable wanted input → ⊥
   none fault (inl x) table = x.none table.0
   none fault (inr (inl x)) table = IsWhole-IsFirstBroken input x.at table.1 x.first
   none fault (inr (inr (inl x))) table = x.high table.2
   none fault (inr (inr (inr x))) table = let clash : Some (record { row = x.row; col = x.column }) ≡ None = sym x.wide ∙ table.3 in cc clash
 
-pub one-refusal : (options : Options) (input : List ℕ) (fault other : RunFault) → TellsOfInput fault → TellsOfInput other → MayRefuse options input fault → MayRefuse options input other → fault ≡ other
-one-refusal options input fault other tells tells' may may' = one options input fault other (reason options input fault tells may) (reason options input other tells' may')
+pub one-refusal : (wanted : Wanted) (input : List ℕ) (fault other : RunFault) → TellsOfInput fault → TellsOfInput other → MayRefuse wanted input fault → MayRefuse wanted input other → fault ≡ other
+one-refusal wanted input fault other tells tells' may may' = one wanted input fault other (reason wanted input fault tells may) (reason wanted input other tells' may')
 
-pub no-table : (options : Options) (input : List ℕ) (fault : RunFault) → TellsOfInput fault → MayRefuse options input fault → ¬ (HasTable options input)
-no-table options input fault tells may = none options input fault (reason options input fault tells may)
+pub no-table : (wanted : Wanted) (input : List ℕ) (fault : RunFault) → TellsOfInput fault → MayRefuse wanted input fault → ¬ (HasTable wanted input)
+no-table wanted input fault tells may = none wanted input fault (reason wanted input fault tells may)

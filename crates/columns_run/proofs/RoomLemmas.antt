@@ -4,11 +4,10 @@ use Rattle.std.specs.Prelude.{chars}
 use Rattle.std.specs.List.{filter, find, range_with_len, sum}
 use Rattle.std.proofs.lemmas.Bool.Decides.{nat_tests}
 use Rattle.columns_asked.specs.Layout.{column_count, frame_under, heights_of, narrow, narrowed, widths_of}
-use Rattle.columns_options.specs.declared.options.Options.{Options}
 use Rattle.columns_table.proofs.NarrowedLemmas.{room-natural}
 use Rattle.columns_table.proofs.NaturalLemmas.{positive-none}
 use Rattle.columns_table.proofs.SizeLemmas.{height-each, width-each}
-use Rattle.grid_config.specs.Compact.{Compact, compact_of}
+use Rattle.grid_config.specs.Compact.{Compact}
 use Rattle.grid_config.specs.Looks.{compact_look}
 use Rattle.grid_config_spans.specs.Owners.{owner}
 use Rattle.grid_config_spans.specs.Spans.{extent_at}
@@ -25,8 +24,9 @@ use Rattle.columns_table.proofs.First.{none-in_row-more, none-more}
 use Rattle.papergrid_picture.specs.Fitting.{first_too_wide, is_too_wide, need, table_width}
 use Rattle.papergrid_picture.specs.Frame.{Frame, block_width, frame_of}
 use Rattle.papergrid_picture.specs.Picture.{at}
-use Rattle.columns_run.specs.Layout.{asked_of, texts_of, wide_cell}
+use Rattle.columns_run.specs.Layout.{texts_of, wide_cell}
 use Rattle.columns_run.specs.Rows.{stripped}
+use Rattle.columns_run.specs.Wanted.{Wanted}
 
 and-false : (b : Bool) → (b && false) ≡ false
 and-false true = refl
@@ -92,10 +92,10 @@ module _ (style : Compact) (texts : List (List (List ℕ))) where
         let all : length texts ≤ length texts = omega arith in
         ap (λ n. find test (table_positions n (length widths))) (height-each style texts some) ∙ ap (λ n. find test (table_positions (length texts) n)) (width-each style texts some) ∙ none-in_rows (length texts) all
 
-pub never-wide : (options : Options) (text : List ℕ) → options.width ≡ None → wide_cell options text ≡ None
+pub never-wide : (wanted : Wanted) (text : List ℕ) → wanted.asked.width ≡ None → wide_cell wanted text ≡ None
 unfolding wide_cell
-never-wide options text none =
-    let style = compact_of options.style in
+never-wide wanted text none =
+    let style = wanted.style in
     let texts = texts_of (chars (stripped text)) in
-    let told : narrowed style (asked_of options) texts ≡ None = ap (narrow style (asked_of options) (widths_of style texts) (table_width (frame_under style texts))) none in
-    room-natural style (asked_of options) texts told (natural-room style texts)
+    let told : narrowed style wanted.asked texts ≡ None = ap (narrow style wanted.asked (widths_of style texts) (table_width (frame_under style texts))) none in
+    room-natural style wanted.asked texts told (natural-room style texts)

@@ -5,15 +5,15 @@ use Rattle.ansi_scan.specs.Sequences.{ArePiecesOf}
 use Rattle.ansi_str.specs.StyledText.{styled}
 use Rattle.columns_asked.specs.Layout.{AskedFits, asked_items, asked_text, asked_widths, kept_cells, kept_texts, too_wide}
 use Rattle.columns_asked.specs.declared.asked.Asked.{Asked}
-use Rattle.columns_options.specs.declared.options.Options.{Options}
-use Rattle.grid_config.specs.Compact.{Compact, compact_of}
+use Rattle.grid_config.specs.Compact.{Compact}
 use Rattle.papergrid_picture.specs.Shown.{Styled, character_of, in_plain}
 use Rattle.tabled_size_priority.specs.declared.choice.Choice.{Choice}
 use Rattle.tabled_size_priority.specs.declared.choice.Choice.TheVariants.{None as InTurns}
-use Rattle.columns_run.specs.Layout.{TableFits, asked_of, output_of, picture, texts_of, wide_cell, without_width}
+use Rattle.columns_run.specs.Layout.{TableFits, output_of, picture, texts_of, wide_cell}
 use Rattle.columns_run.specs.Rows.{cell_parts, rows_of, stripped}
 use Rattle.columns_run.specs.Run.{HasTable, MayAnswer, MayRefuse, Serves, Writes}
 use Rattle.columns_run.specs.TableShown.{ShowsTableOf}
+use Rattle.columns_run.specs.Wanted.{Wanted, without_width}
 use Rattle.columns_run.specs.declared.fault.RunFault.{RunFault}
 use Rattle.columns_run.specs.declared.fault.RunFault.TheVariants.{Escape, LineTooWide, Memory, NotUtf8, Range, Read, ReadTooLong, Write, WriteZero}
 
@@ -44,48 +44,48 @@ module _ (style : Compact) (truncate keep_words : Bool) (priority : Choice) wher
   unfolding asked_items kept_cells asked_widths
   items-bare rows = refl
 
-module _ (options : Options) (none : options.width ≡ None) where
-  abbrev plain_options : Options
-  plain_options = without_width options.style
+module _ (wanted : Wanted) (none : wanted.asked.width ≡ None) where
+  abbrev unasked : Wanted
+  unasked = without_width wanted.style
 
   abbrev style : Compact
-  style = compact_of options.style
+  style = wanted.style
 
-  natural : no_width options.truncate options.keep_words options.priority ≡ asked_of options
-  natural = ap (λ width. record (asked_of options) { width = width }) (sym none)
+  natural : no_width wanted.asked.truncate wanted.asked.keep_words wanted.asked.priority ≡ wanted.asked
+  natural = ap (λ width. record wanted.asked { width = width }) (sym none)
 
-  output-same : (input : List ℕ) → output_of plain_options input ≡ output_of options input
+  output-same : (input : List ℕ) → output_of unasked input ≡ output_of wanted input
   unfolding output_of
   output-same input =
-      text-bare style options.truncate options.keep_words options.priority (cell_parts input) ∙ ap (λ asked. asked_text style asked (cell_parts input)) natural
+      text-bare style wanted.asked.truncate wanted.asked.keep_words wanted.asked.priority (cell_parts input) ∙ ap (λ asked. asked_text style asked (cell_parts input)) natural
 
-  fits-same : (input : List ℕ) → TableFits plain_options input ≡ TableFits options input
+  fits-same : (input : List ℕ) → TableFits unasked input ≡ TableFits wanted input
   unfolding TableFits
   fits-same input =
       let texts = texts_of (chars (stripped input)) in
-      fits-bare style options.truncate options.keep_words options.priority texts ∙ ap (λ asked. AskedFits style asked texts) natural
+      fits-bare style wanted.asked.truncate wanted.asked.keep_words wanted.asked.priority texts ∙ ap (λ asked. AskedFits style asked texts) natural
 
-  wide-same : (input : List ℕ) → wide_cell plain_options input ≡ wide_cell options input
+  wide-same : (input : List ℕ) → wide_cell unasked input ≡ wide_cell wanted input
   unfolding wide_cell
   wide-same input =
       let texts = texts_of (chars (stripped input)) in
-      wide-bare style options.truncate options.keep_words options.priority texts ∙ ap (λ asked. too_wide style asked texts) natural
+      wide-bare style wanted.asked.truncate wanted.asked.keep_words wanted.asked.priority texts ∙ ap (λ asked. too_wide style asked texts) natural
 
-  picture-same : (cs : List Styled) → picture plain_options cs ≡ picture options cs
+  picture-same : (cs : List Styled) → picture unasked cs ≡ picture wanted cs
   unfolding picture
   picture-same cs =
       let rows = rows_of character_of cs in
-      items-bare style options.truncate options.keep_words options.priority rows ∙ ap (λ asked. asked_items character_of in_plain style asked rows) natural
+      items-bare style wanted.asked.truncate wanted.asked.keep_words wanted.asked.priority rows ∙ ap (λ asked. asked_items character_of in_plain style asked rows) natural
 
--- options that have the same tables
-record AreAlike (first second : Options) : Type 0 where
+-- what is wanted in two ways that have the same tables
+record AreAlike (first second : Wanted) : Type 0 where
   output : (input : List ℕ) → output_of first input ≡ output_of second input
   fits : (input : List ℕ) → TableFits first input → TableFits second input
   fits_back : (input : List ℕ) → TableFits second input → TableFits first input
   wide : (input : List ℕ) → wide_cell first input ≡ wide_cell second input
   picture : (cs : List Styled) → picture first cs ≡ picture second cs
 
-alike-back : (first second : Options) → AreAlike first second → AreAlike second first
+alike-back : (first second : Wanted) → AreAlike first second → AreAlike second first
 alike-back first second alike = record {
   output = λ input. sym (alike.output input);
   fits = λ input good. alike.fits_back input good;
@@ -94,7 +94,7 @@ alike-back first second alike = record {
   picture = λ cs. sym (alike.picture cs);
 }
 
-module _ (first second : Options) (alike : AreAlike first second) (input : List ℕ) where
+module _ (first second : Wanted) (alike : AreAlike first second) (input : List ℕ) where
   has : HasTable first input → HasTable second input
   has table = (table.0, table.1, alike.fits input table.2, sym (alike.wide input) ∙ table.3)
 
@@ -122,7 +122,7 @@ module _ (first second : Options) (alike : AreAlike first second) (input : List 
         lines = λ qs of_output. shown.lines qs (subst (λ bytes. ArePiecesOf bytes qs) (sym same) of_output);
       }
 
-alike-serves : (first second : Options) → AreAlike first second → (input : List ℕ) → {T : Type 0} (result : Result T RunFault) (old new : Option (List ℕ))
+alike-serves : (first second : Wanted) → AreAlike first second → (input : List ℕ) → {T : Type 0} (result : Result T RunFault) (old new : Option (List ℕ))
     → Serves first input result old new → Serves second input result old new
 alike-serves first second alike input result old new serves = record {
   answers = answer first second alike input result serves.answers;
@@ -130,28 +130,28 @@ alike-serves first second alike input result old new serves = record {
   shows = λ table. shows first second alike input table (serves.shows (has second first (alike-back first second alike) input table));
 }
 
-module _ (options : Options) (input : List ℕ) (none : options.width ≡ None) where
-  alike : AreAlike (without_width options.style) options
-  alike = record { output = output-same options none; fits = λ input good. subst (λ (T : Type 0). T) (fits-same options none input) good; fits_back = λ input good. subst (λ (T : Type 0). T) (sym (fits-same options none input)) good; wide = wide-same options none; picture = picture-same options none }
+module _ (wanted : Wanted) (input : List ℕ) (none : wanted.asked.width ≡ None) where
+  alike : AreAlike (without_width wanted.style) wanted
+  alike = record { output = output-same wanted none; fits = λ input good. subst (λ (T : Type 0). T) (fits-same wanted none input) good; fits_back = λ input good. subst (λ (T : Type 0). T) (sym (fits-same wanted none input)) good; wide = wide-same wanted none; picture = picture-same wanted none }
 
-  abbrev back : AreAlike options (without_width options.style)
-  back = alike-back (without_width options.style) options alike
+  abbrev back : AreAlike wanted (without_width wanted.style)
+  back = alike-back (without_width wanted.style) wanted alike
 
-  pub output-streamed : output_of (without_width options.style) input ≡ output_of options input
-  output-streamed = output-same options none input
+  pub output-streamed : output_of (without_width wanted.style) input ≡ output_of wanted input
+  output-streamed = output-same wanted none input
 
-  pub accepted-streamed : HasTable (without_width options.style) input ↔ HasTable options input
-  accepted-streamed = (has (without_width options.style) options alike input, has options (without_width options.style) back input)
+  pub accepted-streamed : HasTable (without_width wanted.style) input ↔ HasTable wanted input
+  accepted-streamed = (has (without_width wanted.style) wanted alike input, has wanted (without_width wanted.style) back input)
 
-pub refuses-streamed : (options : Options) (input : List ℕ) (fault : RunFault) → options.width ≡ None → (MayRefuse (without_width options.style) input fault ↔ MayRefuse options input fault)
-refuses-streamed options input fault none = (
-  refuse (without_width options.style) options (alike options input none) input fault,
-  refuse options (without_width options.style) (back options input none) input fault,
+pub refuses-streamed : (wanted : Wanted) (input : List ℕ) (fault : RunFault) → wanted.asked.width ≡ None → (MayRefuse (without_width wanted.style) input fault ↔ MayRefuse wanted input fault)
+refuses-streamed wanted input fault none = (
+  refuse (without_width wanted.style) wanted (alike wanted input none) input fault,
+  refuse wanted (without_width wanted.style) (back wanted input none) input fault,
 )
 
-pub serves-streamed : (options : Options) (input : List ℕ) (result : Result ⊤ RunFault) (old new : Option (List ℕ)) → options.width ≡ None
-    → (Serves (without_width options.style) input result old new ↔ Serves options input result old new)
-serves-streamed options input result old new none = (
-  alike-serves (without_width options.style) options (alike options input none) input result old new,
-  alike-serves options (without_width options.style) (back options input none) input result old new,
+pub serves-streamed : (wanted : Wanted) (input : List ℕ) (result : Result ⊤ RunFault) (old new : Option (List ℕ)) → wanted.asked.width ≡ None
+    → (Serves (without_width wanted.style) input result old new ↔ Serves wanted input result old new)
+serves-streamed wanted input result old new none = (
+  alike-serves (without_width wanted.style) wanted (alike wanted input none) input result old new,
+  alike-serves wanted (without_width wanted.style) (back wanted input none) input result old new,
 )

@@ -8,21 +8,21 @@ use Rattle.ansi_str.specs.StyledText.{has_escape}
 use Rattle.columns_asked.specs.Layout.{AskedFits, asked_text, too_wide}
 use Rattle.columns_asked.proofs.StrippedLemmas.{fits-stripped, too_wide-stripped}
 use Rattle.columns_asked.specs.declared.asked.Asked.{Asked}
-use Rattle.columns_options.specs.declared.options.Options.{Options}
 use Rattle.columns_table.proofs.CutLemmas.{cut-map}
 use Rattle.columns_table.specs.Answers.{HasTable as TextsHaveTable, MayRefuse}
 use Rattle.columns_table.specs.Rows.{cut, row_texts_of}
 use Rattle.columns_table.specs.declared.cells.LineCell.{LineCell}
 use Rattle.columns_table.specs.declared.rows.Rows.{Rows}
-use Rattle.grid_config.specs.Compact.{Compact, compact_of}
+use Rattle.grid_config.specs.Compact.{Compact}
 use Rattle.grid_config_values.specs.declared.fault.Fault.{Fault}
 use Rattle.grid_config_values.specs.declared.fault.Fault.TheVariants.{Memory, Range, Room, Spans}
 use Rattle.grid_records_measure.specs.Measures.{measure}
 use Rattle.columns_run.specs.Cells.{Line, byte_line, line_rows, part_line, rows_shown, shown, texts_of_lines}
 use Rattle.columns_run.specs.Fault.{IsOfInput, run_fault}
-use Rattle.columns_run.specs.Layout.{TableFits, asked_of, output_of, wide_cell}
+use Rattle.columns_run.specs.Layout.{TableFits, output_of, wide_cell}
 use Rattle.columns_run.specs.Rows.{cell_parts, rows_of}
 use Rattle.columns_run.specs.Run.{HasTable, MayAnswer}
+use Rattle.columns_run.specs.Wanted.{Wanted}
 use Rattle.columns_run.specs.declared.fault.RunFault.{RunFault}
 use Rattle.columns_run.proofs.CellLemmas.{texts-stripped, whole_cells, whole_text}
 use Rattle.columns_run.proofs.ItemLemmas.{map-same}
@@ -57,45 +57,45 @@ texts-cut counts cells =
 pub texts-are : (rows : Rows) (text : List ℕ) → rows_shown rows ≡ line_rows text → row_texts_of rows ≡ cell_parts text
 texts-are rows text are = sym (texts-cut (vec_items rows.counts) rows.cells) ∙ ap texts_of_lines are ∙ texts-lines text
 
-module _ (options : Options) (text : List ℕ) (whole : IsWholeText text) where
-  pub fits-same : AskedFits (compact_of options.style) (asked_of options) (cell_parts text) ≡ TableFits options text
+module _ (wanted : Wanted) (text : List ℕ) (whole : IsWholeText text) where
+  pub fits-same : AskedFits wanted.style wanted.asked (cell_parts text) ≡ TableFits wanted text
   unfolding TableFits
   fits-same =
-      let style = compact_of options.style in
-      sym (ap (AskedFits style (asked_of options)) (texts-stripped text whole) ∙ fits-stripped style (asked_of options) (cell_parts text) (whole_cells text whole))
+      let style = wanted.style in
+      sym (ap (AskedFits style wanted.asked) (texts-stripped text whole) ∙ fits-stripped style wanted.asked (cell_parts text) (whole_cells text whole))
 
-  pub wide-same : too_wide (compact_of options.style) (asked_of options) (cell_parts text) ≡ wide_cell options text
+  pub wide-same : too_wide wanted.style wanted.asked (cell_parts text) ≡ wide_cell wanted text
   unfolding wide_cell
   wide-same =
-      let style = compact_of options.style in
-      sym (ap (too_wide style (asked_of options)) (texts-stripped text whole) ∙ too_wide-stripped style (asked_of options) (cell_parts text) (whole_cells text whole))
+      let style = wanted.style in
+      sym (ap (too_wide style wanted.asked) (texts-stripped text whole) ∙ too_wide-stripped style wanted.asked (cell_parts text) (whole_cells text whole))
 
 -- what is known of the texts of a text's cells is known of the text
-module _ (options : Options) (text : List ℕ) (utf8 : IsUtf8 text) (whole : IsWhole text) (rows : Rows) (are : rows_shown rows ≡ line_rows text) (asked : Asked) (same : asked ≡ asked_of options) where
+module _ (wanted : Wanted) (text : List ℕ) (utf8 : IsUtf8 text) (whole : IsWhole text) (rows : Rows) (are : rows_shown rows ≡ line_rows text) (asked : Asked) (same : asked ≡ wanted.asked) where
   abbrev style : Compact
-  style = compact_of options.style
+  style = wanted.style
 
   abbrev texts : List (List (List ℕ))
   texts = row_texts_of rows
 
-  fits : AskedFits style asked texts ≡ TableFits options text
-  fits = ap (AskedFits style asked) (texts-are rows text are) ∙ ap (λ asked. AskedFits style asked (cell_parts text)) same ∙ fits-same options text (whole_text text utf8 whole)
+  fits : AskedFits style asked texts ≡ TableFits wanted text
+  fits = ap (AskedFits style asked) (texts-are rows text are) ∙ ap (λ asked. AskedFits style asked (cell_parts text)) same ∙ fits-same wanted text (whole_text text utf8 whole)
 
-  wide : too_wide style asked texts ≡ wide_cell options text
-  wide = ap (too_wide style asked) (texts-are rows text are) ∙ ap (λ asked. too_wide style asked (cell_parts text)) same ∙ wide-same options text (whole_text text utf8 whole)
+  wide : too_wide style asked texts ≡ wide_cell wanted text
+  wide = ap (too_wide style asked) (texts-are rows text are) ∙ ap (λ asked. too_wide style asked (cell_parts text)) same ∙ wide-same wanted text (whole_text text utf8 whole)
 
-  pub output-is : asked_text style asked texts ≡ output_of options text
+  pub output-is : asked_text style asked texts ≡ output_of wanted text
   unfolding output_of
   output-is = ap (asked_text style asked) (texts-are rows text are) ∙ ap (λ asked. asked_text style asked (cell_parts text)) same
 
-  pub has-table : TextsHaveTable style asked texts → HasTable options text
+  pub has-table : TextsHaveTable style asked texts → HasTable wanted text
   has-table good = (utf8, whole, subst (λ (T : Type 0). T) fits good.fits, sym wide ∙ good.room)
 
   -- a text has no table for the reason that its texts have none
-  pub refused : {T : Type 0} (given : Fault) (result : Result T RunFault) → result ≡ Err (run_fault given) → MayRefuse style asked texts given → MayAnswer options text result
-  refused Range result is told = subst (MayAnswer options text) (sym is) (utf8, whole, λ good. told (subst (λ (T : Type 0). T) (sym fits) good))
-  refused (Room row column) result is told = subst (MayAnswer options text) (sym is) (utf8, whole, subst (λ (T : Type 0). T) fits told.0, sym wide ∙ told.1)
-  refused Memory result is told = subst (MayAnswer options text) (sym is) tt
+  pub refused : {T : Type 0} (given : Fault) (result : Result T RunFault) → result ≡ Err (run_fault given) → MayRefuse style asked texts given → MayAnswer wanted text result
+  refused Range result is told = subst (MayAnswer wanted text) (sym is) (utf8, whole, λ good. told (subst (λ (T : Type 0). T) (sym fits) good))
+  refused (Room row column) result is told = subst (MayAnswer wanted text) (sym is) (utf8, whole, subst (λ (T : Type 0). T) fits told.0, sym wide ∙ told.1)
+  refused Memory result is told = subst (MayAnswer wanted text) (sym is) tt
   refused Spans result is told = absurd told
 
 -- and it is a fault of the input

@@ -4,9 +4,8 @@ use Rattle.std.proofs.Math.Path.{fun_ext}
 use Rattle.std.proofs.lemmas.Bool.Decides.{nat_tests}
 use Rattle.ansi_scan.specs.Pieces.{pieces}
 use Rattle.columns_asked.specs.Layout.{asked_widths, heights_of, kept_texts, too_wide}
-use Rattle.columns_options.specs.declared.options.Options.{Options}
 use Rattle.columns_table.proofs.NaturalLemmas.{positive-none}
-use Rattle.grid_config.specs.Compact.{Compact, compact_of}
+use Rattle.grid_config.specs.Compact.{Compact}
 use Rattle.grid_config.specs.Looks.{compact_look}
 use Rattle.grid_config_spans.proofs.Order.{same_itself}
 use Rattle.grid_config_spans.proofs.Owners.{owner_holds}
@@ -27,9 +26,10 @@ use Rattle.papergrid_picture.specs.Frame.{Frame, block_width, column_count, fram
 use Rattle.papergrid_picture.specs.Picture.{at, picture_line, seen}
 use Rattle.papergrid_picture.specs.Tables.{table_grid}
 use Rattle.papergrid_picture.specs.Tiling.{HasGoodSpans, HasRoom, IsLineOf, ShowsBlock, Tiles}
-use Rattle.columns_run.specs.Layout.{asked_of, grid_of, kept_of}
+use Rattle.columns_run.specs.Layout.{grid_of, kept_of}
 use Rattle.columns_run.specs.Rows.{cell_parts}
 use Rattle.columns_run.specs.Run.{HasTable}
+use Rattle.columns_run.specs.Wanted.{Wanted}
 use Rattle.columns_run.proofs.CellLemmas.{whole_text}
 use Rattle.columns_run.proofs.TableLemmas.{wide-same}
 
@@ -103,25 +103,25 @@ module _ (style : Compact) (texts : List (List (List ℕ))) (widths heights : Li
 
 -- ---- the table of a text
 
-module _ (options : Options) (input : List ℕ) where
-  none-wide : HasTable options input → too_wide (compact_of options.style) (asked_of options) (cell_parts input) ≡ None
-  none-wide has = wide-same options input (whole_text input has.0 has.1) ∙ has.3
+module _ (wanted : Wanted) (input : List ℕ) where
+  none-wide : HasTable wanted input → too_wide wanted.style wanted.asked (cell_parts input) ≡ None
+  none-wide has = wide-same wanted input (whole_text input has.0 has.1) ∙ has.3
 
-  pub tiled : (y : ℕ) → HasTable options input → Tiles 0 (picture_line (grid_of options input) y) (total_width (grid_of options input).frame)
+  pub tiled : (y : ℕ) → HasTable wanted input → Tiles 0 (picture_line (grid_of wanted input) y) (total_width (grid_of wanted input).frame)
   unfolding grid_of kept_of too_wide
   tiled y has =
-      let style = compact_of options.style in
-      let asked = asked_of options in
+      let style = wanted.style in
+      let asked = wanted.asked in
       let texts = cell_parts input in
       let kept = kept_texts style asked texts in
       lines-tiled style kept (asked_widths style asked texts) (heights_of style kept) (none-wide has) y
 
-  pub shows-block : (i j y : ℕ) → HasTable options input → i < row_count (grid_of options input).frame → j < column_count (grid_of options input).frame
-      → IsLineOf (grid_of options input) (at i j) y → ShowsBlock (grid_of options input) (at i j) y
+  pub shows-block : (i j y : ℕ) → HasTable wanted input → i < row_count (grid_of wanted input).frame → j < column_count (grid_of wanted input).frame
+      → IsLineOf (grid_of wanted input) (at i j) y → ShowsBlock (grid_of wanted input) (at i j) y
   unfolding grid_of kept_of too_wide
   shows-block i j y has row column inside =
-      let style = compact_of options.style in
-      let asked = asked_of options in
+      let style = wanted.style in
+      let asked = wanted.asked in
       let texts = cell_parts input in
       let kept = kept_texts style asked texts in
       block-shown style kept (asked_widths style asked texts) (heights_of style kept) (none-wide has) i j y row column inside

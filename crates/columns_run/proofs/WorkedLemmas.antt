@@ -1,4 +1,4 @@
--- Tables in the style that `Options::new` has, worked out by hand.
+-- Tables in the style that `Wanted::new` has, worked out by hand.
 use Rattle.std.proofs.Common.{◌≡◌, ℕ, List, [], Bool, true, false, refl, ap, ◌∙◌}
 use Rattle.std.specs.Prelude.{codes, None}
 use Rattle.std.specs.Fmt.{digits}
@@ -13,8 +13,7 @@ use Rattle.columns_asked.specs.Shrunk.{shrunk_list}
 use Rattle.columns_asked.specs.Worked.{cuts, wraps}
 use Rattle.columns_asked.specs.declared.asked.Asked.{Asked}
 use Rattle.columns_options.specs.Settings.{default_settings}
-use Rattle.columns_options.specs.declared.options.Options.{Options}
-use Rattle.grid_config.specs.Compact.{Compact, compact_of}
+use Rattle.grid_config.specs.Compact.{Compact}
 use Rattle.grid_config_spans.specs.Spans.{extent_at}
 use Rattle.grid_records_estimate.specs.Estimates.{track_sizes}
 use Rattle.grid_records_estimate.specs.Sizes.{table_heights, table_widths}
@@ -24,7 +23,8 @@ use Rattle.tabled_size_priority.specs.declared.choice.Choice.TheVariants.{None a
 use Rattle.columns_asked.specs.Bytes.{cut_at, wrapped_text}
 use Rattle.unicode_width.specs.Width.{alone, char_width, past_emoji, step, str_width}
 use Rattle.columns_run.specs.Rows.{cell_parts, rows_of}
-use Rattle.columns_run.specs.Layout.{asked_of, output_of, table_characters}
+use Rattle.columns_run.specs.Layout.{output_of, table_characters}
+use Rattle.columns_run.specs.Wanted.{Wanted}
 
 -- no width, whatever else is asked
 abbrev pub natural : Bool → Bool → Choice → Asked
@@ -43,24 +43,24 @@ HasCharacters characters out = (truncate keep_words : Bool) (priority : Choice) 
 abbrev pub HasOutput : List ℕ → List ℕ → Type 0
 HasOutput input out = (truncate keep_words : Bool) (priority : Choice) → output_under input default_settings (natural truncate keep_words priority) ≡ out
 
-module _ (options : Options) (is : compact_of options.style ≡ default_settings) where
-  module _ (none : options.width ≡ None) where
-    natural_is : asked_of options ≡ natural options.truncate options.keep_words options.priority
-    natural_is = ap (λ width. record (asked_of options) { width = width }) none
+module _ (wanted : Wanted) (is : wanted.style ≡ default_settings) where
+  module _ (none : wanted.asked.width ≡ None) where
+    natural_is : wanted.asked ≡ natural wanted.asked.truncate wanted.asked.keep_words wanted.asked.priority
+    natural_is = ap (λ width. record wanted.asked { width = width }) none
 
-    pub table_is : (characters out : List ℕ) → HasCharacters characters out → table_characters options characters ≡ out
+    pub table_is : (characters out : List ℕ) → HasCharacters characters out → table_characters wanted characters ≡ out
     unfolding table_characters
     table_is characters out e =
-        ap (λ style. characters_under characters style (asked_of options)) is ∙ ap (characters_under characters default_settings) natural_is ∙ e options.truncate options.keep_words options.priority
+        ap (λ style. characters_under characters style wanted.asked) is ∙ ap (characters_under characters default_settings) natural_is ∙ e wanted.asked.truncate wanted.asked.keep_words wanted.asked.priority
 
-    pub output_is : (input out : List ℕ) → HasOutput input out → output_of options input ≡ out
+    pub output_is : (input out : List ℕ) → HasOutput input out → output_of wanted input ≡ out
     unfolding output_of
     output_is input out e =
-        ap (λ style. output_under input style (asked_of options)) is ∙ ap (output_under input default_settings) natural_is ∙ e options.truncate options.keep_words options.priority
+        ap (λ style. output_under input style wanted.asked) is ∙ ap (output_under input default_settings) natural_is ∙ e wanted.asked.truncate wanted.asked.keep_words wanted.asked.priority
 
-  pub asked_is : (asked : Asked) (input out : List ℕ) → output_under input default_settings asked ≡ out → asked_of options ≡ asked → output_of options input ≡ out
+  pub asked_is : (asked : Asked) (input out : List ℕ) → output_under input default_settings asked ≡ out → wanted.asked ≡ asked → output_of wanted input ≡ out
   unfolding output_of
-  asked_is asked input out e same = ap (λ style. output_under input style (asked_of options)) is ∙ ap (output_under input default_settings) same ∙ e
+  asked_is asked input out e same = ap (λ style. output_under input style wanted.asked) is ∙ ap (output_under input default_settings) same ∙ e
 
 pub empty : HasCharacters [] ([])
 unfolding asked_items kept_cells asked_widths table_widths table_heights track_sizes text_width text_height extent_at str_width step past_emoji pieces first_pieces front chars encode

@@ -2,6 +2,7 @@ pub mod Cells
 pub mod Ends
 pub mod Fault
 pub mod TableShown
+pub mod Wanted
 pub mod Layout
 pub mod Plain
 pub mod Rows

@@ -5,7 +5,7 @@ use Rattle.ansi_scan.specs.Attributes.{plain_attributes}
 use Rattle.ansi_str.specs.StyledText.{styled, IsClosed}
 use Rattle.columns_run.specs.Rows.{line_feed}
 use Rattle.columns_run.specs.Layout.{picture}
-use Rattle.columns_options.specs.declared.options.Options.{Options}
+use Rattle.columns_run.specs.Wanted.{Wanted}
 
 -- no sequence is broken, and no style is open where a line ends, nor at the end
 pub record LinesEndPlain (pieces : List Piece) : Type 0 where
@@ -13,7 +13,7 @@ pub record LinesEndPlain (pieces : List Piece) : Type 0 where
   pub line_feeds : All (λ x. x.0 ≡ line_feed → x.1 ≡ plain_attributes) (styled pieces)
 
 -- the output shows the table of the input: the picture of the characters that the input shows, in their styles
-pub record ShowsTableOf (options : Options) (input output : List ℕ) : Type 0 where
+pub record ShowsTableOf (wanted : Wanted) (input output : List ℕ) : Type 0 where
   pub text : IsUtf8 output
-  pub picture : (ps qs : List Piece) → ArePiecesOf input ps → ArePiecesOf output qs → styled qs ≡ picture options (styled ps)
+  pub picture : (ps qs : List Piece) → ArePiecesOf input ps → ArePiecesOf output qs → styled qs ≡ picture wanted (styled ps)
   pub lines : (qs : List Piece) → ArePiecesOf output qs → LinesEndPlain qs

@@ -9,8 +9,6 @@ ghost use Rattle.ansi_str.specs.Matches.{AreMatches};
 ghost use Rattle.columns_asked.specs.Resizing.{resized_text};
 ghost use Rattle.columns_asked.specs.Worked.{cuts, wraps};
 ghost use Rattle.columns_options.specs.Settings.{default_settings};
-ghost use Rattle.columns_options.specs.declared.options.Options.{Options};
-ghost use Rattle.grid_config.specs.Compact.{compact_of};
 ghost use Rattle.grid_config_values.specs.declared.position.Position.{Position as Cell};
 ghost use Rattle.grid_records_measure.specs.Measures.{measure};
 ghost use Rattle.grid_records_measure.specs.TextLines.{text_lines};
@@ -21,10 +19,11 @@ ghost use Rattle.papergrid_picture.specs.Picture.{Piece as TablePiece, at, pictu
 ghost use Rattle.papergrid_picture.specs.Shown.{Styled, in_plain};
 ghost use Rattle.papergrid_picture.specs.Tiling.{IsLineOf, ShowsBlock, Tiles};
 ghost use Rattle.columns_run.specs.Rows.{cell_parts, line_feed, places};
-ghost use Rattle.columns_run.specs.Layout.{TableFits, asked_of, characters_of, grid_of, kept_of, line_bytes, output_of, picture, piece_bytes, piece_columns, resize_of, table_characters, wide_cell, without_width};
+ghost use Rattle.columns_run.specs.Layout.{TableFits, characters_of, grid_of, kept_of, line_bytes, output_of, picture, piece_bytes, piece_columns, resize_of, table_characters, wide_cell};
 ghost use Rattle.columns_run.specs.Plain.{IsPlain};
 ghost use Rattle.columns_run.specs.TableShown.{ShowsTableOf};
 ghost use Rattle.columns_run.specs.Run.{HasTable, MayRefuse, Serves};
+ghost use Rattle.columns_run.specs.Wanted.{Wanted, without_width};
 ghost use Rattle.columns_run.specs.Fault.{TellsOfInput, fault_text, run_fault, write_fault};
 ghost use Rattle.tabled_size_priority.specs.declared.choice.Choice.TheVariants.{None as InTurns, MaxLeft};
 ghost use Rattle.columns_run.specs.declared.fault.RunFault.{RunFault};
@@ -41,48 +40,48 @@ use tabled_output::WriteFault;
 
 /// Tables worked out by hand, in the style that `Options::new` has, without a width.
 pub fn worked_tables()
-    ensures empty { (options : Options) → options.width ≡ None → compact_of options.style ≡ default_settings → table_characters options [] ≡ [] }
-    ensures two_by_two { (options : Options) → options.width ≡ None → compact_of options.style ≡ default_settings → table_characters options (codes "a\tb\n1\t2\n") ≡ codes "+---+---+\n| a | b |\n+---+---+\n| 1 | 2 |\n+---+---+\n" }
-    ensures short_row { (options : Options) → options.width ≡ None → compact_of options.style ≡ default_settings → table_characters options (codes "a\tb\nc\n") ≡ codes "+---+---+\n| a | b |\n+---+---+\n| c |   |\n+---+---+\n" }
-    ensures longer_row { (options : Options) → options.width ≡ None → compact_of options.style ≡ default_settings → table_characters options (codes "a\nbcd\te\tf\n") ≡ codes "+-----+---+---+\n| a   |   |   |\n+-----+---+---+\n| bcd | e | f |\n+-----+---+---+\n" }
-    ensures empty_row { (options : Options) → options.width ≡ None → compact_of options.style ≡ default_settings → table_characters options (codes "\n") ≡ codes "+--+\n|  |\n+--+\n" }
-    ensures two_empty_rows { (options : Options) → options.width ≡ None → compact_of options.style ≡ default_settings → table_characters options (codes "\n\n") ≡ codes "+--+\n|  |\n+--+\n|  |\n+--+\n" }
-    ensures empty_last_row { (options : Options) → options.width ≡ None → compact_of options.style ≡ default_settings → table_characters options (codes "a\n\n") ≡ codes "+---+\n| a |\n+---+\n|   |\n+---+\n" }
-    ensures empty_middle_row { (options : Options) → options.width ≡ None → compact_of options.style ≡ default_settings → table_characters options (codes "a\n\nb") ≡ codes "+---+\n| a |\n+---+\n|   |\n+---+\n| b |\n+---+\n" }
-    ensures lone_tab { (options : Options) → options.width ≡ None → compact_of options.style ≡ default_settings → table_characters options (codes "\t") ≡ codes "+--+--+\n|  |  |\n+--+--+\n" }
-    ensures tab_at_end { (options : Options) → options.width ≡ None → compact_of options.style ≡ default_settings → table_characters options (codes "a\t\n") ≡ codes "+---+--+\n| a |  |\n+---+--+\n" }
-    ensures no_final_line_feed { (options : Options) → options.width ≡ None → compact_of options.style ≡ default_settings → table_characters options (codes "a\tb") ≡ codes "+---+---+\n| a | b |\n+---+---+\n" }
-    ensures carriage_return { (options : Options) → options.width ≡ None → compact_of options.style ≡ default_settings → table_characters options (codes "a\r\n") ≡ codes "+----+\n| a\r |\n+----+\n" }
+    ensures empty { (wanted : Wanted) → wanted.asked.width ≡ None → wanted.style ≡ default_settings → table_characters wanted [] ≡ [] }
+    ensures two_by_two { (wanted : Wanted) → wanted.asked.width ≡ None → wanted.style ≡ default_settings → table_characters wanted (codes "a\tb\n1\t2\n") ≡ codes "+---+---+\n| a | b |\n+---+---+\n| 1 | 2 |\n+---+---+\n" }
+    ensures short_row { (wanted : Wanted) → wanted.asked.width ≡ None → wanted.style ≡ default_settings → table_characters wanted (codes "a\tb\nc\n") ≡ codes "+---+---+\n| a | b |\n+---+---+\n| c |   |\n+---+---+\n" }
+    ensures longer_row { (wanted : Wanted) → wanted.asked.width ≡ None → wanted.style ≡ default_settings → table_characters wanted (codes "a\nbcd\te\tf\n") ≡ codes "+-----+---+---+\n| a   |   |   |\n+-----+---+---+\n| bcd | e | f |\n+-----+---+---+\n" }
+    ensures empty_row { (wanted : Wanted) → wanted.asked.width ≡ None → wanted.style ≡ default_settings → table_characters wanted (codes "\n") ≡ codes "+--+\n|  |\n+--+\n" }
+    ensures two_empty_rows { (wanted : Wanted) → wanted.asked.width ≡ None → wanted.style ≡ default_settings → table_characters wanted (codes "\n\n") ≡ codes "+--+\n|  |\n+--+\n|  |\n+--+\n" }
+    ensures empty_last_row { (wanted : Wanted) → wanted.asked.width ≡ None → wanted.style ≡ default_settings → table_characters wanted (codes "a\n\n") ≡ codes "+---+\n| a |\n+---+\n|   |\n+---+\n" }
+    ensures empty_middle_row { (wanted : Wanted) → wanted.asked.width ≡ None → wanted.style ≡ default_settings → table_characters wanted (codes "a\n\nb") ≡ codes "+---+\n| a |\n+---+\n|   |\n+---+\n| b |\n+---+\n" }
+    ensures lone_tab { (wanted : Wanted) → wanted.asked.width ≡ None → wanted.style ≡ default_settings → table_characters wanted (codes "\t") ≡ codes "+--+--+\n|  |  |\n+--+--+\n" }
+    ensures tab_at_end { (wanted : Wanted) → wanted.asked.width ≡ None → wanted.style ≡ default_settings → table_characters wanted (codes "a\t\n") ≡ codes "+---+--+\n| a |  |\n+---+--+\n" }
+    ensures no_final_line_feed { (wanted : Wanted) → wanted.asked.width ≡ None → wanted.style ≡ default_settings → table_characters wanted (codes "a\tb") ≡ codes "+---+---+\n| a | b |\n+---+---+\n" }
+    ensures carriage_return { (wanted : Wanted) → wanted.asked.width ≡ None → wanted.style ≡ default_settings → table_characters wanted (codes "a\r\n") ≡ codes "+----+\n| a\r |\n+----+\n" }
 {}
 
 /// Tables of styled texts, worked out by hand, without a width: their bytes.
 pub fn worked_outputs()
-    ensures two_cells { (options : Options) → options.width ≡ None → compact_of options.style ≡ default_settings → output_of options (codes "\u{1b}[31mab\tc\n") ≡ codes "+----+---+\n| \u{1b}[31mab\u{1b}[39m | \u{1b}[31mc\u{1b}[39m |\n+----+---+\n" }
-    ensures two_lines { (options : Options) → options.width ≡ None → compact_of options.style ≡ default_settings → output_of options (codes "\u{1b}[1ma\nb\u{1b}[0m\n") ≡ codes "+---+\n| \u{1b}[1ma\u{1b}[22m |\n+---+\n| \u{1b}[1mb\u{1b}[0m |\n+---+\n" }
-    ensures lone_sequence { (options : Options) → options.width ≡ None → compact_of options.style ≡ default_settings → output_of options (codes "\u{1b}[31m") ≡ [] }
-    ensures tab_in_a_string { (options : Options) → options.width ≡ None → compact_of options.style ≡ default_settings → output_of options (codes "\u{1b}]0;a\tb\u{7}x\n") ≡ codes "+---+\n| \u{1b}]0;a\tb\u{7}x |\n+---+\n" }
-    ensures same_color_twice { (options : Options) → options.width ≡ None → compact_of options.style ≡ default_settings → output_of options (codes "\u{1b}[31ma\u{1b}[31mb\n") ≡ codes "+----+\n| \u{1b}[31ma\u{1b}[31mb\u{1b}[39m |\n+----+\n" }
+    ensures two_cells { (wanted : Wanted) → wanted.asked.width ≡ None → wanted.style ≡ default_settings → output_of wanted (codes "\u{1b}[31mab\tc\n") ≡ codes "+----+---+\n| \u{1b}[31mab\u{1b}[39m | \u{1b}[31mc\u{1b}[39m |\n+----+---+\n" }
+    ensures two_lines { (wanted : Wanted) → wanted.asked.width ≡ None → wanted.style ≡ default_settings → output_of wanted (codes "\u{1b}[1ma\nb\u{1b}[0m\n") ≡ codes "+---+\n| \u{1b}[1ma\u{1b}[22m |\n+---+\n| \u{1b}[1mb\u{1b}[0m |\n+---+\n" }
+    ensures lone_sequence { (wanted : Wanted) → wanted.asked.width ≡ None → wanted.style ≡ default_settings → output_of wanted (codes "\u{1b}[31m") ≡ [] }
+    ensures tab_in_a_string { (wanted : Wanted) → wanted.asked.width ≡ None → wanted.style ≡ default_settings → output_of wanted (codes "\u{1b}]0;a\tb\u{7}x\n") ≡ codes "+---+\n| \u{1b}]0;a\tb\u{7}x |\n+---+\n" }
+    ensures same_color_twice { (wanted : Wanted) → wanted.asked.width ≡ None → wanted.style ≡ default_settings → output_of wanted (codes "\u{1b}[31ma\u{1b}[31mb\n") ≡ codes "+----+\n| \u{1b}[31ma\u{1b}[31mb\u{1b}[39m |\n+----+\n" }
 {}
 
 /// Tables in a width, worked out by hand: their bytes. A coloured text is wrapped, each line in its own
 /// colour, and a style that ended before a break stays ended; it is cut; words are kept; at width 0 only the
 /// paddings stay; columns give in turns, or the widest first; a width that the table doesn't pass changes nothing.
 pub fn worked_widths()
-    ensures wrapped { (options : Options) → asked_of options ≡ wraps 6 false InTurns → compact_of options.style ≡ default_settings → output_of options (codes "\u{1b}[31m123456\u{1b}[0m\n") ≡ codes "+----+\n| \u{1b}[31m12\u{1b}[39m |\n| \u{1b}[31m34\u{1b}[39m |\n| \u{1b}[31m56\u{1b}[0m |\n+----+\n" }
-    ensures wrapped_behind { (options : Options) → asked_of options ≡ wraps 6 false InTurns → compact_of options.style ≡ default_settings → output_of options (codes "\u{1b}[31m12\u{1b}[0m34\n") ≡ codes "+----+\n| \u{1b}[31m12\u{1b}[0m |\n| 34 |\n+----+\n" }
-    ensures cut { (options : Options) → asked_of options ≡ cuts 6 → compact_of options.style ≡ default_settings → output_of options (codes "\u{1b}[31m123456\u{1b}[0m\n") ≡ codes "+----+\n| \u{1b}[31m12\u{1b}[39m |\n+----+\n" }
-    ensures words { (options : Options) → asked_of options ≡ wraps 8 true InTurns → compact_of options.style ≡ default_settings → output_of options (codes "111 234 1\n") ≡ codes "+------+\n| 111  |\n| 234  |\n| 1    |\n+------+\n" }
-    ensures nothing { (options : Options) → asked_of options ≡ wraps 0 false InTurns → compact_of options.style ≡ default_settings → output_of options (codes "ab\tc\n") ≡ codes "+--+--+\n|  |  |\n+--+--+\n" }
-    ensures in_turns { (options : Options) → asked_of options ≡ wraps 11 false InTurns → compact_of options.style ≡ default_settings → output_of options (codes "aaaa\tbb\n") ≡ codes "+-----+---+\n| aaa | b |\n| a   | b |\n+-----+---+\n" }
-    ensures widest { (options : Options) → asked_of options ≡ wraps 11 false MaxLeft → compact_of options.style ≡ default_settings → output_of options (codes "aaaa\tbb\n") ≡ codes "+----+----+\n| aa | bb |\n| aa |    |\n+----+----+\n" }
-    ensures natural { (options : Options) → asked_of options ≡ wraps 6 false InTurns → compact_of options.style ≡ default_settings → output_of options (codes "ab\n") ≡ codes "+----+\n| ab |\n+----+\n" }
-    ensures wide { (options : Options) → asked_of options ≡ wraps 100 false InTurns → compact_of options.style ≡ default_settings → output_of options (codes "ab\n") ≡ codes "+----+\n| ab |\n+----+\n" }
+    ensures wrapped { (wanted : Wanted) → wanted.asked ≡ wraps 6 false InTurns → wanted.style ≡ default_settings → output_of wanted (codes "\u{1b}[31m123456\u{1b}[0m\n") ≡ codes "+----+\n| \u{1b}[31m12\u{1b}[39m |\n| \u{1b}[31m34\u{1b}[39m |\n| \u{1b}[31m56\u{1b}[0m |\n+----+\n" }
+    ensures wrapped_behind { (wanted : Wanted) → wanted.asked ≡ wraps 6 false InTurns → wanted.style ≡ default_settings → output_of wanted (codes "\u{1b}[31m12\u{1b}[0m34\n") ≡ codes "+----+\n| \u{1b}[31m12\u{1b}[0m |\n| 34 |\n+----+\n" }
+    ensures cut { (wanted : Wanted) → wanted.asked ≡ cuts 6 → wanted.style ≡ default_settings → output_of wanted (codes "\u{1b}[31m123456\u{1b}[0m\n") ≡ codes "+----+\n| \u{1b}[31m12\u{1b}[39m |\n+----+\n" }
+    ensures words { (wanted : Wanted) → wanted.asked ≡ wraps 8 true InTurns → wanted.style ≡ default_settings → output_of wanted (codes "111 234 1\n") ≡ codes "+------+\n| 111  |\n| 234  |\n| 1    |\n+------+\n" }
+    ensures nothing { (wanted : Wanted) → wanted.asked ≡ wraps 0 false InTurns → wanted.style ≡ default_settings → output_of wanted (codes "ab\tc\n") ≡ codes "+--+--+\n|  |  |\n+--+--+\n" }
+    ensures in_turns { (wanted : Wanted) → wanted.asked ≡ wraps 11 false InTurns → wanted.style ≡ default_settings → output_of wanted (codes "aaaa\tbb\n") ≡ codes "+-----+---+\n| aaa | b |\n| a   | b |\n+-----+---+\n" }
+    ensures widest { (wanted : Wanted) → wanted.asked ≡ wraps 11 false MaxLeft → wanted.style ≡ default_settings → output_of wanted (codes "aaaa\tbb\n") ≡ codes "+----+----+\n| aa | bb |\n| aa |    |\n+----+----+\n" }
+    ensures natural { (wanted : Wanted) → wanted.asked ≡ wraps 6 false InTurns → wanted.style ≡ default_settings → output_of wanted (codes "ab\n") ≡ codes "+----+\n| ab |\n+----+\n" }
+    ensures wide { (wanted : Wanted) → wanted.asked ≡ wraps 100 false InTurns → wanted.style ≡ default_settings → output_of wanted (codes "ab\n") ≡ codes "+----+\n| ab |\n+----+\n" }
 {}
 
 /// The table of a whole text shows the picture of the characters that the text shows, in their styles, and no style is
 /// open where a line of it ends. The style of the table is plain.
 pub fn table_shown()
-    ensures { (options : Options) (input : List ℕ) → IsPlain (compact_of options.style) → IsUtf8 input → IsWhole input → ShowsTableOf options input (output_of options input) }
+    ensures { (wanted : Wanted) (input : List ℕ) → IsPlain wanted.style → IsUtf8 input → IsWhole input → ShowsTableOf wanted input (output_of wanted input) }
 {}
 
 /// The places of an ASCII character in a text are those at which it matches.
@@ -94,28 +93,28 @@ pub fn places_match()
 /// a table where the text has one, and it is, byte for byte, the output without its sequences; it is in range where the
 /// text is, and the same cell of it is too wide. What is said of bytes (`plain`, `output`) is said of a plain style.
 pub fn without_styles()
-    ensures picture { (options : Options) (characters : List Styled) →
-        characters_of (picture options characters) ≡ characters_of (picture options (map in_plain (characters_of characters))) }
-    ensures characters { (options : Options) (characters : List Styled) →
-        characters_of (picture options characters) ≡ table_characters options (characters_of characters) }
-    ensures plain { (options : Options) (text : List ℕ) → IsPlain (compact_of options.style) → IsUtf8 text → has_escape text ≡ false →
-        output_of options text ≡ encode_utf8_all (table_characters options (chars text)) }
-    ensures accepted { (options : Options) (input : List ℕ) (ps : List Piece) →
-        ArePiecesOf input ps → HasTable options input → HasTable options (strip ps) }
-    ensures fits { (options : Options) (input : List ℕ) (ps : List Piece) → ArePiecesOf input ps → (TableFits options (strip ps) ↔ TableFits options input) }
-    ensures too_wide { (options : Options) (input : List ℕ) (ps : List Piece) → ArePiecesOf input ps → wide_cell options (strip ps) ≡ wide_cell options input }
-    ensures output { (options : Options) (input : List ℕ) (ps qs : List Piece) → IsPlain (compact_of options.style) →
-        IsUtf8 input → ArePiecesOf input ps → NoneBroken ps → ArePiecesOf (output_of options input) qs → strip qs ≡ output_of options (strip ps) }
+    ensures picture { (wanted : Wanted) (characters : List Styled) →
+        characters_of (picture wanted characters) ≡ characters_of (picture wanted (map in_plain (characters_of characters))) }
+    ensures characters { (wanted : Wanted) (characters : List Styled) →
+        characters_of (picture wanted characters) ≡ table_characters wanted (characters_of characters) }
+    ensures plain { (wanted : Wanted) (text : List ℕ) → IsPlain wanted.style → IsUtf8 text → has_escape text ≡ false →
+        output_of wanted text ≡ encode_utf8_all (table_characters wanted (chars text)) }
+    ensures accepted { (wanted : Wanted) (input : List ℕ) (ps : List Piece) →
+        ArePiecesOf input ps → HasTable wanted input → HasTable wanted (strip ps) }
+    ensures fits { (wanted : Wanted) (input : List ℕ) (ps : List Piece) → ArePiecesOf input ps → (TableFits wanted (strip ps) ↔ TableFits wanted input) }
+    ensures too_wide { (wanted : Wanted) (input : List ℕ) (ps : List Piece) → ArePiecesOf input ps → wide_cell wanted (strip ps) ≡ wide_cell wanted input }
+    ensures output { (wanted : Wanted) (input : List ℕ) (ps qs : List Piece) → IsPlain wanted.style →
+        IsUtf8 input → ArePiecesOf input ps → NoneBroken ps → ArePiecesOf (output_of wanted input) qs → strip qs ≡ output_of wanted (strip ps) }
 {}
 
 /// The output is drawn by the pieces of a grid: it is the lines of the grid, each the bytes of its pieces and
 /// then a line feed. Where the input has a table, the pieces of each line stand side by side from column 0
 /// to the table's width, with no gap and no overlap. The style is plain.
 pub fn tiling()
-    ensures output { (options : Options) (input : List ℕ) → IsPlain (compact_of options.style) →
-        output_of options input ≡ flat_map (λ y. line_bytes options input y ++ line_feed ∷ []) (range_with_len 0 (line_count (grid_of options input).frame)) }
-    ensures lines { (options : Options) (input : List ℕ) (y : ℕ) → HasTable options input →
-        Tiles 0 (picture_line (grid_of options input) y) (total_width (grid_of options input).frame) }
+    ensures output { (wanted : Wanted) (input : List ℕ) → IsPlain wanted.style →
+        output_of wanted input ≡ flat_map (λ y. line_bytes wanted input y ++ line_feed ∷ []) (range_with_len 0 (line_count (grid_of wanted input).frame)) }
+    ensures lines { (wanted : Wanted) (input : List ℕ) (y : ℕ) → HasTable wanted input →
+        Tiles 0 (picture_line (grid_of wanted input) y) (total_width (grid_of wanted input).frame) }
 {}
 
 /// What the pieces are. In each line of the rectangle of a cell those between its first column and its last
@@ -123,40 +122,40 @@ pub fn tiling()
 /// with just the bytes that it has there. All other pieces are characters, each in as many columns as it
 /// takes. The cell's text is its part of the input, wrapped or cut where its column gave.
 pub fn cell_lines_keep_their_bytes()
-    ensures blocks { (options : Options) (input : List ℕ) (i j y : ℕ) → HasTable options input →
-        i < row_count (grid_of options input).frame → j < column_count (grid_of options input).frame →
-        IsLineOf (grid_of options input) (at i j) y → ShowsBlock (grid_of options input) (at i j) y }
-    ensures texts { (options : Options) (input : List ℕ) (piece : TablePiece) (cell : Cell) (k : ℕ) → piece.part.content ≡ TextLine cell k →
-        piece_bytes options input piece ≡ slice_index_or (text_lines (text_at (kept_of options input) cell)) k [] }
-    ensures fills { (options : Options) (input : List ℕ) (piece : TablePiece) (c : ℕ) → piece.part.content ≡ Fill c →
-        piece_bytes options input piece ≡ flat_map encode_utf8 (replicate piece.part.width c) }
-    ensures glyphs { (options : Options) (input : List ℕ) (piece : TablePiece) (c : ℕ) → piece.part.content ≡ Glyph c →
-        piece_bytes options input piece ≡ flat_map encode_utf8 (replicate piece.part.width c) }
-    ensures kept { (options : Options) (input : List ℕ) (cell : Cell) → IsInside (cell_parts input) cell →
-        text_at (kept_of options input) cell ≡ resized_text (resize_of options input cell.col) (text_at (cell_parts input) cell) }
+    ensures blocks { (wanted : Wanted) (input : List ℕ) (i j y : ℕ) → HasTable wanted input →
+        i < row_count (grid_of wanted input).frame → j < column_count (grid_of wanted input).frame →
+        IsLineOf (grid_of wanted input) (at i j) y → ShowsBlock (grid_of wanted input) (at i j) y }
+    ensures texts { (wanted : Wanted) (input : List ℕ) (piece : TablePiece) (cell : Cell) (k : ℕ) → piece.part.content ≡ TextLine cell k →
+        piece_bytes wanted input piece ≡ slice_index_or (text_lines (text_at (kept_of wanted input) cell)) k [] }
+    ensures fills { (wanted : Wanted) (input : List ℕ) (piece : TablePiece) (c : ℕ) → piece.part.content ≡ Fill c →
+        piece_bytes wanted input piece ≡ flat_map encode_utf8 (replicate piece.part.width c) }
+    ensures glyphs { (wanted : Wanted) (input : List ℕ) (piece : TablePiece) (c : ℕ) → piece.part.content ≡ Glyph c →
+        piece_bytes wanted input piece ≡ flat_map encode_utf8 (replicate piece.part.width c) }
+    ensures kept { (wanted : Wanted) (input : List ℕ) (cell : Cell) → IsInside (cell_parts input) cell →
+        text_at (kept_of wanted input) cell ≡ resized_text (resize_of wanted input cell.col) (text_at (cell_parts input) cell) }
 {}
 
 /// Each piece takes just the columns that it stands on: a line of a cell measures so many, and the characters
 /// of a glyph or a fill take them one by one. In the style of `Options::new` these measure so many as one
 /// text too. The style is plain, and the input a whole text.
 pub fn measured_pieces()
-    ensures each { (options : Options) (input : List ℕ) (y : ℕ) → IsPlain (compact_of options.style) → IsUtf8 input → IsWhole input →
-        All (λ piece. piece_columns options input piece ≡ piece.part.width) (picture_line (grid_of options input) y) }
-    ensures default_style { (options : Options) (input : List ℕ) (y : ℕ) → compact_of options.style ≡ default_settings → IsUtf8 input → IsWhole input →
-        All (λ piece. measure (shown_chars (piece_bytes options input piece)) ≡ piece.part.width) (picture_line (grid_of options input) y) }
+    ensures each { (wanted : Wanted) (input : List ℕ) (y : ℕ) → IsPlain wanted.style → IsUtf8 input → IsWhole input →
+        All (λ piece. piece_columns wanted input piece ≡ piece.part.width) (picture_line (grid_of wanted input) y) }
+    ensures default_style { (wanted : Wanted) (input : List ℕ) (y : ℕ) → wanted.style ≡ default_settings → IsUtf8 input → IsWhole input →
+        All (λ piece. measure (shown_chars (piece_bytes wanted input piece)) ≡ piece.part.width) (picture_line (grid_of wanted input) y) }
 {}
 
 /// An input that has no table is refused by one name and place alone, memory and the reader aside; one that has
 /// a table is never refused by such a name.
 pub fn one_refusal()
-    ensures one { (options : Options) (input : List ℕ) (fault other : RunFault) → TellsOfInput fault → TellsOfInput other →
-        MayRefuse options input fault → MayRefuse options input other → fault ≡ other }
-    ensures no_table { (options : Options) (input : List ℕ) (fault : RunFault) → TellsOfInput fault → MayRefuse options input fault → ¬ (HasTable options input) }
+    ensures one { (wanted : Wanted) (input : List ℕ) (fault other : RunFault) → TellsOfInput fault → TellsOfInput other →
+        MayRefuse wanted input fault → MayRefuse wanted input other → fault ≡ other }
+    ensures no_table { (wanted : Wanted) (input : List ℕ) (fault : RunFault) → TellsOfInput fault → MayRefuse wanted input fault → ¬ (HasTable wanted input) }
 {}
 
 /// Without a width no line takes more columns than its column has.
 pub fn no_cell_is_too_wide()
-    ensures { (options : Options) (input : List ℕ) → options.width ≡ None → wide_cell options input ≡ None }
+    ensures { (wanted : Wanted) (input : List ℕ) → wanted.asked.width ≡ None → wide_cell wanted input ≡ None }
 {}
 
 /// The style of `Options::new` is plain, so that `run` takes it.
@@ -168,11 +167,11 @@ pub fn default_style_is_plain()
 /// options of that style without a width, whatever else they have. They refuse the same inputs by the same
 /// names, memory aside, and write the same bytes.
 pub fn streamed_tables_are_tables()
-    ensures bytes { (options : Options) (input : List ℕ) → options.width ≡ None → output_of (without_width options.style) input ≡ output_of options input }
-    ensures accepted { (options : Options) (input : List ℕ) → options.width ≡ None → (HasTable (without_width options.style) input ↔ HasTable options input) }
-    ensures refuses { (options : Options) (input : List ℕ) (fault : RunFault) → options.width ≡ None → (MayRefuse (without_width options.style) input fault ↔ MayRefuse options input fault) }
-    ensures serves { (options : Options) (input : List ℕ) (result : Result ⊤ RunFault) (old new : Option (List ℕ)) → options.width ≡ None →
-        (Serves (without_width options.style) input result old new ↔ Serves options input result old new) }
+    ensures bytes { (wanted : Wanted) (input : List ℕ) → wanted.asked.width ≡ None → output_of (without_width wanted.style) input ≡ output_of wanted input }
+    ensures accepted { (wanted : Wanted) (input : List ℕ) → wanted.asked.width ≡ None → (HasTable (without_width wanted.style) input ↔ HasTable wanted input) }
+    ensures refuses { (wanted : Wanted) (input : List ℕ) (fault : RunFault) → wanted.asked.width ≡ None → (MayRefuse (without_width wanted.style) input fault ↔ MayRefuse wanted input fault) }
+    ensures serves { (wanted : Wanted) (input : List ℕ) (result : Result ⊤ RunFault) (old new : Option (List ℕ)) → wanted.asked.width ≡ None →
+        (Serves (without_width wanted.style) input result old new ↔ Serves wanted input result old new) }
 {}
 
 /// `==` of faults is equality; a clone is the same fault, and is never refused; one is printed in its own

@@ -2,8 +2,9 @@
 ghost use Rattle.std.specs.Prelude.{◌≡◌, IfErr, IfOk, string_bytes};
 ghost use Rattle.ansi_scan.specs.Sequences.{IsFirstBroken, IsWhole};
 ghost use Rattle.columns_run.specs.Fault.{IsOfInput};
-ghost use Rattle.columns_run.specs.Layout.{asked_of, output_of};
+ghost use Rattle.columns_run.specs.Layout.{output_of};
 ghost use Rattle.columns_run.specs.Run.{MayAnswer};
+ghost use Rattle.columns_run.specs.Wanted.{asked_of, wanted_of};
 
 use crate::fault::RunFault;
 use crate::plain_rows::rows_of;
@@ -19,8 +20,8 @@ use std::alloc::Global;
 /// `usize::MAX`, as `LineTooWide` where a line of a cell takes more columns than its column has, and as
 /// `Memory` where allocation fails. A text without ESC is not copied.
 pub fn text_table(alloc: Global, options: &Options, text: &str) -> Result<String, RunFault>
-    ensures answers { MayAnswer options.now text.now result }
-    ensures table { IfOk result (λ table. string_bytes table ≡ output_of options.now text.now) }
+    ensures answers { MayAnswer (wanted_of options.now) text.now result }
+    ensures table { IfOk result (λ table. string_bytes table ≡ output_of (wanted_of options.now) text.now) }
     ensures faults { IfErr result IsOfInput }
 {
     let Some(rows) = rows_of(alloc, text)? else {
@@ -32,8 +33,8 @@ pub fn text_table(alloc: Global, options: &Options, text: &str) -> Result<String
 
 // The same of a text with sequences.
 fn styled_table(alloc: Global, options: &Options, text: &str) -> Result<String, RunFault>
-    ensures answers { MayAnswer options.now text.now result }
-    ensures table { IfOk result (λ table. string_bytes table ≡ output_of options.now text.now) }
+    ensures answers { MayAnswer (wanted_of options.now) text.now result }
+    ensures table { IfOk result (λ table. string_bytes table ≡ output_of (wanted_of options.now) text.now) }
     ensures faults { IfErr result IsOfInput }
 {
     let Some(StyledCells { text: own, rows }) = styled_cells(alloc, text)? else {

@@ -4,10 +4,11 @@ ghost use Rattle.std.specs.Io.KnownBytes.{IsAtEnd};
 ghost use Rattle.tabled_output.specs.Counts.{inner_of, FailsIff, HasGivenPieces, OnlyReads, OnlyWrites, TakesNothingIff, TellsEnd, TellsNoEnd};
 ghost use Rattle.columns_run.specs.Fault.{IsOfInput, MayFollowWrites};
 ghost use Rattle.grid_config.specs.Compact.{compact_of};
-ghost use Rattle.columns_run.specs.Layout.{output_of, without_width};
+ghost use Rattle.columns_run.specs.Layout.{output_of};
 ghost use Rattle.columns_run.specs.Plain.{IsPlain};
 ghost use Rattle.tabled_output.specs.Streams.{ConsumesSome};
 ghost use Rattle.columns_run.specs.Run.{MayAnswer, Serves, LeavesAlone, HasReadAll, read_limit};
+ghost use Rattle.columns_run.specs.Wanted.{wanted_of, without_width};
 
 use crate::fault::RunFault;
 use crate::input::{read_all, text_of};
@@ -37,15 +38,15 @@ pub fn run<R: Read, W: Write>(
 
     // Where the reader's bytes are known, they decide the answer and what is written.
     ensures known_input { IfSome (R.remaining (inner_of reader.old)) (λ input.
-        Serves options.now input result (W.contents (inner_of writer.old)) (W.contents (inner_of writer.new))
-        × LeavesAlone options.now input writer.old writer.new) }
+        Serves (wanted_of options.now) input result (W.contents (inner_of writer.old)) (W.contents (inner_of writer.new))
+        × LeavesAlone (wanted_of options.now) input writer.old writer.new) }
 
     // Where they are not, the same holds of some bytes. Nothing but the counts below ties these to what the
     // reader gave.
     ensures some_input { ConsumesSome (R.remaining (inner_of reader.old))
         (R.remaining (inner_of reader.new)) (λ input.
-        Serves options.now input result (W.contents (inner_of writer.old)) (W.contents (inner_of writer.new))
-        × LeavesAlone options.now input writer.old writer.new) }
+        Serves (wanted_of options.now) input result (W.contents (inner_of writer.old)) (W.contents (inner_of writer.new))
+        × LeavesAlone (wanted_of options.now) input writer.old writer.new) }
     ensures at_end { HasReadAll result → IsAtEnd (R.remaining (inner_of reader.new)) }
 
     // The reader tells its end once, by its last answer, and else not.
@@ -85,15 +86,15 @@ pub fn run_streamed<R: Read, W: Write>(
 
     // Where the reader's bytes are known, they decide the answer and what is written.
     ensures known_input { IfSome (R.remaining (inner_of reader.old)) (λ input.
-        Serves (without_width style.now) input result (W.contents (inner_of writer.old)) (W.contents (inner_of writer.new))
-        × LeavesAlone (without_width style.now) input writer.old writer.new) }
+        Serves (without_width (compact_of style.now)) input result (W.contents (inner_of writer.old)) (W.contents (inner_of writer.new))
+        × LeavesAlone (without_width (compact_of style.now)) input writer.old writer.new) }
 
     // Where they are not, the same holds of some bytes. Nothing but the counts below ties these to what the
     // reader gave.
     ensures some_input { ConsumesSome (R.remaining (inner_of reader.old))
         (R.remaining (inner_of reader.new)) (λ input.
-        Serves (without_width style.now) input result (W.contents (inner_of writer.old)) (W.contents (inner_of writer.new))
-        × LeavesAlone (without_width style.now) input writer.old writer.new) }
+        Serves (without_width (compact_of style.now)) input result (W.contents (inner_of writer.old)) (W.contents (inner_of writer.new))
+        × LeavesAlone (without_width (compact_of style.now)) input writer.old writer.new) }
     ensures at_end { HasReadAll result → IsAtEnd (R.remaining (inner_of reader.new)) }
 
     // The reader tells its end once, by its last answer, and else not.
@@ -121,7 +122,7 @@ pub fn run_streamed<R: Read, W: Write>(
 
 // The options of a table in this style that is as wide as its text.
 fn without_width(style: &CompactConfig) -> Options
-    ensures { result ≡ without_width style.now }
+    ensures { wanted_of result ≡ without_width (compact_of style.now) }
 {
     Options {
         width: None,
@@ -134,8 +135,8 @@ fn without_width(style: &CompactConfig) -> Options
 
 // The table of an input, or why it has none.
 fn table_of(alloc: Global, options: &Options, bytes: &[u8]) -> Result<String, RunFault>
-    ensures answers { MayAnswer options.now bytes.now result }
-    ensures table { IfOk result (λ table. string_bytes table ≡ output_of options.now bytes.now) }
+    ensures answers { MayAnswer (wanted_of options.now) bytes.now result }
+    ensures table { IfOk result (λ table. string_bytes table ≡ output_of (wanted_of options.now) bytes.now) }
     ensures faults { IfErr result IsOfInput }
 {
     text_table(alloc, options, text_of(bytes)?)

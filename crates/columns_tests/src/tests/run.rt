@@ -3,6 +3,7 @@ ghost use Rattle.std.specs.Prelude.{◌≡◌, IfOk};
 ghost use Rattle.grid_config.specs.Compact.{compact_of};
 ghost use Rattle.columns_run.specs.Layout.{output_of};
 ghost use Rattle.columns_run.specs.Plain.{IsPlain};
+ghost use Rattle.columns_run.specs.Wanted.{wanted_of};
 
 use super::printing::{FAULTS, TABLES, WAYS, Way, defaults, expect_taken, print};
 use super::readers::ByteReader;
@@ -21,7 +22,7 @@ const TABLE: &[u8] = b"+---+---+\n| a | b |\n+---+---+\n| 1 | 2 |\n+---+---+\n";
 // The contract of `run` tells its caller which bytes these are.
 fn table_bytes(alloc: Global, options: &Options, input: &[u8]) -> Result<Vec<u8>, RunFault>
     requires { IsPlain (compact_of options.now.style) }
-    ensures { IfOk result (λ bytes. bytes.items ≡ output_of options.now input.now) }
+    ensures { IfOk result (λ bytes. bytes.items ≡ output_of (wanted_of options.now) input.now) }
 {
     let mut writer = Counted::new(Vec::new(alloc));
     run(alloc, options, &mut Counted::new(input), &mut writer)?;

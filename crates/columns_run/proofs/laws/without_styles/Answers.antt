@@ -6,7 +6,7 @@ pub returns : goal.returns
 returns c = record {
   picture = picture-plain;
   characters = picture-alone;
-  plain = λ options text plain utf8 none. output-plain text utf8 none options plain;
+  plain = λ wanted text plain utf8 none. output-plain text utf8 none wanted plain;
   accepted = HasTable-strip;
   fits = fits-strip;
   too_wide = wide_cell-strip;

@@ -8,6 +8,7 @@ use Rattle.columns_table.specs.declared.cells.LineCell.{LineCell}
 use Rattle.columns_table.specs.declared.rows.Rows.{Rows}
 use Rattle.columns_run.specs.Cells.{line_rows, rows_shown, shown}
 use Rattle.columns_run.specs.Styled.{cell_lines}
+use Rattle.columns_run.specs.Wanted.{wanted_of}
 use Rattle.columns_run.specs.declared.styled_rows.StyledCells.{StyledCells}
 use Rattle.columns_run.proofs.CellLemmas.{whole_text}
 use Rattle.columns_run.proofs.OneLineLemmas.{cells-measured}
@@ -45,14 +46,14 @@ pub returns-in_err-rows_table-clause-answers : goal.returns-in_err-rows_table-cl
 returns-in_err-rows_table-clause-answers c =
     let rows = c.of-rows.result in
     let are = known (goal.at.returns-in_err-rows_table-clause-answers c).After-of-rows in
-    refused c.args.options.now c.args.text.now c.utf8.text are.whole rows are.are
+    refused (wanted_of c.args.options.now) c.args.text.now c.utf8.text are.whole rows are.are
     c.asked_of-asked.result c.asked_of-asked.ensures c.in_err-rows_table.field-0.0 c.from_residual-in_err-rows_table.result (search rules) c.in_err-rows_table.ensures.refused
 
 pub returns-clause-answers : goal.returns-clause-answers
 returns-clause-answers c =
     let rows = c.of-rows.result in
     let are = known (goal.at.returns-clause-answers c).After-of-rows in
-    has-table c.args.options.now c.args.text.now c.utf8.text are.whole rows are.are
+    has-table (wanted_of c.args.options.now) c.args.text.now c.utf8.text are.whole rows are.are
     c.asked_of-asked.result c.asked_of-asked.ensures c.in_ok-rows_table.ensures.fits
 
 pub returns-clause-table : goal.returns-clause-table
@@ -60,5 +61,5 @@ returns-clause-table c =
     let rows = c.of-rows.result in
     let are = known (goal.at.returns-clause-table c).After-of-rows in
     c.in_ok-rows_table.ensures.table
-    ∙ output-is c.args.options.now c.args.text.now c.utf8.text are.whole rows are.are
+    ∙ output-is (wanted_of c.args.options.now) c.args.text.now c.utf8.text are.whole rows are.are
     c.asked_of-asked.result c.asked_of-asked.ensures

@@ -5,6 +5,7 @@ use Rattle.ansi_str_text.specs.StyledText.{has_escape}
 use Rattle.columns_table.specs.declared.rows.Rows.{Rows}
 use Rattle.columns_run.specs.Cells.{byte_line, line_rows, rows_shown, shown}
 use Rattle.columns_run.specs.Rows.{rows_of}
+use Rattle.columns_run.specs.Wanted.{wanted_of}
 use Rattle.columns_run.proofs.CellLemmas.{whole_text}
 use Rattle.columns_run.proofs.OneLineLemmas.{cells-measured}
 use Rattle.columns_run.proofs.PlaceLemmas.{IsWhole-without_escape}
@@ -37,7 +38,7 @@ returns-in_err-rows_table-clause-answers c =
     let text = c.args.text.now in
     let rows = c.in-Some.rows in
     let known = are_of text c.in_ok-rows.field-0 rows c.in-Some.is c.in_ok-rows.ensures.plain c.in_ok-rows.ensures.rows in
-    refused c.args.options.now text c.utf8.text (IsWhole-without_escape text known.none) rows known.are
+    refused (wanted_of c.args.options.now) text c.utf8.text (IsWhole-without_escape text known.none) rows known.are
     c.asked_of-asked.result c.asked_of-asked.ensures c.in_err-rows_table.field-0.0 c.from_residual-in_err-rows_table.result (search rules) c.in_err-rows_table.ensures.refused
 
 pub returns-clause-answers : goal.returns-clause-answers
@@ -45,7 +46,7 @@ returns-clause-answers c =
     let text = c.args.text.now in
     let rows = c.in-Some.rows in
     let known = are_of text c.in_ok-rows.field-0 rows c.in-Some.is c.in_ok-rows.ensures.plain c.in_ok-rows.ensures.rows in
-    has-table c.args.options.now text c.utf8.text (IsWhole-without_escape text known.none) rows known.are
+    has-table (wanted_of c.args.options.now) text c.utf8.text (IsWhole-without_escape text known.none) rows known.are
     c.asked_of-asked.result c.asked_of-asked.ensures c.in_ok-rows_table.ensures.fits
 
 pub returns-clause-table : goal.returns-clause-table
@@ -54,5 +55,5 @@ returns-clause-table c =
     let rows = c.in-Some.rows in
     let known = are_of text c.in_ok-rows.field-0 rows c.in-Some.is c.in_ok-rows.ensures.plain c.in_ok-rows.ensures.rows in
     c.in_ok-rows_table.ensures.table
-    ∙ output-is c.args.options.now text c.utf8.text (IsWhole-without_escape text known.none) rows known.are
+    ∙ output-is (wanted_of c.args.options.now) text c.utf8.text (IsWhole-without_escape text known.none) rows known.are
     c.asked_of-asked.result c.asked_of-asked.ensures
