@@ -12,5 +12,5 @@ count_lines-requires g c =
     let heights = c.args.table.now.2.now in
     record {
       range = subst (λ (sizes : List ℕ). line_count (frame_of look sizes heights) < 2 ^ 64) (by_number widths (length widths) refl)
-          (subst (λ (sizes : List ℕ). line_count (frame_of look (sizes_of (slice_index widths) (length widths)) sizes) < 2 ^ 64) (by_number heights (length heights) refl) c.in_ok-fits_counted.ensures.1.1);
+          (subst (λ (sizes : List ℕ). line_count (frame_of look (sizes_of (slice_index widths) (length widths)) sizes) < 2 ^ 64) (by_number heights (length heights) refl) c.in_ok-fits_counted.ensures.answer.1.1);
     }
