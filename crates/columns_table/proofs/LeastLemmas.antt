@@ -16,6 +16,7 @@ use Rattle.grid_records_estimate.specs.Sizing.{column_axis, compact_sizing, plac
 use Rattle.grid_records_measure.specs.TextLines.{text_height, text_width}
 use Rattle.grid_records_traits.specs.Rows.{fitted, fitted_row, text_at}
 use Rattle.columns_asked.specs.Layout.{column_count, heights_of, widths_of}
+use Rattle.columns_asked.proofs.NarrowLemmas.{map-below}
 use Rattle.columns_table.specs.Least.{padded, width_in}
 use Rattle.columns_table.specs.Records.{IsMeasured}
 use Rattle.columns_table.specs.Rows.{cell_texts, cut}
@@ -29,12 +30,6 @@ use Rattle.columns_table.proofs.SizeLemmas.{columns-cut}
 nothing-from : {X : Type 0} (f : ℕ → List X) (a n : ℕ) → ((k : ℕ) → a ≤ k → f k ≡ []) → flat_map f (range_with_len a n) ≡ []
 nothing-from f a zero h = refl
 nothing-from f a (suc n) h = ap (λ xs. xs ++ flat_map f (range_with_len (a + 1) n)) (h a (omega arith)) ∙ nothing-from f (a + 1) n (λ k low. h k (omega (arith, low)))
-
-map-below : {X : Type 0} (f g : ℕ → X) (a n : ℕ) → ((k : ℕ) → a ≤ k → k < a + n → f k ≡ g k) → map f (range_with_len a n) ≡ map g (range_with_len a n)
-map-below f g a zero h = refl
-map-below f g a (suc n) h =
-    ap (λ x. x ∷ map f (range_with_len (a + 1) n)) (h a (omega arith) (omega arith))
-    ∙ ap (λ xs. g a ∷ xs) (map-below f g (a + 1) n (λ k low high. h k (omega (arith, low)) (omega (arith, high))))
 
 sized : {N : Type 0} (size : N → ℕ) (make : ℕ → N) (p : ℕ → Bool) (crossings : List ℕ) → filter p crossings ≡ crossings
     → greatest (map size (map make (filter p crossings))) ≡ greatest (map (λ c. size (make c)) crossings)

@@ -1,4 +1,5 @@
 pub mod AnswerLemmas
+pub mod AskedWidths
 pub mod CellLemmas
 pub mod CutLemmas
 pub mod EndLemmas
@@ -10,6 +11,7 @@ pub mod NaturalLemmas
 pub mod PlacedLemmas
 pub mod RecordLemmas
 pub mod RoomLemmas
+pub mod SeenLines
 pub mod SizeLemmas
 pub mod StartLemmas
 pub mod WidestLemmas

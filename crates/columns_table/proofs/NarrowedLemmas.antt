@@ -88,7 +88,7 @@ module _ (style : Compact) (asked : Asked) where
         let same : shrunk_list asked.priority leasts (total - w) natural ≡ widths = cc told in
         (omega (arith, more), ap (λ (sizes : List ℕ). length sizes) (sym same) ∙ shrunk-length asked.priority leasts (total - w) natural (shrunk_list asked.priority leasts (total - w) natural) (shrunk_list-meets asked.priority leasts (total - w) natural))
 
-some-of-table : (style : Compact) (widths heights : List ℕ) → 0 < table_width (frame_of (compact_look style) widths heights) → (0 < length widths) × (0 < length heights)
+pub some-of-table : (style : Compact) (widths heights : List ℕ) → 0 < table_width (frame_of (compact_look style) widths heights) → (0 < length widths) × (0 < length heights)
 some-of-table style widths [] some = absurd (omega (arith, some))
 some-of-table style [] (height ∷ heights) some =
     let none : table_width (frame_of (compact_look style) [] (height ∷ heights)) ≡ 0 = no_columns (length (height ∷ heights) == 0) (total_width (frame_of (compact_look style) [] (height ∷ heights))) in
@@ -117,10 +117,10 @@ module _ (style : Compact) (asked : Asked) (texts : List (List (List ℕ))) (wid
   pub some-sizes : (0 < length (widths_of style texts)) × (0 < length (heights_of style texts))
   some-sizes = some-of-table style (widths_of style texts) (heights_of style texts) facts.0
 
-  columns-are : length widths ≡ column_count texts
+  pub columns-are : length widths ≡ column_count texts
   columns-are = facts.1 ∙ width-each style texts some-sizes.1
 
-  some-columns : 0 < length widths
+  pub some-columns : 0 < length widths
   some-columns = omega (arith, facts.1, some-sizes.0)
 
   pub some-rows : 0 < length texts
@@ -130,14 +130,14 @@ module _ (style : Compact) (asked : Asked) (texts : List (List (List ℕ))) (wid
   unfolding kept_texts
   kept-is = ap (λ (given : Option (List ℕ)). map (by_column (λ column. resized_text (resize_in style asked given column)) 0) texts) told
 
-  widths-are : asked_widths style asked texts ≡ widths
+  pub widths-are : asked_widths style asked texts ≡ widths
   unfolding asked_widths
   widths-are = ap (widths_or style asked (widths_of style texts)) told
 
-  kept-columns : length widths ≡ column_count kept
+  pub kept-columns : length widths ≡ column_count kept
   kept-columns = columns-are ∙ sym (ap (λ (rows : List (List (List ℕ))). column_count rows) kept-is ∙ count-by_column (λ column. resized_text (resize_in style asked (Some widths) column)) texts)
 
-  some-heights-kept : 0 < length (heights_of style kept)
+  pub some-heights-kept : 0 < length (heights_of style kept)
   some-heights-kept =
       let same : length kept ≡ length texts = ap (λ (rows : List (List (List ℕ))). length rows) kept-is ∙ length-map texts (by_column (λ column. resized_text (resize_in style asked (Some widths) column)) 0) in
       let some : 0 < column_count kept = omega (arith, kept-columns, some-columns) in
@@ -244,15 +244,15 @@ all-same [] = refl
 all-same (row ∷ rows) = ap (λ (r : List (List ℕ)). r ∷ map (by_column (λ _. resized_text Keep) 0) rows) (by_column-same 0 row) ∙ ap (λ (rest : List (List (List ℕ))). row ∷ rest) (all-same rows)
 
 module _ (style : Compact) (asked : Asked) (texts : List (List (List ℕ))) (told : narrowed style asked texts ≡ None) where
-  kept-natural : kept_texts style asked texts ≡ texts
+  pub kept-natural : kept_texts style asked texts ≡ texts
   unfolding kept_texts
   kept-natural = ap (λ (given : Option (List ℕ)). map (by_column (λ column. resized_text (resize_in style asked given column)) 0) texts) told ∙ all-same texts
 
-  widths-natural : asked_widths style asked texts ≡ widths_of style texts
+  pub widths-natural : asked_widths style asked texts ≡ widths_of style texts
   unfolding asked_widths
   widths-natural = ap (widths_or style asked (widths_of style texts)) told
 
-  frame-natural : asked_frame style asked texts ≡ frame_under style texts
+  pub frame-natural : asked_frame style asked texts ≡ frame_under style texts
   frame-natural =
       ap (λ (sizes : List ℕ). frame_of (compact_look style) sizes (heights_of style (kept_texts style asked texts))) widths-natural
       ∙ ap (λ (rows : List (List (List ℕ))). frame_of (compact_look style) (widths_of style texts) (heights_of style rows)) kept-natural

@@ -5,6 +5,7 @@ mod cell_row;
 mod cells;
 mod ends;
 mod kept;
+pub mod laws;
 mod least;
 mod placed;
 mod row_ends;

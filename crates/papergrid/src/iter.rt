@@ -50,6 +50,7 @@ impl<'a, R: Records, D: Dimension + Drop, C: Colors + Drop> IterGrid<R, D, &'a S
     ghost use Rattle.std.specs.Prelude.{◌≡◌, ◌++◌, ◌⊎◌, Err, IfErr, IfOk, OnErr, OnOk, string_bytes};
     ghost use Rattle.grid_config_values.specs.declared.fault.Fault.TheVariants.{Memory};
     ghost use Rattle.grid_config.specs.Looks.{look_of};
+    ghost use Rattle.grid_config_spans.specs.Spans.{ArePositive};
     ghost use Rattle.grid_records_traits.specs.Rows.{fitted};
     ghost use Rattle.papergrid_fits.specs.Tables.{Fits, IsFitsAnswer};
     ghost use Rattle.papergrid.specs.Grids.{grid_text};
@@ -62,6 +63,7 @@ impl<'a, R: Records, D: Dimension + Drop, C: Colors + Drop> IterGrid<R, D, &'a S
         ensures text { let rows = fitted (R.columns self.entry.records) (R.rows self.entry.records) in OnOk result (string_bytes out.new ≡ string_bytes out.old
             ++ grid_text (look_of self.entry.settings.now) (D.width self.entry.sizes) (D.height self.entry.sizes) (C.color self.entry.colors) (R.columns self.entry.records) rows) }
         ensures fits { IfOk result (λ _. Fits self.entry.settings.now (D.width self.entry.sizes) (D.height self.entry.sizes) (R.columns self.entry.records) (fitted (R.columns self.entry.records) (R.rows self.entry.records))) }
+        ensures positive { OnOk result (ArePositive self.entry.settings.now.spans) }
         ensures refused { OnErr result (string_bytes out.new ≡ string_bytes out.old) }
         ensures fault { IfErr result (λ fault. (fault ≡ Memory)
             ⊎ IsFitsAnswer self.entry.settings.now (D.width self.entry.sizes) (D.height self.entry.sizes) (R.columns self.entry.records) (fitted (R.columns self.entry.records) (R.rows self.entry.records)) (Err fault)) }
@@ -91,6 +93,7 @@ impl<'a, R: Records, D: Dimension + Drop, C: Colors + Drop> IterGrid<R, D, &'a S
         ensures text { let rows = fitted (R.columns self.entry.records) (R.rows self.entry.records) in IfOk result (λ text. string_bytes text
             ≡ grid_text (look_of self.entry.settings.now) (D.width self.entry.sizes) (D.height self.entry.sizes) (C.color self.entry.colors) (R.columns self.entry.records) rows) }
         ensures fits { IfOk result (λ _. Fits self.entry.settings.now (D.width self.entry.sizes) (D.height self.entry.sizes) (R.columns self.entry.records) (fitted (R.columns self.entry.records) (R.rows self.entry.records))) }
+        ensures positive { OnOk result (ArePositive self.entry.settings.now.spans) }
         ensures fault { IfErr result (λ fault. (fault ≡ Memory)
             ⊎ IsFitsAnswer self.entry.settings.now (D.width self.entry.sizes) (D.height self.entry.sizes) (R.columns self.entry.records) (fitted (R.columns self.entry.records) (R.rows self.entry.records)) (Err fault)) }
     {

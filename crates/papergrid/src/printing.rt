@@ -1,7 +1,7 @@
 //! A table is printed where it fits.
 ghost use Rattle.std.specs.Prelude.{◌≡◌, ◌++◌, ◌⊎◌, Err, IfErr, IfOk, IsOk, OnErr, OnOk, Ok, string_bytes};
 ghost use Rattle.grid_config_values.specs.declared.fault.Fault.TheVariants.{Memory};
-ghost use Rattle.grid_config_spans.specs.Spans.{AreGood};
+ghost use Rattle.grid_config_spans.specs.Spans.{AreGood, ArePositive};
 ghost use Rattle.grid_config.specs.Looks.{look_of};
 ghost use Rattle.papergrid_picture.specs.Fitting.{FitsAnswer, InRange};
 ghost use Rattle.papergrid_picture.specs.Tables.{sizes_of, table_text};
@@ -35,6 +35,7 @@ pub(crate) fn print_fitting<R: PeekableRecords, D: Dimension, C: Colors>(
         ⊎ FitsAnswer (sized cfg.now (D.width dims.now) (D.height dims.now) columns rows) (R.rows records.now) (AreGood cfg.now.spans rows columns) (Err fault)) }
     ensures empty { (rows ≡ 0) ⊎ (columns ≡ 0) → IfErr result (λ fault. FitsAnswer (sized cfg.now (D.width dims.now) (D.height dims.now) columns rows) (R.rows records.now) (AreGood cfg.now.spans rows columns) (Err fault)) }
     ensures memory { IfErr result (λ fault. fault ≡ Memory → FitsAnswer (sized cfg.now (D.width dims.now) (D.height dims.now) columns rows) (R.rows records.now) (AreGood cfg.now.spans rows columns) (Ok tt)) }
+    ensures positive { ArePositive cfg.now.spans }
 {
     fits_counted(records, cfg, dims, rows, columns)?;
     print_sized(alloc, records, cfg, dims, colors, rows, columns, out)?;

@@ -3,7 +3,7 @@ ghost use Rattle.std.specs.Prelude.{◌≡◌, ◌<◌, ◌↔◌, IsTrue, map};
 ghost use Rattle.std.specs.List.{find, range_with_len};
 ghost use Rattle.std.specs.Option.{option_map};
 ghost use Rattle.grid_config_values.specs.Entities.{table_positions};
-ghost use Rattle.grid_config_spans.specs.Spans.{AreGood};
+ghost use Rattle.grid_config_spans.specs.Spans.{AreGood, ArePositive};
 ghost use Rattle.papergrid_picture.specs.Fitting.{FitsAnswer, InRange, is_too_wide as is_too_wide_in};
 ghost use Rattle.papergrid_picture.specs.Picture.{at};
 ghost use Rattle.papergrid_fits.specs.Tables.{IsFitsAnswer, sized};
@@ -22,7 +22,8 @@ pub fn fits<R: ExactRecords + PeekableRecords, D: Dimension>(
     cfg: &SpannedConfig,
     dims: &D,
 ) -> Result<(), Fault>
-    ensures { IsFitsAnswer cfg.now (D.width dims.now) (D.height dims.now) (R.columns records.now) (R.rows records.now) result }
+    ensures answer { IsFitsAnswer cfg.now (D.width dims.now) (D.height dims.now) (R.columns records.now) (R.rows records.now) result }
+    ensures positive { ArePositive cfg.now.spans }
 {
     fits_counted(
         records,
@@ -42,7 +43,8 @@ pub fn fits_counted<R: PeekableRecords, D: Dimension>(
     rows: usize,
     columns: usize,
 ) -> Result<(), Fault>
-    ensures { FitsAnswer (sized cfg.now (D.width dims.now) (D.height dims.now) columns rows) (R.rows records.now) (AreGood cfg.now.spans rows columns) result }
+    ensures answer { FitsAnswer (sized cfg.now (D.width dims.now) (D.height dims.now) columns rows) (R.rows records.now) (AreGood cfg.now.spans rows columns) result }
+    ensures positive { ArePositive cfg.now.spans }
 {
     if !cfg.spans_are_good(rows, columns) {
         return Err(Fault::Spans);

@@ -34,7 +34,7 @@ returns-in_err-fits-clause-refused g c =
     let p = err_from_is_err_and c.from_residual-in_err-fits.result c.from_residual-in_err-fits.ensures.1 in
     rw (p.1, p.2)
     (inr (is_fit config (texts_of_rows g.T.Cell.text rows) (value_at table.config.colors) table.dimension config c.in_ok-sizes.sizes (columns_of rows)
-    refl c.in_ok-sizes.ensures.sizes (sym (count_texts g.T.Cell.text rows)) (Err c.in_err-fits.field-0.0) c.in_err-fits.ensures))
+    refl c.in_ok-sizes.ensures.sizes (sym (count_texts g.T.Cell.text rows)) (Err c.in_err-fits.field-0.0) c.in_err-fits.ensures.answer))
 
 pub returns-clause-fits : goal.returns-clause-fits
 returns-clause-fits g c =
@@ -42,4 +42,4 @@ returns-clause-fits g c =
     let config = c.args.config.now in
     let rows = table.records.rows.items in
     is_fit config (texts_of_rows g.T.Cell.text rows) (value_at table.config.colors) table.dimension config c.in_ok-sizes.sizes (columns_of rows)
-    refl c.in_ok-sizes.ensures.sizes (sym (count_texts g.T.Cell.text rows)) (Ok c.in_ok-fits.field-0) c.in_ok-fits.ensures
+    refl c.in_ok-sizes.ensures.sizes (sym (count_texts g.T.Cell.text rows)) (Ok c.in_ok-fits.field-0) c.in_ok-fits.ensures.answer
