@@ -1,8 +1,8 @@
 //! A reader that makes tabs of commas.
 ghost use Rattle.std.specs.Prelude.{◌≡◌};
 ghost use Rattle.std.specs.Option.{option_map};
-ghost use Rattle.pager.specs.Commas.{tab_for, with_tabs};
-ghost use Rattle.pager.specs.declared.commas.Commas.{Commas as Reader};
+ghost use Rattle.examples.specs.Commas.{tab_for, with_tabs};
+ghost use Rattle.examples.specs.declared.commas.Commas.{Commas as Reader};
 
 use std::io;
 use std::io::Read;

@@ -1,23 +1,11 @@
-//! Ten tables, each made by a short program as a user of `tabled` would write it; the program prints them.
-#![tactic(auto)]
-
-mod changed;
-mod made;
-
+//! Tables, each made by a short program as a user of `tabled` would write it, and printed.
+use crate::{changed, kept, made, totals};
 use grid_config::{AlignmentHorizontal, Fault};
 use std::io::Print;
-use std::process::ExitCode;
 use tabled::Table;
 
-/// Prints the tables. Its status is 1 where one is refused, as where an allocation fails.
-fn main(rt: HostRuntime) -> ExitCode {
-    match print(&rt) {
-        Ok(()) => ExitCode::SUCCESS,
-        Err(_) => ExitCode::FAILURE,
-    }
-}
-
-fn print(rt: &HostRuntime) -> Result<(), Fault> {
+/// Prints the tables. Refused where one is, and where an allocation fails.
+pub(crate) fn print(rt: &HostRuntime) -> Result<(), Fault> {
     show(rt, made::fields(rt.alloc())?, Ok(()))?;
     show(rt, made::named(rt.alloc())?, Ok(()))?;
     show(rt, made::numbered(rt.alloc())?, Ok(()))?;
@@ -27,7 +15,10 @@ fn print(rt: &HostRuntime) -> Result<(), Fault> {
     spanned(rt)?;
     broken(rt)?;
     spread(rt)?;
-    centred(rt)
+    centred(rt)?;
+    show(rt, totals::summed(rt.alloc())?, Ok(()))?;
+    wide(rt)?;
+    high(rt)
 }
 
 fn ragged(rt: &HostRuntime) -> Result<(), Fault> {
@@ -63,6 +54,18 @@ fn broken(rt: &HostRuntime) -> Result<(), Fault> {
 fn spread(rt: &HostRuntime) -> Result<(), Fault> {
     let mut table = made::planets(rt.alloc())?;
     let done = changed::spread(&mut table);
+    show(rt, table, done)
+}
+
+fn wide(rt: &HostRuntime) -> Result<(), Fault> {
+    let mut table = made::planets(rt.alloc())?;
+    let done = kept::wide(rt.alloc(), &mut table);
+    show(rt, table, done)
+}
+
+fn high(rt: &HostRuntime) -> Result<(), Fault> {
+    let mut table = made::planets(rt.alloc())?;
+    let done = kept::high(rt.alloc(), &mut table);
     show(rt, table, done)
 }
 

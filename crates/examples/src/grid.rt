@@ -33,7 +33,8 @@ pub fn table(alloc: Global, rows: Vec<Vec<&str>>) -> Result<Option<String>, Faul
     Ok(Some(text?))
 }
 
-fn settings(alloc: Global) -> SpannedConfig {
+// A line between two columns, and none around them.
+pub(crate) fn settings(alloc: Global) -> SpannedConfig {
     let mut lines = Borders::empty();
     lines.vertical = Some('|');
     let mut cfg = SpannedConfig::new(alloc);

@@ -1,6 +1,6 @@
 use Rattle.std.proofs.Common.{◌≡◌, ℕ, ◌<◌, ◌≤◌, get_or}
-use Rattle.pager.specs.Commas.{tab_for}
-use Rattle.pager.proofs.commas.replace_commas.Given as goal
+use Rattle.examples.specs.Commas.{tab_for}
+use Rattle.examples.proofs.commas.replace_commas.Given as goal
 
 abbrev pub invariant-loop-byte : goal.invariant-loop-byte
 invariant-loop-byte l = record {
