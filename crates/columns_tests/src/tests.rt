@@ -2,6 +2,7 @@
 mod counted;
 mod fault;
 mod input;
+mod kinds;
 mod narrowed;
 mod run;
 mod sides;
