@@ -1,0 +1,2 @@
+pub mod Multiline
+pub mod Takers
