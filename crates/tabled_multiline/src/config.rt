@@ -1,8 +1,15 @@
 //! The settings of a table of boxes whose cells are all alike.
+ghost use Rattle.std.specs.Prelude.{◌≡◌, IfErr, IfOk, IsOk};
+ghost use Rattle.grid_config_values.specs.declared.fault.Fault.TheVariants.{Memory};
+ghost use Rattle.grid_config.specs.Looks.{look_of};
+ghost use Rattle.grid_config.specs.Settings.{IsUncolored};
+ghost use Rattle.tabled_multiline.specs.Multiline.{multiline_look};
+
 use grid_config::{
-    ANSIStr, AlignmentHorizontal, AlignmentVertical, Borders, CompactConfig, Formatting, Indent,
-    Sides,
+    ANSIStr, AlignmentHorizontal, AlignmentVertical, Borders, CompactConfig, Entity, Fault,
+    Formatting, Indent, Sides, SpannedConfig,
 };
+use std::alloc::Global;
 
 /// The settings of a table whose cells are all alike: those of a compact table, where texts of several lines
 /// stand in their rectangles, and how these lines are laid out. No call allocates.
@@ -14,7 +21,6 @@ pub struct CompactMultilineConfig {
 }
 
 impl CompactMultilineConfig {
-    ghost use Rattle.std.specs.Prelude.{◌≡◌};
     ghost use Rattle.grid_config.specs.Compact.{border_colors, compact_of, new_compact, side_colors};
     ghost use Rattle.tabled_multiline.specs.Multiline.{multiline_of, over, with_compact};
 
@@ -35,6 +41,17 @@ impl CompactMultilineConfig {
             alignment_vertical: AlignmentVertical::Top,
             formatting: Formatting::new(false, false, false),
         }
+    }
+
+    /// The same settings for every cell of a table, for which it allocates. Fails only where allocation fails,
+    /// and never where no colour is set: none that has a text.
+    pub fn into_spanned_config(self, alloc: Global) -> Result<SpannedConfig, Fault>
+        ensures settings { IfOk result (λ config. look_of config ≡ multiline_look (multiline_of self)) }
+        ensures answers { IsUncolored (multiline_of self).compact → IsOk result }
+        ensures refused { IfErr result (λ fault. fault ≡ Memory) }
+    {
+        let config = SpannedConfig::from_compact_config(alloc, self.compact)?;
+        Ok(laid_out(config, self.alignment_vertical, self.formatting))
     }
 
     /// Sets the margin round the table.
@@ -164,9 +181,30 @@ impl CompactMultilineConfig {
     }
 }
 
+// The settings with this alignment and these trims in every cell.
+fn laid_out(
+    config: SpannedConfig,
+    vertical: AlignmentVertical,
+    formatting: Formatting,
+) -> SpannedConfig
+    ensures { look_of result ≡ record (look_of config) {
+      alignment_vertical = λ _. vertical;
+      line_alignment = λ _. formatting.allow_lines_alignment;
+      trim_horizontal = λ _. formatting.horizontal_trim;
+      trim_vertical = λ _. formatting.vertical_trim;
+    } }
+{
+    let mut config = config;
+    // for all cells none is refused
+    let _aligned = config.set_alignment_vertical(Entity::Global, vertical);
+    let _lines = config.set_line_alignment(Entity::Global, formatting.allow_lines_alignment);
+    let _sides = config.set_trim_horizontal(Entity::Global, formatting.horizontal_trim);
+    let _ends = config.set_trim_vertical(Entity::Global, formatting.vertical_trim);
+    config
+}
+
 /// The settings of `new`.
 impl Default for CompactMultilineConfig {
-    ghost use Rattle.std.specs.Prelude.{◌≡◌};
     ghost use Rattle.grid_config.specs.Compact.{new_compact};
     ghost use Rattle.tabled_multiline.specs.Multiline.{multiline_of, over};
 
@@ -179,7 +217,6 @@ impl Default for CompactMultilineConfig {
 
 /// The settings of `from_compact`.
 impl From<CompactConfig> for CompactMultilineConfig {
-    ghost use Rattle.std.specs.Prelude.{◌≡◌};
     ghost use Rattle.grid_config.specs.Compact.{compact_of};
     ghost use Rattle.tabled_multiline.specs.Multiline.{multiline_of, over};
 
@@ -192,7 +229,6 @@ impl From<CompactConfig> for CompactMultilineConfig {
 
 /// The settings of a compact table, without how texts stand between top and bottom and how their lines are laid out.
 impl From<CompactMultilineConfig> for CompactConfig {
-    ghost use Rattle.std.specs.Prelude.{◌≡◌};
     ghost use Rattle.grid_config.specs.Compact.{compact_of};
     ghost use Rattle.tabled_multiline.specs.Multiline.{multiline_of};
 
