@@ -14,7 +14,7 @@ ranged settings widths heights fits =
     (subst (λ (sizes : List ℕ). InRange (frame_of (look_of settings) (sizes_of (slice_index widths) (length widths)) sizes)) (by_number heights (length heights) refl) fits)
 
 pub count_lines-requires : goal.count_lines-requires
-count_lines-requires g c = record { range = (ranged c.args.cfg.now c.args.sizes.widths.now c.args.sizes.heights.now c.in_ok-fits_counted.ensures.1).1 }
+count_lines-requires g c = record { range = (ranged c.args.cfg.now c.args.sizes.widths.now c.args.sizes.heights.now c.in_ok-fits_counted.ensures.answer.1).1 }
 
 pub print_line-requires-clause-range : goal.print_line-requires-clause-range
-print_line-requires-clause-range g c = ranged c.args.cfg.now c.args.sizes.widths.now c.args.sizes.heights.now c.in_ok-fits_counted.ensures.1
+print_line-requires-clause-range g c = ranged c.args.cfg.now c.args.sizes.widths.now c.args.sizes.heights.now c.in_ok-fits_counted.ensures.answer.1
