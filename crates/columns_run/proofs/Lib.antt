@@ -27,4 +27,5 @@ pub mod TextLemmas
 pub mod TilingLemmas
 pub mod WalkLemmas
 pub mod WholeLemmas
+pub mod WidthLemmas
 pub mod WorkedLemmas

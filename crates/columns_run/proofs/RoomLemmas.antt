@@ -83,7 +83,7 @@ module _ (style : Compact) (texts : List (List (List ℕ))) where
       let all : columns ≤ columns = omega arith in
       ap (λ m. find test (table_positions m columns)) (sym (add-one n)) ∙ none-more test columns n (none-in_rows n less) (none-in_row n columns below all)
 
-  natural-room : first_too_wide frame texts ≡ None
+  pub natural-room : first_too_wide frame texts ≡ None
   natural-room = step (heights_of style texts) refl where
     step : (heights : List ℕ) → heights_of style texts ≡ heights → first_too_wide frame texts ≡ None
     step [] none = ap (λ heights. first_too_wide (frame_of (compact_look style) widths heights) texts) none

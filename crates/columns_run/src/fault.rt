@@ -19,7 +19,8 @@ pub enum RunFault {
     Escape { at: usize },
     /// A width, a height or a total of the table passes `usize::MAX`.
     Range,
-    /// A line of a cell measures more columns than its column has. Rows and columns count from 0.
+    /// A line of a cell measures more columns than its column has. No input has one, as a law of
+    /// `columns_bounds` says. Rows and columns count from 0.
     LineTooWide { row: usize, column: usize },
     /// The writer failed in this call, by an error of any kind.
     Write,

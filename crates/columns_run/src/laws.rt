@@ -1,5 +1,5 @@
 //! Laws over the definitions, each the contract of a function that does nothing.
-ghost use Rattle.std.specs.Prelude.{◌≡◌, ◌↔◌, ℕ, ◌<◌, ◌++◌, All, chars, encode_utf8, false, flat_map, true, codes, List, ◌∷◌, [], map, replicate, slice_index_or, IsUtf8, None, Option, Result, Some, ⊤};
+ghost use Rattle.std.specs.Prelude.{◌≡◌, ◌↔◌, ℕ, ◌<◌, ◌≤◌, ◌++◌, All, chars, encode_utf8, false, flat_map, true, codes, List, ◌∷◌, [], length, map, max, replicate, slice_index_or, IsUtf8, None, Option, Result, Some, ⊤};
 ghost use Rattle.std.specs.List.{range_with_len};
 ghost use Rattle.std.specs.Str.{encode_utf8_all};
 ghost use Rattle.ansi_scan.specs.Sequences.{Piece, ArePiecesOf, NoneBroken, IsWhole};
@@ -13,17 +13,18 @@ ghost use Rattle.grid_config_values.specs.declared.position.Position.{Position a
 ghost use Rattle.grid_records_measure.specs.Measures.{measure};
 ghost use Rattle.grid_records_measure.specs.TextLines.{text_lines};
 ghost use Rattle.grid_records_estimate.specs.Rows.{IsInside, text_at};
-ghost use Rattle.papergrid_picture.specs.Blocks.{Fill, Glyph, TextLine};
-ghost use Rattle.papergrid_picture.specs.Frame.{column_count, line_count, row_count, total_width};
-ghost use Rattle.papergrid_picture.specs.Picture.{Piece as TablePiece, at, picture_line};
+ghost use Rattle.papergrid_picture.specs.Blocks.{Fill, Glyph, TextLine, text_line};
+ghost use Rattle.papergrid_picture.specs.Frame.{block_width, column_count, line_count, row_count, total_width, track_at};
+ghost use Rattle.papergrid_picture.specs.Picture.{Piece as TablePiece, at, block_pieces, laid, picture_line};
 ghost use Rattle.papergrid_picture.specs.Shown.{Styled, in_plain};
-ghost use Rattle.papergrid_picture.specs.Tiling.{IsLineOf, ShowsBlock, Tiles};
+ghost use Rattle.papergrid_picture.specs.Tiling.{IsLineOf, ShowsAllLines, ShowsBlock, Tiles};
 ghost use Rattle.columns_run.specs.Rows.{cell_parts, line_feed, places};
 ghost use Rattle.columns_run.specs.Layout.{TableFits, characters_of, grid_of, kept_of, line_bytes, output_of, picture, piece_bytes, piece_columns, resize_of, table_characters, wide_cell};
 ghost use Rattle.columns_run.specs.Plain.{IsPlain};
 ghost use Rattle.columns_run.specs.TableShown.{ShowsTableOf};
 ghost use Rattle.columns_run.specs.Run.{HasTable, MayRefuse, Serves};
 ghost use Rattle.columns_run.specs.Wanted.{Wanted, without_width};
+ghost use Rattle.columns_run.specs.Widths.{least_columns, natural_columns, taken_columns};
 ghost use Rattle.columns_run.specs.Fault.{TellsOfInput, fault_text, run_fault, write_fault};
 ghost use Rattle.tabled_size_priority.specs.declared.choice.Choice.TheVariants.{None as InTurns, MaxLeft};
 ghost use Rattle.columns_run.specs.declared.fault.RunFault.{RunFault};
@@ -143,6 +144,27 @@ pub fn measured_pieces()
         All (λ piece. piece_columns wanted input piece ≡ piece.part.width) (picture_line (grid_of wanted input) y) }
     ensures default_style { (wanted : Wanted) (input : List ℕ) (y : ℕ) → wanted.style ≡ default_settings → IsUtf8 input → IsWhole input →
         All (λ piece. measure (shown_chars (piece_bytes wanted input piece)) ≡ piece.part.width) (picture_line (grid_of wanted input) y) }
+{}
+
+/// How many columns the table takes, with its boundaries and margins. Where it would take more than are asked, it
+/// takes just as many as are asked, or, where its boundaries, margins and paddings alone take more, as many as
+/// these; else, and where no width is asked, as many as its text needs.
+pub fn tables_take_the_width_that_is_asked()
+    ensures narrowed { (wanted : Wanted) (input : List ℕ) (width : ℕ) → wanted.asked.width ≡ Some width →
+        width < natural_columns wanted input → taken_columns wanted input ≡ max width (least_columns wanted input) }
+    ensures natural { (wanted : Wanted) (input : List ℕ) (width : ℕ) → wanted.asked.width ≡ Some width →
+        natural_columns wanted input ≤ width → taken_columns wanted input ≡ natural_columns wanted input }
+    ensures no_width { (wanted : Wanted) (input : List ℕ) → wanted.asked.width ≡ None → taken_columns wanted input ≡ natural_columns wanted input }
+{}
+
+/// Each line of each cell is seen, also of one that is wrapped or cut: its row is high enough for all of them, and
+/// one line of the cell's rectangle is it, between the paddings at its sides.
+pub fn each_line_of_a_cell_is_seen()
+    ensures room { (wanted : Wanted) (input : List ℕ) → ShowsAllLines (grid_of wanted input) }
+    ensures shown { (wanted : Wanted) (input : List ℕ) (i j k : ℕ) → let grid = grid_of wanted input in
+        i < row_count grid.frame → j < column_count grid.frame → k < length (grid.measures (at i j)) →
+        (y : ℕ) × IsLineOf grid (at i j) y
+        × (block_pieces grid (at i j) y ≡ laid (track_at grid.frame.columns j) (text_line grid (at i j) (block_width grid.frame (at i j)) k)) }
 {}
 
 /// An input that has no table is refused by one name and place alone, memory and the reader aside; one that has

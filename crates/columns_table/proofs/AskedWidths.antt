@@ -33,7 +33,7 @@ total-sum : (sizes : List ℕ) (boundaries before behind : ℕ) → 0 < length s
 total-sum [] boundaries before behind some = absurd (omega (arith, some))
 total-sum (size ∷ sizes) boundaries before behind some = refl
 
-one-taken : (sizes : List ℕ) (k : ℕ) → k < length sizes → sum (take 1 (drop k sizes)) ≡ slice_index sizes k
+pub one-taken : (sizes : List ℕ) (k : ℕ) → k < length sizes → sum (take 1 (drop k sizes)) ≡ slice_index sizes k
 one-taken [] k below = absurd (omega (arith, below))
 one-taken (size ∷ sizes) zero below = let one = sum_by-cons (λ n. n) size [] in omega (arith, one)
 one-taken (size ∷ sizes) (suc k) below = one-taken sizes k (omega (arith, below))
@@ -48,7 +48,7 @@ module _ (style : Compact) (texts : List (List (List ℕ))) where
   columns = column_count texts
 
   -- no column is narrower than the paddings beside a text
-  padded : 0 < length texts → (k : ℕ) → k < columns → k < length natural → paddings style ≤ slice_index natural k
+  pub padded : 0 < length texts → (k : ℕ) → k < columns → k < length natural → paddings style ≤ slice_index natural k
   unfolding extent_at
   padded some k inside below =
       let one : min 1 (columns - k) ≡ 1 = omega (arith, inside) in

@@ -14,6 +14,12 @@ use Rattle.tabled_width.specs.Widths.{table_width}
 use Rattle.tabled.specs.Printing.{IsFit}
 use Rattle.tabled.specs.Totals.{drawn_line}
 
+-- a table has settings: its look is theirs, and each of their spans takes at least one row and one column
+pub record HasSettings (s : State) : Type 0 where
+  pub settings : Settings
+  pub look : s.look ≡ look_of settings
+  pub spans : ArePositive settings.spans
+
 -- a table of these settings, with rows and columns and without colours, that can be printed: its cells show plain characters and
 -- line feeds, and each glyph, fill and character for justification costs one column
 pub record IsPlainlyPrinted (settings : Settings) (s : State) : Type 0 where

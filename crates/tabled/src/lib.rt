@@ -17,6 +17,7 @@ pub use tabled_height::{
 };
 pub use tabled_iter::IterTable;
 pub use tabled_list::{Amount, Setting};
+pub use tabled_multiline::CompactMultilineConfig;
 pub use tabled_options::object::{Columns, Rows, Segment};
 pub use tabled_options::{Alignment, Margin, Padding, PaddingExpand, Span, Style, object};
 pub use tabled_output::Counted;

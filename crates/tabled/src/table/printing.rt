@@ -1,7 +1,9 @@
 //! A table as a text.
 ghost use Rattle.std.specs.Prelude.{◌≡◌, ◌⊎◌, Err, IfErr, IfOk, Ok, OnOk, string_bytes};
 ghost use Rattle.grid_config_values.specs.declared.fault.Fault.TheVariants.{Memory, Range as PassesMax};
+ghost use Rattle.grid_config_spans.specs.Spans.{ArePositive};
 ghost use Rattle.papergrid_picture.specs.Fitting.{InRange};
+ghost use Rattle.tabled.specs.Narrowed.{HasSettings};
 ghost use Rattle.tabled.specs.Printing.{IsFit, drawn_frame, drawn_sizes, printed};
 ghost use Rattle.tabled.specs.Tables.{state_of, state_under};
 
@@ -16,10 +18,12 @@ impl<T: FromText> Table<T> {
     /// Whether the table fits its sizes, those that it keeps and in place of the others the least. Refused
     /// as `Spans` where its spans are not good; else as `Range` where the columns of a line, or the lines,
     /// pass `usize::MAX`; else as `Room` of the first visible cell, by row, then by column, that needs more
-    /// columns than it has; and as `Memory` where allocation fails.
+    /// columns than it has; and as `Memory` where allocation fails. Whatever it answers, the table has
+    /// settings of which the laws speak.
     pub fn fits(&self) -> Result<(), Fault>
         ensures fits { OnOk result (IsFit (state_of T.text self.now) (Ok tt)) }
         ensures refused { IfErr result (λ fault. (fault ≡ Memory) ⊎ IsFit (state_of T.text self.now) (Err fault)) }
+        ensures settings { HasSettings (state_of T.text self.now) }
     {
         self.fitting_sizes(self.config.spanned())?;
         Ok(())
@@ -30,6 +34,7 @@ impl<T: FromText> Table<T> {
         ensures text { IfOk result (λ text. string_bytes text ≡ printed (state_of T.text self.now)) }
         ensures fits { OnOk result (IsFit (state_of T.text self.now) (Ok tt)) }
         ensures refused { IfErr result (λ fault. (fault ≡ Memory) ⊎ IsFit (state_of T.text self.now) (Err fault)) }
+        ensures settings { HasSettings (state_of T.text self.now) }
     {
         self.text_under(self.config.spanned())
     }
@@ -39,6 +44,7 @@ impl<T: FromText> Table<T> {
         ensures text { IfOk result (λ text. string_bytes text ≡ printed (state_under T.text self.now config.now)) }
         ensures fits { OnOk result (IsFit (state_under T.text self.now config.now) (Ok tt)) }
         ensures refused { IfErr result (λ fault. (fault ≡ Memory) ⊎ IsFit (state_under T.text self.now config.now) (Err fault)) }
+        ensures positive { ArePositive config.now.spans }
     {
         let sizes = self.fitting_sizes(config)?;
         PeekableGrid::new(&self.records, config, sizes, self.config.get_colors()).to_string(
@@ -51,6 +57,7 @@ impl<T: FromText> Table<T> {
         ensures sizes { IfOk result (λ sizes. sizes ≡ drawn_sizes (state_under T.text self.now config.now)) }
         ensures fits { OnOk result (IsFit (state_under T.text self.now config.now) (Ok tt)) }
         ensures refused { IfErr result (λ fault. (fault ≡ Memory) ⊎ IsFit (state_under T.text self.now config.now) (Err fault)) }
+        ensures positive { ArePositive config.now.spans }
     {
         if !config.spans_are_good(self.count_rows(), self.count_columns()) {
             return Err(Fault::Spans);

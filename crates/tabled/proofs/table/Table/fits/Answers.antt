@@ -1,6 +1,7 @@
-use Rattle.std.proofs.Common.{◌≡◌, ◌⊎◌, Err, Ok, subst}
+use Rattle.std.proofs.Common.{◌≡◌, ◌⊎◌, Err, Ok, refl, subst}
 use Rattle.std.proofs.lemmas.Result.{err_from_is_err_and}
 use Rattle.grid_config.specs.Settings.{Settings}
+use Rattle.grid_config_spans.specs.Spans.{ArePositive}
 use Rattle.grid_config_values.specs.declared.fault.Fault.TheVariants.{Memory}
 use Rattle.tabled.specs.Printing.{IsFit}
 use Rattle.tabled.specs.Tables.{state_under}
@@ -16,3 +17,17 @@ returns-in_err-fitting_sizes-clause-refused g c =
 pub returns-clause-fits : goal.returns-clause-fits
 returns-clause-fits g c =
     subst (λ (settings : Settings). IsFit (state_under g.T.Cell.text c.args.self.now settings) (Ok tt)) c.spanned.ensures c.in_ok-fitting_sizes.ensures.fits
+
+pub returns-in_err-fitting_sizes-clause-settings : goal.returns-in_err-fitting_sizes-clause-settings
+returns-in_err-fitting_sizes-clause-settings g c = record {
+  settings = c.args.self.now.config.settings;
+  look = refl;
+  spans = subst (λ (settings : Settings). ArePositive settings.spans) c.spanned.ensures c.in_err-fitting_sizes.ensures.positive;
+}
+
+pub returns-clause-settings : goal.returns-clause-settings
+returns-clause-settings g c = record {
+  settings = c.args.self.now.config.settings;
+  look = refl;
+  spans = subst (λ (settings : Settings). ArePositive settings.spans) c.spanned.ensures c.in_ok-fitting_sizes.ensures.positive;
+}

@@ -1,6 +1,7 @@
-use Rattle.std.proofs.Common.{◌≡◌, ◌⊎◌, Err, Ok, subst}
+use Rattle.std.proofs.Common.{◌≡◌, ◌⊎◌, Err, Ok, refl, subst}
 use Rattle.std.specs.Prelude.{IfErr, IfOk, OnOk, string_bytes}
 use Rattle.grid_config.specs.Settings.{Settings}
+use Rattle.grid_config_spans.specs.Spans.{ArePositive}
 use Rattle.grid_config_values.specs.declared.fault.Fault.TheVariants.{Memory}
 use Rattle.tabled.specs.Printing.{IsFit, printed}
 use Rattle.tabled.specs.Tables.{state_under}
@@ -17,3 +18,10 @@ returns-clause-fits g c =
 pub returns-clause-refused : goal.returns-clause-refused
 returns-clause-refused g c =
     subst (λ (settings : Settings). IfErr c.text_under.result (λ fault. (fault ≡ Memory) ⊎ IsFit (state_under g.T.Cell.text c.args.self.now settings) (Err fault))) c.spanned.ensures c.text_under.ensures.refused
+
+pub returns-clause-settings : goal.returns-clause-settings
+returns-clause-settings g c = record {
+  settings = c.args.self.now.config.settings;
+  look = refl;
+  spans = subst (λ (settings : Settings). ArePositive settings.spans) c.spanned.ensures c.text_under.ensures.positive;
+}

@@ -1,0 +1,4 @@
+pub mod UnitBounds
+pub mod LineBounds
+pub mod CellBounds
+pub mod TableBounds

@@ -1,0 +1,2 @@
+pub mod CostLemmas
+pub mod SpaceLemmas

@@ -1,0 +1,4 @@
+//! What texts measure at most: laws alone.
+#![tactic(auto)]
+
+pub mod laws;
