@@ -28,3 +28,4 @@ pub mod TilingLemmas
 pub mod WalkLemmas
 pub mod WholeLemmas
 pub mod WorkedLemmas
+pub mod WrittenLemmas

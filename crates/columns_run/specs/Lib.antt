@@ -8,3 +8,4 @@ pub mod Plain
 pub mod Rows
 pub mod Run
 pub mod Styled
+pub mod Written

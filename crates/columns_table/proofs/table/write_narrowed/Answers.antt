@@ -1,6 +1,6 @@
-use Rattle.std.proofs.Common.{◌≡◌, ◌⊎◌, inl, inr, ℕ, List, Some, Err, Global, Vec, length, ap, sym, subst, ◌∙◌}
+use Rattle.std.proofs.Common.{[], ◌≡◌, ◌⊎◌, inl, inr, ℕ, List, Some, Err, Global, Vec, length, ap, sym, subst, ◌∙◌}
 use Rattle.std.specs.Cow.{cow_str_bytes}
-use Rattle.std.proofs.lemmas.Result.{IfErr-weaker, IfOk-weaker}
+use Rattle.std.proofs.lemmas.Result.{IfErr-weaker}
 use Rattle.grid_config.specs.Compact.{Compact, compact_of}
 use Rattle.grid_config.specs.Settings.{Settings, StartsWith, compact_start}
 use Rattle.grid_config.specs.Looks.{compact_look}
@@ -15,19 +15,21 @@ use Rattle.grid_records_estimate.specs.Sizing.{compact_sizing}
 use Rattle.columns_asked.specs.declared.asked.Asked.{Asked}
 use Rattle.papergrid_picture.specs.Fitting.{InRange}
 use Rattle.papergrid_picture.specs.Frame.{Frame, frame_of, line_count}
-use Rattle.columns_asked.specs.Layout.{asked_frame, kept_texts, narrowed, too_wide}
+use Rattle.columns_asked.specs.Layout.{asked_frame, asked_text, kept_texts, narrowed, too_wide}
 use Rattle.columns_table.specs.Rows.{row_texts_of}
 use Rattle.columns_table.specs.declared.kept.KeptCell.{KeptCell}
+use Rattle.tabled_output.specs.Pieces.{Passes}
+use Rattle.tabled_output.proofs.PieceLemmas.{passes-none}
 use Rattle.columns_table.proofs.NarrowedLemmas.{answer-is, counted, fits-is, frame-is, heights-are, heights-pass, made, refusal-is, text-is}
 use Rattle.columns_table.specs.declared.sizes.Sizes.{Sizes}
-use Rattle.columns_table.proofs.table.narrowed_table.Goals as goal
-use Rattle.columns_table.proofs.table.narrowed_table.Goals.{After-text_where_fits-text}
+use Rattle.columns_table.proofs.table.write_narrowed.Goals as goal
+use Rattle.columns_table.proofs.table.write_narrowed.Goals.{After-write_where_fits-written}
 
 abbrev text_of : KeptCell → List ℕ
 text_of cell = cow_str_bytes cell.text
 
 pub returns-in_err-heights-clause-refused : goal.returns-in_err-heights-clause-refused
-returns-in_err-heights-clause-refused c =
+returns-in_err-heights-clause-refused g c =
     let style = compact_of c.args.style.now in
     let asked = c.args.asked.now in
     let texts = row_texts_of c.args.rows in
@@ -42,7 +44,7 @@ returns-in_err-heights-clause-refused c =
     c.in_err-heights.ensures.refused)
 
 pub returns-in_err-sizes-clause-refused : goal.returns-in_err-sizes-clause-refused
-returns-in_err-sizes-clause-refused c =
+returns-in_err-sizes-clause-refused g c =
     let style = compact_of c.args.style.now in
     let asked = c.args.asked.now in
     let texts = row_texts_of c.args.rows in
@@ -65,7 +67,7 @@ Printed style asked texts settings sizes rows =
     × StartsWith (compact_start style) settings × (sizes.heights.items ≡ table_heights (compact_sizing style) (columns_of rows) (texts_of_rows text_of rows))
     × (sizes.lines ≡ line_count (frame_of (compact_look style) sizes.widths.items sizes.heights.items))
 
-printed : (c : After-text_where_fits-text) → Printed (compact_of c.args.style.now) c.args.asked.now (row_texts_of c.args.rows) c.in_ok-settings.settings c.in_ok-sizes.sizes c.new-records.result.rows.items
+printed : (c : After-write_where_fits-written) → Printed (compact_of c.args.style.now) c.args.asked.now (row_texts_of c.args.rows) c.in_ok-settings.settings c.in_ok-sizes.sizes c.new-records.result.rows.items
 printed c =
     let style = compact_of c.args.style.now in
     let asked = c.args.asked.now in
@@ -86,33 +88,57 @@ printed c =
     )
 
 pub returns-clause-table : goal.returns-clause-table
-returns-clause-table c =
-    let known = printed (goal.at.returns-clause-table c).After-text_where_fits-text in
+returns-clause-table g c =
+    let known = printed (goal.at.returns-clause-table c).After-write_where_fits-written in
     let rows = c.new-records.result.rows.items in
     let sizes = c.in_ok-sizes.sizes in
-    IfOk-weaker c.text_where_fits-text.result _ _
-    (λ table is. is
-    ∙ text-is (compact_of c.args.style.now) c.args.asked.now (row_texts_of c.args.rows) sizes.widths.items known.0 (columns_of rows) (texts_of_rows text_of rows) known.1 known.2 c.in_ok-settings.settings known.3 sizes.heights.items known.4 sizes.lines known.5)
-    c.text_where_fits-text.ensures.text
+    subst (λ text. Passes g.W.Write.contents text c.write_where_fits-written.result [] c.args.writer.now c.write_where_fits-written.new.writer)
+    (text-is (compact_of c.args.style.now) c.args.asked.now (row_texts_of c.args.rows) sizes.widths.items known.0 (columns_of rows) (texts_of_rows text_of rows) known.1 known.2 c.in_ok-settings.settings known.3 sizes.heights.items known.4 sizes.lines known.5)
+    c.write_where_fits-written.ensures.text
+
+pub returns-in_err-kept-clause-table : goal.returns-in_err-kept-clause-table
+returns-in_err-kept-clause-table g c =
+    passes-none g.W.Write.contents (asked_text (compact_of c.args.style.now) c.args.asked.now (row_texts_of c.args.rows)) [] c.from_residual.result c.args.writer.now c.from_residual.ensures.0
+
+pub returns-in_err-heights-clause-table : goal.returns-in_err-heights-clause-table
+returns-in_err-heights-clause-table g c =
+    passes-none g.W.Write.contents (asked_text (compact_of c.args.style.now) c.args.asked.now (row_texts_of c.args.rows)) [] c.from_residual-in_err-heights.result c.args.writer.now c.from_residual-in_err-heights.ensures.0
+
+pub returns-in_err-sizes-clause-table : goal.returns-in_err-sizes-clause-table
+returns-in_err-sizes-clause-table g c =
+    passes-none g.W.Write.contents (asked_text (compact_of c.args.style.now) c.args.asked.now (row_texts_of c.args.rows)) [] c.from_residual-in_err-sizes.result c.args.writer.now c.from_residual-in_err-sizes.ensures.0
+
+pub returns-in_err-settings-clause-table : goal.returns-in_err-settings-clause-table
+returns-in_err-settings-clause-table g c =
+    passes-none g.W.Write.contents (asked_text (compact_of c.args.style.now) c.args.asked.now (row_texts_of c.args.rows)) [] c.from_residual-in_err-settings.result c.args.writer.now c.from_residual-in_err-settings.ensures.0
 
 pub returns-clause-range : goal.returns-clause-range
-returns-clause-range c =
-    let known = printed (goal.at.returns-clause-range c).After-text_where_fits-text in
+returns-clause-range g c =
+    let known = printed (goal.at.returns-clause-range c).After-write_where_fits-written in
     let rows = c.new-records.result.rows.items in
     let sizes = c.in_ok-sizes.sizes in
-    OnOk-implies c.text_where_fits-text.result
+    OnOk-implies c.write_where_fits-written.result
     (λ fits. let is = fits-is (compact_of c.args.style.now) c.args.asked.now (row_texts_of c.args.rows) sizes.widths.items known.0 (columns_of rows) (texts_of_rows text_of rows) known.1 known.2 c.in_ok-settings.settings known.3 sizes.heights.items known.4 fits in is.1)
-    c.text_where_fits-text.ensures.fits
+    c.write_where_fits-written.ensures.fits
 
 pub returns-clause-room : goal.returns-clause-room
 unfolding too_wide
-returns-clause-room c =
-    let known = printed (goal.at.returns-clause-room c).After-text_where_fits-text in
+returns-clause-room g c =
+    let known = printed (goal.at.returns-clause-room c).After-write_where_fits-written in
     let rows = c.new-records.result.rows.items in
     let sizes = c.in_ok-sizes.sizes in
-    OnOk-implies c.text_where_fits-text.result
+    OnOk-implies c.write_where_fits-written.result
     (λ fits. let is = fits-is (compact_of c.args.style.now) c.args.asked.now (row_texts_of c.args.rows) sizes.widths.items known.0 (columns_of rows) (texts_of_rows text_of rows) known.1 known.2 c.in_ok-settings.settings known.3 sizes.heights.items known.4 fits in is.2)
-    c.text_where_fits-text.ensures.fits
+    c.write_where_fits-written.ensures.fits
+
+pub returns-clause-alone : goal.returns-clause-alone
+unfolding too_wide
+returns-clause-alone g c = λ none.
+    let known = printed (goal.at.returns-clause-alone c).After-write_where_fits-written in
+    let rows = c.new-records.result.rows.items in
+    let sizes = c.in_ok-sizes.sizes in
+    c.write_where_fits-written.ensures.alone
+    (λ fits. let is = fits-is (compact_of c.args.style.now) c.args.asked.now (row_texts_of c.args.rows) sizes.widths.items known.0 (columns_of rows) (texts_of_rows text_of rows) known.1 known.2 c.in_ok-settings.settings known.3 sizes.heights.items known.4 fits in none (is.1, is.2))
 
 -- a refusal by another name
 told_of : (fault : Fault) (P Q : Type 0) → (P → Q) → (fault ≡ Memory) ⊎ P → (fault ≡ Memory) ⊎ Q
@@ -120,11 +146,11 @@ told_of fault P Q f (inl memory) = inl memory
 told_of fault P Q f (inr is) = inr (f is)
 
 pub returns-clause-refused : goal.returns-clause-refused
-returns-clause-refused c =
-    let known = printed (goal.at.returns-clause-refused c).After-text_where_fits-text in
+returns-clause-refused g c =
+    let known = printed (goal.at.returns-clause-refused c).After-write_where_fits-written in
     let rows = c.new-records.result.rows.items in
     let sizes = c.in_ok-sizes.sizes in
-    IfErr-weaker c.text_where_fits-text.result _ _
+    IfErr-weaker c.write_where_fits-written.result _ _
     (λ fault. told_of fault _ _
     (answer-is (compact_of c.args.style.now) c.args.asked.now (row_texts_of c.args.rows) sizes.widths.items known.0 (columns_of rows) (texts_of_rows text_of rows) known.1 known.2 c.in_ok-settings.settings known.3 sizes.heights.items known.4 (Err fault)))
-    c.text_where_fits-text.ensures.refused
+    c.write_where_fits-written.ensures.refused
