@@ -92,7 +92,7 @@ pub fn write_table<R: PeekableRecords, C: Colors, W: Write>(
     requires range { InRange (frame_of (look_of cfg.now) widths.now heights.now) }
     ensures { Passes W.contents (table_text (look_of cfg.now) (R.rows records.now) (C.color colors.now) widths.now heights.now) result [] writer.old writer.new }
 {
-    if widths.is_empty() || heights.is_empty() {
+    if heights.is_empty() || widths.is_empty() {
         return Ok(Ok(()));
     }
     let table = Table {

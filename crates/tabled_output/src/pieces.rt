@@ -1,5 +1,5 @@
 //! Texts that are written piece by piece.
-ghost use Rattle.std.specs.Prelude.{◌≡◌, [], IfErr, OnOk, string_bytes};
+ghost use Rattle.std.specs.Prelude.{◌≡◌, [], IfErr, OnErr, OnOk, string_bytes};
 ghost use Rattle.tabled_output.specs.Pieces.{HasPassed, HasStopped};
 
 use crate::counted::Counted;
@@ -15,6 +15,7 @@ pub fn pass_line<W: Write>(
     ensures passed { OnOk result (HasPassed W.contents (string_bytes buffer.old) (string_bytes buffer.new) writer.old writer.new) }
     ensures empty { OnOk result (string_bytes buffer.new ≡ []) }
     ensures stopped { IfErr result (λ fault. HasStopped W.contents (string_bytes buffer.old) fault writer.old writer.new) }
+    ensures kept { OnErr result (string_bytes buffer.new ≡ string_bytes buffer.old) }
 {
     write_piece(writer, buffer.as_bytes())?;
     buffer.clear();
