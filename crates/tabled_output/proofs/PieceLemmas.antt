@@ -1,5 +1,5 @@
 -- How a text comes on that is written piece by piece.
-use Rattle.std.proofs.Common.{◌≡◌, ◌≢◌, ◌+◌, ◌<◌, ℕ, List, [], ◌++◌, Option, Result, Ok, Err, append_assoc, append-nil, arith, length, length-append, take, drop, take-append-drop, refl, ap, sym, ◌∙◌, subst}
+use Rattle.std.proofs.Common.{◌≡◌, ◌≢◌, ◌+◌, ℕ, List, [], ◌++◌, Option, Result, Ok, Err, append_assoc, append-nil, arith, length, length-append, take, drop, take-append-drop, refl, ap, sym, ◌∙◌, subst}
 use Rattle.std.proofs.Math.Seq.{take-append_seam}
 use Rattle.std.proofs.KnownBytes.{Appends-nil, Appends-trans}
 use Rattle.std.specs.Prelude.{IfErr, IsErr, IsErrOf, OnOk}
@@ -144,23 +144,23 @@ module _ {T : Type 0} (contents : T → Option (List ℕ)) where
   pub passes-none : {A E : Type 0} (text rest : List ℕ) (result : Result (Result A WriteFault) E) (a : Counted T) → IsErr result → Passes contents text result rest a a
   passes-none text rest result a is = passes-refused text rest result a a is (text, passed-none text a)
 
-  pub passes-ok : {A E : Type 0} (text rest : List ℕ) (written : Result A WriteFault) (done : A) (a b : Counted T) → written ≡ Ok done → Passes {E = E} contents text (Ok written) rest a b → HasPassed contents text rest a b
-  passes-ok {E = E} text rest written done a b is passes = subst (λ w. Passes {E = E} contents text (Ok w) rest a b) is passes
+  pub passes-ok : {A : Type 0} (E : Type 0) (text rest : List ℕ) (written : Result A WriteFault) (done : A) (a b : Counted T) → written ≡ Ok done → Passes {E = E} contents text (Ok written) rest a b → HasPassed contents text rest a b
+  passes-ok E text rest written done a b is passes = subst (λ w. Passes {E = E} contents text (Ok w) rest a b) is passes
 
-  pub passes-err : {A E : Type 0} (text rest : List ℕ) (written : Result A WriteFault) (fault : WriteFault) (a b : Counted T) → written ≡ Err fault → Passes {E = E} contents text (Ok written) rest a b
+  pub passes-err : {A : Type 0} (E : Type 0) (text rest : List ℕ) (written : Result A WriteFault) (fault : WriteFault) (a b : Counted T) → written ≡ Err fault → Passes {E = E} contents text (Ok written) rest a b
       → HasStopped contents text fault a b
-  passes-err {E = E} text rest written fault a b is passes = subst (λ w. Passes {E = E} contents text (Ok w) rest a b) is passes
+  passes-err E text rest written fault a b is passes = subst (λ w. Passes {E = E} contents text (Ok w) rest a b) is passes
 
   -- whatever other refusals there are
-  pub passes-answered : {A E F : Type 0} (text rest : List ℕ) (written : Result A WriteFault) (a b : Counted T) → Passes {E = E} contents text (Ok written) rest a b → Passes {E = F} contents text (Ok written) rest a b
-  passes-answered text rest (Ok done) a b passes = passes
-  passes-answered text rest (Err fault) a b passes = passes
+  pub passes-answered : {A : Type 0} (E F : Type 0) (text rest : List ℕ) (written : Result A WriteFault) (a b : Counted T) → Passes {E = E} contents text (Ok written) rest a b → Passes {E = F} contents text (Ok written) rest a b
+  passes-answered E F text rest (Ok done) a b passes = passes
+  passes-answered E F text rest (Err fault) a b passes = passes
 
   -- the last piece of a text
-  pub passes-last : {E : Type 0} (text rest new : List ℕ) (written : Result (Unit {0}) WriteFault) (a b c : Counted T) → HasPassed contents text rest a b
+  pub passes-last : (E : Type 0) (text rest new : List ℕ) (written : Result (Unit {0}) WriteFault) (a b c : Counted T) → HasPassed contents text rest a b
       → OnOk written (HasPassed contents rest new b c) → OnOk written (new ≡ []) → IfErr written (λ fault. HasStopped contents rest fault b c) → Passes {E = E} contents text (Ok written) [] a c
-  passes-last text rest new (Ok done) a b c before passed empty stopped = subst (λ left. HasPassed contents text left a c) empty (passed-on text rest new a b c before passed)
-  passes-last text rest new (Err fault) a b c before passed empty stopped = stopped-on text rest fault a b c before stopped
+  passes-last E text rest new (Ok done) a b c before passed empty stopped = subst (λ left. HasPassed contents text left a c) empty (passed-on text rest new a b c before passed)
+  passes-last E text rest new (Err fault) a b c before passed empty stopped = stopped-on text rest fault a b c before stopped
 
   -- ---- a piece that is written whole
 

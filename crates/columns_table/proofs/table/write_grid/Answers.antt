@@ -1,6 +1,8 @@
 use Rattle.std.proofs.Common.{◌≡◌, ◌≢◌, ◌==◌, ◌++◌, ◌∷◌, [], List, ℕ, Bool, false, None, refl, slice_index, ap, sym, subst, ◌∙◌, arith, if◌then◌else◌}
 use Rattle.std.proofs.lemmas.Bool.Decides.{nat_tests}
+use Rattle.std.specs.declared.alloc.AllocError.{AllocError}
 use Rattle.grid_config.specs.Looks.{look_of}
+use Rattle.grid_config_values.specs.declared.fault.Fault.{Fault}
 use Rattle.grid_records_measure.specs.TextLines.{line_feed}
 use Rattle.papergrid.specs.Grids.{grid_text}
 use Rattle.papergrid.specs.Tables.{Fits}
@@ -39,7 +41,7 @@ returns-in-Err-clause-text g c =
     let whole = (if c.args.sizes.lines == 0 then [] else (grid_text (look_of c.args.settings.now) (slice_index c.args.sizes.widths.items) (slice_index c.args.sizes.heights.items) (λ _. None) (g.R.RecordColumns.columns c.args.records.now) (g.R.RecordTexts.rows c.args.records.now)) ++ line_feed ∷ []) in
     let is : whole ≡ grid ++ line_feed ∷ [] = ended-is c.args.sizes.lines (grid_text (look_of c.args.settings.now) (slice_index c.args.sizes.widths.items) (slice_index c.args.sizes.heights.items) (λ _. None) (g.R.RecordColumns.columns c.args.records.now) (g.R.RecordTexts.rows c.args.records.now)) grid (λ none. omega (arith, none, c.if-sizes-eq0.false))
     (ap (λ grid. grid_text (look_of grid.settings.now) (slice_index grid.sizes.widths.items) (slice_index grid.sizes.heights.items) (λ _. None) (g.R.RecordColumns.columns grid.records.now) (g.R.RecordTexts.rows grid.records.now)) c.new-grid.ensures) in
-    stopped-front K grid (line_feed ∷ []) whole c.in-Err.fault a b is (passes-err K grid [] c.in_ok-fault.field-0 c.in-Err.fault a b c.in-Err.is c.in_ok-fault.ensures)
+    stopped-front K grid (line_feed ∷ []) whole c.in-Err.fault a b is (passes-err K AllocError grid [] c.in_ok-fault.field-0 c.in-Err.fault a b c.in-Err.is c.in_ok-fault.ensures)
 
 pub returns-clause-text : goal.returns-clause-text
 returns-clause-text g c =
@@ -50,6 +52,6 @@ returns-clause-text g c =
     let whole = (if c.args.sizes.lines == 0 then [] else (grid_text (look_of c.args.settings.now) (slice_index c.args.sizes.widths.items) (slice_index c.args.sizes.heights.items) (λ _. None) (g.R.RecordColumns.columns c.args.records.now) (g.R.RecordTexts.rows c.args.records.now)) ++ line_feed ∷ []) in
     let is : whole ≡ grid ++ line_feed ∷ [] = ended-is c.args.sizes.lines (grid_text (look_of c.args.settings.now) (slice_index c.args.sizes.widths.items) (slice_index c.args.sizes.heights.items) (λ _. None) (g.R.RecordColumns.columns c.args.records.now) (g.R.RecordTexts.rows c.args.records.now)) grid (λ none. omega (arith, none, c.if-sizes-eq0.false))
     (ap (λ grid. grid_text (look_of grid.settings.now) (slice_index grid.sizes.widths.items) (slice_index grid.sizes.heights.items) (λ _. None) (g.R.RecordColumns.columns grid.records.now) (g.R.RecordTexts.rows grid.records.now)) c.new-grid.ensures) in
-    passes-last K whole (line_feed ∷ []) [] c.write_piece.result a b c.write_piece.new.writer
-    (passed-front K grid [] (line_feed ∷ []) whole a b is (passes-ok K grid [] c.in_ok-fault.field-0 c.in_default.field-0 a b c.in_default.is c.in_ok-fault.ensures))
+    passes-last K Fault whole (line_feed ∷ []) [] c.write_piece.result a b c.write_piece.new.writer
+    (passed-front K grid [] (line_feed ∷ []) whole a b is (passes-ok K AllocError grid [] c.in_ok-fault.field-0 c.in_default.field-0 a b c.in_default.is c.in_ok-fault.ensures))
     c.write_piece.ensures.passed (OnOk-always c.write_piece.result refl) c.write_piece.ensures.stopped

@@ -51,5 +51,5 @@ returns-clause-text g c =
     rw (c.new-grid.ensures, c.get_colors.ensures)
     (is_printed config (texts_of_rows g.T.Cell.text rows) (value_at table.config.colors) table.dimension config c.in_ok-sizes.sizes (columns_of rows)
     refl c.in_ok-sizes.ensures.sizes (sym (count_texts g.T.Cell.text rows))) in
-    passes-answered {E = AllocError} {F = Fault} g.W.Write.contents (printed (state_under g.T.Cell.text table config)) [] c.in_ok-write.field-0 c.args.writer.now c.write.new.writer
+    passes-answered g.W.Write.contents AllocError Fault (printed (state_under g.T.Cell.text table config)) [] c.in_ok-write.field-0 c.args.writer.now c.write.new.writer
     (subst (λ text. Passes {E = AllocError} g.W.Write.contents text (Ok c.in_ok-write.field-0) [] c.args.writer.now c.write.new.writer) same c.in_ok-write.ensures)
