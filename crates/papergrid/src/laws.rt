@@ -30,7 +30,7 @@ pub fn texts_are_lines_joined()
     ensures { (look : Look) (width height : ℕ → ℕ) (colors : Place → Option Color) (columns : ℕ) (rows : List (List (List ℕ))) →
         grid_text look width height colors columns rows
         ≡ join_with_byte line_feed (map (line_text look width height colors columns rows)
-            (range_with_len 0 (line_count (frame_of look (sizes_of width columns) (sizes_of height (length rows)))))) }
+        (range_with_len 0 (line_count (frame_of look (sizes_of width columns) (sizes_of height (length rows)))))) }
 {}
 
 /// A compact grid appends what a grid with one line for each row appends, where the settings begin as the

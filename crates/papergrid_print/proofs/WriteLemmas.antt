@@ -1,16 +1,16 @@
 -- Lines of the picture that are written one by one.
-use Rattle.std.proofs.Common.{◌≡◌, ℕ, zero, suc, ◌+◌, ◌-◌, ◌<◌, ◌≤◌, true, List, [], ◌++◌, Option, Result, Ok, Err, length, get_or, refl, ap, sym, subst, ◌∙◌, arith, append_assoc, append-nil}
+use Rattle.std.proofs.Common.{◌≡◌, ℕ, zero, suc, ◌+◌, ◌-◌, ◌<◌, ◌≤◌, List, [], ◌++◌, Option, Result, Ok, Err, length, get_or, ap, sym, subst, ◌∙◌, arith, append_assoc, append-nil}
 use Rattle.std.specs.Prelude.{IsErr}
 use Rattle.std.specs.declared.alloc.AllocError.{AllocError}
 use Rattle.papergrid_picture.specs.Frame.{Place, Row, boundary_at, place, track_at}
 use Rattle.papergrid_picture.specs.Reading.{grid_line}
 use Rattle.papergrid_picture.proofs.FrameLemmas.{boundary-bounded}
 use Rattle.papergrid_print.specs.Sheets.{Sheet, bytes_of, feed_before, grid_of, line_at, lines_of, row_tracks}
-use Rattle.papergrid_print.proofs.PlaceLemmas.{boundary-more, line-more, lines-next, row-more}
+use Rattle.papergrid_print.proofs.PlaceLemmas.{line-more, lines-next, row-more}
 use Rattle.tabled_output.specs.Pieces.{Continues, HasBegun, HasPassed, HasStopped, Passes}
 use Rattle.tabled_output.specs.declared.counted.Counted.{Counted}
 use Rattle.tabled_output.specs.declared.writing.WriteFault.{WriteFault}
-use Rattle.tabled_output.proofs.PieceLemmas.{passed-by, passed-front, passed-on, stopped-front, stopped-on}
+use Rattle.tabled_output.proofs.PieceLemmas.{passed-by, passed-front, stopped-front, stopped-on}
 
 -- what is appended behind bytes that are written is appended behind all
 pub behind : (front out more new : List ℕ) → new ≡ out ++ more → front ++ new ≡ (front ++ out) ++ more

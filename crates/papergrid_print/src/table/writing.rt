@@ -185,7 +185,16 @@ impl<'a, R: PeekableRecords, C: Colors> Table<'a, R, C> {
                 Err(fault) => return Ok(Err(fault)),
             }
         }
-        self.write_boundary(writer, buffer, runs, between, &[], cells, self.heights.len(), y)
+        self.write_boundary(
+            writer,
+            buffer,
+            runs,
+            between,
+            &[],
+            cells,
+            self.heights.len(),
+            y,
+        )
     }
 
     // The same, with what is made once.
@@ -223,6 +232,7 @@ impl<'a, R: PeekableRecords, C: Colors> Table<'a, R, C> {
     /// holds is refused here, before anything is written.
     pub(crate) fn line_buffer(&self, alloc: Global) -> Result<String, AllocError>
         requires printable { IsPrintable (sheet_of self.now.cfg.now (R.rows self.now.records.now) (C.color self.now.colors.now) self.now.widths.now self.now.heights.now) }
+        requires rows { 0 < length self.now.heights.now }
         requires columns { 0 < length self.now.widths.now }
         ensures { IfOk result (λ line. string_bytes line ≡ []) }
     {

@@ -1,7 +1,6 @@
-use Rattle.std.proofs.Common.{◌≡◌, ◌≤◌, ap, string_bytes, arith}
+use Rattle.std.proofs.Common.{◌≤◌, string_bytes, arith}
 use Rattle.papergrid_picture.specs.Frame.{track_at}
 use Rattle.papergrid_print.specs.Sheets.{lines_of, row_tracks, sheet_of}
-use Rattle.tabled_output.specs.Pieces.{HasPassed}
 use Rattle.tabled_output.proofs.PieceLemmas.{passed-by, passed-on, stopped-on}
 use Rattle.papergrid_print.proofs.WriteLemmas.{begun, continues-refused}
 use Rattle.papergrid_print.proofs.table.Table.write_boundary.Goals as goal

@@ -1,4 +1,4 @@
-use Rattle.std.proofs.Common.{◌≡◌, ◌+◌, ◌<◌, ◌≤◌, ◌++◌, ◌∙◌, ap, refl, subst, sym, string_bytes, arith}
+use Rattle.std.proofs.Common.{◌≡◌, ◌+◌, ◌≤◌, ◌++◌, ◌∙◌, ap, refl, subst, sym, string_bytes, arith}
 use Rattle.papergrid_picture.specs.Frame.{place}
 use Rattle.papergrid_print.specs.Sheets.{lines_of, row_tracks, sheet_of}
 use Rattle.tabled_output.specs.Pieces.{HasPassed}

@@ -1,4 +1,4 @@
-use Rattle.std.proofs.Common.{◌≡◌, length, string_bytes}
+use Rattle.std.proofs.Common.{string_bytes}
 use Rattle.papergrid_print.specs.Sheets.{lines_of, sheet_of}
 use Rattle.tabled_output.specs.Pieces.{HasPassed}
 use Rattle.papergrid_print.proofs.table.Table.write_margin.Given as goal
