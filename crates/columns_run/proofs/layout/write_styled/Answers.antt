@@ -21,6 +21,7 @@ use Rattle.columns_asked.specs.Layout.{asked_text}
 use Rattle.columns_run.specs.Layout.{output_of}
 use Rattle.columns_run.proofs.ServeLemmas.{left_alone}
 use Rattle.columns_run.proofs.WrittenLemmas.{is-of-table, is-written, is-written-none}
+use Rattle.columns_run.proofs.layout.write_styled.Given.{Over}
 use Rattle.columns_run.proofs.layout.write_styled.Goals as goal
 use Rattle.columns_run.proofs.layout.write_styled.Goals.{After-of-rows}
 
@@ -38,8 +39,8 @@ are_of text own found styled rows is own_is cells_are counts_are whole same = re
       ∙ subst (λ found. IfSome found (λ styled. cut styled.rows.counts (cell_lines styled) ≡ line_rows text)) is same;
 }
 
-known : (c : After-of-rows) → AreOf c.args.text.now c.of-rows.result
-known c =
+known : (g : Over) (c : After-of-rows g) → AreOf c.args.text.now c.of-rows.result
+known g c =
     are_of c.args.text.now c.deref.result.now c.in_ok-own.field-0 c.in-Some.field-0 c.of-rows.result c.in-Some.is c.deref.ensures c.of-rows.ensures.cells c.of-rows.ensures.counts
     c.in_ok-own.ensures.whole c.in_ok-own.ensures.cells
 
@@ -47,19 +48,19 @@ pub write_rows-requires : goal.write_rows-requires
 write_rows-requires g c =
     let text = c.args.text.now in
     let rows = c.of-rows.result in
-    let are = known (goal.at.write_rows-requires c).After-of-rows in
+    let are = known g (goal.at.write_rows-requires g c).After-of-rows in
     record { measured = cells-measured text rows (whole_text text c.utf8.text are.whole) (rows.whole ∙ sym (length-map rows.cells shown)) are.are }
 
 pub returns-clause-answers : goal.returns-clause-answers
 returns-clause-answers g c =
     let rows = c.of-rows.result in
-    let are = known (goal.at.returns-clause-answers c).After-of-rows in
+    let are = known g (goal.at.returns-clause-answers g c).After-of-rows in
     answered (wanted_of c.args.options.now) c.args.text.now c.utf8.text are.whole rows are.are c.asked_of-asked.result c.asked_of-asked.ensures c.write_rows.result c.answer.result c.answer.ensures c.write_rows.ensures.fits c.write_rows.ensures.refused
 
 pub returns-clause-written : goal.returns-clause-written
 returns-clause-written g c =
     let rows = c.of-rows.result in
-    let are = known (goal.at.returns-clause-written c).After-of-rows in
+    let are = known g (goal.at.returns-clause-written g c).After-of-rows in
     let output = output-is (wanted_of c.args.options.now) c.args.text.now c.utf8.text are.whole rows are.are c.asked_of-asked.result c.asked_of-asked.ensures in
     is-written g.W.Write.contents (output_of (wanted_of c.args.options.now) c.args.text.now) c.args.writer.now c.write_rows.new.writer (compact_of c.args.options.now.style) c.asked_of-asked.result (row_texts_of rows) c.write_rows.result c.answer.result c.answer.ensures
     (subst (λ text. Passes g.W.Write.contents text c.write_rows.result [] c.args.writer.now c.write_rows.new.writer) output c.write_rows.ensures.table) c.write_rows.ensures.alone c.write_rows.ensures.refused
@@ -67,7 +68,7 @@ returns-clause-written g c =
 pub returns-clause-alone : goal.returns-clause-alone
 returns-clause-alone g c =
     let rows = c.of-rows.result in
-    let are = known (goal.at.returns-clause-alone c).After-of-rows in
+    let are = known g (goal.at.returns-clause-alone g c).After-of-rows in
     let output = output-is (wanted_of c.args.options.now) c.args.text.now c.utf8.text are.whole rows are.are c.asked_of-asked.result c.asked_of-asked.ensures in
     left-alone (wanted_of c.args.options.now) c.args.text.now c.utf8.text are.whole rows are.are c.asked_of-asked.result c.asked_of-asked.ensures c.args.writer.now c.write_rows.new.writer c.write_rows.ensures.alone
     (λ none. passes-nothing g.W.Write.contents (asked_text (compact_of c.args.options.now.style) c.asked_of-asked.result (row_texts_of rows)) [] c.write_rows.result c.args.writer.now c.write_rows.new.writer c.write_rows.ensures.table (ap length output ∙ none))

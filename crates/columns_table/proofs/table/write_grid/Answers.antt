@@ -11,9 +11,10 @@ use Rattle.columns_table.proofs.NaturalLemmas.{OnOk-always}
 use Rattle.columns_table.proofs.table.write_grid.Goals as goal
 
 pub write-requires : goal.write-requires
-write-requires g c =
-    subst (λ grid. Fits grid.settings.now (slice_index grid.sizes.widths.items) (slice_index grid.sizes.heights.items) (g.R.RecordColumns.columns grid.records.now) (g.R.RecordTexts.rows grid.records.now))
-    (sym c.new-grid.ensures) (c.requires (λ none. omega (arith, none, c.if-sizes-eq0.false)))
+write-requires g c = record {
+  fits = subst (λ grid. Fits grid.settings.now (slice_index grid.sizes.widths.items) (slice_index grid.sizes.heights.items) (g.R.RecordColumns.columns grid.records.now) (g.R.RecordTexts.rows grid.records.now))
+      (sym c.new-grid.ensures) (c.requires (λ none. omega (arith, none, c.if-sizes-eq0.false)));
+}
 
 -- a text that is ended where there is a line
 ended-is : (lines : ℕ) (text grid : List ℕ) → lines ≢ 0 → grid ≡ text → (if lines == 0 then [] else text ++ line_feed ∷ []) ≡ grid ++ line_feed ∷ []

@@ -22,6 +22,7 @@ use Rattle.tabled_output.specs.Pieces.{Passes}
 use Rattle.tabled_output.proofs.PieceLemmas.{passes-none}
 use Rattle.columns_table.proofs.NarrowedLemmas.{answer-is, counted, fits-is, frame-is, heights-are, heights-pass, made, refusal-is, text-is}
 use Rattle.columns_table.specs.declared.sizes.Sizes.{Sizes}
+use Rattle.columns_table.proofs.table.write_narrowed.Given.{Over}
 use Rattle.columns_table.proofs.table.write_narrowed.Goals as goal
 use Rattle.columns_table.proofs.table.write_narrowed.Goals.{After-write_where_fits-written}
 
@@ -67,8 +68,8 @@ Printed style asked texts settings sizes rows =
     × StartsWith (compact_start style) settings × (sizes.heights.items ≡ table_heights (compact_sizing style) (columns_of rows) (texts_of_rows text_of rows))
     × (sizes.lines ≡ line_count (frame_of (compact_look style) sizes.widths.items sizes.heights.items))
 
-printed : (c : After-write_where_fits-written) → Printed (compact_of c.args.style.now) c.args.asked.now (row_texts_of c.args.rows) c.in_ok-settings.settings c.in_ok-sizes.sizes c.new-records.result.rows.items
-printed c =
+printed : (g : Over) (c : After-write_where_fits-written g) → Printed (compact_of c.args.style.now) c.args.asked.now (row_texts_of c.args.rows) c.in_ok-settings.settings c.in_ok-sizes.sizes c.new-records.result.rows.items
+printed g c =
     let style = compact_of c.args.style.now in
     let asked = c.args.asked.now in
     let texts = row_texts_of c.args.rows in
@@ -89,7 +90,7 @@ printed c =
 
 pub returns-clause-table : goal.returns-clause-table
 returns-clause-table g c =
-    let known = printed (goal.at.returns-clause-table c).After-write_where_fits-written in
+    let known = printed g (goal.at.returns-clause-table g c).After-write_where_fits-written in
     let rows = c.new-records.result.rows.items in
     let sizes = c.in_ok-sizes.sizes in
     subst (λ text. Passes g.W.Write.contents text c.write_where_fits-written.result [] c.args.writer.now c.write_where_fits-written.new.writer)
@@ -114,7 +115,7 @@ returns-in_err-settings-clause-table g c =
 
 pub returns-clause-range : goal.returns-clause-range
 returns-clause-range g c =
-    let known = printed (goal.at.returns-clause-range c).After-write_where_fits-written in
+    let known = printed g (goal.at.returns-clause-range g c).After-write_where_fits-written in
     let rows = c.new-records.result.rows.items in
     let sizes = c.in_ok-sizes.sizes in
     OnOk-implies c.write_where_fits-written.result
@@ -124,7 +125,7 @@ returns-clause-range g c =
 pub returns-clause-room : goal.returns-clause-room
 unfolding too_wide
 returns-clause-room g c =
-    let known = printed (goal.at.returns-clause-room c).After-write_where_fits-written in
+    let known = printed g (goal.at.returns-clause-room g c).After-write_where_fits-written in
     let rows = c.new-records.result.rows.items in
     let sizes = c.in_ok-sizes.sizes in
     OnOk-implies c.write_where_fits-written.result
@@ -134,7 +135,7 @@ returns-clause-room g c =
 pub returns-clause-alone : goal.returns-clause-alone
 unfolding too_wide
 returns-clause-alone g c = λ none.
-    let known = printed (goal.at.returns-clause-alone c).After-write_where_fits-written in
+    let known = printed g (goal.at.returns-clause-alone g c).After-write_where_fits-written in
     let rows = c.new-records.result.rows.items in
     let sizes = c.in_ok-sizes.sizes in
     c.write_where_fits-written.ensures.alone
@@ -147,7 +148,7 @@ told_of fault P Q f (inr is) = inr (f is)
 
 pub returns-clause-refused : goal.returns-clause-refused
 returns-clause-refused g c =
-    let known = printed (goal.at.returns-clause-refused c).After-write_where_fits-written in
+    let known = printed g (goal.at.returns-clause-refused g c).After-write_where_fits-written in
     let rows = c.new-records.result.rows.items in
     let sizes = c.in_ok-sizes.sizes in
     IfErr-weaker c.write_where_fits-written.result _ _

@@ -8,6 +8,7 @@ use Rattle.columns_table.specs.Rows.{row_texts_of}
 use Rattle.columns_table.proofs.AnswerLemmas.{Known, alone-narrowed, alone-natural, found-none, found-some, from-narrowed, from-natural, narrow-is, sizes-refused}
 use Rattle.columns_table.proofs.NarrowedLemmas.{some-sizes, text-natural}
 use Rattle.columns_table.proofs.RoomLemmas.{paddings-fit, sum-fits}
+use Rattle.columns_table.proofs.table.write_rows.Given.{Over}
 use Rattle.columns_table.proofs.table.write_rows.Goals as goal
 use Rattle.columns_table.proofs.table.write_rows.Goals.{After-write_narrowed, After-write_natural}
 
@@ -39,14 +40,14 @@ write_narrowed-requires-clause-beside g c =
     paddings-fit style texts c.in_ok-sizes.ensures.fits (some-sizes style c.args.asked.now texts c.in-Some.widths.items told).0
 
 -- what is known where columns give
-narrowed-known : (c : After-write_narrowed) → Known (compact_of c.args.style.now) c.args.asked.now (row_texts_of c.args.rows) c.write_narrowed.result
-narrowed-known c =
+narrowed-known : (g : Over) (c : After-write_narrowed g) → Known (compact_of c.args.style.now) c.args.asked.now (row_texts_of c.args.rows) c.write_narrowed.result
+narrowed-known g c =
     from-narrowed (compact_of c.args.style.now) c.args.asked.now (row_texts_of c.args.rows) c.write_narrowed.result c.in_ok-sizes.ensures.fits
     c.write_narrowed.ensures.range c.write_narrowed.ensures.room c.write_narrowed.ensures.refused
 
 -- and where none does
-natural-known : (c : After-write_natural) → Known (compact_of c.args.style.now) c.args.asked.now (row_texts_of c.args.rows) c.write_natural.result
-natural-known c =
+natural-known : (g : Over) (c : After-write_natural g) → Known (compact_of c.args.style.now) c.args.asked.now (row_texts_of c.args.rows) c.write_natural.result
+natural-known g c =
     let style = compact_of c.args.style.now in
     let asked = c.args.asked.now in
     let texts = row_texts_of c.args.rows in
@@ -56,10 +57,10 @@ natural-known c =
     c.write_natural.ensures.room c.write_natural.ensures.refused
 
 pub returns-in-Some-clause-fits : goal.returns-in-Some-clause-fits
-returns-in-Some-clause-fits g c = (narrowed-known (goal.at.returns-in-Some-clause-fits c).After-write_narrowed).fits
+returns-in-Some-clause-fits g c = (narrowed-known g (goal.at.returns-in-Some-clause-fits g c).After-write_narrowed).fits
 
 pub returns-in-Some-clause-refused : goal.returns-in-Some-clause-refused
-returns-in-Some-clause-refused g c = (narrowed-known (goal.at.returns-in-Some-clause-refused c).After-write_narrowed).refused
+returns-in-Some-clause-refused g c = (narrowed-known g (goal.at.returns-in-Some-clause-refused g c).After-write_narrowed).refused
 
 pub returns-in-None-clause-table : goal.returns-in-None-clause-table
 returns-in-None-clause-table g c =
@@ -81,10 +82,10 @@ returns-in_err-widths-clause-table g c =
     passes-none g.W.Write.contents (asked_text (compact_of c.args.style.now) c.args.asked.now (row_texts_of c.args.rows)) [] c.from_residual-in_err-widths.result c.args.writer.now c.from_residual-in_err-widths.ensures.0
 
 pub returns-in-None-clause-fits : goal.returns-in-None-clause-fits
-returns-in-None-clause-fits g c = (natural-known (goal.at.returns-in-None-clause-fits c).After-write_natural).fits
+returns-in-None-clause-fits g c = (natural-known g (goal.at.returns-in-None-clause-fits g c).After-write_natural).fits
 
 pub returns-in-None-clause-refused : goal.returns-in-None-clause-refused
-returns-in-None-clause-refused g c = (natural-known (goal.at.returns-in-None-clause-refused c).After-write_natural).refused
+returns-in-None-clause-refused g c = (natural-known g (goal.at.returns-in-None-clause-refused g c).After-write_natural).refused
 
 pub returns-in-Some-clause-alone : goal.returns-in-Some-clause-alone
 returns-in-Some-clause-alone g c =

@@ -21,9 +21,11 @@ write-requires g c =
     let table = c.args.self.now in
     let config = c.args.config.now in
     let rows = table.records.rows.items in
-    rw c.new-grid.ensures
-    (fits_given config (texts_of_rows g.T.Cell.text rows) (value_at table.config.colors) table.dimension config c.in_ok-sizes.sizes (columns_of rows)
-    refl c.in_ok-sizes.ensures.sizes (sym (count_texts g.T.Cell.text rows)) c.in_ok-sizes.ensures.fits)
+    record {
+      fits = rw c.new-grid.ensures
+          (fits_given config (texts_of_rows g.T.Cell.text rows) (value_at table.config.colors) table.dimension config c.in_ok-sizes.sizes (columns_of rows)
+          refl c.in_ok-sizes.ensures.sizes (sym (count_texts g.T.Cell.text rows)) c.in_ok-sizes.ensures.fits);
+    }
 
 pub returns-in_err-sizes-clause-text : goal.returns-in_err-sizes-clause-text
 returns-in_err-sizes-clause-text g c = passes-none g.W.Write.contents (printed (state_under g.T.Cell.text c.args.self.now c.args.config.now)) [] c.from_residual.result c.args.writer.now c.from_residual.ensures.0
