@@ -31,32 +31,32 @@ same-writes : {T : Type 0} (a : Counted T) → OnlyWrites a a
 same-writes a = record { bare_writes = refl; pieces_read = refl; ends = refl; flushes = refl }
 
 none-fails : {T : Type 0} (P : Type 0) (a : Counted T) → ¬ P → FailsIff P a a
-none-fails P a no = record { once = λ p. absurd (no p); last = λ p. absurd (no p); others = λ _. refl }
+none-fails P a never = record { once = λ p. absurd (never p); last = λ p. absurd (never p); others = λ _. refl }
 
 none-empty : {T : Type 0} (P : Type 0) (a : Counted T) → ¬ P → TakesNothingIff P a a
-none-empty P a no = record { once = λ p. absurd (no p); last = λ p. absurd (no p); others = λ _. refl }
+none-empty P a never = record { once = λ p. absurd (never p); last = λ p. absurd (never p); others = λ _. refl }
 
 no-failure : (fault : RunFault) → IsOfInput fault → ¬ (IsErrOf {T = Unit {0}} (Err fault) Write)
-no-failure (NotUtf8 at) is no = cc no
-no-failure (Escape at) is no = cc no
-no-failure Range is no = cc no
-no-failure (LineTooWide row column) is no = cc no
-no-failure Memory is no = cc no
-no-failure Read is no = absurd is
-no-failure ReadTooLong is no = absurd is
-no-failure Write is no = absurd is
-no-failure WriteZero is no = absurd is
+no-failure (NotUtf8 at) is told = cc told
+no-failure (Escape at) is told = cc told
+no-failure Range is told = cc told
+no-failure (LineTooWide row column) is told = cc told
+no-failure Memory is told = cc told
+no-failure Read is told = absurd is
+no-failure ReadTooLong is told = absurd is
+no-failure Write is told = absurd is
+no-failure WriteZero is told = absurd is
 
 no-empty : (fault : RunFault) → IsOfInput fault → ¬ (IsErrOf {T = Unit {0}} (Err fault) WriteZero)
-no-empty (NotUtf8 at) is no = cc no
-no-empty (Escape at) is no = cc no
-no-empty Range is no = cc no
-no-empty (LineTooWide row column) is no = cc no
-no-empty Memory is no = cc no
-no-empty Read is no = absurd is
-no-empty ReadTooLong is no = absurd is
-no-empty Write is no = absurd is
-no-empty WriteZero is no = absurd is
+no-empty (NotUtf8 at) is told = cc told
+no-empty (Escape at) is told = cc told
+no-empty Range is told = cc told
+no-empty (LineTooWide row column) is told = cc told
+no-empty Memory is told = cc told
+no-empty Read is told = absurd is
+no-empty ReadTooLong is told = absurd is
+no-empty Write is told = absurd is
+no-empty WriteZero is told = absurd is
 
 module _ {T : Type 0} (contents : T → Option (List ℕ)) (text : List ℕ) where
   -- a fault of the input comes before the first byte
@@ -85,19 +85,19 @@ module _ {T : Type 0} (contents : T → Option (List ℕ)) (text : List ℕ) whe
     failed : HasStopped contents text Failed a b → IsWritten {A = Unit {0}} contents text (Err Write) a b
     failed q = record {
       writes = front-taken contents text q.bytes.0 q.bytes.1 a b q.bytes.2 q.bytes.3;
-      write = record { once = λ _. q.write.once refl; last = λ _. q.write.last refl; others = λ no. absurd (no refl) };
+      write = record { once = λ _. q.write.once refl; last = λ _. q.write.last refl; others = λ other. absurd (other refl) };
       write_zero = record { once = λ is. cc is; last = λ is. cc is; others = λ _. q.write_zero.others (λ is. cc is) };
       only_writes = q.only_writes;
-      untouched = λ no. absurd (no tt);
+      untouched = λ other. absurd (other tt);
     }
 
     took-nothing : HasStopped contents text TookNothing a b → IsWritten {A = Unit {0}} contents text (Err WriteZero) a b
     took-nothing q = record {
       writes = front-taken contents text q.bytes.0 q.bytes.1 a b q.bytes.2 q.bytes.3;
       write = record { once = λ is. cc is; last = λ is. cc is; others = λ _. q.write.others (λ is. cc is) };
-      write_zero = record { once = λ _. q.write_zero.once refl; last = λ _. q.write_zero.last refl; others = λ no. absurd (no refl) };
+      write_zero = record { once = λ _. q.write_zero.once refl; last = λ _. q.write_zero.last refl; others = λ other. absurd (other refl) };
       only_writes = q.only_writes;
-      untouched = λ no. absurd (no tt);
+      untouched = λ other. absurd (other tt);
     }
 
     begun : (rest : List ℕ) → HasPassed contents text rest a b → IsWritten {A = Unit {0}} contents text (Err Memory) a b
@@ -106,7 +106,7 @@ module _ {T : Type 0} (contents : T → Option (List ℕ)) (text : List ℕ) whe
       write = record { once = λ is. cc is; last = λ is. cc is; others = λ _. p.failures };
       write_zero = record { once = λ is. cc is; last = λ is. cc is; others = λ _. p.empty_writes };
       only_writes = p.only_writes;
-      untouched = λ no. absurd (no tt);
+      untouched = λ other. absurd (other tt);
     }
 
     untouched : (fault : RunFault) → IsOfInput fault → b ≡ a → IsWritten {A = Unit {0}} contents text (Err fault) a b

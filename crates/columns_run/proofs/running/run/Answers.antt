@@ -1,5 +1,4 @@
-use Rattle.std.proofs.Common.{◌≡◌, rules, arith}
-use Rattle.std.specs.Prelude.{inl, inr}
+use Rattle.std.proofs.Common.{◌≡◌, inl, inr, rules, arith, subst}
 use Rattle.std.proofs.lemmas.Grind.{common_steps}
 use Rattle.tabled_output.specs.Counts.{inner_of}
 use Rattle.columns_run.specs.Layout.{output_of}
@@ -31,10 +30,33 @@ returns-clause-known_input g c =
     (all-read before (g.R.Read.remaining (inner_of c.read_all.new.reader)) bytes
     (λ input. MayAnswer wanted input result × Writes (output_of wanted input) result old new × LeavesAlone wanted input c.args.writer.now c.write_table.new.writer)
     c.in_ok-bytes.ensures.bytes c.in_ok-bytes.ensures.end
-    (c.write_table.ensures.answers, c.write_table.ensures.written.writes, c.write_table.ensures.alone))
+    (subst (λ input. MayAnswer wanted input result × Writes (output_of wanted input) result old new × LeavesAlone wanted input c.args.writer.now c.write_table.new.writer) c.deref.ensures.value
+    (c.write_table.ensures.answers, c.write_table.ensures.written.writes, c.write_table.ensures.alone)))
 
 pub returns-clause-some_input : goal.returns-clause-some_input
 returns-clause-some_input g c =
-    some (wanted_of c.args.options.now) c.requires c.write_table.result (g.W.Write.contents (inner_of c.args.writer.now)) (g.W.Write.contents (inner_of c.write_table.new.writer)) c.args.writer.now c.write_table.new.writer
+    let wanted = wanted_of c.args.options.now in
+    let old = g.W.Write.contents (inner_of c.args.writer.now) in
+    let new = g.W.Write.contents (inner_of c.write_table.new.writer) in
+    let result = c.write_table.result in
+    some wanted c.requires result old new c.args.writer.now c.write_table.new.writer
     (g.R.Read.remaining (inner_of c.args.reader.now)) (g.R.Read.remaining (inner_of c.read_all.new.reader))
-    (c.in_ok-bytes.bytes.items, c.in_ok-bytes.ensures.bytes, (c.write_table.ensures.answers, c.write_table.ensures.written.writes, c.write_table.ensures.alone))
+    (c.in_ok-bytes.bytes.items, c.in_ok-bytes.ensures.bytes,
+    subst (λ input. MayAnswer wanted input result × Writes (output_of wanted input) result old new × LeavesAlone wanted input c.args.writer.now c.write_table.new.writer) c.deref.ensures.value
+    (c.write_table.ensures.answers, c.write_table.ensures.written.writes, c.write_table.ensures.alone))
+
+pub returns-clause-no_end : goal.returns-clause-no_end
+returns-clause-no_end g c = λ told.
+    let result = c.write_table.result in
+    elim told [ inl read ↦ absurd (no-read result c.write_table.ensures.faults read) | inr long ↦ absurd (no-long-read result c.write_table.ensures.faults long) ]
+
+pub returns-clause-read : goal.returns-clause-read
+returns-clause-read g c =
+    let never = no-read c.write_table.result c.write_table.ensures.faults in
+    record { once = λ is. absurd (never is); last = λ is. absurd (never is); others = λ _. c.in_ok-bytes.ensures.read.others (λ is. cc is) }
+
+pub returns-clause-read_too_long : goal.returns-clause-read_too_long
+returns-clause-read_too_long g c = λ _. (
+  λ long. absurd (no-long-read c.write_table.result c.write_table.ensures.faults long),
+  λ given. let long = (c.in_ok-bytes.ensures.too_long (λ is. cc is)).1 given in cc long,
+)
