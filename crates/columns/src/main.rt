@@ -9,9 +9,12 @@ pub use columns_run::{
 };
 pub use columns_words::{Asked, read_words};
 use std::env;
-use std::io::{self, ErrorKind};
+use std::io::{self, BufWriter, ErrorKind, Write};
 use std::process::ExitCode;
 use tabled_output::write_all;
+
+// How many bytes of the table stand in the buffer of standard output at most.
+const OUTPUT_BUFFER: usize = 65536;
 
 /// Standard input to standard output. Its status is 0; or 1 with one line on standard error; or 2, where
 /// the words are at fault, with a text on standard error.
@@ -38,16 +41,37 @@ fn words(rt: &HostRuntime) -> io::Result<Vec<String>> {
     Ok(words)
 }
 
-// Prints the table. Neither stream has a buffer of this program's, so there is nothing to flush.
+// Prints the table. Its lines stand in a buffer until they are many, so that a line costs no call of the
+// system.
 fn print(rt: &HostRuntime, options: &Options, streamed: bool) -> Result<(), RunFault>
     requires { IsPlain (compact_of options.now.style) }
 {
+    let output = Counted::new(rt.stdout());
+    let Ok(buffered) = BufWriter::with_capacity(rt.alloc(), OUTPUT_BUFFER, output) else {
+        return Err(RunFault::Memory);
+    };
     let mut reader = Counted::new(rt.stdin());
-    let mut writer = Counted::new(rt.stdout());
-    if streamed {
+    let mut writer = Counted::new(buffered);
+    let outcome = if streamed {
         run_streamed(rt.alloc(), &options.style, &mut reader, &mut writer)
     } else {
         run(rt.alloc(), options, &mut reader, &mut writer)
+    };
+    let (mut output, rest) = writer.into_inner().into_parts();
+    flushed(outcome, &mut output, &rest)
+}
+
+// Writes what still stands in the buffer of a run that came to its end. A buffer says only that writing
+// failed: where the output took nothing its own count tells.
+fn flushed<W: Write>(
+    outcome: Result<(), RunFault>,
+    output: &mut Counted<W>,
+    rest: &[u8],
+) -> Result<(), RunFault> {
+    match outcome {
+        Ok(()) => Ok(write_all(output, rest)?),
+        Err(RunFault::Write) if output.empty_writes() > 0 => Err(RunFault::WriteZero),
+        Err(fault) => Err(fault),
     }
 }
 

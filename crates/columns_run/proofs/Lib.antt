@@ -29,3 +29,4 @@ pub mod WalkLemmas
 pub mod WholeLemmas
 pub mod WidthLemmas
 pub mod WorkedLemmas
+pub mod WrittenLemmas

@@ -1,6 +1,6 @@
 -- The table of a text's cells is the table of the text.
-use Rattle.std.proofs.Common.{◌≡◌, ℕ, false, List, [], ◌∷◌, Result, Err, map, refl, ap, sym, subst, ◌∙◌, vec_items}
-use Rattle.std.specs.Prelude.{chars, IsUtf8}
+use Rattle.std.proofs.Common.{◌≡◌, ℕ, false, List, [], ◌∷◌, Result, Ok, Err, length, map, refl, ap, sym, subst, ◌∙◌, vec_items}
+use Rattle.std.specs.Prelude.{chars, IfErr, IsUtf8, OnOk}
 use Rattle.std.specs.List.{AllByRecursion}
 use Rattle.std.proofs.lemmas.Simd.{map-map}
 use Rattle.ansi_scan.specs.Sequences.{IsWhole}
@@ -18,12 +18,14 @@ use Rattle.grid_config_values.specs.declared.fault.Fault.{Fault}
 use Rattle.grid_config_values.specs.declared.fault.Fault.TheVariants.{Memory, Range, Room, Spans}
 use Rattle.grid_records_measure.specs.Measures.{measure}
 use Rattle.columns_run.specs.Cells.{Line, byte_line, line_rows, part_line, rows_shown, shown, texts_of_lines}
-use Rattle.columns_run.specs.Fault.{IsOfInput, run_fault}
+use Rattle.columns_run.specs.Fault.{run_answer, run_fault}
 use Rattle.columns_run.specs.Layout.{TableFits, output_of, wide_cell}
 use Rattle.columns_run.specs.Rows.{cell_parts, rows_of}
-use Rattle.columns_run.specs.Run.{HasTable, MayAnswer}
+use Rattle.columns_run.specs.Run.{HasTable, LeavesAlone, MayAnswer}
 use Rattle.columns_run.specs.Wanted.{Wanted}
 use Rattle.columns_run.specs.declared.fault.RunFault.{RunFault}
+use Rattle.tabled_output.specs.declared.writing.WriteFault.{WriteFault}
+use Rattle.tabled_output.specs.declared.writing.WriteFault.TheVariants.{Write as Failed, WriteZero as TookNothing}
 use Rattle.columns_run.proofs.CellLemmas.{texts-stripped, whole_cells, whole_text}
 use Rattle.columns_run.proofs.ItemLemmas.{map-same}
 use Rattle.columns_run.proofs.PlaceLemmas.{cell_parts-plain, plain_cells, stripped-without_escape}
@@ -88,19 +90,30 @@ module _ (wanted : Wanted) (text : List ℕ) (utf8 : IsUtf8 text) (whole : IsWho
   unfolding output_of
   output-is = ap (asked_text style asked) (texts-are rows text are) ∙ ap (λ asked. asked_text style asked (cell_parts text)) same
 
-  pub has-table : TextsHaveTable style asked texts → HasTable wanted text
+  has-table : TextsHaveTable style asked texts → HasTable wanted text
   has-table good = (utf8, whole, subst (λ (T : Type 0). T) fits good.fits, sym wide ∙ good.room)
 
   -- a text has no table for the reason that its texts have none
-  pub refused : {T : Type 0} (given : Fault) (result : Result T RunFault) → result ≡ Err (run_fault given) → MayRefuse style asked texts given → MayAnswer wanted text result
+  refused : {T : Type 0} (given : Fault) (result : Result T RunFault) → result ≡ Err (run_fault given) → MayRefuse style asked texts given → MayAnswer wanted text result
   refused Range result is told = subst (MayAnswer wanted text) (sym is) (utf8, whole, λ good. told (subst (λ (T : Type 0). T) (sym fits) good))
   refused (Room row column) result is told = subst (MayAnswer wanted text) (sym is) (utf8, whole, subst (λ (T : Type 0). T) fits told.0, sym wide ∙ told.1)
   refused Memory result is told = subst (MayAnswer wanted text) (sym is) tt
   refused Spans result is told = absurd told
 
--- and it is a fault of the input
-pub of_input : (given : Fault) → IsOfInput (run_fault given)
-of_input Range = tt
-of_input Spans = tt
-of_input (Room row column) = tt
-of_input Memory = tt
+  -- what a run answers of them is what it may answer of the text
+  answers : (given : Result (Result (Unit {0}) WriteFault) Fault) → OnOk given (TextsHaveTable style asked texts) → IfErr given (MayRefuse style asked texts) → MayAnswer wanted text (run_answer given)
+  answers (Ok (Ok done)) fits refuses = has-table fits
+  answers (Ok (Err Failed)) fits refuses = has-table fits
+  answers (Ok (Err TookNothing)) fits refuses = has-table fits
+  answers (Err fault) fits refuses = refused {T = Unit {0}} fault (Err (run_fault fault)) refl refuses
+
+  pub answered : (given : Result (Result (Unit {0}) WriteFault) Fault) (result : Result (Unit {0}) RunFault) → result ≡ run_answer given → OnOk given (TextsHaveTable style asked texts) → IfErr given (MayRefuse style asked texts)
+      → MayAnswer wanted text result
+  answered given result is fits refuses = subst (MayAnswer wanted text) (sym is) (answers given fits refuses)
+
+  -- texts have a table where the text has one
+  lacks-table : ¬ (HasTable wanted text) → ¬ (TextsHaveTable style asked texts)
+  lacks-table none good = none (has-table good)
+
+  pub left-alone : {W : Type 0} (before after : W) → (¬ (TextsHaveTable style asked texts) → after ≡ before) → (length (output_of wanted text) ≡ 0 → after ≡ before) → LeavesAlone wanted text before after
+  left-alone before after alone nothing = record { no_table = λ none. alone (lacks-table none); empty = nothing }

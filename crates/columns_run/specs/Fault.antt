@@ -1,5 +1,5 @@
 -- What a fault is called, and when in a run it may come.
-use Rattle.std.specs.Prelude.{ℕ, List, ⊤, ◌++◌, codes, decimal}
+use Rattle.std.specs.Prelude.{ℕ, List, Result, Ok, Err, ⊤, ◌++◌, codes, decimal}
 use Rattle.columns_run.specs.declared.fault.RunFault.{RunFault}
 use Rattle.columns_run.specs.declared.fault.RunFault.TheVariants.{Read, ReadTooLong, NotUtf8, Escape, Range, LineTooWide, Write, WriteZero, Memory}
 use Rattle.grid_config_values.specs.declared.fault.Fault.{Fault}
@@ -31,6 +31,12 @@ run_fault PassesMax = Range
 run_fault Spans = Range
 run_fault (Room row column) = LineTooWide row column
 
+-- what a run answers where its table was written so, or not
+abbrev pub run_answer : Result (Result (Unit {0}) WriteFault) Fault → Result (Unit {0}) RunFault
+run_answer (Ok (Ok done)) = Ok done
+run_answer (Ok (Err fault)) = Err (write_fault fault)
+run_answer (Err fault) = Err (run_fault fault)
+
 -- a fault that reading may give
 abbrev pub IsOfReading : RunFault → Type 0
 IsOfReading Read = ⊤
@@ -54,6 +60,12 @@ TellsOfInput (Escape at) = ⊤
 TellsOfInput Range = ⊤
 TellsOfInput (LineTooWide row column) = ⊤
 TellsOfInput _ = ⊥
+
+-- a fault that making and writing the table of an input may give
+abbrev pub IsOfTable : RunFault → Type 0
+IsOfTable Read = ⊥
+IsOfTable ReadTooLong = ⊥
+IsOfTable _ = ⊤
 
 -- a fault that writing may give
 abbrev pub IsOfWriting : RunFault → Type 0

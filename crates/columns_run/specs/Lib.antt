@@ -9,3 +9,4 @@ pub mod Rows
 pub mod Run
 pub mod Styled
 pub mod Widths
+pub mod Written

@@ -1,10 +1,11 @@
 //! The table of a text.
-ghost use Rattle.std.specs.Prelude.{◌≡◌, IfErr, IfOk, string_bytes};
+ghost use Rattle.std.specs.Prelude.{◌≡◌, IfErr};
 ghost use Rattle.ansi_scan.specs.Sequences.{IsFirstBroken, IsWhole};
-ghost use Rattle.columns_run.specs.Fault.{IsOfInput};
+ghost use Rattle.columns_run.specs.Fault.{IsOfTable, run_answer};
 ghost use Rattle.columns_run.specs.Layout.{output_of};
-ghost use Rattle.columns_run.specs.Run.{MayAnswer};
+ghost use Rattle.columns_run.specs.Run.{LeavesAlone, MayAnswer};
 ghost use Rattle.columns_run.specs.Wanted.{asked_of, wanted_of};
+ghost use Rattle.columns_run.specs.Written.{IsWritten};
 
 use crate::fault::RunFault;
 use crate::plain_rows::rows_of;
@@ -12,30 +13,45 @@ use crate::styled_rows::{StyledCells, styled_cells};
 use ansi_scan::first_broken;
 use columns_asked::Asked;
 use columns_options::Options;
-use columns_table::{Rows, rows_table};
+use columns_table::{Rows, write_rows};
+use grid_config::Fault;
 use std::alloc::Global;
+use std::io::Write;
+use tabled_output::{Counted, WriteFault};
 
-/// The table of a text, each of its lines ended by a line feed; nothing where the text has no rows.
-/// Refused as `Escape` where a sequence in it is broken, as `Range` where its width or height passes
+/// Writes the table of a text, each of its lines ended by a line feed and written as soon as it is made;
+/// nothing where the text has no rows. Before anything is written it is refused as `Escape` where a sequence in it is broken, as `Range` where its width or height passes
 /// `usize::MAX`, as `LineTooWide` where a line of a cell takes more columns than its column has, and as
 /// `Memory` where allocation fails. A text without ESC is not copied.
-pub fn text_table(alloc: Global, options: &Options, text: &str) -> Result<String, RunFault>
+pub fn write_text<W: Write>(
+    alloc: Global,
+    options: &Options,
+    text: &str,
+    writer: &mut Counted<W>,
+) -> Result<(), RunFault>
     ensures answers { MayAnswer (wanted_of options.now) text.now result }
-    ensures table { IfOk result (λ table. string_bytes table ≡ output_of (wanted_of options.now) text.now) }
-    ensures faults { IfErr result IsOfInput }
+    ensures written { IsWritten W.contents (output_of (wanted_of options.now) text.now) result writer.old writer.new }
+    ensures alone { LeavesAlone (wanted_of options.now) text.now writer.old writer.new }
+    ensures faults { IfErr result IsOfTable }
 {
     let Some(rows) = rows_of(alloc, text)? else {
-        return styled_table(alloc, options, text);
+        return write_styled(alloc, options, text, writer);
     };
     let asked = asked_of(options);
-    Ok(rows_table(alloc, &options.style, &asked, rows)?)
+    answer(write_rows(alloc, &options.style, &asked, rows, writer))
 }
 
 // The same of a text with sequences.
-fn styled_table(alloc: Global, options: &Options, text: &str) -> Result<String, RunFault>
+fn write_styled<W: Write>(
+    alloc: Global,
+    options: &Options,
+    text: &str,
+    writer: &mut Counted<W>,
+) -> Result<(), RunFault>
     ensures answers { MayAnswer (wanted_of options.now) text.now result }
-    ensures table { IfOk result (λ table. string_bytes table ≡ output_of (wanted_of options.now) text.now) }
-    ensures faults { IfErr result IsOfInput }
+    ensures written { IsWritten W.contents (output_of (wanted_of options.now) text.now) result writer.old writer.new }
+    ensures alone { LeavesAlone (wanted_of options.now) text.now writer.old writer.new }
+    ensures faults { IfErr result IsOfTable }
 {
     let Some(StyledCells { text: own, rows }) = styled_cells(alloc, text)? else {
         return Err(RunFault::Escape {
@@ -44,7 +60,18 @@ fn styled_table(alloc: Global, options: &Options, text: &str) -> Result<String, 
     };
     let rows = Rows::of(&own, rows);
     let asked = asked_of(options);
-    Ok(rows_table(alloc, &options.style, &asked, rows)?)
+    answer(write_rows(alloc, &options.style, &asked, rows, writer))
+}
+
+// What a run answers where the table was written so, or not.
+fn answer(written: Result<Result<(), WriteFault>, Fault>) -> Result<(), RunFault>
+    ensures { result ≡ run_answer written }
+{
+    match written {
+        Ok(Ok(())) => Ok(()),
+        Ok(Err(fault)) => Err(fault.into()),
+        Err(fault) => Err(fault.into()),
+    }
 }
 
 // Where the first broken sequence begins.

@@ -1,23 +1,24 @@
 //! From a reader to a writer: all bytes, the text, the table.
-ghost use Rattle.std.specs.Prelude.{◌≡◌, ◌≢◌, ◌↔◌, ◌⊎◌, IfSome, IfOk, IfErr, IsErrOf, Err, string_bytes};
+ghost use Rattle.std.specs.Prelude.{◌≡◌, ◌≢◌, ◌↔◌, ◌⊎◌, IfSome, IfErr, IsErrOf, Err};
 ghost use Rattle.std.specs.Io.KnownBytes.{IsAtEnd};
 ghost use Rattle.tabled_output.specs.Counts.{inner_of, FailsIff, HasGivenPieces, OnlyReads, OnlyWrites, TakesNothingIff, TellsEnd, TellsNoEnd};
-ghost use Rattle.columns_run.specs.Fault.{IsOfInput, MayFollowWrites};
+ghost use Rattle.columns_run.specs.Fault.{IsOfTable, MayFollowWrites};
 ghost use Rattle.grid_config.specs.Compact.{compact_of};
 ghost use Rattle.columns_run.specs.Layout.{output_of};
 ghost use Rattle.columns_run.specs.Plain.{IsPlain};
 ghost use Rattle.tabled_output.specs.Streams.{ConsumesSome};
 ghost use Rattle.columns_run.specs.Run.{MayAnswer, Serves, LeavesAlone, HasReadAll, read_limit};
 ghost use Rattle.columns_run.specs.Wanted.{wanted_of, without_width};
+ghost use Rattle.columns_run.specs.Written.{IsWritten};
 
 use crate::fault::RunFault;
 use crate::input::{read_all, text_of};
-use crate::layout::text_table;
+use crate::layout::write_text;
 use columns_options::Options;
 use grid_config::CompactConfig;
 use std::alloc::Global;
 use std::io::{Read, Write};
-use tabled_output::{Counted, write_all};
+use tabled_output::Counted;
 use tabled_size_priority::Choice;
 
 // How many reads without an end are too many.
@@ -25,9 +26,10 @@ const READ_LIMIT: u64 = 1 << 40;
 
 /// Reads all text, cells between tabs and rows between line feeds, and writes it as a table with
 /// borders. Where it would pass the width that is asked, its columns give, and its cells are wrapped or
-/// cut to the room that is left; it never gets wider. `RunFault` says when it gives up. Before a fault of
-/// the reader or the input nothing is written; before one of the writer, or `Memory`, a front of the table
-/// may be.
+/// cut to the room that is left; it never gets wider. Each line is written as soon as it is made, and no more
+/// than one is held, beside the input and the places of its cells. `RunFault` says when it gives up. Before a
+/// fault of the reader or the input nothing is written; before one of the writer, or `Memory`, a front of the
+/// table may be. Nothing is flushed.
 pub fn run<R: Read, W: Write>(
     alloc: Global,
     options: &Options,
@@ -70,12 +72,11 @@ pub fn run<R: Read, W: Write>(
         ¬ (MayFollowWrites fault) → writer.new ≡ writer.old) }
 {
     let bytes = read_all(alloc, reader, READ_LIMIT)?;
-    let table = table_of(alloc, options, &bytes)?;
-    Ok(write_all(writer, table.as_bytes())?)
+    write_table(alloc, options, &bytes, writer)
 }
 
 /// The same in this style, as wide as the text: what `run` does with options of this style and without a
-/// width. The whole table is made before any of it is written.
+/// width.
 pub fn run_streamed<R: Read, W: Write>(
     alloc: Global,
     style: &CompactConfig,
@@ -133,11 +134,17 @@ fn without_width(style: &CompactConfig) -> Options
     }
 }
 
-// The table of an input, or why it has none.
-fn table_of(alloc: Global, options: &Options, bytes: &[u8]) -> Result<String, RunFault>
+// Writes the table of an input, or answers why it has none.
+fn write_table<W: Write>(
+    alloc: Global,
+    options: &Options,
+    bytes: &[u8],
+    writer: &mut Counted<W>,
+) -> Result<(), RunFault>
     ensures answers { MayAnswer (wanted_of options.now) bytes.now result }
-    ensures table { IfOk result (λ table. string_bytes table ≡ output_of (wanted_of options.now) bytes.now) }
-    ensures faults { IfErr result IsOfInput }
+    ensures written { IsWritten W.contents (output_of (wanted_of options.now) bytes.now) result writer.old writer.new }
+    ensures alone { LeavesAlone (wanted_of options.now) bytes.now writer.old writer.new }
+    ensures faults { IfErr result IsOfTable }
 {
-    text_table(alloc, options, text_of(bytes)?)
+    write_text(alloc, options, text_of(bytes)?, writer)
 }

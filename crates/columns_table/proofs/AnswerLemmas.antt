@@ -1,22 +1,20 @@
 -- What both ways to a table know of it.
-use Rattle.std.proofs.Common.{◌≡◌, ◌⊎◌, inl, inr, ℕ, List, Option, None, Some, Result, Ok, Err, OnOk, IfErr, String, Global, ap, sym, subst, ◌∙◌}
-use Rattle.std.specs.Prelude.{IfOk, string_bytes}
+use Rattle.std.proofs.Common.{◌≡◌, ◌⊎◌, inl, inr, ℕ, List, Option, None, Some, Result, Ok, Err, OnOk, IfErr, ap, sym, subst, ◌∙◌}
 use Rattle.std.specs.Option.{option_map}
-use Rattle.std.proofs.lemmas.Result.{IfErr-weaker, IfOk-weaker}
+use Rattle.std.proofs.lemmas.Result.{IfErr-weaker}
 use Rattle.grid_config.specs.Compact.{Compact}
 use Rattle.grid_config_values.specs.declared.fault.Fault.{Fault}
 use Rattle.grid_config_values.specs.declared.fault.Fault.TheVariants.{Memory, Range, Room, Spans}
 use Rattle.grid_records_estimate.specs.Sizes.{IsRefusal}
 use Rattle.papergrid_picture.specs.Fitting.{FitsAnswer, InRange, first_too_wide, table_width}
-use Rattle.columns_asked.specs.Layout.{AskedFits, asked_frame, asked_text, frame_under, kept_texts, narrow, narrowed, too_wide, widths_of}
+use Rattle.columns_asked.specs.Layout.{AskedFits, asked_frame, frame_under, kept_texts, narrow, narrowed, too_wide, widths_of}
 use Rattle.columns_asked.specs.declared.asked.Asked.{Asked}
-use Rattle.columns_table.specs.Answers.{HasTable, MayRefuse, natural_text}
-use Rattle.columns_table.proofs.NarrowedLemmas.{fits-natural, room-natural, text-natural}
+use Rattle.columns_table.specs.Answers.{HasTable, MayRefuse}
+use Rattle.columns_table.proofs.NarrowedLemmas.{fits-natural, room-natural}
 
 module _ (style : Compact) (asked : Asked) (texts : List (List (List ℕ))) where
-  -- a table, or why there is none
-  pub record Known (table : Result (String Global) Fault) : Type 0 where
-    pub text : IfOk table (λ found. string_bytes found ≡ asked_text style asked texts)
+  -- that there is a table, or why there is none
+  pub record Known {A : Type 0} (table : Result A Fault) : Type 0 where
     pub fits : OnOk table (HasTable style asked texts)
     pub refused : IfErr table (MayRefuse style asked texts)
 
@@ -48,27 +46,32 @@ module _ (style : Compact) (asked : Asked) (texts : List (List (List ℕ))) wher
   unfolding AskedFits
   has-table range kept room = record { fits = (range, kept); room = room }
 
-  both : (table : Result (String Global) Fault) (P Q R : Type 0) → (P → Q → R) → OnOk table P → OnOk table Q → OnOk table R
+  both : {A : Type 0} (table : Result A Fault) (P Q R : Type 0) → (P → Q → R) → OnOk table P → OnOk table Q → OnOk table R
   both (Ok found) P Q R f p q = f p q
   both (Err fault) P Q R f p q = tt
 
-  pub from-narrowed : (table : Result (String Global) Fault) → InRange (frame_under style texts) → IfOk table (λ found. string_bytes found ≡ asked_text style asked texts) → OnOk table (InRange (asked_frame style asked texts))
+  pub from-narrowed : {A : Type 0} (table : Result A Fault) → InRange (frame_under style texts) → OnOk table (InRange (asked_frame style asked texts))
       → OnOk table (too_wide style asked texts ≡ None)
       → IfErr table (λ fault. (fault ≡ Memory) ⊎ FitsAnswer (asked_frame style asked texts) (kept_texts style asked texts) (Unit {0}) (Err fault)) → Known table
-  from-narrowed table range text kept room refused = record {
-    text = text;
+  from-narrowed table range kept room refused = record {
     fits = both table (InRange (asked_frame style asked texts)) (too_wide style asked texts ≡ None) (HasTable style asked texts) (has-table range) kept room;
     refused = IfErr-weaker table _ _ (refuses range) refused;
   }
 
-  pub from-natural : (table : Result (String Global) Fault) → InRange (frame_under style texts) → narrowed style asked texts ≡ None → IfOk table (λ found. string_bytes found ≡ natural_text style texts)
+  pub from-natural : {A : Type 0} (table : Result A Fault) → InRange (frame_under style texts) → narrowed style asked texts ≡ None
       → OnOk table (first_too_wide (frame_under style texts) texts ≡ None) → IfErr table (λ fault. fault ≡ Memory) → Known table
-  from-natural table range told text room refused = record {
-    text = IfOk-weaker table _ _ (λ found is. is ∙ text-natural style asked texts told) text;
+  from-natural table range told room refused = record {
     fits = both table (first_too_wide (frame_under style texts) texts ≡ None) (first_too_wide (frame_under style texts) texts ≡ None) (HasTable style asked texts)
         (λ none _. record { fits = fits-natural style asked texts told range; room = room-natural style asked texts told none }) room room;
     refused = IfErr-weaker table _ _ (λ fault memory. refuses range fault (inl memory)) refused;
   }
+
+  -- what holds where the columns give and there is no table, and the same of a table in its own sizes
+  pub alone-narrowed : {P : Type 0} → InRange (frame_under style texts) → (¬ (InRange (asked_frame style asked texts) × (too_wide style asked texts ≡ None)) → P) → ¬ (HasTable style asked texts) → P
+  alone-narrowed range alone none = alone (λ both. none (has-table range both.0 both.1))
+
+  pub alone-natural : {P : Type 0} → InRange (frame_under style texts) → narrowed style asked texts ≡ None → (¬ (first_too_wide (frame_under style texts) texts ≡ None) → P) → ¬ (HasTable style asked texts) → P
+  alone-natural range told alone none = alone (λ room. none (record { fits = fits-natural style asked texts told range; room = room-natural style asked texts told room }))
 
 -- widths that were found, or none
 pub found-some : {A : Type 0} (items : A → List ℕ) (found : Option A) (widths : A) (P : Option (List ℕ)) → found ≡ Some widths → option_map items found ≡ P → P ≡ Some (items widths)

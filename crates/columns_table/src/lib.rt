@@ -17,4 +17,4 @@ pub use cells::{LineCell, LineCells};
 pub use ends::{CellEnd, CellEnds};
 pub use row_ends::RowEnds;
 pub use rows::Rows;
-pub use table::rows_table;
+pub use table::write_rows;

@@ -1,5 +1,5 @@
 //! The table of rows.
-ghost use Rattle.std.specs.Prelude.{◌≡◌, ◌≢◌, ◌++◌, ◌∷◌, ◌==◌, ◌^◌, ◌<◌, ◌⊎◌, [], All, Err, IfErr, IfOk, None, OnOk, Some, if◌then◌else◌, length, slice_index, string_bytes, sum};
+ghost use Rattle.std.specs.Prelude.{◌≡◌, ◌≢◌, ◌++◌, ◌∷◌, ◌==◌, ◌^◌, ◌<◌, ◌⊎◌, [], All, Err, IfErr, IfOk, None, OnOk, Some, if◌then◌else◌, length, slice_index, sum};
 ghost use Rattle.std.specs.Option.{option_map};
 ghost use Rattle.grid_config.specs.Compact.{compact_of};
 ghost use Rattle.grid_config.specs.Looks.{look_of};
@@ -13,6 +13,7 @@ ghost use Rattle.columns_asked.specs.Layout.{asked_frame, asked_text, frame_unde
 ghost use Rattle.columns_table.specs.Answers.{HasTable, MayRefuse, natural_text};
 ghost use Rattle.columns_table.specs.Records.{IsMeasured};
 ghost use Rattle.columns_table.specs.Rows.{row_texts_of};
+ghost use Rattle.tabled_output.specs.Pieces.{Passes};
 
 use crate::kept::kept_rows;
 use crate::least::greatest;
@@ -26,28 +27,34 @@ use grid_records_rows::VecRecords;
 use grid_records_traits::{ExactRecords, PeekableRecords};
 use papergrid::{NoColors, PeekableGrid, fits};
 use std::alloc::{AllocError, Global};
+use std::io::Write;
+use tabled_output::{Counted, WriteFault, write_piece};
 
-/// The table of these rows under a style, each of its lines ended by a line feed, in the asked width.
+/// Writes the table of these rows under a style, each of its lines ended by a line feed, in the asked width.
 /// Where it would be wider its columns give, and each cell is wrapped or cut to the room that it has.
-/// Nothing where there are no rows. Refused as `Range` where its width or height passes `usize::MAX`,
-/// before its columns give or after; else as `Room` of the first cell, by row, then by column, with a
-/// line that takes more columns than the cell has; and as `Memory` where allocation fails.
-/// Each cell is one line that measures what it says.
-pub fn rows_table(
+/// Nothing where there are no rows. Each line is written as soon as it is made, and no more than one is held.
+/// `Ok(Err(..))` where the writer gives up: then a front of the table was taken. Before anything is written it
+/// is refused as `Range` where its width or height passes `usize::MAX`, before its columns give or after; else
+/// as `Room` of the first cell, by row, then by column, with a line that takes more columns than the cell has.
+/// Refused as `Memory` where allocation fails; then too a front may have been taken. Each cell is one line that
+/// measures what it says.
+pub fn write_rows<W: Write>(
     alloc: Global,
     style: &CompactConfig,
     asked: &Asked,
     rows: Rows<'_>,
-) -> Result<String, Fault>
+    writer: &mut Counted<W>,
+) -> Result<Result<(), WriteFault>, Fault>
     requires measured { All IsMeasured rows.cells }
-    ensures table { IfOk result (λ table. string_bytes table ≡ asked_text (compact_of style.now) asked.now (row_texts_of rows.entry)) }
+    ensures table { Passes W.contents (asked_text (compact_of style.now) asked.now (row_texts_of rows.entry)) result [] writer.old writer.new }
+    ensures alone { ¬ (HasTable (compact_of style.now) asked.now (row_texts_of rows.entry)) → writer.new ≡ writer.old }
     ensures fits { OnOk result (HasTable (compact_of style.now) asked.now (row_texts_of rows.entry)) }
     ensures refused { IfErr result (MayRefuse (compact_of style.now) asked.now (row_texts_of rows.entry)) }
 {
     let sizes = sizes_of(alloc, &rows, style)?;
     match narrower(alloc, style, asked, &sizes)? {
-        Some(widths) => narrowed_table(alloc, style, asked, rows, widths),
-        None => natural_table(alloc, style, rows, sizes),
+        Some(widths) => write_narrowed(alloc, style, asked, rows, widths, writer),
+        None => write_natural(alloc, style, rows, sizes, writer),
     }
 }
 
@@ -78,42 +85,46 @@ fn beside(style: &CompactConfig) -> usize
     padding.left.size + padding.right.size
 }
 
-// The table of these rows in their own sizes, which are in range.
-fn natural_table(
+// Writes the table of these rows in their own sizes, which are in range.
+fn write_natural<W: Write>(
     alloc: Global,
     style: &CompactConfig,
     rows: Rows<'_>,
     sizes: Sizes,
-) -> Result<String, Fault>
+    writer: &mut Counted<W>,
+) -> Result<Result<(), WriteFault>, Fault>
     requires measured { All IsMeasured rows.cells }
     requires widths { sizes.widths.items ≡ widths_of (compact_of style.now) (row_texts_of rows) }
     requires heights { sizes.heights.items ≡ heights_of (compact_of style.now) (row_texts_of rows) }
     requires lines { sizes.lines ≡ line_count (frame_under (compact_of style.now) (row_texts_of rows)) }
     requires fits { InRange (frame_under (compact_of style.now) (row_texts_of rows)) }
-    ensures table { IfOk result (λ table. string_bytes table ≡ natural_text (compact_of style.now) (row_texts_of rows.entry)) }
+    ensures table { Passes W.contents (natural_text (compact_of style.now) (row_texts_of rows.entry)) result [] writer.old writer.new }
+    ensures alone { ¬ (first_too_wide (frame_under (compact_of style.now) (row_texts_of rows.entry)) (row_texts_of rows.entry) ≡ None) → writer.new ≡ writer.old }
     ensures room { OnOk result (first_too_wide (frame_under (compact_of style.now) (row_texts_of rows.entry)) (row_texts_of rows.entry) ≡ None) }
     ensures refused { IfErr result (λ fault. fault ≡ Memory) }
 {
     let columns = greatest(&rows.counts);
     let records = PlacedRows::new(rows, columns);
     let settings = SpannedConfig::from_compact_config(alloc, *style)?;
-    let text = text_of_grid(alloc, &records, &settings, sizes);
+    let written = write_grid(alloc, &records, &settings, sizes, writer);
     end(settings);
-    text
+    written
 }
 
-// The table of these rows in narrower columns.
-fn narrowed_table(
+// Writes the table of these rows in narrower columns.
+fn write_narrowed<W: Write>(
     alloc: Global,
     style: &CompactConfig,
     asked: &Asked,
     rows: Rows<'_>,
     widths: Vec<usize>,
-) -> Result<String, Fault>
+    writer: &mut Counted<W>,
+) -> Result<Result<(), WriteFault>, Fault>
     requires measured { All IsMeasured rows.cells }
     requires beside { paddings (compact_of style.now) < 2 ^ 64 }
     requires narrowed { narrowed (compact_of style.now) asked.now (row_texts_of rows) ≡ Some widths.items }
-    ensures table { IfOk result (λ table. string_bytes table ≡ asked_text (compact_of style.now) asked.now (row_texts_of rows.entry)) }
+    ensures table { Passes W.contents (asked_text (compact_of style.now) asked.now (row_texts_of rows.entry)) result [] writer.old writer.new }
+    ensures alone { ¬ (InRange (asked_frame (compact_of style.now) asked.now (row_texts_of rows.entry)) × (too_wide (compact_of style.now) asked.now (row_texts_of rows.entry) ≡ None)) → writer.new ≡ writer.old }
     ensures range { OnOk result (InRange (asked_frame (compact_of style.now) asked.now (row_texts_of rows.entry))) }
     ensures room { OnOk result (too_wide (compact_of style.now) asked.now (row_texts_of rows.entry) ≡ None) }
     ensures refused { IfErr result (λ fault. (fault ≡ Memory)
@@ -125,46 +136,50 @@ fn narrowed_table(
     let heights = CompactGridDimension::height(alloc, &records, style)?;
     let sizes = totalled(widths, heights, style)?;
     let settings = SpannedConfig::from_compact_config(alloc, *style)?;
-    let text = text_where_fits(alloc, &records, &settings, sizes);
+    let written = write_where_fits(alloc, &records, &settings, sizes, writer);
     end(settings);
-    text
+    written
 }
 
-// The text of these records with a line feed after its last line. Refused as `fits` refuses them, and
+// Writes the text of these records with a line feed after its last line. Refused as `fits` refuses them, and
 // as `Memory` where allocation fails.
-fn text_where_fits<R: ExactRecords + PeekableRecords>(
+fn write_where_fits<R: ExactRecords + PeekableRecords, W: Write>(
     alloc: Global,
     records: &R,
     settings: &SpannedConfig,
     sizes: Sizes,
-) -> Result<String, Fault>
-    ensures text { IfOk result (λ text. string_bytes text ≡ (if sizes.lines == 0 then [] else grid_text (look_of settings.now) (slice_index sizes.widths.items) (slice_index sizes.heights.items) (λ _. None) (R.columns records.now) (R.rows records.now) ++ line_feed ∷ [])) }
+    writer: &mut Counted<W>,
+) -> Result<Result<(), WriteFault>, Fault>
+    ensures text { Passes W.contents (if sizes.lines == 0 then [] else grid_text (look_of settings.now) (slice_index sizes.widths.items) (slice_index sizes.heights.items) (λ _. None) (R.columns records.now) (R.rows records.now) ++ line_feed ∷ []) result [] writer.old writer.new }
+    ensures alone { ¬ (Fits settings.now (slice_index sizes.widths.items) (slice_index sizes.heights.items) (R.columns records.now) (R.rows records.now)) → writer.new ≡ writer.old }
     ensures fits { OnOk result (Fits settings.now (slice_index sizes.widths.items) (slice_index sizes.heights.items) (R.columns records.now) (R.rows records.now)) }
     ensures refused { IfErr result (λ fault. (fault ≡ Memory)
         ⊎ IsFitsAnswer settings.now (slice_index sizes.widths.items) (slice_index sizes.heights.items) (R.columns records.now) (R.rows records.now) (Err fault)) }
 {
     fits(records, settings, &sizes)?;
-    text_of_grid(alloc, records, settings, sizes)
+    write_grid(alloc, records, settings, sizes, writer)
 }
 
-// The text of these records with a line feed after its last line, where they have a line and fit the sizes.
-fn text_of_grid<R: ExactRecords + PeekableRecords>(
+// Writes the text of these records with a line feed after its last line, where they have a line and fit the sizes.
+fn write_grid<R: ExactRecords + PeekableRecords, W: Write>(
     alloc: Global,
     records: &R,
     settings: &SpannedConfig,
     sizes: Sizes,
-) -> Result<String, Fault>
+    writer: &mut Counted<W>,
+) -> Result<Result<(), WriteFault>, Fault>
     requires { sizes.lines ≢ 0 → Fits settings.now (slice_index sizes.widths.items) (slice_index sizes.heights.items) (R.columns records.now) (R.rows records.now) }
-    ensures text { IfOk result (λ text. string_bytes text ≡ (if sizes.lines == 0 then [] else grid_text (look_of settings.now) (slice_index sizes.widths.items) (slice_index sizes.heights.items) (λ _. None) (R.columns records.now) (R.rows records.now) ++ line_feed ∷ [])) }
+    ensures text { Passes W.contents (if sizes.lines == 0 then [] else grid_text (look_of settings.now) (slice_index sizes.widths.items) (slice_index sizes.heights.items) (λ _. None) (R.columns records.now) (R.rows records.now) ++ line_feed ∷ []) result [] writer.old writer.new }
     ensures refused { IfErr result (λ fault. fault ≡ Memory) }
 {
     if sizes.lines == 0 {
-        return Ok(String::new(alloc));
+        return Ok(Ok(()));
     }
     let grid = PeekableGrid::new(records, settings, sizes, NoColors);
-    let mut text = grid.to_string(alloc)?;
-    text.push_str("\n")?;
-    Ok(text)
+    if let Err(fault) = grid.write(alloc, writer)? {
+        return Ok(Err(fault));
+    }
+    Ok(write_piece(writer, b"\n"))
 }
 
 // Lets the settings go, in one place.

@@ -7,7 +7,7 @@ use Rattle.grid_config.specs.Compact.{Compact}
 use Rattle.grid_config.specs.Looks.{Look, compact_look}
 use Rattle.papergrid_picture.specs.Fitting.{FitsAnswer, InRange, first_too_wide}
 use Rattle.papergrid_picture.specs.Frame.{Frame, frame_of}
-use Rattle.papergrid_picture.specs.Tables.{sizes_of, table_text}
+use Rattle.papergrid_picture.specs.Tables.{sizes_of, table_line, table_text}
 
 -- records, settings, sizes and colours
 pub record Parts (R G D C : Type 0) : Type 0 where
@@ -19,6 +19,10 @@ pub record Parts (R G D C : Type 0) : Type 0 where
 -- the text of rows of texts in `columns` columns: their picture in bytes
 abbrev pub grid_text : Look → (ℕ → ℕ) → (ℕ → ℕ) → (Position → Option Color) → ℕ → List (List (List ℕ)) → List ℕ
 grid_text look width height colors columns rows = table_text look rows colors (sizes_of width columns) (sizes_of height (length rows))
+
+-- line y of it, without a line feed
+abbrev pub line_text : Look → (ℕ → ℕ) → (ℕ → ℕ) → (Position → Option Color) → ℕ → List (List (List ℕ)) → ℕ → List ℕ
+line_text look width height colors columns rows y = table_line look rows colors (sizes_of width columns) (sizes_of height (length rows)) y
 
 -- ---- rows of one line each
 

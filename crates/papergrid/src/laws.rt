@@ -1,14 +1,18 @@
 //! Laws of the definitions that the contracts cite.
-ghost use Rattle.std.specs.Prelude.{◌≡◌, ◌↔◌, ℕ, List, Option, Result};
+ghost use Rattle.std.specs.Prelude.{◌≡◌, ◌↔◌, ℕ, List, Option, Result, length, map};
+ghost use Rattle.std.specs.List.{join_with_byte, range_with_len};
 ghost use Rattle.grid_config_values.specs.declared.fault.Fault.{Fault as Refusal};
 ghost use Rattle.grid_config_values.specs.declared.position.Position.{Position as Place};
 ghost use Rattle.grid_config.specs.Colors.{Color};
 ghost use Rattle.grid_config.specs.Compact.{Compact};
-ghost use Rattle.grid_config.specs.Looks.{look_of};
+ghost use Rattle.grid_config.specs.Looks.{Look, look_of};
 ghost use Rattle.grid_config.specs.Settings.{Settings, StartsWith, compact_start};
+ghost use Rattle.grid_records_measure.specs.TextLines.{line_feed};
 ghost use Rattle.grid_records_traits.specs.Rows.{fitted};
 ghost use Rattle.papergrid_fits.specs.Tables.{IsFitsAnswer};
-ghost use Rattle.papergrid.specs.Grids.{compact_text, grid_text, one_line};
+ghost use Rattle.papergrid_picture.specs.Frame.{frame_of, line_count};
+ghost use Rattle.papergrid_picture.specs.Tables.{sizes_of};
+ghost use Rattle.papergrid.specs.Grids.{compact_text, grid_text, line_text, one_line};
 
 /// A grid that reads its records once and one that looks up its cells append the same text of the same
 /// records, settings, sizes and colours, and fit them or refuse them alike. The first sees as many cells
@@ -18,6 +22,15 @@ pub fn both_grids_append_the_same()
         grid_text (look_of settings) width height colors columns (fitted columns rows) ≡ grid_text (look_of settings) width height colors columns rows }
     ensures answer { (settings : Settings) (width height : ℕ → ℕ) (columns : ℕ) (rows : List (List (List ℕ))) (answer : Result (Unit {0}) Refusal) →
         IsFitsAnswer settings width height columns (fitted columns rows) answer ↔ IsFitsAnswer settings width height columns rows answer }
+{}
+
+/// The text of a grid is its lines, as many as `lines` answers for settings of this look, with a line feed
+/// between each two.
+pub fn texts_are_lines_joined()
+    ensures { (look : Look) (width height : ℕ → ℕ) (colors : Place → Option Color) (columns : ℕ) (rows : List (List (List ℕ))) →
+        grid_text look width height colors columns rows
+        ≡ join_with_byte line_feed (map (line_text look width height colors columns rows)
+        (range_with_len 0 (line_count (frame_of look (sizes_of width columns) (sizes_of height (length rows)))))) }
 {}
 
 /// A compact grid appends what a grid with one line for each row appends, where the settings begin as the

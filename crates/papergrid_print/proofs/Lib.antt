@@ -6,6 +6,7 @@ mod PlaceLemmas
 mod OpenLemmas
 mod CountLemmas
 mod TableLemmas
+mod WriteLemmas
 pub mod FlatLemmas
 mod PlacedLemmas
 mod SingleLemmas

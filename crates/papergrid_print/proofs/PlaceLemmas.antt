@@ -8,7 +8,7 @@ use Rattle.papergrid_picture.proofs.FrameLemmas.{boundary-bounded, boundary-next
 use Rattle.papergrid_print.specs.Sheets.{Sheet, bytes_of, feed_before, grid_of, line_at, lines_of, row_tracks}
 
 module _ (sheet : Sheet) where
-  lines-next : (y : ℕ) → lines_of sheet (y + 1) ≡ lines_of sheet y ++ (feed_before y ++ grid_line (bytes_of sheet) (grid_of sheet) y)
+  pub lines-next : (y : ℕ) → lines_of sheet (y + 1) ≡ lines_of sheet y ++ (feed_before y ++ grid_line (bytes_of sheet) (grid_of sheet) y)
   lines-next y =
       let f : ℕ → List ℕ = λ k. feed_before k ++ grid_line (bytes_of sheet) (grid_of sheet) k in
       let zero_y : 0 + y ≡ y = omega arith in

@@ -12,5 +12,5 @@ mod table;
 
 pub use colors::{Colors, NoColors};
 pub use lines::count_lines;
-pub use print::print_table;
+pub use print::{print_table, write_table};
 pub use single::print_line;

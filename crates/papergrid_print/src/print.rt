@@ -5,12 +5,15 @@ ghost use Rattle.grid_config.specs.Looks.{look_of};
 ghost use Rattle.papergrid_picture.specs.Fitting.{InRange};
 ghost use Rattle.papergrid_picture.specs.Frame.{frame_of};
 ghost use Rattle.papergrid_picture.specs.Tables.{table_text};
+ghost use Rattle.tabled_output.specs.Pieces.{Passes};
 
 use crate::colors::Colors;
 use crate::table::Table;
 use grid_config::SpannedConfig;
 use grid_records_traits::PeekableRecords;
 use std::alloc::{AllocError, Global};
+use std::io::Write;
+use tabled_output::{Counted, WriteFault, pass_line};
 
 /// Appends the text of a table of these sizes: the lines of its picture, a line feed between each two.
 /// Where it has no rows or no columns it appends nothing, and never fails. Else it fails only where
@@ -69,4 +72,39 @@ fn push_to_empty<'a, R: PeekableRecords, C: Colors>(
         out.clear();
     }
     outcome
+}
+
+/// Writes the text that `print_table` appends to an empty one, line by line: each line as soon as it is made,
+/// in one piece with the line feed before it, and no more than one is held. `Ok(Err(..))` where the writer
+/// gives up: then a front of the text was taken, and the writer isn't called again. Where allocation fails a
+/// front may have been taken; but a table is refused before its first line where no memory holds a line.
+/// Without rows or columns nothing is written.
+pub fn write_table<R: PeekableRecords, C: Colors, W: Write>(
+    alloc: Global,
+    records: &R,
+    cfg: &SpannedConfig,
+    colors: &C,
+    widths: &[usize],
+    heights: &[usize],
+    writer: &mut Counted<W>,
+) -> Result<Result<(), WriteFault>, AllocError>
+    requires good { AreGood cfg.now.spans (length heights.now) (length widths.now) }
+    requires range { InRange (frame_of (look_of cfg.now) widths.now heights.now) }
+    ensures { Passes W.contents (table_text (look_of cfg.now) (R.rows records.now) (C.color colors.now) widths.now heights.now) result [] writer.old writer.new }
+{
+    if heights.is_empty() || widths.is_empty() {
+        return Ok(Ok(()));
+    }
+    let table = Table {
+        records,
+        cfg,
+        colors,
+        widths,
+        heights,
+    };
+    let mut line = table.line_buffer(alloc)?;
+    if let Err(fault) = table.write_lines(alloc, writer, &mut line)? {
+        return Ok(Err(fault));
+    }
+    Ok(pass_line(writer, &mut line))
 }

@@ -2,6 +2,7 @@
 mod line;
 mod plain;
 mod seeing;
+mod writing;
 
 ghost use Rattle.std.specs.Prelude.{◌≡◌, ◌++◌, ◌<◌, ◌≤◌, ◌+◌, ◌-◌, ◌*◌, ◌^◌, ⊤, IfOk, IfSome, IsSome, List, MatchOption, None, OnOk, ℕ, [], false, map, length, slice_index, string_bytes};
 ghost use Rattle.grid_config_spans.specs.Spans.{AreGood, ArePositive, extent_at};
@@ -239,8 +240,8 @@ impl<'a, R: PeekableRecords, C: Colors> Table<'a, R, C> {
         requires boundary { i ≤ length self.now.heights.now }
         requires top { y ≡ boundary_at (row_tracks (sheet_of self.now.cfg.now (R.rows self.now.records.now) (C.color self.now.colors.now) self.now.widths.now self.now.heights.now)) i }
         requires range { track_at (row_tracks (sheet_of self.now.cfg.now (R.rows self.now.records.now) (C.color self.now.colors.now) self.now.widths.now self.now.heights.now)) i < 2 ^ 64 }
-        requires lines { string_bytes out.old ≡ lines_of (sheet_of self.now.cfg.now (R.rows self.now.records.now) (C.color self.now.colors.now) self.now.widths.now self.now.heights.now) y }
-        ensures lines { OnOk result (string_bytes out.new ≡ lines_of (sheet_of self.now.cfg.now (R.rows self.now.records.now) (C.color self.now.colors.now) self.now.widths.now self.now.heights.now) (track_at (row_tracks (sheet_of self.now.cfg.now (R.rows self.now.records.now) (C.color self.now.colors.now) self.now.widths.now self.now.heights.now)) i)) }
+        ensures lines { OnOk result (let sheet = sheet_of self.now.cfg.now (R.rows self.now.records.now) (C.color self.now.colors.now) self.now.widths.now self.now.heights.now in (front : List ℕ) →
+            front ++ string_bytes out.old ≡ lines_of sheet y → front ++ string_bytes out.new ≡ lines_of sheet (track_at (row_tracks sheet) i)) }
         ensures end { IfOk result (λ end. end ≡ track_at (row_tracks (sheet_of self.now.cfg.now (R.rows self.now.records.now) (C.color self.now.colors.now) self.now.widths.now self.now.heights.now)) i) }
     {
         if !self.cfg.has_horizontal(i, self.heights.len()) {

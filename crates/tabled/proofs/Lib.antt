@@ -12,4 +12,4 @@ pub mod Rowing
 pub mod TrimmedRoom
 pub mod PlainLines
 pub mod Narrowing
-pub mod Untouched
+pub mod Written

@@ -1,7 +1,9 @@
 -- What is said of a table that is written, also where each line is written as soon as it is made.
-use Rattle.std.specs.Prelude.{⊤}
+use Rattle.std.specs.Prelude.{⊤, Result, Ok, Err}
 use Rattle.grid_config_values.specs.declared.fault.Fault.{Fault}
 use Rattle.grid_config_values.specs.declared.fault.Fault.TheVariants.{Memory}
+use Rattle.tabled_output.specs.declared.writing.WriteFault.{WriteFault}
+use Rattle.tabled_compact.specs.Building.{writing_fault}
 use Rattle.tabled_compact.specs.declared.fault.BuildFault.{BuildFault}
 use Rattle.tabled_compact.specs.declared.fault.BuildFault.TheVariants.{Table, Write, WriteZero}
 
@@ -15,3 +17,9 @@ abbrev pub HasNoText : BuildFault → Type 0
 HasNoText (Table fault) = IsOfTable fault
 HasNoText Write = ⊥
 HasNoText WriteZero = ⊥
+
+-- the answer of a table that was written so, or not
+abbrev pub build_answer : Result (Result (Unit {0}) WriteFault) Fault → Result (Unit {0}) BuildFault
+build_answer (Ok (Ok done)) = Ok done
+build_answer (Ok (Err fault)) = Err (writing_fault fault)
+build_answer (Err fault) = Err (Table fault)

@@ -1,1 +1,2 @@
+pub mod PieceLemmas
 pub mod Written

@@ -1,3 +1,4 @@
 pub mod Counts
 pub mod Faults
+pub mod Pieces
 pub mod Streams

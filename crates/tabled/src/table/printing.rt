@@ -53,7 +53,7 @@ impl<T: FromText> Table<T> {
     }
 
     // The sizes that are drawn under these settings, where the table fits them.
-    fn fitting_sizes(&self, config: &SpannedConfig) -> Result<CompleteDimension, Fault>
+    pub(super) fn fitting_sizes(&self, config: &SpannedConfig) -> Result<CompleteDimension, Fault>
         ensures sizes { IfOk result (λ sizes. sizes ≡ drawn_sizes (state_under T.text self.now config.now)) }
         ensures fits { OnOk result (IsFit (state_under T.text self.now config.now) (Ok tt)) }
         ensures refused { IfErr result (λ fault. (fault ≡ Memory) ⊎ IsFit (state_under T.text self.now config.now) (Err fault)) }

@@ -1,25 +1,29 @@
 //! A table that is written.
 ghost use Rattle.std.specs.Io.KnownBytes.{Appends};
-ghost use Rattle.std.specs.Prelude.{◌≡◌, [], IfErr, IsErrOf, Ok, OnOk};
+ghost use Rattle.std.specs.Prelude.{◌≡◌, ◌≢◌, ◌⊎◌, [], Err, IfErr, IsErrOf, Ok, OnOk};
+ghost use Rattle.grid_config_values.specs.declared.fault.Fault.TheVariants.{Memory};
 ghost use Rattle.tabled.specs.Printing.{IsFit, printed};
-ghost use Rattle.tabled.specs.Tables.{state_of};
-ghost use Rattle.tabled.specs.Writing.{HasNoText};
+ghost use Rattle.tabled.specs.Tables.{state_of, state_under};
+ghost use Rattle.tabled.specs.Writing.{HasNoText, build_answer};
 ghost use Rattle.tabled_compact.specs.Building.{BuildRefusal};
 ghost use Rattle.tabled_output.specs.Counts.{FailsIff, OnlyWrites, TakesNothingIff, inner_of};
+ghost use Rattle.tabled_output.specs.Pieces.{Passes};
 ghost use Rattle.tabled_output.specs.Streams.{AppendsFront};
 
 use crate::table::Table;
+use grid_config::{Fault, SpannedConfig};
 use grid_records_rows::FromText;
+use papergrid::PeekableGrid;
 use std::io::Write;
 use tabled_compact::BuildFault;
-use tabled_output::{Counted, write_all};
+use tabled_output::{Counted, WriteFault};
 
 impl<T: FromText> Table<T> {
-    /// Writes the text of `to_string`. A table that has none leaves the writer alone. It gives up with
-    /// `Write` at the first error of any kind, with `WriteZero` where the writer takes nothing, and with
-    /// `Table(Memory)` where allocation fails; a front of the text, or nothing, is then written, and the
-    /// writer isn't called again. Nothing is flushed.
-    #[tactic(auto, using(crate::proofs::Untouched::front_of_nothing))]
+    /// Writes the text of `to_string`, line by line: each line as soon as it is made, in one piece with the
+    /// line feed before it, and no more than one is held. A table that has none leaves the writer alone. It
+    /// gives up with `Write` at the first error of any kind, with `WriteZero` where the writer takes nothing,
+    /// and with `Table(Memory)` where allocation fails; a front of the text, or nothing, is then written, and
+    /// the writer isn't called again. Nothing is flushed.
     pub fn build<W: Write>(&self, writer: &mut Counted<W>) -> Result<(), BuildFault>
         ensures whole { OnOk result (Appends (W.contents (inner_of writer.old)) (W.contents (inner_of writer.new)) (printed (state_of T.text self.now))) }
         ensures front { IfErr result (λ fault. ¬ (HasNoText fault) → AppendsFront (W.contents (inner_of writer.old)) (W.contents (inner_of writer.new)) (printed (state_of T.text self.now))) }
@@ -31,7 +35,33 @@ impl<T: FromText> Table<T> {
         ensures write_zero { TakesNothingIff (IsErrOf result BuildFault.WriteZero) writer.old writer.new }
         ensures only_writes { OnlyWrites writer.old writer.new }
     {
-        let text = self.to_string()?;
-        Ok(write_all(writer, text.as_bytes())?)
+        answer(self.write_under(self.config.spanned(), writer))
+    }
+
+    // Writes its text under these settings in place of its own, line by line.
+    fn write_under<W: Write>(
+        &self,
+        config: &SpannedConfig,
+        writer: &mut Counted<W>,
+    ) -> Result<Result<(), WriteFault>, Fault>
+        ensures text { Passes W.contents (printed (state_under T.text self.now config.now)) result [] writer.old writer.new }
+        ensures untouched { IfErr result (λ fault. fault ≢ Memory → writer.new ≡ writer.old) }
+        ensures fits { OnOk result (IsFit (state_under T.text self.now config.now) (Ok tt)) }
+        ensures refused { IfErr result (λ fault. (fault ≡ Memory) ⊎ IsFit (state_under T.text self.now config.now) (Err fault)) }
+    {
+        let sizes = self.fitting_sizes(config)?;
+        let grid = PeekableGrid::new(&self.records, config, sizes, self.config.get_colors());
+        Ok(grid.write(self.alloc, writer)?)
+    }
+}
+
+// The answer of a table that was written so, or not.
+fn answer(written: Result<Result<(), WriteFault>, Fault>) -> Result<(), BuildFault>
+    ensures { result ≡ build_answer written }
+{
+    match written {
+        Ok(Ok(())) => Ok(()),
+        Ok(Err(fault)) => Err(fault.into()),
+        Err(fault) => Err(fault.into()),
     }
 }

@@ -1,5 +1,6 @@
-use Rattle.std.proofs.Common.{length, ◌∙◌, arith}
-use Rattle.papergrid_print.specs.Sheets.{sheet_of}
+use Rattle.std.proofs.Common.{length, [], ap, sym, ◌∙◌, arith}
+use Rattle.papergrid_print.specs.Sheets.{lines_of, sheet_of}
+use Rattle.papergrid_print.proofs.BoundaryLemmas.{on_ok_both}
 use Rattle.papergrid_print.proofs.SeenLemmas.{none-seen-below}
 use Rattle.papergrid_print.proofs.TableLemmas.{row-within}
 use Rattle.papergrid_print.proofs.table.Table.push_all_rows.Goals as goal
@@ -22,3 +23,13 @@ loop-i-preserved g c =
 pub push_boundary-requires-2-clause-seen : goal.push_boundary-requires-2-clause-seen
 push_boundary-requires-2-clause-seen g c =
     none-seen-below c.args.self.now.cfg.now.spans (length c.args.self.now.heights.now) (length c.args.self.now.widths.now) c.requires.positive c.requires.good
+
+pub push_next_row-requires-clause-lines : goal.push_next_row-requires-clause-lines
+push_next_row-requires-clause-lines g c =
+    let sheet = (sheet_of c.args.self.now.cfg.now (g.R.RecordTexts.rows c.args.self.now.records.now) (g.C.Colors.color c.args.self.now.colors.now) c.args.self.now.widths.now c.args.self.now.heights.now) in
+    c.in_ok-y.ensures.lines [] (c.loop-i.invariant.lines ∙ ap (lines_of sheet) (sym c.loop-i.invariant.line)) ∙ ap (lines_of sheet) (sym c.in_ok-y.ensures.end)
+
+pub returns-clause-lines : goal.returns-clause-lines
+returns-clause-lines g c =
+    let sheet = (sheet_of c.args.self.now.cfg.now (g.R.RecordTexts.rows c.args.self.now.records.now) (g.C.Colors.color c.args.self.now.colors.now) c.args.self.now.widths.now c.args.self.now.heights.now) in
+    on_ok_both c.push_boundary-2.result (λ step _. step [] (c.loop-i.invariant.lines ∙ ap (lines_of sheet) (sym c.loop-i.invariant.line))) c.push_boundary-2.ensures.lines c.push_boundary-2.ensures.lines

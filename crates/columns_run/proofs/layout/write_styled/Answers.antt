@@ -1,0 +1,77 @@
+use Rattle.std.proofs.Common.{◌≡◌, [], length, List, ℕ, Option, Some, map, string_bytes, ap, refl, rules, subst, sym, ◌∙◌}
+use Rattle.std.specs.Prelude.{◌↔◌, IfSome, IsSome}
+use Rattle.std.proofs.lemmas.List.{length-map}
+use Rattle.ansi_scan.specs.Sequences.{IsWhole}
+use Rattle.columns_table.specs.Ends.{cells_in}
+use Rattle.columns_table.specs.Rows.{cut}
+use Rattle.columns_table.specs.declared.cells.LineCell.{LineCell}
+use Rattle.columns_table.specs.Rows.{row_texts_of}
+use Rattle.columns_table.specs.declared.rows.Rows.{Rows}
+use Rattle.columns_run.specs.Cells.{line_rows, rows_shown, shown}
+use Rattle.columns_run.specs.Styled.{cell_lines}
+use Rattle.columns_run.specs.Wanted.{wanted_of}
+use Rattle.columns_run.specs.declared.styled_rows.StyledCells.{StyledCells}
+use Rattle.columns_run.proofs.CellLemmas.{whole_text}
+use Rattle.columns_run.proofs.OneLineLemmas.{cells-measured}
+use Rattle.columns_run.proofs.TableLemmas.{answered, left-alone, output-is}
+use Rattle.grid_config.specs.Compact.{compact_of}
+use Rattle.tabled_output.specs.Pieces.{Passes}
+use Rattle.tabled_output.proofs.PieceLemmas.{passes-nothing}
+use Rattle.columns_asked.specs.Layout.{asked_text}
+use Rattle.columns_run.specs.Layout.{output_of}
+use Rattle.columns_run.proofs.ServeLemmas.{left_alone}
+use Rattle.columns_run.proofs.WrittenLemmas.{is-of-table, is-written, is-written-none}
+use Rattle.columns_run.proofs.layout.write_styled.Given.{Over}
+use Rattle.columns_run.proofs.layout.write_styled.Goals as goal
+use Rattle.columns_run.proofs.layout.write_styled.Goals.{After-of-rows}
+
+-- the rows are those of a whole text
+record AreOf (text : List ℕ) (rows : Rows) : Type 0 where
+  whole : IsWhole text
+  are : rows_shown rows ≡ line_rows text
+
+are_of : (text own : List ℕ) (found : Option StyledCells) (styled : StyledCells) (rows : Rows) → found ≡ Some styled → own ≡ string_bytes styled.text → rows.cells ≡ cells_in own styled.rows.ends → rows.counts.items ≡ styled.rows.counts
+    → (IsSome found ↔ IsWhole text) → IfSome found (λ styled. cut styled.rows.counts (cell_lines styled) ≡ line_rows text) → AreOf text rows
+are_of text own found styled rows is own_is cells_are counts_are whole same = record {
+  whole = (subst (λ found. IsSome found ↔ IsWhole text) is whole).0 refl;
+  are = ap (λ (counts : List ℕ). cut counts (map shown rows.cells)) counts_are
+      ∙ ap (λ (cells : List LineCell). cut styled.rows.counts (map shown cells)) (cells_are ∙ ap (λ bytes. cells_in bytes styled.rows.ends) own_is)
+      ∙ subst (λ found. IfSome found (λ styled. cut styled.rows.counts (cell_lines styled) ≡ line_rows text)) is same;
+}
+
+known : (g : Over) (c : After-of-rows g) → AreOf c.args.text.now c.of-rows.result
+known g c =
+    are_of c.args.text.now c.deref.result.now c.in_ok-own.field-0 c.in-Some.field-0 c.of-rows.result c.in-Some.is c.deref.ensures c.of-rows.ensures.cells c.of-rows.ensures.counts
+    c.in_ok-own.ensures.whole c.in_ok-own.ensures.cells
+
+pub write_rows-requires : goal.write_rows-requires
+write_rows-requires g c =
+    let text = c.args.text.now in
+    let rows = c.of-rows.result in
+    let are = known g (goal.at.write_rows-requires g c).After-of-rows in
+    record { measured = cells-measured text rows (whole_text text c.utf8.text are.whole) (rows.whole ∙ sym (length-map rows.cells shown)) are.are }
+
+pub returns-clause-answers : goal.returns-clause-answers
+returns-clause-answers g c =
+    let rows = c.of-rows.result in
+    let are = known g (goal.at.returns-clause-answers g c).After-of-rows in
+    answered (wanted_of c.args.options.now) c.args.text.now c.utf8.text are.whole rows are.are c.asked_of-asked.result c.asked_of-asked.ensures c.write_rows.result c.answer.result c.answer.ensures c.write_rows.ensures.fits c.write_rows.ensures.refused
+
+pub returns-clause-written : goal.returns-clause-written
+returns-clause-written g c =
+    let rows = c.of-rows.result in
+    let are = known g (goal.at.returns-clause-written g c).After-of-rows in
+    let output = output-is (wanted_of c.args.options.now) c.args.text.now c.utf8.text are.whole rows are.are c.asked_of-asked.result c.asked_of-asked.ensures in
+    is-written g.W.Write.contents (output_of (wanted_of c.args.options.now) c.args.text.now) c.args.writer.now c.write_rows.new.writer (compact_of c.args.options.now.style) c.asked_of-asked.result (row_texts_of rows) c.write_rows.result c.answer.result c.answer.ensures
+    (subst (λ text. Passes g.W.Write.contents text c.write_rows.result [] c.args.writer.now c.write_rows.new.writer) output c.write_rows.ensures.table) c.write_rows.ensures.alone c.write_rows.ensures.refused
+
+pub returns-clause-alone : goal.returns-clause-alone
+returns-clause-alone g c =
+    let rows = c.of-rows.result in
+    let are = known g (goal.at.returns-clause-alone g c).After-of-rows in
+    let output = output-is (wanted_of c.args.options.now) c.args.text.now c.utf8.text are.whole rows are.are c.asked_of-asked.result c.asked_of-asked.ensures in
+    left-alone (wanted_of c.args.options.now) c.args.text.now c.utf8.text are.whole rows are.are c.asked_of-asked.result c.asked_of-asked.ensures c.args.writer.now c.write_rows.new.writer c.write_rows.ensures.alone
+    (λ none. passes-nothing g.W.Write.contents (asked_text (compact_of c.args.options.now.style) c.asked_of-asked.result (row_texts_of rows)) [] c.write_rows.result c.args.writer.now c.write_rows.new.writer c.write_rows.ensures.table (ap length output ∙ none))
+
+pub returns-clause-faults : goal.returns-clause-faults
+returns-clause-faults g c = is-of-table c.write_rows.result c.answer.result c.answer.ensures

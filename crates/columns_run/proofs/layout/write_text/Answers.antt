@@ -1,0 +1,70 @@
+use Rattle.std.proofs.Common.{◌≡◌, [], length, false, List, ℕ, Option, Some, ap, map, refl, rules, subst, sym, ◌∙◌}
+use Rattle.std.specs.Prelude.{◌↔◌, IfSome, IsSome}
+use Rattle.std.proofs.lemmas.List.{length-map}
+use Rattle.ansi_str_text.specs.StyledText.{has_escape}
+use Rattle.columns_table.specs.Rows.{row_texts_of}
+use Rattle.columns_table.specs.declared.rows.Rows.{Rows}
+use Rattle.columns_run.specs.Cells.{byte_line, line_rows, rows_shown, shown}
+use Rattle.columns_run.specs.Rows.{rows_of}
+use Rattle.columns_run.specs.Wanted.{wanted_of}
+use Rattle.columns_run.proofs.CellLemmas.{whole_text}
+use Rattle.columns_run.proofs.OneLineLemmas.{cells-measured}
+use Rattle.columns_run.proofs.PlaceLemmas.{IsWhole-without_escape}
+use Rattle.columns_run.proofs.TableLemmas.{answered, left-alone, line_rows-plain, output-is}
+use Rattle.grid_config.specs.Compact.{compact_of}
+use Rattle.tabled_output.specs.Pieces.{Passes}
+use Rattle.tabled_output.proofs.PieceLemmas.{passes-nothing}
+use Rattle.columns_asked.specs.Layout.{asked_text}
+use Rattle.columns_run.specs.Layout.{output_of}
+use Rattle.columns_run.proofs.ServeLemmas.{left_alone}
+use Rattle.columns_run.proofs.WrittenLemmas.{is-of-table, is-written, is-written-none}
+use Rattle.columns_run.proofs.layout.write_text.Goals as goal
+
+-- the rows are those of a text without ESC
+record AreOf (text : List ℕ) (rows : Rows) : Type 0 where
+  none : has_escape text ≡ false
+  are : rows_shown rows ≡ line_rows text
+
+are_of : (text : List ℕ) (found : Option Rows) (rows : Rows) → found ≡ Some rows → (IsSome found ↔ (has_escape text ≡ false))
+    → IfSome found (λ rows. rows_shown rows ≡ map (map byte_line) (rows_of (λ b. b) text)) → AreOf text rows
+are_of text found rows is plain same =
+    let none : has_escape text ≡ false = (subst (λ found. IsSome found ↔ (has_escape text ≡ false)) is plain).0 refl in
+    record {
+      none = none;
+      are = subst (λ found. IfSome found (λ rows. rows_shown rows ≡ map (map byte_line) (rows_of (λ b. b) text))) is same ∙ line_rows-plain text none;
+    }
+
+pub write_rows-requires : goal.write_rows-requires
+write_rows-requires g c =
+    let text = c.args.text.now in
+    let rows = c.in-Some.rows in
+    let known = are_of text c.in_ok-rows.field-0 rows c.in-Some.is c.in_ok-rows.ensures.plain c.in_ok-rows.ensures.rows in
+    record { measured = cells-measured text rows (whole_text text c.utf8.text (IsWhole-without_escape text known.none)) (rows.whole ∙ sym (length-map rows.cells shown)) known.are }
+
+pub returns-clause-answers : goal.returns-clause-answers
+returns-clause-answers g c =
+    let text = c.args.text.now in
+    let rows = c.in-Some.rows in
+    let known = are_of text c.in_ok-rows.field-0 rows c.in-Some.is c.in_ok-rows.ensures.plain c.in_ok-rows.ensures.rows in
+    answered (wanted_of c.args.options.now) c.args.text.now c.utf8.text (IsWhole-without_escape text known.none) rows known.are c.asked_of-asked.result c.asked_of-asked.ensures c.write_rows.result c.answer.result c.answer.ensures c.write_rows.ensures.fits c.write_rows.ensures.refused
+
+pub returns-clause-written : goal.returns-clause-written
+returns-clause-written g c =
+    let text = c.args.text.now in
+    let rows = c.in-Some.rows in
+    let known = are_of text c.in_ok-rows.field-0 rows c.in-Some.is c.in_ok-rows.ensures.plain c.in_ok-rows.ensures.rows in
+    let output = output-is (wanted_of c.args.options.now) c.args.text.now c.utf8.text (IsWhole-without_escape text known.none) rows known.are c.asked_of-asked.result c.asked_of-asked.ensures in
+    is-written g.W.Write.contents (output_of (wanted_of c.args.options.now) c.args.text.now) c.args.writer.now c.write_rows.new.writer (compact_of c.args.options.now.style) c.asked_of-asked.result (row_texts_of rows) c.write_rows.result c.answer.result c.answer.ensures
+    (subst (λ text. Passes g.W.Write.contents text c.write_rows.result [] c.args.writer.now c.write_rows.new.writer) output c.write_rows.ensures.table) c.write_rows.ensures.alone c.write_rows.ensures.refused
+
+pub returns-clause-alone : goal.returns-clause-alone
+returns-clause-alone g c =
+    let text = c.args.text.now in
+    let rows = c.in-Some.rows in
+    let known = are_of text c.in_ok-rows.field-0 rows c.in-Some.is c.in_ok-rows.ensures.plain c.in_ok-rows.ensures.rows in
+    let output = output-is (wanted_of c.args.options.now) c.args.text.now c.utf8.text (IsWhole-without_escape text known.none) rows known.are c.asked_of-asked.result c.asked_of-asked.ensures in
+    left-alone (wanted_of c.args.options.now) c.args.text.now c.utf8.text (IsWhole-without_escape text known.none) rows known.are c.asked_of-asked.result c.asked_of-asked.ensures c.args.writer.now c.write_rows.new.writer c.write_rows.ensures.alone
+    (λ none. passes-nothing g.W.Write.contents (asked_text (compact_of c.args.options.now.style) c.asked_of-asked.result (row_texts_of rows)) [] c.write_rows.result c.args.writer.now c.write_rows.new.writer c.write_rows.ensures.table (ap length output ∙ none))
+
+pub returns-clause-faults : goal.returns-clause-faults
+returns-clause-faults g c = is-of-table c.write_rows.result c.answer.result c.answer.ensures

@@ -1,0 +1,109 @@
+-- The answer of a table that is written line by line.
+use Rattle.std.proofs.Common.{◌≡◌, ◌≢◌, ◌⊎◌, inl, inr, ℕ, List, [], Option, Result, Ok, Err, append-nil, ap, length, refl, sym, subst, ◌∙◌}
+use Rattle.std.specs.Prelude.{IfErr, IsErrOf, OnOk}
+use Rattle.std.specs.Io.KnownBytes.{Appends}
+use Rattle.grid_config_values.specs.declared.fault.Fault.{Fault}
+use Rattle.grid_config_values.specs.declared.fault.Fault.TheVariants.{Memory, Range, Room, Spans}
+use Rattle.tabled_output.specs.Counts.{inner_of, FailsIff, OnlyWrites, TakesNothingIff}
+use Rattle.tabled_output.specs.Pieces.{HasPassed, HasStopped, Passes}
+use Rattle.tabled_output.specs.Streams.{AppendsFront}
+use Rattle.tabled_output.specs.declared.counted.Counted.{Counted}
+use Rattle.tabled_output.specs.declared.writing.WriteFault.{WriteFault}
+use Rattle.tabled_output.specs.declared.writing.WriteFault.TheVariants.{Write as Failed, WriteZero as TookNothing}
+use Rattle.tabled_output.proofs.PieceLemmas.{front-taken, passes-nothing}
+use Rattle.tabled_compact.specs.Building.{BuildRefusal}
+use Rattle.tabled_compact.specs.declared.fault.BuildFault.{BuildFault}
+use Rattle.tabled_compact.specs.declared.fault.BuildFault.TheVariants.{Table, Write, WriteZero}
+use Rattle.tabled.specs.Writing.{HasNoText, build_answer}
+
+module _ {T : Type 0} (contents : T → Option (List ℕ)) (text : List ℕ) (a b : Counted T) where
+  -- what is written with an answer, and what the writer was asked
+  pub record Built (result : Result (Unit {0}) BuildFault) : Type 0 where
+    pub whole : OnOk result (Appends (contents (inner_of a)) (contents (inner_of b)) text)
+    pub front : IfErr result (λ fault. ¬ (HasNoText fault) → AppendsFront (contents (inner_of a)) (contents (inner_of b)) text)
+    pub untouched : IfErr result (λ fault. HasNoText fault → b ≡ a)
+    pub write : FailsIff (IsErrOf result Write) a b
+    pub write_zero : TakesNothingIff (IsErrOf result WriteZero) a b
+    pub only_writes : OnlyWrites a b
+
+  complete : (done : Unit {0}) → HasPassed contents text [] a b → Built (Ok done)
+  complete done p = record {
+    whole = subst (Appends (contents (inner_of a)) (contents (inner_of b))) (sym (append-nil p.bytes.0) ∙ p.bytes.2) p.bytes.1;
+    front = tt;
+    untouched = tt;
+    write = record { once = λ is. cc is; last = λ is. cc is; others = λ _. p.failures };
+    write_zero = record { once = λ is. cc is; last = λ is. cc is; others = λ _. p.empty_writes };
+    only_writes = p.only_writes;
+  }
+
+  failed : HasStopped contents text Failed a b → Built (Err Write)
+  failed q = record {
+    whole = tt;
+    front = λ _. front-taken contents text q.bytes.0 q.bytes.1 a b q.bytes.2 q.bytes.3;
+    untouched = λ none. absurd none;
+    write = record { once = λ _. q.write.once refl; last = λ _. q.write.last refl; others = λ no. absurd (no refl) };
+    write_zero = record { once = λ is. cc is; last = λ is. cc is; others = λ _. q.write_zero.others (λ is. cc is) };
+    only_writes = q.only_writes;
+  }
+
+  took-nothing : HasStopped contents text TookNothing a b → Built (Err WriteZero)
+  took-nothing q = record {
+    whole = tt;
+    front = λ _. front-taken contents text q.bytes.0 q.bytes.1 a b q.bytes.2 q.bytes.3;
+    untouched = λ none. absurd none;
+    write = record { once = λ is. cc is; last = λ is. cc is; others = λ _. q.write.others (λ is. cc is) };
+    write_zero = record { once = λ _. q.write_zero.once refl; last = λ _. q.write_zero.last refl; others = λ no. absurd (no refl) };
+    only_writes = q.only_writes;
+  }
+
+  no-table : (fault : Fault) → (HasNoText (Table fault) → b ≡ a) → (rest : List ℕ) → HasPassed contents text rest a b → Built (Err (Table fault))
+  no-table fault same rest p = record {
+    whole = tt;
+    front = λ _. front-taken contents text p.bytes.0 rest a b p.bytes.1 p.bytes.2;
+    untouched = same;
+    write = record { once = λ is. cc is; last = λ is. cc is; others = λ _. p.failures };
+    write_zero = record { once = λ is. cc is; last = λ is. cc is; others = λ _. p.empty_writes };
+    only_writes = p.only_writes;
+  }
+
+  -- a table that has no text is not refused for want of memory
+  has-none : (fault : Fault) → HasNoText (Table fault) → fault ≢ Memory
+  has-none Memory none is = none
+  has-none Range none is = cc is
+  has-none Spans none is = cc is
+  has-none (Room row column) none is = cc is
+
+  answered : (given : Result (Result (Unit {0}) WriteFault) Fault) → Passes contents text given [] a b → IfErr given (λ fault. fault ≢ Memory → b ≡ a) → Built (build_answer given)
+  answered (Ok (Ok done)) passes untouched = complete done passes
+  answered (Ok (Err Failed)) passes untouched = failed passes
+  answered (Ok (Err TookNothing)) passes untouched = took-nothing passes
+  answered (Err fault) passes untouched = no-table fault (λ none. untouched (has-none fault none)) passes.0 passes.1
+
+  pub built : (given : Result (Result (Unit {0}) WriteFault) Fault) (result : Result (Unit {0}) BuildFault) → result ≡ build_answer given → Passes contents text given [] a b → IfErr given (λ fault. fault ≢ Memory → b ≡ a)
+      → Built result
+  built given result is passes untouched = subst Built (sym is) (answered given passes untouched)
+
+  pub nothing-built : (given : Result (Result (Unit {0}) WriteFault) Fault) → Passes contents text given [] a b → text ≡ [] → b ≡ a
+  nothing-built given passes none = passes-nothing contents text [] given a b passes (ap length none)
+
+-- ---- that the table fits, or why it is refused
+
+module _ (Fits : Type 0) (IsFit : Result (Unit {0}) Fault → Type 0) where
+  fitting : (given : Result (Result (Unit {0}) WriteFault) Fault) → OnOk given Fits → OnOk (build_answer given) Fits
+  fitting (Ok (Ok done)) fits = fits
+  fitting (Ok (Err Failed)) fits = tt
+  fitting (Ok (Err TookNothing)) fits = tt
+  fitting (Err fault) fits = tt
+
+  pub fits-built : (given : Result (Result (Unit {0}) WriteFault) Fault) (result : Result (Unit {0}) BuildFault) → result ≡ build_answer given → OnOk given Fits → OnOk result Fits
+  fits-built given result is fits = subst (λ r. OnOk r Fits) (sym is) (fitting given fits)
+
+  refusing : (given : Result (Result (Unit {0}) WriteFault) Fault) → OnOk given Fits → IfErr given (λ fault. (fault ≡ Memory) ⊎ IsFit (Err fault)) → IfErr (build_answer given) (BuildRefusal Fits IsFit)
+  refusing (Ok (Ok done)) fits refused = tt
+  refusing (Ok (Err Failed)) fits refused = fits
+  refusing (Ok (Err TookNothing)) fits refused = fits
+  refusing (Err fault) fits refused = refused
+
+  pub refused-built : (given : Result (Result (Unit {0}) WriteFault) Fault) (result : Result (Unit {0}) BuildFault) → result ≡ build_answer given → OnOk given Fits → IfErr given (λ fault. (fault ≡ Memory) ⊎ IsFit (Err fault))
+      → IfErr result (BuildRefusal Fits IsFit)
+  refused-built given result is fits refused = subst (λ r. IfErr r (BuildRefusal Fits IsFit)) (sym is) (refusing given fits refused)
