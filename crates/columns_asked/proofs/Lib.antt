@@ -1,9 +1,6 @@
-pub mod BridgeLemmas
 pub mod SizeLemmas
 pub mod TableLemmas
 pub mod CharacterLemmas
-pub mod RunsShown
-pub mod ResizedLemmas
 pub mod StrippedLemmas
 pub mod PlainTextLemmas
 pub mod ShrunkLemmas

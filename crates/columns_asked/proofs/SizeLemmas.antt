@@ -1,24 +1,20 @@
 -- Tables of the same sizes: texts that are changed, but not in what they measure.
-use Rattle.std.proofs.Common.{◌≡◌, ◌==◌, ℕ, zero, suc, ◌+◌, ◌-◌, List, [], ◌∷◌, ◌++◌, map, length, take, get_or, replicate, refl, ap, sym, ◌∙◌}
-use Rattle.std.specs.List.{slice_split, take-map}
+use Rattle.std.proofs.Common.{◌≡◌, ℕ, zero, suc, ◌+◌, ◌-◌, List, [], ◌∷◌, ◌++◌, map, length, take, replicate, refl, ap, sym, ◌∙◌}
+use Rattle.std.specs.List.{take-map}
 use Rattle.std.proofs.lemmas.List.{length-map}
 use Rattle.std.proofs.lemmas.Simd.{map-map}
-use Rattle.ansi_scan.specs.Pieces.{pieces}
-use Rattle.ansi_scan.proofs.Existence.{ArePiecesOf-pieces}
-use Rattle.ansi_str.specs.StyledText.{strip}
-use Rattle.ansi_str_text.proofs.Stripping.{has_escape-strip, strip-without_escape}
 use Rattle.grid_config.specs.Compact.{Compact}
 use Rattle.grid_config.specs.Looks.{compact_look}
 use Rattle.grid_config_values.specs.Glyphs.{boundary_kind, has_row_boundary}
-use Rattle.grid_config_values.specs.declared.position.Position.{Position}
-use Rattle.grid_records_measure.specs.TextLines.{line_feed, text_height, text_width, widest}
+use Rattle.grid_records_measure.specs.TextLines.{text_height, text_width}
 use Rattle.grid_records_estimate.specs.Rows.{fitted, fitted_row, text_at}
 use Rattle.grid_records_estimate.specs.Estimates.{greatest, track_sizes}
 use Rattle.grid_records_estimate.specs.Sizes.{table_heights, table_widths}
 use Rattle.grid_records_estimate.specs.Sizing.{Sizing, column_axis, compact_sizing, place, row_axis}
 use Rattle.papergrid_picture.specs.Frame.{frame_of}
-use Rattle.papergrid_picture.proofs.ShownLemmas.{get_or-map, pieces-nothing}
 use Rattle.papergrid_picture.specs.Shown.{stripped_texts}
+use Rattle.papergrid_picture.proofs.StrippedLemmas.{stripped}
+use Rattle.tabled_size_cells.proofs.CellStripping.{stripped-height, stripped-none, stripped-width, text-map}
 use Rattle.columns_asked.specs.Layout.{column_count, frame_under, heights_of, widths_of}
 
 module _ (f : List ℕ → List ℕ) (none : f [] ≡ []) where
@@ -41,12 +37,6 @@ module _ (f : List ℕ → List ℕ) (none : f [] ≡ []) where
   fitted-map n rows =
       map-map (fitted_row n) (map f) rows ∙ (λ k. map (λ row. fitted_row-map n row k) rows) ∙ sym (map-map (map f) (fitted_row n) rows)
 
-  pub text-map : (rows : List (List (List ℕ))) (cell : Position) → text_at (map (map f) rows) cell ≡ f (text_at rows cell)
-  text-map rows cell =
-      ap (λ row. get_or row cell.col []) (get_or-map (map f) rows cell.row [])
-      ∙ ap (get_or (map f (get_or rows cell.row [])) cell.col) (sym none)
-      ∙ get_or-map f (get_or rows cell.row []) cell.col []
-
   columns-map : (rows : List (List (List ℕ))) → column_count (map (map f) rows) ≡ column_count rows
   columns-map rows =
       ap greatest (map-map (λ (row : List (List ℕ)). length row) (map f) rows) ∙ (λ k. greatest (map (λ row. length-map row f k) rows))
@@ -60,14 +50,14 @@ module _ (f : List ℕ → List ℕ) (none : f [] ≡ []) where
     widths-map same =
         ap (λ found. track_sizes (column_axis sizing n found)) (fitted-map n rows)
         ∙ ap (λ crossings. track_sizes (record (column_axis sizing n (map (map f) all)) { crossings = crossings })) (length-map all (map f))
-        ∙ (λ k. track_sizes (record (column_axis sizing n all) { need = λ column row. let padding = sizing.padding (place row column) in (ap text_width (text-map all (place row column)) ∙ same (text_at all (place row column))) k + padding.left.size + padding.right.size }))
+        ∙ (λ k. track_sizes (record (column_axis sizing n all) { need = λ column row. let padding = sizing.padding (place row column) in (ap text_width (text-map f none all (place row column)) ∙ same (text_at all (place row column))) k + padding.left.size + padding.right.size }))
 
     heights-map : ((text : List ℕ) → text_height (f text) ≡ text_height text) → table_heights sizing n (map (map f) rows) ≡ table_heights sizing n rows
     unfolding table_heights
     heights-map same =
         ap (λ found. track_sizes (row_axis sizing n found)) (fitted-map n rows)
         ∙ ap (λ m. track_sizes (record (row_axis sizing n (map (map f) all)) { tracks = m; has_boundary = λ i. has_row_boundary sizing.borders (boundary_kind i m) })) (length-map all (map f))
-        ∙ (λ k. track_sizes (record (row_axis sizing n all) { need = λ row column. let padding = sizing.padding (place row column) in (ap text_height (text-map all (place row column)) ∙ same (text_at all (place row column))) k + padding.top.size + padding.bottom.size }))
+        ∙ (λ k. track_sizes (record (row_axis sizing n all) { need = λ row column. let padding = sizing.padding (place row column) in (ap text_height (text-map f none all (place row column)) ∙ same (text_at all (place row column))) k + padding.top.size + padding.bottom.size }))
 
   module _ (style : Compact) (rows : List (List (List ℕ))) (wide : (text : List ℕ) → text_width (f text) ≡ text_width text) (high : (text : List ℕ) → text_height (f text) ≡ text_height text) where
     pub same-widths : widths_of style (map (map f) rows) ≡ widths_of style rows
@@ -80,23 +70,6 @@ module _ (f : List ℕ → List ℕ) (none : f [] ≡ []) where
     same-frame = ap (λ widths. frame_of (compact_look style) widths (heights_of style (map (map f) rows))) same-widths ∙ ap (frame_of (compact_look style) (widths_of style rows)) same-heights
 
 -- ---- without sequences
-
-abbrev pub stripped : List ℕ → List ℕ
-stripped text = strip (pieces text)
-
-pub stripped-none : stripped [] ≡ []
-stripped-none = ap strip pieces-nothing
-
-pub stripped-twice : (text : List ℕ) → stripped (stripped text) ≡ stripped text
-stripped-twice text = strip-without_escape (stripped text) (pieces (stripped text)) (ArePiecesOf-pieces (stripped text)) (has_escape-strip text (pieces text) (ArePiecesOf-pieces text))
-
-pub stripped-width : (text : List ℕ) → text_width (stripped text) ≡ text_width text
-unfolding text_width
-stripped-width text = ap (λ shown. widest (slice_split (λ c. c == line_feed) shown)) (stripped-twice text)
-
-pub stripped-height : (text : List ℕ) → text_height (stripped text) ≡ text_height text
-unfolding text_height
-stripped-height text = ap (λ shown. length (slice_split (λ c. c == line_feed) shown)) (stripped-twice text)
 
 module _ (style : Compact) (texts : List (List (List ℕ))) where
   pub widths-stripped : widths_of style (stripped_texts texts) ≡ widths_of style texts

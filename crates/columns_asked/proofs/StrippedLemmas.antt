@@ -1,14 +1,8 @@
 -- What a table is follows from its texts without their sequences.
-use Rattle.std.proofs.Common.{◌≡◌, ◌+◌, ℕ, List, [], ◌∷◌, map, ap, sym, ◌∙◌}
-use Rattle.std.specs.Prelude.{chars, encode_utf8_all, nat_lt, ◌&&◌}
+use Rattle.std.proofs.Common.{◌≡◌, ◌+◌, ℕ, List, map, ap, sym, ◌∙◌}
+use Rattle.std.specs.Prelude.{chars, nat_lt, ◌&&◌}
 use Rattle.std.specs.List.{AllByRecursion, find}
 use Rattle.std.proofs.lemmas.Simd.{map-map}
-use Rattle.std.proofs.lemmas.Str.{encodes-chars}
-use Rattle.ansi_scan.specs.Pieces.{pieces}
-use Rattle.ansi_scan.proofs.Existence.{ArePiecesOf-pieces}
-use Rattle.ansi_str.specs.StyledText.{has_escape}
-use Rattle.ansi_str_text.proofs.Stripping.{has_escape-strip}
-use Rattle.ansi_str_text.proofs.Utf8Pieces.{IsUtf8-shown_text}
 use Rattle.grid_config.specs.Compact.{Compact}
 use Rattle.grid_config.specs.Looks.{compact_look}
 use Rattle.grid_config_spans.specs.Owners.{owner}
@@ -21,30 +15,14 @@ use Rattle.papergrid_picture.specs.Fitting.{InRange, first_too_wide, need}
 use Rattle.papergrid_picture.specs.Frame.{Frame, block_width, column_count, frame_of, row_count}
 use Rattle.papergrid_picture.specs.Shown.{AreWholeTexts, IsWholeText, character_of, characters_of, in_plain, stripped_texts, styled_texts}
 use Rattle.papergrid_picture.proofs.ShownLemmas.{characters-styled, map-same, styled_of}
-use Rattle.papergrid_picture.proofs.StrippedLemmas.{none-broken}
-use Rattle.columns_asked.specs.Asked.{Asked, Resize}
-use Rattle.columns_asked.specs.Resizing.{resized, resized_text}
-use Rattle.columns_asked.proofs.BridgeLemmas.{resized-shows}
+use Rattle.columns_asked.specs.Asked.{Asked}
 use Rattle.columns_asked.specs.Layout.{AskedFits, asked_frame, asked_widths, frame_under, heights_of, kept_cells, kept_texts, texts_in, too_wide}
-use Rattle.columns_asked.proofs.CharacterLemmas.{kept-characters, resized-natural, same, texts-characters}
-use Rattle.columns_asked.proofs.SizeLemmas.{frame-stripped, heights-stripped, stripped, stripped-none, stripped-twice, stripped-width, text-map}
+use Rattle.tabled_size_cells.proofs.CharacterLemmas.{same}
+use Rattle.columns_asked.proofs.CharacterLemmas.{kept-characters, texts-characters}
+use Rattle.papergrid_picture.proofs.StrippedLemmas.{stripped}
+use Rattle.tabled_size_cells.proofs.CellStripping.{stripped-none, stripped-width, text-map, texts-twice, texts-whole}
+use Rattle.columns_asked.proofs.SizeLemmas.{frame-stripped, heights-stripped}
 use Rattle.columns_asked.proofs.TableLemmas.{asked_widths-stripped, kept-styled, kept-whole, texts-in}
-
--- ---- the stripped texts are whole
-
-whole-stripped : (text : List ℕ) → IsWholeText text → IsWholeText (stripped text)
-whole-stripped text whole =
-    let left = stripped text in
-    let are = ArePiecesOf-pieces left in
-    record { utf8 = IsUtf8-shown_text text whole.utf8; whole = none-broken (pieces left) are.stand (ap has_escape are.joins ∙ has_escape-strip text (pieces text) (ArePiecesOf-pieces text)) }
-
-row-whole : (row : List (List ℕ)) → AllByRecursion IsWholeText row → AllByRecursion IsWholeText (map stripped row)
-row-whole [] all = tt
-row-whole (text ∷ row) all = (whole-stripped text all.0, row-whole row all.1)
-
-pub texts-whole : (texts : List (List (List ℕ))) → AreWholeTexts texts → AreWholeTexts (stripped_texts texts)
-texts-whole [] all = tt
-texts-whole (row ∷ texts) all = (row-whole row all.0, texts-whole texts all.1)
 
 -- ---- the characters that texts show
 
@@ -57,21 +35,6 @@ characters-texts texts all =
     ∙ sym (map-map chars stripped row))
     texts all
     ∙ sym (map-map (map chars) (map stripped) texts)
-
-strip-twice : (texts : List (List (List ℕ))) → stripped_texts (stripped_texts texts) ≡ stripped_texts texts
-strip-twice texts =
-    map-map (map stripped) (map stripped) texts
-    ∙ (λ k. map (λ row. map-map stripped stripped row k) texts)
-    ∙ (λ k. map (map (λ text. stripped-twice text k)) texts)
-
--- a resized text shows its resized characters
-pub resized-characters : (resize : Resize) (text : List ℕ) → IsWholeText text → stripped (resized_text resize text) ≡ encode_utf8_all (resized same same resize (chars (stripped text)))
-resized-characters resize text whole =
-    let out = resized_text resize text in
-    let shows = resized-shows resize text whole in
-    sym (encodes-chars (stripped out) (IsUtf8-shown_text out shows.whole.utf8))
-    ∙ ap encode_utf8_all
-    (sym (characters-styled out shows.whole.utf8) ∙ ap (map character_of) shows.shown ∙ resized-natural character_of same in_plain resize (styled_of text) ∙ ap (resized same same resize) (characters-styled text whole.utf8))
 
 module _ (style : Compact) (asked : Asked) where
   -- the texts that are kept show the resized characters
@@ -87,7 +50,7 @@ module _ (style : Compact) (asked : Asked) where
     pub kept-stripped : stripped_texts (kept_texts style asked (stripped_texts texts)) ≡ stripped_texts (kept_texts style asked texts)
     kept-stripped =
         kept-shown (stripped_texts texts) (texts-whole texts all)
-        ∙ ap (λ (found : List (List (List ℕ))). texts_in same same (kept_cells same same style asked (map (map chars) found))) (strip-twice texts)
+        ∙ ap (λ (found : List (List (List ℕ))). texts_in same same (kept_cells same same style asked (map (map chars) found))) (texts-twice texts)
         ∙ sym (kept-shown texts all)
 
     pub heights-asked : heights_of style (kept_texts style asked (stripped_texts texts)) ≡ heights_of style (kept_texts style asked texts)

@@ -11,8 +11,8 @@ use Rattle.papergrid_picture.specs.Fitting.{InRange, first_too_wide, table_width
 use Rattle.papergrid_picture.specs.Frame.{Frame, frame_of, line_count}
 use Rattle.papergrid_picture.specs.Shown.{Styled, character_of, in_plain, item_picture}
 use Rattle.papergrid_picture.specs.Tables.{table_text}
-use Rattle.columns_asked.specs.Asked.{Asked, Break, Cut, Keep, Resize}
-use Rattle.columns_asked.specs.Resizing.{resized, resized_text}
+use Rattle.columns_asked.specs.Asked.{Asked}
+use Rattle.tabled_size_cells.specs.Resizing.{Break, Cut, Keep, Resize, resized, resized_text}
 use Rattle.columns_asked.specs.Shrunk.{shrunk_list}
 
 -- the items of a picture with a line feed after its last line too

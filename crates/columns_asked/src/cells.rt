@@ -3,8 +3,7 @@ ghost use Rattle.std.specs.Prelude.{◌≡◌, IfOk, if◌then◌else◌, unwrap
 ghost use Rattle.std.specs.Cow.{cow_str_bytes};
 ghost use Rattle.std.specs.Option.{option_map};
 ghost use Rattle.grid_records_measure.specs.TextLines.{text_width};
-ghost use Rattle.columns_asked.specs.Asked.{Break, Cut};
-ghost use Rattle.columns_asked.specs.Resizing.{resized_text};
+ghost use Rattle.tabled_size_cells.specs.Resizing.{Break, Cut, resized_text};
 
 use crate::asked::Asked;
 use std::alloc::{AllocError, Global};

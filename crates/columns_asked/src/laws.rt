@@ -1,21 +1,18 @@
 //! Laws of tables in a width that is asked, each the contract of a function that does nothing.
 ghost use Rattle.std.specs.Prelude.{◌≡◌, ◌↔◌, ◌∷◌, ℕ, All, List, None, [], chars, codes, encode_utf8_all, false, map, true};
 ghost use Rattle.ansi_scan.specs.Attributes.{plain_attributes};
-ghost use Rattle.ansi_scan.specs.Pieces.{pieces};
 ghost use Rattle.ansi_scan.specs.Sequences.{Piece, ArePiecesOf};
-ghost use Rattle.ansi_str.specs.StyledText.{strip, styled};
+ghost use Rattle.ansi_str.specs.StyledText.{strip};
 ghost use Rattle.grid_config.specs.Compact.{Compact};
 ghost use Rattle.grid_config.specs.Looks.{compact_look};
 ghost use Rattle.grid_records_measure.specs.TextLines.{line_feed};
-ghost use Rattle.papergrid_picture.specs.Shown.{ArePlainTexts, AreWholeTexts, IsBare, IsWholeText, Shows, Styled, character_of, characters_of, in_plain, stripped_texts, styled_texts};
+ghost use Rattle.papergrid_picture.specs.Shown.{ArePlainTexts, AreWholeTexts, IsBare, Shows, Styled, character_of, characters_of, in_plain, stripped_texts, styled_texts};
 ghost use Rattle.papergrid_picture.specs.Tables.{table_text};
 ghost use Rattle.tabled_size_priority.specs.Choices.{IsShrunkByChoice};
 ghost use Rattle.tabled_size_priority.specs.declared.choice.Choice.{Choice};
 ghost use Rattle.tabled_size_priority.specs.declared.choice.Choice.TheVariants.{None as InTurns, MaxLeft};
-ghost use Rattle.columns_asked.specs.Asked.{Asked, Resize};
+ghost use Rattle.columns_asked.specs.Asked.{Asked};
 ghost use Rattle.columns_asked.specs.Layout.{AskedFits, asked_characters, asked_frame, asked_picture, asked_text, asked_widths, ended, heights_of, kept_cells, kept_texts, too_wide};
-ghost use Rattle.columns_asked.specs.Resized.{IsResizedCell};
-ghost use Rattle.columns_asked.specs.Resizing.{resized, resized_text};
 ghost use Rattle.columns_asked.specs.Shrunk.{shrunk_list};
 ghost use Rattle.columns_asked.specs.Worked.{ascii_settings, cuts, no_width, one_row, wraps};
 
@@ -44,27 +41,6 @@ pub fn worked_texts()
     ensures no_width { asked_text ascii_settings no_width (one_row (codes "ab" ∷ [])) ≡ codes "+----+\n| ab |\n+----+\n" }
 {}
 
-/// A resized cell is one thing as a text and as styled characters: what a resized text shows is the resized
-/// list of the characters that the text shows, in their styles, where U+FFFD and line feeds that are put in
-/// have the plain style. No sequence of it is broken.
-pub fn resized_texts_show_resized_cells()
-    ensures shown { (resize : Resize) (text : List ℕ) → IsWholeText text →
-        styled (pieces (resized_text resize text)) ≡ resized character_of in_plain resize (styled (pieces text)) }
-    ensures whole { (resize : Resize) (text : List ℕ) → IsWholeText text → IsWholeText (resized_text resize text) }
-{}
-
-/// What becomes of a cell, whatever walk finds it: one that is cut shows the longest front of it that fits, and
-/// U+FFFD in the columns that are lacking; one that is broken shows, line by line, runs of its units, each the
-/// longest that fits of what the ones before it left. The functions that walk give such a cell, and no other
-/// cell is one. So it is of texts, by what their pieces show.
-pub fn resized_cells_are_longest_fronts_and_runs<X>()
-    ensures meets { (character : X → ℕ) (bare : ℕ → X) (resize : Resize) (cell : List X) → IsResizedCell character bare resize cell (resized character bare resize cell) }
-    ensures one { (character : X → ℕ) (bare : ℕ → X) (resize : Resize) (cell made : List X) →
-        IsResizedCell character bare resize cell made → made ≡ resized character bare resize cell }
-    ensures texts { (resize : Resize) (text : List ℕ) (ps qs : List Piece) → IsWholeText text → ArePiecesOf text ps → ArePiecesOf (resized_text resize text) qs →
-        IsResizedCell character_of in_plain resize (styled ps) (styled qs) }
-{}
-
 /// The texts that a table keeps once its cells are resized show the cells of the picture; and the table of
 /// these texts, in the widths that are kept, is what is printed.
 pub fn stored_table()
@@ -85,15 +61,6 @@ pub fn table_shown()
         Shows (asked_text style asked texts) (asked_picture style asked (styled_texts texts)) }
     ensures line_feeds { (style : Compact) (asked : Asked) (rows : List (List (List Styled))) →
         All (λ x. x.0 ≡ line_feed → x.1 ≡ plain_attributes) (asked_picture style asked rows) }
-{}
-
-/// Where a cell is broken or cut follows from its characters alone: without styles, and without sequences,
-/// a resized cell is the resized list of its characters.
-pub fn breaks_are_chosen_on_characters()
-    ensures cells { (resize : Resize) (cell : List Styled) →
-        map character_of (resized character_of in_plain resize cell) ≡ resized (λ c. c) (λ c. c) resize (map character_of cell) }
-    ensures texts { (resize : Resize) (text : List ℕ) → IsWholeText text →
-        strip (pieces (resized_text resize text)) ≡ encode_utf8_all (resized (λ c. c) (λ c. c) resize (chars (strip (pieces text)))) }
 {}
 
 /// Styles change nothing of a table but styles. The characters of its picture are those of the picture of

@@ -4,8 +4,7 @@ use Rattle.std.proofs.lemmas.Bool.Decides.{nat_tests}
 use Rattle.grid_records_measure.specs.TextLines.{text_width}
 use Rattle.tabled_size_wrap.proofs.Unbroken.{stays-is}
 use Rattle.tabled_size_wrap.specs.Bytes.{cut_at}
-use Rattle.columns_asked.specs.Asked.{Break, Cut}
-use Rattle.columns_asked.specs.Resizing.{resized_text}
+use Rattle.tabled_size_cells.specs.Resizing.{Break, Cut, resized_text}
 use Rattle.columns_asked.proofs.cells.resized_cell.Goals as goal
 use Rattle.columns_asked.proofs.cells.resized_cell.Goals.{then-asked, else-asked}
 

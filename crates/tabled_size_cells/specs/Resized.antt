@@ -8,8 +8,7 @@ use Rattle.tabled_size_wrap.specs.Breaking.{AreRunsOf, run_cost}
 use Rattle.tabled_size_wrap.specs.Fronts.{IsFrontOf}
 use Rattle.tabled_size_wrap.specs.Showing.{unit_size}
 use Rattle.tabled_size_wrap.specs.Units.{LineUnit, line_units}
-use Rattle.columns_asked.specs.Asked.{Break, Cut, Keep, Resize}
-use Rattle.columns_asked.specs.Resizing.{cell_width, lines_in}
+use Rattle.tabled_size_cells.specs.Resizing.{Break, Cut, Keep, Resize, cell_width, lines_in}
 
 -- no unit costs more than the width
 abbrev pub AreNarrow : ℕ → List LineUnit → Type 0

@@ -16,11 +16,10 @@ use Rattle.tabled_size_wrap.specs.Units.{line_units}
 use Rattle.tabled_size_wrap.specs.Wrapping.{shown_lines}
 use Rattle.tabled_size_wrap.proofs.FrontLemmas.{front-meets, front-one, kept-characters, kept_of, left-characters, left-one, left_of}
 use Rattle.tabled_size_wrap.proofs.LongestLemmas.{runs-are, runs-one}
-use Rattle.columns_asked.specs.Asked.{Break, Cut, Keep, Resize}
-use Rattle.columns_asked.specs.Resized.{AreLinesOfLine, IsBrokenCell, IsCutCell, IsResizedCell}
-use Rattle.columns_asked.specs.Resizing.{broken, broken_line, cell_width, cut, lines_in, resized, resized_text}
-use Rattle.columns_asked.proofs.BridgeLemmas.{flat-map, resized-shows}
-use Rattle.columns_asked.proofs.RunsShown.{runs-shown, runs-shown-one}
+use Rattle.tabled_size_cells.specs.Resized.{AreLinesOfLine, IsBrokenCell, IsCutCell, IsResizedCell}
+use Rattle.tabled_size_cells.specs.Resizing.{Break, Cut, Keep, Resize, broken, broken_line, cell_width, cut, lines_in, resized, resized_text}
+use Rattle.tabled_size_cells.proofs.BridgeLemmas.{flat-map, resized-shows}
+use Rattle.tabled_size_cells.proofs.RunsShown.{runs-shown, runs-shown-one}
 
 module _ {X : Type 0} (character : X → ℕ) (bare : ℕ → X) where
   -- ---- cut

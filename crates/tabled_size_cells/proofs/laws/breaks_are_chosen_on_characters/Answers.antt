@@ -1,7 +1,7 @@
-use Rattle.columns_asked.proofs.CharacterLemmas.{resized-natural, same}
-use Rattle.columns_asked.proofs.StrippedLemmas.{resized-characters}
+use Rattle.tabled_size_cells.proofs.CharacterLemmas.{resized-natural, same}
+use Rattle.tabled_size_cells.proofs.CellStripping.{resized-characters}
 use Rattle.papergrid_picture.specs.Shown.{character_of, in_plain}
-use Rattle.columns_asked.proofs.laws.breaks_are_chosen_on_characters.Goals as goal
+use Rattle.tabled_size_cells.proofs.laws.breaks_are_chosen_on_characters.Goals as goal
 
 pub returns-clause-cells : goal.returns-clause-cells
 returns-clause-cells c = resized-natural character_of same in_plain

@@ -1,5 +1,5 @@
-use Rattle.columns_asked.proofs.ResizedLemmas.{resized-meets, resized-one, texts-resized}
-use Rattle.columns_asked.proofs.laws.resized_cells_are_longest_fronts_and_runs.Goals as goal
+use Rattle.tabled_size_cells.proofs.ResizedLemmas.{resized-meets, resized-one, texts-resized}
+use Rattle.tabled_size_cells.proofs.laws.resized_cells_are_longest_fronts_and_runs.Goals as goal
 
 pub returns-clause-meets : goal.returns-clause-meets
 returns-clause-meets g c = λ character bare. resized-meets character bare

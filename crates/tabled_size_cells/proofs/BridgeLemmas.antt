@@ -39,8 +39,7 @@ use Rattle.tabled_size_wrap.proofs.BytesLemmas.{wrapped_text-meets}
 use Rattle.tabled_size_wrap.proofs.LongestLemmas.{runs-are, runs-one}
 use Rattle.tabled_size_wrap.proofs.ShowLemmas.{Shows, joined-shows}
 use Rattle.tabled_size_wrap.proofs.WrappedLemmas.{text-shows}
-use Rattle.columns_asked.specs.Asked.{Break, Cut, Keep, Resize}
-use Rattle.columns_asked.specs.Resizing.{broken, broken_line, cell_width, cut, resized, resized_text}
+use Rattle.tabled_size_cells.specs.Resizing.{Break, Cut, Keep, Resize, broken, broken_line, cell_width, cut, resized, resized_text}
 
 -- ---- what a whole text measures
 

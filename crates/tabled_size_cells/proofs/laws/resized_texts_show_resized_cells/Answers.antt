@@ -1,5 +1,5 @@
-use Rattle.columns_asked.proofs.BridgeLemmas.{resized-shows}
-use Rattle.columns_asked.proofs.laws.resized_texts_show_resized_cells.Goals as goal
+use Rattle.tabled_size_cells.proofs.BridgeLemmas.{resized-shows}
+use Rattle.tabled_size_cells.proofs.laws.resized_texts_show_resized_cells.Goals as goal
 
 pub returns-clause-shown : goal.returns-clause-shown
 returns-clause-shown c = λ resize text whole. (resized-shows resize text whole).shown

@@ -5,7 +5,7 @@ use Rattle.tabled_size_wrap.specs.Showing.{unit_size}
 use Rattle.tabled_size_wrap.specs.Units.{LineUnit}
 use Rattle.tabled_size_wrap.specs.Wrapping.{from_wide, is_narrow, narrow_front, shown_lines, shown_run}
 use Rattle.tabled_size_wrap.proofs.RunLemmas.{front-cons, front-wide}
-use Rattle.columns_asked.specs.Resized.{AreNarrow, ShowRuns, ShowsRun, parted, run_size, whole}
+use Rattle.tabled_size_cells.specs.Resized.{AreNarrow, ShowRuns, ShowsRun, parted, run_size, whole}
 
 module _ (width : ℕ) where
   narrow-test : (unit : LineUnit) → unit.cost ≤ width → is_narrow width unit ≡ true

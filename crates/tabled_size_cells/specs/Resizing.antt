@@ -11,7 +11,12 @@ use Rattle.tabled_size_wrap.specs.Runs.{runs_of}
 use Rattle.tabled_size_wrap.specs.Showing.{unit_size}
 use Rattle.tabled_size_wrap.specs.Units.{line_units}
 use Rattle.tabled_size_wrap.specs.Wrapping.{shown_lines}
-use Rattle.columns_asked.specs.Asked.{Break, Cut, Keep, Resize}
+
+-- what is done to a cell: nothing; each of its lines is broken at a width, with words kept or not; or it is cut at a width
+pub data Resize : Type 0 where
+  Keep : Resize
+  Break : ℕ → Bool → Resize
+  Cut : ℕ → Resize
 
 -- ---- in items, each of which stands for a character; `bare` makes one of a character that is put in
 

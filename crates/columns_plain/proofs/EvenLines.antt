@@ -1,0 +1,199 @@
+-- All lines of the table of a plain input take as many columns.
+use Rattle.std.proofs.Common.{◌≡◌, ◌==◌, ◌||◌, ◌+◌, ◌<◌, ◌≤◌, max, min, ℕ, suc, Bool, true, false, inl, inr, List, [], ◌∷◌, None, Some, Option, map, length, sum, slice_index, refl, ap, sym, ◌∙◌, arith, if◌then◌else◌}
+use Rattle.std.specs.Prelude.{IfSome}
+use Rattle.std.proofs.Math.Path.{fun_ext}
+use Rattle.std.proofs.lemmas.Bool.{cases_lt}
+use Rattle.std.proofs.lemmas.List.{length-map}
+use Rattle.std.proofs.lemmas.List.Sums.{sum_by-cons}
+use Rattle.ansi_str.specs.Characters.{shown_chars}
+use Rattle.grid_config.specs.Compact.{Compact}
+use Rattle.grid_config.specs.Looks.{compact_look}
+use Rattle.grid_config_spans.proofs.Parting.{good_without}
+use Rattle.grid_config_spans.specs.Spans.{extent_at, single}
+use Rattle.grid_config_values.specs.Glyphs.{boundary_count, has_column_boundary}
+use Rattle.grid_config_values.specs.declared.position.Position.{Position}
+use Rattle.grid_config_values.specs.declared.sides.Indent.{Indent}
+use Rattle.grid_config_values.specs.declared.sides.Sides.{Sides}
+use Rattle.grid_records_estimate.specs.Totals.{total}
+use Rattle.grid_records_measure.specs.Measures.{columns}
+use Rattle.papergrid_picture.specs.Fitting.{first_too_wide, table_width}
+use Rattle.papergrid_picture.specs.Frame.{Frame, column_count as columns_of, frame_of, line_count, row_count, total_width, track_at}
+use Rattle.papergrid_picture.specs.Shown.{CostsOne, OnEachSide, ShowsOnly}
+use Rattle.papergrid_picture.specs.Tables.{table_grid}
+use Rattle.papergrid_picture.specs.Tiling.{HasGoodSpans}
+use Rattle.papergrid_picture.proofs.WidthLemmas.{line-columns}
+use Rattle.tabled_size_cells.specs.Resizing.{Resize}
+use Rattle.columns_asked.specs.declared.asked.Asked.{Asked}
+use Rattle.columns_asked.specs.Layout.{asked_frame, asked_widths, frame_under, heights_of, kept_texts, narrowed, paddings, resize_in, too_wide, widths_of}
+use Rattle.columns_asked.proofs.NarrowLemmas.{narrowed-none}
+use Rattle.columns_table.specs.Asking.{narrowest_frame}
+use Rattle.columns_table.proofs.AskedWidths.{width-fitting, width-narrowed, width-unasked}
+use Rattle.columns_table.proofs.NarrowedLemmas.{frame-natural, kept-natural, room-natural, some-of-table}
+use Rattle.columns_table.proofs.NaturalLemmas.{positive-none}
+use Rattle.columns_table.proofs.SizeLemmas.{width-total}
+use Rattle.columns_run.specs.Layout.{grid_of, kept_of, line_bytes, piece_bytes, wide_cell}
+use Rattle.columns_run.specs.Plain.{IsPlain, IsPlainCharacter}
+use Rattle.columns_run.specs.Rows.{cell_parts}
+use Rattle.columns_run.specs.Wanted.{Wanted}
+use Rattle.columns_run.proofs.ByteLemmas.{line-pieces}
+use Rattle.columns_run.proofs.CellLemmas.{whole_text}
+use Rattle.columns_run.proofs.PlainLemmas.{bare, plain-space, shown-only}
+use Rattle.columns_run.proofs.RoomLemmas.{never-wide as unasked-never_wide}
+use Rattle.columns_run.proofs.TableLemmas.{wide-same}
+use Rattle.columns_run.proofs.TilingLemmas.{room}
+use Rattle.columns_plain.specs.PlainInputs.{IsPlainInput, least_total, natural_total}
+use Rattle.columns_plain.proofs.NarrowRoom.{enough, never-wide}
+use Rattle.columns_plain.proofs.PlainTexts.{cells-are-plain, rows-plainly}
+
+-- ---- a plain style costs one column at each glyph and fill
+
+costs-one : (c : ℕ) → IsPlainCharacter c → CostsOne c
+costs-one c is = let own = is.one_column in omega (arith, own)
+
+some-one : (o : Option ℕ) → IfSome o IsPlainCharacter → IfSome o CostsOne
+some-one None is = tt
+some-one (Some c) is = costs-one c is
+
+three-ones : (a b c : Option ℕ) → IfSome a IsPlainCharacter × IfSome b IsPlainCharacter × IfSome c IsPlainCharacter → IfSome a CostsOne × IfSome b CostsOne × IfSome c CostsOne
+three-ones a b c is = (some-one a is.0, some-one b is.1, some-one c is.2)
+
+sides-ones : (sides : Sides Indent) → OnEachSide (λ indent. IsPlainCharacter indent.fill) sides → OnEachSide (λ indent. CostsOne indent.fill) sides
+sides-ones sides is = (costs-one sides.left.fill is.0, costs-one sides.right.fill is.1, costs-one sides.top.fill is.2, costs-one sides.bottom.fill is.3)
+
+ones : (style : Compact) → IsPlain style → ShowsOnly CostsOne (compact_look style)
+unfolding IsPlain
+ones style plain =
+    let b = style.borders in
+    let g = plain.glyphs in
+    shown-only CostsOne style (
+      three-ones b.top_left b.top_intersection b.top_right g.0,
+      three-ones b.left_intersection b.intersection b.right_intersection g.1,
+      three-ones b.bottom_left b.bottom_intersection b.bottom_right g.2,
+      three-ones b.top b.horizontal b.bottom g.3,
+      three-ones b.left b.vertical b.right g.4,
+    )
+    (sides-ones style.margin plain.margin) (sides-ones style.padding plain.padding) (costs-one 0x20 plain-space)
+
+-- ---- single cells
+
+no_spans : (p : Position) → single ≡ extent_at [] p
+unfolding extent_at
+no_spans p = refl
+
+good : (style : Compact) (texts : List (List (List ℕ))) (widths heights : List ℕ) → HasGoodSpans (table_grid (compact_look style) texts (λ _. None) widths heights) []
+good style texts widths heights =
+    let frame = frame_of (compact_look style) widths heights in
+    record { extents = fun_ext no_spans; positive = positive-none; good = good_without (row_count frame) (columns_of frame) }
+
+-- where there is a line there are rows and columns
+total-same : (frame : Frame) → 0 < line_count frame → total_width frame ≡ table_width frame
+total-same frame some = by (row_count frame == 0) (columns_of frame == 0) some
+  where
+    by : (a b : Bool) → 0 < (if a then 0 else if b then 0 else track_at frame.rows (row_count frame) + frame.look.margin.bottom.size) → total_width frame ≡ (if a || b then 0 else total_width frame)
+    by true b some = absurd (omega (arith, some))
+    by false true some = absurd (omega (arith, some))
+    by false false some = refl
+
+-- ---- how wide a table is
+
+sums-le : (p : ℕ) (ws : List ℕ) → ((k : ℕ) → k < length ws → p ≤ slice_index ws k) → sum (map (λ _. p) ws) ≤ sum ws
+sums-le p [] each = omega arith
+sums-le p (w ∷ ws) each =
+    let here : p ≤ w = each 0 (omega arith) in
+    let rest = sums-le p ws (λ k below. each (suc k) (omega (arith, below))) in
+    let one = sum_by-cons (λ n. n) w ws in
+    let other = sum_by-cons (λ n. n) p (map (λ _. p) ws) in
+    omega (arith, here, rest, one, other)
+
+total-sum : (sizes : List ℕ) (boundaries before behind : ℕ) → 0 < length sizes → total sizes boundaries before behind ≡ sum sizes + boundaries + before + behind
+total-sum [] boundaries before behind some = absurd (omega (arith, some))
+total-sum (size ∷ sizes) boundaries before behind some = refl
+
+module _ (style : Compact) (texts : List (List (List ℕ))) where
+  -- how much the table takes beside its columns
+  abbrev beside : ℕ → ℕ
+  beside n = boundary_count (has_column_boundary style.borders) n + style.margin.left.size + style.margin.right.size
+
+  sum-and-rest : (widths heights : List ℕ) → 0 < length widths → 0 < length heights → table_width (frame_of (compact_look style) widths heights) ≡ sum widths + beside (length widths)
+  sum-and-rest widths heights wide high =
+      let same = total-sum widths (boundary_count (has_column_boundary style.borders) (length widths)) style.margin.left.size style.margin.right.size wide in
+      let width = width-total style widths heights wide high in
+      omega (arith, same, width)
+
+  -- the least total is no more than the natural one
+  least-less : 0 < table_width (frame_under style texts) → table_width (narrowest_frame style texts) ≤ table_width (frame_under style texts)
+  least-less some =
+      let widths = widths_of style texts in
+      let heights = heights_of style texts in
+      let leasts = map (λ _. paddings style) widths in
+      let sizes = some-of-table style widths heights some in
+      let many : length leasts ≡ length widths = length-map widths (λ _. paddings style) in
+      let natural = sum-and-rest widths heights sizes.0 sizes.1 in
+      let least : table_width (narrowest_frame style texts) ≡ sum leasts + beside (length widths) = sum-and-rest leasts heights (omega (arith, many, sizes.0)) sizes.1 ∙ ap (λ n. sum leasts + beside n) many in
+      omega (arith, natural, least, sums-le (paddings style) widths (enough style texts sizes.1))
+
+  pub asked-total : (asked : Asked) (width : ℕ) → asked.width ≡ Some width → table_width (asked_frame style asked texts) ≡ min (table_width (frame_under style texts)) (max width (table_width (narrowest_frame style texts)))
+  asked-total asked width is =
+      elim (cases_lt width (table_width (frame_under style texts))) [
+        | inl less ↦ omega (arith, width-narrowed style asked texts width is less, least-less (omega (arith, less)))
+        | inr more ↦ let fits : table_width (frame_under style texts) ≤ width = omega (arith, more) in omega (arith, width-fitting style asked texts width is fits, fits)
+      ]
+
+-- ---- the table of a text
+
+module _ (wanted : Wanted) (input : List ℕ) where
+  pub total-asked : (width : ℕ) → wanted.asked.width ≡ Some width → table_width (grid_of wanted input).frame ≡ min (natural_total wanted input) (max width (least_total wanted input))
+  unfolding grid_of kept_of
+  total-asked width is = asked-total wanted.style (cell_parts input) wanted.asked width is
+
+  pub total-unasked : wanted.asked.width ≡ None → table_width (grid_of wanted input).frame ≡ natural_total wanted input
+  unfolding grid_of kept_of
+  total-unasked none = width-unasked wanted.style wanted.asked (cell_parts input) none
+
+  module _ (is : IsPlainInput input) where
+    abbrev texts : List (List (List ℕ))
+    texts = cell_parts input
+
+    abbrev style : Compact
+    style = wanted.style
+
+    -- as wide as it would be
+    abbrev unasked : Wanted
+    unasked = record wanted { asked = record wanted.asked { width = None } }
+
+    natural-room : first_too_wide (frame_under style texts) texts ≡ None
+    unfolding too_wide
+    natural-room =
+        let asked = unasked.asked in
+        let told : narrowed style asked texts ≡ None = refl in
+        sym (ap (λ (frame : Frame). first_too_wide frame (kept_texts style asked texts)) (frame-natural style asked texts told) ∙ ap (first_too_wide (frame_under style texts)) (kept-natural style asked texts told))
+        ∙ wide-same unasked input (whole_text input is.utf8 is.whole) ∙ unasked-never_wide unasked input refl
+
+    asked-room : (width : ℕ) → wanted.asked.width ≡ Some width → too_wide style wanted.asked texts ≡ None
+    asked-room width is_width =
+        elim (cases_lt width (table_width (frame_under style texts))) [
+          | inl less ↦ never-wide style wanted.asked texts (cells-are-plain input is) width is_width less
+          | inr more ↦
+              let fits : table_width (frame_under style texts) ≤ width = omega (arith, more) in
+              room-natural style wanted.asked texts (narrowed-none style wanted.asked (widths_of style texts) (table_width (frame_under style texts)) width is_width fits) natural-room
+        ]
+
+    all-room : (asked : Option ℕ) → wanted.asked.width ≡ asked → too_wide style wanted.asked texts ≡ None
+    all-room None none = wide-same wanted input (whole_text input is.utf8 is.whole) ∙ unasked-never_wide wanted input none
+    all-room (Some width) is_width = asked-room width is_width
+
+    pub none-too_wide : wide_cell wanted input ≡ None
+    none-too_wide = sym (wide-same wanted input (whole_text input is.utf8 is.whole)) ∙ all-room wanted.asked.width refl
+
+    pub even : IsPlain wanted.style → (y : ℕ) → y < line_count (grid_of wanted input).frame → columns (shown_chars (line_bytes wanted input y)) ≡ table_width (grid_of wanted input).frame
+    unfolding grid_of kept_of piece_bytes kept_texts too_wide
+    even plain y inside =
+        let asked = wanted.asked in
+        let kept = kept_texts style asked texts in
+        let widths = asked_widths style asked texts in
+        let heights = heights_of style kept in
+        let resize : ℕ → Resize = resize_in style asked (narrowed style asked texts) in
+        let shown = rows-plainly resize texts (cells-are-plain input is) in
+        ap (λ (bytes : List ℕ). columns (shown_chars bytes)) (sym (line-pieces style (bare style plain) kept widths heights y))
+        ∙ line-columns (compact_look style) kept widths heights (bare style plain) (ones style plain) shown [] y (good style kept widths heights) (room style kept widths heights (all-room wanted.asked.width refl))
+        ∙ total-same (frame_of (compact_look style) widths heights) (omega (arith, inside))

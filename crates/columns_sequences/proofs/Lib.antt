@@ -1,0 +1,10 @@
+pub mod SequenceCounts
+pub mod LineSequences
+pub mod RunSequences
+pub mod WideUnits
+pub mod PictureSums
+pub mod CellSums
+pub mod CutLines
+pub mod CellSequences
+pub mod CellsOfText
+pub mod OutputSequences

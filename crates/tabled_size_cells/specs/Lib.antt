@@ -1,0 +1,2 @@
+pub mod Resizing
+pub mod Resized
