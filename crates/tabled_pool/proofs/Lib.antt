@@ -1,0 +1,3 @@
+pub mod RunLemmas
+pub mod LineLemmas
+pub mod TextLemmas
