@@ -1,3 +1,0 @@
-pub mod RunLemmas
-pub mod LineLemmas
-pub mod TextLemmas

@@ -4,7 +4,7 @@ use Rattle.grid_config.specs.Looks.{Look}
 use Rattle.tabled_compact.specs.Tables.{begun_settings}
 use Rattle.tabled_multiline.specs.Multiline.{Multiline, multiline_look, multiline_of, over}
 use Rattle.tabled_multiline.specs.Takers.{takers_seen}
-use Rattle.tabled_pool.specs.Texts.{IsTooLarge, pool_text}
+use Rattle.tabled_pool_boxes.specs.Texts.{IsTooLarge, pool_text}
 use Rattle.tabled_pool.specs.declared.table.PoolTable.{PoolTable}
 use Rattle.tabled_pool_boxes.specs.Boxes.{Box, box_of}
 use Rattle.tabled_pool_boxes.specs.Values.{Layout, Text, Beside, Stacked, layout_of, members}

@@ -5,7 +5,6 @@ ghost use Rattle.tabled_pool.specs.Pools.{HasStepped, PassesRange, begun, pool_o
 ghost use Rattle.tabled_pool_boxes.specs.Values.{Text, layout_of};
 ghost use Rattle.tabled_steps.specs.Outcomes.{MayRefuse};
 
-use crate::text::pool_text;
 use grid_config::Fault;
 use grid_records_rows::EmptyRecords;
 use grid_records_rows::records::into_records::read_row;
@@ -13,7 +12,7 @@ use grid_records_traits::{Cell, IntoRecords};
 use std::alloc::{AllocError, Global};
 use tabled_compact::begun_config;
 use tabled_multiline::{CompactMultilineConfig, PoolSizes};
-use tabled_pool_boxes::TableValue;
+use tabled_pool_boxes::{TableValue, pool_text};
 use tabled_size_dimension::{DimensionPriority, PoolTableDimension};
 use tabled_steps::TableOption;
 

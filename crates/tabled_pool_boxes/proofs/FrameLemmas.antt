@@ -1,9 +1,9 @@
 -- A box drawn in its frame, onto lines that show nothing yet.
-use Rattle.std.proofs.Common.{◌≡◌, ℕ, ◌+◌, ◌-◌, ◌<◌, Bool, true, false, cond, List, [], ◌∷◌, ◌++◌, length, get_or, map, replicate, refl, ap, subst, sym, ◌∙◌, arith, append_assoc}
+use Rattle.std.proofs.Common.{◌≡◌, ℕ, ◌+◌, ◌-◌, ◌<◌, Bool, true, false, cond, List, [], ◌∷◌, ◌++◌, drop, length, get_or, map, replicate, take, refl, ap, subst, sym, ◌∙◌, arith, append_assoc}
 use Rattle.std.specs.Prelude.{nat_eq, nat_lt}
 use Rattle.std.specs.List.{range_with_len}
 use Rattle.std.proofs.lemmas.Bool.{le-ltb}
-use Rattle.std.proofs.lemmas.List.{get_or-replicate, length-map, length-replicate}
+use Rattle.std.proofs.lemmas.List.{get_or-replicate, length-map, length-replicate, take_all, take-append-le}
 use Rattle.std.proofs.lemmas.List.FromFn.{fill_by_all}
 use Rattle.grid_config.specs.Looks.{Look}
 use Rattle.grid_config_values.specs.Glyphs.{BoundaryKind, First, Last}
@@ -92,3 +92,10 @@ module _ (start now : Lines) (n : ℕ) (f : ℕ → Line) (empty : map line_shap
         let within : k < length start = omega (arith, long, h) in
         let none : shown_at start k ≡ [] = ap (λ l. get_or l k []) empty ∙ get_or-replicate n k [] [] h in
         adds.1 k within ∙ ap (λ l. l ++ f k) none)
+
+-- the same of a vector whose lines were drawn upon
+pub vector-shown : (items start new : Lines) (len n : ℕ) (f : ℕ → Line) → len ≡ length new → map line_shapes start ≡ replicate n [] → Adds start new f
+    → map line_shapes (take len (new ++ drop (length new) items)) ≡ map f (range_with_len 0 n)
+vector-shown items start new len n f is empty adds =
+    ap (map line_shapes) (take-append-le len new (drop (length new) items) (omega (arith, is)) ∙ take_all len new (omega (arith, is)))
+    ∙ lines-shown start new n f empty adds

@@ -4,3 +4,8 @@ pub mod Boxes
 pub mod Sizes
 pub mod Canvas
 pub mod Framed
+pub mod Crossings
+pub mod Runs
+pub mod Glyphs
+pub mod Texts
+pub mod Worked

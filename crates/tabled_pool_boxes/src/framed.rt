@@ -20,16 +20,16 @@ use tabled_size_dimension::PoolTableDimension;
 
 /// The lines of a value in its frame, from top to bottom, and the columns that each of them takes.
 #[derive(Drop)]
-pub struct Framed {
-    pub width: usize,
-    pub lines: Vec<Vec<Part>>,
+pub(crate) struct Framed {
+    pub(crate) width: usize,
+    pub(crate) lines: Vec<Vec<Part>>,
 }
 
 /// Draws a value in its frame, where each glyph of the frame and each gap between members that is there takes
 /// a column or a line; who takes what is left over in a row or a column is given. Refused as `Range` exactly
 /// where the width or the height of the frame passes `usize::MAX`, and as `Memory` where allocation fails.
 /// It recurses once a level of the value.
-pub fn draw_framed(
+pub(crate) fn draw_framed(
     alloc: Global,
     cfg: &SpannedConfig,
     takers: PoolTableDimension,

@@ -41,7 +41,7 @@ draw_row-overflow_add-given t c =
     omega (arith, sum, c.ranges.width.fits)
 
 pub draw_row-draw-requires : goal.draw_row-draw-requires
-draw_row-draw-requires t c κs within =
+draw_row-draw-requires t c =
     let look = look_of c.args.pen.now.cfg.now in
     let values = c.args.members.now.items in
     let list = c.deref-member-items.ensures.value in
@@ -175,7 +175,7 @@ draw_column-returns-clause-lines t c =
     (ap (λ o. c.args.height - o) c.requires.own) c.loop-i.invariant.1.3
 
 pub draw_column-draw-requires : goal.draw_column-draw-requires
-draw_column-draw-requires t c κs within =
+draw_column-draw-requires t c =
     let look = look_of c.args.pen.now.cfg.now in
     let takers = c.args.pen.now.takers in
     let values = c.args.members.now.items in
