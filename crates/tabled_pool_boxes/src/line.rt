@@ -129,7 +129,8 @@ fn push_text(out: &mut String, held: &mut Vec<GlyphRun<'_>>, text: &str) -> Resu
 {
     push_glyphs(out, held)?;
     held.clear();
-    out.push_str(text)
+    out.push_str(text)?;
+    Ok(())
 }
 
 // Appends a glyph: one that joins its neighbours is held back, any other stands by itself.

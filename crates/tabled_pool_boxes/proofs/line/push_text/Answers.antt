@@ -1,6 +1,5 @@
-use Rattle.std.proofs.Common.{◌≡◌, ◌++◌, ◌∷◌, List, None, false, map, refl, ap, subst, sym, ◌∙◌}
+use Rattle.std.proofs.Common.{◌≡◌, ◌++◌, ◌∷◌, None, false, map, refl, ap, subst, sym, ◌∙◌}
 use Rattle.std.specs.Prelude.{string_bytes}
-use Rattle.std.proofs.lemmas.Result.{on_ok_weaker}
 use Rattle.papergrid_cells.specs.Painting.{bare, glyph_part}
 use Rattle.papergrid_picture.specs.Reading.{line_items}
 use Rattle.tabled_pool_boxes.specs.Crossings.{Shape}
@@ -16,8 +15,6 @@ returns c =
     let shape : Shape = record { bytes = c.args.text.now; color = None; joins = false } in
     let first : mid ≡ out ++ line_items bare (map glyph_part c.args.held.now.items) =
       c.in_ok-push_glyphs.ensures ∙ ap (λ h. out ++ line_items bare (map glyph_part h)) c.deref.ensures.value in
-    on_ok_weaker {P = new ≡ mid ++ c.args.text.now} {Q = (behind : List Shape) → text_with new c.clear.new.self.items behind ≡ text_with out c.args.held.now.items (shape ∷ behind)} c.push_str.result
-    (λ pushed behind.
-      subst (λ h. text_with new h behind ≡ text_with out c.args.held.now.items (shape ∷ behind)) (sym c.clear.ensures.items)
-      (with-alone shape refl out mid new c.args.held.now.items first pushed behind))
-    c.push_str.ensures.bytes
+    λ behind.
+    subst (λ h. text_with new h behind ≡ text_with out c.args.held.now.items (shape ∷ behind)) (sym c.clear.ensures.items)
+    (with-alone shape refl out mid new c.args.held.now.items first c.in_ok-push_str.ensures.bytes behind)
