@@ -1,6 +1,6 @@
 -- Lines of parts as more is added to them.
 use Rattle.std.proofs.Common.{◌≡◌, ℕ, zero, suc, ◌+◌, ◌-◌, ◌<◌, ◌≤◌, Bool, true, false, cond, List, [], ◌∷◌, ◌++◌, length, get_or, map, set, refl, ap, sym, ◌∙◌, arith, append_assoc, append-nil, inl, inr}
-use Rattle.std.specs.Prelude.{Vec, nat_lt, ◌==◌, nat_eq}
+use Rattle.std.specs.Prelude.{Vec, nat_lt, nat_eq}
 use Rattle.std.specs.declared.alloc.Global.{Global}
 use Rattle.std.proofs.lemmas.Bool.{cases_lt, cases_eq, lt-ltb, le-ltb, eq-eqb, ne_eqb}
 use Rattle.std.proofs.lemmas.List.{length-set, map-append}
@@ -24,8 +24,8 @@ pub adds-more : (a b c : Lines) (f g : ℕ → Line) → Adds a b f → Adds b c
 adds-more a b c f g one two = (
   two.0 ∙ one.0,
   λ k inside.
-  let in_b : k < length b = omega (arith, one.0, inside) in
-  two.1 k in_b ∙ (ap (λ l. l ++ g k) (one.1 k inside) ∙ append_assoc (shown_at a k) (f k) (g k)),
+      let in_b : k < length b = omega (arith, one.0, inside) in
+      two.1 k in_b ∙ (ap (λ l. l ++ g k) (one.1 k inside) ∙ append_assoc (shown_at a k) (f k) (g k)),
 )
 
 -- what is there with what is left to add is what was there with all that is to be added
@@ -41,10 +41,10 @@ pub leads-more : (start : Lines) (all : ℕ → Line) (now next : Lines) (left a
 leads-more start all now next left added behind leads adds parted = record {
   long = adds.0 ∙ leads.long;
   shows = λ k inside.
-  let within : k < length now = omega (arith, leads.long, inside) in
-  ap (λ l. l ++ behind k) (adds.1 k within)
-  ∙ (append_assoc (shown_at now k) (added k) (behind k)
-  ∙ (ap (λ l. shown_at now k ++ l) (sym (parted k)) ∙ leads.shows k inside));
+      let within : k < length now = omega (arith, leads.long, inside) in
+      ap (λ l. l ++ behind k) (adds.1 k within)
+      ∙ (append_assoc (shown_at now k) (added k) (behind k)
+      ∙ (ap (λ l. shown_at now k ++ l) (sym (parted k)) ∙ leads.shows k inside));
 }
 
 pub leads-end : (start : Lines) (all : ℕ → Line) (now : Lines) (left : ℕ → Line) → Leads start all now left → ((k : ℕ) → left k ≡ []) → Adds start now all
@@ -92,8 +92,8 @@ module _ (a b : ℕ) (f : ℕ → Line) (k : ℕ) where
   pub from-from : from_line a (from_line b f) k ≡ from_line (a + b) f k
   from-from =
       elim (cases_lt k a) [
-        inl h ↦ above-both h
-      | inr h ↦ elim (cases_lt (k - a) b) [ inl g ↦ above-second h g | inr g ↦ below-both h g ]
+        | inl h ↦ above-both h
+        | inr h ↦ elim (cases_lt (k - a) b) [ inl g ↦ above-second h g | inr g ↦ below-both h g ]
       ]
 
 -- one line more
@@ -108,16 +108,16 @@ module _ (top n : ℕ) (parts : ℕ → Line) (k : ℕ) where
   pub one-more : Goal
   one-more =
       elim (cases_lt k top) [
-        inl h ↦ by-tests true (nat_lt (k - top) (n + 1)) (nat_lt (k - top) n) false (lt-ltb k top h) refl refl (ne_eqb k (top + n) (λ e. omega (arith, h, e))) refl
-      | inr h ↦ elim (cases_lt (k - top) n) [
-          inl g ↦ by-tests false true true false (le-ltb k top h) (lt-ltb (k - top) (n + 1) (omega (arith, g))) (lt-ltb (k - top) n g) (ne_eqb k (top + n) (λ e. omega (arith, h, g, e))) (sym (append-nil (parts (k - top))))
-        | inr g ↦ elim (cases_eq k (top + n)) [
-            inl e ↦
-              let here : k - top ≡ n = omega (arith, h, e) in
-              by-tests false true false true (le-ltb k top h) (lt-ltb (k - top) (n + 1) (omega (arith, h, e))) (le-ltb (k - top) n g) (eq-eqb k (top + n) e) (ap parts here)
-          | inr e ↦
-              let past : n + 1 ≤ k - top = omega (arith, h, g, e) in
-              by-tests false false false false (le-ltb k top h) (le-ltb (k - top) (n + 1) past) (le-ltb (k - top) n g) (ne_eqb k (top + n) e) refl
+        | inl h ↦ by-tests true (nat_lt (k - top) (n + 1)) (nat_lt (k - top) n) false (lt-ltb k top h) refl refl (ne_eqb k (top + n) (λ e. omega (arith, h, e))) refl
+        | inr h ↦ elim (cases_lt (k - top) n) [
+          | inl g ↦ by-tests false true true false (le-ltb k top h) (lt-ltb (k - top) (n + 1) (omega (arith, g))) (lt-ltb (k - top) n g) (ne_eqb k (top + n) (λ e. omega (arith, h, g, e))) (sym (append-nil (parts (k - top))))
+          | inr g ↦ elim (cases_eq k (top + n)) [
+            | inl e ↦
+                let here : k - top ≡ n = omega (arith, h, e) in
+                by-tests false true false true (le-ltb k top h) (lt-ltb (k - top) (n + 1) (omega (arith, h, e))) (le-ltb (k - top) n g) (eq-eqb k (top + n) e) (ap parts here)
+            | inr e ↦
+                let past : n + 1 ≤ k - top = omega (arith, h, g, e) in
+                by-tests false false false false (le-ltb k top h) (le-ltb (k - top) (n + 1) past) (le-ltb (k - top) n g) (ne_eqb k (top + n) e) refl
           ]
         ]
       ]
@@ -146,22 +146,22 @@ pub adds-part : (before after : Lines) (i : ℕ) (old line : Vec Part Global) (p
 adds-part before after i old line part inside pushed made = (
   ap length made ∙ length-set before i line,
   λ k within.
-  elim (cases_eq k i) [
-    inl e ↦
-      ap (λ l. shown_at l k) made
-      ∙ (ap (λ j. shown_at (set before i line) j) e
-      ∙ (same-line before i line inside
-      ∙ (ap (map shape_of) pushed
-      ∙ (map-append shape_of (get_or before i old).items (part ∷ [])
-      ∙ (ap (λ l. l ++ shape_of part ∷ []) (sym (read-line before i old inside))
-      ∙ (ap (λ j. shown_at before j ++ shape_of part ∷ []) (sym e)
-      ∙ ap (λ t. shown_at before k ++ cond t (shape_of part ∷ []) []) (sym (eq-eqb k i e))))))))
-  | inr ne ↦
-      ap (λ l. shown_at l k) made
-      ∙ (other-line before i k line ne
-      ∙ (sym (append-nil (shown_at before k))
-      ∙ ap (λ t. shown_at before k ++ cond t (shape_of part ∷ []) []) (sym (ne_eqb k i ne))))
-  ],
+      elim (cases_eq k i) [
+        | inl e ↦
+            ap (λ l. shown_at l k) made
+            ∙ (ap (λ j. shown_at (set before i line) j) e
+            ∙ (same-line before i line inside
+            ∙ (ap (map shape_of) pushed
+            ∙ (map-append shape_of (get_or before i old).items (part ∷ [])
+            ∙ (ap (λ l. l ++ shape_of part ∷ []) (sym (read-line before i old inside))
+            ∙ (ap (λ j. shown_at before j ++ shape_of part ∷ []) (sym e)
+            ∙ ap (λ t. shown_at before k ++ cond t (shape_of part ∷ []) []) (sym (eq-eqb k i e))))))))
+        | inr ne ↦
+            ap (λ l. shown_at l k) made
+            ∙ (other-line before i k line ne
+            ∙ (sym (append-nil (shown_at before k))
+            ∙ ap (λ t. shown_at before k ++ cond t (shape_of part ∷ []) []) (sym (ne_eqb k i ne))))
+      ],
 )
 
 -- ---- one part in each of some lines

@@ -1,5 +1,5 @@
 -- Values drawn onto lines: a row and a column, member by member.
-use Rattle.std.proofs.Common.{◌≡◌, ℕ, zero, suc, ◌+◌, ◌-◌, ◌*◌, ◌/◌, ◌%◌, ◌<◌, ◌≤◌, Bool, true, false, cond, List, [], ◌∷◌, ◌++◌, drop, get_or, length, map, max, replicate, refl, ap, subst, sym, ◌∙◌, arith, rules, append_assoc, inl, inr}
+use Rattle.std.proofs.Common.{◌≡◌, ℕ, zero, suc, ◌+◌, ◌-◌, ◌*◌, ◌/◌, ◌%◌, ◌<◌, ◌≤◌, Bool, true, false, cond, List, [], ◌∷◌, ◌++◌, drop, get_or, length, replicate, refl, ap, subst, sym, ◌∙◌, arith, rules, append_assoc, inl, inr}
 use Rattle.std.specs.Prelude.{nat_lt, nat_eq, String, Vec, string_bytes}
 use Rattle.std.specs.declared.alloc.Global.{Global}
 use Rattle.std.proofs.lemmas.Bool.{cases_lt, cases_eq, lt-ltb, le-ltb, eq-eqb, ne_eqb}
@@ -7,13 +7,12 @@ use Rattle.std.proofs.lemmas.List.{append_cancel_left, drop_all}
 use Rattle.std.proofs.lemmas.Nat.{div-add-mod', mod_below}
 use Rattle.grid_config.specs.Looks.{Look}
 use Rattle.grid_config_values.specs.Glyphs.{Between}
-use Rattle.papergrid_picture.specs.Blocks.{greatest}
 use Rattle.tabled_size_dimension.specs.declared.priority.DimensionPriority.{DimensionPriority}
 use Rattle.tabled_size_dimension.specs.declared.priority.DimensionPriority.TheVariants.{First, Last, List as Each}
 use Rattle.tabled_size_dimension.specs.Takers.{Takers}
 use Rattle.tabled_pool_boxes.specs.declared.size.Size.{Size}
 use Rattle.tabled_pool_boxes.specs.declared.value.TableValue.{TableValue, Row, Column, Cell, the_lemmas}
-use Rattle.tabled_pool_boxes.specs.Boxes.{Box, Level, Part, Upright, box_of, boxes_of, column_from, column_height, first_lines, from_line, gap, gaps, has_level, has_upright, level_before, row_from, row_width, upright_before}
+use Rattle.tabled_pool_boxes.specs.Boxes.{Level, Upright, box_of, boxes_of, column_from, column_height, first_lines, from_line, gap, gaps, has_level, has_upright, level_before, row_from, upright_before}
 use Rattle.tabled_pool_boxes.specs.Canvas.{Adds, BeginWith}
 use Rattle.tabled_pool_boxes.specs.Sizes.{size_of, sizes_of}
 use Rattle.tabled_pool_boxes.specs.Shares.{share}
@@ -47,7 +46,7 @@ module _ (look : Look) (takers : Takers) (n beyond height : ℕ) where
     row_step top start all now mid next leads first second =
         leads-more start all mid next (λ k. from_line top member_line k ++ from_line top (row_left (i + 1) (drop (i + 1) values)) k) (from_line top member_line) (from_line top (row_left (i + 1) (drop (i + 1) values)))
         (leads-more start all now mid (from_line top (row_left i (drop i values))) (from_line top (upright_before look i height))
-            (λ k. from_line top member_line k ++ from_line top (row_left (i + 1) (drop (i + 1) values)) k) leads first (row_parted top))
+        (λ k. from_line top member_line k ++ from_line top (row_left (i + 1) (drop (i + 1) values)) k) leads first (row_parted top))
         second (λ k. refl)
 
 -- ---- a column
@@ -87,7 +86,7 @@ module _ (look : Look) (takers : Takers) (n beyond width : ℕ) where
     column_step base start all now mid next leads first second =
         leads-more start all mid next (λ k. from_line (base + below) stacked_line k ++ from_line base rest k) (from_line (base + below) stacked_line) (from_line base rest)
         (leads-more start all now mid (from_line base (column_left i top (drop i values))) (from_line (base + top) (level_before look i width))
-            (λ k. from_line (base + below) stacked_line k ++ from_line base rest k) leads first (column_parted base))
+        (λ k. from_line (base + below) stacked_line k ++ from_line base rest k) leads first (column_parted base))
         second (λ k. refl)
 
 -- ---- who takes what is left over
@@ -117,14 +116,14 @@ module _ (beyond n : ℕ) where
   each i (suc k) ends small =
       let others = each (i + 1) k (omega (arith, ends)) small in
       elim (cases_lt i (beyond % n)) [
-        inl h ↦
-          let one : share Each beyond n i ≡ beyond / n + 1 = ap (λ t. beyond / n + cond t 1 0) (lt-ltb i (beyond % n) h) in
-          let more : suc k * (beyond / n) ≡ beyond / n + k * (beyond / n) = grind arith in
-          omega (arith, one, others, more, h)
-      | inr h ↦
-          let one : share Each beyond n i ≡ beyond / n + 0 = ap (λ t. beyond / n + cond t 1 0) (le-ltb i (beyond % n) h) in
-          let more : suc k * (beyond / n) ≡ beyond / n + k * (beyond / n) = grind arith in
-          omega (arith, one, others, more, h)
+        | inl h ↦
+            let one : share Each beyond n i ≡ beyond / n + 1 = ap (λ t. beyond / n + cond t 1 0) (lt-ltb i (beyond % n) h) in
+            let more : suc k * (beyond / n) ≡ beyond / n + k * (beyond / n) = grind arith in
+            omega (arith, one, others, more, h)
+        | inr h ↦
+            let one : share Each beyond n i ≡ beyond / n + 0 = ap (λ t. beyond / n + cond t 1 0) (le-ltb i (beyond % n) h) in
+            let more : suc k * (beyond / n) ≡ beyond / n + k * (beyond / n) = grind arith in
+            omega (arith, one, others, more, h)
       ]
 
 -- all members take all that is left over
@@ -142,19 +141,22 @@ shares-all Each beyond k =
 -- no member takes more
 pub share-within : (taker : DimensionPriority) (beyond n i : ℕ) → i < n → share taker beyond n i ≤ beyond
 share-within First beyond n i inside = elim (cases_eq i 0) [
-    inl e ↦ let is : share First beyond n i ≡ beyond = ap (λ t. cond t beyond 0) (eq-eqb i 0 e) in omega (arith, is)
-  | inr e ↦ let is : share First beyond n i ≡ 0 = ap (λ t. cond t beyond 0) (ne_eqb i 0 e) in omega (arith, is) ]
+  | inl e ↦ let is : share First beyond n i ≡ beyond = ap (λ t. cond t beyond 0) (eq-eqb i 0 e) in omega (arith, is)
+  | inr e ↦ let is : share First beyond n i ≡ 0 = ap (λ t. cond t beyond 0) (ne_eqb i 0 e) in omega (arith, is)
+]
 share-within Last beyond n i inside = elim (cases_eq (i + 1) n) [
-    inl e ↦ let is : share Last beyond n i ≡ beyond = ap (λ t. cond t beyond 0) (eq-eqb (i + 1) n e) in omega (arith, is)
-  | inr e ↦ let is : share Last beyond n i ≡ 0 = ap (λ t. cond t beyond 0) (ne_eqb (i + 1) n e) in omega (arith, is) ]
+  | inl e ↦ let is : share Last beyond n i ≡ beyond = ap (λ t. cond t beyond 0) (eq-eqb (i + 1) n e) in omega (arith, is)
+  | inr e ↦ let is : share Last beyond n i ≡ 0 = ap (λ t. cond t beyond 0) (ne_eqb (i + 1) n e) in omega (arith, is)
+]
 share-within Each beyond zero i inside = absurd (omega (arith, inside))
 share-within Each beyond (suc m) i inside =
     let n = suc m in
     let parts : beyond / n * n + beyond % n ≡ beyond = div-add-mod' beyond n in
     let many : beyond / n * n ≡ beyond / n + beyond / n * m = grind arith in
     elim (cases_lt i (beyond % n)) [
-      inl h ↦ let is : share Each beyond n i ≡ beyond / n + 1 = ap (λ t. beyond / n + cond t 1 0) (lt-ltb i (beyond % n) h) in omega (arith, is, parts, many, h)
-    | inr h ↦ let is : share Each beyond n i ≡ beyond / n + 0 = ap (λ t. beyond / n + cond t 1 0) (le-ltb i (beyond % n) h) in omega (arith, is, parts, many) ]
+      | inl h ↦ let is : share Each beyond n i ≡ beyond / n + 1 = ap (λ t. beyond / n + cond t 1 0) (lt-ltb i (beyond % n) h) in omega (arith, is, parts, many, h)
+      | inr h ↦ let is : share Each beyond n i ≡ beyond / n + 0 = ap (λ t. beyond / n + cond t 1 0) (le-ltb i (beyond % n) h) in omega (arith, is, parts, many)
+    ]
 
 -- ---- the lines of a column
 
@@ -254,9 +256,9 @@ row_end look takers (value ∷ values) top width height n beyond i start now som
     let long : length boxes ≡ length all = lengths look all in
     adds-as start now (from_line top (row_left look takers n beyond height 0 all)) (from_line top ((box_of look (Beside (layouts_of all))).line takers width height))
     (leads-end start (from_line top (row_left look takers n beyond height 0 all)) now (from_line top (row_left look takers n beyond height i (drop i all))) leads
-        (λ k. nothing (nat_lt k top) (row_left look takers n beyond height i (drop i all) (k - top)) (no-more (λ vs. row_left look takers n beyond height i vs (k - top)) all i i_is)))
+    (λ k. nothing (nat_lt k top) (row_left look takers n beyond height i (drop i all) (k - top)) (no-more (λ vs. row_left look takers n beyond height i vs (k - top)) all i i_is)))
     (λ k. ap (λ m. from_line top (row_left look takers m beyond height 0 all) k) (n_is ∙ sym long)
-        ∙ ap (λ b. from_line top (row_left look takers (length boxes) b height 0 all) k) beyond_is)
+    ∙ ap (λ b. from_line top (row_left look takers (length boxes) b height 0 all) k) beyond_is)
 
 pub column_end : (look : Look) (takers : Takers) (values : List TableValue) (base width height n beyond i top : ℕ) (start now : Lines) → 0 < length values → n ≡ length values → i ≡ length values
     → beyond ≡ height - (box_of look (Stacked (layouts_of values))).height
@@ -269,9 +271,9 @@ column_end look takers (value ∷ values) base width height n beyond i top start
     let long : length boxes ≡ length all = lengths look all in
     adds-as start now (from_line base (column_left look takers n beyond width 0 0 all)) (from_line base ((box_of look (Stacked (layouts_of all))).line takers width height))
     (leads-end start (from_line base (column_left look takers n beyond width 0 0 all)) now (from_line base (column_left look takers n beyond width i top (drop i all))) leads
-        (λ k. nothing (nat_lt k base) (column_left look takers n beyond width i top (drop i all) (k - base)) (no-more (λ vs. column_left look takers n beyond width i top vs (k - base)) all i i_is)))
+    (λ k. nothing (nat_lt k base) (column_left look takers n beyond width i top (drop i all) (k - base)) (no-more (λ vs. column_left look takers n beyond width i top vs (k - base)) all i i_is)))
     (λ k. ap (λ m. from_line base (column_left look takers m beyond width 0 0 all) k) (n_is ∙ sym long)
-        ∙ ap (λ b. from_line base (column_left look takers (length boxes) b width 0 0 all) k) beyond_is)
+    ∙ ap (λ b. from_line base (column_left look takers (length boxes) b width 0 0 all) k) beyond_is)
 
 -- ---- before a member
 

@@ -1,5 +1,5 @@
 -- A box drawn in its frame, onto lines that show nothing yet.
-use Rattle.std.proofs.Common.{◌≡◌, ℕ, ◌+◌, ◌-◌, ◌<◌, Bool, true, false, cond, List, [], ◌∷◌, ◌++◌, drop, length, get_or, map, replicate, take, refl, ap, subst, sym, ◌∙◌, arith, append_assoc}
+use Rattle.std.proofs.Common.{◌≡◌, ℕ, ◌+◌, ◌-◌, ◌<◌, Bool, true, false, cond, [], ◌∷◌, ◌++◌, drop, length, get_or, map, replicate, take, refl, ap, subst, sym, ◌∙◌, arith, append_assoc}
 use Rattle.std.specs.Prelude.{nat_eq, nat_lt}
 use Rattle.std.specs.List.{range_with_len}
 use Rattle.std.proofs.lemmas.Bool.{le-ltb}
@@ -70,11 +70,11 @@ module _ (look : Look) (takers : Takers) (box : Box) where
       → Adds l4 l5 (from_line (top + box.height) below) → Adds l0 l5 (framed_line look takers box)
   all-framed l0 l1 l2 l3 l4 l5 a1 a2 a3 a4 a5 =
       let sides : Adds l1 l4 (from_line top (between_sides look takers box)) =
-        adds-as l1 l4 (λ k. (from_line top left k ++ from_line top inner k) ++ from_line top right k) (from_line top (between_sides look takers box))
-        (adds-more l1 l3 l4 (λ k. from_line top left k ++ from_line top inner k) (from_line top right) (adds-more l1 l2 l3 (from_line top left) (from_line top inner) a2 a3) a4)
-        sides-parted in
+      adds-as l1 l4 (λ k. (from_line top left k ++ from_line top inner k) ++ from_line top right k) (from_line top (between_sides look takers box))
+      (adds-more l1 l3 l4 (λ k. from_line top left k ++ from_line top inner k) (from_line top right) (adds-more l1 l2 l3 (from_line top left) (from_line top inner) a2 a3) a4)
+      sides-parted in
       let behind : Adds l1 l5 (λ k. from_line top (between_sides look takers box) k ++ from_line (top + box.height) below k) =
-        adds-more l1 l4 l5 (from_line top (between_sides look takers box)) (from_line (top + box.height) below) sides a5 in
+      adds-more l1 l4 l5 (from_line top (between_sides look takers box)) (from_line (top + box.height) below) sides a5 in
       adds-as l0 l5 (λ k. from_line 0 above k ++ (from_line top (between_sides look takers box) k ++ from_line (top + box.height) below k)) (framed_line look takers box)
       (adds-more l0 l1 l5 (from_line 0 above) (λ k. from_line top (between_sides look takers box) k ++ from_line (top + box.height) below k) a1 behind)
       (λ k. ap (λ l. l ++ (from_line top (between_sides look takers box) k ++ from_line (top + box.height) below k)) (from-zero above k))
@@ -89,9 +89,9 @@ module _ (start now : Lines) (n : ℕ) (f : ℕ → Line) (empty : map line_shap
   lines-shown =
       fill_by_all f (map line_shapes now) n [] (length-map now line_shapes ∙ (adds.0 ∙ long))
       (λ k h.
-        let within : k < length start = omega (arith, long, h) in
-        let none : shown_at start k ≡ [] = ap (λ l. get_or l k []) empty ∙ get_or-replicate n k [] [] h in
-        adds.1 k within ∙ ap (λ l. l ++ f k) none)
+      let within : k < length start = omega (arith, long, h) in
+      let none : shown_at start k ≡ [] = ap (λ l. get_or l k []) empty ∙ get_or-replicate n k [] [] h in
+      adds.1 k within ∙ ap (λ l. l ++ f k) none)
 
 -- the same of a vector whose lines were drawn upon
 pub vector-shown : (items start new : Lines) (len n : ℕ) (f : ℕ → Line) → len ≡ length new → map line_shapes start ≡ replicate n [] → Adds start new f

@@ -1,5 +1,5 @@
 -- A line is printed part by part.
-use Rattle.std.proofs.Common.{◌≡◌, ℕ, zero, suc, ◌+◌, ◌<◌, ◌≤◌, List, [], ◌∷◌, ◌++◌, drop, get_or, length, map, replicate, refl, ap, sym, ◌∙◌, arith, append_assoc, append-nil, flat_map}
+use Rattle.std.proofs.Common.{◌≡◌, ℕ, zero, suc, ◌+◌, ◌<◌, ◌≤◌, List, [], ◌∷◌, ◌++◌, drop, get_or, length, map, replicate, refl, ap, sym, ◌∙◌, arith, append_assoc}
 use Rattle.std.specs.Prelude.{Vec}
 use Rattle.std.specs.declared.alloc.Global.{Global}
 use Rattle.std.specs.List.{range_with_len}
@@ -41,7 +41,7 @@ module _ (parts : List Part) (i : ℕ) (part : Part) (inside : i < length parts)
       → (x + part_width (shape_of part) ≤ columns) × (x + part_width (shape_of part) + length (marks (map shape_of (drop (i + 1) parts))) ≡ columns)
   within-marks x columns so =
       let more : length (marks (map shape_of (drop i parts))) ≡ part_width (shape_of part) + length (marks (map shape_of (drop (i + 1) parts))) =
-        next-part (λ l. length (marks l)) ∙ marks-cons (shape_of part) (map shape_of (drop (i + 1) parts)) in
+      next-part (λ l. length (marks l)) ∙ marks-cons (shape_of part) (map shape_of (drop (i + 1) parts)) in
       (omega (arith, more, so), omega (arith, more, so))
 
   pub printed-more : (look : Look) (around : Around) (x : ℕ) (out new : List ℕ) (held after : List GlyphRun)

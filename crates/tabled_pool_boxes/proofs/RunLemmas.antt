@@ -12,7 +12,7 @@ use Rattle.grid_config_colors.specs.declared.borrowed.ANSIStr.{ANSIStr}
 use Rattle.papergrid_cells.specs.Painting.{bare, colored, glyph_part}
 use Rattle.papergrid_cells.specs.declared.painting.GlyphRun.{GlyphRun}
 use Rattle.papergrid_picture.specs.Blocks.{Part as Piece}
-use Rattle.papergrid_picture.specs.Reading.{continues, is_glyph, is_shown, line_items, part_items, run_items, same_color, onto_runs as onto_piece_runs, runs_of as piece_runs}
+use Rattle.papergrid_picture.specs.Reading.{continues, is_glyph, is_shown, line_items, run_items, same_color, onto_runs as onto_piece_runs, runs_of as piece_runs}
 use Rattle.tabled_pool_boxes.specs.Crossings.{Shape}
 use Rattle.tabled_pool_boxes.specs.Runs.{goes_on, held_shapes, line_bytes, onto_runs, piece_shape, run_bytes, runs_of, text_with}
 

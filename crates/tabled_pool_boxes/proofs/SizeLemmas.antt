@@ -1,5 +1,5 @@
 -- What the lines of a text measure, and the sizes of several boxes.
-use Rattle.std.proofs.Common.{◌≡◌, ℕ, zero, suc, ◌+◌, ◌^◌, ◌<◌, ◌≤◌, Bool, false, true≢false, List, [], ◌∷◌, ◌++◌, drop, get_or, length, map, max, set, take, refl, ap, sym, ◌∙◌, arith, append_assoc, append-nil}
+use Rattle.std.proofs.Common.{◌≡◌, ℕ, zero, suc, ◌+◌, ◌^◌, ◌<◌, ◌≤◌, Bool, false, true≢false, List, [], ◌∷◌, ◌++◌, drop, get_or, length, map, max, set, refl, ap, sym, ◌∙◌, arith, append_assoc, append-nil}
 use Rattle.std.specs.Prelude.{nat_eq}
 use Rattle.std.specs.List.{sum_by}
 use Rattle.std.proofs.lemmas.List.Sums.{sum_by-cons}
@@ -157,6 +157,5 @@ module _ (look : Look) where
   sizes-end values all old start now first own i same past begun sizes =
       let none : all_sizes (drop i values) ≡ [] = ap all_sizes (drop_all i values past) in
       let now_is : now ≡ old ++ first ∷ all_sizes values =
-        sym (append-nil now) ∙ (ap (λ l. now ++ l) (sym none) ∙ (sizes ∙ (ap (λ l. l ++ all_sizes values) begun ∙ append_assoc old (first ∷ []) (all_sizes values)))) in
+      sym (append-nil now) ∙ (ap (λ l. now ++ l) (sym none) ∙ (sizes ∙ (ap (λ l. l ++ all_sizes values) begun ∙ append_assoc old (first ∷ []) (all_sizes values)))) in
       ap (λ l. set l (length old) own) now_is ∙ (set-behind old (all_sizes values) first own ∙ ap (λ vs. old ++ own ∷ all_sizes vs) same)
-

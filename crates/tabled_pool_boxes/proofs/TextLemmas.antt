@@ -1,5 +1,5 @@
 -- The lines of a cell in its place.
-use Rattle.std.proofs.Common.{◌≡◌, ℕ, ◌+◌, ◌-◌, ◌<◌, ◌≤◌, Bool, true, false, cond, List, [], ◌∷◌, Option, None, length, refl, ap, sym, ◌∙◌, arith, append-nil, inl, inr, flat_map}
+use Rattle.std.proofs.Common.{◌≡◌, ℕ, ◌-◌, ◌<◌, ◌≤◌, true, false, cond, List, [], ◌∷◌, Option, None, length, refl, ap, sym, ◌∙◌, arith, append-nil, inl, inr, flat_map}
 use Rattle.std.specs.Prelude.{nat_lt}
 use Rattle.std.specs.Option.{option_map}
 use Rattle.std.proofs.lemmas.Bool.{cases_lt, lt-ltb, le-ltb}
@@ -9,9 +9,9 @@ use Rattle.grid_config.specs.Colors.{color_of}
 use Rattle.grid_config_colors.specs.declared.borrowed.ANSIStr.{ANSIStr}
 use Rattle.grid_config.specs.Looks.{Look}
 use Rattle.papergrid_picture.specs.Frame.{frame_of}
-use Rattle.papergrid_picture.specs.Picture.{at, blank}
+use Rattle.papergrid_picture.specs.Picture.{at}
 use Rattle.papergrid_picture.specs.Blocks.{Part as Piece, Grid, fill, free_above, text_line}
-use Rattle.papergrid_cells.specs.BlockLines.{alone as alone_in, alone_bytes, kind_at, line_kind, line_parts, part_bytes, text_of}
+use Rattle.papergrid_cells.specs.BlockLines.{alone_bytes, kind_at, line_kind, line_parts, part_bytes, text_of}
 use Rattle.papergrid_cells.specs.Painting.{fill_bytes}
 use Rattle.papergrid_cells.specs.Shown.{measures_of, texts_of}
 use Rattle.papergrid_cells.specs.declared.block.BlockLine.{BlockLine}
@@ -71,22 +71,22 @@ module _ (look : Look) (measures : List ℕ) (width height y above : ℕ) (is : 
       let grid = alone look measures in
       let e0 : nat_lt y above ≡ false = le-ltb y above h in
       let shown : parts_with above ≡ line_parts grid (at 0 0) width (kind_at top 0 count 0 bottom k) =
-        elim (cases_lt k top) [
-          inl h1 ↦ let e1 : nat_lt k top ≡ true = lt-ltb k top h1 in rw (e0, e1) refl
+      elim (cases_lt k top) [
+        | inl h1 ↦ let e1 : nat_lt k top ≡ true = lt-ltb k top h1 in rw (e0, e1) refl
         | inr h1 ↦
             let e1 : nat_lt k top ≡ false = le-ltb k top h1 in
             let z1 : nat_lt (k - top) 0 ≡ false = le-ltb (k - top) 0 (omega arith) in
             let s1 : k - top - 0 ≡ k - top = omega arith in
             elim (cases_lt (k - top) count) [
-              inl h2 ↦ let e2 : nat_lt (k - top) count ≡ true = lt-ltb (k - top) count h2 in rw (e0, e1, z1, s1, e2) refl
-            | inr h2 ↦
-                let e2 : nat_lt (k - top) count ≡ false = le-ltb (k - top) count h2 in
-                let z2 : nat_lt (k - top - count) 0 ≡ false = le-ltb (k - top - count) 0 (omega arith) in
-                let s2 : k - top - count - 0 ≡ k - top - count = omega arith in
-                let e3 : nat_lt (k - top - count) bottom ≡ true = lt-ltb (k - top - count) bottom (omega (arith, g, h1, h2)) in
-                rw (e0, e1, z1, s1, e2, z2, s2, e3) refl
+              | inl h2 ↦ let e2 : nat_lt (k - top) count ≡ true = lt-ltb (k - top) count h2 in rw (e0, e1, z1, s1, e2) refl
+              | inr h2 ↦
+                  let e2 : nat_lt (k - top) count ≡ false = le-ltb (k - top) count h2 in
+                  let z2 : nat_lt (k - top - count) 0 ≡ false = le-ltb (k - top - count) 0 (omega arith) in
+                  let s2 : k - top - count - 0 ≡ k - top - count = omega arith in
+                  let e3 : nat_lt (k - top - count) bottom ≡ true = lt-ltb (k - top - count) bottom (omega (arith, g, h1, h2)) in
+                  rw (e0, e1, z1, s1, e2, z2, s2, e3) refl
             ]
-        ] in
+      ] in
       parts-is ∙ (shown ∙ ap (line_parts grid (at 0 0) width) (sym (kind-is k)))
 
 -- ---- in bytes

@@ -10,7 +10,6 @@ use Rattle.tabled_pool_boxes.specs.Boxes.{Box, Part}
 use Rattle.tabled_pool_boxes.specs.Framed.{framed_height, framed_lines, framed_width}
 use Rattle.tabled_pool_boxes.specs.Crossings.{Around, marks, shapes_from}
 use Rattle.tabled_pool_boxes.specs.Runs.{line_bytes}
-use Rattle.tabled_pool_boxes.specs.declared.marks.Mark.{Mark}
 
 -- ---- lines
 

@@ -17,7 +17,12 @@ pub(crate) struct Pen<'a> {
 }
 
 /// Draws one column of an upright line, from line `top` on. Fails only where allocation fails.
-pub(crate) fn draw_upright(edge: Edge, top: usize, height: usize, lines: &mut [Vec<Part>]) -> Result<(), AllocError>
+pub(crate) fn draw_upright(
+    edge: Edge,
+    top: usize,
+    height: usize,
+    lines: &mut [Vec<Part>],
+) -> Result<(), AllocError>
     requires inside { top + height ≤ length lines.old }
     ensures { OnOk result (Adds lines.old lines.new (from_line top (first_lines height (λ _. Upright (kind_of edge) ∷ [])))) }
 {

@@ -41,8 +41,12 @@ pub(crate) fn draw<'s>(
             draw_text(pen, text, top, width, height, lines)?;
             Ok(rest)
         }
-        TableValue::Row(members) => draw_row(pen, members, own.width, rest, top, width, height, lines),
-        TableValue::Column(members) => draw_column(pen, members, own.height, rest, top, width, height, lines),
+        TableValue::Row(members) => draw_row(
+            pen, members, own.width, rest, top, width, height, lines,
+        ),
+        TableValue::Column(members) => draw_column(
+            pen, members, own.height, rest, top, width, height, lines,
+        ),
     }
 }
 

@@ -46,7 +46,15 @@ pub(crate) fn draw_framed(
     let frame = framed_size(cfg, own.width, own.height)?;
     let mut lines = empty_lines(alloc, frame.height)?;
     let pen = Pen { alloc, cfg, takers };
-    draw_frame(&pen, value, &sizes, own.width, own.height, frame.width, &mut lines)?;
+    draw_frame(
+        &pen,
+        value,
+        &sizes,
+        own.width,
+        own.height,
+        frame.width,
+        &mut lines,
+    )?;
     Ok(Framed {
         width: frame.width,
         lines,
@@ -109,7 +117,13 @@ fn draw_frame(
     draw_side(pen.cfg.has_vertical(0, 1), Edge::First, top, height, lines)?;
     draw(pen, value, sizes, top, width, height, lines)?;
     draw_side(pen.cfg.has_vertical(1, 1), Edge::Last, top, height, lines)?;
-    draw_outer_level(pen.cfg.has_horizontal(1, 1), Edge::Last, top + height, frame, lines)
+    draw_outer_level(
+        pen.cfg.has_horizontal(1, 1),
+        Edge::Last,
+        top + height,
+        frame,
+        lines,
+    )
 }
 
 // Draws a side of the frame, where it is there.

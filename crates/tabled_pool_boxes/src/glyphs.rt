@@ -9,9 +9,9 @@ ghost use Rattle.tabled_pool_boxes.specs.Glyphs.{around_of, found_shape};
 ghost use Rattle.tabled_pool_boxes.specs.Canvas.{kind_of};
 
 use crate::marks::{Mark, mark_at, mark_before};
+use crate::part::Edge;
 use grid_config::{ANSIBuf, ANSIStr, SpannedConfig};
 use grid_config_values::Borders;
-use crate::part::Edge;
 
 /// What stands in the columns of the line above, of a line itself, and of the line below.
 #[derive(Drop)]
@@ -97,7 +97,11 @@ fn crossing_glyph<'a>(
 }
 
 // This glyph, or a space where none is set.
-fn glyph_or_space<'a>(character: &Option<char>, color: &'a Option<ANSIBuf>, joins: bool) -> Glyph<'a>
+fn glyph_or_space<'a>(
+    character: &Option<char>,
+    color: &'a Option<ANSIBuf>,
+    joins: bool,
+) -> Glyph<'a>
     ensures { found_shape result ≡ glyph character.now color.now joins }
 {
     Glyph {

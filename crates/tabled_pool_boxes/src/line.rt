@@ -10,10 +10,10 @@ ghost use Rattle.tabled_pool_boxes.specs.Canvas.{kind_of, line_shapes, shape_of}
 
 use crate::glyphs::{Around, Glyph, level_glyph, upright_glyph};
 use crate::marks::{Mark, marks_of};
+use crate::part::{Edge, Part};
 use grid_config::SpannedConfig;
 use papergrid_cells::{GlyphRun, push_glyphs};
 use std::alloc::{AllocError, Global};
-use crate::part::{Edge, Part};
 
 /// Appends line `y` of a pool. Fails only where allocation fails.
 pub(crate) fn push_line(

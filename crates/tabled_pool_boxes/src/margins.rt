@@ -7,14 +7,14 @@ ghost use Rattle.tabled_pool_boxes.specs.Boxes.{box_of};
 ghost use Rattle.tabled_pool_boxes.specs.Canvas.{line_shapes};
 ghost use Rattle.tabled_pool_boxes.specs.Values.{layout_of};
 
+use crate::framed::draw_framed;
 use crate::line::push_line;
+use crate::part::Part;
+use crate::value::TableValue;
 use grid_config::{ANSIBuf, Fault, SpannedConfig};
 use grid_config_values::Indent;
 use papergrid_cells::{push_blank, push_indent};
 use std::alloc::{AllocError, Global};
-use crate::framed::draw_framed;
-use crate::part::Part;
-use crate::value::TableValue;
 use tabled_size_dimension::PoolTableDimension;
 
 /// The text of a value in its frame and its margin; one that shows nothing has no margin. Refused as `Range`
@@ -43,7 +43,11 @@ pub fn pool_text(
 
 // Whether these lines have no byte between them. Where there are several, each but the first begins with a
 // line feed.
-fn shows_nothing(alloc: Global, cfg: &SpannedConfig, lines: &[Vec<Part>]) -> Result<bool, AllocError>
+fn shows_nothing(
+    alloc: Global,
+    cfg: &SpannedConfig,
+    lines: &[Vec<Part>],
+) -> Result<bool, AllocError>
     ensures { IfOk result (λ nothing. nothing ≡ (length (joined (printed_lines (look_of cfg.now) (map line_shapes lines.now))) == 0)) }
 {
     if lines.len() > 1 {
@@ -111,7 +115,12 @@ fn push_above(out: &mut String, cfg: &SpannedConfig, width: usize) -> Result<(),
 }
 
 // Appends the lines between the margins at their sides, a line feed between each two.
-fn push_lines(alloc: Global, out: &mut String, cfg: &SpannedConfig, lines: &[Vec<Part>]) -> Result<(), AllocError>
+fn push_lines(
+    alloc: Global,
+    out: &mut String,
+    cfg: &SpannedConfig,
+    lines: &[Vec<Part>],
+) -> Result<(), AllocError>
     ensures { OnOk result (string_bytes out.new ≡ string_bytes out.old ++ joined (map (in_margins (look_of cfg.now)) (printed_lines (look_of cfg.now) (map line_shapes lines.now)))) }
 {
     for y in 0..lines.len() {

@@ -4,8 +4,8 @@ ghost use Rattle.tabled_pool_boxes.specs.Crossings.{is_flat, is_line, is_up, mar
 ghost use Rattle.tabled_pool_boxes.specs.Texts.{line_of};
 ghost use Rattle.tabled_pool_boxes.specs.Canvas.{line_shapes, shape_of};
 
-use std::alloc::{AllocError, Global};
 use crate::part::Part;
+use std::alloc::{AllocError, Global};
 
 /// No line, one column of an upright line, or one of a level line.
 #[derive(Clone, Copy)]

@@ -10,20 +10,8 @@ pub(crate) fn share(taker: DimensionPriority, beyond: usize, n: usize, i: usize)
     ensures { result ≡ share taker beyond n i }
 {
     match taker {
-        DimensionPriority::First => {
-            if i == 0 {
-                beyond
-            } else {
-                0
-            }
-        }
-        DimensionPriority::Last => {
-            if i + 1 == n {
-                beyond
-            } else {
-                0
-            }
-        }
+        DimensionPriority::First => { if i == 0 { beyond } else { 0 } }
+        DimensionPriority::Last => { if i + 1 == n { beyond } else { 0 } }
         DimensionPriority::List => {
             if i < beyond % n {
                 beyond / n + 1

@@ -124,7 +124,12 @@ fn own_height(cfg: &SpannedConfig, text: &str, room: usize) -> usize
 }
 
 // Line `y` of a cell that is as high as it is by itself, in a place of this height.
-fn cell_line(pen: &Pen<'_>, cell: &OpenCell<'_>, height: usize, y: usize) -> Result<String, AllocError>
+fn cell_line(
+    pen: &Pen<'_>,
+    cell: &OpenCell<'_>,
+    height: usize,
+    y: usize,
+) -> Result<String, AllocError>
     requires pos { cell.now.pos ≡ at 0 0 }
     requires color { cell.now.color ≡ None }
     requires own { cell.now.height ≡ cell_height (look_of pen.now.cfg.now) (measures_of cell.now.lines) }

@@ -1,15 +1,13 @@
-use Rattle.std.proofs.Common.{◌≡◌, ◌<◌, ◌≤◌, ◌+◌, ◌-◌, ◌∷◌, ◌++◌, List, get_or, length, refl, ap, subst, sym, ◌∙◌, arith, rules, append_assoc}
+use Rattle.std.proofs.Common.{◌≡◌, ◌<◌, ◌≤◌, ◌+◌, ◌-◌, get_or, length, ap, subst, sym, ◌∙◌, arith, rules}
 use Rattle.std.specs.Prelude.{string_bytes}
-use Rattle.std.proofs.lemmas.Result.{IfOk-weaker}
 use Rattle.grid_config.specs.Looks.{look_of}
 use Rattle.tabled_pool_boxes.specs.declared.value.TableValue.{the_lemmas}
 use Rattle.tabled_pool_boxes.specs.Boxes.{box_of, boxes_of, column_height, from_line, gap, has_level, level_before, row_width, text_box}
-use Rattle.tabled_pool_boxes.specs.Canvas.{Adds, BeginWith, HasRoom}
-use Rattle.tabled_pool_boxes.specs.Sizes.{size_of, sizes_of}
+use Rattle.tabled_pool_boxes.specs.Canvas.{Adds}
 use Rattle.tabled_pool_boxes.specs.Shares.{share}
 use Rattle.tabled_pool_boxes.specs.Values.{Beside, Stacked, Text, layout_of, layouts_of}
 use Rattle.tabled_pool_boxes.proofs.Adding.{leads-start}
-use Rattle.tabled_pool_boxes.proofs.DrawLemmas.{begins-first, begins-some, column_end, column_left, column_step, height-within, highest-within, layout-cell, layout-column, layout-row, member-begins, member-rest, need-all, need_from, need_more, row_end, row_step, share-within, widest-within, width-within}
+use Rattle.tabled_pool_boxes.proofs.DrawLemmas.{begins-first, column_end, column_step, height-within, highest-within, layout-cell, member-begins, member-rest, need-all, need_from, need_more, row_end, row_step, share-within, widest-within, width-within}
 use Rattle.tabled_pool_boxes.proofs.SizeLemmas.{box, highest_box, widest_box, not-empty, some-beside, some-stacked}
 use Rattle.tabled_pool_boxes.proofs.draw.+draw.Goals as goal
 
@@ -77,7 +75,7 @@ draw_row-loop-i-preserved t c =
     let second = subst (λ w. Adds c.draw_upright_before.new.lines c.draw.new.lines (from_line c.args.top ((box look m).line takers w c.args.height))) given_is c.in_ok-sizes.ensures.lines in (
       (more, c.loop-i.invariant.0.1, member-rest look values c.loop-i.i m inside is c.loop-i.sizes.now more c.loop-i.invariant.0.2 c.in_ok-sizes.sizes.now c.in_ok-sizes.ensures.rest),
       row_step look takers c.len-n.result (c.args.width - c.args.own) c.args.height values c.loop-i.i m inside is c.args.top c.args.lines.now _ c.loop-i.lines c.draw_upright_before.new.lines c.draw.new.lines
-      c.loop-i.invariant.1 c.in_ok-draw_upright_before.ensures second,
+          c.loop-i.invariant.1 c.in_ok-draw_upright_before.ensures second,
     )
 
 pub draw_row-returns-clause-lines : goal.draw_row-returns-clause-lines
@@ -102,9 +100,9 @@ draw_column-loop-i-init t c =
     let own_is : c.args.own ≡ column_height look boxes = c.requires.own ∙ ap (λ b. b.height) (some-stacked look values some) in
     let room : column_height look boxes ≤ c.args.height = omega (arith, own_is, c.requires.own, c.requires.room.1) in
     let need : need_from look takers c.len-n.result (c.args.height - c.args.own) 0 values ≡ c.args.height =
-      ap (λ n. need_from look takers n (c.args.height - c.args.own) 0 values) n_is
-      ∙ (ap (λ o. need_from look takers (length values) (c.args.height - o) 0 values) own_is
-      ∙ need-all look takers values c.args.height some room) in (
+    ap (λ n. need_from look takers n (c.args.height - c.args.own) 0 values) n_is
+    ∙ (ap (λ o. need_from look takers (length values) (c.args.height - o) 0 values) own_is
+    ∙ need-all look takers values c.args.height some room) in (
       (c.requires.sizes.0, c.requires.sizes.1, c.requires.sizes.1),
       (0, omega arith, omega (arith, need), leads-start c.args.lines.now _),
     )
@@ -193,14 +191,14 @@ draw_column-draw-requires t c =
     let taken : c.in_ok-at.field-0 ≡ gap (has_level look) i = c.in_ok-at.ensures.taken in
     let need = need_more look takers n beyond values i m inside is in
     let below : c.loop-i.at + c.in_ok-at.field-0 + (c.first-own.result.height + c.share.result) ≤ c.args.top + c.args.height =
-      omega (arith, own_is, share_is, taken, need, c.loop-i.invariant.1.1, c.loop-i.invariant.1.2) in
+    omega (arith, own_is, share_is, taken, need, c.loop-i.invariant.1.1, c.loop-i.invariant.1.2) in
     let some : 0 < length values = omega (arith, inside) in
     let column_is : (box_of look (Stacked (layouts_of values))).width ≡ widest_box look values = ap (λ b. b.width) (some-stacked look values some) in
     let widest = widest-within look values i m inside is in
     let wide : (box look m).width ≤ c.args.width = omega (arith, column_is, widest, c.requires.room.0) in
     let tall : (box look m).height ≤ c.first-own.result.height + c.share.result = omega (arith, own_is) in
     let lines : c.loop-i.at + c.in_ok-at.field-0 + (c.first-own.result.height + c.share.result) ≤ length c.draw_level_before.new.lines =
-      omega (arith, below, c.requires.inside, c.loop-i.invariant.1.3.long, c.in_ok-at.ensures.lines.0) in
+    omega (arith, below, c.requires.inside, c.loop-i.invariant.1.3.long, c.in_ok-at.ensures.lines.0) in
     (first_of (search (rules, the_lemmas), grind (arith, the_lemmas, c.decreases)), search (rules, begins, wide, tall, lines))
 
 pub draw_column-overflow_add-at-in-loop-i : goal.draw_column-overflow_add-at-in-loop-i
@@ -222,6 +220,6 @@ draw_column-overflow_add-at-in-loop-i t c =
     let taken : c.in_ok-at.field-0 ≡ gap (has_level look) i = c.in_ok-at.ensures.taken in
     let need = need_more look takers n beyond values i m inside is in
     let below : c.loop-i.at + c.in_ok-at.field-0 + (c.first-own.result.height + c.share.result) ≤ c.args.top + c.args.height =
-      omega (arith, own_is, share_is, taken, need, c.loop-i.invariant.1.1, c.loop-i.invariant.1.2) in
+    omega (arith, own_is, share_is, taken, need, c.loop-i.invariant.1.1, c.loop-i.invariant.1.2) in
     let bound : c.loop-i.at + c.in_ok-at.field-0 + (c.first-own.result.height + c.share.result) ≤ length c.args.lines.now = omega (arith, below, c.requires.inside) in
     first_of (search (rules, bound), grind (arith, bound))

@@ -1,4 +1,4 @@
-use Rattle.std.proofs.Common.{◌≡◌, ℕ, ◌+◌, ◌++◌, List, drop, length}
+use Rattle.std.proofs.Common.{◌≡◌, ℕ, ◌+◌, ◌++◌, List, drop}
 use Rattle.grid_config.specs.Looks.{look_of}
 use Rattle.tabled_pool_boxes.specs.Boxes.{from_line}
 use Rattle.tabled_pool_boxes.specs.declared.size.Size.{Size}
@@ -22,4 +22,4 @@ invariant-draw_column-loop-i l =
     let left = column_left look l.pen.takers l.n l.beyond l.width in
     ((more : List Size) × (l.initial.sizes ≡ all_sizes look values ++ more) × (l.sizes ≡ all_sizes look (drop l.i values) ++ more))
     × ((t : ℕ) × (l.at ≡ l.top + t) × (t + need_from look l.pen.takers l.n l.beyond l.i (drop l.i values) ≡ l.height)
-        × Leads l.initial.lines (from_line l.top (left 0 0 values)) l.lines (from_line l.top (left l.i t (drop l.i values))))
+    × Leads l.initial.lines (from_line l.top (left 0 0 values)) l.lines (from_line l.top (left l.i t (drop l.i values))))

@@ -1,4 +1,4 @@
-use Rattle.std.proofs.Common.{false, subst, sym}
+use Rattle.std.proofs.Common.{subst, sym}
 use Rattle.papergrid_picture.specs.Frame.{thickness}
 use Rattle.tabled_pool_boxes.specs.Boxes.{from_line}
 use Rattle.tabled_pool_boxes.specs.Canvas.{Adds, kind_of}

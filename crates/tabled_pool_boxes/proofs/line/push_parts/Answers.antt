@@ -24,8 +24,8 @@ returns c =
     let done : c.loop-part.part-index ≡ length parts = omega arith in
     on_ok_weaker {P = new ≡ out ++ line_items bare (map glyph_part c.deref.result.now)} {Q = new ≡ all} c.push_glyphs.result
     (λ printed.
-      printed ∙ (ap (λ h. out ++ line_items bare (map glyph_part h)) c.deref.ensures.value
-      ∙ (ap (λ l. out ++ l) (sym (held-bytes held))
-      ∙ (ap (λ s. out ++ line_bytes s) (sym (append-nil (held_shapes held)))
-      ∙ (sym (no-part (λ l. text_with out held (shapes_from look around c.loop-part.x l)) parts c.loop-part.part-index done) ∙ c.loop-part.invariant.1)))))
+    printed ∙ (ap (λ h. out ++ line_items bare (map glyph_part h)) c.deref.ensures.value
+    ∙ (ap (λ l. out ++ l) (sym (held-bytes held))
+    ∙ (ap (λ s. out ++ line_bytes s) (sym (append-nil (held_shapes held)))
+    ∙ (sym (no-part (λ l. text_with out held (shapes_from look around c.loop-part.x l)) parts c.loop-part.part-index done) ∙ c.loop-part.invariant.1)))))
     c.push_glyphs.ensures

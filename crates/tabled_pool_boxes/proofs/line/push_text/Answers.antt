@@ -14,7 +14,7 @@ returns c =
     let new = string_bytes c.push_str.new.self in
     let shape : Shape = record { bytes = c.args.text.now; color = None; joins = false } in
     let first : mid ≡ out ++ line_items bare (map glyph_part c.args.held.now.items) =
-      c.in_ok-push_glyphs.ensures ∙ ap (λ h. out ++ line_items bare (map glyph_part h)) c.deref.ensures.value in
+    c.in_ok-push_glyphs.ensures ∙ ap (λ h. out ++ line_items bare (map glyph_part h)) c.deref.ensures.value in
     λ behind.
     subst (λ h. text_with new h behind ≡ text_with out c.args.held.now.items (shape ∷ behind)) (sym c.clear.ensures.items)
     (with-alone shape refl out mid new c.args.held.now.items first c.in_ok-push_str.ensures.bytes behind)

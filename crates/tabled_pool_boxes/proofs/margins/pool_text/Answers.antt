@@ -14,9 +14,9 @@ returns-in_err-check_margins-clause-range c =
     let box = box_of look (layout_of c.args.value.now) in
     let long : c.len.result ≡ length c.in_ok-framed.framed.lines.items = omega arith in
     let up : IsTooLarge look c.args.takers box =
-      passes look c.args.takers box c.in_ok-framed.framed.lines.items c.in_ok-framed.ensures.lines c.in_ok-shows_nothing.field-0
-      (c.in_ok-shows_nothing.ensures ∙ ap (λ l. nat_eq (length (joined (printed_lines look (map line_shapes l)))) 0) c.deref.ensures.value)
-      c.if-branch.false c.in_ok-framed.framed.width c.len.result c.in_ok-framed.ensures.width long c.in_err-check_margins.ensures.range in
+    passes look c.args.takers box c.in_ok-framed.framed.lines.items c.in_ok-framed.ensures.lines c.in_ok-shows_nothing.field-0
+    (c.in_ok-shows_nothing.ensures ∙ ap (λ l. nat_eq (length (joined (printed_lines look (map line_shapes l)))) 0) c.deref.ensures.value)
+    c.if-branch.false c.in_ok-framed.framed.width c.len.result c.in_ok-framed.ensures.width long c.in_err-check_margins.ensures.range in
     search (rules, up)
 
 pub returns-clause-fits : goal.returns-clause-fits

@@ -4,7 +4,7 @@ use Rattle.tabled_pool_boxes.specs.Boxes.{box_of, boxes_of, gaps, has_level, has
 use Rattle.tabled_pool_boxes.specs.declared.size.Size.{Size}
 use Rattle.tabled_pool_boxes.specs.Sizes.{IsTooLarge, sizes_of_all}
 use Rattle.tabled_pool_boxes.specs.Values.{Beside, Stacked, layout_of, layouts_of}
-use Rattle.tabled_pool_boxes.proofs.SizeLemmas.{column-own, column-sum-too-large, column-too-large, heights, lengths, not-empty, row-own, row-sum-too-large, row-too-large, sizes-end, widths}
+use Rattle.tabled_pool_boxes.proofs.SizeLemmas.{column-own, column-sum-too-large, column-too-large, lengths, not-empty, row-own, row-sum-too-large, row-too-large, sizes-end}
 use Rattle.tabled_pool_boxes.proofs.size.+measure.Goals as goal
 
 pub push_row_sizes-loop-member-init : goal.push_row_sizes-loop-member-init
@@ -13,7 +13,7 @@ push_row_sizes-loop-member-init t c =
     let values = c.deref-member-items.result.now in
     let n_is : c.len.result ≡ length (boxes_of look (layouts_of values)) = c.len.ensures ∙ (sym c.deref-member-items.ensures.len ∙ sym (lengths look values)) in
     let gaps_are : c.gaps-width.result ≡ gaps (has_upright look) (length (boxes_of look (layouts_of values))) =
-      c.gaps-width.ensures ∙ (ap (λ b. gaps b c.len.result) c.has_vertical.ensures ∙ ap (gaps (has_upright look)) n_is) in
+    c.gaps-width.ensures ∙ (ap (λ b. gaps b c.len.result) c.has_vertical.ensures ∙ ap (gaps (has_upright look)) n_is) in
     (omega (arith, gaps_are), omega arith, refl)
 
 pub push_row_sizes-returns-in_err-inner-clause-range : goal.push_row_sizes-returns-in_err-inner-clause-range
@@ -23,7 +23,7 @@ push_row_sizes-returns-in_err-inner-clause-range t c =
     let some : 0 < length values = not-empty c.is_empty.result _ (length values) c.is_empty.ensures c.if-is_empty.false c.deref-member-items.ensures.len in
     let member = c.member-item.result in
     let up : IsTooLarge (box_of look (layout_of member)) → IsTooLarge (box_of look (Beside (layouts_of c.args.members.now.items))) =
-      λ large. rw (sym c.deref-member-items.ensures.value) (row-too-large look values c.loop-member.member-index member (omega arith) c.member-item.is c.loop-member.width c.loop-member.height some c.loop-member.invariant.0 c.loop-member.invariant.1 large) in
+    λ large. rw (sym c.deref-member-items.ensures.value) (row-too-large look values c.loop-member.member-index member (omega arith) c.member-item.is c.loop-member.width c.loop-member.height some c.loop-member.invariant.0 c.loop-member.invariant.1 large) in
     search (rules, up)
 
 pub push_row_sizes-returns-in_err-width-clause-range : goal.push_row_sizes-returns-in_err-width-clause-range
@@ -35,7 +35,7 @@ push_row_sizes-returns-in_err-width-clause-range t c =
     let inner_is : c.in_ok-inner.inner.width ≡ (box_of look (layout_of member)).width = ap (λ size. size.width) c.in_ok-inner.ensures.own in
     let large : 2 ^ 64 ≤ c.loop-member.width + (box_of look (layout_of member)).width = omega (arith, inner_is, c.in_err-width.ensures.range.1) in
     let up : IsTooLarge (box_of look (Beside (layouts_of c.args.members.now.items))) =
-      rw (sym c.deref-member-items.ensures.value) (row-sum-too-large look values c.loop-member.member-index member (omega arith) c.member-item.is c.loop-member.width some c.loop-member.invariant.0 large) in
+    rw (sym c.deref-member-items.ensures.value) (row-sum-too-large look values c.loop-member.member-index member (omega arith) c.member-item.is c.loop-member.width some c.loop-member.invariant.0 large) in
     search (rules, up)
 
 pub push_row_sizes-returns-clause-own : goal.push_row_sizes-returns-clause-own
@@ -51,7 +51,7 @@ push_column_sizes-loop-member-init t c =
     let values = c.deref-member-items.result.now in
     let n_is : c.len.result ≡ length (boxes_of look (layouts_of values)) = c.len.ensures ∙ (sym c.deref-member-items.ensures.len ∙ sym (lengths look values)) in
     let gaps_are : c.gaps-height.result ≡ gaps (has_level look) (length (boxes_of look (layouts_of values))) =
-      c.gaps-height.ensures ∙ (ap (λ b. gaps b c.len.result) c.has_horizontal.ensures ∙ ap (gaps (has_level look)) n_is) in
+    c.gaps-height.ensures ∙ (ap (λ b. gaps b c.len.result) c.has_horizontal.ensures ∙ ap (gaps (has_level look)) n_is) in
     (omega arith, omega (arith, gaps_are), refl)
 
 pub push_column_sizes-returns-in_err-inner-clause-range : goal.push_column_sizes-returns-in_err-inner-clause-range
@@ -61,7 +61,7 @@ push_column_sizes-returns-in_err-inner-clause-range t c =
     let some : 0 < length values = not-empty c.is_empty.result _ (length values) c.is_empty.ensures c.if-is_empty.false c.deref-member-items.ensures.len in
     let member = c.member-item.result in
     let up : IsTooLarge (box_of look (layout_of member)) → IsTooLarge (box_of look (Stacked (layouts_of c.args.members.now.items))) =
-      λ large. rw (sym c.deref-member-items.ensures.value) (column-too-large look values c.loop-member.member-index member (omega arith) c.member-item.is c.loop-member.width c.loop-member.height some c.loop-member.invariant.0 c.loop-member.invariant.1 large) in
+    λ large. rw (sym c.deref-member-items.ensures.value) (column-too-large look values c.loop-member.member-index member (omega arith) c.member-item.is c.loop-member.width c.loop-member.height some c.loop-member.invariant.0 c.loop-member.invariant.1 large) in
     search (rules, up)
 
 pub push_column_sizes-returns-in_err-height-clause-range : goal.push_column_sizes-returns-in_err-height-clause-range
@@ -73,7 +73,7 @@ push_column_sizes-returns-in_err-height-clause-range t c =
     let inner_is : c.in_ok-inner.inner.height ≡ (box_of look (layout_of member)).height = ap (λ size. size.height) c.in_ok-inner.ensures.own in
     let large : 2 ^ 64 ≤ c.loop-member.height + (box_of look (layout_of member)).height = omega (arith, inner_is, c.in_err-height.ensures.range.1) in
     let up : IsTooLarge (box_of look (Stacked (layouts_of c.args.members.now.items))) =
-      rw (sym c.deref-member-items.ensures.value) (column-sum-too-large look values c.loop-member.member-index member (omega arith) c.member-item.is c.loop-member.height some c.loop-member.invariant.1 large) in
+    rw (sym c.deref-member-items.ensures.value) (column-sum-too-large look values c.loop-member.member-index member (omega arith) c.member-item.is c.loop-member.height some c.loop-member.invariant.1 large) in
     search (rules, up)
 
 pub push_column_sizes-returns-clause-own : goal.push_column_sizes-returns-clause-own

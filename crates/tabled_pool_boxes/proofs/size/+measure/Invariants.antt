@@ -1,4 +1,4 @@
-use Rattle.std.proofs.Common.{◌≡◌, ◌+◌, ◌++◌, drop, length, max}
+use Rattle.std.proofs.Common.{◌≡◌, ◌+◌, ◌++◌, drop, max}
 use Rattle.grid_config.specs.Looks.{look_of}
 use Rattle.tabled_pool_boxes.specs.Boxes.{column_height, row_width}
 use Rattle.tabled_pool_boxes.proofs.SizeLemmas.{all_sizes, heights, highest_box, widest_box, widths}

@@ -17,9 +17,9 @@ returns c =
     let above = c.free_above-above.result in
     let kind = line_kind look cell.pos (length (measures_of cell.lines)) cell.height (c.args.y - above) in
     let is : above ≡ free_above (look.alignment_vertical (at 0 0)) (c.args.height - cell.height) =
-      c.free_above-above.ensures ∙ ap (λ a. free_above a (c.args.height - cell.height)) c.get_alignment_vertical-alignment.ensures in
+    c.free_above-above.ensures ∙ ap (λ a. free_above a (c.args.height - cell.height)) c.get_alignment_vertical-alignment.ensures in
     let shown : cell_bytes look (measures_of cell.lines) (texts_of cell.lines) cell.width c.args.height c.args.y ≡ alone_bytes look cell kind =
-      inner-bytes look cell c.requires.pos c.requires.color c.requires.own c.args.height c.args.y above is kind refl (omega arith) (omega arith) in
+    inner-bytes look cell c.requires.pos c.requires.color c.requires.own c.args.height c.args.y above is kind refl (omega arith) (omega arith) in
     IfOk-weaker c.inner_line.result (λ line. string_bytes line ≡ alone_bytes look cell kind)
     (λ line. string_bytes line ≡ cell_bytes look (measures_of cell.lines) (texts_of cell.lines) cell.width c.args.height c.args.y)
     (λ line e. e ∙ sym shown) c.inner_line.ensures

@@ -16,6 +16,6 @@ returns c =
     let line : ℕ → List Part = (text_box look c.args.text.now).line c.args.pen.now.takers c.args.width c.args.height in
     on_ok_weaker {P = Adds c.args.lines.now c.draw_cell.new.lines (from_line c.args.top (first_lines c.args.height shown))} {Q = Adds c.args.lines.now c.draw_cell.new.lines (from_line c.args.top line)} c.draw_cell.result
     (λ adds.
-      adds-as c.args.lines.now c.draw_cell.new.lines (from_line c.args.top (first_lines c.args.height shown)) (from_line c.args.top line) adds
-      (λ k. ap (λ t. cond (nat_lt k c.args.top) [] (cond t [] (first_lines c.args.height shown (k - c.args.top)))) (sym none)))
+    adds-as c.args.lines.now c.draw_cell.new.lines (from_line c.args.top (first_lines c.args.height shown)) (from_line c.args.top line) adds
+    (λ k. ap (λ t. cond (nat_lt k c.args.top) [] (cond t [] (first_lines c.args.height shown (k - c.args.top)))) (sym none)))
     c.draw_cell.ensures
