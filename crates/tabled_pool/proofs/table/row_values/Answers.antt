@@ -5,14 +5,14 @@ use Rattle.tabled_pool.specs.Pools.{row_layout}
 use Rattle.tabled_pool_boxes.specs.Values.{layout_of}
 use Rattle.tabled_pool.proofs.table.row_values.Goals as goal
 
-pub read_row-cells-requires-clause-can : goal.read_row-cells-requires-clause-can
-read_row-cells-requires-clause-can g c =
+pub read_row-requires-clause-can : goal.read_row-requires-clause-can
+read_row-requires-clause-can g c =
     let n = next_given c.loop-cells.yielded c.in-Some.cells _ c.loop-cells.cells-iterator c.next.new.self (g.met.I.IntoRecords.gives c.iter_rows-cells-items.result)
     c.into_iter-cells-iterator.ensures.into_iter_gives c.loop-cells.yielded_by c.in-Some.ensures.steps in
     n.tied.can_next
 
-pub read_row-cells-requires-clause-ends : goal.read_row-cells-requires-clause-ends
-read_row-cells-requires-clause-ends g c =
+pub read_row-requires-clause-ends : goal.read_row-requires-clause-ends
+read_row-requires-clause-ends g c =
     let n = next_given c.loop-cells.yielded c.in-Some.cells _ c.loop-cells.cells-iterator c.next.new.self (g.met.I.IntoRecords.gives c.iter_rows-cells-items.result)
     c.into_iter-cells-iterator.ensures.into_iter_gives c.loop-cells.yielded_by c.in-Some.ensures.steps in
     n.tied.ends
@@ -28,7 +28,7 @@ loop-cells-preserved g c =
     (ap (map row_layout)
     (sym (ap (drop (length c.loop-cells.yielded)) same) ∙ n.next
     ∙ ap (λ v. n.element ∷ drop (length (c.loop-cells.yielded ++ c.in-Some.cells ∷ [])) v) same)
-    ∙ ap (λ l. l ∷ map row_layout (drop (length (c.loop-cells.yielded ++ c.in-Some.cells ∷ [])) all)) (ap row_layout (sym texts) ∙ sym c.in_ok-row_value.ensures))
+    ∙ ap (λ l. l ∷ map row_layout (drop (length (c.loop-cells.yielded ++ c.in-Some.cells ∷ [])) all)) (ap row_layout (sym texts) ∙ (ap (λ l. row_layout (map g.I.Cell.Cell.text l)) (sym c.deref.ensures.value) ∙ sym c.in_ok-row_value.ensures)))
 
 pub returns : goal.returns
 returns g c =
