@@ -1,0 +1,67 @@
+-- A pool by what it is, what its options see of it, and its text.
+use Rattle.std.specs.Prelude.{◌≡◌, ℕ, List, [], None, Ok, map}
+use Rattle.grid_config.specs.Looks.{Look}
+use Rattle.tabled_compact.specs.Tables.{begun_settings}
+use Rattle.tabled_multiline.specs.Multiline.{Multiline, multiline_look, multiline_of, over}
+use Rattle.tabled_multiline.specs.Takers.{takers_seen}
+use Rattle.tabled_pool_boxes.specs.Texts.{IsTooLarge, pool_text}
+use Rattle.tabled_pool.specs.declared.table.PoolTable.{PoolTable}
+use Rattle.tabled_pool_boxes.specs.Boxes.{Box, box_of}
+use Rattle.tabled_pool_boxes.specs.Values.{Layout, Text, Beside, Stacked, layout_of, members}
+use Rattle.tabled_size_dimension.specs.declared.priority.DimensionPriority.TheVariants.{List as Each}
+use Rattle.tabled_size_dimension.specs.Takers.{Takers}
+use Rattle.tabled_steps.specs.States.{Outcome, State, state_with}
+
+-- what it shows, its settings, and who takes what is left over
+pub record Pool : Type 0 where
+  pub layout : Layout
+  pub settings : Multiline
+  pub takers : Takers
+
+abbrev pub pool_of : PoolTable → Pool
+pool_of table = record { layout = layout_of table.value; settings = multiline_of table.config; takers = table.dimension }
+
+-- ---- a pool that no call has changed yet
+
+-- as much to each
+abbrev pub each : Takers
+each = record { width = Each; height = Each }
+
+-- lines of ASCII, and a column of spaces at the left and right of each text
+abbrev pub begun : Layout → Pool
+begun layout = record { layout = layout; settings = over begun_settings; takers = each }
+
+-- the texts of a row side by side
+abbrev pub row_layout : List (List ℕ) → Layout
+row_layout row = Beside (members (map Text row))
+
+-- rows one below the other
+abbrev pub rows_layout : List (List (List ℕ)) → Layout
+rows_layout rows = Stacked (members (map row_layout rows))
+
+-- ---- options
+
+-- what they see of a pool: it has no rows
+abbrev pub seen : Pool → State
+seen pool = state_with [] (multiline_look pool.settings) (λ _. None) (takers_seen pool.takers)
+
+-- an accepted step led to what is seen then, whatever became of the rows that it was given; and what the pool shows stays
+pub record HasStepped (step : State → Outcome → Type 0) (before after : Pool) : Type 0 where
+  pub rows : List (List (List ℕ))
+  pub led : step (seen before) (Ok (record (seen after) { rows = rows }))
+  pub layout : after.layout ≡ before.layout
+
+-- ---- its text
+
+abbrev pub look_of_pool : Pool → Look
+look_of_pool pool = multiline_look pool.settings
+
+abbrev pub own_box : Pool → Box
+own_box pool = box_of (look_of_pool pool) pool.layout
+
+abbrev pub text_of : Pool → List ℕ
+text_of pool = pool_text (look_of_pool pool) pool.takers (own_box pool)
+
+-- its width or its height, with its margin, is out of the range of `usize`
+abbrev pub PassesRange : Pool → Type 0
+PassesRange pool = IsTooLarge (look_of_pool pool) pool.takers (own_box pool)

@@ -1,0 +1,161 @@
+-- What the lines of a text measure, and the sizes of several boxes.
+use Rattle.std.proofs.Common.{◌≡◌, ℕ, zero, suc, ◌+◌, ◌^◌, ◌<◌, ◌≤◌, Bool, false, true≢false, List, [], ◌∷◌, ◌++◌, drop, get_or, length, map, max, set, refl, ap, sym, ◌∙◌, arith, append_assoc, append-nil}
+use Rattle.std.specs.Prelude.{nat_eq}
+use Rattle.std.specs.List.{sum_by}
+use Rattle.std.proofs.lemmas.List.Sums.{sum_by-cons}
+use Rattle.std.proofs.Math.Seq.{take-length}
+use Rattle.std.proofs.lemmas.List.{at_drop_more, drop_all, length-map}
+use Rattle.ansi_scan.specs.Pieces.{pieces}
+use Rattle.grid_config.specs.Looks.{Look}
+use Rattle.grid_records_measure.specs.TextLines.{line_measure, shown_lines, text_height, text_width, widest}
+use Rattle.papergrid_picture.specs.Blocks.{greatest}
+use Rattle.papergrid_picture.specs.CellLines.{cell_measures}
+use Rattle.tabled_pool_boxes.specs.declared.size.Size.{Size}
+use Rattle.tabled_pool_boxes.specs.declared.value.TableValue.{TableValue}
+use Rattle.tabled_pool_boxes.specs.Boxes.{Box, box_of, boxes_of, column_box, column_height, row_box, row_width}
+use Rattle.tabled_pool_boxes.specs.Sizes.{IsTooLarge, size_of, sizes_of_all}
+use Rattle.tabled_pool_boxes.specs.Values.{Beside, Stacked, layout_of, layouts_of}
+
+greatest-widest : (lines : List (List ℕ)) → greatest (map line_measure lines) ≡ widest lines
+greatest-widest [] = refl
+greatest-widest (line ∷ lines) = ap (max (line_measure line)) (greatest-widest lines)
+
+measures : (text : List ℕ) → cell_measures false false text ≡ map line_measure (shown_lines (pieces text))
+measures text = ap (map line_measure) (take-length (shown_lines (pieces text)))
+
+pub text_width_is : (text : List ℕ) → greatest (cell_measures false false text) ≡ text_width text
+unfolding text_width
+text_width_is text = ap greatest (measures text) ∙ greatest-widest (shown_lines (pieces text))
+
+pub text_height_is : (text : List ℕ) → length (cell_measures false false text) ≡ text_height text
+unfolding text_height
+text_height_is text = ap length (measures text) ∙ length-map (shown_lines (pieces text)) line_measure
+
+-- what stands behind some others is replaced
+pub set-behind : {T : Type 0} (xs ys : List T) (x y : T) → set (xs ++ x ∷ ys) (length xs) y ≡ xs ++ y ∷ ys
+set-behind [] ys x y = refl
+set-behind (z ∷ xs) ys x y = ap (λ l. z ∷ l) (set-behind xs ys x y)
+
+pub not-empty : (b : Bool) (n m : ℕ) → b ≡ nat_eq n 0 → b ≡ false → m ≡ n → 0 < m
+not-empty b zero m e f g = absurd (true≢false (sym e ∙ f))
+not-empty b (suc n) m e f g = omega (arith, g)
+
+-- ---- the boxes of some values
+
+module _ (values : List TableValue) (i : ℕ) (value : TableValue) (inside : i < length values) (is : value ≡ get_or values i value) where
+  pub step : {Y : Type 0} (f : List TableValue → Y) → f (drop i values) ≡ f (value ∷ drop (i + 1) values)
+  step f = at_drop_more f values i value inside ∙ ap (λ v. f (v ∷ drop (i + 1) values)) (sym is)
+
+module _ (look : Look) where
+  abbrev pub box : TableValue → Box
+  box value = box_of look (layout_of value)
+
+  abbrev pub widths : List TableValue → ℕ
+  widths values = sum_by (λ b. b.width) (boxes_of look (layouts_of values))
+
+  abbrev pub heights : List TableValue → ℕ
+  heights values = sum_by (λ b. b.height) (boxes_of look (layouts_of values))
+
+  abbrev pub widest_box : List TableValue → ℕ
+  widest_box values = greatest (map (λ b. b.width) (boxes_of look (layouts_of values)))
+
+  abbrev pub highest_box : List TableValue → ℕ
+  highest_box values = greatest (map (λ b. b.height) (boxes_of look (layouts_of values)))
+
+  abbrev pub all_sizes : List TableValue → List Size
+  all_sizes values = sizes_of_all look (layouts_of values)
+
+  pub widths-cons : (value : TableValue) (values : List TableValue) → widths (value ∷ values) ≡ (box value).width + widths values
+  widths-cons value values = sum_by-cons (λ (b : Box). b.width) (box value) (boxes_of look (layouts_of values))
+
+  pub heights-cons : (value : TableValue) (values : List TableValue) → heights (value ∷ values) ≡ (box value).height + heights values
+  heights-cons value values = sum_by-cons (λ (b : Box). b.height) (box value) (boxes_of look (layouts_of values))
+
+  pub lengths : (values : List TableValue) → length (boxes_of look (layouts_of values)) ≡ length values
+  lengths [] = refl
+  lengths (value ∷ values) = ap suc (lengths values)
+
+  -- a row or a column with members is not a cell
+  pub some-beside : (values : List TableValue) → 0 < length values → box_of look (Beside (layouts_of values)) ≡ row_box look (boxes_of look (layouts_of values))
+  some-beside [] some = absurd (omega (arith, some))
+  some-beside (value ∷ values) some = refl
+
+  pub some-stacked : (values : List TableValue) → 0 < length values → box_of look (Stacked (layouts_of values)) ≡ column_box look (boxes_of look (layouts_of values))
+  some-stacked [] some = absurd (omega (arith, some))
+  some-stacked (value ∷ values) some = refl
+
+  module _ (values : List TableValue) (i : ℕ) (value : TableValue) (inside : i < length values) (is : value ≡ get_or values i value) where
+    pub widths-more : widths (drop i values) ≡ (box value).width + widths (drop (i + 1) values)
+    widths-more = step values i value inside is widths ∙ widths-cons value (drop (i + 1) values)
+
+    pub heights-more : heights (drop i values) ≡ (box value).height + heights (drop (i + 1) values)
+    heights-more = step values i value inside is heights ∙ heights-cons value (drop (i + 1) values)
+
+    pub widest-more : widest_box (drop i values) ≡ max (box value).width (widest_box (drop (i + 1) values))
+    widest-more = step values i value inside is widest_box
+
+    pub highest-more : highest_box (drop i values) ≡ max (box value).height (highest_box (drop (i + 1) values))
+    highest-more = step values i value inside is highest_box
+
+    -- what is too large for a member is so for its row and its column
+    pub row-too-large : (w h : ℕ) → 0 < length values → w + widths (drop i values) ≡ row_width look (boxes_of look (layouts_of values)) → max h (highest_box (drop i values)) ≡ highest_box values
+        → IsTooLarge (box value) → IsTooLarge (box_of look (Beside (layouts_of values)))
+    row-too-large w h some wide high large =
+        let is_row = some-beside values some in
+        let w_is : (box_of look (Beside (layouts_of values))).width ≡ row_width look (boxes_of look (layouts_of values)) = ap (λ b. b.width) is_row in
+        let h_is : (box_of look (Beside (layouts_of values))).height ≡ highest_box values = ap (λ b. b.height) is_row in
+        omega (arith, w_is, h_is, wide, high, large, widths-more, highest-more)
+
+    pub row-sum-too-large : (w : ℕ) → 0 < length values → w + widths (drop i values) ≡ row_width look (boxes_of look (layouts_of values)) → 2 ^ 64 ≤ w + (box value).width
+        → IsTooLarge (box_of look (Beside (layouts_of values)))
+    row-sum-too-large w some wide large =
+        let is_row = some-beside values some in
+        let w_is : (box_of look (Beside (layouts_of values))).width ≡ row_width look (boxes_of look (layouts_of values)) = ap (λ b. b.width) is_row in
+        omega (arith, w_is, wide, large, widths-more)
+
+    pub column-too-large : (w h : ℕ) → 0 < length values → max w (widest_box (drop i values)) ≡ widest_box values → h + heights (drop i values) ≡ column_height look (boxes_of look (layouts_of values))
+        → IsTooLarge (box value) → IsTooLarge (box_of look (Stacked (layouts_of values)))
+    column-too-large w h some wide high large =
+        let is_column = some-stacked values some in
+        let w_is : (box_of look (Stacked (layouts_of values))).width ≡ widest_box values = ap (λ b. b.width) is_column in
+        let h_is : (box_of look (Stacked (layouts_of values))).height ≡ column_height look (boxes_of look (layouts_of values)) = ap (λ b. b.height) is_column in
+        omega (arith, w_is, h_is, wide, high, large, heights-more, widest-more)
+
+    pub column-sum-too-large : (h : ℕ) → 0 < length values → h + heights (drop i values) ≡ column_height look (boxes_of look (layouts_of values)) → 2 ^ 64 ≤ h + (box value).height
+        → IsTooLarge (box_of look (Stacked (layouts_of values)))
+    column-sum-too-large h some high large =
+        let is_column = some-stacked values some in
+        let h_is : (box_of look (Stacked (layouts_of values))).height ≡ column_height look (boxes_of look (layouts_of values)) = ap (λ b. b.height) is_column in
+        omega (arith, h_is, high, large, heights-more)
+
+  -- the size of all members
+  pub row-own : (values all : List TableValue) (i w h : ℕ) → values ≡ all → 0 < length values → length values ≤ i
+      → w + widths (drop i values) ≡ row_width look (boxes_of look (layouts_of values)) → max h (highest_box (drop i values)) ≡ highest_box values
+      → record { width = w; height = h } ≡ size_of (box_of look (Beside (layouts_of all)))
+  row-own values all i w h same some past wide high =
+      let none : widths (drop i values) ≡ 0 = ap widths (drop_all i values past) in
+      let flat : highest_box (drop i values) ≡ 0 = ap highest_box (drop_all i values past) in
+      let w_is : w ≡ row_width look (boxes_of look (layouts_of values)) = omega (arith, none, wide) in
+      let h_is : h ≡ highest_box values = omega (arith, flat, high) in
+      let size : record { width = w; height = h } ≡ size_of (row_box look (boxes_of look (layouts_of values))) = λ j. record { width = w_is j; height = h_is j } in
+      size ∙ (ap size_of (sym (some-beside values some)) ∙ ap (λ vs. size_of (box_of look (Beside (layouts_of vs)))) same)
+
+  pub column-own : (values all : List TableValue) (i w h : ℕ) → values ≡ all → 0 < length values → length values ≤ i
+      → max w (widest_box (drop i values)) ≡ widest_box values → h + heights (drop i values) ≡ column_height look (boxes_of look (layouts_of values))
+      → record { width = w; height = h } ≡ size_of (box_of look (Stacked (layouts_of all)))
+  column-own values all i w h same some past wide high =
+      let none : heights (drop i values) ≡ 0 = ap heights (drop_all i values past) in
+      let flat : widest_box (drop i values) ≡ 0 = ap widest_box (drop_all i values past) in
+      let w_is : w ≡ widest_box values = omega (arith, flat, wide) in
+      let h_is : h ≡ column_height look (boxes_of look (layouts_of values)) = omega (arith, none, high) in
+      let size : record { width = w; height = h } ≡ size_of (column_box look (boxes_of look (layouts_of values))) = λ j. record { width = w_is j; height = h_is j } in
+      size ∙ (ap size_of (sym (some-stacked values some)) ∙ ap (λ vs. size_of (box_of look (Stacked (layouts_of vs)))) same)
+
+  -- all sizes, with the own one put before those of the members
+  pub sizes-end : (values all : List TableValue) (old start now : List Size) (first own : Size) (i : ℕ) → values ≡ all → length values ≤ i → start ≡ old ++ first ∷ []
+      → now ++ all_sizes (drop i values) ≡ start ++ all_sizes values → set now (length old) own ≡ old ++ own ∷ all_sizes all
+  sizes-end values all old start now first own i same past begun sizes =
+      let none : all_sizes (drop i values) ≡ [] = ap all_sizes (drop_all i values past) in
+      let now_is : now ≡ old ++ first ∷ all_sizes values =
+      sym (append-nil now) ∙ (ap (λ l. now ++ l) (sym none) ∙ (sizes ∙ (ap (λ l. l ++ all_sizes values) begun ∙ append_assoc old (first ∷ []) (all_sizes values)))) in
+      ap (λ l. set l (length old) own) now_is ∙ (set-behind old (all_sizes values) first own ∙ ap (λ vs. old ++ own ∷ all_sizes vs) same)

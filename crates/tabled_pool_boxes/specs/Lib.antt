@@ -1,0 +1,11 @@
+pub mod Values
+pub mod Shares
+pub mod Boxes
+pub mod Sizes
+pub mod Canvas
+pub mod Framed
+pub mod Crossings
+pub mod Runs
+pub mod Glyphs
+pub mod Texts
+pub mod Worked

@@ -1,0 +1,41 @@
+-- The bytes of a line: neighbouring glyphs of one colour are coloured as one.
+use Rattle.std.specs.Prelude.{ℕ, Bool, false, List, [], ◌∷◌, ◌++◌, flat_map, map, if◌then◌else◌}
+use Rattle.std.specs.List.{filter}
+use Rattle.papergrid_cells.specs.Painting.{bare, colored, glyph_part}
+use Rattle.papergrid_cells.specs.declared.painting.GlyphRun.{GlyphRun}
+use Rattle.papergrid_picture.specs.Blocks.{Part as Piece}
+use Rattle.papergrid_picture.specs.Reading.{is_glyph, is_shown, part_items, same_color}
+use Rattle.tabled_pool_boxes.specs.Crossings.{Shape}
+
+abbrev pub goes_on : Shape → Shape → Bool
+goes_on a b = if a.joins then (if b.joins then same_color a.color b.color else false) else false
+
+abbrev pub onto_runs : Shape → List (List Shape) → List (List Shape)
+onto_runs shape [] = (shape ∷ []) ∷ []
+onto_runs shape ([] ∷ runs) = (shape ∷ []) ∷ runs
+onto_runs shape ((next ∷ run) ∷ runs) = if goes_on shape next then (shape ∷ next ∷ run) ∷ runs else (shape ∷ []) ∷ (next ∷ run) ∷ runs
+
+abbrev pub runs_of : List Shape → List (List Shape)
+runs_of [] = []
+runs_of (shape ∷ shapes) = onto_runs shape (runs_of shapes)
+
+abbrev pub run_bytes : List Shape → List ℕ
+run_bytes [] = []
+run_bytes (shape ∷ shapes) = colored shape.color (flat_map (λ s. s.bytes) (shape ∷ shapes))
+
+abbrev pub line_bytes : List Shape → List ℕ
+line_bytes shapes = flat_map run_bytes (runs_of shapes)
+
+-- ---- as it is printed
+
+-- a piece of a boundary line as a shape
+abbrev pub piece_shape : Piece → Shape
+piece_shape piece = record { bytes = part_items bare piece; color = piece.color; joins = is_glyph piece.content }
+
+-- glyphs that are held back until it is known where their colour ends
+abbrev pub held_shapes : List GlyphRun → List Shape
+held_shapes held = map piece_shape (filter is_shown (map glyph_part held))
+
+-- what a text becomes, where these glyphs are held back and these shapes follow
+abbrev pub text_with : List ℕ → List GlyphRun → List Shape → List ℕ
+text_with out held behind = out ++ line_bytes (held_shapes held ++ behind)

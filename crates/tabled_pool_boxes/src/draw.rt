@@ -1,0 +1,184 @@
+//! Values are drawn onto lines of parts, from left to right: each part is made once, and none is moved.
+//! Drawing recurses once a level of a value.
+ghost use Rattle.std.specs.Prelude.{◌≡◌, ◌==◌, ◌+◌, ◌≤◌, ◌<◌, ◌++◌, ◌∷◌, [], IfOk, OnOk, drop, if◌then◌else◌, length, slice_index_or};
+ghost use Rattle.grid_config.specs.Looks.{look_of};
+ghost use Rattle.tabled_pool_boxes.specs.Boxes.{Upright, box_of, first_lines, from_line, gap, has_level, level_before, upright_before};
+ghost use Rattle.papergrid_picture.specs.Frame.{thickness};
+ghost use Rattle.tabled_pool_boxes.specs.Canvas.{Adds, BeginWith, HasRoom, kind_of, shape_of};
+ghost use Rattle.tabled_pool_boxes.specs.Sizes.{sizes_of, sizes_of_all};
+ghost use Rattle.tabled_pool_boxes.specs.Values.{Beside, Stacked, layout_of, layouts_of};
+
+use crate::canvas::{Pen, draw_upright, push_part};
+use crate::part::{Edge, Part};
+use crate::share::share;
+use crate::size::Size;
+use crate::text::draw_text;
+use crate::value::TableValue;
+use std::alloc::AllocError;
+
+/// Draws a value in a place that has room for it; its sizes come first in `sizes`, and what comes behind
+/// them is returned. Fails only where allocation fails.
+#[cycle(draw)]
+pub(crate) fn draw<'s>(
+    pen: &Pen<'_>,
+    value: &TableValue,
+    sizes: &'s [Size],
+    top: usize,
+    width: usize,
+    height: usize,
+    lines: &mut [Vec<Part>],
+) -> Result<&'s [Size], AllocError>
+    requires sizes { BeginWith (sizes_of (look_of pen.now.cfg.now) (layout_of value.now)) sizes.now }
+    requires room { HasRoom (box_of (look_of pen.now.cfg.now) (layout_of value.now)) width height }
+    requires inside { top + height ≤ length lines.old }
+    ensures rest { IfOk result (λ rest. sizes.now ≡ sizes_of (look_of pen.now.cfg.now) (layout_of value.now) ++ rest.now) }
+    ensures lines { OnOk result (Adds lines.old lines.new (from_line top ((box_of (look_of pen.now.cfg.now) (layout_of value.now)).line pen.now.takers width height))) }
+{
+    let own = first(sizes);
+    let rest = behind_first(sizes);
+    match value {
+        TableValue::Cell(text) => {
+            draw_text(pen, text, top, width, height, lines)?;
+            Ok(rest)
+        }
+        TableValue::Row(members) => draw_row(
+            pen, members, own.width, rest, top, width, height, lines,
+        ),
+        TableValue::Column(members) => draw_column(
+            pen, members, own.height, rest, top, width, height, lines,
+        ),
+    }
+}
+
+// Draws the members of a row side by side.
+#[cycle(draw)]
+fn draw_row<'s>(
+    pen: &Pen<'_>,
+    members: &Vec<TableValue>,
+    own: usize,
+    sizes: &'s [Size],
+    top: usize,
+    width: usize,
+    height: usize,
+    lines: &mut [Vec<Part>],
+) -> Result<&'s [Size], AllocError>
+    requires sizes { BeginWith (sizes_of_all (look_of pen.now.cfg.now) (layouts_of members.now.items)) sizes.now }
+    requires own { own ≡ (box_of (look_of pen.now.cfg.now) (Beside (layouts_of members.now.items))).width }
+    requires room { HasRoom (box_of (look_of pen.now.cfg.now) (Beside (layouts_of members.now.items))) width height }
+    requires inside { top + height ≤ length lines.old }
+    ensures rest { IfOk result (λ rest. sizes.now ≡ sizes_of_all (look_of pen.now.cfg.now) (layouts_of members.now.items) ++ rest.now) }
+    ensures lines { OnOk result (Adds lines.old lines.new (from_line top ((box_of (look_of pen.now.cfg.now) (Beside (layouts_of members.now.items))).line pen.now.takers width height))) }
+{
+    if members.is_empty() {
+        draw_text(pen, "", top, width, height, lines)?;
+        return Ok(sizes);
+    }
+    let beyond = width - own;
+    let n = members.len();
+    let mut sizes = sizes;
+    for (i, member) in members.iter().enumerate() {
+        draw_upright_before(pen, i, top, height, lines)?;
+        let own = first(sizes);
+        let given = own.width + share(pen.takers.width(), beyond, n, i);
+        sizes = draw(pen, member, sizes, top, given, height, lines)?;
+    }
+    Ok(sizes)
+}
+
+// Draws the members of a column one below the other.
+#[cycle(draw)]
+fn draw_column<'s>(
+    pen: &Pen<'_>,
+    members: &Vec<TableValue>,
+    own: usize,
+    sizes: &'s [Size],
+    top: usize,
+    width: usize,
+    height: usize,
+    lines: &mut [Vec<Part>],
+) -> Result<&'s [Size], AllocError>
+    requires sizes { BeginWith (sizes_of_all (look_of pen.now.cfg.now) (layouts_of members.now.items)) sizes.now }
+    requires own { own ≡ (box_of (look_of pen.now.cfg.now) (Stacked (layouts_of members.now.items))).height }
+    requires room { HasRoom (box_of (look_of pen.now.cfg.now) (Stacked (layouts_of members.now.items))) width height }
+    requires inside { top + height ≤ length lines.old }
+    ensures rest { IfOk result (λ rest. sizes.now ≡ sizes_of_all (look_of pen.now.cfg.now) (layouts_of members.now.items) ++ rest.now) }
+    ensures lines { OnOk result (Adds lines.old lines.new (from_line top ((box_of (look_of pen.now.cfg.now) (Stacked (layouts_of members.now.items))).line pen.now.takers width height))) }
+{
+    if members.is_empty() {
+        draw_text(pen, "", top, width, height, lines)?;
+        return Ok(sizes);
+    }
+    let beyond = height - own;
+    let n = members.len();
+    let mut sizes = sizes;
+    let mut at = top;
+    for (i, member) in members.iter().enumerate() {
+        at += draw_level_before(pen, i, at, width, lines)?;
+        let own = first(sizes);
+        let given = own.height + share(pen.takers.height(), beyond, n, i);
+        sizes = draw(pen, member, sizes, at, width, given, lines)?;
+        at += given;
+    }
+    Ok(sizes)
+}
+
+// The size of the first value.
+fn first(sizes: &[Size]) -> Size
+    requires { 0 < length sizes.now }
+    ensures { result ≡ slice_index_or sizes.now 0 result }
+{
+    sizes[0]
+}
+
+// The sizes behind it.
+fn behind_first(sizes: &[Size]) -> &[Size]
+    requires { 0 < length sizes.now }
+    ensures { result.now ≡ drop 1 sizes.now }
+{
+    &sizes[1..]
+}
+
+// Whether there is a line before member `i`.
+fn has_gap(is_there: bool, i: usize) -> bool
+    ensures { gap is_there i ≡ thickness result }
+{
+    i > 0 && is_there
+}
+
+// Draws the upright line before member `i` of a row, where there is one.
+fn draw_upright_before(
+    pen: &Pen<'_>,
+    i: usize,
+    top: usize,
+    height: usize,
+    lines: &mut [Vec<Part>],
+) -> Result<(), AllocError>
+    requires inside { top + height ≤ length lines.old }
+    ensures { OnOk result (Adds lines.old lines.new (from_line top (upright_before (look_of pen.now.cfg.now) i height))) }
+{
+    if has_gap(pen.cfg.has_vertical(0, 1), i) {
+        draw_upright(Edge::Between, top, height, lines)
+    } else {
+        Ok(())
+    }
+}
+
+// Draws the level line before member `i` of a column, where there is one; returns how many lines it takes.
+fn draw_level_before(
+    pen: &Pen<'_>,
+    i: usize,
+    top: usize,
+    width: usize,
+    lines: &mut [Vec<Part>],
+) -> Result<usize, AllocError>
+    requires inside { top + gap (has_level (look_of pen.now.cfg.now)) i ≤ length lines.old }
+    ensures taken { IfOk result (λ taken. taken ≡ gap (has_level (look_of pen.now.cfg.now)) i) }
+    ensures lines { OnOk result (Adds lines.old lines.new (from_line top (level_before (look_of pen.now.cfg.now) i width))) }
+{
+    if has_gap(pen.cfg.has_horizontal(0, 1), i) {
+        push_part(lines, top, Part::Level(Edge::Between, width))?;
+        Ok(1)
+    } else {
+        Ok(0)
+    }
+}

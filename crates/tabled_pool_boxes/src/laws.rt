@@ -1,0 +1,47 @@
+//! Laws: texts of pools that are worked out by hand.
+ghost use Rattle.std.specs.Prelude.{◌≡◌, codes, [], ◌∷◌};
+ghost use Rattle.tabled_pool_boxes.specs.Worked.{each};
+ghost use Rattle.tabled_pool_boxes.specs.Texts.{pool_text};
+ghost use Rattle.tabled_pool_boxes.specs.Worked.{ascii, cell, greetings, in_lines, last, nested, row, rows, text_of};
+ghost use Rattle.tabled_pool_boxes.specs.Boxes.{column_box, row_box};
+
+/// A nested table of greetings.
+pub fn greetings()
+    ensures { pool_text ascii each greetings ≡ text_of (
+        codes "+---------+---------+----+"
+        ∷ codes "| Hello   | World   | !  |"
+        ∷ codes "+---------+---------+----+"
+        ∷ codes "| Salve, mondo!          |"
+        ∷ codes "+------+-------+--+--+---+"
+        ∷ codes "| Hola | mundo |  |  | ! |"
+        ∷ codes "+------+-------+--+--+---+" ∷ []) }
+{}
+
+/// Boxes in boxes.
+pub fn boxes_in_boxes()
+    ensures { pool_text ascii each (nested ascii) ≡ text_of (
+        codes "+-------+-----------------------+"
+        ∷ codes "| Hello | Hello                 |"
+        ∷ codes "| World | World                 |"
+        ∷ codes "|       +-------+-------+-------+"
+        ∷ codes "|       | Hello | Hello | Hello |"
+        ∷ codes "|       | World | World | World |"
+        ∷ codes "+-------+-------+-------+-------+"
+        ∷ codes "| Hello                         |"
+        ∷ codes "| World                         |"
+        ∷ codes "+-------------------------------+" ∷ []) }
+{}
+
+/// Crossings, and who takes what is left over.
+pub fn crossings()
+    ensures above { pool_text in_lines each (rows in_lines ((codes "a" ∷ codes "b" ∷ []) ∷ (codes "abcdef" ∷ []) ∷ [])) ≡ text_of (
+        codes "┌────┬───┐" ∷ codes "│ a  │ b │" ∷ codes "├────┴───┤" ∷ codes "│ abcdef │" ∷ codes "└────────┘" ∷ []) }
+    ensures below { pool_text in_lines each (rows in_lines ((codes "abcdef" ∷ []) ∷ (codes "a" ∷ codes "b" ∷ []) ∷ [])) ≡ text_of (
+        codes "┌────────┐" ∷ codes "│ abcdef │" ∷ codes "├────┬───┤" ∷ codes "│ a  │ b │" ∷ codes "└────┴───┘" ∷ []) }
+    ensures both { pool_text in_lines each (rows in_lines ((codes "a" ∷ codes "b" ∷ []) ∷ (codes "c" ∷ codes "d" ∷ []) ∷ [])) ≡ text_of (
+        codes "┌───┬───┐" ∷ codes "│ a │ b │" ∷ codes "├───┼───┤" ∷ codes "│ c │ d │" ∷ codes "└───┴───┘" ∷ []) }
+    ensures beside { pool_text in_lines each (row_box in_lines (cell in_lines (codes "a") ∷ column_box in_lines (cell in_lines (codes "b") ∷ cell in_lines (codes "c") ∷ []) ∷ [])) ≡ text_of (
+        codes "┌───┬───┐" ∷ codes "│ a │ b │" ∷ codes "│   ├───┤" ∷ codes "│   │ c │" ∷ codes "└───┴───┘" ∷ []) }
+    ensures last { pool_text ascii last (rows ascii ((codes "a" ∷ codes "b" ∷ []) ∷ (codes "abcdef" ∷ []) ∷ [])) ≡ text_of (
+        codes "+---+----+" ∷ codes "| a | b  |" ∷ codes "+---+----+" ∷ codes "| abcdef |" ∷ codes "+--------+" ∷ []) }
+{}
