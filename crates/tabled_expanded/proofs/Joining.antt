@@ -1,9 +1,10 @@
 -- One record more: its lines come behind those of the others, and so does its text.
-use Rattle.std.proofs.Common.{◌≡◌, ◌∙◌, sym, ap, subst, refl, absurd, arith, ℕ, zero, suc, ◌+◌, ◌<◌, List, [], ◌∷◌, ◌++◌, append-nil, append_assoc, flat_map, length}
+use Rattle.std.proofs.Common.{◌≡◌, ◌∙◌, sym, ap, subst, refl, arith, Bool, false, ◌==◌, if◌then◌else◌, ℕ, zero, suc, ◌+◌, ◌<◌, List, [], ◌∷◌, ◌++◌, append-nil, append_assoc, flat_map, length}
 use Rattle.std.specs.Prelude.{zip}
+use Rattle.std.proofs.lemmas.Bool.Decides.{nat_tests}
 use Rattle.std.proofs.lemmas.List.Concat.{flat_map-append}
 use Rattle.grid_records_measure.specs.TextLines.{line_feed}
-use Rattle.tabled_expanded.specs.Expanded.{all_lines, behind_feeds, feed_before, joined_lines, record_lines}
+use Rattle.tabled_expanded.specs.Expanded.{all_lines, behind_feeds, feed_before, field_lines, head_line, joined_lines, record_lines}
 
 -- lists that are equally long, with a pair more
 zip_push : {A B : Type 0} (xs : List A) (ys : List B) (x : A) (y : B) → length xs ≡ length ys → zip (xs ++ x ∷ []) (ys ++ y ∷ []) ≡ zip xs ys ++ ((x, y) ∷ [])
@@ -29,6 +30,11 @@ joined_more line lines next more =
     ∙ sym (append_assoc line (behind_feeds lines) (behind_feeds (next ∷ more)))
     ∙ sym (append_assoc (line ++ behind_feeds lines) (line_feed ∷ []) (joined_lines (next ∷ more)))
 
+feed_more : (n : ℕ) → feed_before (suc n) ≡ line_feed ∷ []
+feed_more n =
+    let not_first : (suc n == 0) ≡ false = grind (arith, nat_tests) in
+    ap (λ (b : Bool). if b then [] else line_feed ∷ []) not_first
+
 -- the text with one record more
 pub text_more : (width values_width : ℕ) (fields heads : List (List ℕ)) (records : List (List (List ℕ))) (head : List ℕ) (values : List (List ℕ)) → length heads ≡ length records →
     joined_lines (all_lines width values_width fields heads records) ++ feed_before (length heads) ++ joined_lines (record_lines width values_width fields head values)
@@ -37,4 +43,9 @@ text_more width values_width fields [] [] head values same =
     ap joined_lines (sym (lines_more width values_width fields [] [] head values refl))
 text_more width values_width fields [] (others ∷ records) head values same = absurd (omega arith)
 text_more width values_width fields (other ∷ heads) [] head values same = absurd (omega arith)
-text_more width values_width fields (other ∷ heads) (others ∷ records) head values same = ?
+text_more width values_width fields (other ∷ heads) (others ∷ records) head values same =
+    let before = joined_lines (all_lines width values_width fields (other ∷ heads) (others ∷ records)) in
+    let behind = joined_lines (record_lines width values_width fields head values) in
+    ap (λ (feed : List ℕ). before ++ feed ++ behind) (feed_more (length heads))
+    ∙ sym (joined_more (head_line width values_width other) (field_lines width fields others ++ all_lines width values_width fields heads records) (head_line width values_width head) (field_lines width fields values))
+    ∙ ap joined_lines (sym (lines_more width values_width fields (other ∷ heads) (others ∷ records) head values same))

@@ -84,7 +84,7 @@ joined_lines (line ∷ lines) = line ++ behind_feeds lines
 
 -- the line feed before a record, where it is not the first
 abbrev pub feed_before : ℕ → List ℕ
-feed_before record = if record == 0 then [] else line_feed ∷ []
+feed_before number = if number == 0 then [] else line_feed ∷ []
 
 -- the text of a table whose records have heads around these texts
 abbrev pub expanded_text : Expanded → List (List ℕ) → List ℕ

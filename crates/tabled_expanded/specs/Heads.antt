@@ -10,7 +10,7 @@ Answer = Result (String Global) Fault
 
 -- the number of a record, which counts from 0, in brackets
 abbrev pub record_number : ℕ → List ℕ
-record_number record = codes "[ RECORD " ++ (decimal record ++ codes " ]")
+record_number number = codes "[ RECORD " ++ (decimal number ++ codes " ]")
 
 -- the number of the record; only want of memory is refused
 abbrev pub GivesNumber : ℕ → Answer → Type 0

@@ -1,4 +1,4 @@
-//! A function that gives the heads of records.
+//! Functions that give the heads of records.
 ghost use Rattle.std.specs.Prelude.{◌≡◌};
 
 use crate::template::Template;
@@ -6,51 +6,46 @@ use grid_config_values::Fault;
 use std::alloc::{AllocError, Global};
 use std::marker::Model;
 
-/// A function that gives the text in the head of each record, and may be called for each. In a contract it is
-/// that function.
+/// A function that gives the text in the head of each record. In a contract it is that function.
 #[derive(Drop)]
-pub struct Given<F: Fn(Global, usize) -> Result<String, Fault>> {
+pub struct Given<F> {
     function: F,
 }
 
-impl<F: Fn(Global, usize) -> Result<String, Fault>> Model for Given<F> {
+impl<F> Model for Given<F> {
     ghost Value = { F };
 
     ghost view = { λ given. given.function };
-
-    ghost invariant = { λ given. F.IsAlwaysCallable given.function };
 }
 
-impl<F: Fn(Global, usize) -> Result<String, Fault>> Given<F> {
-    // This function, on condition that it may be called for each record.
+impl<F> Given<F> {
     pub(crate) fn new(function: F) -> Given<F>
-        requires { F.IsAlwaysCallable function }
         ensures { result ≡ function }
     {
         Given { function }
     }
 }
 
-/// What the function answers for the number of the record.
+/// What the function answers for the number of the record, if it may be called for each.
 impl<F: Fn(Global, usize) -> Result<String, Fault>> Template for Given<F> {
     ghost use Rattle.std.specs.declared.alloc.Global.{Global as Heap};
 
-    ghost gives = { λ function record answer. (alloc : Heap) × F.post function alloc record answer };
+    ghost can_give = { λ function. F.IsAlwaysCallable function };
 
-    fn head(&self, alloc: Global, record: usize) -> Result<String, Fault> {
-        (self.function)(alloc, record)
+    ghost gives = { λ function number answer. (alloc : Heap) × F.post function alloc number answer };
+
+    fn head(&self, alloc: Global, number: usize) -> Result<String, Fault> {
+        (self.function)(alloc, number)
     }
 }
 
-/// The same function. It is never refused.
-impl<F: Fn(Global, usize) -> Result<String, Fault> + Copy> Clone for Given<F> {
-    ghost is_clone = { λ source clone. clone ≡ source };
+/// A clone of the function.
+impl<F: Clone> Clone for Given<F> {
+    ghost is_clone = { λ source clone. F.is_clone source clone };
 
-    ghost is_infallible = { λ _. Unit {0} };
+    ghost is_infallible = { λ source. F.is_infallible source };
 
     fn clone(&self) -> Result<Given<F>, AllocError> {
-        Ok(Given {
-            function: self.function,
-        })
+        Ok(Given::new(self.function.clone()?))
     }
 }

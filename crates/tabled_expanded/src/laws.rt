@@ -22,18 +22,22 @@ pub fn rows_are_tables()
     ensures { (rows : List1 (List1 (Bytes Heap) Heap) Heap) (table : OneTable Numbers) → ⟦<ExtendedTable<RecordNumber> as From<Vec<Vec<String>>>>⟧.from_gives rows table → expanded table ≡ table_of_rows (text_rows rows.items) }
 {}
 
-/// The head of a record has its number, or is refused for memory; or it is what a given function answers.
+/// The head of a record has its number, or is refused for memory, and can always be given; or it is what a given
+/// function answers, if that may be called for each number.
 pub fn heads_are_given<F: Fn(Global, usize) -> Result<String, Fault>>()
-    ensures number { (template : Numbers) (record : ℕ) (answer : Result (Bytes Heap) Refusal) → ⟦<RecordNumber as Template>⟧.gives template record answer ↔ GivesNumber record answer }
-    ensures function { (function : F) (record : ℕ) (answer : Result (Bytes Heap) Refusal) → ⟦<Given<F> as Template>⟧.gives function record answer ↔ ((alloc : Heap) × F.post function alloc record answer) }
+    ensures number { (template : Numbers) (number : ℕ) (answer : Result (Bytes Heap) Refusal) → ⟦<RecordNumber as Template>⟧.gives template number answer ↔ GivesNumber number answer }
+    ensures always { (template : Numbers) → ⟦<RecordNumber as Template>⟧.can_give template }
+    ensures function { (function : F) (number : ℕ) (answer : Result (Bytes Heap) Refusal) → ⟦<Given<F> as Template>⟧.gives function number answer ↔ ((alloc : Heap) × F.post function alloc number answer) }
+    ensures callable { (function : F) → F.IsAlwaysCallable function → ⟦<Given<F> as Template>⟧.can_give function }
 {}
 
-/// Clones of what gives the heads are the same, and are never refused.
-pub fn clones_are_the_same<F: Fn(Global, usize) -> Result<String, Fault> + Copy>()
+/// Clones of what gives the heads by number are the same, and never refused; one of a given function is a clone
+/// of it, and never refused where that never is.
+pub fn clones_are_the_same<F: Clone>()
     ensures numbers { (source clone : Numbers) → ⟦<RecordNumber as Clone>⟧.is_clone source clone → clone ≡ source }
     ensures numbers_come { (source : Numbers) → ⟦<RecordNumber as Clone>⟧.is_infallible source }
-    ensures function { (source clone : F) → ⟦<Given<F> as Clone>⟧.is_clone source clone → clone ≡ source }
-    ensures function_comes { (source : F) → ⟦<Given<F> as Clone>⟧.is_infallible source }
+    ensures function { (source clone : F) → ⟦<Given<F> as Clone>⟧.is_clone source clone → F.is_clone source clone }
+    ensures function_comes { (source : F) → F.is_infallible source → ⟦<Given<F> as Clone>⟧.is_infallible source }
 {}
 
 /// Heads are as wide as the widest line, with a `+` where they leave the place of the bar; a record may have
@@ -51,8 +55,8 @@ pub fn tables_by_hand()
         ≡ joined_lines (codes "-[ RECORD 0 ]-" ∷ codes "a | 1" ∷ []) }
     ensures more { expanded_text (table_of_rows ((codes "a" ∷ []) ∷ (codes "1" ∷ codes "2" ∷ []) ∷ [] ∷ [])) (record_number 0 ∷ record_number 1 ∷ [])
         ≡ joined_lines (codes "-[ RECORD 0 ]-" ∷ codes "a | 1" ∷ codes "-[ RECORD 1 ]-" ∷ []) }
-    ensures double { expanded_text (table_of_rows (((0xe6 ∷ 0xbc ∷ 0xa2 ∷ []) ∷ codes "abc" ∷ []) ∷ (codes "1" ∷ codes "2" ∷ []) ∷ [])) (record_number 0 ∷ [])
-        ≡ joined_lines (codes "-[ RECORD 0 ]-" ∷ (0xe6 ∷ 0xbc ∷ 0xa2 ∷ codes "   | 1") ∷ codes "abc | 2" ∷ []) }
+    ensures styled { expanded_text (table_of_rows (((0x1b ∷ codes "[1mb") ∷ codes "abcdefg" ∷ []) ∷ (codes "1" ∷ codes "2" ∷ []) ∷ [])) (record_number 0 ∷ [])
+        ≡ joined_lines (codes "-[ RECORD 0 ]-" ∷ (0x1b ∷ codes "[1mb   | 1") ∷ codes "abcdefg | 2" ∷ []) }
     ensures nothing { expanded_text (table_of_rows ((codes "a" ∷ []) ∷ [])) [] ≡ [] }
 {}
 

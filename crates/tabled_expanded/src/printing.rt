@@ -13,10 +13,12 @@ use grid_config_values::Fault;
 use std::alloc::{AllocError, Global};
 
 impl<F: Template> ExtendedTable<F> {
-    /// The table as a text, without a line feed at its end; the empty text where there is no record. Refused as
+    /// The table as a text, without a line feed at its end; the empty text where there is no record. Its
+    /// template can give heads: a `RecordNumber` always, a `Given` if its function may be called. Refused as
     /// `Range` where a line would be wider than `usize::MAX` columns, before a head is asked for; as the head of
     /// the first record whose head is refused; and as `Memory` where allocation fails.
     pub fn to_string(&self, alloc: Global) -> Result<String, Fault>
+        requires { F.can_give (template_of self.now) }
         ensures text { IfOk result (λ text. (heads : List (List ℕ)) × AreHeads (F.gives (template_of self.now)) heads × (length heads ≡ length (expanded self.now).records) × (string_bytes text ≡ expanded_text (expanded self.now) heads)) }
         ensures range { IsTooWide (expanded self.now) → result ≡ Err Range }
         ensures refused { IfErr result (λ fault. (fault ≡ Memory) ⊎ ((fault ≡ Range) × IsTooWide (expanded self.now)) ⊎ IsFaultOfHead (F.gives (template_of self.now)) (length (expanded self.now).records) fault) }
@@ -50,7 +52,8 @@ fn text_of<F: Template>(
     fields: &[String],
     records: &[Vec<String>],
 ) -> Result<String, Fault>
-    requires { widths.0 + 3 + widths.1 < 2 ^ 64 }
+    requires widths { widths.0 + 3 + widths.1 < 2 ^ 64 }
+    requires can { F.can_give template.now }
     ensures text { IfOk result (λ text. (heads : List (List ℕ)) × AreHeads (F.gives template.now) heads × (length heads ≡ length records.now) × (string_bytes text ≡ joined_lines (all_lines widths.0 widths.1 (map string_bytes fields.now) heads (text_rows records.now)))) }
     ensures refused { IfErr result (λ fault. (fault ≡ Memory) ⊎ IsFaultOfHead (F.gives template.now) (length records.now) fault) }
 {

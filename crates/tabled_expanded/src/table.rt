@@ -108,6 +108,7 @@ impl<F> ExtendedTable<F> {
         requires { G.IsAlwaysCallable f }
         ensures texts { expanded result ≡ expanded self }
         ensures template { template_of result ≡ f }
+        ensures callable { G.IsAlwaysCallable (template_of result) }
     {
         ExtendedTable {
             fields: self.fields,

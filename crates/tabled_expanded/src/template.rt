@@ -9,13 +9,17 @@ use std::alloc::{AllocError, Global};
 
 /// What stands in the heads of records.
 pub trait Template {
+    // It may be asked for each record.
+    ghost can_give: { Self → Type 0 } = { λ _. Unit {0} };
+
     // What it may answer for the number of a record.
     ghost gives: { Self → ℕ → Result (String Heap) Refusal → Type 0 };
 
-    /// The text in the head of a record, whose number counts from 0. A fault is handed on by what prints the
-    /// records.
-    fn head(&self, alloc: Global, record: usize) -> Result<String, Fault>
-        ensures { gives self.now record result };
+    /// The text in the head of a record, whose number counts from 0, on condition that it may be asked. A fault
+    /// is handed on by what prints the records.
+    fn head(&self, alloc: Global, number: usize) -> Result<String, Fault>
+        requires { can_give self.now }
+        ensures { gives self.now number result };
 }
 
 /// The number of the record: `[ RECORD 0 ]`, and so on. It is refused only where allocation fails.
@@ -23,10 +27,10 @@ pub trait Template {
 pub struct RecordNumber;
 
 impl Template for RecordNumber {
-    ghost gives = { λ _ record answer. GivesNumber record answer };
+    ghost gives = { λ _ number answer. GivesNumber number answer };
 
-    fn head(&self, alloc: Global, record: usize) -> Result<String, Fault> {
-        Ok(numbered(alloc, record)?)
+    fn head(&self, alloc: Global, number: usize) -> Result<String, Fault> {
+        Ok(numbered(alloc, number)?)
     }
 }
 
@@ -34,8 +38,8 @@ ghost use Rattle.std.specs.Prelude.{◌≡◌, IfOk, string_bytes};
 ghost use Rattle.tabled_expanded.specs.Heads.{record_number};
 
 // The number of a record in brackets.
-fn numbered(alloc: Global, record: usize) -> Result<String, AllocError>
-    ensures { IfOk result (λ text. string_bytes text ≡ record_number record) }
+fn numbered(alloc: Global, number: usize) -> Result<String, AllocError>
+    ensures { IfOk result (λ text. string_bytes text ≡ record_number number) }
 {
-    format!(in alloc; "[ RECORD {record} ]")
+    format!(in alloc; "[ RECORD {number} ]")
 }
