@@ -31,7 +31,7 @@ record_more width values_width fields heads records number values head text coun
     let within : number ≤ length records = omega arith in
     let same : length heads ≡ length before = count ∙ sym (length-map (take number records) texts ∙ length-take-le number records within) in
     let taken : take (number + 1) records ≡ take number records ++ values ∷ [] =
-        take_more records number values inside ∙ ap (λ (last : Vec (String Global) Global). take number records ++ last ∷ []) (sym is) in
+    take_more records number values inside ∙ ap (λ (last : Vec (String Global) Global). take number records ++ last ∷ []) (sym is) in
     let rows = ap text_rows taken ∙ map_push texts (take number records) values in
     ap (λ (bytes : List ℕ). bytes ++ feed_before number ++ lines) so_far
     ∙ ap (λ (n : ℕ). joined_lines (all_lines width values_width fields heads before) ++ feed_before n ++ lines) (sym count)

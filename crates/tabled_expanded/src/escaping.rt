@@ -85,6 +85,10 @@ fn push_digit(out: &mut String, digit: u8) -> Result<(), AllocError>
     requires { digit < 16 }
     ensures { OnOk result (string_bytes out.new ≡ string_bytes out.old ++ hex_digit digit ∷ []) }
 {
-    let digit = if digit < 10 { b'0' + digit } else { b'a' - 10 + digit };
+    let digit = if digit < 10 {
+        b'0' + digit
+    } else {
+        b'a' - 10 + digit
+    };
     out.push(digit as char)
 }

@@ -2,7 +2,7 @@
 ghost use Rattle.std.specs.Prelude.{◌≡◌, ◌↔◌, ℕ, Result, String as Bytes, Vec as List1, [], ◌∷◌, ◌++◌, codes, decimal, true, false};
 ghost use Rattle.std.specs.declared.alloc.Global.{Global as Heap};
 ghost use Rattle.grid_config_values.specs.declared.fault.Fault.{Fault as Refusal};
-ghost use Rattle.tabled_expanded.specs.Cutting.{has_room, truncated};
+ghost use Rattle.tabled_expanded.specs.Cutting.{Fields, Values, cut_for, cut_text, has_room};
 ghost use Rattle.tabled_expanded.specs.Escapes.{escaped};
 ghost use Rattle.tabled_expanded.specs.Expanded.{expanded_text, joined_lines, table_of_rows};
 ghost use Rattle.tabled_expanded.specs.Heads.{GivesNumber, record_number};
@@ -60,11 +60,14 @@ pub fn tables_by_hand()
     ensures nothing { expanded_text (table_of_rows ((codes "a" ∷ []) ∷ [])) [] ≡ [] }
 {}
 
-/// Values are cut where the fields leave them room, and else the fields, and the values to nothing.
+/// Values are cut where the fields leave them room, and else the fields, and the values to nothing: what is left
+/// is the suffix where there was a text.
 pub fn cuts_by_hand()
-    ensures values { truncated 14 [] (table_of_rows ((codes "name" ∷ []) ∷ (codes "abcdefghij" ∷ []) ∷ [])) ≡ table_of_rows ((codes "name" ∷ []) ∷ (codes "abcdefg" ∷ []) ∷ []) }
-    ensures with_suffix { truncated 14 (codes "..") (table_of_rows ((codes "name" ∷ []) ∷ (codes "abcdefghij" ∷ []) ∷ [])) ≡ table_of_rows ((codes "name" ∷ []) ∷ (codes "abc.." ∷ []) ∷ []) }
-    ensures fields { truncated 15 (codes "..") (table_of_rows ((codes "abcdefghijkl" ∷ []) ∷ (codes "x" ∷ []) ∷ [])) ≡ table_of_rows ((codes "abcdefgh.." ∷ []) ∷ (codes ".." ∷ []) ∷ []) }
+    ensures values { cut_for 14 [] (table_of_rows ((codes "name" ∷ []) ∷ (codes "abcdefghij" ∷ []) ∷ [])) ≡ Values 7 }
+    ensures with_suffix { cut_for 14 (codes "..") (table_of_rows ((codes "name" ∷ []) ∷ (codes "abcdefghij" ∷ []) ∷ [])) ≡ Values 3 }
+    ensures fields { cut_for 15 (codes "..") (table_of_rows ((codes "abcdefghijkl" ∷ []) ∷ (codes "x" ∷ []) ∷ [])) ≡ Fields 8 }
+    ensures lost { cut_text 0 (codes "..") (codes "x") ≡ codes ".." }
+    ensures not_lost { cut_text 0 (codes "..") [] ≡ [] }
     ensures has_room { has_room 14 [] (table_of_rows ((codes "name" ∷ []) ∷ (codes "abcdefghij" ∷ []) ∷ [])) ≡ true }
     ensures has_none { has_room 13 [] (table_of_rows ((codes "name" ∷ codes "x" ∷ []) ∷ (codes "C" ∷ codes "1" ∷ []) ∷ [])) ≡ false }
     ensures suffix_fits { has_room 14 (codes ".....") (table_of_rows ((codes "abcdefghijkl" ∷ []) ∷ (codes "x" ∷ []) ∷ [])) ≡ true }

@@ -3,8 +3,8 @@
 
 mod escaping;
 mod given;
-mod lines;
 pub mod laws;
+mod lines;
 mod printing;
 mod table;
 mod template;

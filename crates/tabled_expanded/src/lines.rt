@@ -98,12 +98,7 @@ fn push_fields(
 }
 
 // Appends the line of a field and its value after a line feed.
-fn push_field(
-    out: &mut String,
-    width: usize,
-    field: &str,
-    value: &str,
-) -> Result<(), AllocError>
+fn push_field(out: &mut String, width: usize, field: &str, value: &str) -> Result<(), AllocError>
     ensures { OnOk result (string_bytes out.new ≡ string_bytes out.old ++ line_feed ∷ field_line width field.now value.now) }
 {
     out.push('\n')?;

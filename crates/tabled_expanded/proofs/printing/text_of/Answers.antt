@@ -19,14 +19,13 @@ loop-number-preserved g c =
     let values_width = c.args.widths.1 in
     let fields = map string_bytes c.args.fields.now in
     let given : gives (length heads) (Ok head) = subst (λ (n : ℕ). gives n (Ok head)) (sym count) c.in_ok-head.ensures in
-    let lines = λ (text : List ℕ) (rows : List (List ℕ)). joined_lines (record_lines width values_width fields text rows) in
-    (
+    let lines = λ (text : List ℕ) (rows : List (List ℕ)). joined_lines (record_lines width values_width fields text rows) in (
       heads ++ string_bytes head ∷ [],
       heads_more gives heads head l.invariant.1 given,
       omega (arith, length_push heads (string_bytes head), count),
       c.in_ok-push_record.ensures
-      ∙ ap (λ (bytes : List ℕ). bytes ++ lines c.deref.result.now (map string_bytes c.deref-in-loop-number.result.now)) c.in_ok-push_feed.ensures
-      ∙ ap (λ (text : List ℕ). string_bytes l.text ++ feed_before l.number ++ lines text (map string_bytes c.deref-in-loop-number.result.now)) c.deref.ensures
-      ∙ ap (λ (rows : List (String Global)). string_bytes l.text ++ feed_before l.number ++ lines (string_bytes head) (map string_bytes rows)) c.deref-in-loop-number.ensures.value
-      ∙ record_more width values_width fields heads c.args.records.now l.number values (string_bytes head) (string_bytes l.text) count c.loop-number-test.true c.index-records-number.is l.invariant.3
+          ∙ ap (λ (bytes : List ℕ). bytes ++ lines c.deref.result.now (map string_bytes c.deref-in-loop-number.result.now)) c.in_ok-push_feed.ensures
+          ∙ ap (λ (text : List ℕ). string_bytes l.text ++ feed_before l.number ++ lines text (map string_bytes c.deref-in-loop-number.result.now)) c.deref.ensures
+          ∙ ap (λ (rows : List (String Global)). string_bytes l.text ++ feed_before l.number ++ lines (string_bytes head) (map string_bytes rows)) c.deref-in-loop-number.ensures.value
+          ∙ record_more width values_width fields heads c.args.records.now l.number values (string_bytes head) (string_bytes l.text) count c.loop-number-test.true c.index-records-number.is l.invariant.3,
     )

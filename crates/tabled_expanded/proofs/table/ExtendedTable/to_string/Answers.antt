@@ -18,11 +18,10 @@ returns-clause-text g c =
     let same_fields = ap (λ (texts : List (String Global)). map string_bytes texts) c.deref-3.ensures.value in
     let same_records = ap (λ (records : List (Vec (String Global) Global)). text_rows records) c.deref-4.ensures.value in
     IfOk-weaker c.text_of.result _ _
-    (λ text given.
-        (
-          given.0,
-          given.1,
-          given.2 ∙ ap length c.deref-4.ensures.value ∙ sym (length-map rows (λ (row : Vec (String Global) Global). map string_bytes (vec_items row))),
-          given.3 ∙ text_of_table (expanded c.args.self.now) widths.0 widths.1 _ _ given.0 by_fields by_values same_fields same_records
-        ))
+    (λ text given. (
+      given.0,
+      given.1,
+      given.2 ∙ ap length c.deref-4.ensures.value ∙ sym (length-map rows (λ (row : Vec (String Global) Global). map string_bytes (vec_items row))),
+      given.3 ∙ text_of_table (expanded c.args.self.now) widths.0 widths.1 _ _ given.0 by_fields by_values same_fields same_records,
+    ))
     c.text_of.ensures.text
