@@ -1,5 +1,5 @@
 -- A table in expanded form by its texts and its template.
-use Rattle.std.specs.Prelude.{List, ℕ, Vec, map, string_bytes, vec_items}
+use Rattle.std.specs.Prelude.{map, string_bytes, vec_items}
 use Rattle.tabled_text.specs.Rows.{text_rows}
 use Rattle.tabled_expanded.specs.Expanded.{Expanded}
 use Rattle.tabled_expanded.specs.declared.table.ExtendedTable.{ExtendedTable}

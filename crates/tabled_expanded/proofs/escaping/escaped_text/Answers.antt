@@ -1,5 +1,5 @@
 -- A character comes off the text, and its escape onto the answer.
-use Rattle.std.proofs.Common.{rules, ◌≡◌, ◌++◌, ◌∙◌, ℕ, List, [], ap, arith, append_assoc, append-nil, chars, flat_map, length, refl, string_bytes, sym}
+use Rattle.std.proofs.Common.{rules, ◌++◌, ◌∙◌, ℕ, List, ap, append_assoc, append-nil, chars, flat_map, string_bytes, sym}
 use Rattle.std.specs.Str.Iter.{chars_rest}
 use Rattle.std.proofs.lemmas.List.{nil_from_length}
 use Rattle.std.proofs.lemmas.Str.{IsUtf8-past_char, chars_past_char, chars-nil}

@@ -1,5 +1,5 @@
 -- The head of one record more is given, and its lines come behind the text.
-use Rattle.std.proofs.Common.{◌≡◌, ◌∙◌, ◌+◌, ◌++◌, ◌∷◌, [], List, ℕ, Ok, String, ap, arith, length, map, string_bytes, subst, sym}
+use Rattle.std.proofs.Common.{◌∙◌, ◌++◌, ◌∷◌, [], List, ℕ, Ok, String, ap, arith, length, map, string_bytes, subst, sym}
 use Rattle.std.specs.declared.alloc.Global.{Global}
 use Rattle.std.proofs.lemmas.List.{length_push}
 use Rattle.tabled_expanded.specs.Expanded.{feed_before, joined_lines, record_lines}
