@@ -1,5 +1,5 @@
 //! Laws of what the other contracts cite, and tables, cuts and escapes worked by hand.
-ghost use Rattle.std.specs.Prelude.{◌≡◌, ◌↔◌, ℕ, Result, String as Bytes, Vec as List1, [], ◌∷◌, ◌++◌, codes, decimal, true, false};
+ghost use Rattle.std.specs.Prelude.{◌≡◌, ◌↔◌, ℕ, Result, String as Bytes, Vec as List1, [], ◌∷◌, ◌++◌, codes, true, false};
 ghost use Rattle.std.specs.declared.alloc.Global.{Global as Heap};
 ghost use Rattle.grid_config_values.specs.declared.fault.Fault.{Fault as Refusal};
 ghost use Rattle.tabled_expanded.specs.Cutting.{Fields, Values, cut_for, cut_text, has_room};

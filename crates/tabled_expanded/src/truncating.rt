@@ -20,10 +20,10 @@ enum Cut {
 }
 
 impl<F> ExtendedTable<F> {
-    /// Cuts the values, or where the fields leave no room for them the fields, so that a line takes at most `max`
-    /// columns of the terminal, and puts `suffix` after each text that was cut. Answers false, and changes
-    /// nothing, where there is no room for a head or for the suffix. Fails only where allocation fails, and then
-    /// nothing has changed.
+    /// Cuts the values to what is left of `max` columns of the terminal beside the widest field and twice the
+    /// suffix; where the fields leave nothing of them, cuts the fields so, and the values to nothing. After each
+    /// text that lost bytes follows `suffix`. Answers false, and changes nothing, where there is no room for the
+    /// number of a record or for the suffix. Fails only where allocation fails, and then nothing has changed.
     pub fn truncate(&mut self, alloc: Global, max: usize, suffix: &str) -> Result<bool, Fault>
         ensures answer { IfOk result (λ done. done ≡ has_room max suffix.now (expanded self.old)) }
         ensures cut { OnOk result (expanded self.new ≡ truncated max suffix.now (expanded self.old)) }
