@@ -10,6 +10,7 @@ mod made;
 mod pager;
 mod pages;
 mod places;
+mod records;
 mod styled;
 mod tables;
 mod totals;

@@ -1,0 +1,3 @@
+mod Joining
+mod Heading
+mod OneMore

@@ -1,0 +1,64 @@
+-- Tables in expanded form that are cut to a width.
+use Rattle.std.specs.Prelude.{ℕ, ◌+◌, ◌-◌, ◌==◌, ◌||◌, nat_lt, Bool, true, false, List, [], ◌++◌, decimal, length, map, if◌then◌else◌}
+use Rattle.grid_records_measure.specs.TextLines.{line_width}
+use Rattle.grid_records_measure.specs.CutTexts.{cut_at}
+use Rattle.tabled_expanded.specs.Expanded.{Expanded, field_width}
+use Rattle.tabled_expanded.specs.declared.truncating.Cut.{Cut as OneCut}
+use Rattle.tabled_expanded.specs.declared.truncating.Cut.TheVariants.{NoRoom as NoRoomCut, Fields as FieldsCut, Values as ValuesCut}
+
+-- a text cut to so many columns, and the suffix after it where it has fewer bytes than before. Cut to none it is empty,
+-- without its sequences too
+abbrev pub cut_text : ℕ → List ℕ → List ℕ → List ℕ
+cut_text width suffix text =
+    let kept = if width == 0 then [] else cut_at width text in
+    kept ++ (if nat_lt (length kept) (length text) then suffix else [])
+
+-- to how many columns fields, or else values, are cut
+pub data Cut : Type 0 where
+  NoRoom : Cut
+  Fields : ℕ → Cut
+  Values : ℕ → Cut
+
+-- where the widest field takes `fields` columns, the number of records `digits` digits and the suffix `suffix` columns: the
+-- fields are cut, and the values to nothing, where the fields leave no room for values; and else the values. There is no room
+-- where a head or the suffix has none
+abbrev pub cut_of : ℕ → ℕ → ℕ → ℕ → Cut
+cut_of fields digits suffix limit =
+    let room = limit - suffix in
+    if nat_lt limit (digits + 13) || nat_lt limit suffix then NoRoom
+    else if nat_lt room (fields + 3) then (if nat_lt room (3 + suffix) then NoRoom else Fields (room - 3 - suffix))
+    else if nat_lt room (fields + 3 + suffix) then NoRoom
+    else Values (room - fields - 3 - suffix)
+
+abbrev pub cut_table : List ℕ → Expanded → Cut → Expanded
+cut_table suffix table NoRoom = table
+cut_table suffix table (Fields width) = record {
+  fields = map (cut_text width suffix) table.fields;
+  records = map (map (cut_text 0 suffix)) table.records;
+}
+cut_table suffix table (Values width) = record {
+  fields = table.fields;
+  records = map (map (cut_text width suffix)) table.records;
+}
+
+abbrev pub is_cut : Cut → Bool
+is_cut NoRoom = false
+is_cut (Fields width) = true
+is_cut (Values width) = true
+
+-- how a table is cut at a limit
+abbrev pub cut_for : ℕ → List ℕ → Expanded → Cut
+cut_for limit suffix table = cut_of (field_width table) (length (decimal (length table.records))) (line_width suffix) limit
+
+-- whether a table can be cut at a limit, and the table then
+abbrev pub has_room : ℕ → List ℕ → Expanded → Bool
+has_room limit suffix table = is_cut (cut_for limit suffix table)
+
+abbrev pub truncated : ℕ → List ℕ → Expanded → Expanded
+truncated limit suffix table = cut_table suffix table (cut_for limit suffix table)
+
+-- a cut as the code has it
+abbrev pub cut_view : OneCut → Cut
+cut_view NoRoomCut = NoRoom
+cut_view (FieldsCut width) = Fields width
+cut_view (ValuesCut width) = Values width
