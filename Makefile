@@ -1,6 +1,7 @@
 # `rt` proves, builds and tests; `rt help` tells its commands. What follows only calls it.
 
 PROGRAM := crates/columns/out/columns
+LIBRARY := lib/libbasinmug.so.0
 TESTS := $(foreach crate,ansi_tests grid_tests tabled_tests,crates/$(crate)/out/$(crate)_tests)
 INPUT ?= examples/nightly.tsv
 PREFIX ?= /usr/local
@@ -16,13 +17,15 @@ FROM = $(if $(filter /dev/stdin -,$(INPUT)),,< '$(INPUT)')
 # No rule of make's own makes a source file; so it looks for none.
 MAKEFLAGS += --no-builtin-rules
 .NOTPARALLEL:
-.PHONY: run build test check fmt bench attack install dist clean help
+.PHONY: run build lib test check fmt bench attack install install-program install-library dist clean help
 
 # Where the program is not built, this is a run of a minute that is checked, and not proved.
 run:                ## print the table of INPUT (INPUT=/dev/stdin reads standard input) as WORDS ask
 	@tools/try $(WORDS) $(FROM)
 
 build: $(PROGRAM)   ## prove and build the program, which takes half an hour at first
+
+lib: $(LIBRARY)     ## prove and build the library for C, Python and Rust, into lib/
 
 test:               ## the gate: every proof, every test, then the built program from outside
 	@tests/run
@@ -39,7 +42,10 @@ bench: $(PROGRAM)   ## instructions and memory per input byte (BENCH='--kinds wi
 attack:             ## try the wrong bodies of attacks/ (ATTACK='CRATE' or 'CRATE/NAME' for some)
 	@attacks/run $(ATTACK)
 
-install: $(PROGRAM) ## put the program, its manual page and completions into PREFIX
+install: install-program install-library ## put the program and the library, with what belongs to them, into PREFIX
+
+# The program, its manual page and completions.
+install-program: $(PROGRAM)
 	install -d '$(DESTDIR)$(PREFIX)/bin' '$(DESTDIR)$(PREFIX)/share/man/man1'
 	install -m 755 $(PROGRAM) '$(DESTDIR)$(PREFIX)/bin/columns'
 	install -m 644 docs/columns.1 '$(DESTDIR)$(PREFIX)/share/man/man1/columns.1'
@@ -48,11 +54,21 @@ install: $(PROGRAM) ## put the program, its manual page and completions into PRE
 	install -m 644 completions/_columns '$(DESTDIR)$(PREFIX)/share/zsh/site-functions/_columns'
 	install -m 644 completions/columns.fish '$(DESTDIR)$(PREFIX)/share/fish/vendor_completions.d/columns.fish'
 
-dist: $(PROGRAM)    ## pack the program and what `install` puts beside it into dist/, for Linux on x86-64
+# The library, its header, and what pkg-config tells of them.
+install-library: $(LIBRARY)
+	install -d '$(DESTDIR)$(PREFIX)/lib/pkgconfig' '$(DESTDIR)$(PREFIX)/include'
+	install -m 644 lib/libbasinmug.a '$(DESTDIR)$(PREFIX)/lib/libbasinmug.a'
+	install -m 755 lib/libbasinmug.so.0 '$(DESTDIR)$(PREFIX)/lib/libbasinmug.so.0'
+	ln -sf libbasinmug.so.0 '$(DESTDIR)$(PREFIX)/lib/libbasinmug.so'
+	install -m 644 include/basinmug.h '$(DESTDIR)$(PREFIX)/include/basinmug.h'
+	sed 's|@PREFIX@|$(PREFIX)|' include/basinmug.pc.in > '$(DESTDIR)$(PREFIX)/lib/pkgconfig/basinmug.pc'
+	chmod 644 '$(DESTDIR)$(PREFIX)/lib/pkgconfig/basinmug.pc'
+
+dist: $(PROGRAM)    ## pack the program, its manual page and completions into dist/, for Linux on x86-64
 	@tools/dist
 
 clean:              ## remove everything that was built or generated
-	rm -rf crates/*/out bench/data dist
+	rm -rf crates/*/out bench/data dist lib
 	find . -name __pycache__ -prune -exec rm -rf {} +
 
 help:               ## this list
@@ -63,6 +79,10 @@ help:               ## this list
 $(PROGRAM): $(SOURCES)
 	@tools/build columns
 	@touch $@
+
+$(LIBRARY): $(SOURCES) tools/library
+	@tools/build columns_c
+	@tools/library
 
 # `rt test` proves and builds the tests, and runs them.
 $(TESTS): $(SOURCES)

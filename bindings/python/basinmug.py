@@ -1,0 +1,150 @@
+"""Tables of tab-separated text, by the library `libbasinmug`.
+
+    >>> print(table([["a", "b"], ["1", "2"]], style="modern"), end="")
+    ┌───┬───┐
+    │ a │ b │
+    ├───┼───┤
+    │ 1 │ 2 │
+    └───┴───┘
+
+The library is `libbasinmug.so.0` where the system finds it, or the file that BASINMUG_LIBRARY names.
+"""
+import ctypes
+import os
+
+STYLES = {"ascii": 0, "modern": 1, "extended": 2, "empty": 3}
+PRIORITIES = {"none": 0, "min": 1, "max": 2, "left": 3, "right": 4}
+NO_WIDTH = ctypes.c_size_t(-1).value
+
+
+class TableError(Exception):
+    """There is no table."""
+
+
+class NotUtf8(TableError):
+    """The text is not UTF-8: `place` bytes, and no more, are the longest text at its front."""
+
+    def __init__(self, place):
+        super().__init__(f"not UTF-8 at byte {place}")
+        self.place = place
+
+
+class BrokenEscape(TableError):
+    """An escape sequence is broken: the first one begins at byte `place`."""
+
+    def __init__(self, place):
+        super().__init__(f"escape at byte {place}")
+        self.place = place
+
+
+class OutOfRange(TableError):
+    """A width, a height or a total of the table is too large."""
+
+
+class OutOfMemory(TableError, MemoryError):
+    """The library was given no memory."""
+
+
+class TooLong(TableError):
+    """The text has 2 to the power of 40 bytes or more."""
+
+
+class BadOption(TableError, ValueError):
+    """An option has no such value."""
+
+
+class BadCell(TableError, ValueError):
+    """A cell of a row has a tab or a line feed, which end cells and rows. `row` and `column` count from 0."""
+
+    def __init__(self, row, column):
+        super().__init__(f"a tab or a line feed in row {row}, column {column}")
+        self.row, self.column = row, column
+
+
+class _Options(ctypes.Structure):
+    _fields_ = [
+        ("version", ctypes.c_uint32),
+        ("style", ctypes.c_uint32),
+        ("width", ctypes.c_size_t),
+        ("priority", ctypes.c_uint32),
+        ("truncate", ctypes.c_uint32),
+        ("keep_words", ctypes.c_uint32),
+        ("reserved", ctypes.c_uint32),
+        ("reserved_words", ctypes.c_uint64 * 4),
+    ]
+
+
+class _Answer(ctypes.Structure):
+    _fields_ = [(name, ctypes.c_size_t) for name in ("size", "place", "row", "column")]
+
+
+_library = ctypes.CDLL(os.environ.get("BASINMUG_LIBRARY", "libbasinmug.so.0"))
+_table = _library.basinmug_table
+_table.restype = ctypes.c_uint32
+_table.argtypes = [
+    ctypes.POINTER(_Options),
+    ctypes.c_char_p,
+    ctypes.c_size_t,
+    ctypes.c_char_p,
+    ctypes.c_size_t,
+    ctypes.POINTER(_Answer),
+]
+_FAULTS = {
+    1: lambda answer: NotUtf8(answer.place),
+    2: lambda answer: BrokenEscape(answer.place),
+    3: lambda answer: OutOfRange("size out of range"),
+    5: lambda answer: OutOfMemory("out of memory"),
+    6: lambda answer: TooLong("the text is too long"),
+}
+
+
+def table(rows_or_text, width=None, *, truncate=False, keep_words=False, priority="none", style="ascii"):
+    """The table of a text, whose rows end with line feeds and whose cells end with tabs, or of rows of cells.
+
+    `width` is the greatest width, in columns; none where the table may be as wide as its text. What passes it is cut
+    off where `truncate` is set, else broken over lines, between words with `keep_words`. `priority` is a name of
+    PRIORITIES and says which column gives first, `style` is one of STYLES. Raises a `TableError`.
+    """
+    text = rows_or_text if isinstance(rows_or_text, str) else _text_of(rows_or_text)
+    data = text.encode("utf-8", "surrogatepass")
+    options = _Options(
+        version=1,
+        style=_number(STYLES, style, "style"),
+        width=NO_WIDTH if width is None else _width(width),
+        priority=_number(PRIORITIES, priority, "priority"),
+        truncate=bool(truncate),
+        keep_words=bool(keep_words),
+    )
+    room = 4 * len(data) + 256
+    while True:
+        out, answer = ctypes.create_string_buffer(room), _Answer()
+        status = _table(options, data, len(data), out, room, answer)
+        if status:
+            raise _FAULTS.get(status, lambda answer: TableError(f"status {status}"))(answer)
+        if answer.size <= room:
+            return out.raw[: answer.size].decode("utf-8")
+        room = answer.size
+
+
+def _text_of(rows):
+    """The text of these rows, in which no cell has a tab or a line feed."""
+    lines = []
+    for at, row in enumerate(rows):
+        cells = [str(cell) for cell in row]
+        for column, cell in enumerate(cells):
+            if "\t" in cell or "\n" in cell:
+                raise BadCell(at, column)
+        lines.append("\t".join(cells) + "\n")
+    return "".join(lines)
+
+
+def _number(names, name, what):
+    if name not in names:
+        raise BadOption(f"no {what} is called {name!r}: {', '.join(names)}")
+    return names[name]
+
+
+def _width(width):
+    if not 0 <= width < NO_WIDTH:
+        raise BadOption(f"no width: {width!r}")
+    return width

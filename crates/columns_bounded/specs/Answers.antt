@@ -1,0 +1,78 @@
+-- What a request and a text call for, and how it is told in numbers.
+use Rattle.std.specs.Prelude.{◌≡◌, ℕ, List, length, Result, Ok, Err, ⊤}
+use Rattle.columns_bounded.specs.Fronts.{filled}
+use Rattle.columns_bounded.specs.Requests.{IsAccepted, IsRefusedAs, wanted_by}
+use Rattle.columns_bounded.specs.declared.answer.Answer.{Answer}
+use Rattle.columns_bounded.specs.declared.answer.Refusal.{Refusal}
+use Rattle.columns_bounded.specs.declared.answer.Refusal.TheVariants.{Request as OfRequest, Text as OfText}
+use Rattle.columns_bounded.specs.declared.request.Request.{Request}
+use Rattle.columns_bounded.specs.declared.request.RequestFault.{RequestFault}
+use Rattle.columns_bounded.specs.declared.request.RequestFault.TheVariants.{Version, Style, Priority, Truncate, KeepWords, Reserved}
+use Rattle.columns_run.specs.Layout.{output_of}
+use Rattle.columns_run.specs.Run.{HasTable, MayRefuse}
+use Rattle.columns_run.specs.declared.fault.RunFault.{RunFault}
+use Rattle.columns_run.specs.declared.fault.RunFault.TheVariants.{Read, ReadTooLong, NotUtf8, Escape, Range, LineTooWide, Write, WriteZero, Memory}
+
+-- ---- the outcome
+
+-- neither of these comes where a table is written into memory
+abbrev pub IsOfWriting : RunFault → Type 0
+IsOfWriting Write = ⊤
+IsOfWriting WriteZero = ⊤
+IsOfWriting _ = ⊥
+
+-- a table: its front is written and its whole size told; or what is at fault, and nothing is written
+abbrev pub IsOutcome : Request → List ℕ → List ℕ → List ℕ → Result ℕ Refusal → Type 0
+IsOutcome request text old new (Ok size) =
+    IsAccepted request × HasTable (wanted_by request) text
+    × (size ≡ length (output_of (wanted_by request) text)) × (new ≡ filled old (output_of (wanted_by request) text))
+IsOutcome request text old new (Err (OfRequest fault)) = IsRefusedAs request fault × (new ≡ old)
+IsOutcome request text old new (Err (OfText fault)) =
+    IsAccepted request × MayRefuse (wanted_by request) text fault × ¬ (IsOfWriting fault) × (new ≡ old)
+
+-- ---- its numbers
+
+abbrev pub text_status : RunFault → ℕ
+text_status (NotUtf8 at) = 1
+text_status (Escape at) = 2
+text_status Range = 3
+text_status (LineTooWide row column) = 4
+text_status Memory = 5
+text_status ReadTooLong = 6
+text_status Read = 7
+text_status Write = 8
+text_status WriteZero = 9
+
+abbrev pub request_status : RequestFault → ℕ
+request_status Version = 33
+request_status Style = 34
+request_status Priority = 35
+request_status Truncate = 36
+request_status KeepWords = 37
+request_status Reserved = 38
+
+abbrev pub status_of : Result ℕ Refusal → ℕ
+status_of (Ok size) = 0
+status_of (Err (OfText fault)) = text_status fault
+status_of (Err (OfRequest fault)) = request_status fault
+
+-- the size of the whole table, the byte at fault, or the cell that is too wide; 0 where a number has nothing to tell
+abbrev pub text_answer : RunFault → Answer
+text_answer (NotUtf8 at) = record { size = 0; place = at; row = 0; column = 0 }
+text_answer (Escape at) = record { size = 0; place = at; row = 0; column = 0 }
+text_answer (LineTooWide row column) = record { size = 0; place = 0; row = row; column = column }
+text_answer _ = record { size = 0; place = 0; row = 0; column = 0 }
+
+abbrev pub answer_of : Result ℕ Refusal → Answer
+answer_of (Ok size) = record { size = size; place = 0; row = 0; column = 0 }
+answer_of (Err (OfText fault)) = text_answer fault
+answer_of (Err (OfRequest fault)) = record { size = 0; place = 0; row = 0; column = 0 }
+
+-- ---- what a caller in another language sees
+
+-- there is an outcome that the request and the text call for, and status and answer tell it
+pub record Tells (request : Request) (text old new : List ℕ) (status : ℕ) (answer : Answer) : Type 0 where
+  pub outcome : Result ℕ Refusal
+  pub called_for : IsOutcome request text old new outcome
+  pub told : status ≡ status_of outcome
+  pub told_beside : answer ≡ answer_of outcome

@@ -1,0 +1,150 @@
+//! What a caller is told, as numbers.
+ghost use Rattle.std.specs.Prelude.{◌≡◌};
+ghost use Rattle.columns_bounded.specs.Answers.{IsOutcome, Tells, answer_of, request_status, status_of, text_status};
+
+use crate::request::{Request, RequestFault};
+use crate::table::table_into;
+use columns_run::RunFault;
+use std::alloc::Global;
+
+/// Why there is no table: the request, or the text.
+#[derive(Clone, Copy)]
+pub enum Refusal {
+    /// A number of the request stands for nothing.
+    Request(RequestFault),
+    /// The text has no table.
+    Text(RunFault),
+}
+
+impl From<RequestFault> for Refusal {
+    ghost use Rattle.std.specs.Prelude.{◌≡◌};
+    ghost use Rattle.columns_bounded.specs.declared.answer.Refusal.TheVariants.{Request};
+
+    ghost from_gives = { λ given refusal. refusal ≡ Request given };
+
+    fn from(fault: RequestFault) -> Refusal {
+        Refusal::Request(fault)
+    }
+}
+
+impl From<RunFault> for Refusal {
+    ghost use Rattle.std.specs.Prelude.{◌≡◌};
+    ghost use Rattle.columns_bounded.specs.declared.answer.Refusal.TheVariants.{Text};
+
+    ghost from_gives = { λ given refusal. refusal ≡ Text given };
+
+    fn from(fault: RunFault) -> Refusal {
+        Refusal::Text(fault)
+    }
+}
+
+/// What is told beside a status. A number of which the status says nothing is 0.
+#[repr(C)]
+#[derive(Drop)]
+pub struct Answer {
+    /// How many bytes the whole table has.
+    pub size: usize,
+    /// The byte of the text that is at fault.
+    pub place: usize,
+    /// The row of the cell that is too wide, from 0.
+    pub row: usize,
+    /// The column of that cell, from 0.
+    pub column: usize,
+}
+
+impl Answer {
+    /// What is told of an outcome beside its status.
+    pub fn of(outcome: &Result<usize, Refusal>) -> Answer
+        ensures { result ≡ answer_of outcome.now }
+    {
+        let mut answer = Answer {
+            size: 0,
+            place: 0,
+            row: 0,
+            column: 0,
+        };
+        match *outcome {
+            Ok(size) => answer.size = size,
+            Err(Refusal::Text(RunFault::NotUtf8 { at } | RunFault::Escape { at })) => {
+                answer.place = at;
+            }
+            Err(Refusal::Text(RunFault::LineTooWide { row, column })) => {
+                answer.row = row;
+                answer.column = column;
+            }
+            Err(_) => {}
+        }
+        answer
+    }
+}
+
+/// The table that a request asks for, by `table_into`; or why there is none, and then `out` is as it was. The request is
+/// looked at first.
+pub fn table_by(
+    alloc: Global,
+    request: &Request,
+    text: &[u8],
+    out: &mut [u8],
+) -> Result<usize, Refusal>
+    ensures { IsOutcome request.now text.now out.old out.new result }
+{
+    let options = request.options()?;
+    Ok(table_into(alloc, &options, text, out)?)
+}
+
+/// The status of an outcome: 0 where there is a table, from 1 on a fault of the text, from 33 on one of the request.
+pub fn status_of(outcome: &Result<usize, Refusal>) -> u32
+    ensures { result ≡ status_of outcome.now }
+{
+    match *outcome {
+        Ok(_) => 0,
+        Err(Refusal::Text(fault)) => text_status(fault),
+        Err(Refusal::Request(fault)) => request_status(fault),
+    }
+}
+
+// The status of a text without a table.
+fn text_status(fault: RunFault) -> u32
+    ensures { result ≡ text_status fault }
+{
+    match fault {
+        RunFault::NotUtf8 { .. } => 1,
+        RunFault::Escape { .. } => 2,
+        RunFault::Range => 3,
+        RunFault::LineTooWide { .. } => 4,
+        RunFault::Memory => 5,
+        RunFault::ReadTooLong => 6,
+        RunFault::Read => 7,
+        RunFault::Write => 8,
+        RunFault::WriteZero => 9,
+    }
+}
+
+// The status of a request that is not taken.
+fn request_status(fault: RequestFault) -> u32
+    ensures { result ≡ request_status fault }
+{
+    match fault {
+        RequestFault::Version => 33,
+        RequestFault::Style => 34,
+        RequestFault::Priority => 35,
+        RequestFault::Truncate => 36,
+        RequestFault::KeepWords => 37,
+        RequestFault::Reserved => 38,
+    }
+}
+
+/// The same outcome as `table_by`, told by its status and by what `answer` then holds.
+pub fn table_told(
+    alloc: Global,
+    request: &Request,
+    text: &[u8],
+    out: &mut [u8],
+    answer: &mut Answer,
+) -> u32
+    ensures { Tells request.now text.now out.old out.new result answer.new }
+{
+    let outcome = table_by(alloc, request, text, out);
+    *answer = Answer::of(&outcome);
+    status_of(&outcome)
+}

@@ -1,0 +1,65 @@
+//! From a text in memory to the front of its table.
+ghost use Rattle.std.specs.Prelude.{◌≡◌, ◌≤◌, ◌↔◌, length, IfErr, IfOk, IsErrOf};
+ghost use Rattle.columns_bounded.specs.Fronts.{filled};
+ghost use Rattle.columns_run.specs.Layout.{output_of};
+ghost use Rattle.columns_run.specs.Plain.{IsPlain};
+ghost use Rattle.columns_run.specs.Run.{MayAnswer, read_limit};
+ghost use Rattle.columns_run.specs.Wanted.{wanted_of};
+ghost use Rattle.grid_config.specs.Compact.{compact_of};
+
+use columns_run::{Counted, Options, RunFault, run};
+use std::alloc::Global;
+
+// How many bytes of text are too many.
+const TOO_MANY: usize = 1 << 40;
+
+/// Writes the front of the table of a text that there is room for, from the start of `out`, and answers how many bytes the
+/// whole table has. What `out` holds behind them stays, and all of it where there is no table. A text of 2^40 bytes or
+/// more is refused as `ReadTooLong`; other faults are those of `run`. Neither `Write` nor `WriteZero` comes: where the
+/// bytes of the table have no room of their own the answer is `Memory`.
+pub fn table_into(
+    alloc: Global,
+    options: &Options,
+    text: &[u8],
+    out: &mut [u8],
+) -> Result<usize, RunFault>
+    requires { IsPlain (compact_of options.now.style) }
+    ensures answers { MayAnswer (wanted_of options.now) text.now result }
+    ensures size { IfOk result (λ size. size ≡ length (output_of (wanted_of options.now) text.now)) }
+    ensures bytes { IfOk result (λ _. out.new ≡ filled out.old (output_of (wanted_of options.now) text.now)) }
+    ensures nothing { IfErr result (λ _. out.new ≡ out.old) }
+    ensures too_long { IsErrOf result RunFault.ReadTooLong ↔ read_limit ≤ length text.now }
+    ensures no_write { ¬ (IsErrOf result RunFault.Write) × ¬ (IsErrOf result RunFault.WriteZero) }
+{
+    if text.len() >= TOO_MANY {
+        return Err(RunFault::ReadTooLong);
+    }
+    let table = table_of(alloc, options, text)?;
+    write_front(&table, out);
+    Ok(table.len())
+}
+
+// The whole table.
+fn table_of(alloc: Global, options: &Options, text: &[u8]) -> Result<Vec<u8>, RunFault>
+    requires { IsPlain (compact_of options.now.style) }
+    ensures answers { MayAnswer (wanted_of options.now) text.now result }
+    ensures table { IfOk result (λ table. table.items ≡ output_of (wanted_of options.now) text.now) }
+    ensures no_write { ¬ (IsErrOf result RunFault.Write) × ¬ (IsErrOf result RunFault.WriteZero) }
+{
+    let mut reader = Counted::new(text);
+    let mut writer = Counted::new(Vec::new(alloc));
+    match run(alloc, options, &mut reader, &mut writer) {
+        Ok(()) => Ok(writer.into_inner()),
+        // A vector refuses bytes only where allocation fails.
+        Err(RunFault::Write | RunFault::WriteZero) => Err(RunFault::Memory),
+        Err(fault) => Err(fault),
+    }
+}
+
+// Writes as many bytes as there is room for, from the start.
+fn write_front(bytes: &[u8], out: &mut [u8])
+    ensures { out.new ≡ filled out.old bytes.now }
+{
+    let count = bytes.len().min(out.len());
+    out[..count].copy_from_slice(&bytes[..count]);
+}

@@ -1,0 +1,77 @@
+//! Prints a text as a table of at most 40 columns. Where the library is installed:
+//!
+//!     rustc report.rs -l basinmug && ./report
+
+mod basinmug {
+    //! A safe function over the library.
+    use std::ffi::c_char;
+
+    /// The width of a table that may be as wide as its text.
+    pub const NO_WIDTH: usize = usize::MAX;
+    /// Light lines.
+    pub const MODERN: u32 = 1;
+
+    /// What is asked of a table; the header tells the numbers.
+    #[repr(C)]
+    #[derive(Clone)]
+    pub struct Options {
+        version: u32,
+        pub style: u32,
+        pub width: usize,
+        pub priority: u32,
+        pub truncate: u32,
+        pub keep_words: u32,
+        reserved: u32,
+        reserved_words: [u64; 4],
+    }
+
+    impl Default for Options {
+        fn default() -> Options {
+            Options { version: 1, style: 0, width: NO_WIDTH, priority: 0, truncate: 0, keep_words: 0, reserved: 0, reserved_words: [0; 4] }
+        }
+    }
+
+    /// What is told beside a status.
+    #[repr(C)]
+    #[derive(Debug, Default)]
+    pub struct Answer {
+        pub size: usize,
+        pub place: usize,
+        pub row: usize,
+        pub column: usize,
+    }
+
+    unsafe extern "C" {
+        fn basinmug_table(options: &Options, text: *const c_char, text_len: usize, out: *mut c_char, out_len: usize, answer: &mut Answer) -> u32;
+    }
+
+    /// The table, or the status with what is told beside it.
+    pub fn table(options: &Options, text: &str) -> Result<String, (u32, Answer)> {
+        let mut out = vec![0u8; 256];
+        loop {
+            let mut answer = Answer::default();
+            // Both slices have an address, also where they are empty, and `out` is this function's alone.
+            let status = unsafe { basinmug_table(options, text.as_ptr().cast(), text.len(), out.as_mut_ptr().cast(), out.len(), &mut answer) };
+            if status != 0 {
+                return Err((status, answer));
+            }
+            if answer.size <= out.len() {
+                out.truncate(answer.size);
+                return Ok(String::from_utf8(out).expect("the table of a text is a text"));
+            }
+            out.resize(answer.size, 0);
+        }
+    }
+}
+
+fn main() {
+    let text = "job\tstate\tremark\nbackup\t\x1b[32mdone\x1b[0m\t3 of 3 disks\nmail\t\x1b[31mlate\x1b[0m\twaits for the other host\n";
+    let options = basinmug::Options { style: basinmug::MODERN, width: 40, keep_words: 1, ..Default::default() };
+    match basinmug::table(&options, text) {
+        Ok(table) => print!("{table}"),
+        Err((status, answer)) => {
+            eprintln!("report: status {status}: {answer:?}");
+            std::process::exit(1);
+        }
+    }
+}

@@ -1,0 +1,115 @@
+/*
+ * Calls the library from C, with memory of exactly the sizes that it is told, and ends with the number of the line of the
+ * first check that fails, or 0. malloc and realloc of the library are those below, which can refuse one call.
+ */
+#include "basinmug.h"
+
+#include <pthread.h>
+#include <stdlib.h>
+#include <string.h>
+
+#define CHECK(holds) do { if (!(holds)) return __LINE__; } while (0)
+
+static const char TEXT[] = "a\tb\n1\t\033[31m234\033[0m\n";
+static const char TABLE[] = "+---+-----+\n| a | b   |\n+---+-----+\n| 1 | \033[31m234\033[0m |\n+---+-----+\n";
+
+static int counts;
+static unsigned long calls, refused_call, refused;
+
+void *__real_malloc(size_t size);
+void *__real_realloc(void *old, size_t size);
+
+static int refuses(void) {
+    if (!counts || ++calls != refused_call) return 0;
+    refused++;
+    return 1;
+}
+
+void *__wrap_malloc(size_t size) { return refuses() ? NULL : __real_malloc(size); }
+void *__wrap_realloc(void *old, size_t size) { return refuses() ? NULL : __real_realloc(old, size); }
+
+/* A copy of bytes that has no byte more. */
+static char *copied(const char *bytes, size_t size) {
+    char *copy = __real_malloc(size ? size : 1);
+    memcpy(copy, bytes, size);
+    return copy;
+}
+
+/* Each room from none to four bytes more than the table has. */
+static int rooms(void) {
+    const size_t whole = strlen(TABLE);
+    char *text = copied(TEXT, strlen(TEXT));
+    struct basinmug_options options = BASINMUG_OPTIONS;
+    for (size_t room = 0; room <= whole + 4; room++) {
+        struct basinmug_answer answer = {1, 1, 1, 1};
+        char *out = __real_malloc(room ? room : 1);
+        memset(out, '#', room ? room : 1);
+        CHECK(basinmug_table(&options, text, strlen(TEXT), out, room, &answer) == BASINMUG_OK);
+        CHECK(answer.size == whole && answer.place == 0 && answer.row == 0 && answer.column == 0);
+        CHECK(memcmp(out, TABLE, room < whole ? room : whole) == 0);
+        for (size_t at = whole; at < room; at++) CHECK(out[at] == '#');
+        CHECK(room != 0 || out[0] == '#');
+        free(out);
+    }
+    free(text);
+    return 0;
+}
+
+/* Each allocation refused in turn: memory, nothing written, and nothing told beside it. */
+static int refusals(void) {
+    struct basinmug_options options = BASINMUG_OPTIONS;
+    options.width = 9;
+    unsigned long at = 0;
+    do {
+        CHECK(++at < 10000);
+        struct basinmug_answer answer = {1, 1, 1, 1};
+        char out[64];
+        memset(out, '#', sizeof out);
+        calls = 0, refused = 0, refused_call = at, counts = 1;
+        uint32_t status = basinmug_table(&options, TEXT, strlen(TEXT), out, sizeof out, &answer);
+        counts = 0;
+        CHECK(status == (refused ? BASINMUG_MEMORY : BASINMUG_OK));
+        if (refused) {
+            CHECK(answer.size == 0 && answer.place == 0 && answer.row == 0 && answer.column == 0);
+            for (size_t i = 0; i < sizeof out; i++) CHECK(out[i] == '#');
+        }
+    } while (refused);
+    CHECK(at > 5);
+    return 0;
+}
+
+/* Many tables of one thread; its text has as many rows as its number says. */
+static void *many(void *given) {
+    const long rows = (long)(size_t)given;
+    char text[64], out[2048];
+    size_t size = 0;
+    for (long row = 0; row < rows; row++) size += (memcpy(text + size, "x\ty\n", 4), 4);
+    struct basinmug_options options = BASINMUG_OPTIONS;
+    for (int time = 0; time < 500; time++) {
+        struct basinmug_answer answer;
+        memset(out, 0, sizeof out);
+        if (basinmug_table(&options, text, size, out, sizeof out, &answer) != BASINMUG_OK) return given;
+        if (answer.size != (size_t)(10 * (2 * rows + 1))) return given;
+        for (long line = 0; line <= 2 * rows; line++)
+            if (memcmp(out + 10 * line, line % 2 ? "| x | y |\n" : "+---+---+\n", 10)) return given;
+    }
+    return NULL;
+}
+
+static int threads(void) {
+    pthread_t all[4];
+    for (size_t at = 0; at < 4; at++) CHECK(pthread_create(&all[at], NULL, many, (void *)(at + 1)) == 0);
+    for (size_t at = 0; at < 4; at++) {
+        void *failed = &all;
+        CHECK(pthread_join(all[at], &failed) == 0 && failed == NULL);
+    }
+    return 0;
+}
+
+int main(void) {
+    CHECK(basinmug_version() == BASINMUG_VERSION);
+    int line = rooms();
+    if (!line) line = refusals();
+    if (!line) line = threads();
+    return line > 255 ? 255 : line;
+}
