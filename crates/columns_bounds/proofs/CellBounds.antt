@@ -8,10 +8,9 @@ use Rattle.std.proofs.lemmas.Simd.{map-map}
 use Rattle.std.proofs.lemmas.Str.{chars-nil}
 use Rattle.std.proofs.lemmas.List.Splits.{slice_split-cons_no, slice_split-cons_yes, slice_split_at, slice_split_none}
 use Rattle.ansi_str_search.proofs.CharLemmas.{hold_both}
-use Rattle.columns_asked.specs.Asked.{Break, Cut, Resize}
-use Rattle.columns_asked.specs.Resizing.{broken, broken_line, cell_width, cut, lines_in, resized, resized_text}
-use Rattle.columns_asked.proofs.BridgeLemmas.{resized-shows, width-same}
-use Rattle.columns_asked.proofs.CharacterLemmas.{resized-natural}
+use Rattle.tabled_size_cells.specs.Resizing.{Break, Cut, Resize, broken, broken_line, cell_width, cut, lines_in, resized, resized_text}
+use Rattle.tabled_size_cells.proofs.BridgeLemmas.{resized-shows, width-same}
+use Rattle.tabled_size_cells.proofs.CharacterLemmas.{resized-natural}
 use Rattle.grid_records_bounds.proofs.CostLemmas.{bounded}
 use Rattle.grid_records_bounds.proofs.SpaceLemmas.{measure-marks}
 use Rattle.grid_records_estimate.specs.Estimates.{greatest}

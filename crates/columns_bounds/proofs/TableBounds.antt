@@ -5,9 +5,8 @@ use Rattle.std.specs.List.{AllByRecursion, find, range_with_len}
 use Rattle.std.proofs.lemmas.Bool.Decides.{nat_tests}
 use Rattle.std.proofs.lemmas.List.FromFn.{get_or-map-range_with_len}
 use Rattle.ansi_scan.specs.Sequences.{IsWhole}
-use Rattle.columns_asked.specs.Asked.{Break, Cut}
 use Rattle.columns_asked.specs.Layout.{by_column, frame_under, heights_of, kept_texts, narrow, narrowed, paddings, resize_in, too_wide, widths_of}
-use Rattle.columns_asked.specs.Resizing.{resized_text}
+use Rattle.tabled_size_cells.specs.Resizing.{Break, Cut, resized_text}
 use Rattle.columns_asked.specs.Shrunk.{shrunk_list}
 use Rattle.columns_asked.specs.declared.asked.Asked.{Asked}
 use Rattle.columns_asked.proofs.ShrunkLemmas.{shrunk_list-meets}

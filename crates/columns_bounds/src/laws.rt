@@ -1,10 +1,9 @@
 //! The law of lines in their columns, the contract of a function that does nothing.
 ghost use Rattle.std.specs.Prelude.{◌≡◌, ◌≤◌, ℕ, Bool, IsUtf8, List, None};
 ghost use Rattle.ansi_scan.specs.Sequences.{IsWhole};
-ghost use Rattle.columns_asked.specs.Asked.{Break, Cut};
 ghost use Rattle.columns_asked.specs.declared.asked.Asked.{Asked};
 ghost use Rattle.columns_asked.specs.Layout.{too_wide};
-ghost use Rattle.columns_asked.specs.Resizing.{resized_text};
+ghost use Rattle.tabled_size_cells.specs.Resizing.{Break, Cut, resized_text};
 ghost use Rattle.columns_run.specs.Layout.{wide_cell};
 ghost use Rattle.columns_run.specs.Run.{MayRefuse};
 ghost use Rattle.columns_run.specs.Wanted.{Wanted};
