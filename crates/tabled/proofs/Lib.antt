@@ -13,3 +13,5 @@ pub mod TrimmedRoom
 pub mod PlainLines
 pub mod Narrowing
 pub mod Written
+pub mod Untouched
+pub mod Stripping

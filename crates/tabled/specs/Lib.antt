@@ -1,9 +1,9 @@
 pub mod Tables
 pub mod Lending
-pub mod Printing
 pub mod Writing
 pub mod Layout
 pub mod Making
-pub mod Totals
 pub mod Shown
 pub mod Narrowed
+pub use Rattle.tabled_stripping.specs.Printing
+pub use Rattle.tabled_stripping.specs.Totals

@@ -1,11 +1,17 @@
 //! A table as a text.
-ghost use Rattle.std.specs.Prelude.{◌≡◌, ◌⊎◌, Err, IfErr, IfOk, Ok, OnOk, string_bytes};
+ghost use Rattle.std.specs.Prelude.{◌≡◌, ◌⊎◌, List, Err, IfErr, IfOk, Ok, OnOk, string_bytes};
+ghost use Rattle.ansi_scan.specs.Sequences.{ArePiecesOf, Piece};
+ghost use Rattle.ansi_str.specs.StyledText.{strip};
 ghost use Rattle.grid_config_values.specs.declared.fault.Fault.TheVariants.{Memory, Range as PassesMax};
 ghost use Rattle.grid_config_spans.specs.Spans.{ArePositive};
 ghost use Rattle.papergrid_picture.specs.Fitting.{InRange};
 ghost use Rattle.tabled.specs.Narrowed.{HasSettings};
+ghost use Rattle.papergrid_colors.specs.ClosingColors.{ShowNothing};
+ghost use Rattle.papergrid_picture.specs.Fitting.{InRange};
+ghost use Rattle.papergrid_picture.specs.Shown.{AreWholeTexts, IsBare};
 ghost use Rattle.tabled.specs.Printing.{IsFit, drawn_frame, drawn_sizes, printed};
 ghost use Rattle.tabled.specs.Tables.{state_of, state_under};
+ghost use Rattle.tabled_stripping.specs.Stripping.{stripped_state, uncolored_state};
 
 use crate::table::Table;
 use grid_config::{Fault, SpannedConfig};
@@ -29,12 +35,16 @@ impl<T: FromText> Table<T> {
         Ok(())
     }
 
-    /// The text of the table: its lines, a line feed between each two. Refused as `fits` is.
+    /// The text of the table: its lines, a line feed between each two. Refused as `fits` is. Without its
+    /// sequences it is the text of the table of the stripped texts, without the colours of its cells, where
+    /// texts are whole, glyphs and fills hold no ESC, and nothing but cells has a colour, of sequences alone.
     pub fn to_string(&self) -> Result<String, Fault>
         ensures text { IfOk result (λ text. string_bytes text ≡ printed (state_of T.text self.now)) }
         ensures fits { OnOk result (IsFit (state_of T.text self.now) (Ok tt)) }
         ensures refused { IfErr result (λ fault. (fault ≡ Memory) ⊎ IsFit (state_of T.text self.now) (Err fault)) }
         ensures settings { HasSettings (state_of T.text self.now) }
+        ensures stripped { let state = state_of T.text self.now in IsBare state.look → AreWholeTexts state.rows → ShowNothing state.colors →
+            IfOk result (λ text. (ps : List Piece) → ArePiecesOf (string_bytes text) ps → strip ps ≡ printed (uncolored_state (stripped_state state))) }
     {
         self.text_under(self.config.spanned())
     }

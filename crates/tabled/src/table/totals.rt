@@ -5,6 +5,7 @@ ghost use Rattle.tabled.specs.Printing.{drawn_sizes};
 ghost use Rattle.tabled.specs.Tables.{state_of};
 ghost use Rattle.tabled.specs.Totals.{drawn_height, drawn_width};
 ghost use Rattle.tabled_steps.specs.States.{column_count};
+ghost use Rattle.tabled_stripping.specs.Stripping.{stripped_state};
 
 use crate::table::Table;
 use grid_config::Fault;
@@ -15,10 +16,11 @@ use tabled_size_dimension::CompleteDimension;
 
 impl<T: FromText> Table<T> {
     /// How many columns a line of the table takes, in the widths that it keeps and else in the least, margins
-    /// too; 0 without rows or columns. Refused as `Range` where that passes `usize::MAX`, and as `Memory`
-    /// where allocation fails.
+    /// too; 0 without rows or columns. The sequences of its texts change none of it. Refused as `Range` where
+    /// that passes `usize::MAX`, and as `Memory` where allocation fails.
     pub fn total_width(&self) -> Result<usize, Fault>
         ensures total { IfOk result (λ total. total ≡ drawn_width (state_of T.text self.now)) }
+        ensures stripped { IfOk result (λ total. total ≡ drawn_width (stripped_state (state_of T.text self.now))) }
         ensures no_cells { let rows = (state_of T.text self.now).rows in (length rows == 0 || column_count rows == 0) ≡ true → result ≡ Ok 0 }
         ensures refused { IfErr result (λ fault. IsRefusal fault (2 ^ 64 ≤ drawn_width (state_of T.text self.now))) }
     {
@@ -33,10 +35,11 @@ impl<T: FromText> Table<T> {
     }
 
     /// How many lines the table takes, in the heights that it keeps and else in the least, margins too; 0
-    /// without rows or columns. Refused as `Range` where that passes `usize::MAX`, and as `Memory` where
-    /// allocation fails.
+    /// without rows or columns. The sequences of its texts change none of it. Refused as `Range` where that
+    /// passes `usize::MAX`, and as `Memory` where allocation fails.
     pub fn total_height(&self) -> Result<usize, Fault>
         ensures total { IfOk result (λ total. total ≡ drawn_height (state_of T.text self.now)) }
+        ensures stripped { IfOk result (λ total. total ≡ drawn_height (stripped_state (state_of T.text self.now))) }
         ensures no_cells { let rows = (state_of T.text self.now).rows in (length rows == 0 || column_count rows == 0) ≡ true → result ≡ Ok 0 }
         ensures refused { IfErr result (λ fault. IsRefusal fault (2 ^ 64 ≤ drawn_height (state_of T.text self.now))) }
     {

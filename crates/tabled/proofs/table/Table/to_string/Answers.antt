@@ -1,10 +1,18 @@
 use Rattle.std.proofs.Common.{◌≡◌, ◌⊎◌, Err, Ok, refl, subst}
+use Rattle.std.proofs.Common.{◌≡◌, ◌⊎◌, ◌∙◌, ℕ, ap, List, Err, Ok, subst, sym}
 use Rattle.std.specs.Prelude.{IfErr, IfOk, OnOk, string_bytes}
+use Rattle.ansi_scan.specs.Pieces.{pieces}
+use Rattle.ansi_scan.specs.Sequences.{ArePiecesOf, Piece}
+use Rattle.ansi_scan.proofs.Uniqueness.{pieces-ArePiecesOf}
+use Rattle.ansi_str.specs.StyledText.{strip}
 use Rattle.grid_config.specs.Settings.{Settings}
 use Rattle.grid_config_spans.specs.Spans.{ArePositive}
 use Rattle.grid_config_values.specs.declared.fault.Fault.TheVariants.{Memory}
 use Rattle.tabled.specs.Printing.{IsFit, printed}
-use Rattle.tabled.specs.Tables.{state_under}
+use Rattle.tabled.specs.Tables.{state_of, state_under}
+use Rattle.tabled_stripping.specs.Stripping.{stripped_state, uncolored_state}
+use Rattle.tabled_stripping.proofs.StrippedTables.{printed-stripped}
+use Rattle.tabled.proofs.Stripping.{of_ok_weaker}
 use Rattle.tabled.proofs.table.Table.to_string.Goals as goal
 
 pub returns-clause-text : goal.returns-clause-text
@@ -25,3 +33,8 @@ returns-clause-settings g c = record {
   look = refl;
   spans = subst (λ (settings : Settings). ArePositive settings.spans) c.spanned.ensures c.text_under.ensures.positive;
 }
+pub returns-clause-stripped : goal.returns-clause-stripped
+returns-clause-stripped g c = λ bare whole silent.
+    let state = state_of g.T.Cell.text c.args.self.now in
+    of_ok_weaker (λ text. string_bytes text ≡ printed state) (λ text. (ps : List Piece) → ArePiecesOf (string_bytes text) ps → strip ps ≡ printed (uncolored_state (stripped_state state))) c.text_under.result
+    (λ text same ps of_text. ap strip (sym (pieces-ArePiecesOf (string_bytes text) ps of_text)) ∙ ap (λ (bytes : List ℕ). strip (pieces bytes)) same ∙ printed-stripped state bare whole silent) (returns-clause-text g c)

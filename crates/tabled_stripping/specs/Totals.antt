@@ -4,7 +4,7 @@ use Rattle.papergrid_picture.specs.Fitting.{table_width}
 use Rattle.papergrid_picture.specs.Frame.{line_count}
 use Rattle.papergrid_picture.specs.Tables.{table_line}
 use Rattle.tabled_steps.specs.States.{State}
-use Rattle.tabled.specs.Printing.{drawn_frame, drawn_heights, drawn_widths}
+use Rattle.tabled_stripping.specs.Printing.{drawn_frame, drawn_heights, drawn_widths}
 
 module _ (s : State) where
   -- the columns of each of its lines in the sizes that are drawn, and its lines, margins too: none without rows or columns

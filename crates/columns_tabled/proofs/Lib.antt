@@ -1,0 +1,2 @@
+pub mod SameSizes
+pub mod SameTexts

@@ -1,0 +1,67 @@
+-- A table of the library has the sizes that the program's has.
+use Rattle.std.proofs.Common.{◌≡◌, ◌+◌, ◌≤◌, ℕ, true, List, [], ◌∷◌, length, map, refl, ap, ◌∙◌, arith}
+use Rattle.grid_config.specs.Compact.{Compact}
+use Rattle.grid_config.specs.Looks.{compact_look}
+use Rattle.grid_config_spans.proofs.Order.{same_itself}
+use Rattle.grid_config_spans.specs.Spans.{extent_at}
+use Rattle.grid_config_values.specs.Glyphs.{boundary_kind, has_column_boundary, has_row_boundary}
+use Rattle.grid_config_values.specs.Order.{same_place}
+use Rattle.grid_config_values.specs.declared.position.Position.{Position}
+use Rattle.grid_records_estimate.specs.Estimates.{greatest, track_sizes}
+use Rattle.grid_records_estimate.specs.Sizes.{table_heights, table_widths}
+use Rattle.grid_records_estimate.specs.Sizing.{column_axis, compact_sizing, place, row_axis}
+use Rattle.grid_records_traits.specs.Rows.{fitted, text_at}
+use Rattle.grid_records_traits.specs.TextLines.{text_height, text_width}
+use Rattle.tabled_steps.specs.Sizes.{column_axis as column_axis_of, is_seen, natural_heights, natural_widths, row_axis as row_axis_of}
+use Rattle.tabled_steps.specs.States.{column_count as first_count}
+use Rattle.columns_asked.specs.Layout.{column_count}
+use Rattle.columns_run.proofs.TilingLemmas.{seen-itself}
+use Rattle.columns_tabled.specs.Tables.{AreEquallyLong}
+
+-- ---- as many columns
+
+within : (n : ℕ) (rows : List (List (List ℕ))) → AreEquallyLong n rows → greatest (map (λ row. length row) rows) ≤ n
+within n [] all = omega arith
+within n (row ∷ rows) all = let here = all.0 in omega (arith, here, within n rows all.1)
+
+pub counts-same : (n : ℕ) (rows : List (List (List ℕ))) → AreEquallyLong n rows → column_count rows ≡ first_count rows
+counts-same n [] all = refl
+counts-same n (row ∷ rows) all = let here = all.0 in omega (arith, here, within n rows all.1)
+
+-- ---- the same axes
+
+module _ (style : Compact) (n : ℕ) (rows : List (List (List ℕ))) where
+  -- a cell of several rows or columns hides none: there is none
+  seen : (p : Position) → is_seen (compact_look style).extent p ≡ true
+  seen p = ap (λ (found : Position). same_place found p) (seen-itself style [] [] [] p.row p.col) ∙ same_itself p
+
+  columns-same : column_axis_of (compact_look style) n rows ≡ column_axis (compact_sizing style) n rows
+  unfolding extent_at
+  columns-same = λ k. record {
+    tracks = n;
+    crossings = length rows;
+    is_visible = λ column row. seen (place row column) k;
+    span = λ column row. 1;
+    need = λ column row. let padding = style.padding in text_width (text_at rows (place row column)) + padding.left.size + padding.right.size;
+    has_boundary = λ j. has_column_boundary style.borders (boundary_kind j n);
+  }
+
+  rows-same : row_axis_of (compact_look style) n rows ≡ row_axis (compact_sizing style) n rows
+  unfolding extent_at
+  rows-same = λ k. record {
+    tracks = length rows;
+    crossings = n;
+    is_visible = λ row column. seen (place row column) k;
+    span = λ row column. 1;
+    need = λ row column. let padding = style.padding in text_height (text_at rows (place row column)) + padding.top.size + padding.bottom.size;
+    has_boundary = λ i. has_row_boundary style.borders (boundary_kind i (length rows));
+  }
+
+module _ (style : Compact) (n : ℕ) (rows : List (List (List ℕ))) where
+  pub widths-same : natural_widths (compact_look style) n rows ≡ table_widths (compact_sizing style) n rows
+  unfolding natural_widths table_widths
+  widths-same = ap track_sizes (columns-same style n (fitted n rows))
+
+  pub heights-same : natural_heights (compact_look style) n rows ≡ table_heights (compact_sizing style) n rows
+  unfolding natural_heights table_heights
+  heights-same = ap track_sizes (rows-same style n (fitted n rows))

@@ -1,0 +1,112 @@
+-- What the program writes without a width is what a table of the library prints.
+use Rattle.std.proofs.Common.{◌≡◌, ◌==◌, ◌+◌, ◌<◌, ℕ, Bool, true, false, inl, inr, List, [], ◌∷◌, ◌++◌, None, length, slice_index, refl, ap, sym, ◌∙◌, arith, if◌then◌else◌}
+use Rattle.std.proofs.lemmas.Bool.{cases_lt}
+use Rattle.std.proofs.lemmas.Bool.Decides.{nat_tests}
+use Rattle.std.proofs.lemmas.List.FromFn.{length-map-range_with_len}
+use Rattle.grid_config.specs.Compact.{Compact}
+use Rattle.grid_config.specs.Looks.{compact_look}
+use Rattle.grid_records_estimate.specs.Sizes.{table_heights, table_widths}
+use Rattle.grid_records_estimate.specs.Sizing.{compact_sizing}
+use Rattle.grid_records_estimate.proofs.Lengths.{length-table_heights}
+use Rattle.grid_records_measure.specs.TextLines.{line_feed}
+use Rattle.papergrid_picture.specs.Frame.{Frame, column_count as columns_of, frame_of, line_count, row_count, track_at}
+use Rattle.papergrid_picture.specs.Tables.{sizes_of, table_text}
+use Rattle.papergrid_picture.proofs.ByNumber.{by_number}
+use Rattle.tabled_steps.specs.Sizes.{natural_heights, natural_widths}
+use Rattle.tabled_steps.specs.States.{State, column_count as first_count}
+use Rattle.tabled_stripping.specs.Printing.{drawn_frame, drawn_heights, drawn_widths, printed}
+use Rattle.columns_asked.specs.Layout.{column_count, ended, frame_under, heights_of, narrow, narrowed, widths_of}
+use Rattle.columns_table.specs.Answers.{natural_text}
+use Rattle.columns_table.proofs.NarrowedLemmas.{text-natural}
+use Rattle.columns_table.proofs.SizeLemmas.{height-each, width-each}
+use Rattle.papergrid_picture.specs.Fitting.{table_width}
+use Rattle.columns_run.specs.Layout.{output_of}
+use Rattle.columns_run.specs.Rows.{cell_parts}
+use Rattle.columns_run.specs.Wanted.{Wanted}
+use Rattle.columns_tabled.specs.Tables.{AreEquallyLong, table_under}
+use Rattle.columns_tabled.proofs.SameSizes.{counts-same, heights-same, widths-same}
+
+module _ (style : Compact) (n : ℕ) (rows : List (List (List ℕ))) (long : AreEquallyLong n rows) where
+  abbrev table : State
+  table = table_under style rows
+
+  natural-widths : natural_widths (compact_look style) (first_count rows) rows ≡ widths_of style rows
+  natural-widths = widths-same style (first_count rows) rows ∙ ap (λ m. table_widths (compact_sizing style) m rows) (sym (counts-same n rows long))
+
+  natural-heights : natural_heights (compact_look style) (first_count rows) rows ≡ heights_of style rows
+  natural-heights = heights-same style (first_count rows) rows ∙ ap (λ m. table_heights (compact_sizing style) m rows) (sym (counts-same n rows long))
+
+  drawn-widths : drawn_widths table ≡ sizes_of (slice_index (widths_of style rows)) (first_count rows)
+  drawn-widths = ap (λ (sizes : List ℕ). sizes_of (slice_index sizes) (first_count rows)) natural-widths
+
+  drawn-heights : drawn_heights table ≡ sizes_of (slice_index (heights_of style rows)) (length rows)
+  drawn-heights = ap (λ (sizes : List ℕ). sizes_of (slice_index sizes) (length rows)) natural-heights
+
+  -- ---- with cells
+
+  module _ (some : 0 < length (heights_of style rows)) where
+    widths-are : drawn_widths table ≡ widths_of style rows
+    widths-are = drawn-widths ∙ by_number (widths_of style rows) (first_count rows) (width-each style rows some ∙ counts-same n rows long)
+
+    heights-are : drawn_heights table ≡ heights_of style rows
+    heights-are = drawn-heights ∙ by_number (heights_of style rows) (length rows) (height-each style rows some)
+
+    with-cells : natural_text style rows ≡ ended line_feed (drawn_frame table) (printed table)
+    with-cells =
+        let by : List ℕ → List ℕ → List ℕ = λ widths heights. if line_count (frame_of (compact_look style) widths heights) == 0 then [] else table_text (compact_look style) rows (λ _. None) widths heights ++ line_feed ∷ [] in
+        ap (λ (widths : List ℕ). by widths (heights_of style rows)) (sym widths-are) ∙ ap (by (drawn_widths table)) (sym heights-are)
+
+  -- ---- without
+
+  no-lines : (frame : Frame) → row_count frame ≡ 0 → line_count frame ≡ 0
+  no-lines frame none =
+      let test : (row_count frame == 0) ≡ true = grind (arith, nat_tests, none) in
+      ap (λ (b : Bool). if b then 0 else if columns_of frame == 0 then 0 else track_at frame.rows (row_count frame) + frame.look.margin.bottom.size) test
+
+  no-columns : (frame : Frame) → columns_of frame ≡ 0 → line_count frame ≡ 0
+  no-columns frame none = by (row_count frame == 0)
+    where
+      test : (columns_of frame == 0) ≡ true
+      test = grind (arith, nat_tests, none)
+
+      by : (b : Bool) → (if b then 0 else if columns_of frame == 0 then 0 else track_at frame.rows (row_count frame) + frame.look.margin.bottom.size) ≡ 0
+      by true = refl
+      by false = ap (λ (b : Bool). if b then 0 else track_at frame.rows (row_count frame) + frame.look.margin.bottom.size) test
+
+  empty : (frame : Frame) (items : List ℕ) → line_count frame ≡ 0 → [] ≡ (if line_count frame == 0 then [] else items ++ line_feed ∷ [])
+  empty frame items none =
+      let test : (line_count frame == 0) ≡ true = grind (arith, nat_tests, none) in
+      sym (ap (λ (b : Bool). if b then [] else items ++ line_feed ∷ []) test)
+
+  module _ (none : length (heights_of style rows) ≡ 0) where
+    no-drawn : line_count (drawn_frame table) ≡ 0
+    no-drawn =
+        elim (cases_lt 0 (column_count rows)) [
+          | inl some ↦
+              let each = length-table_heights (compact_sizing style) (column_count rows) rows some in
+              let count = length-map-range_with_len (slice_index (heights_of style rows)) 0 (length rows) in
+              no-lines (drawn_frame table) (omega (arith, ap (λ (sizes : List ℕ). length sizes) drawn-heights, count, each, none))
+          | inr gone ↦
+              let count = length-map-range_with_len (slice_index (widths_of style rows)) 0 (first_count rows) in
+              no-columns (drawn_frame table) (omega (arith, ap (λ (sizes : List ℕ). length sizes) drawn-widths, count, counts-same n rows long, gone))
+        ]
+
+    without-cells : natural_text style rows ≡ ended line_feed (drawn_frame table) (printed table)
+    without-cells =
+        sym (empty (frame_under style rows) (table_text (compact_look style) rows (λ _. None) (widths_of style rows) (heights_of style rows)) (no-lines (frame_under style rows) none))
+        ∙ empty (drawn_frame table) (printed table) no-drawn
+
+  pub texts-same : natural_text style rows ≡ ended line_feed (drawn_frame table) (printed table)
+  texts-same =
+      elim (cases_lt 0 (length (heights_of style rows))) [
+        | inl some ↦ with-cells some
+        | inr none ↦ without-cells (omega (arith, none))
+      ]
+
+pub one-table : (wanted : Wanted) (input : List ℕ) (n : ℕ) → wanted.asked.width ≡ None → AreEquallyLong n (cell_parts input)
+    → output_of wanted input ≡ ended line_feed (drawn_frame (table_under wanted.style (cell_parts input))) (printed (table_under wanted.style (cell_parts input)))
+unfolding output_of
+one-table wanted input n none long =
+    let texts = cell_parts input in
+    let told : narrowed wanted.style wanted.asked texts ≡ None = ap (narrow wanted.style wanted.asked (widths_of wanted.style texts) (table_width (frame_under wanted.style texts))) none in
+    sym (text-natural wanted.style wanted.asked texts told) ∙ texts-same wanted.style n texts long

@@ -1,0 +1,5 @@
+use Rattle.columns_tabled.proofs.SameTexts.{one-table}
+use Rattle.columns_tabled.proofs.laws.both_programs_draw_one_table.Goals as goal
+
+pub returns : goal.returns
+returns c = one-table

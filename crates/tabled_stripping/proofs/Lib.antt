@@ -1,0 +1,9 @@
+pub mod TextsByPlace
+pub mod MappedRows
+pub mod PassingSteps
+pub mod PassingSettings
+pub mod OneOutcome
+pub mod StrippedTexts
+pub mod StrippedRuns
+pub mod StrippedTables
+pub mod BareLooks

@@ -1,0 +1,158 @@
+-- What a list of settings makes of a table, with the sequences of its texts and without.
+use Rattle.std.proofs.Common.{◌≡◌, ◌+◌, ℕ, suc, Bool, true, false, List, [], ◌∷◌, map, get_or, refl, ap, sym, subst, ◌∙◌, arith, if◌then◌else◌}
+use Rattle.std.specs.Prelude.{string_bytes}
+use Rattle.grid_config_spans.proofs.Order.{same_itself, same_position}
+use Rattle.grid_config_values.specs.Order.{same_place}
+use Rattle.grid_config_values.specs.declared.fault.Fault.{Fault}
+use Rattle.grid_config_values.specs.declared.position.Position.{Position}
+use Rattle.grid_records_estimate.specs.Sizing.{place}
+use Rattle.grid_records_traits.specs.Rows.{text_at}
+use Rattle.papergrid_picture.specs.Shown.{AreWholeTexts, stripped_texts}
+use Rattle.papergrid_picture.proofs.StrippedLemmas.{stripped}
+use Rattle.tabled_height.specs.Lines.{limited, raised}
+use Rattle.tabled_list.specs.Lists.{RefusedAt, Runs}
+use Rattle.tabled_list.specs.Settings.{cutting_by}
+use Rattle.tabled_list.specs.declared.setting.Setting.{Setting}
+use Rattle.tabled_list.specs.declared.setting.Setting.TheVariants.{Wrap, CellWrap, Truncate, CellTruncate, MinWidth, CellMinWidth, Justify, WidthList, HeightList, HeightIncrease, HeightLimit, CellHeightIncrease, CellHeightLimit, ColumnSpan, RowSpan, AlignHorizontal, AlignVertical, LineAlignment, TrimHorizontal, TrimVertical, Justification, Padding, Margin, Borders}
+use Rattle.tabled_steps.specs.States.{State}
+use Rattle.tabled_width.specs.Breaking.{breaking, justifying, wrapping_wider}
+use Rattle.tabled_width.specs.Cutting.{truncating}
+use Rattle.tabled_width.specs.Filling.{filling}
+use Rattle.tabled_stripping.proofs.TextsByPlace.{row_by, rows_from, state_by, stripped_but}
+use Rattle.tabled_stripping.specs.Stripping.{AreClear, IsClear, stripped_state}
+use Rattle.tabled_stripping.proofs.MappedRows.{text-same}
+use Rattle.tabled_stripping.proofs.OneOutcome.{one-run}
+use Rattle.tabled_stripping.proofs.PassingSettings.{AllPass, TextsPass, refused-pass, runs-pass}
+use Rattle.tabled_stripping.proofs.StrippedTexts.{blind-stripped, breaking-passes, commutes-stripped, filling-passes, justifying-passes, limited-passes, raised-passes, truncating-passes, wrapping-passes}
+
+module _ (keep : Position → Bool) where
+  abbrev f : Position → List ℕ → List ℕ
+  f = stripped_but keep
+
+  clear-passes : (setting : Setting) → IsClear setting → TextsPass f (blind-stripped keep) setting
+  clear-passes (Wrap width keep_words priority) clear = λ n. commutes-stripped keep (λ p. breaking keep_words n) (λ p. breaking-passes keep_words n)
+  clear-passes (CellWrap at width keep_words) clear = λ n. commutes-stripped keep (λ p. wrapping_wider keep_words n) (λ p. wrapping-passes keep_words n)
+  clear-passes (Truncate width suffix limit multiline try_color priority) clear =
+      let cutting = cutting_by (string_bytes suffix) limit multiline try_color in
+      λ n. commutes-stripped keep (λ p. truncating cutting n) (λ p. truncating-passes cutting clear.0 clear.1 n)
+  clear-passes (CellTruncate at width suffix limit multiline try_color) clear =
+      let cutting = cutting_by (string_bytes suffix) limit multiline try_color in
+      λ n. commutes-stripped keep (λ p. truncating cutting n) (λ p. truncating-passes cutting clear.0 clear.1 n)
+  clear-passes (MinWidth width priority) clear = tt
+  clear-passes (CellMinWidth at width fill) clear = λ n. commutes-stripped keep (λ p. filling fill n) (λ p. filling-passes fill clear n)
+  clear-passes (Justify width) clear = λ n. commutes-stripped keep (λ p. justifying n) (λ p. justifying-passes n)
+  clear-passes (WidthList widths) clear = tt
+  clear-passes (HeightList heights) clear = tt
+  clear-passes (HeightIncrease height priority) clear = tt
+  clear-passes (HeightLimit height priority) clear = λ n. commutes-stripped keep (limited n) (limited-passes n)
+  clear-passes (CellHeightIncrease at height) clear = λ n. commutes-stripped keep (raised n) (raised-passes n)
+  clear-passes (CellHeightLimit at height) clear = λ n. commutes-stripped keep (limited n) (limited-passes n)
+  clear-passes (ColumnSpan place n) clear = tt
+  clear-passes (RowSpan place n) clear = tt
+  clear-passes (AlignHorizontal at value) clear = tt
+  clear-passes (AlignVertical at value) clear = tt
+  clear-passes (LineAlignment at on) clear = tt
+  clear-passes (TrimHorizontal at on) clear = tt
+  clear-passes (TrimVertical at on) clear = tt
+  clear-passes (Justification at fill) clear = tt
+  clear-passes (Padding at value) clear = tt
+  clear-passes (Margin value) clear = tt
+  clear-passes (Borders value) clear = tt
+
+  all-pass : (settings : List Setting) → AreClear settings → AllPass f (blind-stripped keep) settings
+  all-pass [] all = tt
+  all-pass (setting ∷ settings) all = (clear-passes setting all.0, all-pass settings all.1)
+
+-- ---- no place is kept
+
+abbrev pub nowhere : Position → Bool
+nowhere p = false
+
+row-stripped : (r c : ℕ) (row : List (List ℕ)) → row_by (stripped_but nowhere) r c row ≡ map stripped row
+row-stripped r c [] = refl
+row-stripped r c (text ∷ row) = ap (λ (rest : List (List ℕ)). stripped text ∷ rest) (row-stripped r (c + 1) row)
+
+pub rows-stripped : (r : ℕ) (rows : List (List (List ℕ))) → rows_from (stripped_but nowhere) r rows ≡ stripped_texts rows
+rows-stripped r [] = refl
+rows-stripped r (row ∷ rows) =
+    ap (λ (first : List (List ℕ)). first ∷ rows_from (stripped_but nowhere) (r + 1) rows) (row-stripped r 0 row) ∙ ap (λ (rest : List (List (List ℕ))). map stripped row ∷ rest) (rows-stripped (r + 1) rows)
+
+pub state-stripped : (s : State) → state_by (stripped_but nowhere) s ≡ stripped_state s
+state-stripped s = ap (λ (rows : List (List (List ℕ))). record s { rows = rows }) (rows-stripped 0 s.rows)
+
+pub runs-stripped : (settings : List Setting) (s last : State) → AreClear settings → AreWholeTexts s.rows → Runs settings s last → Runs settings (stripped_state s) (stripped_state last) × AreWholeTexts last.rows
+runs-stripped settings s last clear whole is =
+    let passed = runs-pass (stripped_but nowhere) (blind-stripped nowhere) settings (all-pass nowhere settings clear) s last whole is in
+    (subst (λ (last : State). Runs settings (stripped_state s) last) (state-stripped last) (subst (λ (s : State). Runs settings s (state_by (stripped_but nowhere) last)) (state-stripped s) passed.0), passed.1)
+
+pub refused-stripped : (settings : List Setting) (old new : State) (index : ℕ) (fault : Fault) → AreClear settings → AreWholeTexts old.rows → RefusedAt settings old new index fault
+    → RefusedAt settings (stripped_state old) (stripped_state new) index fault
+refused-stripped settings old new index fault clear whole is =
+    subst (λ (new : State). RefusedAt settings (stripped_state old) new index fault) (state-stripped new)
+    (subst (λ (old : State). RefusedAt settings old (state_by (stripped_but nowhere) new) index fault) (state-stripped old)
+    (refused-pass (stripped_but nowhere) (blind-stripped nowhere) settings (all-pass nowhere settings clear) old new index fault whole is))
+
+-- ---- one place is kept
+
+module _ (p : Position) where
+  abbrev g : Position → List ℕ → List ℕ
+  g = stripped_but (same_place p)
+
+  one-text : (r c : ℕ) (x y : List ℕ) → stripped x ≡ stripped y → (p.row ≡ r → p.col ≡ c → x ≡ y) → g (place r c) x ≡ g (place r c) y
+  one-text r c x y bare same = by (same_place p (place r c)) refl
+    where
+      by : (b : Bool) → same_place p (place r c) ≡ b → (if b then x else stripped x) ≡ (if b then y else stripped y)
+      by true e =
+          let there = same_position p (place r c) e in
+          same (ap (λ (q : Position). q.row) there) (ap (λ (q : Position). q.col) there)
+      by false e = bare
+
+  one-row : (r c : ℕ) (xs ys : List (List ℕ)) → map stripped xs ≡ map stripped ys → (p.row ≡ r → (k : ℕ) → p.col ≡ c + k → get_or xs k [] ≡ get_or ys k []) → row_by g r c xs ≡ row_by g r c ys
+  one-row r c [] [] bare same = refl
+  one-row r c [] (y ∷ ys) bare same = absurd (cc bare)
+  one-row r c (x ∷ xs) [] bare same = absurd (cc bare)
+  one-row r c (x ∷ xs) (y ∷ ys) bare same =
+      let first : stripped x ≡ stripped y = cc bare in
+      let others : map stripped xs ≡ map stripped ys = cc bare in
+      ap (λ (t : List ℕ). t ∷ row_by g r (c + 1) xs) (one-text r c x y first (λ down over. same down 0 (let e : p.col ≡ c + 0 = omega (arith, over) in e)))
+      ∙ ap (λ (rest : List (List ℕ)). g (place r c) y ∷ rest) (one-row r (c + 1) xs ys others (λ down k over. same down (suc k) (let e : p.col ≡ c + suc k = omega (arith, over) in e)))
+
+  all-rows : (r : ℕ) (a b : List (List (List ℕ))) → stripped_texts a ≡ stripped_texts b → ((i : ℕ) → p.row ≡ r + i → get_or (get_or a i []) p.col [] ≡ get_or (get_or b i []) p.col []) → rows_from g r a ≡ rows_from g r b
+  all-rows r [] [] bare same = refl
+  all-rows r [] (y ∷ ys) bare same = absurd (cc bare)
+  all-rows r (x ∷ xs) [] bare same = absurd (cc bare)
+  all-rows r (x ∷ xs) (y ∷ ys) bare same =
+      let first : map stripped x ≡ map stripped y = cc bare in
+      let others : stripped_texts xs ≡ stripped_texts ys = cc bare in
+      ap (λ (row : List (List ℕ)). row ∷ rows_from g (r + 1) xs)
+      (one-row r 0 x y first (λ down k over. let at : p.row ≡ r + 0 = omega (arith, down) in let column : p.col ≡ k = omega (arith, over) in subst (λ (n : ℕ). get_or x n [] ≡ get_or y n []) column (same 0 at)))
+      ∙ ap (λ (rest : List (List (List ℕ))). row_by g r 0 y ∷ rest) (all-rows (r + 1) xs ys others (λ i down. same (suc i) (let e : p.row ≡ r + suc i = omega (arith, down) in e)))
+
+  kept-here : same_place p p ≡ true
+  kept-here = same_itself p
+
+  module _ (settings : List Setting) (clear : AreClear settings) (a b m n : State) (whole_a : AreWholeTexts a.rows) (whole_b : AreWholeTexts b.rows) (alike : stripped_state a ≡ stripped_state b) (to_m : Runs settings a m) (to_n : Runs settings b n) where
+    same-start : text_at a.rows p ≡ text_at b.rows p → state_by g a ≡ state_by g b
+    same-start same =
+        let rows : rows_from g 0 a.rows ≡ rows_from g 0 b.rows =
+        all-rows 0 a.rows b.rows (ap (λ (s : State). s.rows) alike)
+        (λ i down. let e : p.row ≡ i = omega (arith, down) in subst (λ (i : ℕ). get_or (get_or a.rows i []) p.col [] ≡ get_or (get_or b.rows i []) p.col []) e same) in
+        ap (λ (rows : List (List (List ℕ))). record (stripped_state a) { rows = rows }) rows ∙ ap (λ (s : State). record s { rows = rows_from g 0 b.rows }) alike
+
+    -- a text that both tables have at this place stays the same in both
+    pub same-end : text_at a.rows p ≡ text_at b.rows p → text_at m.rows p ≡ text_at n.rows p
+    same-end same =
+        let of_a = runs-pass g (blind-stripped (same_place p)) settings (all-pass (same_place p) settings clear) a m whole_a to_m in
+        let of_b = runs-pass g (blind-stripped (same_place p)) settings (all-pass (same_place p) settings clear) b n whole_b to_n in
+        let ends : state_by g m ≡ state_by g n = one-run settings (state_by g b) (state_by g m) (state_by g n) (subst (λ (s : State). Runs settings s (state_by g m)) (same-start same) of_a.0) of_b.0 in
+        sym (shown m.rows) ∙ ap (λ (s : State). text_at s.rows p) ends ∙ shown n.rows
+      where
+        shown : (rows : List (List (List ℕ))) → text_at (rows_from g 0 rows) p ≡ text_at rows p
+        shown rows =
+            text-same g (blind-stripped (same_place p)).none rows p ∙ ap (λ (b : Bool). if b then text_at rows p else stripped (text_at rows p)) kept-here
+
+-- two tables whose stripped rows agree are led to such
+pub alike-end : (settings : List Setting) → AreClear settings → (a b m n : State) → AreWholeTexts a.rows → AreWholeTexts b.rows → stripped_state a ≡ stripped_state b → Runs settings a m → Runs settings b n → stripped_state m ≡ stripped_state n
+alike-end settings clear a b m n whole_a whole_b alike to_m to_n =
+    one-run settings (stripped_state b) (stripped_state m) (stripped_state n)
+    (subst (λ (s : State). Runs settings s (stripped_state m)) alike (runs-stripped settings a m clear whole_a to_m).0) (runs-stripped settings b n clear whole_b to_n).0

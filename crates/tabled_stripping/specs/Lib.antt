@@ -1,0 +1,3 @@
+pub mod Printing
+pub mod Totals
+pub mod Stripping

@@ -1,0 +1,75 @@
+-- Tables without the sequences of their texts, and settings that put in none.
+use Rattle.std.specs.Prelude.{ℕ, List, None, IfSome, string_bytes}
+use Rattle.std.specs.List.{AllByRecursion}
+use Rattle.grid_config_values.specs.declared.borders.Borders.{Borders as Glyphs}
+use Rattle.grid_config_values.specs.declared.fault.Fault.{Fault}
+use Rattle.grid_config_values.specs.declared.fault.Fault.TheVariants.{Memory, Range, Room, Spans}
+use Rattle.grid_config_values.specs.declared.position.Position.{Position}
+use Rattle.papergrid_picture.specs.Blocks.{Grid}
+use Rattle.papergrid_picture.specs.Reading.{painted}
+use Rattle.papergrid_picture.specs.Shown.{IsPlainText, IsShown, OnEachSide, stripped_texts}
+use Rattle.papergrid_picture.specs.Tables.{in_bytes, table_grid}
+use Rattle.tabled_list.specs.declared.setting.Setting.{Setting}
+use Rattle.tabled_list.specs.declared.setting.Setting.TheVariants.{Truncate, CellTruncate, CellMinWidth, Justification, Padding, Margin, Borders}
+use Rattle.tabled_size_dimension.specs.declared.suffix.SuffixLimit.{SuffixLimit}
+use Rattle.tabled_size_dimension.specs.declared.suffix.SuffixLimit.TheVariants.{Cut, Ignore, Replace}
+use Rattle.tabled_steps.specs.States.{State}
+use Rattle.tabled_stripping.specs.Printing.{drawn_heights, drawn_widths}
+
+-- ---- tables
+
+-- the table of the same texts without their sequences
+abbrev pub stripped_state : State → State
+stripped_state s = record s { rows = stripped_texts s.rows }
+
+-- the table without the colours of its cells
+abbrev pub uncolored_state : State → State
+uncolored_state s = record s { colors = λ _. None }
+
+-- where its pieces stand
+abbrev pub drawn_grid : State → Grid
+drawn_grid s = table_grid s.look s.rows s.colors (drawn_widths s) (drawn_heights s)
+
+-- what it prints of line k of a cell's text: its own bytes, in the colour of the cell
+abbrev pub cell_line_bytes : State → Position → ℕ → List ℕ
+cell_line_bytes s cell k = painted (in_bytes s.look s.rows) (s.colors cell) ((in_bytes s.look s.rows).line cell k)
+
+-- ---- settings
+
+-- what a limit leaves begins no sequence
+abbrev pub LimitIsShown : SuffixLimit → Type 0
+LimitIsShown Cut = Unit {0}
+LimitIsShown Ignore = Unit {0}
+LimitIsShown (Replace c) = IsShown c
+
+-- no glyph begins one
+abbrev pub AreShown : Glyphs ℕ → Type 0
+AreShown b =
+    (IfSome b.top_left IsShown × IfSome b.top_intersection IsShown × IfSome b.top_right IsShown)
+    × (IfSome b.left_intersection IsShown × IfSome b.intersection IsShown × IfSome b.right_intersection IsShown)
+    × (IfSome b.bottom_left IsShown × IfSome b.bottom_intersection IsShown × IfSome b.bottom_right IsShown)
+    × (IfSome b.top IsShown × IfSome b.horizontal IsShown × IfSome b.bottom IsShown)
+    × (IfSome b.left IsShown × IfSome b.vertical IsShown × IfSome b.right IsShown)
+
+-- the setting puts in no character that begins a sequence
+abbrev pub IsClear : Setting → Type 0
+IsClear (Truncate width suffix limit multiline try_color priority) = IsPlainText (string_bytes suffix) × LimitIsShown limit
+IsClear (CellTruncate at width suffix limit multiline try_color) = IsPlainText (string_bytes suffix) × LimitIsShown limit
+IsClear (CellMinWidth at width fill) = IsShown fill
+IsClear (Justification at fill) = IsShown fill
+IsClear (Padding at value) = OnEachSide (λ indent. IsShown indent.fill) value
+IsClear (Margin value) = OnEachSide (λ indent. IsShown indent.fill) value
+IsClear (Borders value) = AreShown value
+IsClear _ = Unit {0}
+
+abbrev pub AreClear : List Setting → Type 0
+AreClear settings = AllByRecursion IsClear settings
+
+-- ---- refusals
+
+-- a refusal that is no want of memory
+abbrev pub IsNamed : Fault → Type 0
+IsNamed Memory = ⊥
+IsNamed Range = Unit {0}
+IsNamed Spans = Unit {0}
+IsNamed (Room row column) = Unit {0}
