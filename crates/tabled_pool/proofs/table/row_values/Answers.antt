@@ -1,4 +1,4 @@
-use Rattle.std.proofs.Common.{[], ◌∷◌, ◌++◌, drop, length, map, vec_items, ap, sym, ◌∙◌}
+use Rattle.std.proofs.Common.{[], ◌∷◌, ◌++◌, drop, length, map, ap, sym, ◌∙◌}
 use Rattle.grid_records_traits.proofs.Loops.{next_given, none_given}
 use Rattle.grid_records_rows.proofs.Keeping.{kept_all, kept_more}
 use Rattle.tabled_pool.specs.Pools.{row_layout}
