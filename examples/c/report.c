@@ -14,6 +14,7 @@ int main(void) {
     options.style = BASINMUG_MODERN;
     options.width = 40;
     options.keep_words = 1;
+    options.priority = BASINMUG_WIDEST;
 
     /* A guess at the room first; where the table has more bytes, once again with as many. */
     size_t room = 256;

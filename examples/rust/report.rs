@@ -10,10 +10,11 @@ mod basinmug {
     pub const NO_WIDTH: usize = usize::MAX;
     /// Light lines.
     pub const MODERN: u32 = 1;
+    /// The widest column gives first.
+    pub const WIDEST: u32 = 2;
 
     /// What is asked of a table; the header tells the numbers.
     #[repr(C)]
-    #[derive(Clone)]
     pub struct Options {
         version: u32,
         pub style: u32,
@@ -66,7 +67,11 @@ mod basinmug {
 
 fn main() {
     let text = "job\tstate\tremark\nbackup\t\x1b[32mdone\x1b[0m\t3 of 3 disks\nmail\t\x1b[31mlate\x1b[0m\twaits for the other host\n";
-    let options = basinmug::Options { style: basinmug::MODERN, width: 40, keep_words: 1, ..Default::default() };
+    let mut options = basinmug::Options::default();
+    options.style = basinmug::MODERN;
+    options.width = 40;
+    options.keep_words = 1;
+    options.priority = basinmug::WIDEST;
     match basinmug::table(&options, text) {
         Ok(table) => print!("{table}"),
         Err((status, answer)) => {
