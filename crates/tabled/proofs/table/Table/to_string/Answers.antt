@@ -1,5 +1,4 @@
-use Rattle.std.proofs.Common.{◌≡◌, ◌⊎◌, Err, Ok, refl, subst}
-use Rattle.std.proofs.Common.{◌≡◌, ◌⊎◌, ◌∙◌, ℕ, ap, List, Err, Ok, subst, sym}
+use Rattle.std.proofs.Common.{◌≡◌, ◌⊎◌, ◌∙◌, ℕ, ap, List, Err, Ok, refl, subst, sym}
 use Rattle.std.specs.Prelude.{IfErr, IfOk, OnOk, string_bytes}
 use Rattle.ansi_scan.specs.Pieces.{pieces}
 use Rattle.ansi_scan.specs.Sequences.{ArePiecesOf, Piece}
@@ -33,6 +32,7 @@ returns-clause-settings g c = record {
   look = refl;
   spans = subst (λ (settings : Settings). ArePositive settings.spans) c.spanned.ensures c.text_under.ensures.positive;
 }
+
 pub returns-clause-stripped : goal.returns-clause-stripped
 returns-clause-stripped g c = λ bare whole silent.
     let state = state_of g.T.Cell.text c.args.self.now in
