@@ -10,7 +10,6 @@ mod made;
 mod pager;
 mod pages;
 mod places;
-mod records;
 mod styled;
 mod tables;
 mod totals;

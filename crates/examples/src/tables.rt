@@ -1,5 +1,5 @@
 //! Tables, each made by a short program as a user of `tabled` would write it, and printed.
-use crate::{changed, kept, made, records, totals};
+use crate::{changed, kept, made, totals};
 use grid_config::{AlignmentHorizontal, Fault};
 use std::io::Print;
 use tabled::Table;
@@ -18,8 +18,7 @@ pub(crate) fn print(rt: &HostRuntime) -> Result<(), Fault> {
     centred(rt)?;
     show(rt, totals::summed(rt.alloc())?, Ok(()))?;
     wide(rt)?;
-    high(rt)?;
-    write(rt, records::headed(rt.alloc())?)
+    high(rt)
 }
 
 fn ragged(rt: &HostRuntime) -> Result<(), Fault> {
