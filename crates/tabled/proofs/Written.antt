@@ -133,9 +133,9 @@ ending-some lines some =
     let test : (lines == 0) ≡ false = grind (arith, nat_tests, some) in
     ap (λ (b : Bool). if b then [] else line_feed ∷ []) test
 
-pub ends-empty : {T E : Type 0} (r : Result T E) → OnOk r (([] {A = ℕ}) ≡ [])
-ends-empty (Ok x) = refl
-ends-empty (Err e) = tt
+pub ends-empty : {T E : Type 0} (r : Result T E) (left : List ℕ) → left ≡ [] → OnOk r (left ≡ [])
+ends-empty (Ok x) left is = is
+ends-empty (Err e) left is = tt
 
 module _ (settings : Settings) (rows : List (List (List ℕ))) (colors : Position → Option Color) (stored : Stored) where
   abbrev state : State

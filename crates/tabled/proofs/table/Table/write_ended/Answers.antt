@@ -127,4 +127,4 @@ returns-clause-text g c =
     let some : drawn_height drawn ≢ 0 = λ none. omega (arith, lines, none, c.if-lines-eq0.false) in
     passes-last K Fault whole (line_feed ∷ []) [] c.write_piece.result a b c.write_piece.new.writer
     (subst (λ left. HasPassed K whole left a b) (ending-some (drawn_height drawn) some) passed)
-    c.write_piece.ensures.passed (ends-empty c.write_piece.result) c.write_piece.ensures.stopped
+    c.write_piece.ensures.passed (ends-empty c.write_piece.result [] refl) c.write_piece.ensures.stopped
