@@ -1,7 +1,8 @@
 -- The answer of a table that is written line by line.
-use Rattle.std.proofs.Common.{◌≡◌, ◌≢◌, ◌⊎◌, inl, inr, ℕ, List, [], Option, Result, Ok, Err, append-nil, ap, length, refl, sym, subst, ◌∙◌}
+use Rattle.std.proofs.Common.{◌≡◌, ◌≢◌, ◌==◌, ◌∷◌, Bool, true, false, arith, if◌then◌else◌, ◌⊎◌, inl, inr, ℕ, List, [], Option, Result, Ok, Err, append-nil, ap, length, refl, sym, subst, ◌∙◌}
 use Rattle.std.specs.Prelude.{IfErr, IsErrOf, OnOk}
 use Rattle.std.specs.Io.KnownBytes.{Appends}
+use Rattle.std.proofs.lemmas.Bool.Decides.{nat_tests}
 use Rattle.grid_config_values.specs.declared.fault.Fault.{Fault}
 use Rattle.grid_config_values.specs.declared.fault.Fault.TheVariants.{Memory, Range, Room, Spans}
 use Rattle.tabled_output.specs.Counts.{inner_of, FailsIff, OnlyWrites, TakesNothingIff}
@@ -11,6 +12,18 @@ use Rattle.tabled_output.specs.declared.counted.Counted.{Counted}
 use Rattle.tabled_output.specs.declared.writing.WriteFault.{WriteFault}
 use Rattle.tabled_output.specs.declared.writing.WriteFault.TheVariants.{Write as Failed, WriteZero as TookNothing}
 use Rattle.tabled_output.proofs.PieceLemmas.{front-taken, passes-nothing}
+use Rattle.grid_config.specs.Colors.{Color}
+use Rattle.grid_config.specs.Looks.{look_of}
+use Rattle.grid_config.specs.Settings.{Settings}
+use Rattle.grid_config_values.specs.declared.position.Position.{Position}
+use Rattle.grid_records_measure.specs.TextLines.{line_feed}
+use Rattle.papergrid_fits.specs.Tables.{table_frame}
+use Rattle.papergrid_picture.specs.Frame.{line_count}
+use Rattle.tabled_size_dimension.specs.Sizes.{size_at}
+use Rattle.tabled_size_dimension.specs.Stored.{Stored, stored_sizes}
+use Rattle.tabled_steps.specs.States.{State, column_count, state_with}
+use Rattle.tabled.specs.Printing.{drawn_sizes}
+use Rattle.tabled.specs.Totals.{drawn_height}
 use Rattle.tabled_compact.specs.Building.{BuildRefusal}
 use Rattle.tabled_compact.specs.declared.fault.BuildFault.{BuildFault}
 use Rattle.tabled_compact.specs.declared.fault.BuildFault.TheVariants.{Table, Write, WriteZero}
@@ -107,3 +120,30 @@ module _ (Fits : Type 0) (IsFit : Result (Unit {0}) Fault → Type 0) where
   pub refused-built : (given : Result (Result (Unit {0}) WriteFault) Fault) (result : Result (Unit {0}) BuildFault) → result ≡ build_answer given → OnOk given Fits → IfErr given (λ fault. (fault ≡ Memory) ⊎ IsFit (Err fault))
       → IfErr result (BuildRefusal Fits IsFit)
   refused-built given result is fits refused = subst (λ r. IfErr r (BuildRefusal Fits IsFit)) (sym is) (refusing given fits refused)
+
+-- ---- a line feed behind the last line
+
+pub ending-none : (lines : ℕ) → lines ≡ 0 → (if lines == 0 then [] else line_feed ∷ []) ≡ []
+ending-none lines none =
+    let test : (lines == 0) ≡ true = grind (arith, nat_tests, none) in
+    ap (λ (b : Bool). if b then [] else line_feed ∷ []) test
+
+pub ending-some : (lines : ℕ) → lines ≢ 0 → (if lines == 0 then [] else line_feed ∷ []) ≡ line_feed ∷ []
+ending-some lines some =
+    let test : (lines == 0) ≡ false = grind (arith, nat_tests, some) in
+    ap (λ (b : Bool). if b then [] else line_feed ∷ []) test
+
+pub ends-empty : {T E : Type 0} (r : Result T E) (left : List ℕ) → left ≡ [] → OnOk r (left ≡ [])
+ends-empty (Ok x) left is = is
+ends-empty (Err e) left is = tt
+
+module _ (settings : Settings) (rows : List (List (List ℕ))) (colors : Position → Option Color) (stored : Stored) where
+  abbrev state : State
+  state = state_with rows (look_of settings) colors stored
+
+  abbrev lines_in : Stored → ℕ → ℕ
+  lines_in sizes n = line_count (table_frame settings (size_at (stored_sizes sizes.widths)) (size_at (stored_sizes sizes.heights)) n rows)
+
+  -- the lines of the grid are those that are drawn
+  pub lines_drawn : (sizes : Stored) (n : ℕ) → sizes ≡ drawn_sizes state → n ≡ column_count rows → lines_in sizes n ≡ drawn_height state
+  lines_drawn sizes n is counted = ap (λ sizes. lines_in sizes n) is ∙ ap (lines_in (drawn_sizes state)) counted

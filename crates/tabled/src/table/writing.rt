@@ -4,7 +4,7 @@ ghost use Rattle.std.specs.Prelude.{◌≡◌, ◌≢◌, ◌⊎◌, [], Err, If
 ghost use Rattle.grid_config_values.specs.declared.fault.Fault.TheVariants.{Memory};
 ghost use Rattle.tabled.specs.Printing.{IsFit, printed};
 ghost use Rattle.tabled.specs.Tables.{state_of, state_under};
-ghost use Rattle.tabled.specs.Writing.{HasNoText, build_answer};
+ghost use Rattle.tabled.specs.Writing.{HasNoText, build_answer, ended_text};
 ghost use Rattle.tabled_compact.specs.Building.{BuildRefusal};
 ghost use Rattle.tabled_output.specs.Counts.{FailsIff, OnlyWrites, TakesNothingIff, inner_of};
 ghost use Rattle.tabled_output.specs.Pieces.{Passes};
@@ -16,7 +16,7 @@ use grid_records_rows::FromText;
 use papergrid::PeekableGrid;
 use std::io::Write;
 use tabled_compact::BuildFault;
-use tabled_output::{Counted, WriteFault};
+use tabled_output::{Counted, WriteFault, write_piece};
 
 impl<T: FromText> Table<T> {
     /// Writes the text of `to_string`, line by line: each line as soon as it is made, in one piece with the
@@ -38,6 +38,23 @@ impl<T: FromText> Table<T> {
         answer(self.write_under(self.config.spanned(), writer))
     }
 
+    /// Writes the lines of the table in turn, each with a line feed behind it; of a table without lines nothing.
+    /// The writer gets each line as `build` hands it on, and all of them in time by their number. It gives up as
+    /// `build` does.
+    pub fn write_lines<W: Write>(&self, writer: &mut Counted<W>) -> Result<(), BuildFault>
+        ensures whole { OnOk result (Appends (W.contents (inner_of writer.old)) (W.contents (inner_of writer.new)) (ended_text (state_of T.text self.now))) }
+        ensures front { IfErr result (λ fault. ¬ (HasNoText fault) → AppendsFront (W.contents (inner_of writer.old)) (W.contents (inner_of writer.new)) (ended_text (state_of T.text self.now))) }
+        ensures untouched { IfErr result (λ fault. HasNoText fault → writer.new ≡ writer.old) }
+        ensures nothing { ended_text (state_of T.text self.now) ≡ [] → writer.new ≡ writer.old }
+        ensures fits { OnOk result (IsFit (state_of T.text self.now) (Ok tt)) }
+        ensures table { IfErr result (BuildRefusal (IsFit (state_of T.text self.now) (Ok tt)) (IsFit (state_of T.text self.now))) }
+        ensures write { FailsIff (IsErrOf result BuildFault.Write) writer.old writer.new }
+        ensures write_zero { TakesNothingIff (IsErrOf result BuildFault.WriteZero) writer.old writer.new }
+        ensures only_writes { OnlyWrites writer.old writer.new }
+    {
+        answer(self.write_ended(self.config.spanned(), writer))
+    }
+
     // Writes its text under these settings in place of its own, line by line.
     fn write_under<W: Write>(
         &self,
@@ -52,6 +69,28 @@ impl<T: FromText> Table<T> {
         let sizes = self.fitting_sizes(config)?;
         let grid = PeekableGrid::new(&self.records, config, sizes, self.config.get_colors());
         Ok(grid.write(self.alloc, writer)?)
+    }
+
+    // The same, with a line feed behind its last line.
+    fn write_ended<W: Write>(
+        &self,
+        config: &SpannedConfig,
+        writer: &mut Counted<W>,
+    ) -> Result<Result<(), WriteFault>, Fault>
+        ensures text { Passes W.contents (ended_text (state_under T.text self.now config.now)) result [] writer.old writer.new }
+        ensures untouched { IfErr result (λ fault. fault ≢ Memory → writer.new ≡ writer.old) }
+        ensures fits { OnOk result (IsFit (state_under T.text self.now config.now) (Ok tt)) }
+        ensures refused { IfErr result (λ fault. (fault ≡ Memory) ⊎ IsFit (state_under T.text self.now config.now) (Err fault)) }
+    {
+        let sizes = self.fitting_sizes(config)?;
+        let grid = PeekableGrid::new(&self.records, config, sizes, self.config.get_colors());
+        if let Err(fault) = grid.write(self.alloc, writer)? {
+            return Ok(Err(fault));
+        }
+        if grid.lines() == 0 {
+            return Ok(Ok(()));
+        }
+        Ok(write_piece(writer, b"\n"))
     }
 }
 
