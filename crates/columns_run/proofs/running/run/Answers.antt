@@ -40,10 +40,12 @@ returns-clause-some_input g c =
     let new = g.W.Write.contents (inner_of c.write_table.new.writer) in
     let result = c.write_table.result in
     some wanted c.requires result old new c.args.writer.now c.write_table.new.writer
-    (g.R.Read.remaining (inner_of c.args.reader.now)) (g.R.Read.remaining (inner_of c.read_all.new.reader))
-    (c.in_ok-bytes.bytes.items, c.in_ok-bytes.ensures.bytes,
-    subst (λ input. MayAnswer wanted input result × Writes (output_of wanted input) result old new × LeavesAlone wanted input c.args.writer.now c.write_table.new.writer) c.deref.ensures.value
-    (c.write_table.ensures.answers, c.write_table.ensures.written.writes, c.write_table.ensures.alone))
+    (g.R.Read.remaining (inner_of c.args.reader.now)) (g.R.Read.remaining (inner_of c.read_all.new.reader)) (
+      c.in_ok-bytes.bytes.items,
+      c.in_ok-bytes.ensures.bytes,
+      subst (λ input. MayAnswer wanted input result × Writes (output_of wanted input) result old new × LeavesAlone wanted input c.args.writer.now c.write_table.new.writer) c.deref.ensures.value
+          (c.write_table.ensures.answers, c.write_table.ensures.written.writes, c.write_table.ensures.alone),
+    )
 
 pub returns-clause-no_end : goal.returns-clause-no_end
 returns-clause-no_end g c = λ told.

@@ -27,8 +27,10 @@ write-requires g c =
     let table = c.args.self.now in
     let config = c.args.config.now in
     let rows = table.records.rows.items in
-    record { fits = rw c.new-grid.ensures (fits_given config (texts_of_rows g.T.Cell.text rows) (value_at table.config.colors) table.dimension config c.in_ok-sizes.sizes (columns_of rows)
-    refl c.in_ok-sizes.ensures.sizes (sym (count_texts g.T.Cell.text rows)) c.in_ok-sizes.ensures.fits) }
+    record {
+      fits = rw c.new-grid.ensures (fits_given config (texts_of_rows g.T.Cell.text rows) (value_at table.config.colors) table.dimension config c.in_ok-sizes.sizes (columns_of rows)
+          refl c.in_ok-sizes.ensures.sizes (sym (count_texts g.T.Cell.text rows)) c.in_ok-sizes.ensures.fits);
+    }
 
 pub lines-requires : goal.lines-requires
 lines-requires g c =
