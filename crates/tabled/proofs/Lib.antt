@@ -13,5 +13,4 @@ pub mod TrimmedRoom
 pub mod PlainLines
 pub mod Narrowing
 pub mod Written
-pub mod Untouched
 pub mod Stripping
