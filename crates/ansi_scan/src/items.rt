@@ -1,6 +1,8 @@
 //! The items and the iterator over them.
 
-ghost use Rattle.std.specs.Prelude.{◌≡◌, ◌+◌, ◌<◌, ◌^◌, length};
+ghost use Rattle.std.specs.Prelude.{◌≡◌, ◌+◌, ◌*◌, ◌<◌, ◌≤◌, ◌^◌, length};
+ghost use Rattle.ansi_scan.specs.Looks.{looks_over};
+ghost use Rattle.ansi_scan.specs.Pieces.{pieces};
 
 use crate::sequences::front;
 
@@ -44,40 +46,61 @@ pub struct Item {
 pub struct Scan<'a> {
     rest: &'a [u8],
     place: usize,
+    // the reads of one byte so far
+    looks: u128,
     ghost fits: { place + length rest.now < 2 ^ 64 },
+    ghost few: { looks + looks_over (pieces rest.now) ≤ 3 * (place + length rest.now) },
 }
 
 impl<'a> Scan<'a> {
-    ghost use Rattle.ansi_scan.specs.Pieces.{pieces};
     ghost use Rattle.ansi_scan.specs.Places.{placed};
-    ghost use Rattle.ansi_scan.specs.Scan.{items_left};
+    ghost use Rattle.ansi_scan.specs.Scan.{items_left, looks_in_all, looks_taken, text_length};
 
     /// The items of a text, given as its bytes.
     pub(crate) fn new(bytes: &'a [u8]) -> Self
-        ensures { items_left result ≡ placed 0 (pieces bytes.now) }
+        ensures items { items_left result ≡ placed 0 (pieces bytes.now) }
+        ensures text { text_length result ≡ length bytes.now }
+        ensures looks { looks_in_all result ≡ looks_over (pieces bytes.now) }
+        ensures none_taken { looks_taken result ≡ 0 }
     {
         Scan {
             rest: bytes,
             place: 0,
+            looks: 0,
         }
+    }
+
+    /// How many looks at a byte were taken so far: each is one read of one byte of the text. At any
+    /// time, and so behind the last item, there are at most three for each byte of the text.
+    pub fn looks(&self) -> u128
+        ensures value { result ≡ looks_taken self.now }
+        ensures few { result ≤ 3 * text_length self.now }
+    {
+        self.looks
     }
 }
 
 impl Iterator for Scan<'_> {
     type Item = Item;
 
-    ghost use Rattle.std.specs.Iterator.{YieldsFirst, item_count};
-    ghost use Rattle.ansi_scan.specs.Scan.{items_left};
+    ghost use Rattle.std.specs.Prelude.{⊤};
+    ghost use Rattle.std.specs.Iterator.{YieldsFirst, MakesProgress, item_count};
+    ghost use Rattle.ansi_scan.specs.Scan.{items_left, looks_in_all, text_length};
 
     ghost next_gives = { YieldsFirst items_left };
 
     ghost remaining = { item_count items_left };
 
-    fn next(&mut self) -> Option<Item> {
+    fn next(&mut self) -> Option<Item>
+        ensures steps { YieldsFirst items_left self.old result self.new }
+        ensures goes { MakesProgress (λ _. ⊤) (item_count items_left) self.old result self.new }
+        ensures text { text_length self.new ≡ text_length self.old }
+        ensures looks { looks_in_all self.new ≡ looks_in_all self.old }
+    {
         if self.rest.is_empty() {
             return None;
         }
-        let (kind, len) = front(self.rest);
+        let (kind, len) = front(self.rest, &mut self.looks);
         let (_, rest) = self.rest.split_at(len);
         let start = self.place;
         let end = start + len;

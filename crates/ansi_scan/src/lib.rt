@@ -2,11 +2,12 @@
 //! control sequence; and the styles that its sequences of SELECT GRAPHIC RENDITION set.
 #![tactic(auto)]
 
-ghost use Rattle.std.specs.Prelude.{◌≡◌, ◌≤◌, ◌↔◌, All, IfSome, IsNone, IsTrue, find, length};
+ghost use Rattle.std.specs.Prelude.{◌≡◌, ◌≤◌, ◌↔◌, List, All, IfSome, IsNone, IsTrue, find, length};
 ghost use Rattle.std.specs.Option.{option_map};
-ghost use Rattle.ansi_scan.specs.Sequences.{IsWhole, IsFirstBroken};
+ghost use Rattle.ansi_scan.specs.Sequences.{Piece, ArePiecesOf, IsWhole, IsFirstBroken};
 ghost use Rattle.ansi_scan.specs.Places.{AreItemsOf, IsCut, is_broken};
-ghost use Rattle.ansi_scan.specs.Scan.{items_left};
+ghost use Rattle.ansi_scan.specs.Looks.{looks_over};
+ghost use Rattle.ansi_scan.specs.Scan.{items_left, looks_in_all, looks_taken, text_length};
 
 mod items;
 pub mod laws;
@@ -17,11 +18,15 @@ pub use items::{Item, Kind, Scan};
 
 /// The items of a text in order, each with the bytes at which it begins and ends.
 /// Together they cover the text, and a text can be cut at each place. Does not allocate.
-/// The forms are those of ECMA-48 where a code has seven bits.
+/// The forms are those of ECMA-48 where a code has seven bits. It takes at most three looks at each
+/// byte, which `Scan::looks` counts.
 pub fn scan(text: &str) -> Scan<'_>
     ensures items { AreItemsOf text.now (items_left result) }
     ensures cuts { All (IsCut text.now) (items_left result) }
     ensures count { length (items_left result) ≤ length text.now }
+    ensures text { text_length result ≡ length text.now }
+    ensures looks { (ps : List Piece) → ArePiecesOf text.now ps → looks_in_all result ≡ looks_over ps }
+    ensures none_looked { looks_taken result ≡ 0 }
 {
     Scan::new(text.as_bytes())
 }

@@ -1,12 +1,14 @@
 //! What stands at the front of a text, byte by byte.
 //!
-//! A look is a read of one byte. Of a text item each byte is looked at once, and the ESC after it
-//! once more; of a sequence each byte is looked at once. An ESC by which no sequence begins has been
-//! tried: that looks at the bytes after it up to the next ESC, at that ESC and at the byte after
-//! it, at each once at most. So there are at most three looks at each byte of a text.
+//! A look is a read of one byte, and each read counts it. Of a text item each byte is looked at once,
+//! and the ESC after it once more; of a sequence each byte is looked at once. An ESC by which no
+//! sequence begins has been tried: that looks at the bytes after it up to the next ESC, at that ESC
+//! and at the byte after it, at each once at most. So there are at most three looks at each byte of
+//! a text.
 
-ghost use Rattle.std.specs.Prelude.{◌≡◌, ◌≤◌, ◌<◌, ◌+◌, IfSome, length, true};
+ghost use Rattle.std.specs.Prelude.{◌≡◌, ◌≤◌, ◌<◌, ◌+◌, ◌^◌, ℕ, List, IfNone, IfSome, drop, length, true};
 ghost use Rattle.ansi_scan.specs.Pieces.{text_len, control_from, string_from, escape_from, sequence_front, front};
+ghost use Rattle.ansi_scan.specs.Looks.{and_next, control_looks, escape_looks, piece_looks, string_looks, tried_looks};
 
 use crate::items::Kind;
 
@@ -21,28 +23,33 @@ const CAN: u8 = 0x18;
 /// SUBSTITUTE, which no string holds (ECMA-48, 8.3.148).
 const SUB: u8 = 0x1a;
 
-/// The kind and the length of the first item.
+/// The kind and the length of the first item, whose looks are counted.
 #[tactic(auto, unfolding(crate::specs::Pieces::front, crate::specs::Pieces::at_escape))]
-pub(crate) fn front(bytes: &[u8]) -> (Kind, usize)
-    requires { 0 < length bytes.now }
+pub(crate) fn front(bytes: &[u8], looks: &mut u128) -> (Kind, usize)
+    requires some { 0 < length bytes.now }
+    requires room { looks.old < 2 ^ 67 }
     ensures kind { result ≡ front bytes.now }
     ensures some { 0 < result.1 }
     ensures in_range { result.1 ≤ length bytes.now }
+    ensures looks { looks.new ≡ looks.old + piece_looks result.0 result.1 (drop result.1 bytes.now) }
 {
-    let text = text_len(bytes);
+    let text = text_len(bytes, looks);
     if text > 0 {
         return (Kind::Text, text);
     }
-    sequence(bytes).unwrap_or((Kind::Broken, 1))
+    sequence(bytes, looks).unwrap_or((Kind::Broken, 1))
 }
 
 /// How many bytes stand before the first ESC: all of them where there is none.
-fn text_len(bytes: &[u8]) -> usize
+fn text_len(bytes: &[u8], looks: &mut u128) -> usize
+    requires { looks.old < 2 ^ 68 }
     ensures value { result ≡ text_len bytes.now }
     ensures in_range { result ≤ length bytes.now }
+    ensures looks { looks.new ≡ looks.old + and_next result bytes.now }
 {
     for (i, byte) in bytes.iter().enumerate() {
         // the look at each byte up to the first ESC, and at that
+        *looks += 1;
         if *byte == ESC {
             return i;
         }
@@ -52,23 +59,28 @@ fn text_len(bytes: &[u8]) -> usize
 
 /// The kind and the length of the sequence at the front of bytes that begin with ESC.
 #[tactic(auto, unfolding(crate::specs::Pieces::sequence_front, crate::specs::Pieces::opened))]
-fn sequence(bytes: &[u8]) -> Option<(Kind, usize)>
+fn sequence(bytes: &[u8], looks: &mut u128) -> Option<(Kind, usize)>
+    requires { looks.old < 2 ^ 69 }
     ensures value { result ≡ sequence_front bytes.now }
     ensures in_range { IfSome result (λ found. found.1 ≤ length bytes.now) }
     ensures some { IfSome result (λ found. 0 < found.1) }
+    ensures looks { (behind : List ℕ) →
+        IfSome result (λ found. looks.new + 1 ≡ looks.old + piece_looks found.0 found.1 behind) }
+    ensures tried { IfNone result (looks.new ≡ looks.old + tried_looks (drop 1 bytes.now)) }
 {
-    // `text_len` has looked at the ESC; this is the look at the byte after it
     let [_, opener, rest @ ..] = bytes else {
         return None;
     };
+    // `text_len` has looked at the ESC; this is the look at the byte after it
+    *looks += 1;
     match *opener {
         b'[' => {
-            let (kind, len) = control_sequence(rest)?;
+            let (kind, len) = control_sequence(rest, looks)?;
             Some((kind, len + 2))
         }
-        b']' => Some((Kind::Osc, string_len(rest, true)? + 2)),
-        b'P' | b'X' | b'^' | b'_' => Some((Kind::Str, string_len(rest, false)? + 2)),
-        0x20..=0x2f => Some((Kind::Esc, escape_len(rest)? + 2)),
+        b']' => Some((Kind::Osc, string_len(rest, true, looks)? + 2)),
+        b'P' | b'X' | b'^' | b'_' => Some((Kind::Str, string_len(rest, false, looks)? + 2)),
+        0x20..=0x2f => Some((Kind::Esc, escape_len(rest, looks)? + 2)),
         0x30..=0x7e => Some((Kind::Esc, 2)),
         _ => None,
     }
@@ -76,14 +88,19 @@ fn sequence(bytes: &[u8]) -> Option<(Kind, usize)>
 
 /// The kind and the length of a control sequence after ESC and `[` (ECMA-48, 5.4).
 #[tactic(auto, unfolding(crate::specs::Pieces::control_from))]
-fn control_sequence(bytes: &[u8]) -> Option<(Kind, usize)>
+fn control_sequence(bytes: &[u8], looks: &mut u128) -> Option<(Kind, usize)>
+    requires { looks.old < 2 ^ 70 }
     ensures value { result ≡ control_from 0 true true bytes.now }
     ensures in_range { IfSome result (λ found. found.1 ≤ length bytes.now) }
+    ensures looks { (behind : List ℕ) →
+        IfSome result (λ found. looks.new ≡ looks.old + piece_looks found.0 found.1 behind) }
+    ensures tried { IfNone result (looks.new ≡ looks.old + control_looks bytes.now) }
 {
     let mut numeric = true;
     let mut parameters = true;
     for (i, byte) in bytes.iter().enumerate() {
         // the look at each byte up to the final byte, or to the first that has no place
+        *looks += 1;
         let byte = *byte;
         match byte {
             0x30..=0x3f if parameters => numeric = numeric && byte <= 0x3b,
@@ -101,18 +118,27 @@ fn control_sequence(bytes: &[u8]) -> Option<(Kind, usize)>
 
 /// The length of a string with its end: STRING TERMINATOR, or BELL where that ends it.
 #[tactic(auto, unfolding(crate::specs::Pieces::string_from))]
-fn string_len(bytes: &[u8], bell_ends: bool) -> Option<usize>
+fn string_len(bytes: &[u8], bell_ends: bool, looks: &mut u128) -> Option<usize>
+    requires { looks.old < 2 ^ 70 }
     ensures value { result ≡ string_from 0 bell_ends bytes.now }
     ensures in_range { IfSome result (λ len. len ≤ length bytes.now) }
+    ensures looks { IfSome result (λ len. looks.new ≡ looks.old + len) }
+    ensures tried { IfNone result (looks.new ≡ looks.old + string_looks bell_ends bytes.now) }
 {
     for (i, byte) in bytes.iter().enumerate() {
         // the look at each byte up to the first that is not of the string
-        match *byte {
-            BEL if bell_ends => return Some(i + 1),
+        *looks += 1;
+        if bell_ends && *byte == BEL {
+            return Some(i + 1);
+        }
+        if *byte == ESC {
             // and at the byte after an ESC
-            ESC if bytes.get(i + 1) == Some(&b'\\') => return Some(i + 2),
-            ESC | CAN | SUB => return None,
-            _ => {}
+            let next = bytes.get(i + 1)?;
+            *looks += 1;
+            return if *next == b'\\' { Some(i + 2) } else { None };
+        }
+        if *byte == CAN || *byte == SUB {
+            return None;
         }
     }
     None
@@ -120,12 +146,16 @@ fn string_len(bytes: &[u8], bell_ends: bool) -> Option<usize>
 
 /// The length of further intermediate bytes of an escape sequence with its final byte.
 #[tactic(auto, unfolding(crate::specs::Pieces::escape_from))]
-fn escape_len(bytes: &[u8]) -> Option<usize>
+fn escape_len(bytes: &[u8], looks: &mut u128) -> Option<usize>
+    requires { looks.old < 2 ^ 70 }
     ensures value { result ≡ escape_from 0 bytes.now }
     ensures in_range { IfSome result (λ len. len ≤ length bytes.now) }
+    ensures looks { IfSome result (λ len. looks.new ≡ looks.old + len) }
+    ensures tried { IfNone result (looks.new ≡ looks.old + escape_looks bytes.now) }
 {
     for (i, byte) in bytes.iter().enumerate() {
         // the look at each byte up to the final byte, or to the first that has no place
+        *looks += 1;
         match *byte {
             0x20..=0x2f => {}
             0x30..=0x7e => return Some(i + 1),

@@ -2,7 +2,9 @@
 use Rattle.std.proofs.Common.{◌∙◌, ap, sym, subst, arith, length, All}
 use Rattle.ansi_scan.specs.Pieces.{pieces}
 use Rattle.ansi_scan.specs.Places.{placed, IsCut}
+use Rattle.ansi_scan.specs.Looks.{looks_over}
 use Rattle.ansi_scan.proofs.Existence.{ArePiecesOf-pieces}
+use Rattle.ansi_scan.proofs.Uniqueness.{pieces-ArePiecesOf}
 use Rattle.ansi_scan.proofs.Boundaries.{All-IsCut, length-placed}
 use Rattle.ansi_scan.proofs.scan.Goals as goal
 
@@ -10,12 +12,12 @@ pub returns-clause-items : goal.returns-clause-items
 returns-clause-items c = record {
   pieces = pieces c.args.text.now;
   of_text = ArePiecesOf-pieces c.args.text.now;
-  at_places = c.new.ensures ∙ ap (λ bytes. placed 0 (pieces bytes)) c.as_bytes.ensures.value;
+  at_places = c.new.ensures.items ∙ ap (λ bytes. placed 0 (pieces bytes)) c.as_bytes.ensures.value;
 }
 
 pub returns-clause-cuts : goal.returns-clause-cuts
 returns-clause-cuts c =
-    subst (λ items. All (IsCut c.args.text.now) items) (sym (c.new.ensures ∙ ap (λ bytes. placed 0 (pieces bytes)) c.as_bytes.ensures.value))
+    subst (λ items. All (IsCut c.args.text.now) items) (sym (c.new.ensures.items ∙ ap (λ bytes. placed 0 (pieces bytes)) c.as_bytes.ensures.value))
     (All-IsCut c.args.text.now (pieces c.args.text.now) c.utf8.text (ArePiecesOf-pieces c.args.text.now))
 
 pub returns-clause-count : goal.returns-clause-count
@@ -25,5 +27,9 @@ returns-clause-count c =
       arith,
       length-placed 0 (pieces c.args.text.now) are.stand,
       ap length are.joins,
-      ap length (c.new.ensures ∙ ap (λ bytes. placed 0 (pieces bytes)) c.as_bytes.ensures.value),
+      ap length (c.new.ensures.items ∙ ap (λ bytes. placed 0 (pieces bytes)) c.as_bytes.ensures.value),
     )
+
+pub returns-clause-looks : goal.returns-clause-looks
+returns-clause-looks c = λ ps are.
+    c.new.ensures.looks ∙ ap (λ bytes. looks_over (pieces bytes)) c.as_bytes.ensures.value ∙ ap looks_over (pieces-ArePiecesOf c.args.text.now ps are)

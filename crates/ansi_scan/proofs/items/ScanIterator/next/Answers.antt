@@ -1,6 +1,7 @@
 -- A step takes the front off what is left.
 use Rattle.std.proofs.Common.{rules, length, ◌<◌, ◌≡◌, arith}
 use Rattle.ansi_scan.proofs.Stepping.{placed-none, placed-step}
+use Rattle.ansi_scan.proofs.Looking.{looks_over-step}
 use Rattle.ansi_scan.proofs.items.ScanIterator.next.Goals as goal
 
 pub returns-then-is_empty-clause-steps : goal.returns-then-is_empty-clause-steps
@@ -19,3 +20,16 @@ returns-clause-goes c =
     let nonempty : 0 < length c.args.self.now.rest.now = omega arith in
     let step = placed-step c.args.self.now.place c.args.self.now.rest.now c.front-kind.result _ nonempty c.front-kind.ensures.kind c.split_at.ensures.back in
     search (rules, step)
+
+-- the looks of the first item are taken, and those of the others are left
+pub invariant_of-self-clause-few : goal.invariant_of-self-clause-few
+invariant_of-self-clause-few c =
+    let nonempty : 0 < length c.args.self.now.rest.now = omega arith in
+    let step = looks_over-step c.args.self.now.rest.now c.front-kind.result _ nonempty c.front-kind.ensures.kind c.split_at.ensures.back in
+    omega (arith, step, c.front-kind.ensures.looks, c.args.self.now.few)
+
+pub returns-clause-looks : goal.returns-clause-looks
+returns-clause-looks c =
+    let nonempty : 0 < length c.args.self.now.rest.now = omega arith in
+    let step = looks_over-step c.args.self.now.rest.now c.front-kind.result _ nonempty c.front-kind.ensures.kind c.split_at.ensures.back in
+    omega (arith, step, c.front-kind.ensures.looks)
