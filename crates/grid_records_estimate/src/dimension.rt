@@ -51,8 +51,9 @@ impl<C: Sizing> GridDimension<C> {
         }
     }
 
-    /// The least widths of the columns; none without rows. Refused as `Range` where one passes
-    /// `usize::MAX`, and as `Memory` where allocation fails.
+    /// The least widths of the columns, in time linear in the rows and columns, empty ones too; none
+    /// without rows. Refused as `Range` where one passes `usize::MAX`, and as `Memory` where allocation
+    /// fails.
     pub fn width<R: Records>(alloc: Global, records: R, cfg: &C) -> Result<Vec<usize>, Fault>
         ensures ok { IfOk result (λ sizes. sizes.items ≡ table_widths (C.sizing cfg.now) (R.columns records) (R.rows records)) }
         ensures refused { IfErr result (λ fault. IsRefusal fault (PassesMax (table_widths (C.sizing cfg.now) (R.columns records) (R.rows records)))) }
@@ -66,8 +67,9 @@ impl<C: Sizing> GridDimension<C> {
         widths.finish(columns, rows, cfg.borders().has_vertical())
     }
 
-    /// The least heights of the rows; none without columns. Refused as `Range` where one passes
-    /// `usize::MAX`, and as `Memory` where allocation fails.
+    /// The least heights of the rows, in time linear in the rows and columns, empty ones too; none
+    /// without columns. Refused as `Range` where one passes `usize::MAX`, and as `Memory` where
+    /// allocation fails.
     pub fn height<R: Records>(alloc: Global, records: R, cfg: &C) -> Result<Vec<usize>, Fault>
         ensures ok { IfOk result (λ sizes. sizes.items ≡ table_heights (C.sizing cfg.now) (R.columns records) (R.rows records)) }
         ensures refused { IfErr result (λ fault. IsRefusal fault (PassesMax (table_heights (C.sizing cfg.now) (R.columns records) (R.rows records)))) }
@@ -81,8 +83,9 @@ impl<C: Sizing> GridDimension<C> {
         heights.finish(rows, columns, cfg.borders().has_horizontal())
     }
 
-    /// The least widths and the least heights, of one reading. Refused as `Range` where one of either
-    /// passes `usize::MAX`, and as `Memory` where allocation fails.
+    /// The least widths and the least heights, of one reading, in time linear in the rows and columns,
+    /// empty ones too. Refused as `Range` where one of either passes `usize::MAX`, and as `Memory` where
+    /// allocation fails.
     pub fn dimension<R: Records>(
         alloc: Global,
         records: R,
@@ -105,8 +108,8 @@ impl<C: Sizing> GridDimension<C> {
         Ok((widths, heights))
     }
 
-    /// The columns that the table takes with its boundaries and margins, 0 without rows or columns.
-    /// Refused as `Range` where they pass `usize::MAX`, and as `Memory` where allocation fails.
+    /// The columns that the table takes with its boundaries and margins, in time linear in its rows and
+    /// columns, empty ones too; 0 without rows or columns. Refused as `Range` where they pass `usize::MAX`, and as `Memory` where allocation fails.
     pub fn width_total<R: Records>(alloc: Global, records: R, cfg: &C) -> Result<usize, Fault>
         ensures ok { IfOk result (λ n. n ≡ width_total (C.sizing cfg.now) (R.columns records) (R.rows records)) }
         ensures refused { IfErr result (λ fault. IsRefusal fault (2 ^ 64 ≤ width_total (C.sizing cfg.now) (R.columns records) (R.rows records))) }
@@ -117,8 +120,8 @@ impl<C: Sizing> GridDimension<C> {
         total(&sizes, boundaries, margin.left.size, margin.right.size)
     }
 
-    /// The lines that the table takes with its boundaries and margins, 0 without rows or columns.
-    /// Refused as `Range` where they pass `usize::MAX`, and as `Memory` where allocation fails.
+    /// The lines that the table takes with its boundaries and margins, in time linear in its rows and
+    /// columns, empty ones too; 0 without rows or columns. Refused as `Range` where they pass `usize::MAX`, and as `Memory` where allocation fails.
     pub fn height_total<R: Records>(alloc: Global, records: R, cfg: &C) -> Result<usize, Fault>
         ensures ok { IfOk result (λ n. n ≡ height_total (C.sizing cfg.now) (R.columns records) (R.rows records)) }
         ensures refused { IfErr result (λ fault. IsRefusal fault (2 ^ 64 ≤ height_total (C.sizing cfg.now) (R.columns records) (R.rows records))) }

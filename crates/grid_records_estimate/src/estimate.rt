@@ -14,8 +14,9 @@ pub trait Estimate<R, C> {
     /// That a size that the estimate makes, where these were before, passes the greatest `usize`.
     ghost passes: { R → C → Self → Type 0 };
 
-    /// Keeps the sizes that hold these records under these settings. Refused as `Range` where one that it
-    /// makes passes `usize::MAX`, and as `Memory` where allocation fails, and then the old ones stay.
+    /// Keeps the sizes that hold these records under these settings, in time linear in the rows and
+    /// columns, empty ones too, where sizes are made. Refused as `Range` where one that it makes passes
+    /// `usize::MAX`, and as `Memory` where allocation fails, and then the old ones stay.
     fn estimate(&mut self, alloc: Global, records: R, cfg: &C) -> Result<(), Fault>
         ensures ok { OnOk result (is_estimate records cfg.now self.old self.new) }
         ensures refused { IfErr result (λ fault. IsRefusal fault (passes records cfg.now self.old)) }

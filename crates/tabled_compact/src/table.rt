@@ -203,11 +203,12 @@ impl<I: RecordTexts, D: Dimension> CompactTable<I, D> {
 }
 
 impl<I: IntoRecords, D: Dimension + Drop> CompactTable<I, D> {
-    /// Appends the text of the table: its lines, a line feed between each two; nothing without columns or
-    /// rows. Reads the source once. Refused as `Range` where the columns of a line, or the lines, pass
-    /// `usize::MAX`, margins too; else as `Room` of the first cell, by row, then by column, whose widest
-    /// line with the paddings at its sides is wider than its column; or as `Memory` where allocation
-    /// fails. A refusal leaves the text as it was.
+    /// Appends the text of the table, in time linear in its text and in its columns in each row, those of
+    /// width 0 too: its lines, a line feed between each two; nothing without columns or rows. Reads the
+    /// source once. Refused as `Range` where the columns of a line, or the lines, pass `usize::MAX`,
+    /// margins too; else as `Room` of the first cell, by row, then by column, whose widest line with the
+    /// paddings at its sides is wider than its column; or as `Memory` where allocation fails. A refusal
+    /// leaves the text as it was.
     pub fn fmt(self, alloc: Global, out: &mut String) -> Result<(), Fault>
         ensures text { OnOk result (string_bytes out.new ≡ string_bytes out.old ++ printed (compacted I.RecordTexts.rows D.width self)) }
         ensures fits { IfOk result (λ _. Fits (compacted I.RecordTexts.rows D.width self)) }
@@ -232,7 +233,7 @@ impl<I: IntoRecords, D: Dimension + Drop> CompactTable<I, D> {
         }
     }
 
-    /// The text that `fmt` appends to an empty one, or its refusal.
+    /// The text that `fmt` appends to an empty one, in the same time, or its refusal.
     pub fn to_string(self, alloc: Global) -> Result<String, Fault>
         ensures text { IfOk result (λ text. string_bytes text ≡ printed (compacted I.RecordTexts.rows D.width self)) }
         ensures fits { IfOk result (λ _. Fits (compacted I.RecordTexts.rows D.width self)) }
@@ -243,10 +244,10 @@ impl<I: IntoRecords, D: Dimension + Drop> CompactTable<I, D> {
         Ok(text)
     }
 
-    /// Makes the whole text, as `to_string`, and then writes it. A table that has no text, or none because
-    /// allocation fails, leaves the writer alone. It gives up with `Write` at the first error of any kind,
-    /// and with `WriteZero` where the writer takes nothing; a front of the text is then written, and the
-    /// writer isn't called again. Nothing is flushed.
+    /// Makes the whole text, as `to_string` in its time, and then writes it. A table that has no text, or
+    /// none because allocation fails, leaves the writer alone. It gives up with `Write` at the first
+    /// error of any kind, and with `WriteZero` where the writer takes nothing; a front of the text is
+    /// then written, and the writer isn't called again. Nothing is flushed.
     pub fn build<W: Write>(self, alloc: Global, writer: &mut Counted<W>) -> Result<(), BuildFault>
         ensures whole { OnOk result (Appends (W.contents (inner_of writer.old)) (W.contents (inner_of writer.new)) (printed (compacted I.RecordTexts.rows D.width self))) }
         ensures front { IfErr result (λ fault. ¬ (NoTable fault) → AppendsFront (W.contents (inner_of writer.old)) (W.contents (inner_of writer.new)) (printed (compacted I.RecordTexts.rows D.width self))) }

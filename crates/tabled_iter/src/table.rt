@@ -72,7 +72,8 @@ impl<I: RecordTexts> IterTable<I> {
         self
     }
 
-    /// Sniffs `count` rows, in place of a thousand.
+    /// Sniffs `count` rows, in place of a thousand: the text is made in time linear in them, also in those
+    /// without cells.
     pub fn sniff(&mut self, count: usize) -> &mut Self
         ensures lends { result.ghost_name ≡ self.entry.ghost_name }
         ensures set { streamed I.rows result.now ≡ record (streamed I.rows self.old) { sniff = count } }
@@ -145,11 +146,12 @@ impl<C: Cell> IterTable<Vec<Vec<C>>> {
 }
 
 impl<I: IntoRecords> IterTable<I> {
-    /// Appends the text of the table: its lines, a line feed between each two; nothing without columns or
-    /// rows. Reads the source once. Refused as `Range` where the columns of a line, or the lines, pass
-    /// `usize::MAX`, margins too; else as `Room` of the first cell, by row, then by column, whose widest
-    /// line with the paddings at its sides is wider than its column; or as `Memory` where allocation
-    /// fails. A refusal leaves the text as it was.
+    /// Appends the text of the table, in time linear in its text, its columns in each row and the rows of
+    /// the source, those without cells too: its lines, a line feed between each two; nothing without
+    /// columns or rows. Reads the source once. Refused as `Range` where the columns of a line, or the
+    /// lines, pass `usize::MAX`, margins too; else as `Room` of the first cell, by row, then by column,
+    /// whose widest line with the paddings at its sides is wider than its column; or as `Memory` where
+    /// allocation fails. A refusal leaves the text as it was.
     pub fn fmt(self, alloc: Global, out: &mut String) -> Result<(), Fault>
         ensures text { OnOk result (string_bytes out.new ≡ string_bytes out.old ++ printed (streamed I.RecordTexts.rows self)) }
         ensures fits { OnOk result (IsFit (streamed I.RecordTexts.rows self) (Ok tt)) }
@@ -172,7 +174,7 @@ impl<I: IntoRecords> IterTable<I> {
         draw(alloc, rows, shape.kept, columns, &config, layout, out)
     }
 
-    /// The text that `fmt` appends to an empty one, or its refusal.
+    /// The text that `fmt` appends to an empty one, in the same time, or its refusal.
     pub fn to_string(self, alloc: Global) -> Result<String, Fault>
         ensures text { IfOk result (λ text. string_bytes text ≡ printed (streamed I.RecordTexts.rows self)) }
         ensures fits { OnOk result (IsFit (streamed I.RecordTexts.rows self) (Ok tt)) }
@@ -183,10 +185,10 @@ impl<I: IntoRecords> IterTable<I> {
         Ok(text)
     }
 
-    /// Makes the whole text, as `to_string`, and then writes it. A table that has no text, or none
-    /// because allocation fails, leaves the writer alone. It gives up with `Write` at the first error of
-    /// any kind, and with `WriteZero` where the writer takes nothing; a front of the text is then
-    /// written, and the writer isn't called again. Nothing is flushed.
+    /// Makes the whole text, as `to_string` in its time, and then writes it. A table that has no text, or
+    /// none because allocation fails, leaves the writer alone. It gives up with `Write` at the first
+    /// error of any kind, and with `WriteZero` where the writer takes nothing; a front of the text is
+    /// then written, and the writer isn't called again. Nothing is flushed.
     pub fn build<W: Write>(self, alloc: Global, writer: &mut Counted<W>) -> Result<(), BuildFault>
         ensures whole { OnOk result (Appends (W.contents (inner_of writer.old)) (W.contents (inner_of writer.new)) (printed (streamed I.RecordTexts.rows self))) }
         ensures front { IfErr result (λ fault. ¬ (NoTable fault) → AppendsFront (W.contents (inner_of writer.old)) (W.contents (inner_of writer.new)) (printed (streamed I.RecordTexts.rows self))) }
