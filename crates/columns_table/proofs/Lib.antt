@@ -15,6 +15,6 @@ pub mod SeenLines
 pub mod SizeLemmas
 pub mod StartLemmas
 pub mod WidestLemmas
-pub use Rattle.papergrid.proofs.Estimated
-pub use Rattle.papergrid.proofs.First
-pub use Rattle.papergrid.proofs.RoomLemmas as FitLemmas
+pub use Rattle.papergrid_fits.proofs.Estimated
+pub use Rattle.papergrid_fits.proofs.First
+pub use Rattle.papergrid_fits.proofs.RoomLemmas as FitLemmas

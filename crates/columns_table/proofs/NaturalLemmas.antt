@@ -15,9 +15,9 @@ use Rattle.grid_records_estimate.specs.Sizes.{table_widths}
 use Rattle.grid_records_estimate.specs.Sizing.{sizing_of}
 use Rattle.grid_records_estimate.proofs.CompactLemmas.{compact-sizing}
 use Rattle.grid_records_measure.specs.TextLines.{line_feed}
-use Rattle.papergrid.specs.Grids.{grid_text}
-use Rattle.papergrid.specs.Tables.{Fits, sized}
-use Rattle.papergrid.proofs.Estimated.{none-too_wide}
+use Rattle.papergrid_peekable.specs.Grids.{grid_text}
+use Rattle.papergrid_fits.specs.Tables.{Fits, sized}
+use Rattle.papergrid_fits.proofs.Estimated.{none-too_wide}
 use Rattle.papergrid_picture.specs.Fitting.{InRange, first_too_wide}
 use Rattle.papergrid_picture.specs.Frame.{Frame, frame_of, line_count}
 use Rattle.papergrid_picture.specs.Tables.{sizes_of, table_text}

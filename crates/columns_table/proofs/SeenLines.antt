@@ -16,7 +16,7 @@ use Rattle.grid_records_traits.specs.Rows.{fitted, text_at}
 use Rattle.grid_records_estimate.specs.Sizing.{compact_sizing, row_axis}
 use Rattle.grid_records_estimate.proofs.Lengths.{length-fitted}
 use Rattle.grid_records_estimate.proofs.RoomLemmas.{LeaveRoom-heights}
-use Rattle.papergrid.proofs.Estimated.{text_at-fitted}
+use Rattle.papergrid_fits.proofs.Estimated.{text_at-fitted}
 use Rattle.papergrid_picture.specs.Blocks.{Grid, Part, block, text_line}
 use Rattle.papergrid_picture.specs.CellLines.{cell_measures}
 use Rattle.papergrid_picture.specs.Frame.{Frame, block_height, block_width, frame_of, track_at}

@@ -1,6 +1,6 @@
 -- Why grids print their text.
 pub mod Flat
-pub mod SameTexts
 pub use Rattle.papergrid_fits.proofs.Estimated
 pub use Rattle.papergrid_fits.proofs.First
 pub use Rattle.papergrid_fits.proofs.RoomLemmas
+pub use Rattle.papergrid_peekable.proofs.SameTexts

@@ -6,7 +6,7 @@ ghost use Rattle.grid_config.specs.Looks.{compact_look};
 ghost use Rattle.grid_config.specs.Settings.{StartsWith, compact_start};
 ghost use Rattle.papergrid_picture.specs.Fitting.{FitsAnswer};
 ghost use Rattle.papergrid_picture.specs.Tables.{sizes_of, table_text};
-ghost use Rattle.papergrid.specs.Grids.{flat, lined, one_line};
+ghost use Rattle.papergrid.specs.Compact.{flat, lined, one_line};
 
 use crate::printing::print_fitting;
 use crate::read::read;
@@ -27,7 +27,7 @@ pub struct CompactGrid<R, D, G, C> {
 }
 
 impl<R, D, G, C> Model for CompactGrid<R, D, G, C> {
-    ghost use Rattle.papergrid.specs.Grids.{Parts};
+    ghost use Rattle.papergrid_peekable.specs.Grids.{Parts};
 
     ghost Value = { Parts R G D C };
 
@@ -60,7 +60,7 @@ impl<'a, R: Records, D: Dimension + Drop, C: Colors + Drop> CompactGrid<
     C,
 > {
     ghost use Rattle.grid_records_traits.specs.Rows.{fitted};
-    ghost use Rattle.papergrid.specs.Grids.{FitsCompact, IsCompactAnswer, compact_text};
+    ghost use Rattle.papergrid.specs.Compact.{FitsCompact, IsCompactAnswer, compact_text};
 
     /// Appends the text of the grid: its lines, a line feed between each two. Each row takes one line,
     /// with the first lines of its cells; heights and the padding above and below texts are not looked

@@ -6,7 +6,7 @@ use Rattle.grid_config.specs.Colors.{Color}
 use Rattle.grid_config.specs.Compact.{Compact, compact_of, new_compact}
 use Rattle.grid_config.specs.Looks.{Look, compact_look}
 use Rattle.grid_records_traits.specs.Rows.{fitted}
-use Rattle.papergrid.specs.Grids.{FitsCompact, IsCompactAnswer, compact_text}
+use Rattle.papergrid.specs.Compact.{FitsCompact, IsCompactAnswer, compact_text}
 use Rattle.tabled_options.specs.Options.{spaced_sides}
 use Rattle.tabled_glyphs.specs.Glyphs.{ascii}
 use Rattle.tabled_size_dimension.specs.Stored.{none_stored}

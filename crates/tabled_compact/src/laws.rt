@@ -3,7 +3,7 @@ ghost use Rattle.std.specs.Prelude.{◌≡◌, ◌↔◌, [], ◌∷◌, Some, c
 ghost use Rattle.grid_config.specs.Compact.{Compact, compact_of};
 ghost use Rattle.grid_config.specs.Looks.{compact_look};
 ghost use Rattle.grid_config.specs.declared.compact.CompactConfig.{CompactConfig as CompactSettings};
-ghost use Rattle.papergrid.specs.Grids.{flat};
+ghost use Rattle.papergrid.specs.Compact.{flat};
 ghost use Rattle.tabled_options.specs.Options.{margin_sides, padding_sides};
 ghost use Rattle.tabled_options.specs.Styles.{style_borders};
 ghost use Rattle.tabled_options.specs.declared.margin.Margin.{Margin as OneMargin};

@@ -5,7 +5,7 @@ ghost use Rattle.std.specs.Prelude.{◌≡◌, ◌++◌, ◌⊎◌, [], Err, IfE
 ghost use Rattle.grid_config.specs.Compact.{compact_of};
 ghost use Rattle.grid_config_values.specs.declared.fault.Fault.TheVariants.{Memory};
 ghost use Rattle.grid_records_traits.specs.Rows.{fitted};
-ghost use Rattle.papergrid.specs.Grids.{FitsCompact, IsCompactAnswer, compact_text};
+ghost use Rattle.papergrid.specs.Compact.{FitsCompact, IsCompactAnswer, compact_text};
 ghost use Rattle.tabled_steps.specs.Outcomes.{MayRefuse};
 ghost use Rattle.tabled_steps.specs.States.{Steps};
 ghost use Rattle.tabled_size_dimension.specs.Sizes.{size_at};

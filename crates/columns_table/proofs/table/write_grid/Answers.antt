@@ -4,8 +4,8 @@ use Rattle.std.specs.declared.alloc.AllocError.{AllocError}
 use Rattle.grid_config.specs.Looks.{look_of}
 use Rattle.grid_config_values.specs.declared.fault.Fault.{Fault}
 use Rattle.grid_records_measure.specs.TextLines.{line_feed}
-use Rattle.papergrid.specs.Grids.{grid_text}
-use Rattle.papergrid.specs.Tables.{Fits}
+use Rattle.papergrid_peekable.specs.Grids.{grid_text}
+use Rattle.papergrid_fits.specs.Tables.{Fits}
 use Rattle.tabled_output.proofs.PieceLemmas.{begun-front, passed-front, passes-err, passes-last, passes-ok, passes-refused, stopped-front}
 use Rattle.columns_table.proofs.NaturalLemmas.{OnOk-always}
 use Rattle.columns_table.proofs.table.write_grid.Goals as goal

@@ -3,8 +3,8 @@ use Rattle.grid_config.specs.Compact.{compact_of}
 use Rattle.grid_config.specs.Looks.{look_of}
 use Rattle.grid_records_estimate.specs.Estimates.{greatest}
 use Rattle.grid_records_measure.specs.TextLines.{line_feed}
-use Rattle.papergrid.specs.Grids.{grid_text}
-use Rattle.papergrid.specs.Tables.{Fits}
+use Rattle.papergrid_peekable.specs.Grids.{grid_text}
+use Rattle.papergrid_fits.specs.Tables.{Fits}
 use Rattle.tabled_output.specs.Pieces.{Passes}
 use Rattle.tabled_output.proofs.PieceLemmas.{passes-none}
 use Rattle.columns_table.specs.Answers.{natural_text}

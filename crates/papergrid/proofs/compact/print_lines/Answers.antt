@@ -9,7 +9,7 @@ use Rattle.grid_config.proofs.Looks.{same_look}
 use Rattle.papergrid_picture.specs.Fitting.{FitsAnswer}
 use Rattle.papergrid_picture.specs.Frame.{frame_of}
 use Rattle.papergrid_picture.specs.Tables.{sizes_of, table_text}
-use Rattle.papergrid.specs.Grids.{flat, one_line}
+use Rattle.papergrid.specs.Compact.{flat, one_line}
 use Rattle.papergrid.proofs.Flat.{answer-good, none_good}
 use Rattle.papergrid.proofs.compact.print_lines.Goals as goal
 

@@ -6,7 +6,7 @@ use Rattle.grid_config.specs.Compact.{Compact, compact_of}
 use Rattle.grid_records_traits.specs.Rows.{fitted}
 use Rattle.grid_records_traits.specs.Sources.{texts_of_rows}
 use Rattle.papergrid_picture.specs.Fitting.{FitsAnswer}
-use Rattle.papergrid.specs.Grids.{IsCompactAnswer, lined}
+use Rattle.papergrid.specs.Compact.{IsCompactAnswer, lined}
 use Rattle.papergrid.proofs.compact.CompactGrid+R+D+ref+CompactConfig+C.build.Goals as goal
 
 pub returns-clause-fault : goal.returns-clause-fault

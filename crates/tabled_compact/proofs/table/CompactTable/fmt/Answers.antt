@@ -2,7 +2,7 @@ use Rattle.std.proofs.Common.{◌≡◌, ◌⊎◌, ◌∙◌, Err, IfErr, List,
 use Rattle.grid_config.specs.Compact.{compact_of}
 use Rattle.grid_config_values.specs.declared.fault.Fault.TheVariants.{Memory}
 use Rattle.grid_records_traits.specs.Rows.{fitted}
-use Rattle.papergrid.specs.Grids.{IsCompactAnswer}
+use Rattle.papergrid.specs.Compact.{IsCompactAnswer}
 use Rattle.tabled_compact.specs.Tables.{kept_of}
 use Rattle.tabled_compact.proofs.table.CompactTable.fmt.Goals as goal
 

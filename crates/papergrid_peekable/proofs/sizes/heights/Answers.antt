@@ -1,7 +1,7 @@
 use Rattle.std.proofs.Common.{◌≡◌, ◌+◌, ℕ, ◌++◌, [], ◌∷◌, ap, sym, ◌∙◌, arith}
 use Rattle.std.proofs.lemmas.List.FromFn.{map-range_with_len_more}
 use Rattle.papergrid_picture.specs.Tables.{sizes_of}
-use Rattle.papergrid.proofs.sizes.heights.Goals as goal
+use Rattle.papergrid_peekable.proofs.sizes.heights.Goals as goal
 
 pub loop-row-preserved : goal.loop-row-preserved
 loop-row-preserved g c =

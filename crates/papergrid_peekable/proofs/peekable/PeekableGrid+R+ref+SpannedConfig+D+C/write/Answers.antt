@@ -1,9 +1,9 @@
 use Rattle.std.proofs.Common.{[], length, subst}
 use Rattle.grid_config.specs.Looks.{look_of}
 use Rattle.papergrid_picture.specs.Tables.{sizes_of, table_text}
-use Rattle.papergrid.specs.Grids.{grid_text}
+use Rattle.papergrid_peekable.specs.Grids.{grid_text}
 use Rattle.tabled_output.specs.Pieces.{Passes}
-use Rattle.papergrid.proofs.peekable.PeekableGrid+R+ref+SpannedConfig+D+C.write.Goals as goal
+use Rattle.papergrid_peekable.proofs.peekable.PeekableGrid+R+ref+SpannedConfig+D+C.write.Goals as goal
 
 pub returns : goal.returns
 returns g c =

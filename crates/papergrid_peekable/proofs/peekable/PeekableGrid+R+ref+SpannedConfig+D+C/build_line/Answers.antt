@@ -1,8 +1,8 @@
 use Rattle.std.proofs.Common.{◌++◌, ap, length, string_bytes, ◌∙◌}
 use Rattle.grid_config.specs.Looks.{look_of}
 use Rattle.papergrid_picture.specs.Tables.{sizes_of, table_line}
-use Rattle.papergrid.specs.Grids.{line_text}
-use Rattle.papergrid.proofs.peekable.PeekableGrid+R+ref+SpannedConfig+D+C.build_line.Goals as goal
+use Rattle.papergrid_peekable.specs.Grids.{line_text}
+use Rattle.papergrid_peekable.proofs.peekable.PeekableGrid+R+ref+SpannedConfig+D+C.build_line.Goals as goal
 
 pub returns-clause-text : goal.returns-clause-text
 returns-clause-text g c =

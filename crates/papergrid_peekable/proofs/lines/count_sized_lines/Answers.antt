@@ -1,7 +1,7 @@
 use Rattle.std.proofs.Common.{◌^◌, ◌<◌, ℕ, Some, SomeIff, sym, subst, ◌∙◌, arith}
 use Rattle.std.proofs.lemmas.Bool.Decides.{nat_tests}
 use Rattle.papergrid_fits.proofs.Ranges.{all_lines, line_count-is, told-some}
-use Rattle.papergrid.proofs.lines.count_sized_lines.Goals as goal
+use Rattle.papergrid_peekable.proofs.lines.count_sized_lines.Goals as goal
 
 pub unwrap-requires : goal.unwrap-requires
 unwrap-requires g c =

@@ -1,0 +1,2 @@
+-- Why grids whose cells are looked up print their text.
+pub mod SameTexts
