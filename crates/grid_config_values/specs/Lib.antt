@@ -3,4 +3,6 @@ pub mod Glyphs
 pub mod Order
 pub mod Entities
 pub mod Rectangles
+pub mod Entries
+pub mod Searches
 pub mod Settings
