@@ -218,3 +218,6 @@ impl<T: CloneIn> EntityMap<T> {
         })
     }
 }
+
+#[cfg(test)]
+mod tests;
