@@ -1,3 +1,4 @@
 pub mod Keeping
+pub mod KeptLineLemmas
 pub mod Tables
 pub mod PeekLemmas

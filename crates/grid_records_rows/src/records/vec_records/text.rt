@@ -1,16 +1,22 @@
 //! A cell's text.
-ghost use Rattle.std.specs.Prelude.{◌≡◌, IfOk, string_bytes};
+ghost use Rattle.std.specs.Prelude.{◌≡◌, [], IfOk, length, slice_index_or, string_bytes};
+ghost use Rattle.grid_records_measure.specs.TextLines.{text_lines};
+
+mod kept_lines;
 
 use crate::records::vec_records::Cell;
 use grid_records_measure::get_text_dimension;
+use kept_lines::{KeptLines, keep_lines};
 use std::alloc::{AllocError, Global};
+use std::borrow::CowStr;
 use std::marker::Model;
 
-/// A cell's text, which keeps how many lines it has and what the widest takes: it is measured once.
+/// A cell's text, which keeps its lines and what the widest takes: it is read once.
 #[derive(Debug, Drop)]
 pub struct Text {
     text: String,
-    lines: usize,
+    // nothing where the text is its only line
+    lines: Option<Box<KeptLines>>,
     width: usize,
 }
 
@@ -27,11 +33,15 @@ impl Model for Text {
 }
 
 impl Text {
-    /// A cell with this text, which is measured. It fails only where allocation fails.
-    pub fn new(_alloc: Global, text: String) -> Result<Text, AllocError>
+    ghost use Rattle.grid_records_rows.specs.Measured.{AreKept};
+
+    /// A cell with this text, which is measured. A text that is its only line takes no further memory. Fails
+    /// only where allocation fails.
+    pub fn new(alloc: Global, text: String) -> Result<Text, AllocError>
         ensures { IfOk result (λ cell. cell ≡ string_bytes text) }
     {
-        let (lines, width) = get_text_dimension(&text);
+        let (count, width) = get_text_dimension(&text);
+        let lines = keep_lines(alloc, &text, count)?;
         Ok(Text { text, lines, width })
     }
 
@@ -41,7 +51,7 @@ impl Text {
     {
         Ok(Text {
             text: self.text.as_str().to_string(alloc)?,
-            lines: self.lines,
+            lines: self.lines_again(alloc)?,
             width: self.width,
         })
     }
@@ -51,6 +61,37 @@ impl Text {
         ensures { string_bytes result ≡ self }
     {
         self.text
+    }
+
+    // Its lines again.
+    fn lines_again(&self, alloc: Global) -> Result<Option<Box<KeptLines>>, AllocError>
+        ensures { IfOk result (λ copy. AreKept self.now copy) }
+    {
+        match &self.lines {
+            Some(lines) => Ok(Some(Box::new(alloc, lines.again(alloc)?)?)),
+            None => Ok(None),
+        }
+    }
+
+    // The line with this number, and after the last the empty text.
+    fn kept_line(&self, index: usize) -> &str
+        ensures { result.now ≡ slice_index_or (text_lines self.now) index [] }
+    {
+        match &self.lines {
+            Some(lines) => lines.line(&self.text, index),
+            None if index == 0 => self.text.as_str(),
+            None => "",
+        }
+    }
+
+    // How many lines there are.
+    fn kept_count(&self) -> usize
+        ensures { result ≡ length (text_lines self.now) }
+    {
+        match &self.lines {
+            Some(lines) => lines.count(),
+            None => 1,
+        }
     }
 }
 
@@ -62,8 +103,12 @@ impl Cell for Text {
         self.text.as_str()
     }
 
+    fn line(&self, _alloc: Global, index: usize) -> Result<CowStr<'_>, AllocError> {
+        Ok(CowStr::Borrowed(self.kept_line(index)))
+    }
+
     fn count_lines(&self) -> usize {
-        self.lines
+        self.kept_count()
     }
 
     fn width(&self) -> usize {
@@ -71,7 +116,7 @@ impl Cell for Text {
     }
 
     fn dimension(&self) -> (usize, usize) {
-        (self.lines, self.width)
+        (self.kept_count(), self.width)
     }
 }
 
