@@ -83,20 +83,14 @@ impl<'a> Scan<'a> {
 impl Iterator for Scan<'_> {
     type Item = Item;
 
-    ghost use Rattle.std.specs.Prelude.{⊤};
-    ghost use Rattle.std.specs.Iterator.{YieldsFirst, MakesProgress, item_count};
-    ghost use Rattle.ansi_scan.specs.Scan.{items_left, looks_in_all, text_length};
+    ghost use Rattle.std.specs.Iterator.{item_count};
+    ghost use Rattle.ansi_scan.specs.Scan.{GivesFirst, items_left};
 
-    ghost next_gives = { YieldsFirst items_left };
+    ghost next_gives = { GivesFirst };
 
     ghost remaining = { item_count items_left };
 
-    fn next(&mut self) -> Option<Item>
-        ensures steps { YieldsFirst items_left self.old result self.new }
-        ensures goes { MakesProgress (λ _. ⊤) (item_count items_left) self.old result self.new }
-        ensures text { text_length self.new ≡ text_length self.old }
-        ensures looks { looks_in_all self.new ≡ looks_in_all self.old }
-    {
+    fn next(&mut self) -> Option<Item> {
         if self.rest.is_empty() {
             return None;
         }

@@ -1,5 +1,5 @@
 -- A step takes the front off what is left.
-use Rattle.std.proofs.Common.{rules, length, ◌<◌, ◌≡◌, arith}
+use Rattle.std.proofs.Common.{refl, rules, length, ◌<◌, ◌≡◌, arith}
 use Rattle.ansi_scan.proofs.Stepping.{placed-none, placed-step}
 use Rattle.ansi_scan.proofs.Looking.{looks_over-step}
 use Rattle.ansi_scan.proofs.items.ScanIterator.next.Goals as goal
@@ -8,12 +8,16 @@ pub returns-then-is_empty-clause-steps : goal.returns-then-is_empty-clause-steps
 returns-then-is_empty-clause-steps c =
     let empty : length c.args.self.now.rest.now ≡ 0 = grind arith in
     let none = placed-none c.args.self.now.place c.args.self.now.rest.now empty in
-    (none, none)
+    (none, none, (refl, refl))
 
 pub returns-clause-steps : goal.returns-clause-steps
 returns-clause-steps c =
     let nonempty : 0 < length c.args.self.now.rest.now = omega arith in
-    placed-step c.args.self.now.place c.args.self.now.rest.now c.front-kind.result _ nonempty c.front-kind.ensures.kind c.split_at.ensures.back
+    let looks = looks_over-step c.args.self.now.rest.now c.front-kind.result _ nonempty c.front-kind.ensures.kind c.split_at.ensures.back in
+    (
+      placed-step c.args.self.now.place c.args.self.now.rest.now c.front-kind.result _ nonempty c.front-kind.ensures.kind c.split_at.ensures.back,
+      (omega (arith, c.split_at.ensures.back_len), omega (arith, looks, c.front-kind.ensures.looks)),
+    )
 
 pub returns-clause-goes : goal.returns-clause-goes
 returns-clause-goes c =
@@ -28,8 +32,3 @@ invariant_of-self-clause-few c =
     let step = looks_over-step c.args.self.now.rest.now c.front-kind.result _ nonempty c.front-kind.ensures.kind c.split_at.ensures.back in
     omega (arith, step, c.front-kind.ensures.looks, c.args.self.now.few)
 
-pub returns-clause-looks : goal.returns-clause-looks
-returns-clause-looks c =
-    let nonempty : 0 < length c.args.self.now.rest.now = omega arith in
-    let step = looks_over-step c.args.self.now.rest.now c.front-kind.result _ nonempty c.front-kind.ensures.kind c.split_at.ensures.back in
-    omega (arith, step, c.front-kind.ensures.looks)
