@@ -13,8 +13,7 @@ returns-then-is_empty-clause-steps c =
 pub returns-clause-steps : goal.returns-clause-steps
 returns-clause-steps c =
     let nonempty : 0 < length c.args.self.now.rest.now = omega arith in
-    let looks = looks_over-step c.args.self.now.rest.now c.front-kind.result _ nonempty c.front-kind.ensures.kind c.split_at.ensures.back in
-    (
+    let looks = looks_over-step c.args.self.now.rest.now c.front-kind.result _ nonempty c.front-kind.ensures.kind c.split_at.ensures.back in (
       placed-step c.args.self.now.place c.args.self.now.rest.now c.front-kind.result _ nonempty c.front-kind.ensures.kind c.split_at.ensures.back,
       (omega (arith, c.split_at.ensures.back_len), omega (arith, looks, c.front-kind.ensures.looks)),
     )
@@ -31,4 +30,3 @@ invariant_of-self-clause-few c =
     let nonempty : 0 < length c.args.self.now.rest.now = omega arith in
     let step = looks_over-step c.args.self.now.rest.now c.front-kind.result _ nonempty c.front-kind.ensures.kind c.split_at.ensures.back in
     omega (arith, step, c.front-kind.ensures.looks, c.args.self.now.few)
-
