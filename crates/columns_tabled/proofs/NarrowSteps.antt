@@ -70,6 +70,13 @@ module _ (rows : List (List (List ℕ))) (look : Look) (colors : Position → Op
     pub heights : it.heights ≡ natural_heights look count rows
     pub whole : it.whole ≡ table_width look (column_widths count (natural_widths look count rows))
 
+  found-is : (wide high : List ℕ) (whole : ℕ) (it : Drawn) → it ≡ drawn_with wide high whole → wide ≡ naturals → high ≡ natural_heights look count rows → whole ≡ table_width look (column_widths count wide) → AreEstimated it
+  found-is wide high whole it same are_wide are_high is_whole = record {
+    widths = ap (λ (d : Drawn). d.widths) same ∙ are_wide;
+    heights = ap (λ (d : Drawn). d.heights) same ∙ are_high;
+    whole = ap (λ (d : Drawn). d.whole) same ∙ is_whole ∙ ap (λ (found : List ℕ). table_width look (column_widths count found)) are_wide;
+  }
+
   estimated : (it : Drawn) → drawn look count rows none_stored ≡ Ok it → AreEstimated it
   estimated it is =
       let heights : List ℕ = natural_heights look count rows in
@@ -80,14 +87,8 @@ module _ (rows : List (List (List ℕ))) (look : Look) (colors : Position → Op
       let second = bind-ok (all_sized heights) (by_heights first.value) it first.follows in
       let total : ℕ = table_width look (column_widths count first.value) in
       let third = bind-ok (sized total) (by_whole first.value second.value) it second.follows in
-      let found : Drawn = drawn_with first.value second.value third.value in
-      let same : it ≡ found = back-ok found it third.follows in
-      let wide : first.value ≡ naturals = if-ok (list_any passes naturals) Range naturals first.value first.is in
-      record {
-        widths = ap (λ (d : Drawn). d.widths) same ∙ wide;
-        heights = ap (λ (d : Drawn). d.heights) same ∙ if-ok (list_any passes heights) Range heights second.value second.is;
-        whole = ap (λ (d : Drawn). d.whole) same ∙ if-ok (passes total) Range total third.value third.is ∙ ap (λ (found : List ℕ). table_width look (column_widths count found)) wide;
-      }
+      found-is first.value second.value third.value it (back-ok (drawn_with first.value second.value third.value) it third.follows)
+      (if-ok (list_any passes naturals) Range naturals first.value first.is) (if-ok (list_any passes heights) Range heights second.value second.is) (if-ok (passes total) Range total third.value third.is)
 
   module _ {P : Type 0} (shrinks : P → List ℕ → ℕ → List ℕ → P → List ℕ → Type 0) (priority : P) (change : ℕ → List ℕ → Option (List ℕ)) (asked : ℕ) where
     -- there are no cells; it takes no more than asked; or its columns gave
