@@ -14,6 +14,9 @@ ghost use Rattle.tabled_list.specs.Settings.{setting_step};
 ghost use Rattle.tabled_list.specs.declared.amount.Amount.TheVariants.{Exact};
 ghost use Rattle.tabled_list.specs.declared.setting.Setting.TheVariants.{Truncate as CutTable, Wrap as BreakTable};
 ghost use Rattle.tabled_size_dimension.specs.declared.suffix.SuffixLimit.{SuffixLimit};
+ghost use Rattle.tabled_size_priority.specs.declared.choice.Choice.TheVariants.{Left, MaxLeft, MaxRight, MinLeft, MinRight, None as InTurns, Right};
+ghost use Rattle.tabled_size_priority.specs.declared.left.PriorityLeft.{PriorityLeft as OneLeft};
+ghost use Rattle.tabled_size_priority.specs.declared.right.PriorityRight.{PriorityRight as OneRight};
 ghost use Rattle.tabled_steps.specs.States.{Settles, State};
 ghost use Rattle.tabled_width.specs.Options.{truncation, wrapping};
 ghost use Rattle.tabled_width.specs.declared.truncate.Truncate.{Truncate as OneTruncate};
@@ -23,7 +26,9 @@ ghost use Rattle.tabled_text.specs.Rows.{filled};
 use grid_config::ColoredConfig;
 use grid_records_rows::{FromText, VecRecords};
 use tabled_size_dimension::CompleteDimension;
-use tabled_size_priority::Peaker;
+use tabled_size_priority::{
+    Peaker, PriorityLeft, PriorityMax, PriorityMin, PriorityNone, PriorityRight,
+};
 use tabled_steps::{Measurement, TableOption};
 use tabled_width::{Truncate, Width, Wrap};
 
@@ -64,6 +69,17 @@ pub fn both_programs_narrow_by_options<
         IsNamed P.shrinks P.grows (truncation option).priority wanted.asked.priority → GivesOnly (W.measures (truncation option).width) (table_of wanted input) width →
         (truncation option).cutting.suffix ≡ [] → (truncation option).cutting.multiline ≡ false →
         Settles None (⟦<Truncate<'a, W, P> as TableOption<VecRecords<T>, ColoredConfig, CompleteDimension>>⟧.step option) (table_of wanted input) (Ok left) → output_of wanted input ≡ ended_table left }
+{}
+
+/// The library's own priorities and numbers are such: each priority, before it is used, is one of its name, and a number
+/// as a width measures itself.
+pub fn own_priorities_and_numbers_serve()
+    ensures turns { IsNamed ⟦<PriorityNone as Peaker>⟧.shrinks ⟦<PriorityNone as Peaker>⟧.grows 0 InTurns }
+    ensures left { (priority : OneLeft) → IsNamed ⟦<PriorityLeft as Peaker>⟧.shrinks ⟦<PriorityLeft as Peaker>⟧.grows priority Left }
+    ensures right { (priority : OneRight) → IsNamed ⟦<PriorityRight as Peaker>⟧.shrinks ⟦<PriorityRight as Peaker>⟧.grows priority Right }
+    ensures widest { IsNamed ⟦<PriorityMax as Peaker>⟧.shrinks ⟦<PriorityMax as Peaker>⟧.grows false MaxLeft × IsNamed ⟦<PriorityMax as Peaker>⟧.shrinks ⟦<PriorityMax as Peaker>⟧.grows true MaxRight }
+    ensures narrowest { IsNamed ⟦<PriorityMin as Peaker>⟧.shrinks ⟦<PriorityMin as Peaker>⟧.grows false MinLeft × IsNamed ⟦<PriorityMin as Peaker>⟧.shrinks ⟦<PriorityMin as Peaker>⟧.grows true MinRight }
+    ensures numbers { (s : State) (width : ℕ) → GivesOnly (⟦<usize as Measurement<Width>>⟧.measures width) s width }
 {}
 
 /// What it writes without a width, as a whole or row by row, is what an `IterTable` of its rows prints that sniffs all
