@@ -58,7 +58,7 @@ level-floor level c place width least p wide is = omega (arith, wide, is)
 turns-floor : (turns c place width least p : ℕ) → p ≤ width → least ≡ p → p ≤ given_in_turns turns c place width least
 turns-floor turns c place width least p wide is = omega (arith, wide, is)
 
-least-is : (p : ℕ) (widths : List ℕ) (k : ℕ) → k < length widths → slice_index (map (λ _. p) widths) k ≡ p
+pub least-is : (p : ℕ) (widths : List ℕ) (k : ℕ) → k < length widths → slice_index (map (λ _. p) widths) k ≡ p
 least-is p [] k below = absurd (omega (arith, below))
 least-is p (width ∷ widths) zero below = refl
 least-is p (width ∷ widths) (suc k) below = least-is p widths k (omega (arith, below))
@@ -96,7 +96,7 @@ module _ (p : ℕ) (widths : List ℕ) (k : ℕ) (below : k < length widths) (wi
   shrunk-keeps Left by sizes is = order-keeps (from_side false (length widths)) _ sizes is
   shrunk-keeps Right by sizes is = order-keeps (from_side true (length widths)) _ sizes is
 
-narrow-keeps : (style : Compact) (asked : Asked) (natural widths : List ℕ) (total : ℕ) (width : Option ℕ) → narrow style asked natural total width ≡ Some widths → (k : ℕ) → k < length natural → paddings style ≤ slice_index natural k → paddings style ≤ slice_index widths k
+pub narrow-keeps : (style : Compact) (asked : Asked) (natural widths : List ℕ) (total : ℕ) (width : Option ℕ) → narrow style asked natural total width ≡ Some widths → (k : ℕ) → k < length natural → paddings style ≤ slice_index natural k → paddings style ≤ slice_index widths k
 narrow-keeps style asked natural widths total None is k below wide = absurd (cc is)
 narrow-keeps style asked natural widths total (Some w) is k below wide = by (nat_le total w) is
   where

@@ -16,7 +16,7 @@ use Rattle.grid_config_values.specs.declared.sides.Indent.{Indent}
 use Rattle.grid_config_values.specs.declared.sides.Sides.{Sides}
 use Rattle.grid_records_estimate.specs.Totals.{total}
 use Rattle.grid_records_measure.specs.Measures.{columns}
-use Rattle.papergrid_picture.specs.Fitting.{first_too_wide, table_width}
+use Rattle.papergrid_picture.specs.Fitting.{table_width}
 use Rattle.papergrid_picture.specs.Frame.{Frame, column_count as columns_of, frame_of, line_count, row_count, total_width, track_at}
 use Rattle.papergrid_picture.specs.Shown.{CostsOne, OnEachSide, ShowsOnly}
 use Rattle.papergrid_picture.specs.Tables.{table_grid}
@@ -25,24 +25,22 @@ use Rattle.papergrid_picture.proofs.WidthLemmas.{line-columns}
 use Rattle.tabled_size_cells.specs.Resizing.{Resize}
 use Rattle.columns_asked.specs.declared.asked.Asked.{Asked}
 use Rattle.columns_asked.specs.Layout.{asked_frame, asked_widths, frame_under, heights_of, kept_texts, narrowed, paddings, resize_in, too_wide, widths_of}
-use Rattle.columns_asked.proofs.NarrowLemmas.{narrowed-none}
 use Rattle.columns_table.specs.Asking.{narrowest_frame}
-use Rattle.columns_table.proofs.AskedWidths.{width-fitting, width-narrowed, width-unasked}
-use Rattle.columns_table.proofs.NarrowedLemmas.{frame-natural, kept-natural, room-natural, some-of-table}
+use Rattle.columns_table.proofs.AskedWidths.{padded, width-fitting, width-narrowed}
+use Rattle.columns_table.proofs.NarrowedLemmas.{some-of-table}
 use Rattle.columns_table.proofs.NaturalLemmas.{positive-none}
-use Rattle.columns_table.proofs.SizeLemmas.{width-total}
-use Rattle.columns_run.specs.Layout.{grid_of, kept_of, line_bytes, piece_bytes, wide_cell}
+use Rattle.columns_table.proofs.SizeLemmas.{height-each, width-each, width-total}
+use Rattle.columns_run.specs.Layout.{grid_of, kept_of, line_bytes, piece_bytes}
 use Rattle.columns_run.specs.Plain.{IsPlain, IsPlainCharacter}
 use Rattle.columns_run.specs.Rows.{cell_parts}
 use Rattle.columns_run.specs.Wanted.{Wanted}
 use Rattle.columns_run.proofs.ByteLemmas.{line-pieces}
-use Rattle.columns_run.proofs.CellLemmas.{whole_text}
+use Rattle.columns_run.proofs.CellLemmas.{whole_cells, whole_text}
 use Rattle.columns_run.proofs.PlainLemmas.{bare, plain-space, shown-only}
-use Rattle.columns_run.proofs.RoomLemmas.{never-wide as unasked-never_wide}
-use Rattle.columns_run.proofs.TableLemmas.{wide-same}
 use Rattle.columns_run.proofs.TilingLemmas.{room}
-use Rattle.columns_plain.specs.PlainInputs.{IsPlainInput, least_total, natural_total}
-use Rattle.columns_plain.proofs.NarrowRoom.{enough, never-wide}
+use Rattle.columns_run.specs.Widths.{least_columns, natural_columns, taken_columns}
+use Rattle.columns_bounds.proofs.TableBounds.{never-too_wide}
+use Rattle.columns_plain.specs.PlainInputs.{IsPlainInput}
 use Rattle.columns_plain.proofs.PlainTexts.{cells-are-plain, rows-plainly}
 
 -- ---- a plain style costs one column at each glyph and fill
@@ -127,10 +125,12 @@ module _ (style : Compact) (texts : List (List (List ℕ))) where
       let heights = heights_of style texts in
       let leasts = map (λ _. paddings style) widths in
       let sizes = some-of-table style widths heights some in
+      let rows : 0 < length texts = omega (arith, height-each style texts sizes.1, sizes.1) in
+      let enough : (k : ℕ) → k < length widths → paddings style ≤ slice_index widths k = λ k below. padded style texts rows k (omega (arith, below, width-each style texts sizes.1)) below in
       let many : length leasts ≡ length widths = length-map widths (λ _. paddings style) in
       let natural = sum-and-rest widths heights sizes.0 sizes.1 in
       let least : table_width (narrowest_frame style texts) ≡ sum leasts + beside (length widths) = sum-and-rest leasts heights (omega (arith, many, sizes.0)) sizes.1 ∙ ap (λ n. sum leasts + beside n) many in
-      omega (arith, natural, least, sums-le (paddings style) widths (enough style texts sizes.1))
+      omega (arith, natural, least, sums-le (paddings style) widths enough)
 
   pub asked-total : (asked : Asked) (width : ℕ) → asked.width ≡ Some width → table_width (asked_frame style asked texts) ≡ min (table_width (frame_under style texts)) (max width (table_width (narrowest_frame style texts)))
   asked-total asked width is =
@@ -142,13 +142,9 @@ module _ (style : Compact) (texts : List (List (List ℕ))) where
 -- ---- the table of a text
 
 module _ (wanted : Wanted) (input : List ℕ) where
-  pub total-asked : (width : ℕ) → wanted.asked.width ≡ Some width → table_width (grid_of wanted input).frame ≡ min (natural_total wanted input) (max width (least_total wanted input))
+  pub total-asked : (width : ℕ) → wanted.asked.width ≡ Some width → taken_columns wanted input ≡ min (natural_columns wanted input) (max width (least_columns wanted input))
   unfolding grid_of kept_of
   total-asked width is = asked-total wanted.style (cell_parts input) wanted.asked width is
-
-  pub total-unasked : wanted.asked.width ≡ None → table_width (grid_of wanted input).frame ≡ natural_total wanted input
-  unfolding grid_of kept_of
-  total-unasked none = width-unasked wanted.style wanted.asked (cell_parts input) none
 
   module _ (is : IsPlainInput input) where
     abbrev texts : List (List (List ℕ))
@@ -157,35 +153,7 @@ module _ (wanted : Wanted) (input : List ℕ) where
     abbrev style : Compact
     style = wanted.style
 
-    -- as wide as it would be
-    abbrev unasked : Wanted
-    unasked = record wanted { asked = record wanted.asked { width = None } }
-
-    natural-room : first_too_wide (frame_under style texts) texts ≡ None
-    unfolding too_wide
-    natural-room =
-        let asked = unasked.asked in
-        let told : narrowed style asked texts ≡ None = refl in
-        sym (ap (λ (frame : Frame). first_too_wide frame (kept_texts style asked texts)) (frame-natural style asked texts told) ∙ ap (first_too_wide (frame_under style texts)) (kept-natural style asked texts told))
-        ∙ wide-same unasked input (whole_text input is.utf8 is.whole) ∙ unasked-never_wide unasked input refl
-
-    asked-room : (width : ℕ) → wanted.asked.width ≡ Some width → too_wide style wanted.asked texts ≡ None
-    asked-room width is_width =
-        elim (cases_lt width (table_width (frame_under style texts))) [
-          | inl less ↦ never-wide style wanted.asked texts (cells-are-plain input is) width is_width less
-          | inr more ↦
-              let fits : table_width (frame_under style texts) ≤ width = omega (arith, more) in
-              room-natural style wanted.asked texts (narrowed-none style wanted.asked (widths_of style texts) (table_width (frame_under style texts)) width is_width fits) natural-room
-        ]
-
-    all-room : (asked : Option ℕ) → wanted.asked.width ≡ asked → too_wide style wanted.asked texts ≡ None
-    all-room None none = wide-same wanted input (whole_text input is.utf8 is.whole) ∙ unasked-never_wide wanted input none
-    all-room (Some width) is_width = asked-room width is_width
-
-    pub none-too_wide : wide_cell wanted input ≡ None
-    none-too_wide = sym (wide-same wanted input (whole_text input is.utf8 is.whole)) ∙ all-room wanted.asked.width refl
-
-    pub even : IsPlain wanted.style → (y : ℕ) → y < line_count (grid_of wanted input).frame → columns (shown_chars (line_bytes wanted input y)) ≡ table_width (grid_of wanted input).frame
+    pub even : IsPlain wanted.style → (y : ℕ) → y < line_count (grid_of wanted input).frame → columns (shown_chars (line_bytes wanted input y)) ≡ taken_columns wanted input
     unfolding grid_of kept_of piece_bytes kept_texts too_wide
     even plain y inside =
         let asked = wanted.asked in
@@ -195,5 +163,5 @@ module _ (wanted : Wanted) (input : List ℕ) where
         let resize : ℕ → Resize = resize_in style asked (narrowed style asked texts) in
         let shown = rows-plainly resize texts (cells-are-plain input is) in
         ap (λ (bytes : List ℕ). columns (shown_chars bytes)) (sym (line-pieces style (bare style plain) kept widths heights y))
-        ∙ line-columns (compact_look style) kept widths heights (bare style plain) (ones style plain) shown [] y (good style kept widths heights) (room style kept widths heights (all-room wanted.asked.width refl))
+        ∙ line-columns (compact_look style) kept widths heights (bare style plain) (ones style plain) shown [] y (good style kept widths heights) (room style kept widths heights (never-too_wide style asked texts (whole_cells input (whole_text input is.utf8 is.whole))))
         ∙ total-same (frame_of (compact_look style) widths heights) (omega (arith, inside))

@@ -1,29 +1,25 @@
 -- The cells of a plain input, and what they are resized to.
-use Rattle.std.proofs.Common.{◌≡◌, ◌==◌, ◌+◌, ◌≤◌, ◌||◌, ◌&&◌, ℕ, Bool, true, false, List, [], ◌∷◌, map, refl, ap, sym, subst, ◌∙◌, arith}
+use Rattle.std.proofs.Common.{◌≡◌, ◌==◌, ◌+◌, ◌||◌, ◌&&◌, ℕ, Bool, true, false, List, [], ◌∷◌, map, refl, ap, sym, subst, ◌∙◌}
 use Rattle.std.specs.Prelude.{chars}
 use Rattle.std.specs.List.{AllByRecursion, list_all, slice_split}
 use Rattle.std.proofs.lemmas.Bool.{and_parts}
-use Rattle.std.proofs.lemmas.Simd.{map-map}
 use Rattle.ansi_scan.specs.Pieces.{pieces}
 use Rattle.ansi_str.specs.Characters.{shown_chars}
 use Rattle.ansi_str.specs.StyledText.{strip}
 use Rattle.columns_asked.specs.Layout.{by_column}
-use Rattle.grid_records_estimate.specs.Estimates.{greatest}
-use Rattle.grid_records_measure.specs.Measures.{measure}
 use Rattle.grid_records_measure.specs.PlainCharacters.{is_plain_character}
 use Rattle.grid_records_measure.specs.Tabs.{tab}
-use Rattle.grid_records_measure.specs.TextLines.{is_line_feed, line_feed, text_width}
+use Rattle.grid_records_measure.specs.TextLines.{is_line_feed, line_feed}
 use Rattle.papergrid_picture.specs.Shown.{ArePlainlyShown, IsPlainlyShown, IsWholeText, Styled, character_of, in_plain}
-use Rattle.papergrid_picture.proofs.ItemLemmas.{slice_split-map}
 use Rattle.papergrid_picture.proofs.ShownLemmas.{characters-styled, styled_of}
-use Rattle.tabled_size_cells.specs.Resizing.{Break, Cut, Keep, Resize, cell_width, lines_in, resized, resized_text}
-use Rattle.tabled_size_cells.proofs.BridgeLemmas.{resized-shows, width-same}
+use Rattle.tabled_size_cells.specs.Resizing.{Resize, resized, resized_text}
+use Rattle.tabled_size_cells.proofs.BridgeLemmas.{resized-shows}
 use Rattle.tabled_size_cells.proofs.CharacterLemmas.{resized-natural, same}
 use Rattle.columns_run.specs.Rows.{cell_parts, row_texts, rows_of, without_empty_last}
 use Rattle.columns_run.proofs.CellLemmas.{Fails, slice_split-fails, slice_split-keeps, styled-cell_parts, whole_cells, whole_text}
 use Rattle.columns_run.proofs.SplitLemmas.{styled_characters}
 use Rattle.columns_plain.specs.PlainInputs.{IsPlainInput}
-use Rattle.columns_plain.proofs.PlainCells.{FitsIn, IsPlain, IsPlainOrFeed, resized-fits, resized-shown}
+use Rattle.columns_plain.proofs.PlainCells.{IsPlain, IsPlainOrFeed, resized-shown}
 
 -- ---- the characters of the cells
 
@@ -119,17 +115,6 @@ cells-are-plain input is =
 
 -- ---- a resized cell
 
-width-natural : (cell : List Styled) → cell_width same same (map character_of cell) ≡ cell_width character_of in_plain cell
-width-natural cell =
-    let lines = lines_in character_of in_plain cell in
-    ap (λ (found : List (List ℕ)). greatest (map (λ line. measure (map same line)) found)) (slice_split-map character_of (λ c. is_line_feed (same c)) cell)
-    ∙ ap greatest (map-map (λ (line : List ℕ). measure (map same line)) (map character_of) lines ∙ (λ k. map (λ line. measure (map-map same character_of line k)) lines))
-
-abbrev pub RoomFits : Resize → ℕ → Type 0
-RoomFits Keep width = Unit {0}
-RoomFits (Break room keep_words) width = width ≤ room
-RoomFits (Cut room) width = width ≤ room
-
 module _ (resize : Resize) (cell : List ℕ) (is : IsPlainCell cell) where
   abbrev out : List ℕ
   out = resized_text resize cell
@@ -141,17 +126,6 @@ module _ (resize : Resize) (cell : List ℕ) (is : IsPlainCell cell) where
 
   out-whole : IsWholeText out
   out-whole = (resized-shows resize cell is.whole).whole
-
-  width-is : text_width out ≡ cell_width same same (resized same same resize (chars (strip (pieces cell))))
-  width-is = width-same out out-whole ∙ sym (width-natural (styled_of out)) ∙ ap (cell_width same same) shown
-
-  fits-as : (r : Resize) (n : ℕ) (found : List ℕ) → n ≡ cell_width same same found → FitsIn (chars (strip (pieces cell))) is.plain r found → RoomFits r n
-  fits-as Keep n found e fits = tt
-  fits-as (Break room keep_words) n found e fits = omega (arith, e, fits)
-  fits-as (Cut room) n found e fits = omega (arith, e, fits)
-
-  pub resized-width : RoomFits resize (text_width out)
-  resized-width = fits-as resize (text_width out) (resized same same resize (chars (strip (pieces cell)))) width-is (resized-fits (chars (strip (pieces cell))) is.plain resize)
 
   all-pass : (cs : List ℕ) → AllByRecursion IsPlainOrFeed cs → list_all (λ c. is_plain_character c || is_line_feed c) cs ≡ true
   all-pass [] all = refl

@@ -1,2 +1,12 @@
+pub mod AlikeTexts
+pub mod EmptyTexts
+pub mod FilledRows
+pub mod FilledTables
+pub mod LeastWidths
+pub mod NarrowSteps
+pub mod NarrowTexts
+pub mod OptionSteps
 pub mod SameSizes
 pub mod SameTexts
+pub mod StreamedTables
+pub mod TakenSteps

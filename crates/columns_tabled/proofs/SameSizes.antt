@@ -30,17 +30,17 @@ counts-same n (row ∷ rows) all = let here = all.0 in omega (arith, here, withi
 
 -- ---- the same axes
 
-module _ (style : Compact) (n : ℕ) (rows : List (List (List ℕ))) where
-  -- a cell of several rows or columns hides none: there is none
-  seen : (p : Position) → is_seen (compact_look style).extent p ≡ true
-  seen p = ap (λ (found : Position). same_place found p) (seen-itself style [] [] [] p.row p.col) ∙ same_itself p
+-- a cell of several rows or columns hides none: there is none
+pub seen : (style : Compact) (p : Position) → is_seen (compact_look style).extent p ≡ true
+seen style p = ap (λ (found : Position). same_place found p) (seen-itself style [] [] [] p.row p.col) ∙ same_itself p
 
+module _ (style : Compact) (n : ℕ) (rows : List (List (List ℕ))) where
   columns-same : column_axis_of (compact_look style) n rows ≡ column_axis (compact_sizing style) n rows
   unfolding extent_at
   columns-same = λ k. record {
     tracks = n;
     crossings = length rows;
-    is_visible = λ column row. seen (place row column) k;
+    is_visible = λ column row. seen style (place row column) k;
     span = λ column row. 1;
     need = λ column row. let padding = style.padding in text_width (text_at rows (place row column)) + padding.left.size + padding.right.size;
     has_boundary = λ j. has_column_boundary style.borders (boundary_kind j n);
@@ -51,7 +51,7 @@ module _ (style : Compact) (n : ℕ) (rows : List (List (List ℕ))) where
   rows-same = λ k. record {
     tracks = length rows;
     crossings = n;
-    is_visible = λ row column. seen (place row column) k;
+    is_visible = λ row column. seen style (place row column) k;
     span = λ row column. 1;
     need = λ row column. let padding = style.padding in text_height (text_at rows (place row column)) + padding.top.size + padding.bottom.size;
     has_boundary = λ i. has_row_boundary style.borders (boundary_kind i (length rows));

@@ -9,6 +9,7 @@ use Rattle.grid_records_estimate.specs.Sizes.{table_heights, table_widths}
 use Rattle.grid_records_estimate.specs.Sizing.{compact_sizing}
 use Rattle.grid_records_estimate.proofs.Lengths.{length-table_heights}
 use Rattle.grid_records_measure.specs.TextLines.{line_feed}
+use Rattle.grid_records_traits.specs.Rows.{fitted}
 use Rattle.papergrid_picture.specs.Frame.{Frame, column_count as columns_of, frame_of, line_count, row_count, track_at}
 use Rattle.papergrid_picture.specs.Tables.{sizes_of, table_text}
 use Rattle.papergrid_picture.proofs.ByNumber.{by_number}
@@ -23,17 +24,43 @@ use Rattle.papergrid_picture.specs.Fitting.{table_width}
 use Rattle.columns_run.specs.Layout.{output_of}
 use Rattle.columns_run.specs.Rows.{cell_parts}
 use Rattle.columns_run.specs.Wanted.{Wanted}
-use Rattle.columns_tabled.specs.Tables.{AreEquallyLong, table_under}
+use Rattle.columns_tabled.specs.Tables.{AreEquallyLong, ended_table, table_of, table_under}
+use Rattle.columns_tabled.proofs.FilledRows.{filled-is, long-fitted}
+use Rattle.columns_tabled.proofs.FilledTables.{text-filled}
 use Rattle.columns_tabled.proofs.SameSizes.{counts-same, heights-same, widths-same}
+
+-- ---- frames without lines
+
+pub no-lines : (frame : Frame) → row_count frame ≡ 0 → line_count frame ≡ 0
+no-lines frame none =
+    let test : (row_count frame == 0) ≡ true = grind (arith, nat_tests, none) in
+    ap (λ (b : Bool). if b then 0 else if columns_of frame == 0 then 0 else track_at frame.rows (row_count frame) + frame.look.margin.bottom.size) test
+
+pub no-columns : (frame : Frame) → columns_of frame ≡ 0 → line_count frame ≡ 0
+no-columns frame none = by (row_count frame == 0)
+  where
+    test : (columns_of frame == 0) ≡ true
+    test = grind (arith, nat_tests, none)
+
+    by : (b : Bool) → (if b then 0 else if columns_of frame == 0 then 0 else track_at frame.rows (row_count frame) + frame.look.margin.bottom.size) ≡ 0
+    by true = refl
+    by false = ap (λ (b : Bool). if b then 0 else track_at frame.rows (row_count frame) + frame.look.margin.bottom.size) test
+
+pub empty : (frame : Frame) (items : List ℕ) → line_count frame ≡ 0 → [] ≡ (if line_count frame == 0 then [] else items ++ line_feed ∷ [])
+empty frame items none =
+    let test : (line_count frame == 0) ≡ true = grind (arith, nat_tests, none) in
+    sym (ap (λ (b : Bool). if b then [] else items ++ line_feed ∷ []) test)
+
+-- ---- equally long rows
 
 module _ (style : Compact) (n : ℕ) (rows : List (List (List ℕ))) (long : AreEquallyLong n rows) where
   abbrev table : State
   table = table_under style rows
 
-  natural-widths : natural_widths (compact_look style) (first_count rows) rows ≡ widths_of style rows
+  pub natural-widths : natural_widths (compact_look style) (first_count rows) rows ≡ widths_of style rows
   natural-widths = widths-same style (first_count rows) rows ∙ ap (λ m. table_widths (compact_sizing style) m rows) (sym (counts-same n rows long))
 
-  natural-heights : natural_heights (compact_look style) (first_count rows) rows ≡ heights_of style rows
+  pub natural-heights : natural_heights (compact_look style) (first_count rows) rows ≡ heights_of style rows
   natural-heights = heights-same style (first_count rows) rows ∙ ap (λ m. table_heights (compact_sizing style) m rows) (sym (counts-same n rows long))
 
   drawn-widths : drawn_widths table ≡ sizes_of (slice_index (widths_of style rows)) (first_count rows)
@@ -57,26 +84,6 @@ module _ (style : Compact) (n : ℕ) (rows : List (List (List ℕ))) (long : Are
         ap (λ (widths : List ℕ). by widths (heights_of style rows)) (sym widths-are) ∙ ap (by (drawn_widths table)) (sym heights-are)
 
   -- ---- without
-
-  no-lines : (frame : Frame) → row_count frame ≡ 0 → line_count frame ≡ 0
-  no-lines frame none =
-      let test : (row_count frame == 0) ≡ true = grind (arith, nat_tests, none) in
-      ap (λ (b : Bool). if b then 0 else if columns_of frame == 0 then 0 else track_at frame.rows (row_count frame) + frame.look.margin.bottom.size) test
-
-  no-columns : (frame : Frame) → columns_of frame ≡ 0 → line_count frame ≡ 0
-  no-columns frame none = by (row_count frame == 0)
-    where
-      test : (columns_of frame == 0) ≡ true
-      test = grind (arith, nat_tests, none)
-
-      by : (b : Bool) → (if b then 0 else if columns_of frame == 0 then 0 else track_at frame.rows (row_count frame) + frame.look.margin.bottom.size) ≡ 0
-      by true = refl
-      by false = ap (λ (b : Bool). if b then 0 else track_at frame.rows (row_count frame) + frame.look.margin.bottom.size) test
-
-  empty : (frame : Frame) (items : List ℕ) → line_count frame ≡ 0 → [] ≡ (if line_count frame == 0 then [] else items ++ line_feed ∷ [])
-  empty frame items none =
-      let test : (line_count frame == 0) ≡ true = grind (arith, nat_tests, none) in
-      sym (ap (λ (b : Bool). if b then [] else items ++ line_feed ∷ []) test)
 
   module _ (none : length (heights_of style rows) ≡ 0) where
     no-drawn : line_count (drawn_frame table) ≡ 0
@@ -103,10 +110,13 @@ module _ (style : Compact) (n : ℕ) (rows : List (List (List ℕ))) (long : Are
         | inr none ↦ without-cells (omega (arith, none))
       ]
 
-pub one-table : (wanted : Wanted) (input : List ℕ) (n : ℕ) → wanted.asked.width ≡ None → AreEquallyLong n (cell_parts input)
-    → output_of wanted input ≡ ended line_feed (drawn_frame (table_under wanted.style (cell_parts input))) (printed (table_under wanted.style (cell_parts input)))
+pub one-table : (wanted : Wanted) (input : List ℕ) → wanted.asked.width ≡ None → output_of wanted input ≡ ended_table (table_of wanted input)
 unfolding output_of
-one-table wanted input n none long =
-    let texts = cell_parts input in
-    let told : narrowed wanted.style wanted.asked texts ≡ None = ap (narrow wanted.style wanted.asked (widths_of wanted.style texts) (table_width (frame_under wanted.style texts))) none in
-    sym (text-natural wanted.style wanted.asked texts told) ∙ texts-same wanted.style n texts long
+one-table wanted input none =
+    let rows : List (List (List ℕ)) = cell_parts input in
+    let full : List (List (List ℕ)) = fitted (column_count rows) rows in
+    let told : narrowed wanted.style wanted.asked full ≡ None = ap (narrow wanted.style wanted.asked (widths_of wanted.style full) (table_width (frame_under wanted.style full))) none in
+    sym (text-filled wanted.style wanted.asked rows)
+    ∙ sym (text-natural wanted.style wanted.asked full told)
+    ∙ texts-same wanted.style (column_count rows) full (long-fitted (column_count rows) rows)
+    ∙ ap (λ (texts : List (List (List ℕ))). ended_table (table_under wanted.style texts)) (sym (filled-is rows))

@@ -1,10 +1,17 @@
--- A table of the library in the look of the program's.
+-- The tables of the library that the program's are.
 use Rattle.std.specs.Prelude.{◌≡◌, ℕ, List, None, length}
 use Rattle.std.specs.List.{AllByRecursion}
 use Rattle.grid_config.specs.Compact.{Compact}
 use Rattle.grid_config.specs.Looks.{compact_look}
+use Rattle.grid_records_measure.specs.TextLines.{line_feed}
+use Rattle.tabled_iter.specs.Tables.{Streamed, begun, frame, printed as streamed_text}
 use Rattle.tabled_size_dimension.specs.Stored.{none_stored}
 use Rattle.tabled_steps.specs.States.{State, state_with}
+use Rattle.tabled_stripping.specs.Printing.{drawn_frame, printed}
+use Rattle.tabled_text.specs.Rows.{filled}
+use Rattle.columns_asked.specs.Layout.{ended}
+use Rattle.columns_run.specs.Rows.{cell_parts}
+use Rattle.columns_run.specs.Wanted.{Wanted}
 
 -- rows of as many cells each
 abbrev pub AreEquallyLong : ℕ → List (List (List ℕ)) → Type 0
@@ -13,3 +20,18 @@ AreEquallyLong columns rows = AllByRecursion (λ row. length row ≡ columns) ro
 -- the table of these rows under a compact style: no cell has a colour, and no size is kept
 abbrev pub table_under : Compact → List (List (List ℕ)) → State
 table_under style rows = state_with rows (compact_look style) (λ _. None) none_stored
+
+-- the table of the rows of a text, the short ones filled as a builder fills them
+abbrev pub table_of : Wanted → List ℕ → State
+table_of wanted input = table_under wanted.style (filled (cell_parts input))
+
+-- what it prints, with a line feed after its last line too
+abbrev pub ended_table : State → List ℕ
+ended_table s = ended line_feed (drawn_frame s) (printed s)
+
+-- the streamed table of these rows under a compact style that sniffs so many of them, and is as it was begun else
+abbrev pub sniffing : ℕ → Compact → List (List (List ℕ)) → Streamed
+sniffing count style rows = record (begun rows) { settings = style; sniff = count }
+
+abbrev pub ended_stream : Streamed → List ℕ
+ended_stream table = ended line_feed (frame table) (streamed_text table)

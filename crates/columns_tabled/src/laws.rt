@@ -1,17 +1,90 @@
 //! Laws of the tables of both programs, each the contract of a function that does nothing.
-ghost use Rattle.std.specs.Prelude.{◌≡◌, ℕ, List, None};
-ghost use Rattle.columns_asked.specs.Layout.{ended};
-ghost use Rattle.grid_records_measure.specs.TextLines.{line_feed};
+ghost use Rattle.std.specs.Prelude.{◌≡◌, ◌≤◌, ◌^◌, ℕ, Bool, List, None, Ok, Some, String, [], false, length, string_bytes, true};
+ghost use Rattle.std.proofs.Common.{Global as Heap};
+ghost use Rattle.columns_asked.specs.Layout.{column_count};
 ghost use Rattle.columns_run.specs.Layout.{output_of};
+ghost use Rattle.columns_run.specs.Run.{HasTable};
 ghost use Rattle.columns_run.specs.Rows.{cell_parts};
 ghost use Rattle.columns_run.specs.Wanted.{Wanted};
-ghost use Rattle.tabled_stripping.specs.Printing.{drawn_frame, printed};
-ghost use Rattle.columns_tabled.specs.Tables.{AreEquallyLong, table_under};
+ghost use Rattle.columns_tabled.specs.Tables.{AreEquallyLong, ended_stream, ended_table, sniffing, table_of};
+ghost use Rattle.grid_config_values.specs.declared.entity.Entity.TheVariants.{Row as OneRow};
+ghost use Rattle.tabled.specs.Narrowed.{GivesOnly};
+ghost use Rattle.tabled_list.specs.Priorities.{IsNamed};
+ghost use Rattle.tabled_list.specs.Settings.{setting_step};
+ghost use Rattle.tabled_list.specs.declared.amount.Amount.TheVariants.{Exact};
+ghost use Rattle.tabled_list.specs.declared.setting.Setting.TheVariants.{Truncate as CutTable, Wrap as BreakTable};
+ghost use Rattle.tabled_size_dimension.specs.declared.suffix.SuffixLimit.{SuffixLimit};
+ghost use Rattle.tabled_size_priority.specs.declared.choice.Choice.TheVariants.{Left, MaxLeft, MaxRight, MinLeft, MinRight, None as InTurns, Right};
+ghost use Rattle.tabled_size_priority.specs.declared.left.PriorityLeft.{PriorityLeft as OneLeft};
+ghost use Rattle.tabled_size_priority.specs.declared.right.PriorityRight.{PriorityRight as OneRight};
+ghost use Rattle.tabled_steps.specs.States.{Settles, State};
+ghost use Rattle.tabled_width.specs.Options.{truncation, wrapping};
+ghost use Rattle.tabled_width.specs.declared.truncate.Truncate.{Truncate as OneTruncate};
+ghost use Rattle.tabled_width.specs.declared.wrap.Wrap.{Wrap as OneWrap};
+ghost use Rattle.tabled_text.specs.Rows.{filled};
 
-/// What the program writes without a width for rows that have as many cells each is what a `Table` of these rows
-/// prints under the same style, with a line feed after its last line too.
+use grid_config::ColoredConfig;
+use grid_records_rows::{FromText, VecRecords};
+use tabled_size_dimension::CompleteDimension;
+use tabled_size_priority::{
+    Peaker, PriorityLeft, PriorityMax, PriorityMin, PriorityNone, PriorityRight,
+};
+use tabled_steps::{Measurement, TableOption};
+use tabled_width::{Truncate, Width, Wrap};
+
+/// What the program writes of a text without a width is what a `Table` of its rows prints under the same style, with
+/// a line feed after its last line too. Its short rows are filled as a `Builder` fills them; where all have as many
+/// cells, there is nothing to fill.
 pub fn both_programs_draw_one_table()
-    ensures { (wanted : Wanted) (input : List ℕ) (columns : ℕ) → wanted.asked.width ≡ None → AreEquallyLong columns (cell_parts input) →
-        let table = table_under wanted.style (cell_parts input) in
-        output_of wanted input ≡ ended line_feed (drawn_frame table) (printed table) }
+    ensures table { (wanted : Wanted) (input : List ℕ) → wanted.asked.width ≡ None → output_of wanted input ≡ ended_table (table_of wanted input) }
+    ensures even_rows { (columns : ℕ) (rows : List (List (List ℕ))) → AreEquallyLong columns rows → filled rows ≡ rows }
+{}
+
+/// What it writes in a width is what this `Table` prints after `Wrap` to that width, with words kept as they are to be
+/// and by the same priority; or, where texts are cut, after `Truncate` without a suffix. Where the input has a table,
+/// such a step is not refused but for want of memory.
+pub fn both_programs_narrow_one_table()
+    ensures wrapped { (wanted : Wanted) (input : List ℕ) (width : ℕ) (left : State) → wanted.asked.width ≡ Some width → wanted.asked.truncate ≡ false →
+        setting_step (BreakTable (Exact width) wanted.asked.keep_words wanted.asked.priority) (table_of wanted input) (Ok left) → output_of wanted input ≡ ended_table left }
+    ensures cut { (wanted : Wanted) (input : List ℕ) (width : ℕ) (suffix : String Heap) (limit : SuffixLimit) (try_color : Bool) (left : State) → wanted.asked.width ≡ Some width → wanted.asked.truncate ≡ true →
+        string_bytes suffix ≡ [] → setting_step (CutTable (Exact width) suffix limit false try_color wanted.asked.priority) (table_of wanted input) (Ok left) → output_of wanted input ≡ ended_table left }
+    ensures wrap_is_taken { (wanted : Wanted) (input : List ℕ) (width : ℕ) → HasTable wanted input →
+        (left : State) × setting_step (BreakTable (Exact width) wanted.asked.keep_words wanted.asked.priority) (table_of wanted input) (Ok left) }
+    ensures cut_is_taken { (wanted : Wanted) (input : List ℕ) (width : ℕ) (suffix : String Heap) (limit : SuffixLimit) (try_color : Bool) → HasTable wanted input →
+        (left : State) × setting_step (CutTable (Exact width) suffix limit false try_color wanted.asked.priority) (table_of wanted input) (Ok left) }
+{}
+
+/// The same after the options of these names, which `Table::with` takes: their priority is one of the name that is
+/// asked, and their width measures this width alone.
+pub fn both_programs_narrow_by_options<
+    'a,
+    T: FromText,
+    W: Measurement<Width> + Drop,
+    P: Peaker + Drop,
+>()
+    ensures wrapped { (option : OneWrap W P) (wanted : Wanted) (input : List ℕ) (width : ℕ) (left : State) → wanted.asked.width ≡ Some width → wanted.asked.truncate ≡ false →
+        (wrapping option).keep_words ≡ wanted.asked.keep_words → IsNamed P.shrinks P.grows (wrapping option).priority wanted.asked.priority → GivesOnly (W.measures (wrapping option).width) (table_of wanted input) width →
+        Settles (Some (OneRow 0)) (⟦<Wrap<W, P> as TableOption<VecRecords<T>, ColoredConfig, CompleteDimension>>⟧.step option) (table_of wanted input) (Ok left) → output_of wanted input ≡ ended_table left }
+    ensures cut { (option : OneTruncate W P) (wanted : Wanted) (input : List ℕ) (width : ℕ) (left : State) → wanted.asked.width ≡ Some width → wanted.asked.truncate ≡ true →
+        IsNamed P.shrinks P.grows (truncation option).priority wanted.asked.priority → GivesOnly (W.measures (truncation option).width) (table_of wanted input) width →
+        (truncation option).cutting.suffix ≡ [] → (truncation option).cutting.multiline ≡ false →
+        Settles None (⟦<Truncate<'a, W, P> as TableOption<VecRecords<T>, ColoredConfig, CompleteDimension>>⟧.step option) (table_of wanted input) (Ok left) → output_of wanted input ≡ ended_table left }
+{}
+
+/// The library's own priorities and numbers are such: each priority, before it is used, is one of its name, and a number
+/// as a width measures itself.
+pub fn own_priorities_and_numbers_serve()
+    ensures turns { IsNamed ⟦<PriorityNone as Peaker>⟧.shrinks ⟦<PriorityNone as Peaker>⟧.grows 0 InTurns }
+    ensures left { (priority : OneLeft) → IsNamed ⟦<PriorityLeft as Peaker>⟧.shrinks ⟦<PriorityLeft as Peaker>⟧.grows priority Left }
+    ensures right { (priority : OneRight) → IsNamed ⟦<PriorityRight as Peaker>⟧.shrinks ⟦<PriorityRight as Peaker>⟧.grows priority Right }
+    ensures widest { IsNamed ⟦<PriorityMax as Peaker>⟧.shrinks ⟦<PriorityMax as Peaker>⟧.grows false MaxLeft × IsNamed ⟦<PriorityMax as Peaker>⟧.shrinks ⟦<PriorityMax as Peaker>⟧.grows true MaxRight }
+    ensures narrowest { IsNamed ⟦<PriorityMin as Peaker>⟧.shrinks ⟦<PriorityMin as Peaker>⟧.grows false MinLeft × IsNamed ⟦<PriorityMin as Peaker>⟧.shrinks ⟦<PriorityMin as Peaker>⟧.grows true MinRight }
+    ensures numbers { (s : State) (width : ℕ) → GivesOnly (⟦<usize as Measurement<Width>>⟧.measures width) s width }
+{}
+
+/// What it writes without a width, as a whole or row by row, is what an `IterTable` of its rows prints that sniffs all
+/// of them, with a line feed after its last line too, where no more columns are there than a `usize` numbers.
+pub fn streamed_tables_sniff_all_rows()
+    ensures { (wanted : Wanted) (input : List ℕ) (sniffed : ℕ) → wanted.asked.width ≡ None → length (cell_parts input) ≤ sniffed → column_count (cell_parts input) ≤ 2 ^ 64 →
+        output_of wanted input ≡ ended_stream (sniffing sniffed wanted.style (cell_parts input)) }
 {}
