@@ -10,7 +10,6 @@ pub mod Uniqueness
 pub mod Reading
 pub mod Stepping
 pub mod Looking
-pub mod Given
 pub mod Boundaries
 pub mod FirstBroken
 pub mod Joins

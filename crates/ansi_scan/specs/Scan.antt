@@ -1,6 +1,6 @@
 -- What a clause sees of a `Scan`.
-use Rattle.std.specs.Prelude.{◌≡◌, ◌+◌, ℕ, List, [], ◌∷◌, Option, length}
-use Rattle.std.specs.Option.{MatchOption}
+use Rattle.std.specs.Prelude.{◌≡◌, ◌+◌, ◌<◌, ℕ, List, Option, IfSome, IfNone, OnSome, length, ⊤}
+use Rattle.std.specs.Iterator.{IsFinite, item_count, size}
 use Rattle.ansi_scan.specs.declared.items.Item.{Item}
 use Rattle.ansi_scan.specs.declared.items.Scan.{Scan}
 use Rattle.ansi_scan.specs.Pieces.{pieces}
@@ -22,13 +22,10 @@ looks_taken s = s.looks
 abbrev pub looks_in_all : Scan → ℕ
 looks_in_all s = s.looks + looks_over (pieces s.rest.now)
 
--- the same text, and as many looks in all
-abbrev pub OfOneText : Scan → Scan → Type 0
-OfOneText before after = (text_length after ≡ text_length before) × (looks_in_all after ≡ looks_in_all before)
-
--- the first item that was still to come, or none where none was, of one text
-abbrev pub GivesFirst : Scan → Option Item → Scan → Type 0
-GivesFirst before given after =
-    MatchOption given
-    ((items_left before ≡ []) × (items_left after ≡ []) × OfOneText before after)
-    (λ item. (items_left before ≡ item ∷ items_left after) × OfOneText before after)
+-- what a step does beside its item: it comes closer to the end, and keeps the text and the looks in all
+pub record GoesOn (before : Scan) (given : Option Item) (after : Scan) : Type 0 where
+  pub on : IsFinite (item_count items_left before) → OnSome given (⊤ × IsFinite (item_count items_left after) × (size (item_count items_left after) < size (item_count items_left before)))
+  pub keeps : IfSome given (λ _. ⊤)
+  pub rests : IsFinite (item_count items_left before) → IfNone given (IsFinite (item_count items_left after))
+  pub text : text_length after ≡ text_length before
+  pub looks : looks_in_all after ≡ looks_in_all before

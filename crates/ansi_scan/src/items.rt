@@ -83,14 +83,17 @@ impl<'a> Scan<'a> {
 impl Iterator for Scan<'_> {
     type Item = Item;
 
-    ghost use Rattle.std.specs.Iterator.{item_count};
-    ghost use Rattle.ansi_scan.specs.Scan.{GivesFirst, items_left};
+    ghost use Rattle.std.specs.Iterator.{YieldsFirst, item_count};
+    ghost use Rattle.ansi_scan.specs.Scan.{GoesOn, items_left};
 
-    ghost next_gives = { GivesFirst };
+    ghost next_gives = { YieldsFirst items_left };
 
     ghost remaining = { item_count items_left };
 
-    fn next(&mut self) -> Option<Item> {
+    fn next(&mut self) -> Option<Item>
+        ensures steps { YieldsFirst items_left self.old result self.new }
+        ensures goes { GoesOn self.old result self.new }
+    {
         if self.rest.is_empty() {
             return None;
         }

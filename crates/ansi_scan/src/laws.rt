@@ -5,7 +5,7 @@ ghost use Rattle.std.specs.Iterator.{YieldsFirst, item_count};
 ghost use Rattle.ansi_scan.specs.declared.items.Item.{Item as OneItem};
 ghost use Rattle.ansi_scan.specs.declared.items.Kind.{Kind as OneKind};
 ghost use Rattle.ansi_scan.specs.declared.items.Scan.{Scan as OneScan};
-ghost use Rattle.ansi_scan.specs.Scan.{items_left, looks_in_all, text_length};
+ghost use Rattle.ansi_scan.specs.Scan.{items_left};
 ghost use Rattle.ansi_scan.specs.Sequences.{Piece, ArePiecesOf, IsWhole, IsFirstBroken, IsSgr, NoneBroken};
 ghost use Rattle.ansi_scan.specs.Pieces.{pieces};
 ghost use Rattle.ansi_scan.specs.Places.{placed, piece_at};
@@ -83,11 +83,9 @@ pub fn clones_of_items_are_the_same()
 {}
 
 /// The items of a text come one after the other, and then none; the next may be asked for at any time, and no
-/// more are left than are still to come. The text stays the same, and the looks that it takes in all.
+/// more are left than are still to come.
 pub fn items_come_in_their_order()
     ensures asked { (items : OneScan) → ⟦<Scan<'static> as Iterator>⟧.can_next items }
     ensures left { (items : OneScan) → ⟦<Scan<'static> as Iterator>⟧.remaining items ≡ item_count items_left items }
     ensures next { (before after : OneScan) (given : Option OneItem) → ⟦<Scan<'static> as Iterator>⟧.next_gives before given after → YieldsFirst items_left before given after }
-    ensures text { (before after : OneScan) (given : Option OneItem) → ⟦<Scan<'static> as Iterator>⟧.next_gives before given after → text_length after ≡ text_length before }
-    ensures looks { (before after : OneScan) (given : Option OneItem) → ⟦<Scan<'static> as Iterator>⟧.next_gives before given after → looks_in_all after ≡ looks_in_all before }
 {}

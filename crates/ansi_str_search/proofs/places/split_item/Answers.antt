@@ -9,7 +9,7 @@ pub returns : goal.returns
 returns c =
     let text = c.args.text.now in
     let item = c.in_ok-item.item in
-    (IsFirstItem-items text (items_left c.scan.result) (items_left c.next.new.self) item c.scan.ensures.items c.in_ok-item.ensures.steps.0).read
+    (IsFirstItem-items text (items_left c.scan.result) (items_left c.next.new.self) item c.scan.ensures.items c.in_ok-item.ensures.steps).read
     ∙ ap (λ (bytes : List ℕ). record { kind = item.kind; bytes = bytes } ∷ pieces (drop item.end text)) (sym c.range.ensures.value)
     ∙ ap (λ (behind : List ℕ). record { kind = item.kind; bytes = c.range.result.now } ∷ pieces behind) (sym c.range_from.ensures.value)
 

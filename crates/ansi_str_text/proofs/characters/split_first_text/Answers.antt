@@ -18,21 +18,21 @@ pub returns-in-Text-clause-shown : goal.returns-in-Text-clause-shown
 returns-in-Text-clause-shown c =
     shown_chars-first c.args.text.now c.range.result.now c.range_from-behind.result.now
     (sym c.loop-item.invariant.1
-    ∙ strip-first c.loop-item.rest.now c.range.result.now c.range_from-behind.result.now (items_left c.scan.result) (items_left c.next.new.self) c.in-Some.item c.scan.ensures.items c.in-Some.ensures.steps.0 c.range.ensures.value c.range_from-behind.ensures.value
+    ∙ strip-first c.loop-item.rest.now c.range.result.now c.range_from-behind.result.now (items_left c.scan.result) (items_left c.next.new.self) c.in-Some.item c.scan.ensures.items c.in-Some.ensures.steps c.range.ensures.value c.range_from-behind.ensures.value
     ∙ ap (λ (kind : Kind). shown kind c.range.result.now ++ strip (pieces c.range_from-behind.result.now)) c.in-Text.is)
     c.range.utf8
 
 pub returns-in-Text-clause-empty : goal.returns-in-Text-clause-empty
 returns-in-Text-clause-empty c = λ empty.
-    absurd (first-some c.loop-item.rest.now c.range.result.now (items_left c.scan.result) (items_left c.next.new.self) c.in-Some.item c.scan.ensures.items c.in-Some.ensures.steps.0 c.range.ensures.value empty)
+    absurd (first-some c.loop-item.rest.now c.range.result.now (items_left c.scan.result) (items_left c.next.new.self) c.in-Some.item c.scan.ensures.items c.in-Some.ensures.steps c.range.ensures.value empty)
 
 pub loop-item-smaller : goal.loop-item-smaller
-loop-item-smaller c = shorter c.loop-item.rest.now c.range_from-behind.result.now (items_left c.scan.result) (items_left c.next.new.self) c.in-Some.item c.scan.ensures.items c.in-Some.ensures.steps.0 c.range_from-behind.ensures.value
+loop-item-smaller c = shorter c.loop-item.rest.now c.range_from-behind.result.now (items_left c.scan.result) (items_left c.next.new.self) c.in-Some.item c.scan.ensures.items c.in-Some.ensures.steps c.range_from-behind.ensures.value
 
 pub loop-item-preserved : goal.loop-item-preserved
 loop-item-preserved c =
     let same : strip (pieces c.range_from-behind.result.now) ≡ strip (pieces c.args.text.now) =
-    sym (strip-first c.loop-item.rest.now (slice_range c.loop-item.rest.now 0 c.in-Some.item.end) c.range_from-behind.result.now (items_left c.scan.result) (items_left c.next.new.self) c.in-Some.item c.scan.ensures.items c.in-Some.ensures.steps.0 refl c.range_from-behind.ensures.value
+    sym (strip-first c.loop-item.rest.now (slice_range c.loop-item.rest.now 0 c.in-Some.item.end) c.range_from-behind.result.now (items_left c.scan.result) (items_left c.next.new.self) c.in-Some.item c.scan.ensures.items c.in-Some.ensures.steps refl c.range_from-behind.ensures.value
     ∙ ap (λ (bs : List ℕ). bs ++ strip (pieces c.range_from-behind.result.now)) (shown-sequence c.in-Some.item.kind (slice_range c.loop-item.rest.now 0 c.in-Some.item.end) c.in_default-kind.not-Text))
     ∙ c.loop-item.invariant.1 in
     search (rules, same)

@@ -17,14 +17,14 @@ overflow_add-width c =
     let rest : List ℕ = c.loop-item.rest.now in
     let behind : List ℕ = drop c.in-Some.item.end rest in
     let shows : strip (pieces rest) ≡ c.range-shown.result.now ++ strip (pieces behind) =
-    strip-first rest c.range-shown.result.now behind (items_left c.scan.result) (items_left c.next.new.self) c.in-Some.item c.scan.ensures.items c.in-Some.ensures.steps.0 c.range-shown.ensures.value refl
+    strip-first rest c.range-shown.result.now behind (items_left c.scan.result) (items_left c.next.new.self) c.in-Some.item c.scan.ensures.items c.in-Some.ensures.steps c.range-shown.ensures.value refl
     ∙ ap (λ (kind : Kind). shown kind c.range-shown.result.now ++ strip (pieces behind)) c.in-Text.is in
     let sum = IsPassed-fits c.loop-item.width rest c.args.text.now c.range-shown.result.now behind c.loop-item.invariant.1 shows in
     let fits : length c.args.text.now < 2 ^ 64 = search rules in
     omega (arith, sum, fits)
 
 pub loop-item-smaller : goal.loop-item-smaller
-loop-item-smaller c = shorter c.loop-item.rest.now c.range_from-rest.result.now (items_left c.scan.result) (items_left c.next.new.self) c.in-Some.item c.scan.ensures.items c.in-Some.ensures.steps.0 c.range_from-rest.ensures.value
+loop-item-smaller c = shorter c.loop-item.rest.now c.range_from-rest.result.now (items_left c.scan.result) (items_left c.next.new.self) c.in-Some.item c.scan.ensures.items c.in-Some.ensures.steps c.range_from-rest.ensures.value
 
 pub loop-item-preserved : goal.loop-item-preserved
 loop-item-preserved c =
@@ -36,13 +36,13 @@ loop-item-preserved c =
       | in-Text+else-not-is_printable w ↦
           subst Passed (sym w.width-is)
           (IsPassed-text c.loop-item.width rest c.args.text.now w.range-shown.result.now behind c.loop-item.invariant.1
-          (strip-first rest w.range-shown.result.now behind (items_left c.scan.result) (items_left c.next.new.self) c.in-Some.item c.scan.ensures.items c.in-Some.ensures.steps.0 w.range-shown.ensures.value c.range_from-rest.ensures.value
+          (strip-first rest w.range-shown.result.now behind (items_left c.scan.result) (items_left c.next.new.self) c.in-Some.item c.scan.ensures.items c.in-Some.ensures.steps w.range-shown.ensures.value c.range_from-rest.ensures.value
           ∙ ap (λ (kind : Kind). shown kind w.range-shown.result.now ++ strip (pieces behind)) w.in-Text.is)
           (sym w.is_printable.ensures ∙ w.if-not-is_printable.false))
       | in_default-kind w ↦
           subst Passed (sym w.width-is)
           (IsPassed-other c.loop-item.width rest c.args.text.now behind c.loop-item.invariant.1
-          (strip-first rest (slice_range rest 0 c.in-Some.item.end) behind (items_left c.scan.result) (items_left c.next.new.self) c.in-Some.item c.scan.ensures.items c.in-Some.ensures.steps.0 refl c.range_from-rest.ensures.value
+          (strip-first rest (slice_range rest 0 c.in-Some.item.end) behind (items_left c.scan.result) (items_left c.next.new.self) c.in-Some.item c.scan.ensures.items c.in-Some.ensures.steps refl c.range_from-rest.ensures.value
           ∙ ap (λ (bs : List ℕ). bs ++ strip (pieces behind)) (shown-sequence c.in-Some.item.kind (slice_range rest 0 c.in-Some.item.end) w.in_default-kind.not-Text)))
     ] in
     (c.range_from-rest.utf8, passed)
@@ -52,7 +52,7 @@ returns-then-not-is_printable c =
     let rest : List ℕ = c.loop-item.rest.now in
     let behind : List ℕ = drop c.in-Some.item.end rest in
     not-printable c.loop-item.width rest c.args.text.now c.range-shown.result.now behind c.loop-item.invariant.1
-    (strip-first rest c.range-shown.result.now behind (items_left c.scan.result) (items_left c.next.new.self) c.in-Some.item c.scan.ensures.items c.in-Some.ensures.steps.0 c.range-shown.ensures.value refl
+    (strip-first rest c.range-shown.result.now behind (items_left c.scan.result) (items_left c.next.new.self) c.in-Some.item c.scan.ensures.items c.in-Some.ensures.steps c.range-shown.ensures.value refl
     ∙ ap (λ (kind : Kind). shown kind c.range-shown.result.now ++ strip (pieces behind)) c.in-Text.is)
     (sym c.is_printable.ensures ∙ c.if-not-is_printable.true)
 

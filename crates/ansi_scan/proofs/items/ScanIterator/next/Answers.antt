@@ -8,21 +8,28 @@ pub returns-then-is_empty-clause-steps : goal.returns-then-is_empty-clause-steps
 returns-then-is_empty-clause-steps c =
     let empty : length c.args.self.now.rest.now ≡ 0 = grind arith in
     let none = placed-none c.args.self.now.place c.args.self.now.rest.now empty in
-    (none, none, (refl, refl))
+    (none, none)
 
 pub returns-clause-steps : goal.returns-clause-steps
 returns-clause-steps c =
     let nonempty : 0 < length c.args.self.now.rest.now = omega arith in
-    let looks = looks_over-step c.args.self.now.rest.now c.front-kind.result _ nonempty c.front-kind.ensures.kind c.split_at.ensures.back in (
-      placed-step c.args.self.now.place c.args.self.now.rest.now c.front-kind.result _ nonempty c.front-kind.ensures.kind c.split_at.ensures.back,
-      (omega (arith, c.split_at.ensures.back_len), omega (arith, looks, c.front-kind.ensures.looks)),
-    )
+    placed-step c.args.self.now.place c.args.self.now.rest.now c.front-kind.result _ nonempty c.front-kind.ensures.kind c.split_at.ensures.back
+
+pub returns-then-is_empty-clause-goes : goal.returns-then-is_empty-clause-goes
+returns-then-is_empty-clause-goes c = record { on = λ finite. tt; keeps = tt; rests = λ finite. finite; text = refl; looks = refl }
 
 pub returns-clause-goes : goal.returns-clause-goes
 returns-clause-goes c =
     let nonempty : 0 < length c.args.self.now.rest.now = omega arith in
     let step = placed-step c.args.self.now.place c.args.self.now.rest.now c.front-kind.result _ nonempty c.front-kind.ensures.kind c.split_at.ensures.back in
-    search (rules, step)
+    let looks = looks_over-step c.args.self.now.rest.now c.front-kind.result _ nonempty c.front-kind.ensures.kind c.split_at.ensures.back in
+    record {
+      on = λ finite. search (rules, step);
+      keeps = tt;
+      rests = λ finite. tt;
+      text = omega (arith, c.split_at.ensures.back_len);
+      looks = omega (arith, looks, c.front-kind.ensures.looks);
+    }
 
 -- the looks of the first item are taken, and those of the others are left
 pub invariant_of-self-clause-few : goal.invariant_of-self-clause-few
