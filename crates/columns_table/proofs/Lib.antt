@@ -6,6 +6,7 @@ pub mod EndLemmas
 pub mod KeptEndLemmas
 pub mod KeptLemmas
 pub mod LeastLemmas
+pub mod ListedLemmas
 pub mod NarrowedLemmas
 pub mod NaturalLemmas
 pub mod PlacedLemmas

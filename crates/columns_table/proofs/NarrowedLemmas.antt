@@ -30,8 +30,8 @@ use Rattle.papergrid_picture.specs.Frame.{Frame, frame_of, line_count, total_wid
 use Rattle.papergrid_picture.specs.Tables.{sizes_of, table_text}
 use Rattle.papergrid_fits.specs.Tables.{Fits, IsFitsAnswer, sized}
 use Rattle.papergrid_fits.proofs.Estimated.{text_at-fitted}
-use Rattle.papergrid_peekable.specs.Grids.{grid_text}
-use Rattle.papergrid_peekable.proofs.SameTexts.{answer-same, first_too_wide-same, table_text-same}
+use Rattle.papergrid_fits.specs.Grids.{grid_text}
+use Rattle.papergrid_fits.proofs.SameTexts.{answer-same, first_too_wide-same, table_text-same}
 use Rattle.columns_asked.specs.Asked.{Keep}
 use Rattle.columns_asked.specs.Layout.{AskedFits, asked_frame, asked_text, asked_widths, by_column, column_count, frame_under, heights_of, kept_texts, narrow, narrowed, paddings, resize_in, too_wide, widths_of, widths_or}
 use Rattle.columns_asked.specs.Resizing.{resized_text}

@@ -1,5 +1,5 @@
 -- The rows in their own sizes fit, and print as the rows' text.
-use Rattle.std.proofs.Common.{◌≡◌, ◌≢◌, ◌==◌, ℕ, ◌+◌, ◌<◌, ◌≤◌, Bool, true, false, Option, None, List, [], ◌∷◌, ◌++◌, map, length, sum, slice_index, refl, ap, sym, subst, ◌∙◌, arith, if◌then◌else◌}
+use Rattle.std.proofs.Common.{◌≡◌, ◌≢◌, ◌==◌, ℕ, ◌+◌, ◌<◌, Bool, true, false, Option, None, List, [], ◌∷◌, ◌++◌, map, length, sum, slice_index, refl, ap, sym, subst, ◌∙◌, arith, if◌then◌else◌}
 use Rattle.std.specs.Prelude.{Err, Ok, OnOk, Result}
 use Rattle.std.proofs.lemmas.Bool.Decides.{nat_tests}
 use Rattle.grid_config.specs.Compact.{Compact}
@@ -15,7 +15,7 @@ use Rattle.grid_records_estimate.specs.Sizes.{table_widths}
 use Rattle.grid_records_estimate.specs.Sizing.{sizing_of}
 use Rattle.grid_records_estimate.proofs.CompactLemmas.{compact-sizing}
 use Rattle.grid_records_measure.specs.TextLines.{line_feed}
-use Rattle.papergrid_peekable.specs.Grids.{grid_text}
+use Rattle.papergrid_fits.specs.Grids.{grid_text}
 use Rattle.papergrid_fits.specs.Tables.{Fits, sized}
 use Rattle.papergrid_fits.proofs.Estimated.{none-too_wide}
 use Rattle.papergrid_picture.specs.Fitting.{InRange, first_too_wide}
@@ -71,6 +71,9 @@ module _ (style : Compact) (settings : Settings) (start : StartsWith (compact_st
 
     height-count : length heights ≡ length texts
     height-count = ap (λ sizes. length sizes) high ∙ height-each style texts some
+
+    pub listed : (columns : ℕ) → columns ≡ greatest counts → (length widths ≡ columns) × (length heights ≡ length records)
+    listed columns counted = (width-count ∙ sym counted, height-count ∙ ap (λ (rows : List (List (List ℕ))). length rows) (sym (records-are counts cells whole)))
 
     sized-is : (rows : ℕ) → rows ≡ length texts → sized settings (slice_index widths) (slice_index heights) (greatest counts) rows ≡ frame_under style texts
     sized-is rows counted =

@@ -7,6 +7,7 @@ pub mod Ends
 pub mod Kept
 pub mod KeptEnds
 pub mod Least
+pub mod Listed
 pub mod Asking
 pub mod Records
 pub mod RowEnds

@@ -7,10 +7,11 @@ ghost use Rattle.grid_config_values.specs.declared.fault.Fault.TheVariants.{Memo
 ghost use Rattle.grid_records_measure.specs.TextLines.{line_feed};
 ghost use Rattle.papergrid_picture.specs.Fitting.{FitsAnswer, InRange, first_too_wide};
 ghost use Rattle.papergrid_picture.specs.Frame.{line_count};
-ghost use Rattle.papergrid_peekable.specs.Grids.{grid_text};
+ghost use Rattle.papergrid_fits.specs.Grids.{grid_text};
 ghost use Rattle.papergrid_fits.specs.Tables.{Fits, IsFitsAnswer};
 ghost use Rattle.columns_asked.specs.Layout.{asked_frame, asked_text, frame_under, heights_of, kept_texts, narrow, narrowed, paddings, too_wide, widths_of};
 ghost use Rattle.columns_table.specs.Answers.{HasTable, MayRefuse, natural_text};
+ghost use Rattle.columns_table.specs.Listed.{AreSizesOf};
 ghost use Rattle.columns_table.specs.Records.{IsMeasured};
 ghost use Rattle.columns_table.specs.Rows.{row_texts_of};
 ghost use Rattle.tabled_output.specs.Pieces.{Passes};
@@ -26,7 +27,7 @@ use grid_records_estimate::CompactGridDimension;
 use grid_records_rows::VecRecords;
 use grid_records_traits::{ExactRecords, PeekableRecords};
 use papergrid_fits::fits;
-use papergrid_peekable::{NoColors, PeekableGrid};
+use papergrid_print::{NoColors, write_table};
 use std::alloc::{AllocError, Global};
 use std::io::Write;
 use tabled_output::{Counted, WriteFault, write_piece};
@@ -151,6 +152,7 @@ fn write_where_fits<R: ExactRecords + PeekableRecords, W: Write>(
     sizes: Sizes,
     writer: &mut Counted<W>,
 ) -> Result<Result<(), WriteFault>, Fault>
+    requires { sizes.lines ≢ 0 → AreSizesOf sizes (R.columns records.now) (length (R.rows records.now)) }
     ensures text { Passes W.contents (if sizes.lines == 0 then [] else grid_text (look_of settings.now) (slice_index sizes.widths.items) (slice_index sizes.heights.items) (λ _. None) (R.columns records.now) (R.rows records.now) ++ line_feed ∷ []) result [] writer.old writer.new }
     ensures alone { ¬ (Fits settings.now (slice_index sizes.widths.items) (slice_index sizes.heights.items) (R.columns records.now) (R.rows records.now)) → writer.new ≡ writer.old }
     ensures fits { OnOk result (Fits settings.now (slice_index sizes.widths.items) (slice_index sizes.heights.items) (R.columns records.now) (R.rows records.now)) }
@@ -169,15 +171,17 @@ fn write_grid<R: ExactRecords + PeekableRecords, W: Write>(
     sizes: Sizes,
     writer: &mut Counted<W>,
 ) -> Result<Result<(), WriteFault>, Fault>
-    requires { sizes.lines ≢ 0 → Fits settings.now (slice_index sizes.widths.items) (slice_index sizes.heights.items) (R.columns records.now) (R.rows records.now) }
+    requires fits { sizes.lines ≢ 0 → Fits settings.now (slice_index sizes.widths.items) (slice_index sizes.heights.items) (R.columns records.now) (R.rows records.now) }
+    requires listed { sizes.lines ≢ 0 → AreSizesOf sizes (R.columns records.now) (length (R.rows records.now)) }
     ensures text { Passes W.contents (if sizes.lines == 0 then [] else grid_text (look_of settings.now) (slice_index sizes.widths.items) (slice_index sizes.heights.items) (λ _. None) (R.columns records.now) (R.rows records.now) ++ line_feed ∷ []) result [] writer.old writer.new }
     ensures refused { IfErr result (λ fault. fault ≡ Memory) }
 {
     if sizes.lines == 0 {
         return Ok(Ok(()));
     }
-    let grid = PeekableGrid::new(records, settings, sizes, NoColors);
-    if let Err(fault) = grid.write(alloc, writer)? {
+    let widths = sizes.widths.as_slice();
+    let heights = sizes.heights.as_slice();
+    if let Err(fault) = write_table(alloc, records, settings, &NoColors, widths, heights, writer)? {
         return Ok(Err(fault));
     }
     Ok(write_piece(writer, b"\n"))

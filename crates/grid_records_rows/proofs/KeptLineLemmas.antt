@@ -139,10 +139,8 @@ one [] is = absurd (omega (arith, is))
 one (line ∷ []) is = refl
 one (line ∷ next ∷ lines) is = absurd (omega (arith, is))
 
-pub only_line : (text line : List ℕ) (count : ℕ) → count ≡ text_height text → count ≡ 1 → line ≡ get_or (text_lines text) 0 [] → text_lines text ≡ line ∷ []
-only_line text line count counted is first =
-    let single : length (text_lines text) ≡ 1 = length-text_lines text ∙ sym counted ∙ is in
-    one (text_lines text) single ∙ ap (λ bytes. bytes ∷ []) (sym first)
+pub only_line : (text line : List ℕ) → text_height text ≡ 1 → line ≡ get_or (text_lines text) 0 [] → text_lines text ≡ line ∷ []
+only_line text line is first = one (text_lines text) (length-text_lines text ∙ is) ∙ ap (λ bytes. bytes ∷ []) (sym first)
 
 pub some_lines : (text : List ℕ) (count : ℕ) → has_escape text ≡ false → count ≡ text_height text → 1 ≤ count
 some_lines text count plain counted = omega (arith, counted, length-text_lines text, count_plain text plain)

@@ -3,4 +3,4 @@ pub mod Flat
 pub use Rattle.papergrid_fits.proofs.Estimated
 pub use Rattle.papergrid_fits.proofs.First
 pub use Rattle.papergrid_fits.proofs.RoomLemmas
-pub use Rattle.papergrid_peekable.proofs.SameTexts
+pub use Rattle.papergrid_fits.proofs.SameTexts

@@ -8,7 +8,7 @@ use Rattle.grid_config.specs.Looks.{compact_look}
 use Rattle.papergrid_picture.specs.Fitting.{FitsAnswer, InRange, first_too_wide}
 use Rattle.papergrid_picture.specs.Frame.{Frame, frame_of}
 use Rattle.papergrid_picture.specs.Tables.{sizes_of}
-use Rattle.papergrid_peekable.specs.Grids.{grid_text}
+use Rattle.papergrid_fits.specs.Grids.{grid_text}
 
 -- compact settings without padding above and below texts
 abbrev pub flat : Compact → Compact

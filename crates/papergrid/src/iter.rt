@@ -18,7 +18,7 @@ pub struct IterGrid<R, D, G, C> {
 }
 
 impl<R, D, G, C> Model for IterGrid<R, D, G, C> {
-    ghost use Rattle.papergrid_peekable.specs.Grids.{Parts};
+    ghost use Rattle.papergrid_fits.specs.Grids.{Parts};
 
     ghost Value = { Parts R G D C };
 
@@ -53,7 +53,7 @@ impl<'a, R: Records, D: Dimension + Drop, C: Colors + Drop> IterGrid<R, D, &'a S
     ghost use Rattle.grid_config_spans.specs.Spans.{ArePositive};
     ghost use Rattle.grid_records_traits.specs.Rows.{fitted};
     ghost use Rattle.papergrid_fits.specs.Tables.{Fits, IsFitsAnswer};
-    ghost use Rattle.papergrid_peekable.specs.Grids.{grid_text};
+    ghost use Rattle.papergrid_fits.specs.Grids.{grid_text};
 
     /// Appends the text of the grid: its lines, a line feed between each two. Reads the records once, all
     /// of them, each row with as many cells as there are columns; the hint decides nothing. Refused as

@@ -4,11 +4,14 @@
 mod compact;
 mod iter;
 pub mod laws;
+mod lines;
+mod peekable;
 mod printing;
 mod read;
+mod sizes;
 
 pub use compact::CompactGrid;
 pub use iter::IterGrid;
 pub use papergrid_fits::fits;
-pub use papergrid_peekable::PeekableGrid;
 pub use papergrid_print::{Colors, NoColors, count_lines};
+pub use peekable::PeekableGrid;

@@ -1,18 +1,22 @@
 //! A table is printed where it fits.
-ghost use Rattle.std.specs.Prelude.{◌≡◌, ◌++◌, ◌⊎◌, Err, IfErr, IfOk, OnErr, OnOk, Ok, string_bytes};
+ghost use Rattle.std.specs.Prelude.{◌≡◌, ◌<◌, ◌++◌, ◌⊎◌, [], Err, IfErr, IfOk, IsOk, OnErr, OnOk, Ok, string_bytes};
 ghost use Rattle.grid_config_values.specs.declared.fault.Fault.TheVariants.{Memory};
 ghost use Rattle.grid_config_spans.specs.Spans.{AreGood, ArePositive};
 ghost use Rattle.grid_config.specs.Looks.{look_of};
-ghost use Rattle.papergrid_picture.specs.Fitting.{FitsAnswer};
-ghost use Rattle.papergrid_picture.specs.Tables.{sizes_of, table_text};
+ghost use Rattle.papergrid_picture.specs.Fitting.{FitsAnswer, InRange};
+ghost use Rattle.papergrid_picture.specs.Frame.{line_count};
+ghost use Rattle.papergrid_picture.specs.Tables.{sizes_of, table_line, table_text};
 ghost use Rattle.papergrid_fits.specs.Tables.{sized};
+ghost use Rattle.tabled_output.specs.Pieces.{Passes};
 
+use crate::sizes::{heights, widths};
 use grid_config::{Fault, SpannedConfig};
 use grid_records_traits::{Dimension, PeekableRecords};
 use papergrid_fits::fits_counted;
-use papergrid_peekable::print_sized;
-use papergrid_print::Colors;
-use std::alloc::Global;
+use papergrid_print::{Colors, print_line, print_table, write_table};
+use std::alloc::{AllocError, Global};
+use std::io::Write;
+use tabled_output::{Counted, WriteFault};
 
 /// Appends the text of `rows` rows and `columns` columns of records. Refused as `fits` refuses them, by
 /// the same faults in the same order, or, where `fits` refuses nothing, as `Memory` where allocation
@@ -40,4 +44,78 @@ pub(crate) fn print_fitting<R: PeekableRecords, D: Dimension, C: Colors>(
     fits_counted(records, cfg, dims, rows, columns)?;
     print_sized(alloc, records, cfg, dims, colors, rows, columns, out)?;
     Ok(())
+}
+
+/// Appends the text of `rows` rows and `columns` columns of records, whose spans are good and whose totals
+/// are in range. Without rows or columns it appends nothing, and never fails; else it fails only where
+/// allocation fails, and then the text is as it was.
+pub(crate) fn print_sized<R: PeekableRecords, D: Dimension, C: Colors>(
+    alloc: Global,
+    records: &R,
+    cfg: &SpannedConfig,
+    dims: &D,
+    colors: &C,
+    rows: usize,
+    columns: usize,
+    out: &mut String,
+) -> Result<(), AllocError>
+    requires good { AreGood cfg.now.spans rows columns }
+    requires range { InRange (sized cfg.now (D.width dims.now) (D.height dims.now) columns rows) }
+    ensures text { OnOk result (string_bytes out.new ≡ string_bytes out.old
+        ++ table_text (look_of cfg.now) (R.rows records.now) (C.color colors.now) (sizes_of (D.width dims.now) columns) (sizes_of (D.height dims.now) rows)) }
+    ensures refused { OnErr result (string_bytes out.new ≡ string_bytes out.old) }
+    ensures no_rows { rows ≡ 0 → IsOk result }
+    ensures no_columns { columns ≡ 0 → IsOk result }
+{
+    if rows == 0 || columns == 0 {
+        return Ok(());
+    }
+    let widths = widths(alloc, dims, columns)?;
+    let heights = heights(alloc, dims, rows)?;
+    print_table(alloc, records, cfg, colors, &widths, &heights, out)
+}
+
+/// Writes the text that `print_sized` appends to an empty one, line by line.
+pub(crate) fn write_sized<R: PeekableRecords, D: Dimension, C: Colors, W: Write>(
+    alloc: Global,
+    records: &R,
+    cfg: &SpannedConfig,
+    dims: &D,
+    colors: &C,
+    rows: usize,
+    columns: usize,
+    writer: &mut Counted<W>,
+) -> Result<Result<(), WriteFault>, AllocError>
+    requires good { AreGood cfg.now.spans rows columns }
+    requires range { InRange (sized cfg.now (D.width dims.now) (D.height dims.now) columns rows) }
+    ensures { Passes W.contents (table_text (look_of cfg.now) (R.rows records.now) (C.color colors.now) (sizes_of (D.width dims.now) columns) (sizes_of (D.height dims.now) rows)) result [] writer.old writer.new }
+{
+    let widths = widths(alloc, dims, columns)?;
+    let heights = heights(alloc, dims, rows)?;
+    write_table(alloc, records, cfg, colors, &widths, &heights, writer)
+}
+
+/// Appends line `y` of the text that `print_sized` appends, without a line feed. It fails only where
+/// allocation fails, and then the text is as it was.
+pub(crate) fn print_sized_line<R: PeekableRecords, D: Dimension, C: Colors>(
+    alloc: Global,
+    records: &R,
+    cfg: &SpannedConfig,
+    dims: &D,
+    colors: &C,
+    rows: usize,
+    columns: usize,
+    y: usize,
+    out: &mut String,
+) -> Result<(), AllocError>
+    requires good { AreGood cfg.now.spans rows columns }
+    requires range { InRange (sized cfg.now (D.width dims.now) (D.height dims.now) columns rows) }
+    requires line { y < line_count (sized cfg.now (D.width dims.now) (D.height dims.now) columns rows) }
+    ensures text { OnOk result (string_bytes out.new ≡ string_bytes out.old
+        ++ table_line (look_of cfg.now) (R.rows records.now) (C.color colors.now) (sizes_of (D.width dims.now) columns) (sizes_of (D.height dims.now) rows) y) }
+    ensures refused { OnErr result (string_bytes out.new ≡ string_bytes out.old) }
+{
+    let widths = widths(alloc, dims, columns)?;
+    let heights = heights(alloc, dims, rows)?;
+    print_line(alloc, records, cfg, colors, &widths, &heights, y, out)
 }

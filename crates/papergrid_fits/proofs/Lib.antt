@@ -6,3 +6,4 @@ pub mod Ranges
 pub mod Estimated
 pub mod TotalLemmas
 pub mod RoomLemmas
+pub mod SameTexts

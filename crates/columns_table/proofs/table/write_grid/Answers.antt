@@ -1,20 +1,27 @@
-use Rattle.std.proofs.Common.{◌≡◌, ◌≢◌, ◌==◌, ◌++◌, ◌∷◌, [], List, ℕ, Bool, false, None, refl, slice_index, ap, sym, subst, ◌∙◌, arith, if◌then◌else◌}
+use Rattle.std.proofs.Common.{◌≡◌, ◌≢◌, ◌==◌, ◌++◌, ◌∷◌, [], List, ℕ, Bool, false, None, refl, slice_index, ap, sym, ◌∙◌, arith, if◌then◌else◌}
 use Rattle.std.proofs.lemmas.Bool.Decides.{nat_tests}
 use Rattle.std.specs.declared.alloc.AllocError.{AllocError}
 use Rattle.grid_config.specs.Looks.{look_of}
 use Rattle.grid_config_values.specs.declared.fault.Fault.{Fault}
 use Rattle.grid_records_measure.specs.TextLines.{line_feed}
-use Rattle.papergrid_peekable.specs.Grids.{grid_text}
-use Rattle.papergrid_fits.specs.Tables.{Fits}
+use Rattle.papergrid_fits.specs.Grids.{grid_text}
+use Rattle.papergrid_picture.specs.Tables.{table_text}
 use Rattle.tabled_output.proofs.PieceLemmas.{begun-front, passed-front, passes-err, passes-last, passes-ok, passes-refused, stopped-front}
+use Rattle.columns_table.proofs.ListedLemmas.{listed-good, listed-range, listed-text}
 use Rattle.columns_table.proofs.NaturalLemmas.{OnOk-always}
 use Rattle.columns_table.proofs.table.write_grid.Goals as goal
 
-pub write-requires : goal.write-requires
-write-requires g c = record {
-  fits = subst (λ grid. Fits grid.settings.now (slice_index grid.sizes.widths.items) (slice_index grid.sizes.heights.items) (g.R.RecordColumns.columns grid.records.now) (g.R.RecordTexts.rows grid.records.now))
-      (sym c.new-grid.ensures) (c.requires (λ none. omega (arith, none, c.if-sizes-eq0.false)));
-}
+pub write_table-requires-clause-good : goal.write_table-requires-clause-good
+write_table-requires-clause-good g c =
+    let some : c.args.sizes.lines ≢ 0 = λ none. omega (arith, none, c.if-sizes-eq0.false) in
+    listed-good c.args.settings.now (g.R.RecordColumns.columns c.args.records.now) (g.R.RecordTexts.rows c.args.records.now) c.args.sizes c.as_slice-widths.result.now c.as_slice-heights.result.now c.as_slice-widths.ensures.value c.as_slice-heights.ensures.value
+    (c.requires.listed some) (c.requires.fits some)
+
+pub write_table-requires-clause-range : goal.write_table-requires-clause-range
+write_table-requires-clause-range g c =
+    let some : c.args.sizes.lines ≢ 0 = λ none. omega (arith, none, c.if-sizes-eq0.false) in
+    listed-range c.args.settings.now (g.R.RecordColumns.columns c.args.records.now) (g.R.RecordTexts.rows c.args.records.now) c.args.sizes c.as_slice-widths.result.now c.as_slice-heights.result.now c.as_slice-widths.ensures.value c.as_slice-heights.ensures.value
+    (c.requires.listed some) (c.requires.fits some)
 
 -- a text that is ended where there is a line
 ended-is : (lines : ℕ) (text grid : List ℕ) → lines ≢ 0 → grid ≡ text → (if lines == 0 then [] else text ++ line_feed ∷ []) ≡ grid ++ line_feed ∷ []
@@ -26,33 +33,33 @@ pub returns-in_err-fault-clause-text : goal.returns-in_err-fault-clause-text
 returns-in_err-fault-clause-text g c =
     let K = g.W.Write.contents in
     let a = c.args.writer.now in
-    let b = c.write.new.writer in
-    let grid = (grid_text (look_of c.new-grid.result.settings.now) (slice_index c.new-grid.result.sizes.widths.items) (slice_index c.new-grid.result.sizes.heights.items) (λ _. None) (g.R.RecordColumns.columns c.new-grid.result.records.now) (g.R.RecordTexts.rows c.new-grid.result.records.now)) in
+    let b = c.write_table.new.writer in
+    let grid = (table_text (look_of c.args.settings.now) (g.R.RecordTexts.rows c.args.records.now) (λ _. None) c.as_slice-widths.result.now c.as_slice-heights.result.now) in
     let whole = (if c.args.sizes.lines == 0 then [] else (grid_text (look_of c.args.settings.now) (slice_index c.args.sizes.widths.items) (slice_index c.args.sizes.heights.items) (λ _. None) (g.R.RecordColumns.columns c.args.records.now) (g.R.RecordTexts.rows c.args.records.now)) ++ line_feed ∷ []) in
     let is : whole ≡ grid ++ line_feed ∷ [] = ended-is c.args.sizes.lines (grid_text (look_of c.args.settings.now) (slice_index c.args.sizes.widths.items) (slice_index c.args.sizes.heights.items) (λ _. None) (g.R.RecordColumns.columns c.args.records.now) (g.R.RecordTexts.rows c.args.records.now)) grid (λ none. omega (arith, none, c.if-sizes-eq0.false))
-    (ap (λ grid. grid_text (look_of grid.settings.now) (slice_index grid.sizes.widths.items) (slice_index grid.sizes.heights.items) (λ _. None) (g.R.RecordColumns.columns grid.records.now) (g.R.RecordTexts.rows grid.records.now)) c.new-grid.ensures) in
+    (listed-text c.args.settings.now (g.R.RecordColumns.columns c.args.records.now) (g.R.RecordTexts.rows c.args.records.now) c.args.sizes c.as_slice-widths.result.now c.as_slice-heights.result.now c.as_slice-widths.ensures.value c.as_slice-heights.ensures.value (c.requires.listed (λ none. omega (arith, none, c.if-sizes-eq0.false)))) in
     passes-refused K whole [] c.from_residual.result a b c.from_residual.ensures.0 (begun-front K grid (line_feed ∷ []) whole a b is c.in_err-fault.ensures)
 
 pub returns-in-Err-clause-text : goal.returns-in-Err-clause-text
 returns-in-Err-clause-text g c =
     let K = g.W.Write.contents in
     let a = c.args.writer.now in
-    let b = c.write.new.writer in
-    let grid = (grid_text (look_of c.new-grid.result.settings.now) (slice_index c.new-grid.result.sizes.widths.items) (slice_index c.new-grid.result.sizes.heights.items) (λ _. None) (g.R.RecordColumns.columns c.new-grid.result.records.now) (g.R.RecordTexts.rows c.new-grid.result.records.now)) in
+    let b = c.write_table.new.writer in
+    let grid = (table_text (look_of c.args.settings.now) (g.R.RecordTexts.rows c.args.records.now) (λ _. None) c.as_slice-widths.result.now c.as_slice-heights.result.now) in
     let whole = (if c.args.sizes.lines == 0 then [] else (grid_text (look_of c.args.settings.now) (slice_index c.args.sizes.widths.items) (slice_index c.args.sizes.heights.items) (λ _. None) (g.R.RecordColumns.columns c.args.records.now) (g.R.RecordTexts.rows c.args.records.now)) ++ line_feed ∷ []) in
     let is : whole ≡ grid ++ line_feed ∷ [] = ended-is c.args.sizes.lines (grid_text (look_of c.args.settings.now) (slice_index c.args.sizes.widths.items) (slice_index c.args.sizes.heights.items) (λ _. None) (g.R.RecordColumns.columns c.args.records.now) (g.R.RecordTexts.rows c.args.records.now)) grid (λ none. omega (arith, none, c.if-sizes-eq0.false))
-    (ap (λ grid. grid_text (look_of grid.settings.now) (slice_index grid.sizes.widths.items) (slice_index grid.sizes.heights.items) (λ _. None) (g.R.RecordColumns.columns grid.records.now) (g.R.RecordTexts.rows grid.records.now)) c.new-grid.ensures) in
+    (listed-text c.args.settings.now (g.R.RecordColumns.columns c.args.records.now) (g.R.RecordTexts.rows c.args.records.now) c.args.sizes c.as_slice-widths.result.now c.as_slice-heights.result.now c.as_slice-widths.ensures.value c.as_slice-heights.ensures.value (c.requires.listed (λ none. omega (arith, none, c.if-sizes-eq0.false)))) in
     stopped-front K grid (line_feed ∷ []) whole c.in-Err.fault a b is (passes-err K AllocError grid [] c.in_ok-fault.field-0 c.in-Err.fault a b c.in-Err.is c.in_ok-fault.ensures)
 
 pub returns-clause-text : goal.returns-clause-text
 returns-clause-text g c =
     let K = g.W.Write.contents in
     let a = c.args.writer.now in
-    let b = c.write.new.writer in
-    let grid = (grid_text (look_of c.new-grid.result.settings.now) (slice_index c.new-grid.result.sizes.widths.items) (slice_index c.new-grid.result.sizes.heights.items) (λ _. None) (g.R.RecordColumns.columns c.new-grid.result.records.now) (g.R.RecordTexts.rows c.new-grid.result.records.now)) in
+    let b = c.write_table.new.writer in
+    let grid = (table_text (look_of c.args.settings.now) (g.R.RecordTexts.rows c.args.records.now) (λ _. None) c.as_slice-widths.result.now c.as_slice-heights.result.now) in
     let whole = (if c.args.sizes.lines == 0 then [] else (grid_text (look_of c.args.settings.now) (slice_index c.args.sizes.widths.items) (slice_index c.args.sizes.heights.items) (λ _. None) (g.R.RecordColumns.columns c.args.records.now) (g.R.RecordTexts.rows c.args.records.now)) ++ line_feed ∷ []) in
     let is : whole ≡ grid ++ line_feed ∷ [] = ended-is c.args.sizes.lines (grid_text (look_of c.args.settings.now) (slice_index c.args.sizes.widths.items) (slice_index c.args.sizes.heights.items) (λ _. None) (g.R.RecordColumns.columns c.args.records.now) (g.R.RecordTexts.rows c.args.records.now)) grid (λ none. omega (arith, none, c.if-sizes-eq0.false))
-    (ap (λ grid. grid_text (look_of grid.settings.now) (slice_index grid.sizes.widths.items) (slice_index grid.sizes.heights.items) (λ _. None) (g.R.RecordColumns.columns grid.records.now) (g.R.RecordTexts.rows grid.records.now)) c.new-grid.ensures) in
+    (listed-text c.args.settings.now (g.R.RecordColumns.columns c.args.records.now) (g.R.RecordTexts.rows c.args.records.now) c.args.sizes c.as_slice-widths.result.now c.as_slice-heights.result.now c.as_slice-widths.ensures.value c.as_slice-heights.ensures.value (c.requires.listed (λ none. omega (arith, none, c.if-sizes-eq0.false)))) in
     passes-last K Fault whole (line_feed ∷ []) [] c.write_piece.result a b c.write_piece.new.writer
     (passed-front K grid [] (line_feed ∷ []) whole a b is (passes-ok K AllocError grid [] c.in_ok-fault.field-0 c.in_default.field-0 a b c.in_default.is c.in_ok-fault.ensures))
     c.write_piece.ensures.passed (OnOk-always c.write_piece.result refl) c.write_piece.ensures.stopped

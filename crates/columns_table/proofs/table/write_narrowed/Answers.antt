@@ -1,4 +1,4 @@
-use Rattle.std.proofs.Common.{[], ◌≡◌, ◌⊎◌, inl, inr, ℕ, List, Some, Err, Global, Vec, length, ap, sym, subst, ◌∙◌}
+use Rattle.std.proofs.Common.{[], ◌≡◌, ◌<◌, ◌⊎◌, arith, inl, inr, ℕ, List, Some, Err, Global, Vec, length, ap, sym, subst, ◌∙◌}
 use Rattle.std.specs.Cow.{cow_str_bytes}
 use Rattle.std.proofs.lemmas.Result.{IfErr-weaker}
 use Rattle.grid_config.specs.Compact.{Compact, compact_of}
@@ -6,6 +6,7 @@ use Rattle.grid_config.specs.Settings.{Settings, StartsWith, compact_start}
 use Rattle.grid_config.specs.Looks.{compact_look}
 use Rattle.grid_config_values.specs.declared.fault.Fault.{Fault}
 use Rattle.grid_config_values.specs.declared.fault.Fault.TheVariants.{Memory}
+use Rattle.grid_records_estimate.proofs.Lengths.{length-table_heights}
 use Rattle.grid_records_estimate.proofs.MeetLemmas.{IfErr-told, OnOk-implies}
 use Rattle.grid_records_rows.specs.Sources.{columns_of}
 use Rattle.grid_records_traits.specs.Rows.{fitted}
@@ -20,7 +21,7 @@ use Rattle.columns_table.specs.Rows.{row_texts_of}
 use Rattle.columns_table.specs.declared.kept.KeptCell.{KeptCell}
 use Rattle.tabled_output.specs.Pieces.{Passes}
 use Rattle.tabled_output.proofs.PieceLemmas.{passes-none}
-use Rattle.columns_table.proofs.NarrowedLemmas.{answer-is, counted, fits-is, frame-is, heights-are, heights-pass, made, refusal-is, text-is}
+use Rattle.columns_table.proofs.NarrowedLemmas.{answer-is, counted, fits-is, frame-is, heights-are, heights-pass, made, refusal-is, some-columns, text-is}
 use Rattle.columns_table.specs.declared.sizes.Sizes.{Sizes}
 use Rattle.columns_table.proofs.table.write_narrowed.Given.{Over}
 use Rattle.columns_table.proofs.table.write_narrowed.Goals as goal
@@ -87,6 +88,20 @@ printed g c =
           ∙ ap (λ (ws : List ℕ). line_count (frame_of (compact_look style) ws c.in_ok-heights.heights.items)) (sym c.in_ok-sizes.ensures.sizes.0)
           ∙ ap (λ (hs : List ℕ). line_count (frame_of (compact_look style) sizes.widths.items hs)) (sym c.in_ok-sizes.ensures.sizes.1),
     )
+
+pub write_where_fits-written-requires : goal.write_where_fits-written-requires
+write_where_fits-written-requires g c = λ _.
+    let style = compact_of c.args.style.now in
+    let asked = c.args.asked.now in
+    let texts = row_texts_of c.args.rows in
+    let sizes = c.in_ok-sizes.sizes in
+    let rows = c.new-records.result.rows.items in
+    let told : narrowed style asked texts ≡ Some sizes.widths.items = c.requires.narrowed ∙ ap (λ (ws : List ℕ). Some ws) (sym c.in_ok-sizes.ensures.sizes.0) in
+    let across : columns_of rows ≡ length sizes.widths.items =
+    counted style asked c.beside.result c.beside.ensures texts sizes.widths.items told text_of rows c.deref.result.now (c.deref.ensures.value ∙ sym c.in_ok-sizes.ensures.sizes.0) (c.new-records.ensures ∙ c.in_ok-kept.ensures.texts) in
+    let some : 0 < columns_of rows = omega (arith, across, some-columns style asked texts sizes.widths.items told) in
+    let high : sizes.heights.items ≡ table_heights (compact_sizing style) (columns_of rows) (texts_of_rows text_of rows) = c.in_ok-sizes.ensures.sizes.1 ∙ c.in_ok-heights.ensures.ok in
+    (sym across, ap (λ (hs : List ℕ). length hs) high ∙ length-table_heights (compact_sizing style) (columns_of rows) (texts_of_rows text_of rows) some)
 
 pub returns-clause-table : goal.returns-clause-table
 returns-clause-table g c =

@@ -1,19 +1,20 @@
-use Rattle.std.proofs.Common.{◌++◌, ◌∷◌, ◌==◌, [], None, slice_index, sym, subst, ap, ◌∙◌, if◌then◌else◌}
+use Rattle.std.proofs.Common.{◌++◌, ◌∷◌, ◌==◌, [], List, None, ℕ, length, slice_index, sym, subst, ap, ◌∙◌, if◌then◌else◌}
 use Rattle.grid_config.specs.Compact.{compact_of}
 use Rattle.grid_config.specs.Looks.{look_of}
 use Rattle.grid_records_estimate.specs.Estimates.{greatest}
 use Rattle.grid_records_measure.specs.TextLines.{line_feed}
-use Rattle.papergrid_peekable.specs.Grids.{grid_text}
+use Rattle.papergrid_fits.specs.Grids.{grid_text}
 use Rattle.papergrid_fits.specs.Tables.{Fits}
 use Rattle.tabled_output.specs.Pieces.{Passes}
 use Rattle.tabled_output.proofs.PieceLemmas.{passes-none}
 use Rattle.columns_table.specs.Answers.{natural_text}
+use Rattle.columns_table.specs.Listed.{AreSizesOf}
 use Rattle.columns_table.specs.Rows.{row_texts_of}
-use Rattle.columns_table.proofs.NaturalLemmas.{OnOk-always, fits, natural-room, prints, some-heights}
+use Rattle.columns_table.proofs.NaturalLemmas.{OnOk-always, fits, listed, natural-room, prints, some-heights}
 use Rattle.columns_table.proofs.table.write_natural.Goals as goal
 
-pub write_grid-written-requires : goal.write_grid-written-requires
-write_grid-written-requires g c = λ some.
+pub write_grid-written-requires-clause-fits : goal.write_grid-written-requires-clause-fits
+write_grid-written-requires-clause-fits g c = λ some.
     let rows = c.args.rows in
     let style = compact_of c.args.style.now in
     let widths = c.args.sizes.widths.items in
@@ -22,6 +23,15 @@ write_grid-written-requires g c = λ some.
     subst (λ texts. Fits c.in_ok-settings.settings (slice_index widths) (slice_index heights) c.new-records.result.columns texts) (sym c.new-records.ensures.rows)
     (fits style c.in_ok-settings.settings c.in_ok-settings.ensures.settings rows.counts.items rows.cells rows.whole widths heights
     c.requires.widths c.requires.heights (some-heights style _ (λ none. some (c.requires.lines ∙ none))) c.requires.fits c.new-records.result.columns columns)
+
+pub write_grid-written-requires-clause-listed : goal.write_grid-written-requires-clause-listed
+write_grid-written-requires-clause-listed g c = λ some.
+    let rows = c.args.rows in
+    let style = compact_of c.args.style.now in
+    let columns = c.new-records.ensures.columns ∙ c.greatest-columns.ensures ∙ ap greatest c.deref.ensures.value in
+    subst (λ (texts : List (List (List ℕ))). AreSizesOf c.args.sizes c.new-records.result.columns (length texts)) (sym c.new-records.ensures.rows)
+    (listed style c.in_ok-settings.settings c.in_ok-settings.ensures.settings rows.counts.items rows.cells rows.whole c.args.sizes.widths.items c.args.sizes.heights.items
+    c.requires.widths c.requires.heights (some-heights style _ (λ none. some (c.requires.lines ∙ none))) c.new-records.result.columns columns)
 
 pub returns-clause-table : goal.returns-clause-table
 returns-clause-table g c =

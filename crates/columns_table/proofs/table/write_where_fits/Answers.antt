@@ -1,7 +1,7 @@
 use Rattle.std.proofs.Common.{◌==◌, ◌++◌, ◌∷◌, [], None, slice_index, if◌then◌else◌}
 use Rattle.grid_config.specs.Looks.{look_of}
 use Rattle.grid_records_measure.specs.TextLines.{line_feed}
-use Rattle.papergrid_peekable.specs.Grids.{grid_text}
+use Rattle.papergrid_fits.specs.Grids.{grid_text}
 use Rattle.tabled_output.proofs.PieceLemmas.{passes-none}
 use Rattle.columns_table.proofs.table.write_where_fits.Goals as goal
 

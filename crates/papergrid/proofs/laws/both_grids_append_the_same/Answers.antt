@@ -10,7 +10,7 @@ use Rattle.papergrid_picture.specs.Frame.{Frame}
 use Rattle.papergrid_picture.specs.Tables.{sizes_of, table_text}
 use Rattle.papergrid_fits.specs.Tables.{IsFitsAnswer, sized}
 use Rattle.papergrid_fits.proofs.Estimated.{text_at-fitted}
-use Rattle.papergrid_peekable.proofs.SameTexts.{answer-same, first_too_wide-same, table_text-same}
+use Rattle.papergrid_fits.proofs.SameTexts.{answer-same, first_too_wide-same, table_text-same}
 use Rattle.papergrid.proofs.laws.both_grids_append_the_same.Goals as goal
 
 pub returns-clause-text : goal.returns-clause-text

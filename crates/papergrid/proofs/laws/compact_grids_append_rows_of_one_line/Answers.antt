@@ -2,7 +2,7 @@ use Rattle.std.proofs.Common.{◌≡◌, ◌∙◌, ap, sym}
 use Rattle.grid_config.specs.Looks.{Look, compact_look}
 use Rattle.grid_config.proofs.Looks.{same_look}
 use Rattle.papergrid.specs.Compact.{flat, one_line}
-use Rattle.papergrid_peekable.specs.Grids.{grid_text}
+use Rattle.papergrid_fits.specs.Grids.{grid_text}
 use Rattle.papergrid.proofs.laws.compact_grids_append_rows_of_one_line.Goals as goal
 
 pub returns : goal.returns

@@ -84,12 +84,22 @@ fn keep_styled(
     ensures { IfOk result (λ kept. AreKept text.now kept) }
 {
     if count == 1 {
-        let line = text.line(alloc, 0)?;
-        if line.as_str() == text {
-            return Ok(None);
-        }
+        return keep_only_line(alloc, text);
     }
     let lines = line_texts(alloc, text, count)?;
+    Ok(Some(Box::new(alloc, KeptLines::Texts(lines))?))
+}
+
+// The same of a text of one line.
+fn keep_only_line(alloc: Global, text: &str) -> Result<Option<Box<KeptLines>>, AllocError>
+    requires { text_height text.now ≡ 1 }
+    ensures { IfOk result (λ kept. AreKept text.now kept) }
+{
+    let line = text.line(alloc, 0)?;
+    if line.as_str() == text {
+        return Ok(None);
+    }
+    let lines = vec![in alloc; line.into_owned(alloc)?]?;
     Ok(Some(Box::new(alloc, KeptLines::Texts(lines))?))
 }
 

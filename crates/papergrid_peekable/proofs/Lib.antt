@@ -1,2 +1,0 @@
--- Why grids whose cells are looked up print their text.
-pub mod SameTexts
