@@ -1,1 +1,2 @@
+mod Equality
 mod LaidOut
