@@ -1,2 +1,2 @@
-mod Equality
+pub mod Equality
 mod LaidOut
