@@ -7,8 +7,9 @@ use Rattle.tabled_pool.proofs.laws.equal_tables_are_the_same.Goals as goal
 
 pub returns-clause-equality : goal.returns-clause-equality
 returns-clause-equality c = λ a b. (
-    λ h. table_same a b (equal_is _ (sym (laws.matches_eq-law a b) ∙ h)),
-    λ h. laws.matches_eq-law a b ∙ ap is_eq (table_equal a b h))
+  λ h. table_same a b (equal_is _ (sym (laws.matches_eq-law a b) ∙ h)),
+  λ h. laws.matches_eq-law a b ∙ ap is_eq (table_equal a b h),
+)
 
 pub returns-clause-order : goal.returns-clause-order
 returns-clause-order c = λ a b. (table_same a b, table_equal a b)
