@@ -1,5 +1,5 @@
 -- Settings of which four are set for all cells look so.
-use Rattle.std.proofs.Common.{◌≡◌, ℕ, Bool, false, true, Result, Ok, Err, IsOk, OnOk, ap, ◌∙◌}
+use Rattle.std.proofs.Common.{◌≡◌, false, true, Result, Ok, Err, IsOk, OnOk, ap, ◌∙◌}
 use Rattle.std.proofs.Math.Path.{fun_ext}
 use Rattle.grid_config_values.specs.declared.alignment.AlignmentVertical.{AlignmentVertical}
 use Rattle.grid_config_values.specs.declared.entity.Entity.TheVariants.{Global}

@@ -1,5 +1,7 @@
 //! Laws: what settings say is all of them, and which step each option is.
-ghost use Rattle.std.specs.Prelude.{◌≡◌, Ok};
+ghost use Rattle.std.specs.Prelude.{◌≡◌, ◌↔◌, Ok, Some, true};
+ghost use Rattle.std.specs.Cmp.{IsTotalOrder};
+ghost use Rattle.std.specs.declared.cmp.Ordering.TheVariants.{Equal};
 ghost use Rattle.grid_config_values.specs.declared.entity.Entity.TheVariants.{Global as EveryCell};
 ghost use Rattle.grid_config.specs.Compact.{compact_of, new_compact};
 ghost use Rattle.grid_config.specs.declared.compact.CompactConfig.{CompactConfig as CompactSettings};
@@ -27,6 +29,15 @@ use tabled_steps::{KeptSizes, TableOption};
 pub fn clones_are_the_same()
     ensures clone { (source clone : MultilineSettings) → ⟦<CompactMultilineConfig as Clone>⟧.is_clone source clone → multiline_of clone ≡ multiline_of source }
     ensures comes { (source : MultilineSettings) → ⟦<CompactMultilineConfig as Clone>⟧.is_infallible source }
+{}
+
+/// `==` of settings is equality of all of them, and `cmp` finds the same ones equal. Their order is a total one,
+/// which `partial_cmp` answers too.
+pub fn equal_settings_are_the_same()
+    ensures equality { (a b : MultilineSettings) → (⟦<CompactMultilineConfig as PartialEq>⟧.eq a b ≡ true) ↔ (multiline_of a ≡ multiline_of b) }
+    ensures order { (a b : MultilineSettings) → (⟦<CompactMultilineConfig as Ord>⟧.cmp a b ≡ Equal) ↔ (multiline_of a ≡ multiline_of b) }
+    ensures partial { (a b : MultilineSettings) → ⟦<CompactMultilineConfig as PartialOrd>⟧.partial_cmp a b ≡ Some (⟦<CompactMultilineConfig as Ord>⟧.cmp a b) }
+    ensures total { IsTotalOrder ⟦<CompactMultilineConfig as Ord>⟧.cmp }
 {}
 
 /// Settings are made of those of a compact table, and give them back.

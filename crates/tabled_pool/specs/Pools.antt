@@ -4,6 +4,7 @@ use Rattle.grid_config.specs.Looks.{Look}
 use Rattle.tabled_compact.specs.Tables.{begun_settings}
 use Rattle.tabled_multiline.specs.Multiline.{Multiline, multiline_look, multiline_of, over}
 use Rattle.tabled_multiline.specs.Takers.{takers_seen}
+use Rattle.tabled_multiline.specs.declared.config.CompactMultilineConfig.{CompactMultilineConfig}
 use Rattle.tabled_pool_boxes.specs.Texts.{IsTooLarge, pool_text}
 use Rattle.tabled_pool.specs.declared.table.PoolTable.{PoolTable}
 use Rattle.tabled_pool_boxes.specs.Boxes.{Box, box_of}
@@ -20,6 +21,10 @@ pub record Pool : Type 0 where
 
 abbrev pub pool_of : PoolTable → Pool
 pool_of table = record { layout = layout_of table.value; settings = multiline_of table.config; takers = table.dimension }
+
+-- its settings as the program holds them
+abbrev pub config_of : PoolTable → CompactMultilineConfig
+config_of table = table.config
 
 -- ---- a pool that no call has changed yet
 

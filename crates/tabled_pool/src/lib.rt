@@ -1,6 +1,7 @@
 //! Tables of nested boxes, and records in expanded form.
 #![tactic(auto)]
 
+pub mod laws;
 mod table;
 
 pub use table::PoolTable;

@@ -1,3 +1,5 @@
+pub mod SameOrder
+pub mod Equality
 pub mod SizeLemmas
 pub mod Adding
 pub mod DrawLemmas

@@ -1,4 +1,5 @@
 pub mod Values
+pub mod Order
 pub mod Shares
 pub mod Boxes
 pub mod Sizes

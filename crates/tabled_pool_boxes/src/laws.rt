@@ -1,9 +1,30 @@
-//! Laws: texts of pools that are worked out by hand.
-ghost use Rattle.std.specs.Prelude.{◌≡◌, codes, [], ◌∷◌};
+//! Laws: when values are equal and which comes first, and texts of pools that are worked out by hand.
+ghost use Rattle.std.specs.Prelude.{◌≡◌, ◌↔◌, Some, codes, [], ◌∷◌, true};
+ghost use Rattle.std.specs.Cmp.{IsTotalOrder};
+ghost use Rattle.std.specs.declared.cmp.Ordering.TheVariants.{Equal};
 ghost use Rattle.tabled_pool_boxes.specs.Worked.{each};
 ghost use Rattle.tabled_pool_boxes.specs.Texts.{pool_text};
 ghost use Rattle.tabled_pool_boxes.specs.Worked.{ascii, cell, greetings, in_lines, last, nested, row, rows, text_of};
 ghost use Rattle.tabled_pool_boxes.specs.Boxes.{column_box, row_box};
+ghost use Rattle.tabled_pool_boxes.specs.Order.{compared};
+ghost use Rattle.tabled_pool_boxes.specs.Values.{layout_of};
+ghost use Rattle.tabled_pool_boxes.specs.declared.value.TableValue.{TableValue as OneValue};
+
+use crate::value::TableValue;
+
+/// `==` of values is equality of their layouts, and `cmp` finds the same ones equal.
+pub fn equal_values_are_the_same()
+    ensures equality { (a b : OneValue) → (⟦<TableValue as PartialEq>⟧.eq a b ≡ true) ↔ (layout_of a ≡ layout_of b) }
+    ensures order { (a b : OneValue) → (⟦<TableValue as Ord>⟧.cmp a b ≡ Equal) ↔ (layout_of a ≡ layout_of b) }
+{}
+
+/// Values are ordered by their layouts: rows before columns, and these before texts; two rows, and two columns,
+/// member by member, and two texts by their bytes. It is a total order, and `partial_cmp` answers it too.
+pub fn values_are_ordered()
+    ensures order { (a b : OneValue) → ⟦<TableValue as Ord>⟧.cmp a b ≡ compared (layout_of a) (layout_of b) }
+    ensures partial { (a b : OneValue) → ⟦<TableValue as PartialOrd>⟧.partial_cmp a b ≡ Some (compared (layout_of a) (layout_of b)) }
+    ensures total { IsTotalOrder ⟦<TableValue as Ord>⟧.cmp }
+{}
 
 /// A nested table of greetings.
 pub fn greetings()

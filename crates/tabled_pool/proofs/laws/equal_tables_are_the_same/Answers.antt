@@ -1,0 +1,15 @@
+use Rattle.std.proofs.Common.{◌∙◌, sym, ap}
+use Rattle.std.specs.Ordering.{is_eq}
+use Rattle.tabled_pool_boxes.proofs.SameOrder.{equal_is}
+use Rattle.tabled_pool.specs.contracts.table.PoolTableOrd.TheImpl.Laws as laws
+use Rattle.tabled_pool.proofs.Equality.{table_equal, table_same}
+use Rattle.tabled_pool.proofs.laws.equal_tables_are_the_same.Goals as goal
+
+pub returns-clause-equality : goal.returns-clause-equality
+returns-clause-equality c = λ a b. (
+  λ h. table_same a b (equal_is _ (sym (laws.matches_eq-law a b) ∙ h)),
+  λ h. laws.matches_eq-law a b ∙ ap is_eq (table_equal a b h),
+)
+
+pub returns-clause-order : goal.returns-clause-order
+returns-clause-order c = λ a b. (table_same a b, table_equal a b)
