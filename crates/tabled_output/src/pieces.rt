@@ -8,6 +8,7 @@ use std::io::Write;
 
 /// Writes the line that stands in the buffer, and then the buffer is empty and keeps its memory. Where the
 /// writer does not take all of it the buffer is as it was. For an empty buffer the writer isn't called.
+#[inline(always)]
 pub fn pass_line<W: Write>(writer: &mut Counted<W>, buffer: &mut String) -> Result<(), WriteFault>
     ensures passed { OnOk result (HasPassed W.contents (string_bytes buffer.old) (string_bytes buffer.new) writer.old writer.new) }
     ensures empty { OnOk result (string_bytes buffer.new ≡ []) }

@@ -24,6 +24,7 @@ use tabled_output::{Counted, WriteFault, pass_line};
 impl<'a, R: PeekableRecords, C: Colors> Table<'a, R, C> {
     // Writes the line of row boundary `i`, line `y` of the table, where that boundary is there. Returns the
     // line after it.
+    #[inline(always)]
     fn write_boundary<W: Write>(
         &self,
         writer: &mut Counted<W>,
