@@ -1,6 +1,7 @@
 //! Callers of the libraries, as short as they can be, to begin from; the program prints what they make.
 #![tactic(auto)]
 
+mod boxes;
 mod changed;
 mod commas;
 mod grid;

@@ -1,5 +1,5 @@
 //! Tables, each made by a short program as a user of `tabled` would write it, and printed.
-use crate::{changed, kept, made, totals};
+use crate::{boxes, changed, kept, made, totals};
 use grid_config::{AlignmentHorizontal, Fault};
 use std::io::Print;
 use tabled::Table;
@@ -18,7 +18,9 @@ pub(crate) fn print(rt: &HostRuntime) -> Result<(), Fault> {
     centred(rt)?;
     show(rt, totals::summed(rt.alloc())?, Ok(()))?;
     wide(rt)?;
-    high(rt)
+    high(rt)?;
+    nested(rt)?;
+    expanded(rt)
 }
 
 fn ragged(rt: &HostRuntime) -> Result<(), Fault> {
@@ -67,6 +69,20 @@ fn high(rt: &HostRuntime) -> Result<(), Fault> {
     let mut table = made::planets(rt.alloc())?;
     let done = kept::high(rt.alloc(), &mut table);
     show(rt, table, done)
+}
+
+fn nested(rt: &HostRuntime) -> Result<(), Fault> {
+    let table = boxes::rooms(rt.alloc())?;
+    let text = table.to_string(rt.alloc());
+    drop(table);
+    write(rt, text?)
+}
+
+fn expanded(rt: &HostRuntime) -> Result<(), Fault> {
+    let table = boxes::records(rt.alloc())?;
+    let text = table.to_string(rt.alloc());
+    drop(table);
+    write(rt, text?)
 }
 
 // In the middle of 31 columns; the table itself stays as it is.
