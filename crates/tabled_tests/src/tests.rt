@@ -5,6 +5,7 @@ use std::process::Abort;
 use tabled::{Amount, Padding, Setting};
 use tabled_size_priority::Choice;
 
+mod boxes;
 mod breaking;
 mod cuts;
 mod kept_sizes;
