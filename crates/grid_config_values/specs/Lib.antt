@@ -3,6 +3,4 @@ pub mod Glyphs
 pub mod Order
 pub mod Entities
 pub mod Rectangles
-pub mod Entries
-pub mod Searches
 pub mod Settings

@@ -19,7 +19,7 @@ ghost use Rattle.grid_config_values.specs.Entities.{covers};
 ghost use Rattle.grid_config_values.specs.Fault.{fault_text};
 ghost use Rattle.grid_config_values.specs.Glyphs.{Between, First, Last, has_column_boundary, has_row_boundary};
 ghost use Rattle.grid_config_values.specs.Order.{position_cmp};
-ghost use Rattle.grid_config_values.specs.Settings.{AreSet, value_after, value_at};
+ghost use Rattle.grid_config_values.specs.Settings.{AreSet, value_at};
 
 use crate::alignment::{AlignmentHorizontal, AlignmentVertical};
 use crate::borders::{Border, Borders};
@@ -40,11 +40,6 @@ pub fn the_last_call_decides<T>()
         value_at new p ≡ call.1 }
     ensures none { (old new : CellMap T) (calls : List (CellSet × T)) (p : Place) →
         AreSet calls old new → All (λ call. covers call.0 p ≡ false) calls → value_at new p ≡ value_at old p }
-{}
-
-/// A map that settings made one after the other has at each position the value that these leave.
-pub fn values_are_those_of_the_calls<T>()
-    ensures { (old new : CellMap T) (calls : List (CellSet × T)) (p : Place) → AreSet calls old new → value_at new p ≡ value_after (value_at old p) calls p }
 {}
 
 /// Positions are compared by rows, and in a row by columns; those that compare equal are the same.

@@ -7,7 +7,6 @@ mod clone_in;
 mod entity;
 mod entity_iterator;
 mod entity_map;
-mod entries;
 mod fault;
 mod formatting;
 pub mod laws;
