@@ -50,9 +50,9 @@ impl From<AllocError> for Fault {
 /// A value that was not pushed, for want of memory.
 impl<T: Drop> From<AllocFailed<T>> for Fault {
     ghost use Rattle.std.specs.Prelude.{◌≡◌};
-    ghost use Rattle.grid_config_values.specs.declared.fault.Fault.TheVariants.{Memory};
+    ghost use Rattle.grid_config_values.specs.declared.fault.Fault.TheVariants.{Memory as OutOfMemory};
 
-    ghost from_gives = { λ _ fault. fault ≡ Memory };
+    ghost from_gives = { λ _ fault. fault ≡ OutOfMemory };
 
     fn from(_error: AllocFailed<T>) -> Fault {
         Fault::Memory

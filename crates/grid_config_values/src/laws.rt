@@ -29,7 +29,7 @@ use crate::fault::Fault;
 use crate::formatting::Formatting;
 use crate::position::Position;
 use crate::sides::{Indent, Sides};
-use std::alloc::AllocError;
+use std::alloc::{AllocError, AllocFailed};
 use std::fmt::Display;
 
 /// Of settings made one after the other, the last one that covers a position decides, whatever stands
@@ -130,9 +130,10 @@ pub fn faults_are_printed_whole()
     ensures { (fault : OneFault) → ⟦<Fault as Display>⟧.output fault ≡ Some (fault_text fault) }
 {}
 
-/// A growth that was refused becomes `Memory`.
-pub fn refused_growth_is_memory()
-    ensures { (given : Refused) (fault : OneFault) → ⟦<Fault as From<AllocError>>⟧.from_gives given fault → fault ≡ Memory }
+/// A growth that was refused becomes `Memory`, also where it hands back a value that was not pushed.
+pub fn refused_growth_is_memory<T: Drop>()
+    ensures growth { (given : Refused) (fault : OneFault) → ⟦<Fault as From<AllocError>>⟧.from_gives given fault → fault ≡ Memory }
+    ensures push { (given : _) (fault : OneFault) → ⟦<Fault as From<AllocFailed<T>>>⟧.from_gives given fault → fault ≡ Memory }
 {}
 
 /// The cells of an entity come one after the other, and then none; the next may be asked for at any time, and no

@@ -79,11 +79,11 @@ impl From<AllocError> for BuildFault {
 impl<T: Drop> From<AllocFailed<T>> for BuildFault {
     ghost use Rattle.std.specs.Prelude.{◌≡◌};
     ghost use Rattle.grid_config_values.specs.declared.fault.Fault.TheVariants.{Memory};
-    ghost use Rattle.tabled_compact.specs.declared.fault.BuildFault.TheVariants.{Table as OfTable};
+    ghost use Rattle.tabled_compact.specs.declared.fault.BuildFault.TheVariants.{Table as NotMade};
 
-    ghost from_gives = { λ _ fault. fault ≡ OfTable Memory };
+    ghost from_gives = { λ _ fault. fault ≡ NotMade Memory };
 
     fn from(_error: AllocFailed<T>) -> BuildFault {
-        BuildFault::Table(Fault::Memory)
+        BuildFault::from(Fault::Memory)
     }
 }

@@ -29,7 +29,7 @@ use crate::fault::BuildFault;
 use crate::table::CompactTable;
 use grid_config::{CompactConfig, Fault};
 use grid_records_traits::{Dimension, RecordTexts};
-use std::alloc::AllocError;
+use std::alloc::{AllocError, AllocFailed};
 use std::fmt::Display;
 use tabled_options::{Margin, Padding, Style};
 use tabled_output::WriteFault;
@@ -67,15 +67,16 @@ pub fn options_are_their_steps<R: RecordTexts, D: KeptSizes>()
 {}
 
 /// `==` of refusals is equality; a clone is the same refusal, and is never refused; one is printed in its own
-/// words; those of a table and of a writer become the one of the same meaning, and a growth that was refused the
-/// table's `Memory`.
-pub fn faults_are_compared_cloned_and_printed_whole()
+/// words; those of a table and of a writer become the one of the same meaning, and a growth that was refused, or a
+/// value that was not pushed, the table's `Memory`.
+pub fn faults_are_compared_cloned_and_printed_whole<T: Drop>()
     ensures equality { (a b : OneFault) → (⟦<BuildFault as PartialEq>⟧.eq a b ≡ true) ↔ (a ≡ b) }
     ensures clone { (source clone : OneFault) → ⟦<BuildFault as Clone>⟧.is_clone source clone → clone ≡ source }
     ensures comes { (source : OneFault) → ⟦<BuildFault as Clone>⟧.is_infallible source }
     ensures printed { (fault : OneFault) → ⟦<BuildFault as Display>⟧.output fault ≡ Some (build_fault_text fault) }
     ensures of_table { (given : TableFault) (fault : OneFault) → ⟦<BuildFault as From<Fault>>⟧.from_gives given fault → fault ≡ OfTable given }
     ensures of_memory { (given : Refused) (fault : OneFault) → ⟦<BuildFault as From<AllocError>>⟧.from_gives given fault → fault ≡ OfTable Memory }
+    ensures of_push { (given : _) (fault : OneFault) → ⟦<BuildFault as From<AllocFailed<T>>>⟧.from_gives given fault → fault ≡ OfTable Memory }
     ensures of_writer { (given : WritingFault) (fault : OneFault) → ⟦<BuildFault as From<WriteFault>>⟧.from_gives given fault → fault ≡ writing_fault given }
 {}
 
