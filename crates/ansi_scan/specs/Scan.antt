@@ -15,12 +15,12 @@ items_left s = placed s.place (pieces s.rest.now)
 abbrev pub text_length : Scan → ℕ
 text_length s = s.place + length s.rest.now
 
--- the looks that were taken so far, and those that all items take
+-- the looks that were taken so far, one at each byte before the place and those beyond; and those that all items take
 abbrev pub looks_taken : Scan → ℕ
-looks_taken s = s.looks
+looks_taken s = s.place + s.beyond
 
 abbrev pub looks_in_all : Scan → ℕ
-looks_in_all s = s.looks + looks_over (pieces s.rest.now)
+looks_in_all s = looks_taken s + looks_over (pieces s.rest.now)
 
 -- what a step does beside its item: it comes closer to the end, and keeps the text and the looks in all
 pub record GoesOn (before : Scan) (given : Option Item) (after : Scan) : Type 0 where

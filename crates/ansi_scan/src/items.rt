@@ -4,7 +4,7 @@ ghost use Rattle.std.specs.Prelude.{◌≡◌, ◌+◌, ◌*◌, ◌<◌, ◌≤
 ghost use Rattle.ansi_scan.specs.Looks.{looks_over};
 ghost use Rattle.ansi_scan.specs.Pieces.{pieces};
 
-use crate::sequences::front;
+use crate::sequences::{FirstItem, front};
 
 /// What an item of a text is. The names of the sequences follow ECMA-48.
 #[derive(Debug, Clone, Copy, PartialEq, Eq)]
@@ -46,10 +46,10 @@ pub struct Item {
 pub struct Scan<'a> {
     rest: &'a [u8],
     place: usize,
-    // the reads of one byte so far
-    looks: u128,
+    // the looks so far, beyond one at each byte before the place
+    beyond: u128,
     ghost fits: { place + length rest.now < 2 ^ 64 },
-    ghost few: { looks + looks_over (pieces rest.now) ≤ 3 * (place + length rest.now) },
+    ghost few: { place + beyond + looks_over (pieces rest.now) ≤ 3 * (place + length rest.now) },
 }
 
 impl<'a> Scan<'a> {
@@ -66,7 +66,7 @@ impl<'a> Scan<'a> {
         Scan {
             rest: bytes,
             place: 0,
-            looks: 0,
+            beyond: 0,
         }
     }
 
@@ -76,7 +76,7 @@ impl<'a> Scan<'a> {
         ensures value { result ≡ looks_taken self.now }
         ensures few { result ≤ 3 * text_length self.now }
     {
-        self.looks
+        self.place as u128 + self.beyond
     }
 }
 
@@ -97,12 +97,13 @@ impl Iterator for Scan<'_> {
         if self.rest.is_empty() {
             return None;
         }
-        let (kind, len) = front(self.rest, &mut self.looks);
+        let FirstItem { kind, len, beyond } = front(self.rest);
         let (_, rest) = self.rest.split_at(len);
         let start = self.place;
         let end = start + len;
         self.rest = rest;
         self.place = end;
+        self.beyond += beyond as u128;
         Some(Item { kind, start, end })
     }
 }

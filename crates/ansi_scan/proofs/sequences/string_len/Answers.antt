@@ -9,6 +9,6 @@ pub loop-i-preserved : goal.loop-i-preserved
 loop-i-preserved c =
     let inside : is_inside c.args.bell_ends (get_or c.args.bytes.now c.loop-i.i 0) ≡ true = grind (arith, nat_tests) in (
       sym (string_from-step c.args.bell_ends c.args.bytes.now c.loop-i.i c.loop-i-test.true inside) ∙ c.loop-i.invariant.0,
-      omega (arith, c.loop-i.invariant.1),
-      omega (arith, c.loop-i.invariant.2, string_looks-step c.args.bell_ends c.args.bytes.now c.loop-i.i c.loop-i-test.true inside),
+      omega (arith, c.loop-i.invariant.1, string_looks-step c.args.bell_ends c.args.bytes.now c.loop-i.i c.loop-i-test.true inside),
+      c.loop-i.invariant.2,
     )

@@ -13,7 +13,7 @@ returns-then-is_empty-clause-steps c =
 pub returns-clause-steps : goal.returns-clause-steps
 returns-clause-steps c =
     let nonempty : 0 < length c.args.self.now.rest.now = omega arith in
-    placed-step c.args.self.now.place c.args.self.now.rest.now c.front-kind.result _ nonempty c.front-kind.ensures.kind c.split_at.ensures.back
+    placed-step c.args.self.now.place c.args.self.now.rest.now (c.front-kind.result.kind, c.front-kind.result.len) _ nonempty c.front-kind.ensures.kind c.split_at.ensures.back
 
 pub returns-then-is_empty-clause-goes : goal.returns-then-is_empty-clause-goes
 returns-then-is_empty-clause-goes c = record { on = λ finite. tt; keeps = tt; rests = λ finite. finite; text = refl; looks = refl }
@@ -21,8 +21,8 @@ returns-then-is_empty-clause-goes c = record { on = λ finite. tt; keeps = tt; r
 pub returns-clause-goes : goal.returns-clause-goes
 returns-clause-goes c =
     let nonempty : 0 < length c.args.self.now.rest.now = omega arith in
-    let step = placed-step c.args.self.now.place c.args.self.now.rest.now c.front-kind.result _ nonempty c.front-kind.ensures.kind c.split_at.ensures.back in
-    let looks = looks_over-step c.args.self.now.rest.now c.front-kind.result _ nonempty c.front-kind.ensures.kind c.split_at.ensures.back in
+    let step = placed-step c.args.self.now.place c.args.self.now.rest.now (c.front-kind.result.kind, c.front-kind.result.len) _ nonempty c.front-kind.ensures.kind c.split_at.ensures.back in
+    let looks = looks_over-step c.args.self.now.rest.now (c.front-kind.result.kind, c.front-kind.result.len) _ nonempty c.front-kind.ensures.kind c.split_at.ensures.back in
     record {
       on = λ finite. search (rules, step);
       keeps = tt;
@@ -35,5 +35,5 @@ returns-clause-goes c =
 pub invariant_of-self-clause-few : goal.invariant_of-self-clause-few
 invariant_of-self-clause-few c =
     let nonempty : 0 < length c.args.self.now.rest.now = omega arith in
-    let step = looks_over-step c.args.self.now.rest.now c.front-kind.result _ nonempty c.front-kind.ensures.kind c.split_at.ensures.back in
+    let step = looks_over-step c.args.self.now.rest.now (c.front-kind.result.kind, c.front-kind.result.len) _ nonempty c.front-kind.ensures.kind c.split_at.ensures.back in
     omega (arith, step, c.front-kind.ensures.looks, c.args.self.now.few)
