@@ -114,7 +114,9 @@ pub(crate) fn write_sized_lines<R: PeekableRecords, D: Dimension, C: Colors, W: 
 {
     let widths = widths(alloc, dims, columns)?;
     let heights = heights(alloc, dims, rows)?;
-    write_chosen(alloc, records, cfg, colors, &widths, &heights, wanted, writer)
+    write_chosen(
+        alloc, records, cfg, colors, &widths, &heights, wanted, writer,
+    )
 }
 
 /// Appends line `y` of the text that `print_sized` appends, without a line feed. It fails only where

@@ -301,6 +301,14 @@ impl<'a, R: PeekableRecords, C: Colors> Table<'a, R, C> {
         let width = self.total_width();
         self.choose_margin(writer, line, wanted, 0, margin.top, &colors.top, width)?;
         let y = self.choose_rows(alloc, writer, line, wanted)?;
-        self.choose_margin(writer, line, wanted, y, margin.bottom, &colors.bottom, width)
+        self.choose_margin(
+            writer,
+            line,
+            wanted,
+            y,
+            margin.bottom,
+            &colors.bottom,
+            width,
+        )
     }
 }

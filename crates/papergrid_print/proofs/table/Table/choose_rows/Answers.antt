@@ -44,4 +44,3 @@ returns-in_err-between-clause-lines g c =
     let none : 0 ≤ length c.args.self.now.heights.now = omega arith in
     no-memory S wants K (boundary_at (row_tracks S) 0) (boundary_at (row_tracks S) 0) (track_at (row_tracks S) (length c.args.self.now.heights.now)) c.from_residual-in_err-between.result c.args.writer.now c.args.writer.now here (boundary-within S 0 none) c.from_residual-in_err-between.ensures.1
     (none-yet S wants K (boundary_at (row_tracks S) 0) c.args.writer.now)
-

@@ -35,8 +35,8 @@ returns-in-Some g c =
     let counted : AreCounted inside.leasts least sizes = are-counted inside.leasts least sizes c.is_empty.result c.is_empty.ensures c.if-is_empty.false (sym c.self.inside.leasts.ok.0 ∙ (sym c.len.ensures ∙ c.if-len-values.false)) in
     let found = c.in-Some.ensures {u = tt} in
     let some : ¬ (NoneAbove (greater inside.leasts least) sizes (length sizes)) = λ none.
-        let above = subst (λ (asked : List ℕ). get_or asked c.in-Some.field-0 0 < get_or sizes c.in-Some.field-0 0) (c.deref.ensures.value ∙ kept) found.2 in
-        omega (arith, above, none c.in-Some.field-0 (found.1)) in
+    let above = subst (λ (asked : List ℕ). get_or asked c.in-Some.field-0 0 < get_or sizes c.in-Some.field-0 0) (c.deref.ensures.value ∙ kept) found.2 in
+    omega (arith, above, none c.in-Some.field-0 (found.1)) in
     let named = subst (λ (asked : List ℕ). g.P.Peaker.peaks inside.priority asked sizes c.peak-in-Some.result c.peak-in-Some.new.self) (c.deref-in-Some.ensures.value ∙ kept) c.peak-in-Some.ensures in
     subst (λ (leasts : List ℕ). NamesInTwoSteps g.P.Peaker.peaks c.args.self.now least sizes c.peak-in-Some.result (record { priority = c.peak-in-Some.new.self; leasts = leasts })) (sym kept)
     (subst (λ (before : OwnLeasts g.row.P.Denot). NamesInTwoSteps g.P.Peaker.peaks before least sizes c.peak-in-Some.result (record { priority = c.peak-in-Some.new.self; leasts = greater inside.leasts least })) same
@@ -53,7 +53,7 @@ returns-in-None g c =
     let kept : (with_items c.self.inside.leasts c.raise.new.leasts).items ≡ greater inside.leasts least = with_items_is c.self.inside.leasts c.raise.new.leasts size ∙ raised in
     let counted : AreCounted inside.leasts least sizes = are-counted inside.leasts least sizes c.is_empty.result c.is_empty.ensures c.if-is_empty.false (sym c.self.inside.leasts.ok.0 ∙ (sym c.len.ensures ∙ c.if-len-values.false)) in
     let none : NoneAbove (greater inside.leasts least) sizes (length sizes) =
-        subst (λ (asked : List ℕ). NoneAbove asked sizes (length sizes)) (c.deref.ensures.value ∙ kept) (λ other below. c.in-None.ensures {u = tt} other (omega arith) below) in
+    subst (λ (asked : List ℕ). NoneAbove asked sizes (length sizes)) (c.deref.ensures.value ∙ kept) (λ other below. c.in-None.ensures {u = tt} other (omega arith) below) in
     subst (λ (leasts : List ℕ). NamesInTwoSteps g.P.Peaker.peaks c.args.self.now least sizes c.peak-in-None.result (record { priority = c.peak-in-None.new.self; leasts = leasts })) (sym kept)
     (subst (λ (before : OwnLeasts g.row.P.Denot). NamesInTwoSteps g.P.Peaker.peaks before least sizes c.peak-in-None.result (record { priority = c.peak-in-None.new.self; leasts = greater inside.leasts least })) same
     (step-on g.P.Peaker.peaks inside least sizes c.peak-in-None.result c.peak-in-None.new.self counted none c.peak-in-None.ensures))
