@@ -7,13 +7,14 @@ ghost use Rattle.papergrid_picture.specs.Fitting.{FitsAnswer, InRange};
 ghost use Rattle.papergrid_picture.specs.Frame.{line_count};
 ghost use Rattle.papergrid_picture.specs.Tables.{sizes_of, table_line, table_text};
 ghost use Rattle.papergrid_fits.specs.Tables.{sized};
+ghost use Rattle.papergrid_print.specs.Chosen.{chosen_text};
 ghost use Rattle.tabled_output.specs.Pieces.{Passes};
 
 use crate::sizes::{heights, widths};
 use grid_config::{Fault, SpannedConfig};
 use grid_records_traits::{Dimension, PeekableRecords};
 use papergrid_fits::fits_counted;
-use papergrid_print::{Colors, print_line, print_table, write_table};
+use papergrid_print::{Colors, Wanted, print_line, print_table, write_chosen, write_table};
 use std::alloc::{AllocError, Global};
 use std::io::Write;
 use tabled_output::{Counted, WriteFault};
@@ -93,6 +94,29 @@ pub(crate) fn write_sized<R: PeekableRecords, D: Dimension, C: Colors, W: Write>
     let widths = widths(alloc, dims, columns)?;
     let heights = heights(alloc, dims, rows)?;
     write_table(alloc, records, cfg, colors, &widths, &heights, writer)
+}
+
+/// Writes the wanted lines of the text that `print_sized` appends, each with a line feed behind it.
+pub(crate) fn write_sized_lines<R: PeekableRecords, D: Dimension, C: Colors, W: Write, K: Wanted>(
+    alloc: Global,
+    records: &R,
+    cfg: &SpannedConfig,
+    dims: &D,
+    colors: &C,
+    rows: usize,
+    columns: usize,
+    wanted: &K,
+    writer: &mut Counted<W>,
+) -> Result<Result<(), WriteFault>, AllocError>
+    requires good { AreGood cfg.now.spans rows columns }
+    requires range { InRange (sized cfg.now (D.width dims.now) (D.height dims.now) columns rows) }
+    ensures { Passes W.contents (chosen_text (look_of cfg.now) (R.rows records.now) (C.color colors.now) (sizes_of (D.width dims.now) columns) (sizes_of (D.height dims.now) rows) (K.wants wanted.now)) result [] writer.old writer.new }
+{
+    let widths = widths(alloc, dims, columns)?;
+    let heights = heights(alloc, dims, rows)?;
+    write_chosen(
+        alloc, records, cfg, colors, &widths, &heights, wanted, writer,
+    )
 }
 
 /// Appends line `y` of the text that `print_sized` appends, without a line feed. It fails only where

@@ -10,3 +10,4 @@ mod WriteLemmas
 pub mod FlatLemmas
 mod PlacedLemmas
 mod SingleLemmas
+mod ChoosingLemmas

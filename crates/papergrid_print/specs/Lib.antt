@@ -3,3 +3,4 @@ pub mod Sheets
 pub mod Axes
 pub mod FlatSheets
 pub mod Single
+pub mod Chosen

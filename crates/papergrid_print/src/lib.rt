@@ -1,6 +1,7 @@
 //! The printer of a table: it appends the lines of the picture to a text.
 #![tactic(auto)]
 
+mod choose;
 pub mod colors;
 mod extents;
 pub mod laws;
@@ -8,9 +9,13 @@ mod lines;
 mod print;
 mod seen;
 mod single;
+mod stop;
 mod table;
+mod wanted;
 
+pub use choose::write_chosen;
 pub use colors::{Colors, NoColors};
 pub use lines::count_lines;
 pub use print::{print_table, write_table};
 pub use single::print_line;
+pub use wanted::{Place, Wanted};

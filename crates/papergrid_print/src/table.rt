@@ -1,4 +1,5 @@
 //! The lines of a table.
+mod choosing;
 mod line;
 mod plain;
 mod seeing;

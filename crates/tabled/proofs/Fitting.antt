@@ -10,11 +10,14 @@ use Rattle.grid_config_spans.specs.declared.extent.Extent.{Extent}
 use Rattle.grid_config.specs.Looks.{look_of}
 use Rattle.grid_config.specs.Settings.{Settings}
 use Rattle.grid_records_estimate.proofs.Lengths.{length-table_heights, length-table_widths}
+use Rattle.grid_records_estimate.specs.Collecting.{PassesMax}
 use Rattle.grid_records_estimate.specs.Estimates.{track_sizes}
 use Rattle.grid_records_estimate.specs.Kept.{least_sizes}
 use Rattle.grid_records_estimate.specs.Sizes.{IsRefusal, table_heights, table_widths}
 use Rattle.grid_records_estimate.specs.Sizing.{Sizing, sizing_of}
 use Rattle.papergrid.specs.Grids.{grid_text}
+use Rattle.papergrid.specs.GridParts.{wanted_text}
+use Rattle.papergrid.specs.Place.{Place}
 use Rattle.papergrid_fits.proofs.Ranges.{line_count-is, table_width-is}
 use Rattle.papergrid_fits.specs.Tables.{Fits, IsFitsAnswer, column_tracks, row_tracks, sized}
 use Rattle.papergrid_picture.proofs.FrameLemmas.{boundary-bounded, boundary-next}
@@ -25,7 +28,8 @@ use Rattle.tabled_size_dimension.specs.Stored.{FilledPass, Stored, filled, store
 use Rattle.tabled_steps.proofs.Estimating.{heights_by_look, widths_by_look}
 use Rattle.tabled_steps.specs.Sizes.{natural_heights, natural_widths}
 use Rattle.tabled_steps.specs.States.{State, column_count, state_with}
-use Rattle.tabled.specs.Printing.{IsFit, SpansAreGood, drawn_frame, drawn_sizes, printed}
+use Rattle.tabled.specs.Printing.{IsFit, SpansAreGood, drawn_frame, drawn_heights, drawn_sizes, drawn_widths, printed}
+use Rattle.tabled.specs.Writing.{wanted_lines}
 
 module _ (spans : List (Position × Extent)) (rows columns : ℕ) where
   pub by_extent : AreGood spans rows columns → SpansAreGood (extent_at spans) rows columns
@@ -107,6 +111,33 @@ module _ (settings : Settings) (rows : List (List (List ℕ))) (colors : Positio
       let end : track_at tracks (length tracks.sizes) ≡ track_at tracks columns = ap (track_at tracks) many in
       omega (arith, total, passed, end)
 
+  -- and that width is drawn
+  pub widths_passed : stored.widths ≡ None → (t : ℕ) → 2 ^ 64 ≤ slice_index (table_widths (sizing_of settings) columns rows) t → PassesMax (drawn_widths state)
+  widths_passed none t passes =
+      let least : List ℕ = table_widths (sizing_of settings) columns rows in
+      let inside : t < length least = inside_of least t passes in
+      let some : 0 < length least = omega arith in
+      let there : 0 < length rows = some_rows (sizing_of settings) columns rows some in
+      let counted : length least ≡ columns = length-table_widths (sizing_of settings) columns rows there in
+      let below : t < columns = omega arith in
+      let drawn : width t ≡ slice_index least t =
+      ap (λ kept. slice_index (unwrap_or kept (natural_widths (look_of settings) columns rows)) t) none ∙ ap (λ widths. slice_index widths t) (sym (widths_by_look settings columns rows)) in
+      let size : get_or (drawn_widths state) t 0 ≡ width t = get_or-map-range_with_len width 0 columns t t 0 below (omega arith) in
+      (t, omega (arith, size, drawn, passes))
+
+  pub heights_passed : stored.heights ≡ None → (t : ℕ) → 2 ^ 64 ≤ slice_index (table_heights (sizing_of settings) columns rows) t → PassesMax (drawn_heights state)
+  heights_passed none t passes =
+      let least : List ℕ = table_heights (sizing_of settings) columns rows in
+      let inside : t < length least = inside_of least t passes in
+      let some : 0 < length least = omega arith in
+      let there : 0 < columns = some_columns (sizing_of settings) columns rows some in
+      let counted : length least ≡ length rows = length-table_heights (sizing_of settings) columns rows there in
+      let below : t < length rows = omega arith in
+      let drawn : height t ≡ slice_index least t =
+      ap (λ kept. slice_index (unwrap_or kept (natural_heights (look_of settings) columns rows)) t) none ∙ ap (λ heights. slice_index heights t) (sym (heights_by_look settings columns rows)) in
+      let size : get_or (drawn_heights state) t 0 ≡ height t = get_or-map-range_with_len height 0 (length rows) t t 0 below (omega arith) in
+      (t, omega (arith, size, drawn, passes))
+
   pub heights_total : (other : ℕ → ℕ) → stored.heights ≡ None → (t : ℕ) → 2 ^ 64 ≤ slice_index (table_heights (sizing_of settings) columns rows) t → 2 ^ 64 ≤ line_count (sized settings other height columns (length rows))
   heights_total other none t passes =
       let least : List ℕ = table_heights (sizing_of settings) columns rows in
@@ -172,6 +203,12 @@ module _ (settings : Settings) (rows : List (List (List ℕ))) (colors : Positio
 
     pub is_printed : text_in given sizes n ≡ printed state
     is_printed = ap (λ given. text_in given sizes n) same ∙ ap (λ sizes. text_in settings sizes n) is ∙ ap (λ n. text_in settings (drawn_sizes state) n) counted
+
+    abbrev wanted_in : Settings → Stored → ℕ → (Place → Bool) → List ℕ
+    wanted_in given sizes n wants = wanted_text (look_of given) (size_at (stored_sizes sizes.widths)) (size_at (stored_sizes sizes.heights)) colors n rows wants
+
+    pub are_wanted : (wants : Place → Bool) → wanted_in given sizes n wants ≡ wanted_lines wants state
+    are_wanted wants = ap (λ given. wanted_in given sizes n wants) same ∙ ap (λ sizes. wanted_in settings sizes n wants) is ∙ ap (λ n. wanted_in settings (drawn_sizes state) n wants) counted
 
   -- where the spans are good a refused estimate is a table that doesn't fit
   pub refused_unfit : (fault : Fault) → AreGood settings.spans (length rows) columns → (fault ≡ Memory) ⊎ ((fault ≡ Range) × ¬ (InRange (drawn_frame state))) → (fault ≡ Memory) ⊎ IsFit state (Err fault)

@@ -1,5 +1,5 @@
 -- What a table takes as a whole, by its settings and sizes.
-use Rattle.std.proofs.Common.{◌≡◌, ◌==◌, ◌||◌, ◌+◌, ◌<◌, ◌≤◌, ◌^◌, ℕ, Bool, true, false, inl, inr, List, None, Option, Some, SomeIff, ap, sym, subst, refl, cond, ◌∙◌, arith, length, unwrap_or}
+use Rattle.std.proofs.Common.{◌≡◌, ◌==◌, ◌||◌, ◌+◌, ◌<◌, ◌≤◌, ◌^◌, ℕ, Bool, true, false, inl, inr, List, None, Option, Some, SomeIff, ap, sym, subst, refl, cond, ◌∙◌, arith, length, slice_index, unwrap_or}
 use Rattle.std.proofs.lemmas.Bool.{cases_lt}
 use Rattle.std.proofs.lemmas.Bool.Decides.{nat_tests}
 use Rattle.std.proofs.lemmas.List.FromFn.{length-map-range_with_len}
@@ -124,23 +124,27 @@ module _ (settings : Settings) (rows : List (List (List ℕ))) (colors : Positio
           ∙ ap (λ n. Some (unwrap_or stored.widths (table_widths (sizing_of settings) n rows))) counted
           ∙ ap (λ widths. Some (unwrap_or stored.widths widths)) (widths_by_look settings columns rows)
 
-      pub widths_refused : kept ≡ stored → now ≡ record kept { heights = Some empty } → (fault : Fault) → IsRefusal fault (FilledPass (least_sizes (sizing_of given) n rows) now) → IsRefusal fault (2 ^ 64 ≤ drawn_width state)
-      widths_refused copied set fault refused =
+      pub widths_refused_for : (P : Type 0) → (stored.widths ≡ None → (t : ℕ) → 2 ^ 64 ≤ slice_index (table_widths (sizing_of settings) columns rows) t → P)
+          → kept ≡ stored → now ≡ record kept { heights = Some empty } → (fault : Fault) → IsRefusal fault (FilledPass (least_sizes (sizing_of given) n rows) now) → IsRefusal fault P
+      widths_refused_for P passes_so copied set fault refused =
           let as_stored : FilledPass (least_sizes (sizing_of given) n rows) now → FilledPass (least_sizes (sizing_of settings) columns rows) (record stored { heights = Some empty }) = λ passes.
           subst (λ (n : ℕ). FilledPass (least_sizes (sizing_of settings) n rows) (record stored { heights = Some empty })) counted
           (subst (λ (given : Settings). FilledPass (least_sizes (sizing_of given) n rows) (record stored { heights = Some empty })) same
           (subst (λ (kept : Stored). FilledPass (least_sizes (sizing_of given) n rows) (record kept { heights = Some empty })) copied
           (subst (λ (now : Stored). FilledPass (least_sizes (sizing_of given) n rows) now) set passes))) in
-          elim refused as (λ _. IsRefusal fault (2 ^ 64 ≤ drawn_width state)) [
+          elim refused as (λ _. IsRefusal fault P) [
             | inl memory ↦ inl memory
             | inr range ↦ inr (
               range.0,
-              elim (as_stored range.1) as (λ _. 2 ^ 64 ≤ drawn_width state) [
-                | inl widths ↦ widths_total settings rows colors stored height widths.0 widths.1.0 widths.1.1
+              elim (as_stored range.1) as (λ _. P) [
+                | inl widths ↦ passes_so widths.0 widths.1.0 widths.1.1
                 | inr heights ↦ absurd (cc heights.0)
               ],
             )
           ]
+
+      pub widths_refused : kept ≡ stored → now ≡ record kept { heights = Some empty } → (fault : Fault) → IsRefusal fault (FilledPass (least_sizes (sizing_of given) n rows) now) → IsRefusal fault (2 ^ 64 ≤ drawn_width state)
+      widths_refused = widths_refused_for (2 ^ 64 ≤ drawn_width state) (widths_total settings rows colors stored height)
 
       pub heights_here : kept ≡ stored → now ≡ record kept { widths = Some empty } → (filled (least_sizes (sizing_of given) n rows) now).heights ≡ (drawn_sizes state).heights
       heights_here copied set =
@@ -150,20 +154,24 @@ module _ (settings : Settings) (rows : List (List (List ℕ))) (colors : Positio
           ∙ ap (λ n. Some (unwrap_or stored.heights (table_heights (sizing_of settings) n rows))) counted
           ∙ ap (λ heights. Some (unwrap_or stored.heights heights)) (heights_by_look settings columns rows)
 
-      pub heights_refused : kept ≡ stored → now ≡ record kept { widths = Some empty } → (fault : Fault) → IsRefusal fault (FilledPass (least_sizes (sizing_of given) n rows) now) → IsRefusal fault (2 ^ 64 ≤ drawn_height state)
-      heights_refused copied set fault refused =
+      pub heights_refused_for : (P : Type 0) → (stored.heights ≡ None → (t : ℕ) → 2 ^ 64 ≤ slice_index (table_heights (sizing_of settings) columns rows) t → P)
+          → kept ≡ stored → now ≡ record kept { widths = Some empty } → (fault : Fault) → IsRefusal fault (FilledPass (least_sizes (sizing_of given) n rows) now) → IsRefusal fault P
+      heights_refused_for P passes_so copied set fault refused =
           let as_stored : FilledPass (least_sizes (sizing_of given) n rows) now → FilledPass (least_sizes (sizing_of settings) columns rows) (record stored { widths = Some empty }) = λ passes.
           subst (λ (n : ℕ). FilledPass (least_sizes (sizing_of settings) n rows) (record stored { widths = Some empty })) counted
           (subst (λ (given : Settings). FilledPass (least_sizes (sizing_of given) n rows) (record stored { widths = Some empty })) same
           (subst (λ (kept : Stored). FilledPass (least_sizes (sizing_of given) n rows) (record kept { widths = Some empty })) copied
           (subst (λ (now : Stored). FilledPass (least_sizes (sizing_of given) n rows) now) set passes))) in
-          elim refused as (λ _. IsRefusal fault (2 ^ 64 ≤ drawn_height state)) [
+          elim refused as (λ _. IsRefusal fault P) [
             | inl memory ↦ inl memory
             | inr range ↦ inr (
               range.0,
-              elim (as_stored range.1) as (λ _. 2 ^ 64 ≤ drawn_height state) [
+              elim (as_stored range.1) as (λ _. P) [
                 | inl widths ↦ absurd (cc widths.0)
-                | inr heights ↦ heights_total settings rows colors stored width heights.0 heights.1.0 heights.1.1
+                | inr heights ↦ passes_so heights.0 heights.1.0 heights.1.1
               ],
             )
           ]
+
+      pub heights_refused : kept ≡ stored → now ≡ record kept { widths = Some empty } → (fault : Fault) → IsRefusal fault (FilledPass (least_sizes (sizing_of given) n rows) now) → IsRefusal fault (2 ^ 64 ≤ drawn_height state)
+      heights_refused = heights_refused_for (2 ^ 64 ≤ drawn_height state) (heights_total settings rows colors stored width)

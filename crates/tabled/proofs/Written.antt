@@ -1,5 +1,5 @@
 -- The answer of a table that is written line by line.
-use Rattle.std.proofs.Common.{◌≡◌, ◌≢◌, ◌==◌, ◌∷◌, Bool, true, false, arith, if◌then◌else◌, ◌⊎◌, inl, inr, ℕ, List, [], Option, Result, Ok, Err, append-nil, ap, length, refl, sym, subst, ◌∙◌}
+use Rattle.std.proofs.Common.{◌≡◌, ◌≢◌, ◌==◌, ◌∷◌, Bool, true, false, arith, if◌then◌else◌, ◌⊎◌, ℕ, List, [], Option, Result, Ok, Err, append-nil, ap, length, refl, sym, subst, ◌∙◌}
 use Rattle.std.specs.Prelude.{IfErr, IsErrOf, OnOk}
 use Rattle.std.specs.Io.KnownBytes.{Appends}
 use Rattle.std.proofs.lemmas.Bool.Decides.{nat_tests}

@@ -1,11 +1,13 @@
 -- What is said of a table that is written, also where each line is written as soon as it is made.
-use Rattle.std.specs.Prelude.{⊤, ◌==◌, if◌then◌else◌, ℕ, List, [], ◌∷◌, ◌++◌, Result, Ok, Err}
+use Rattle.std.specs.Prelude.{⊤, Bool, ◌==◌, if◌then◌else◌, ℕ, List, [], ◌∷◌, ◌++◌, Result, Ok, Err}
 use Rattle.grid_config_values.specs.declared.fault.Fault.{Fault}
 use Rattle.grid_config_values.specs.declared.fault.Fault.TheVariants.{Memory}
 use Rattle.grid_records_measure.specs.TextLines.{line_feed}
 use Rattle.tabled_output.specs.declared.writing.WriteFault.{WriteFault}
 use Rattle.tabled_steps.specs.States.{State}
-use Rattle.tabled.specs.Printing.{printed}
+use Rattle.papergrid.specs.Chosen.{chosen_text}
+use Rattle.papergrid.specs.Place.{Place}
+use Rattle.tabled.specs.Printing.{drawn_heights, drawn_widths, printed}
 use Rattle.tabled.specs.Totals.{drawn_height}
 use Rattle.tabled_compact.specs.Building.{writing_fault}
 use Rattle.tabled_compact.specs.declared.fault.BuildFault.{BuildFault}
@@ -27,6 +29,10 @@ abbrev pub build_answer : Result (Result (Unit {0}) WriteFault) Fault → Result
 build_answer (Ok (Ok done)) = Ok done
 build_answer (Ok (Err fault)) = Err (writing_fault fault)
 build_answer (Err fault) = Err (Table fault)
+
+-- the lines of its text that are wanted, by what they show, in turn, each with a line feed behind it
+abbrev pub wanted_lines : (Place → Bool) → State → List ℕ
+wanted_lines wants s = chosen_text s.look s.rows s.colors (drawn_widths s) (drawn_heights s) wants
 
 -- the text of a table, and a line feed behind its last line, where it has lines
 abbrev pub ended_text : State → List ℕ

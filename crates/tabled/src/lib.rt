@@ -3,13 +3,17 @@
 
 mod building;
 mod cells;
+pub mod grid;
 pub mod laws;
 mod layout;
 mod makers;
+pub mod settings;
 mod table;
 
 pub use building::BuildTable;
+pub use grid_config::{Border, Borders, Entity, Fault, Indent, Position, Sides};
 pub use layout::LayoutIterator;
+pub use papergrid::{Place, Wanted};
 pub use table::Table;
 pub use tabled_compact::{BuildFault, CompactTable, RowArray};
 pub use tabled_height::{
@@ -19,11 +23,14 @@ pub use tabled_iter::IterTable;
 pub use tabled_list::{Amount, Setting};
 pub use tabled_multiline::CompactMultilineConfig;
 pub use tabled_options::object::{Columns, Rows, Segment};
-pub use tabled_options::{Alignment, Margin, Padding, PaddingExpand, Span, Style, object};
+pub use tabled_options::{
+    Alignment, AlignmentStrategy, Margin, Padding, PaddingExpand, Span, Style, TrimStrategy, object,
+};
 pub use tabled_output::Counted;
 pub use tabled_size_dimension::SuffixLimit;
 pub use tabled_size_priority::{
-    Choice, Peaker, Priority, PriorityLeft, PriorityMax, PriorityMin, PriorityNone, PriorityRight,
+    Choice, Peaker, Priority, PriorityLeast, PriorityLeft, PriorityMax, PriorityMin, PriorityNone,
+    PriorityRight,
 };
 pub use tabled_steps::{CellOption, Max, Measurement, Min, Percent, TableOption};
 pub use tabled_text::{Builder, CellText, Tabled};

@@ -6,6 +6,7 @@ ghost use Rattle.grid_config_values.specs.declared.fault.Fault.TheVariants.{Memo
 ghost use Rattle.grid_config.specs.Looks.{look_of};
 ghost use Rattle.grid_config.specs.Settings.{IsEverywhere};
 ghost use Rattle.grid_records_rows.specs.Sources.{AreEquallyLong};
+ghost use Rattle.grid_records_traits.specs.Rows.{text_at};
 ghost use Rattle.grid_records_traits.specs.Sources.{texts_of_rows};
 ghost use Rattle.tabled.specs.Lending.{LendsConfig, LendsDimension, LendsRecords};
 ghost use Rattle.tabled.specs.Tables.{new_look, new_state, state_of};
@@ -14,9 +15,9 @@ ghost use Rattle.tabled_text.specs.Rows.{filled};
 ghost use Rattle.tabled_steps.specs.States.{Settles, Steps, column_count};
 
 use crate::cells::cells_of;
-use grid_config::{ColoredConfig, Entity, Fault, Sides, SpannedConfig};
+use grid_config::{ColoredConfig, Entity, Fault, Position, Sides, SpannedConfig};
 use grid_records_rows::{FromText, Text, VecRecords};
-use grid_records_traits::records::{ExactRecords, RecordColumns, RecordTexts};
+use grid_records_traits::records::{ExactRecords, PeekableRecords, RecordColumns, RecordTexts};
 use std::alloc::Global;
 use tabled_options::{Padding, Style};
 use tabled_size_dimension::CompleteDimension;
@@ -192,6 +193,13 @@ impl<T: FromText> Table<T> {
         ensures { ⟦<VecRecords<T> as RecordTexts>⟧.rows result.now ≡ (state_of T.text self.now).rows }
     {
         &self.records
+    }
+
+    /// The text of the cell at a place, and an empty one where there is none, as records answer.
+    pub fn get_text(&self, pos: Position) -> &str
+        ensures { result.now ≡ text_at (state_of T.text self.now).rows pos }
+    {
+        PeekableRecords::get_text(&self.records, pos)
     }
 
     /// The rows of cells, to be changed. The sizes stay kept.

@@ -1,3 +1,4 @@
 pub mod Styles
 pub mod Options
+pub mod Formatting
 pub mod Spanning

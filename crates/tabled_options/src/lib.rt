@@ -4,6 +4,7 @@
 
 mod alignment;
 mod compact;
+pub mod formatting;
 pub mod laws;
 mod margin;
 pub mod object;
@@ -12,6 +13,7 @@ mod span;
 mod style;
 
 pub use alignment::Alignment;
+pub use formatting::{AlignmentStrategy, TrimStrategy};
 pub use margin::Margin;
 pub use padding::{Padding, PaddingExpand};
 pub use span::Span;

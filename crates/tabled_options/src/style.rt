@@ -62,6 +62,15 @@ impl Style {
     }
 }
 
+/// The style of these glyphs.
+impl From<Borders<char>> for Style {
+    ghost from_gives = { λ borders style. style_borders style ≡ borders };
+
+    fn from(borders: Borders<char>) -> Style {
+        Style { borders }
+    }
+}
+
 /// Sets the glyphs of the boundaries. Does not allocate.
 impl<R: RecordTexts, D: KeptSizes> TableOption<R, ColoredConfig, D> for Style {
     ghost step = { λ style state outcome. looking (with_borders (style_borders style)) state ≡ outcome };

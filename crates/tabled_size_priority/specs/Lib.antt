@@ -7,4 +7,5 @@ pub mod Growing
 pub mod Turns
 pub mod Levels
 pub mod Choices
+pub mod Leasts
 pub mod Laws

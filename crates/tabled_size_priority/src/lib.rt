@@ -4,6 +4,7 @@
 
 mod choice;
 pub mod laws;
+mod least;
 mod left;
 mod max;
 mod min;
@@ -14,6 +15,7 @@ mod right;
 mod search;
 
 pub use choice::Choice;
+pub use least::PriorityLeast;
 pub use left::PriorityLeft;
 pub use max::PriorityMax;
 pub use min::PriorityMin;

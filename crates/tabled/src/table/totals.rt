@@ -1,9 +1,13 @@
 //! How much a table takes as a whole.
 ghost use Rattle.std.specs.Prelude.{◌≡◌, ◌≤◌, ◌^◌, ◌==◌, ◌||◌, IfErr, IfOk, Ok, length, true};
 ghost use Rattle.grid_records_estimate.specs.Sizes.{IsRefusal};
-ghost use Rattle.tabled.specs.Printing.{drawn_sizes};
+ghost use Rattle.grid_records_estimate.specs.Collecting.{PassesMax};
+ghost use Rattle.papergrid_picture.specs.Tables.{sizes_of};
+ghost use Rattle.tabled.specs.Printing.{drawn_heights, drawn_sizes, drawn_widths};
 ghost use Rattle.tabled.specs.Tables.{state_of};
 ghost use Rattle.tabled.specs.Totals.{drawn_height, drawn_width};
+ghost use Rattle.tabled_size_dimension.specs.Sizes.{size_at};
+ghost use Rattle.tabled_size_dimension.specs.Stored.{stored_sizes};
 ghost use Rattle.tabled_steps.specs.States.{column_count};
 ghost use Rattle.tabled_stripping.specs.Stripping.{stripped_state};
 
@@ -11,7 +15,9 @@ use crate::table::Table;
 use grid_config::Fault;
 use grid_records_estimate::Estimate;
 use grid_records_rows::FromText;
+use grid_records_traits::Dimension;
 use papergrid_fits::{total_height, total_width};
+use std::alloc::{AllocError, Global};
 use tabled_size_dimension::CompleteDimension;
 
 impl<T: FromText> Table<T> {
@@ -53,10 +59,31 @@ impl<T: FromText> Table<T> {
         }
     }
 
+    /// The widths of its columns as they are drawn: those that it keeps, and else the least. Nothing is changed,
+    /// and nothing kept. Refused as `Range` exactly where one of them passes `usize::MAX`, and as `Memory` where
+    /// allocation fails.
+    pub fn widths(&self) -> Result<Vec<usize>, Fault>
+        ensures widths { IfOk result (λ widths. widths.items ≡ drawn_widths (state_of T.text self.now)) }
+        ensures refused { IfErr result (λ fault. IsRefusal fault (PassesMax (drawn_widths (state_of T.text self.now)))) }
+    {
+        let sizes = self.sized_widths()?;
+        Ok(first_widths(self.alloc, &sizes, self.count_columns())?)
+    }
+
+    /// The heights of its rows as they are drawn, as `widths` tells the widths.
+    pub fn heights(&self) -> Result<Vec<usize>, Fault>
+        ensures heights { IfOk result (λ heights. heights.items ≡ drawn_heights (state_of T.text self.now)) }
+        ensures refused { IfErr result (λ fault. IsRefusal fault (PassesMax (drawn_heights (state_of T.text self.now)))) }
+    {
+        let sizes = self.sized_heights()?;
+        Ok(first_heights(self.alloc, &sizes, self.count_rows())?)
+    }
+
     // The widths that are kept, and else the least; no heights.
     fn sized_widths(&self) -> Result<CompleteDimension, Fault>
         ensures widths { IfOk result (λ sizes. sizes.widths ≡ (drawn_sizes (state_of T.text self.now)).widths) }
         ensures refused { IfErr result (λ fault. IsRefusal fault (2 ^ 64 ≤ drawn_width (state_of T.text self.now))) }
+        ensures passed { IfErr result (λ fault. IsRefusal fault (PassesMax (drawn_widths (state_of T.text self.now)))) }
     {
         let mut sizes = self.dimension.clone(self.alloc)?;
         // what is set is not estimated, so that no height refuses
@@ -69,6 +96,7 @@ impl<T: FromText> Table<T> {
     fn sized_heights(&self) -> Result<CompleteDimension, Fault>
         ensures heights { IfOk result (λ sizes. sizes.heights ≡ (drawn_sizes (state_of T.text self.now)).heights) }
         ensures refused { IfErr result (λ fault. IsRefusal fault (2 ^ 64 ≤ drawn_height (state_of T.text self.now))) }
+        ensures passed { IfErr result (λ fault. IsRefusal fault (PassesMax (drawn_heights (state_of T.text self.now)))) }
     {
         let mut sizes = self.dimension.clone(self.alloc)?;
         // what is set is not estimated, so that no width refuses
@@ -76,4 +104,34 @@ impl<T: FromText> Table<T> {
         sizes.estimate(self.alloc, &self.records, self.config.spanned())?;
         Ok(sizes)
     }
+}
+
+// The widths of the first columns.
+fn first_widths(
+    alloc: Global,
+    sizes: &CompleteDimension,
+    columns: usize,
+) -> Result<Vec<usize>, AllocError>
+    ensures { IfOk result (λ widths. widths.items ≡ sizes_of (size_at (stored_sizes sizes.now.widths)) columns) }
+{
+    let mut widths = Vec::new(alloc);
+    for column in 0..columns {
+        widths.push(sizes.get_width(column))?;
+    }
+    Ok(widths)
+}
+
+// The heights of the first rows.
+fn first_heights(
+    alloc: Global,
+    sizes: &CompleteDimension,
+    rows: usize,
+) -> Result<Vec<usize>, AllocError>
+    ensures { IfOk result (λ heights. heights.items ≡ sizes_of (size_at (stored_sizes sizes.now.heights)) rows) }
+{
+    let mut heights = Vec::new(alloc);
+    for row in 0..rows {
+        heights.push(sizes.get_height(row))?;
+    }
+    Ok(heights)
 }

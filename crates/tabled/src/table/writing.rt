@@ -4,7 +4,7 @@ ghost use Rattle.std.specs.Prelude.{◌≡◌, ◌≢◌, ◌⊎◌, [], Err, If
 ghost use Rattle.grid_config_values.specs.declared.fault.Fault.TheVariants.{Memory};
 ghost use Rattle.tabled.specs.Printing.{IsFit, printed};
 ghost use Rattle.tabled.specs.Tables.{state_of, state_under};
-ghost use Rattle.tabled.specs.Writing.{HasNoText, build_answer, ended_text};
+ghost use Rattle.tabled.specs.Writing.{HasNoText, build_answer, ended_text, wanted_lines};
 ghost use Rattle.tabled_compact.specs.Building.{BuildRefusal};
 ghost use Rattle.tabled_output.specs.Counts.{FailsIff, OnlyWrites, TakesNothingIff, inner_of};
 ghost use Rattle.tabled_output.specs.Pieces.{Passes};
@@ -13,7 +13,7 @@ ghost use Rattle.tabled_output.specs.Streams.{AppendsFront};
 use crate::table::Table;
 use grid_config::{Fault, SpannedConfig};
 use grid_records_rows::FromText;
-use papergrid::PeekableGrid;
+use papergrid::{PeekableGrid, Wanted};
 use std::io::Write;
 use tabled_compact::BuildFault;
 use tabled_output::{Counted, WriteFault, write_piece};
@@ -53,6 +53,44 @@ impl<T: FromText> Table<T> {
         ensures only_writes { OnlyWrites writer.old writer.new }
     {
         answer(self.write_ended(self.config.spanned(), writer))
+    }
+
+    /// Writes the lines of the table whose place is wanted, in turn, each with a line feed behind it. Each is made
+    /// once, and the others are not made; those that are wanted reach the writer as `build` hands them on. It
+    /// gives up as `build` does.
+    pub fn build_lines<W: Write, K: Wanted>(
+        &self,
+        writer: &mut Counted<W>,
+        wanted: &K,
+    ) -> Result<(), BuildFault>
+        ensures whole { OnOk result (Appends (W.contents (inner_of writer.old)) (W.contents (inner_of writer.new)) (wanted_lines (K.wants wanted.now) (state_of T.text self.now))) }
+        ensures front { IfErr result (λ fault. ¬ (HasNoText fault) → AppendsFront (W.contents (inner_of writer.old)) (W.contents (inner_of writer.new)) (wanted_lines (K.wants wanted.now) (state_of T.text self.now))) }
+        ensures untouched { IfErr result (λ fault. HasNoText fault → writer.new ≡ writer.old) }
+        ensures nothing { wanted_lines (K.wants wanted.now) (state_of T.text self.now) ≡ [] → writer.new ≡ writer.old }
+        ensures fits { OnOk result (IsFit (state_of T.text self.now) (Ok tt)) }
+        ensures table { IfErr result (BuildRefusal (IsFit (state_of T.text self.now) (Ok tt)) (IsFit (state_of T.text self.now))) }
+        ensures write { FailsIff (IsErrOf result BuildFault.Write) writer.old writer.new }
+        ensures write_zero { TakesNothingIff (IsErrOf result BuildFault.WriteZero) writer.old writer.new }
+        ensures only_writes { OnlyWrites writer.old writer.new }
+    {
+        answer(self.write_wanted(self.config.spanned(), writer, wanted))
+    }
+
+    // Writes its wanted lines under these settings in place of its own.
+    fn write_wanted<W: Write, K: Wanted>(
+        &self,
+        config: &SpannedConfig,
+        writer: &mut Counted<W>,
+        wanted: &K,
+    ) -> Result<Result<(), WriteFault>, Fault>
+        ensures text { Passes W.contents (wanted_lines (K.wants wanted.now) (state_under T.text self.now config.now)) result [] writer.old writer.new }
+        ensures untouched { IfErr result (λ fault. fault ≢ Memory → writer.new ≡ writer.old) }
+        ensures fits { OnOk result (IsFit (state_under T.text self.now config.now) (Ok tt)) }
+        ensures refused { IfErr result (λ fault. (fault ≡ Memory) ⊎ IsFit (state_under T.text self.now config.now) (Err fault)) }
+    {
+        let sizes = self.fitting_sizes(config)?;
+        let grid = PeekableGrid::new(&self.records, config, sizes, self.config.get_colors());
+        Ok(grid.write_lines(self.alloc, writer, wanted)?)
     }
 
     // Writes its text under these settings in place of its own, line by line.

@@ -3,9 +3,13 @@ use Rattle.std.proofs.lemmas.Result.{err_from_is_err_and}
 use Rattle.grid_config_values.specs.Settings.{value_at}
 use Rattle.grid_records_rows.specs.Sources.{columns_of}
 use Rattle.grid_records_traits.specs.Sources.{texts_of_rows}
+use Rattle.grid_records_estimate.specs.Collecting.{PassesMax}
+use Rattle.tabled.specs.Printing.{drawn_widths}
+use Rattle.tabled.specs.Tables.{state_of}
 use Rattle.tabled_size_dimension.specs.Stored.{Stored}
 use Rattle.tabled_steps.proofs.Changing.{count_texts}
-use Rattle.tabled.proofs.TotalWidths.{widths_here, widths_refused}
+use Rattle.tabled.proofs.Fitting.{widths_passed}
+use Rattle.tabled.proofs.TotalWidths.{widths_here, widths_refused, widths_refused_for}
 use Rattle.tabled.proofs.table.Table.sized_widths.Goals as goal
 
 pub returns-in_err-estimate-clause-refused : goal.returns-in_err-estimate-clause-refused
@@ -24,3 +28,14 @@ returns-clause-widths g c =
     ap (λ (sizes : Stored). sizes.widths) c.in_ok-estimate.ensures.ok
     ∙ widths_here table.config.settings (texts_of_rows g.T.Cell.text rows) (value_at table.config.colors) table.dimension c.spanned.result.now (columns_of rows) c.spanned.ensures (sym (count_texts g.T.Cell.text rows))
     c.in_ok-sizes.sizes c.set_heights.new.self c.new.result.items c.in_ok-sizes.ensures.sizes c.set_heights.ensures
+
+pub returns-in_err-estimate-clause-passed : goal.returns-in_err-estimate-clause-passed
+returns-in_err-estimate-clause-passed g c =
+    let table = c.args.self.now in
+    let rows = table.records.rows.items in
+    let texts = texts_of_rows g.T.Cell.text rows in
+    let p = err_from_is_err_and c.from_residual-in_err-estimate.result c.from_residual-in_err-estimate.ensures.1 in
+    rw (p.1, p.2)
+    (widths_refused_for table.config.settings texts (value_at table.config.colors) table.dimension c.spanned.result.now (columns_of rows) c.spanned.ensures (sym (count_texts g.T.Cell.text rows))
+    c.in_ok-sizes.sizes c.set_heights.new.self c.new.result.items (PassesMax (drawn_widths (state_of g.T.Cell.text table))) (widths_passed table.config.settings texts (value_at table.config.colors) table.dimension)
+    c.in_ok-sizes.ensures.sizes c.set_heights.ensures c.in_err-estimate.field-0.0 c.in_err-estimate.ensures.refused)

@@ -1,0 +1,47 @@
+-- The lines of a table that are wanted, by what they show, each with the line feed that ends it.
+use Rattle.std.specs.Prelude.{ℕ, ◌-◌, Bool, List, [], ◌∷◌, ◌++◌, flat_map, if◌then◌else◌, Option, Result, Ok, Err}
+use Rattle.std.specs.List.{range_with_len}
+use Rattle.grid_config.specs.Colors.{Color}
+use Rattle.grid_config.specs.Looks.{Look}
+use Rattle.grid_config_values.specs.declared.position.Position.{Position}
+use Rattle.grid_records_measure.specs.TextLines.{line_feed}
+use Rattle.papergrid_picture.specs.Frame.{Place as Drawn, Boundary, Outside, Row, frame_of, line_count, place}
+use Rattle.papergrid_picture.specs.Tables.{table_line}
+use Rattle.papergrid_print.specs.Sheets.{Sheet, place_line, row_tracks}
+use Rattle.papergrid_print.specs.declared.stop.Stop.{Stop}
+use Rattle.papergrid_print.specs.declared.stop.Stop.TheVariants.{Memory, Writer}
+use Rattle.papergrid_print.specs.declared.wanted.Place.{Place}
+use Rattle.papergrid_print.specs.declared.wanted.Place.TheVariants.{Boundary as OneBoundary, Row as OneRow, Outside as Margin}
+use Rattle.tabled_output.specs.Pieces.{HasBegun, HasPassed, HasStopped}
+use Rattle.tabled_output.specs.declared.counted.Counted.{Counted}
+
+-- what a line of a picture shows, by the names of programs
+abbrev pub shown : Drawn → Place
+shown (Boundary i) = OneBoundary i
+shown (Row i) = OneRow i
+shown Outside = Margin
+
+-- bytes with a line feed behind them, where they are wanted
+abbrev pub ended_where : Bool → List ℕ → List ℕ
+ended_where wanted bytes = if wanted then bytes ++ line_feed ∷ [] else []
+
+-- the wanted lines of a table in turn, each with a line feed behind it
+abbrev pub chosen_text : Look → List (List (List ℕ)) → (Position → Option Color) → List ℕ → List ℕ → (Place → Bool) → List ℕ
+chosen_text look rows colors widths heights wants =
+    let frame = frame_of look widths heights in
+    flat_map (λ y. ended_where (wants (shown (place frame.rows y))) (table_line look rows colors widths heights y)) (range_with_len 0 (line_count frame))
+
+module _ (sheet : Sheet) (wants : Place → Bool) where
+  -- what is written of line y
+  abbrev pub chosen_line : ℕ → List ℕ
+  chosen_line y = ended_where (wants (shown (place (row_tracks sheet) y))) (place_line sheet y)
+
+  -- and of the lines from one on to another
+  abbrev pub chosen_lines : ℕ → ℕ → List ℕ
+  chosen_lines from to = flat_map chosen_line (range_with_len from (to - from))
+
+-- a text is written, or a front of it for want of memory, or till the writer gave up
+abbrev pub Chooses : {T A : Type 0} → (T → Option (List ℕ)) → List ℕ → Result A Stop → Counted T → Counted T → Type 0
+Chooses contents text (Ok _) before after = HasPassed contents text [] before after
+Chooses contents text (Err Memory) before after = HasBegun contents text before after
+Chooses contents text (Err (Writer fault)) before after = HasStopped contents text fault before after
