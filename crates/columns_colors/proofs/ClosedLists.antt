@@ -17,11 +17,11 @@ ClosedRow row = IsClosed row.1
 
 found-closed : (rows : List (List ℕ × Color)) (test : List ℕ × Color → Bool) → AllByRecursion ClosedRow rows → IfSome (option_map (λ (row : List ℕ × Color). row.1) (find test rows)) IsClosed
 found-closed [] test all = tt
-found-closed (row ∷ rows) test all = by (test row)
+found-closed (row ∷ rows) test all = by (found-closed rows test all.1) (test row)
   where
-    by : (b : Bool) → IfSome (option_map (λ (row : List ℕ × Color). row.1) (if b then Some row else find test rows)) IsClosed
-    by true = all.0
-    by false = found-closed rows test all.1
+    by : IfSome (option_map (λ (row : List ℕ × Color). row.1) (find test rows)) IsClosed → (b : Bool) → IfSome (option_map (λ (row : List ℕ × Color). row.1) (if b then Some row else find test rows)) IsClosed
+    by others true = all.0
+    by others false = others
 
 given-closed : (column : Option ℕ) (color : Option Color) → IfSome color IsClosed → IfSome (given_of column color) ClosedItem
 given-closed None color all = tt

@@ -47,16 +47,4 @@ closed prefix suffix first second before behind clears = record {
 -- each by computation
 pub names-close : AllByRecursion (λ (row : List ℕ × Color). IsClosed row.1) named_colors
 unfolding pieces first_pieces front at_escape sequence_front opened control_from string_from escape_from applied after_parameters plain_attributes digits chars encode
-names-close = (
-  closed (codes "\u{1b}[30m") (codes "\u{1b}[39m") refl refl (record { whole = ((λ e. cc e), tt); no_text = ((λ e. cc e), tt) }) (record { whole = ((λ e. cc e), tt); no_text = ((λ e. cc e), tt) }) (record { from_plain = refl; from_style = refl }),
-  closed (codes "\u{1b}[31m") (codes "\u{1b}[39m") refl refl (record { whole = ((λ e. cc e), tt); no_text = ((λ e. cc e), tt) }) (record { whole = ((λ e. cc e), tt); no_text = ((λ e. cc e), tt) }) (record { from_plain = refl; from_style = refl }),
-  closed (codes "\u{1b}[32m") (codes "\u{1b}[39m") refl refl (record { whole = ((λ e. cc e), tt); no_text = ((λ e. cc e), tt) }) (record { whole = ((λ e. cc e), tt); no_text = ((λ e. cc e), tt) }) (record { from_plain = refl; from_style = refl }),
-  closed (codes "\u{1b}[33m") (codes "\u{1b}[39m") refl refl (record { whole = ((λ e. cc e), tt); no_text = ((λ e. cc e), tt) }) (record { whole = ((λ e. cc e), tt); no_text = ((λ e. cc e), tt) }) (record { from_plain = refl; from_style = refl }),
-  closed (codes "\u{1b}[34m") (codes "\u{1b}[39m") refl refl (record { whole = ((λ e. cc e), tt); no_text = ((λ e. cc e), tt) }) (record { whole = ((λ e. cc e), tt); no_text = ((λ e. cc e), tt) }) (record { from_plain = refl; from_style = refl }),
-  closed (codes "\u{1b}[35m") (codes "\u{1b}[39m") refl refl (record { whole = ((λ e. cc e), tt); no_text = ((λ e. cc e), tt) }) (record { whole = ((λ e. cc e), tt); no_text = ((λ e. cc e), tt) }) (record { from_plain = refl; from_style = refl }),
-  closed (codes "\u{1b}[36m") (codes "\u{1b}[39m") refl refl (record { whole = ((λ e. cc e), tt); no_text = ((λ e. cc e), tt) }) (record { whole = ((λ e. cc e), tt); no_text = ((λ e. cc e), tt) }) (record { from_plain = refl; from_style = refl }),
-  closed (codes "\u{1b}[37m") (codes "\u{1b}[39m") refl refl (record { whole = ((λ e. cc e), tt); no_text = ((λ e. cc e), tt) }) (record { whole = ((λ e. cc e), tt); no_text = ((λ e. cc e), tt) }) (record { from_plain = refl; from_style = refl }),
-  closed (codes "\u{1b}[1m") (codes "\u{1b}[22m") refl refl (record { whole = ((λ e. cc e), tt); no_text = ((λ e. cc e), tt) }) (record { whole = ((λ e. cc e), tt); no_text = ((λ e. cc e), tt) }) (record { from_plain = refl; from_style = refl }),
-  closed (codes "\u{1b}[4m") (codes "\u{1b}[24m") refl refl (record { whole = ((λ e. cc e), tt); no_text = ((λ e. cc e), tt) }) (record { whole = ((λ e. cc e), tt); no_text = ((λ e. cc e), tt) }) (record { from_plain = refl; from_style = refl }),
-  tt,
-)
+names-close = (closed (codes "\u{1b}[30m") (codes "\u{1b}[39m") refl refl (record { whole = ((λ e. cc e), tt); no_text = ((λ e. cc e), tt) }) (record { whole = ((λ e. cc e), tt); no_text = ((λ e. cc e), tt) }) (record { from_plain = refl; from_style = refl }), (closed (codes "\u{1b}[31m") (codes "\u{1b}[39m") refl refl (record { whole = ((λ e. cc e), tt); no_text = ((λ e. cc e), tt) }) (record { whole = ((λ e. cc e), tt); no_text = ((λ e. cc e), tt) }) (record { from_plain = refl; from_style = refl }), (closed (codes "\u{1b}[32m") (codes "\u{1b}[39m") refl refl (record { whole = ((λ e. cc e), tt); no_text = ((λ e. cc e), tt) }) (record { whole = ((λ e. cc e), tt); no_text = ((λ e. cc e), tt) }) (record { from_plain = refl; from_style = refl }), (closed (codes "\u{1b}[33m") (codes "\u{1b}[39m") refl refl (record { whole = ((λ e. cc e), tt); no_text = ((λ e. cc e), tt) }) (record { whole = ((λ e. cc e), tt); no_text = ((λ e. cc e), tt) }) (record { from_plain = refl; from_style = refl }), (closed (codes "\u{1b}[34m") (codes "\u{1b}[39m") refl refl (record { whole = ((λ e. cc e), tt); no_text = ((λ e. cc e), tt) }) (record { whole = ((λ e. cc e), tt); no_text = ((λ e. cc e), tt) }) (record { from_plain = refl; from_style = refl }), (closed (codes "\u{1b}[35m") (codes "\u{1b}[39m") refl refl (record { whole = ((λ e. cc e), tt); no_text = ((λ e. cc e), tt) }) (record { whole = ((λ e. cc e), tt); no_text = ((λ e. cc e), tt) }) (record { from_plain = refl; from_style = refl }), (closed (codes "\u{1b}[36m") (codes "\u{1b}[39m") refl refl (record { whole = ((λ e. cc e), tt); no_text = ((λ e. cc e), tt) }) (record { whole = ((λ e. cc e), tt); no_text = ((λ e. cc e), tt) }) (record { from_plain = refl; from_style = refl }), (closed (codes "\u{1b}[37m") (codes "\u{1b}[39m") refl refl (record { whole = ((λ e. cc e), tt); no_text = ((λ e. cc e), tt) }) (record { whole = ((λ e. cc e), tt); no_text = ((λ e. cc e), tt) }) (record { from_plain = refl; from_style = refl }), (closed (codes "\u{1b}[1m") (codes "\u{1b}[22m") refl refl (record { whole = ((λ e. cc e), tt); no_text = ((λ e. cc e), tt) }) (record { whole = ((λ e. cc e), tt); no_text = ((λ e. cc e), tt) }) (record { from_plain = refl; from_style = refl }), (closed (codes "\u{1b}[4m") (codes "\u{1b}[24m") refl refl (record { whole = ((λ e. cc e), tt); no_text = ((λ e. cc e), tt) }) (record { whole = ((λ e. cc e), tt); no_text = ((λ e. cc e), tt) }) (record { from_plain = refl; from_style = refl }), tt))))))))))
