@@ -4,26 +4,26 @@ use Rattle.std.specs.Prelude.{find, length, nat_lt}
 use Rattle.std.specs.List.{AllByRecursion, after_first, before_first, list_any, position_or_len, slice_split}
 use Rattle.std.specs.Str.{bytes_eq}
 use Rattle.grid_config_colors.specs.Colors.{Color}
-use Rattle.columns_colors.specs.Closed.{IsClosed}
+use Rattle.papergrid_colors.specs.ClosingColors.{IsClosing}
 use Rattle.columns_colors.specs.Listed.{column_of, given_of, is_comma, is_equals, listed_color, listed_colors, more, named, with_item}
 use Rattle.columns_colors.specs.Names.{named_colors}
 use Rattle.columns_colors.proofs.ClosedNames.{names-close}
 
 abbrev ClosedItem : ℕ × Color → Type 0
-ClosedItem given = IsClosed given.1
+ClosedItem given = IsClosing given.1
 
 abbrev ClosedRow : List ℕ × Color → Type 0
-ClosedRow row = IsClosed row.1
+ClosedRow row = IsClosing row.1
 
-found-closed : (rows : List (List ℕ × Color)) (test : List ℕ × Color → Bool) → AllByRecursion ClosedRow rows → IfSome (option_map (λ (row : List ℕ × Color). row.1) (find test rows)) IsClosed
+found-closed : (rows : List (List ℕ × Color)) (test : List ℕ × Color → Bool) → AllByRecursion ClosedRow rows → IfSome (option_map (λ (row : List ℕ × Color). row.1) (find test rows)) IsClosing
 found-closed [] test all = tt
 found-closed (row ∷ rows) test all = by (found-closed rows test all.1) (test row)
   where
-    by : IfSome (option_map (λ (row : List ℕ × Color). row.1) (find test rows)) IsClosed → (b : Bool) → IfSome (option_map (λ (row : List ℕ × Color). row.1) (if b then Some row else find test rows)) IsClosed
+    by : IfSome (option_map (λ (row : List ℕ × Color). row.1) (find test rows)) IsClosing → (b : Bool) → IfSome (option_map (λ (row : List ℕ × Color). row.1) (if b then Some row else find test rows)) IsClosing
     by others true = all.0
     by others false = others
 
-given-closed : (column : Option ℕ) (color : Option Color) → IfSome color IsClosed → IfSome (given_of column color) ClosedItem
+given-closed : (column : Option ℕ) (color : Option Color) → IfSome color IsClosing → IfSome (given_of column color) ClosedItem
 given-closed None color all = tt
 given-closed (Some column) None all = tt
 given-closed (Some column) (Some color) all = all

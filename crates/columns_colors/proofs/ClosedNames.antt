@@ -16,7 +16,7 @@ use Rattle.ansi_scan.proofs.Existence.{ArePiecesOf-pieces}
 use Rattle.ansi_str_text.specs.StyledText.{style_after_all}
 use Rattle.grid_config_colors.specs.Closing.{AreSequences, Clears}
 use Rattle.grid_config_colors.specs.Colors.{Color}
-use Rattle.columns_colors.specs.Closed.{IsClosed}
+use Rattle.papergrid_colors.specs.ClosingColors.{IsClosing}
 use Rattle.columns_colors.specs.Names.{named_colors, sequences}
 
 -- texts of ASCII
@@ -29,7 +29,7 @@ ascii bytes all = IsUtf8-from_ascii bytes (IsAscii-from_all bytes (All-from_recu
 
 -- a colour of two such texts, by what its pieces do
 closed : (prefix suffix : List ℕ) → list_all (λ b. nat_lt b 128) prefix ≡ true → list_all (λ b. nat_lt b 128) suffix ≡ true → AreSequences (pieces prefix) → AreSequences (pieces suffix)
-    → Clears (style_after_all plain_attributes (pieces prefix)) (pieces suffix) → IsClosed (sequences prefix suffix)
+    → Clears (style_after_all plain_attributes (pieces prefix)) (pieces suffix) → IsClosing (sequences prefix suffix)
 closed prefix suffix first second before behind clears = record {
   prefix_text = ascii prefix first;
   suffix_text = ascii suffix second;
@@ -45,6 +45,6 @@ closed prefix suffix first second before behind clears = record {
 }
 
 -- each by computation
-pub names-close : AllByRecursion (λ (row : List ℕ × Color). IsClosed row.1) named_colors
+pub names-close : AllByRecursion (λ (row : List ℕ × Color). IsClosing row.1) named_colors
 unfolding pieces first_pieces front at_escape sequence_front opened control_from string_from escape_from applied after_parameters plain_attributes digits chars encode
 names-close = (closed (codes "\u{1b}[30m") (codes "\u{1b}[39m") refl refl (record { whole = ((λ e. cc e), tt); no_text = ((λ e. cc e), tt) }) (record { whole = ((λ e. cc e), tt); no_text = ((λ e. cc e), tt) }) (record { from_plain = refl; from_style = refl }), (closed (codes "\u{1b}[31m") (codes "\u{1b}[39m") refl refl (record { whole = ((λ e. cc e), tt); no_text = ((λ e. cc e), tt) }) (record { whole = ((λ e. cc e), tt); no_text = ((λ e. cc e), tt) }) (record { from_plain = refl; from_style = refl }), (closed (codes "\u{1b}[32m") (codes "\u{1b}[39m") refl refl (record { whole = ((λ e. cc e), tt); no_text = ((λ e. cc e), tt) }) (record { whole = ((λ e. cc e), tt); no_text = ((λ e. cc e), tt) }) (record { from_plain = refl; from_style = refl }), (closed (codes "\u{1b}[33m") (codes "\u{1b}[39m") refl refl (record { whole = ((λ e. cc e), tt); no_text = ((λ e. cc e), tt) }) (record { whole = ((λ e. cc e), tt); no_text = ((λ e. cc e), tt) }) (record { from_plain = refl; from_style = refl }), (closed (codes "\u{1b}[34m") (codes "\u{1b}[39m") refl refl (record { whole = ((λ e. cc e), tt); no_text = ((λ e. cc e), tt) }) (record { whole = ((λ e. cc e), tt); no_text = ((λ e. cc e), tt) }) (record { from_plain = refl; from_style = refl }), (closed (codes "\u{1b}[35m") (codes "\u{1b}[39m") refl refl (record { whole = ((λ e. cc e), tt); no_text = ((λ e. cc e), tt) }) (record { whole = ((λ e. cc e), tt); no_text = ((λ e. cc e), tt) }) (record { from_plain = refl; from_style = refl }), (closed (codes "\u{1b}[36m") (codes "\u{1b}[39m") refl refl (record { whole = ((λ e. cc e), tt); no_text = ((λ e. cc e), tt) }) (record { whole = ((λ e. cc e), tt); no_text = ((λ e. cc e), tt) }) (record { from_plain = refl; from_style = refl }), (closed (codes "\u{1b}[37m") (codes "\u{1b}[39m") refl refl (record { whole = ((λ e. cc e), tt); no_text = ((λ e. cc e), tt) }) (record { whole = ((λ e. cc e), tt); no_text = ((λ e. cc e), tt) }) (record { from_plain = refl; from_style = refl }), (closed (codes "\u{1b}[1m") (codes "\u{1b}[22m") refl refl (record { whole = ((λ e. cc e), tt); no_text = ((λ e. cc e), tt) }) (record { whole = ((λ e. cc e), tt); no_text = ((λ e. cc e), tt) }) (record { from_plain = refl; from_style = refl }), (closed (codes "\u{1b}[4m") (codes "\u{1b}[24m") refl refl (record { whole = ((λ e. cc e), tt); no_text = ((λ e. cc e), tt) }) (record { whole = ((λ e. cc e), tt); no_text = ((λ e. cc e), tt) }) (record { from_plain = refl; from_style = refl }), tt))))))))))

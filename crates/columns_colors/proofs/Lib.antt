@@ -1,3 +1,3 @@
 pub mod NameLemmas
 mod ClosedNames
-mod ClosedLists
+pub mod ClosedLists

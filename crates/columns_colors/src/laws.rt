@@ -1,14 +1,14 @@
 //! Laws of lists of colours, and lists worked by hand. The functions do nothing.
 ghost use Rattle.std.specs.Prelude.{◌≡◌, ◌∷◌, ℕ, List, [], None, Some, IfSome, codes};
 ghost use Rattle.std.specs.List.{AllByRecursion};
-ghost use Rattle.columns_colors.specs.Closed.{IsClosed};
+ghost use Rattle.papergrid_colors.specs.ClosingColors.{IsClosing};
 ghost use Rattle.columns_colors.specs.Listed.{listed_colors};
 ghost use Rattle.columns_colors.specs.Names.{named_colors, sequences};
 
 /// The colours that have names close, and so does each colour of a list.
 pub fn named_colors_close()
-    ensures names { AllByRecursion (λ row. IsClosed row.1) named_colors }
-    ensures listed { (list : List ℕ) → IfSome (listed_colors list) (AllByRecursion (λ given. IsClosed given.1)) }
+    ensures names { AllByRecursion (λ row. IsClosing row.1) named_colors }
+    ensures listed { (list : List ℕ) → IfSome (listed_colors list) (AllByRecursion (λ given. IsClosing given.1)) }
 {}
 
 /// Lists that name colours.

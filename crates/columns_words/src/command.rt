@@ -1,7 +1,7 @@
 //! The command, with its options and the texts of its help.
 ghost use Rattle.std.specs.Prelude.{◌≡◌, IfOk, codes, false};
 ghost use Rattle.clap.specs.Words.{app_of, rule_of};
-ghost use Rattle.columns_words.specs.Command.{IsColumns, IsOfNames, flag_rule, width_rule};
+ghost use Rattle.columns_words.specs.Command.{IsColumns, IsOfNames, color_rule, flag_rule, width_rule};
 ghost use Rattle.columns_words.specs.Names.{priority_names, style_names};
 
 use clap::builder::ValueParser;
@@ -27,11 +27,17 @@ Examples:
           a table of two rows, with lines of -, | and +
   columns --width 40 --keep-words --style modern < notes.tsv
           a table narrowed to 40 columns, its lines broken between words
+  columns --color 0=bold,2=red < notes.tsv
+          a table whose first column is bold and whose third is red
 
 Exit status:
   0  the table, this help or the version was printed
   1  reading, the text or printing is at fault: a line on standard error says how
   2  the words are at fault: the text on standard error says how";
+
+const COLOR_HELP: &str = "\
+Colour columns: a list as 0=red,2=bold, the first column 0, of black, red,
+green, yellow, blue, magenta, cyan, white, bold, underline";
 
 /// The command: its options, and the values that each takes.
 pub fn command<'a>(alloc: Global) -> Result<Command<'a>, AllocError>
@@ -46,7 +52,8 @@ pub fn command<'a>(alloc: Global) -> Result<Command<'a>, AllocError>
         .arg(keep_words(alloc))?
         .arg(priority(alloc))?
         .arg(style(alloc))?
-        .arg(streamed(alloc))
+        .arg(streamed(alloc))?
+        .arg(color(alloc))
 }
 
 // How wide the table may be, in columns.
@@ -121,4 +128,17 @@ fn streamed<'a>(alloc: Global) -> Arg<'a>
         .long("streamed")
         .action(ArgAction::SetTrue)
         .help("Print a streamed table: as wide as its text, by --style alone")
+}
+
+// The colours of columns.
+fn color<'a>(alloc: Global) -> Arg<'a>
+    ensures rule { rule_of result ≡ color_rule }
+    ensures global { result.global ≡ false }
+{
+    Arg::new(alloc, "color")
+        .long("color")
+        .value_name("LIST")
+        .action(ArgAction::Set)
+        .value_parser(ValueParser::String)
+        .help(COLOR_HELP)
 }
