@@ -4,8 +4,8 @@ use Rattle.std.specs.List.{AllByRecursion}
 use Rattle.std.proofs.lemmas.List.Elements.{All-from_recursion}
 use Rattle.clap.specs.Simple.{matches_of}
 use Rattle.clap.specs.Walk.{first_of}
-use Rattle.columns_colors.specs.Listed.{listed_colors}
-use Rattle.columns_colors.proofs.ClosedLists.{lists-close}
+use Rattle.columns_color_list.specs.Listed.{listed_colors}
+use Rattle.columns_color_list.proofs.ClosedLists.{lists-close}
 use Rattle.columns_options.specs.ColumnColors.{AllClose}
 use Rattle.columns_options.specs.declared.options.Options.{Options}
 use Rattle.columns_words.specs.Asking.{IsAnswer, colors_asked}

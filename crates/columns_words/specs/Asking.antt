@@ -7,7 +7,7 @@ use Rattle.clap.specs.Words.{Accepts, App, IsAmong, Text, fault_of, first_of, ma
 use Rattle.clap.specs.declared.builder.value_parser.ValueParser.TheVariants.{Unsigned}
 use Rattle.clap.specs.declared.error.kind.ErrorKind.{ErrorKind}
 use Rattle.clap.specs.declared.error.kind.ErrorKind.TheVariants.{DisplayHelp, DisplayVersion}
-use Rattle.columns_colors.specs.Listed.{listed_colors}
+use Rattle.columns_color_list.specs.Listed.{listed_colors}
 use Rattle.columns_options.specs.declared.options.Options.{Options}
 use Rattle.columns_options.specs.Settings.{settings_with}
 use Rattle.columns_words.specs.Command.{IsColumns}

@@ -1,7 +1,7 @@
 //! Command lines worked by hand: what the command makes of their words. The functions do nothing.
 ghost use Rattle.std.specs.Prelude.{◌≡◌, ◌∷◌, [], Some, None, codes};
 ghost use Rattle.clap.specs.declared.error.kind.ErrorKind.TheVariants.{ArgumentConflict, DisplayHelp, DisplayVersion, InvalidValue, UnknownArgument, ValueValidation};
-ghost use Rattle.columns_colors.specs.Names.{sequences};
+ghost use Rattle.columns_color_list.specs.Names.{sequences};
 ghost use Rattle.columns_words.specs.Asking.{colors_asked, number};
 ghost use Rattle.columns_words.specs.Command.{IsColumns};
 ghost use Rattle.columns_words.specs.Names.{named, priorities, styles};

@@ -7,7 +7,7 @@ use crate::command::command;
 use crate::names::{priority_named, style_named};
 use clap::error::ErrorKind;
 use clap::{ArgMatches, Error};
-use columns_colors::colors_of;
+use columns_color_list::colors_of;
 use columns_options::Options;
 use grid_config::ANSIBuf;
 use std::alloc::{AllocError, Global};

@@ -1,6 +1,6 @@
 use Rattle.std.proofs.Common.{◌≡◌, ◌≤◌, take, fold, Some, IfSome}
-use Rattle.columns_colors.specs.Listed.{with_digit}
-use Rattle.columns_colors.proofs.columns.column_of.Given as goal
+use Rattle.columns_color_list.specs.Listed.{with_digit}
+use Rattle.columns_color_list.proofs.columns.column_of.Given as goal
 
 abbrev pub invariant-loop-byte : goal.invariant-loop-byte
 invariant-loop-byte l =

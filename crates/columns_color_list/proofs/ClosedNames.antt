@@ -17,7 +17,7 @@ use Rattle.ansi_str_text.specs.StyledText.{style_after_all}
 use Rattle.grid_config_colors.specs.Closing.{AreSequences, Clears}
 use Rattle.grid_config_colors.specs.Colors.{Color}
 use Rattle.papergrid_colors.specs.ClosingColors.{IsClosing}
-use Rattle.columns_colors.specs.Names.{named_colors, sequences}
+use Rattle.columns_color_list.specs.Names.{named_colors, sequences}
 
 -- texts of ASCII
 low : (bytes : List ℕ) → list_all (λ b. nat_lt b 128) bytes ≡ true → AllByRecursion (λ b. b < 128) bytes

@@ -3,7 +3,7 @@ ghost use Rattle.std.specs.Prelude.{◌≡◌, ◌==◌, IfOk, vec_items};
 ghost use Rattle.std.specs.List.{list_any};
 ghost use Rattle.std.specs.Option.{option_map};
 ghost use Rattle.grid_config_colors.specs.Colors.{color_of};
-ghost use Rattle.columns_colors.specs.Listed.{listed_color, listed_colors, more};
+ghost use Rattle.columns_color_list.specs.Listed.{listed_color, listed_colors, more};
 
 use crate::columns::column_of;
 use crate::names::color_named;

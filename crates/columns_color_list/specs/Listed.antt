@@ -5,7 +5,7 @@ use Rattle.std.specs.List.{after_first, before_first, list_any, position_or_len,
 use Rattle.std.specs.Option.{option_map}
 use Rattle.std.specs.Str.{bytes_eq}
 use Rattle.grid_config_colors.specs.Colors.{Color}
-use Rattle.columns_colors.specs.Names.{named_colors}
+use Rattle.columns_color_list.specs.Names.{named_colors}
 
 abbrev pub is_comma : ℕ → Bool
 is_comma b = b == 0x2c

@@ -1,8 +1,8 @@
 use Rattle.std.proofs.Common.{◌∙◌, ap, fold, lit<, Some, []}
 use Rattle.std.proofs.lemmas.Iterator.Consumers.{YieldsList-at, YieldsList-end}
 use Rattle.std.proofs.lemmas.Iterator.Splits.{YieldsList-from_str_split}
-use Rattle.columns_colors.specs.Listed.{with_item}
-use Rattle.columns_colors.proofs.reading.colors_of.Goals as goal
+use Rattle.columns_color_list.specs.Listed.{with_item}
+use Rattle.columns_color_list.proofs.reading.colors_of.Goals as goal
 
 pub returns : goal.returns
 returns c =

@@ -1,6 +1,6 @@
 //! The number of a column.
 ghost use Rattle.std.specs.Prelude.{◌≡◌, ◌≤◌, IfSome};
-ghost use Rattle.columns_colors.specs.Listed.{column_of, with_digit};
+ghost use Rattle.columns_color_list.specs.Listed.{column_of, with_digit};
 
 const GREATEST: usize = 4294967295;
 

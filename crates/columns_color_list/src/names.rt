@@ -2,7 +2,7 @@
 ghost use Rattle.std.specs.Prelude.{◌≡◌};
 ghost use Rattle.std.specs.Option.{option_map};
 ghost use Rattle.grid_config_colors.specs.Colors.{color_of};
-ghost use Rattle.columns_colors.specs.Listed.{named};
+ghost use Rattle.columns_color_list.specs.Listed.{named};
 
 use grid_config_colors::ANSIStr;
 

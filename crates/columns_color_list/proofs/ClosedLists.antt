@@ -5,9 +5,9 @@ use Rattle.std.specs.List.{AllByRecursion, after_first, before_first, list_any, 
 use Rattle.std.specs.Str.{bytes_eq}
 use Rattle.grid_config_colors.specs.Colors.{Color}
 use Rattle.papergrid_colors.specs.ClosingColors.{IsClosing}
-use Rattle.columns_colors.specs.Listed.{column_of, given_of, is_comma, is_equals, listed_color, listed_colors, more, named, with_item}
-use Rattle.columns_colors.specs.Names.{named_colors}
-use Rattle.columns_colors.proofs.ClosedNames.{names-close}
+use Rattle.columns_color_list.specs.Listed.{column_of, given_of, is_comma, is_equals, listed_color, listed_colors, more, named, with_item}
+use Rattle.columns_color_list.specs.Names.{named_colors}
+use Rattle.columns_color_list.proofs.ClosedNames.{names-close}
 
 abbrev ClosedItem : ℕ × Color → Type 0
 ClosedItem given = IsClosing given.1

@@ -1,7 +1,7 @@
 use Rattle.std.proofs.Common.{sym, codes}
-use Rattle.columns_colors.specs.Names.{named_colors}
-use Rattle.columns_colors.proofs.NameLemmas.{apart, none-found}
-use Rattle.columns_colors.proofs.names.color_named.Goals as goal
+use Rattle.columns_color_list.specs.Names.{named_colors}
+use Rattle.columns_color_list.proofs.NameLemmas.{apart, none-found}
+use Rattle.columns_color_list.proofs.names.color_named.Goals as goal
 
 pub returns-in_default : goal.returns-in_default
 returns-in_default c =

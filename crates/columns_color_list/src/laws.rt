@@ -2,8 +2,8 @@
 ghost use Rattle.std.specs.Prelude.{◌≡◌, ◌∷◌, ℕ, List, [], None, Some, IfSome, codes};
 ghost use Rattle.std.specs.List.{AllByRecursion};
 ghost use Rattle.papergrid_colors.specs.ClosingColors.{IsClosing};
-ghost use Rattle.columns_colors.specs.Listed.{listed_colors};
-ghost use Rattle.columns_colors.specs.Names.{named_colors, sequences};
+ghost use Rattle.columns_color_list.specs.Listed.{listed_colors};
+ghost use Rattle.columns_color_list.specs.Names.{named_colors, sequences};
 
 /// The colours that have names close, and so does each colour of a list.
 pub fn named_colors_close()
