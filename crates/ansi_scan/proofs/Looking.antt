@@ -1,19 +1,19 @@
 -- The looks at a byte, one after the other, and that there are three at most for each byte.
-use Rattle.std.proofs.Common.{◌≡◌, ◌≢◌, ◌+◌, ◌*◌, ◌<◌, ◌≤◌, ◌==◌, ℕ, suc, Bool, true, false, Option, Some, None, IfSome, IfNone, unwrap_or, List, [], ◌∷◌, ◌++◌, length, take, drop, get_or, min, cond, refl, ap, sym, ◌∙◌, subst, inl, inr, arith, length-append}
+use Rattle.std.proofs.Common.{◌≡◌, ◌+◌, ◌*◌, ◌<◌, ◌≤◌, ◌==◌, ℕ, suc, Bool, true, false, Option, Some, None, IfSome, IfNone, unwrap_or, List, [], ◌∷◌, ◌++◌, length, take, drop, get_or, min, cond, refl, ap, sym, ◌∙◌, subst, inl, inr, arith, length-append}
 use Rattle.std.specs.List.{list_all, prefix_len}
 use Rattle.std.proofs.lemmas.Bool.{and_parts, cases_Bool, cond-true, cond-false}
 use Rattle.std.proofs.lemmas.Bool.Decides.{nat_tests}
 use Rattle.std.proofs.lemmas.List.{drop_more, length-take-le}
 use Rattle.ansi_scan.specs.declared.items.Kind.{Kind}
 use Rattle.ansi_scan.specs.declared.items.Kind.TheVariants.{Text, Sgr, Csi, Osc, Esc, Str, Broken}
-use Rattle.ansi_scan.specs.Sequences.{Piece, escape, joined, is_parameter, is_intermediate, is_plain, opens_string, HasForm, Stands, EachStands, ArePiecesOf}
+use Rattle.ansi_scan.specs.Sequences.{Piece, escape, joined, is_parameter, is_intermediate, is_plain, opens_string, HasForm, Stands, EachStands}
 use Rattle.ansi_scan.specs.Pieces.{text_len, is_inside, string_end, string_from, front, pieces}
 use Rattle.ansi_scan.specs.Looks.{and_next, control_looks, string_end_looks, string_looks, escape_looks, opened_looks, tried_looks, piece_looks, looks_over}
 use Rattle.ansi_scan.proofs.ByteClasses.{is_plain-parameter, is_plain-intermediate, is_plain-inside, is_plain-opens_string}
-use Rattle.ansi_scan.proofs.Existence.{ArePiecesOf-pieces, joined-first_pieces}
-use Rattle.ansi_scan.proofs.Forms.{HasForm-starts, Stands-HasForm}
-use Rattle.ansi_scan.proofs.Fronts.{behind_first, first_piece, front-in_range, pieces-step}
-use Rattle.ansi_scan.proofs.Runs.{prefix_len-pass, prefix_len-fail, prefix_len-run}
+use Rattle.ansi_scan.proofs.Existence.{ArePiecesOf-pieces}
+use Rattle.ansi_scan.proofs.Forms.{HasForm-starts}
+use Rattle.ansi_scan.proofs.Fronts.{behind_first, front-in_range, pieces-step}
+use Rattle.ansi_scan.proofs.Runs.{prefix_len-pass, prefix_len-fail}
 
 -- behind some bytes of a control sequence, of which the flag says that all are parameter bytes
 abbrev pub control_looks_from : Bool → List ℕ → ℕ

@@ -26,7 +26,7 @@ pub fn scan(text: &str) -> Scan<'_>
     ensures count { length (items_left result) ≤ length text.now }
     ensures text { text_length result ≡ length text.now }
     ensures looks { (ps : List Piece) → ArePiecesOf text.now ps → looks_in_all result ≡ looks_over ps }
-    ensures none_looked { looks_taken result ≡ 0 }
+    ensures none_taken { looks_taken result ≡ 0 }
 {
     Scan::new(text.as_bytes())
 }

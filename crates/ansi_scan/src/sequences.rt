@@ -48,12 +48,13 @@ fn text_len(bytes: &[u8], looks: &mut u128) -> usize
     ensures looks { looks.new ≡ looks.old + and_next result bytes.now }
 {
     for (i, byte) in bytes.iter().enumerate() {
-        // the look at each byte up to the first ESC, and at that
-        *looks += 1;
         if *byte == ESC {
+            // the looks at the bytes before the first ESC, and at that
+            *looks += i as u128 + 1;
             return i;
         }
     }
+    *looks += bytes.len() as u128;
     bytes.len()
 }
 
@@ -99,20 +100,26 @@ fn control_sequence(bytes: &[u8], looks: &mut u128) -> Option<(Kind, usize)>
     let mut numeric = true;
     let mut parameters = true;
     for (i, byte) in bytes.iter().enumerate() {
-        // the look at each byte up to the final byte, or to the first that has no place
-        *looks += 1;
         let byte = *byte;
-        match byte {
-            0x30..=0x3f if parameters => numeric = numeric && byte <= 0x3b,
+        let kind = match byte {
+            0x30..=0x3f if parameters => {
+                numeric = numeric && byte <= 0x3b;
+                continue;
+            }
             0x20..=0x2f => {
                 numeric = false;
                 parameters = false;
+                continue;
             }
-            b'm' if numeric => return Some((Kind::Sgr, i + 1)),
-            0x40..=0x7e => return Some((Kind::Csi, i + 1)),
-            _ => return None,
-        }
+            b'm' if numeric => Some(Kind::Sgr),
+            0x40..=0x7e => Some(Kind::Csi),
+            _ => None,
+        };
+        // the looks at the bytes up to the final byte, or to the first that has no place
+        *looks += i as u128 + 1;
+        return Some((kind?, i + 1));
     }
+    *looks += bytes.len() as u128;
     None
 }
 
@@ -126,21 +133,24 @@ fn string_len(bytes: &[u8], bell_ends: bool, looks: &mut u128) -> Option<usize>
     ensures tried { IfNone result (looks.new ≡ looks.old + string_looks bell_ends bytes.now) }
 {
     for (i, byte) in bytes.iter().enumerate() {
-        // the look at each byte up to the first that is not of the string
-        *looks += 1;
-        if bell_ends && *byte == BEL {
+        let is_end = bell_ends && *byte == BEL;
+        if !is_end && *byte != ESC && *byte != CAN && *byte != SUB {
+            continue;
+        }
+        // the looks at the bytes up to the first that is not of the string
+        *looks += i as u128 + 1;
+        if is_end {
             return Some(i + 1);
         }
-        if *byte == ESC {
-            // and at the byte after an ESC
-            let next = bytes.get(i + 1)?;
-            *looks += 1;
-            return if *next == b'\\' { Some(i + 2) } else { None };
-        }
-        if *byte == CAN || *byte == SUB {
+        if *byte != ESC {
             return None;
         }
+        // and at the byte after an ESC
+        let next = bytes.get(i + 1)?;
+        *looks += 1;
+        return if *next == b'\\' { Some(i + 2) } else { None };
     }
+    *looks += bytes.len() as u128;
     None
 }
 
@@ -154,13 +164,15 @@ fn escape_len(bytes: &[u8], looks: &mut u128) -> Option<usize>
     ensures tried { IfNone result (looks.new ≡ looks.old + escape_looks bytes.now) }
 {
     for (i, byte) in bytes.iter().enumerate() {
-        // the look at each byte up to the final byte, or to the first that has no place
-        *looks += 1;
-        match *byte {
-            0x20..=0x2f => {}
-            0x30..=0x7e => return Some(i + 1),
-            _ => return None,
-        }
+        let is_final = match *byte {
+            0x20..=0x2f => continue,
+            0x30..=0x7e => true,
+            _ => false,
+        };
+        // the looks at the bytes up to the final byte, or to the first that has no place
+        *looks += i as u128 + 1;
+        return if is_final { Some(i + 1) } else { None };
     }
+    *looks += bytes.len() as u128;
     None
 }

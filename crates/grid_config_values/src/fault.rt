@@ -1,5 +1,5 @@
 //! Why a grid's call was refused.
-use std::alloc::AllocError;
+use std::alloc::{AllocError, AllocFailed};
 use std::error::Error;
 use std::fmt;
 
@@ -35,6 +35,7 @@ impl fmt::Display for Fault {
 
 impl Error for Fault {}
 
+/// A growth that was refused.
 impl From<AllocError> for Fault {
     ghost use Rattle.std.specs.Prelude.{◌≡◌};
     ghost use Rattle.grid_config_values.specs.declared.fault.Fault.TheVariants.{Memory};
@@ -42,6 +43,18 @@ impl From<AllocError> for Fault {
     ghost from_gives = { λ _ fault. fault ≡ Memory };
 
     fn from(_error: AllocError) -> Fault {
+        Fault::Memory
+    }
+}
+
+/// A value that was not pushed, for want of memory.
+impl<T: Drop> From<AllocFailed<T>> for Fault {
+    ghost use Rattle.std.specs.Prelude.{◌≡◌};
+    ghost use Rattle.grid_config_values.specs.declared.fault.Fault.TheVariants.{Memory};
+
+    ghost from_gives = { λ _ fault. fault ≡ Memory };
+
+    fn from(_error: AllocFailed<T>) -> Fault {
         Fault::Memory
     }
 }

@@ -51,9 +51,9 @@ impl<C: Sizing> GridDimension<C> {
         }
     }
 
-    /// The least widths of the columns, in time linear in the rows and columns, empty ones too; none
-    /// without rows. Refused as `Range` where one passes `usize::MAX`, and as `Memory` where allocation
-    /// fails.
+    /// The least widths of the columns; none without rows. Each cell is looked at, so that it takes
+    /// rows times columns, empty ones too. Refused as `Range` where one passes `usize::MAX`, and as
+    /// `Memory` where allocation fails.
     pub fn width<R: Records>(alloc: Global, records: R, cfg: &C) -> Result<Vec<usize>, Fault>
         ensures ok { IfOk result (λ sizes. sizes.items ≡ table_widths (C.sizing cfg.now) (R.columns records) (R.rows records)) }
         ensures refused { IfErr result (λ fault. IsRefusal fault (PassesMax (table_widths (C.sizing cfg.now) (R.columns records) (R.rows records)))) }
@@ -67,9 +67,9 @@ impl<C: Sizing> GridDimension<C> {
         widths.finish(columns, rows, cfg.borders().has_vertical())
     }
 
-    /// The least heights of the rows, in time linear in the rows and columns, empty ones too; none
-    /// without columns. Refused as `Range` where one passes `usize::MAX`, and as `Memory` where
-    /// allocation fails.
+    /// The least heights of the rows; none without columns. Each cell is looked at, so that it takes
+    /// rows times columns, empty ones too. Refused as `Range` where one passes `usize::MAX`, and as
+    /// `Memory` where allocation fails.
     pub fn height<R: Records>(alloc: Global, records: R, cfg: &C) -> Result<Vec<usize>, Fault>
         ensures ok { IfOk result (λ sizes. sizes.items ≡ table_heights (C.sizing cfg.now) (R.columns records) (R.rows records)) }
         ensures refused { IfErr result (λ fault. IsRefusal fault (PassesMax (table_heights (C.sizing cfg.now) (R.columns records) (R.rows records)))) }
@@ -83,9 +83,9 @@ impl<C: Sizing> GridDimension<C> {
         heights.finish(rows, columns, cfg.borders().has_horizontal())
     }
 
-    /// The least widths and the least heights, of one reading, in time linear in the rows and columns,
-    /// empty ones too. Refused as `Range` where one of either passes `usize::MAX`, and as `Memory` where
-    /// allocation fails.
+    /// The least widths and the least heights, of one reading. Each cell is looked at, so that it takes
+    /// rows times columns, empty ones too. Refused as `Range` where one of either passes `usize::MAX`,
+    /// and as `Memory` where allocation fails.
     pub fn dimension<R: Records>(
         alloc: Global,
         records: R,

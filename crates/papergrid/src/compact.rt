@@ -27,7 +27,7 @@ pub struct CompactGrid<R, D, G, C> {
 }
 
 impl<R, D, G, C> Model for CompactGrid<R, D, G, C> {
-    ghost use Rattle.papergrid_fits.specs.Grids.{Parts};
+    ghost use Rattle.papergrid.specs.GridParts.{Parts};
 
     ghost Value = { Parts R G D C };
 

@@ -18,7 +18,7 @@ pub struct IterGrid<R, D, G, C> {
 }
 
 impl<R, D, G, C> Model for IterGrid<R, D, G, C> {
-    ghost use Rattle.papergrid_fits.specs.Grids.{Parts};
+    ghost use Rattle.papergrid.specs.GridParts.{Parts};
 
     ghost Value = { Parts R G D C };
 

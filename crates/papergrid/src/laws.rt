@@ -13,7 +13,8 @@ ghost use Rattle.papergrid_fits.specs.Tables.{IsFitsAnswer};
 ghost use Rattle.papergrid_picture.specs.Frame.{frame_of, line_count};
 ghost use Rattle.papergrid_picture.specs.Tables.{sizes_of};
 ghost use Rattle.papergrid.specs.Compact.{compact_text, one_line};
-ghost use Rattle.papergrid_fits.specs.Grids.{grid_text, line_text};
+ghost use Rattle.papergrid.specs.GridParts.{line_text};
+ghost use Rattle.papergrid_fits.specs.Grids.{grid_text};
 
 /// A grid that reads its records once and one that looks up its cells append the same text of the same
 /// records, settings, sizes and colours, and fit them or refuse them alike. The first sees as many cells

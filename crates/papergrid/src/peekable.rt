@@ -19,7 +19,7 @@ pub struct PeekableGrid<R, G, D, C> {
 }
 
 impl<R, G, D, C> Model for PeekableGrid<R, G, D, C> {
-    ghost use Rattle.papergrid_fits.specs.Grids.{Parts};
+    ghost use Rattle.papergrid.specs.GridParts.{Parts};
 
     ghost Value = { Parts R G D C };
 
@@ -58,7 +58,8 @@ impl<'a, R: ExactRecords + PeekableRecords, D: Dimension, C: Colors> PeekableGri
     ghost use Rattle.grid_config.specs.Looks.{look_of};
     ghost use Rattle.papergrid_picture.specs.Frame.{line_count};
     ghost use Rattle.papergrid_fits.specs.Tables.{Fits, table_frame};
-    ghost use Rattle.papergrid_fits.specs.Grids.{grid_text, line_text};
+    ghost use Rattle.papergrid.specs.GridParts.{line_text};
+    ghost use Rattle.papergrid_fits.specs.Grids.{grid_text};
     ghost use Rattle.tabled_output.specs.Pieces.{Passes};
 
     /// How many lines `build` appends, on its condition: those of the margins too, and none where there

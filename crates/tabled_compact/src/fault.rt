@@ -1,6 +1,6 @@
 //! Why a table was not written.
 use grid_config::Fault;
-use std::alloc::AllocError;
+use std::alloc::{AllocError, AllocFailed};
 use std::error::Error;
 use std::fmt;
 use tabled_output::WriteFault;
@@ -71,6 +71,19 @@ impl From<AllocError> for BuildFault {
     ghost from_gives = { λ _ fault. fault ≡ OfTable Memory };
 
     fn from(_error: AllocError) -> BuildFault {
+        BuildFault::Table(Fault::Memory)
+    }
+}
+
+/// A value that was not pushed, for want of memory.
+impl<T: Drop> From<AllocFailed<T>> for BuildFault {
+    ghost use Rattle.std.specs.Prelude.{◌≡◌};
+    ghost use Rattle.grid_config_values.specs.declared.fault.Fault.TheVariants.{Memory};
+    ghost use Rattle.tabled_compact.specs.declared.fault.BuildFault.TheVariants.{Table as OfTable};
+
+    ghost from_gives = { λ _ fault. fault ≡ OfTable Memory };
+
+    fn from(_error: AllocFailed<T>) -> BuildFault {
         BuildFault::Table(Fault::Memory)
     }
 }

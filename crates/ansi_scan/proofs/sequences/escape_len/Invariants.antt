@@ -7,5 +7,5 @@ use Rattle.ansi_scan.proofs.sequences.escape_len.Given as goal
 abbrev pub invariant-loop-i : goal.invariant-loop-i
 invariant-loop-i l =
     (escape_from l.i (drop l.i l.bytes) ≡ escape_from 0 l.bytes)
-    × (l.looks ≡ l.fn.looks + l.i)
+    × (l.looks ≡ l.fn.looks)
     × (l.i + escape_looks (drop l.i l.bytes) ≡ escape_looks l.bytes)

@@ -1,5 +1,5 @@
 -- The looks at what begins with an ESC.
-use Rattle.std.proofs.Common.{◌≡◌, ◌+◌, ℕ, ap, sym, ◌∙◌, subst, drop, IfSome, IfNone, arith}
+use Rattle.std.proofs.Common.{◌≡◌, ◌+◌, ℕ, sym, subst, drop, IfSome, IfNone, arith}
 use Rattle.ansi_scan.specs.declared.items.Kind.{Kind}
 use Rattle.ansi_scan.specs.Looks.{piece_looks, tried_looks}
 use Rattle.ansi_scan.proofs.Looking.{piece_looks-found}

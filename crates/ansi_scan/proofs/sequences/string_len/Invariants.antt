@@ -7,5 +7,5 @@ use Rattle.ansi_scan.proofs.sequences.string_len.Given as goal
 abbrev pub invariant-loop-i : goal.invariant-loop-i
 invariant-loop-i l =
     (string_from l.i l.bell_ends (drop l.i l.bytes) ≡ string_from 0 l.bell_ends l.bytes)
-    × (l.looks ≡ l.fn.looks + l.i)
+    × (l.looks ≡ l.fn.looks)
     × (l.i + string_looks l.bell_ends (drop l.i l.bytes) ≡ string_looks l.bell_ends l.bytes)

@@ -4,4 +4,4 @@ use Rattle.ansi_scan.specs.Pieces.{text_len}
 use Rattle.ansi_scan.proofs.sequences.text_len.Given as goal
 
 abbrev pub invariant-loop-i : goal.invariant-loop-i
-invariant-loop-i l = (l.i + text_len (drop l.i l.bytes) ≡ text_len l.bytes) × (l.looks ≡ l.fn.looks + l.i)
+invariant-loop-i l = (l.i + text_len (drop l.i l.bytes) ≡ text_len l.bytes) × (l.looks ≡ l.fn.looks)

@@ -11,7 +11,8 @@ use std::alloc::{AllocError, Global};
 use std::borrow::CowStr;
 use std::marker::Model;
 
-/// A cell's text, which keeps its lines and what the widest takes: it is read once.
+/// A cell's text, which keeps its lines and what the widest takes. It is measured and read for its lines
+/// when it is made, and never after.
 #[derive(Debug, Drop)]
 pub struct Text {
     text: String,

@@ -1,7 +1,7 @@
 use Rattle.std.proofs.Common.{◌++◌, ap, length, string_bytes, ◌∙◌}
 use Rattle.grid_config.specs.Looks.{look_of}
 use Rattle.papergrid_picture.specs.Tables.{sizes_of, table_line}
-use Rattle.papergrid_fits.specs.Grids.{line_text}
+use Rattle.papergrid.specs.GridParts.{line_text}
 use Rattle.papergrid.proofs.peekable.PeekableGrid+R+ref+SpannedConfig+D+C.build_line.Goals as goal
 
 pub returns-clause-text : goal.returns-clause-text

@@ -1,0 +1,17 @@
+-- A grid by what it is made of, and a line of what it prints.
+use Rattle.std.specs.Prelude.{ℕ, List, Option, length}
+use Rattle.grid_config_values.specs.declared.position.Position.{Position}
+use Rattle.grid_config.specs.Colors.{Color}
+use Rattle.grid_config.specs.Looks.{Look}
+use Rattle.papergrid_picture.specs.Tables.{sizes_of, table_line}
+
+-- records, settings, sizes and colours
+pub record Parts (R G D C : Type 0) : Type 0 where
+  pub records : R
+  pub settings : G
+  pub sizes : D
+  pub colors : C
+
+-- line y of the text of rows of texts in `columns` columns, without a line feed
+abbrev pub line_text : Look → (ℕ → ℕ) → (ℕ → ℕ) → (Position → Option Color) → ℕ → List (List (List ℕ)) → ℕ → List ℕ
+line_text look width height colors columns rows y = table_line look rows colors (sizes_of width columns) (sizes_of height (length rows)) y
