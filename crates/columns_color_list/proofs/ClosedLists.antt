@@ -1,5 +1,5 @@
 -- Each colour of a list is one that has a name, and closes as that does.
-use Rattle.std.proofs.Common.{◌≡◌, ◌++◌, ◌==◌, ℕ, Bool, true, false, List, [], ◌∷◌, Option, None, Some, IfSome, fold, cond, if◌then◌else◌, option_map}
+use Rattle.std.proofs.Common.{◌++◌, ◌==◌, ℕ, Bool, true, false, List, [], ◌∷◌, Option, None, Some, IfSome, fold, if◌then◌else◌, option_map}
 use Rattle.std.specs.Prelude.{find, length, nat_lt}
 use Rattle.std.specs.List.{AllByRecursion, after_first, before_first, list_any, position_or_len, slice_split}
 use Rattle.std.specs.Str.{bytes_eq}

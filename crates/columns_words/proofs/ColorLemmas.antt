@@ -1,10 +1,9 @@
 -- The colours of a run that is asked for close.
-use Rattle.std.proofs.Common.{◌≡◌, ℕ, Bool, List, [], Option, None, Some, IfSome, codes, subst}
+use Rattle.std.proofs.Common.{◌≡◌, ℕ, Bool, List, Option, None, Some, IfSome, codes, subst}
 use Rattle.std.specs.List.{AllByRecursion}
 use Rattle.std.proofs.lemmas.List.Elements.{All-from_recursion}
 use Rattle.clap.specs.Simple.{matches_of}
 use Rattle.clap.specs.Walk.{first_of}
-use Rattle.columns_color_list.specs.Listed.{listed_colors}
 use Rattle.columns_color_list.proofs.ClosedLists.{lists-close}
 use Rattle.columns_options.specs.ColumnColors.{AllClose}
 use Rattle.columns_options.specs.declared.options.Options.{Options}

@@ -22,6 +22,9 @@ Each line is a row, and a tab ends a cell. Colours and other escape sequences
 are kept.";
 
 const AFTER_HELP: &str = "\
+Colours:
+  black, red, green, yellow, blue, magenta, cyan, white, bold, underline
+
 Examples:
   printf 'name\\tsize\\nlog\\t42\\n' | columns
           a table of two rows, with lines of -, | and +
@@ -34,10 +37,6 @@ Exit status:
   0  the table, this help or the version was printed
   1  reading, the text or printing is at fault: a line on standard error says how
   2  the words are at fault: the text on standard error says how";
-
-const COLOR_HELP: &str = "\
-Colour columns: a list as 0=red,2=bold, the first column 0, of black, red,
-green, yellow, blue, magenta, cyan, white, bold, underline";
 
 /// The command: its options, and the values that each takes.
 pub fn command<'a>(alloc: Global) -> Result<Command<'a>, AllocError>
@@ -140,5 +139,5 @@ fn color<'a>(alloc: Global) -> Arg<'a>
         .value_name("LIST")
         .action(ArgAction::Set)
         .value_parser(ValueParser::String)
-        .help(COLOR_HELP)
+        .help("Colour columns, from 0: COLUMN=NAME, parted by commas [default: none]")
 }
