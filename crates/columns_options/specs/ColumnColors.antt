@@ -1,5 +1,5 @@
 -- Colours that are given for columns.
-use Rattle.std.specs.Prelude.{ℕ, ◌×◌, All, List}
+use Rattle.std.specs.Prelude.{ℕ, All, List}
 use Rattle.grid_config.specs.Colors.{Color}
 use Rattle.papergrid_colors.specs.ClosingColors.{IsClosing}
 
