@@ -1,5 +1,5 @@
 -- Colours that are given for columns.
-use Rattle.std.specs.Prelude.{ℕ, ◌==◌, ◌×◌, List, Option, None, Some, fold, if◌then◌else◌}
+use Rattle.std.specs.Prelude.{ℕ, ◌==◌, List, Option, None, Some, fold, if◌then◌else◌}
 use Rattle.grid_config.specs.Colors.{Color}
 use Rattle.grid_config_values.specs.declared.position.Position.{Position}
 

@@ -1,5 +1,5 @@
 -- Colours of columns that can be worked out by hand.
-use Rattle.std.specs.Prelude.{ℕ, ◌×◌, List, [], ◌∷◌, codes}
+use Rattle.std.specs.Prelude.{ℕ, List, [], ◌∷◌, codes}
 use Rattle.grid_config.specs.Colors.{Color}
 pub use Rattle.papergrid_colors.specs.Worked.{green, red}
 

@@ -1,6 +1,6 @@
 -- The table of a text's cells is the table of the text.
 use Rattle.std.proofs.Common.{◌≡◌, ℕ, false, List, [], ◌∷◌, Result, Ok, Err, length, map, refl, ap, sym, subst, ◌∙◌, vec_items}
-use Rattle.std.specs.Prelude.{◌×◌, chars, IfErr, IsUtf8, OnOk}
+use Rattle.std.specs.Prelude.{chars, IfErr, IsUtf8, OnOk}
 use Rattle.std.specs.List.{AllByRecursion}
 use Rattle.std.proofs.lemmas.Simd.{map-map}
 use Rattle.ansi_scan.specs.Sequences.{IsWhole}

@@ -1,6 +1,6 @@
 -- Tables in the style that `Wanted::new` has, worked out by hand.
 use Rattle.std.proofs.Common.{◌≡◌, ℕ, List, [], Bool, true, false, refl, ap, ◌∙◌}
-use Rattle.std.specs.Prelude.{◌×◌, ◌∷◌, codes, None}
+use Rattle.std.specs.Prelude.{◌∷◌, codes, None}
 use Rattle.std.specs.Fmt.{digits}
 use Rattle.std.specs.Str.{chars}
 use Rattle.std.proofs.Math.Utf8.{encode}

@@ -1,5 +1,5 @@
 -- What is wanted of a table: its look, its width, and the colours of its columns.
-use Rattle.std.specs.Prelude.{ℕ, ◌×◌, List, [], None, false}
+use Rattle.std.specs.Prelude.{ℕ, List, [], None, false}
 use Rattle.columns_asked.specs.declared.asked.Asked.{Asked}
 use Rattle.columns_options.specs.declared.options.Options.{Options}
 use Rattle.grid_config.specs.Colors.{Color}
