@@ -58,4 +58,5 @@ wanted_by request = record {
     keep_words = request.keep_words == 1;
     priority = get_or priorities request.priority InTurns;
   };
+  colors = [];
 }

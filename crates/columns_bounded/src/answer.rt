@@ -88,7 +88,7 @@ pub fn table_by(
 ) -> Result<usize, Refusal>
     ensures { IsOutcome request.now text.now out.old out.new result }
 {
-    let options = request.options()?;
+    let options = request.options(alloc)?;
     Ok(table_into(alloc, &options, text, out)?)
 }
 

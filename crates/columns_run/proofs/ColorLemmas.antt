@@ -5,7 +5,7 @@ use Rattle.std.specs.List.{AllByRecursion}
 use Rattle.std.proofs.lemmas.List.Elements.{recursion_from_All}
 use Rattle.ansi_scan.specs.Pieces.{pieces}
 use Rattle.ansi_scan.specs.Sequences.{NoneBroken}
-use Rattle.ansi_str.specs.StyledText.{strip, styled}
+use Rattle.ansi_str.specs.StyledText.{styled}
 use Rattle.columns_asked.specs.Layout.{asked_picture, asked_text}
 use Rattle.columns_colors.specs.ColoredTables.{colored_items, colored_text}
 use Rattle.columns_colors.specs.ColumnColors.{cell_color}
@@ -14,7 +14,7 @@ use Rattle.columns_options.specs.ColumnColors.{AllClose}
 use Rattle.grid_config.specs.Colors.{Color}
 use Rattle.grid_config.specs.Looks.{Look}
 use Rattle.papergrid_colors.specs.ClosingColors.{AreClosing, IsClosing, ShowNothing, ShowsNothing}
-use Rattle.papergrid_colors.proofs.StrippedLemmas.{around, closing-show_nothing}
+use Rattle.papergrid_colors.proofs.StrippedLemmas.{AreSame, AreSame-nothing, around, closing-show_nothing}
 use Rattle.papergrid_picture.specs.Reading.{painted}
 use Rattle.papergrid_picture.specs.Shown.{character_of}
 use Rattle.papergrid_picture.specs.Tables.{in_bytes}
@@ -47,10 +47,11 @@ painted-is look rows None bytes = refl
 painted-is look rows (Some color) [] = refl
 painted-is look rows (Some color) (b ∷ bs) = refl
 
-pub colored-left : (color : Option Color) (bytes : List ℕ) → IfSome color ShowsNothing → NoneBroken (pieces bytes) → strip (pieces (colored_line color bytes)) ≡ strip (pieces bytes)
-colored-left None bytes silent whole = refl
-colored-left (Some color) [] silent whole = refl
-colored-left (Some color) (b ∷ bs) silent whole = (around color silent (b ∷ bs) whole).one.left
+-- without its sequences it is the line
+pub colored-same : (color : Option Color) (bytes : List ℕ) → IfSome color ShowsNothing → NoneBroken (pieces bytes) → AreSame (colored_line color bytes) bytes
+colored-same None bytes silent whole = record { one = record { whole = whole; left = refl }; other = record { whole = whole; left = refl } }
+colored-same (Some color) [] silent whole = AreSame-nothing
+colored-same (Some color) (b ∷ bs) silent whole = around color silent (b ∷ bs) whole
 
 -- ---- without colours
 

@@ -123,7 +123,7 @@ pub fn tables_without_colors()
 /// Neither styles nor colours change a character of the picture, which is that of the characters alone. A text without its sequences has
 /// a table where the text has one, and without colours it is, byte for byte, the output without its sequences, also where
 /// columns have colours; it is in range where the text is, and the same cell of it is too wide. What is said of bytes
-/// (`plain`, `output`, `both`) is said of a plain style, and of colours that close.
+/// (`plain`, `output`, `lines`, `both`) is said of a plain style, and of colours that close.
 pub fn without_styles()
     ensures picture { (wanted : Wanted) (characters : List Styled) →
         characters_of (picture_without_colors wanted characters) ≡ characters_of (picture_without_colors wanted (map in_plain (characters_of characters))) }
@@ -139,6 +139,8 @@ pub fn without_styles()
     ensures too_wide { (wanted : Wanted) (input : List ℕ) (ps : List Piece) → ArePiecesOf input ps → wide_cell wanted (strip ps) ≡ wide_cell wanted input }
     ensures output { (wanted : Wanted) (input : List ℕ) (ps qs : List Piece) → IsPlain wanted.style → AllClose wanted.colors →
         IsUtf8 input → ArePiecesOf input ps → NoneBroken ps → ArePiecesOf (output_of wanted input) qs → strip qs ≡ output_of (without_colors wanted) (strip ps) }
+    ensures lines { (wanted : Wanted) (input : List ℕ) (y : ℕ) → IsPlain wanted.style → AllClose wanted.colors → IsUtf8 input → IsWhole input →
+        strip (pieces (line_bytes wanted input y)) ≡ strip (pieces (line_bytes (without_colors wanted) input y)) }
     ensures both { (wanted : Wanted) (input : List ℕ) (ps qs rs : List Piece) → IsPlain wanted.style → AllClose wanted.colors →
         IsUtf8 input → ArePiecesOf input ps → NoneBroken ps → ArePiecesOf (output_of wanted input) qs → ArePiecesOf (output_of wanted (strip ps)) rs → strip qs ≡ strip rs }
 {}
