@@ -59,8 +59,8 @@ fn table_of(alloc: Global, options: &Options, text: &[u8]) -> Result<Vec<u8>, Ru
     }
 }
 
-// Writes as many bytes as there is room for, from the start.
-fn write_front(bytes: &[u8], out: &mut [u8])
+/// Writes as many bytes as there is room for, from the start.
+pub(crate) fn write_front(bytes: &[u8], out: &mut [u8])
     ensures { out.new ≡ filled out.old bytes.now }
 {
     let count = bytes.len().min(out.len());
