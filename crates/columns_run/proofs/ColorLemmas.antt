@@ -6,7 +6,7 @@ use Rattle.std.proofs.lemmas.List.Elements.{recursion_from_All}
 use Rattle.ansi_scan.specs.Pieces.{pieces}
 use Rattle.ansi_scan.specs.Sequences.{NoneBroken}
 use Rattle.ansi_str.specs.StyledText.{styled}
-use Rattle.columns_asked.specs.Layout.{asked_picture, asked_text}
+use Rattle.columns_asked.specs.Layout.{asked_text}
 use Rattle.columns_colors.specs.ColoredTables.{colored_items, colored_text}
 use Rattle.columns_colors.specs.ColumnColors.{cell_color}
 use Rattle.columns_colors.proofs.TableLemmas.{items-uncolored, text-uncolored}

@@ -1,4 +1,4 @@
-use Rattle.std.proofs.Common.{◌≡◌, [], length, List, ℕ, Option, Some, map, string_bytes, ap, refl, rules, subst, sym, ◌∙◌}
+use Rattle.std.proofs.Common.{◌≡◌, [], length, List, ℕ, Option, Some, map, string_bytes, ap, refl, subst, sym, ◌∙◌}
 use Rattle.std.specs.Prelude.{◌↔◌, IfSome, IsSome}
 use Rattle.std.proofs.lemmas.List.{length-map}
 use Rattle.ansi_scan.specs.Sequences.{IsWhole}
@@ -20,8 +20,7 @@ use Rattle.tabled_output.proofs.PieceLemmas.{passes-nothing}
 use Rattle.columns_colors.specs.ColoredTables.{colored_text}
 use Rattle.columns_colors.specs.ColumnColors.{cell_color}
 use Rattle.columns_run.specs.Layout.{output_of}
-use Rattle.columns_run.proofs.ServeLemmas.{left_alone}
-use Rattle.columns_run.proofs.WrittenLemmas.{is-of-table, is-written, is-written-none}
+use Rattle.columns_run.proofs.WrittenLemmas.{is-of-table, is-written}
 use Rattle.columns_run.proofs.layout.write_styled.Given.{Over}
 use Rattle.columns_run.proofs.layout.write_styled.Goals as goal
 use Rattle.columns_run.proofs.layout.write_styled.Goals.{After-of-rows}

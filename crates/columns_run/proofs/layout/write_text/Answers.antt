@@ -1,4 +1,4 @@
-use Rattle.std.proofs.Common.{◌≡◌, [], length, false, List, ℕ, Option, Some, ap, map, refl, rules, subst, sym, ◌∙◌}
+use Rattle.std.proofs.Common.{◌≡◌, [], length, false, List, ℕ, Option, Some, ap, map, refl, subst, sym, ◌∙◌}
 use Rattle.std.specs.Prelude.{◌↔◌, IfSome, IsSome}
 use Rattle.std.proofs.lemmas.List.{length-map}
 use Rattle.ansi_str_text.specs.StyledText.{has_escape}
@@ -17,8 +17,7 @@ use Rattle.tabled_output.proofs.PieceLemmas.{passes-nothing}
 use Rattle.columns_colors.specs.ColoredTables.{colored_text}
 use Rattle.columns_colors.specs.ColumnColors.{cell_color}
 use Rattle.columns_run.specs.Layout.{output_of}
-use Rattle.columns_run.proofs.ServeLemmas.{left_alone}
-use Rattle.columns_run.proofs.WrittenLemmas.{is-of-table, is-written, is-written-none}
+use Rattle.columns_run.proofs.WrittenLemmas.{is-of-table, is-written}
 use Rattle.columns_run.proofs.layout.write_text.Goals as goal
 
 -- the rows are those of a text without ESC

@@ -1,4 +1,4 @@
-use Rattle.std.proofs.Common.{◌≡◌, inl, inr, rules, arith, subst}
+use Rattle.std.proofs.Common.{inl, inr, rules, arith, subst}
 use Rattle.std.proofs.lemmas.Grind.{common_steps}
 use Rattle.tabled_output.specs.Counts.{inner_of}
 use Rattle.columns_run.specs.Layout.{output_of}
