@@ -39,6 +39,7 @@ pub fn options_of(
 // The colours of a list; none where there is no list.
 fn listed(alloc: Global, colors: Option<&[u8]>) -> Result<Vec<(usize, ANSIBuf)>, Refusal>
     ensures colors { IfOk result (λ found. colors_in (option_map (λ list. list.now) colors.entry) ≡ Some found.items) }
+    ensures close { IfOk result (λ found. AllClose found.items) }
     ensures refused { IfErr result (IsRefusedList (option_map (λ list. list.now) colors.entry)) }
 {
     let Some(list) = colors else {
