@@ -359,8 +359,8 @@ module _ (colors : List (ℕ × Color)) where
 
 none-around : (lines : List (List ℕ)) → sum_by (color_around None) lines ≡ 0
 none-around [] = refl
-none-around ([] ∷ lines) = sum_by-cons (color_around None) [] lines ∙ none-around lines
-none-around ((b ∷ bs) ∷ lines) = sum_by-cons (color_around None) (b ∷ bs) lines ∙ none-around lines
+none-around ([] ∷ lines) = let rest = none-around lines in omega (arith, sum_by-cons (color_around None) [] lines, rest)
+none-around ((b ∷ bs) ∷ lines) = let rest = none-around lines in omega (arith, sum_by-cons (color_around None) (b ∷ bs) lines, rest)
 
 row-uncolored : (column : ℕ) (row : List (List ℕ)) → row_colors [] column row ≡ 0
 row-uncolored column [] = refl
