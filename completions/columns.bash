@@ -7,11 +7,12 @@ _columns() {
     elif [[ $before == = && $COMP_CWORD -ge 2 ]]; then
         before=${COMP_WORDS[COMP_CWORD - 2]}
     fi
-    local options='--width --truncate --keep-words --priority --style --streamed --help --version'
+    local options='--width --truncate --keep-words --priority --style --streamed --color --help --version'
     case $before in
         --width) options= ;;
         --priority) options='none min max left right' ;;
         --style) options='ascii modern extended empty' ;;
+        --color) options= ;;
     esac
     COMPREPLY=()
     local option

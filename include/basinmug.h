@@ -8,9 +8,9 @@
  *
  * - No pointer is null, also where its length is 0: give any address then, as that of an empty string.
  * - `options` points to a whole `struct basinmug_options`, `answer` to a whole `struct basinmug_answer`, `text` to
- *   `text_len` bytes and `out` to `out_len` bytes; no length passes PTRDIFF_MAX.
- * - During a call nothing else writes what `options` and `text` point to, and nothing else reads or writes what `out` and
- *   `answer` point to. None of the last two overlaps another one.
+ *   `text_len` bytes, `colors` to `colors_len` and `out` to `out_len` bytes; no length passes PTRDIFF_MAX.
+ * - During a call nothing else writes what `options`, `colors` and `text` point to, and nothing else reads or writes what
+ *   `out` and `answer` point to. None of the last two overlaps another one.
  * - malloc, realloc and free come from one allocator. No function is called from a signal handler, nor in the child of a
  *   fork of a process with threads.
  *
@@ -69,7 +69,7 @@ struct basinmug_options {
 
 /* What is told beside a status. A number of which the status says nothing is 0. */
 struct basinmug_answer {
-    size_t size;   /* BASINMUG_OK: how many bytes the whole table has */
+    size_t size;   /* BASINMUG_OK: how many bytes the whole table or text has; of basinmug_width, how many columns */
     size_t place;  /* BASINMUG_NOT_UTF8, BASINMUG_ESCAPE: the byte of the text that is at fault, from 0 */
     size_t row;    /* BASINMUG_LINE_TOO_WIDE: the row of the cell, from 0 */
     size_t column; /* and its column, from 0 */
@@ -94,7 +94,10 @@ enum {
     BASINMUG_BAD_PRIORITY = 35,
     BASINMUG_BAD_TRUNCATE = 36,
     BASINMUG_BAD_KEEP_WORDS = 37,
-    BASINMUG_BAD_RESERVED = 38
+    BASINMUG_BAD_RESERVED = 38,
+
+    /* The list of colours has not the form. It is looked at behind the options and before the text. */
+    BASINMUG_BAD_COLORS = 39
 };
 
 /*
@@ -105,6 +108,29 @@ enum {
  */
 uint32_t basinmug_table(const struct basinmug_options *options, const char *text, size_t text_len, char *out,
                         size_t out_len, struct basinmug_answer *answer);
+
+/*
+ * The same, with the colours of a list for its columns, as the program takes it with --color: items parted by commas, each a
+ * column, '=' and a name, as "0=bold,2=red". Columns are counted from 0, in decimal digits alone, up to 4294967295, and none
+ * stands twice; one that the table has not does nothing. The names are black, red, green, yellow, blue, magenta, cyan, white,
+ * bold and underline. An empty list has not the form. A colour stands around each line of a cell that has bytes.
+ */
+uint32_t basinmug_colored_table(const struct basinmug_options *options, const char *colors, size_t colors_len,
+                                const char *text, size_t text_len, char *out, size_t out_len,
+                                struct basinmug_answer *answer);
+
+/*
+ * Tells how many columns the widest line of a text takes in a terminal, without its escape sequences. The status is
+ * BASINMUG_OK or BASINMUG_NOT_UTF8. A tab counts as any control character does. No memory is asked for.
+ */
+uint32_t basinmug_width(const char *text, size_t text_len, struct basinmug_answer *answer);
+
+/*
+ * Writes a text without its escape sequences, as many of its bytes as `out_len` has room for, as basinmug_table writes a
+ * table: the answer tells how many bytes the whole has. A sequence that is broken stays out as far as it goes. The status is
+ * BASINMUG_OK, BASINMUG_NOT_UTF8 or BASINMUG_MEMORY.
+ */
+uint32_t basinmug_strip(const char *text, size_t text_len, char *out, size_t out_len, struct basinmug_answer *answer);
 
 /* The version of the library, in the form of BASINMUG_VERSION. */
 uint32_t basinmug_version(void);

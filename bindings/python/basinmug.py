@@ -53,6 +53,10 @@ class BadOption(TableError, ValueError):
     """An option has no such value."""
 
 
+class BadColors(BadOption):
+    """The colours have not the form, or name a column twice, or a name or a column that there is not."""
+
+
 class BadCell(TableError, ValueError):
     """A cell of a row has a tab or a line feed, which end cells and rows. `row` and `column` count from 0."""
 
@@ -89,21 +93,32 @@ _table.argtypes = [
     ctypes.c_size_t,
     ctypes.POINTER(_Answer),
 ]
+_colored_table = _library.basinmug_colored_table
+_colored_table.restype = ctypes.c_uint32
+_colored_table.argtypes = [ctypes.POINTER(_Options), ctypes.c_char_p, ctypes.c_size_t, *_table.argtypes[1:]]
+_width_of = _library.basinmug_width
+_width_of.restype = ctypes.c_uint32
+_width_of.argtypes = [ctypes.c_char_p, ctypes.c_size_t, ctypes.POINTER(_Answer)]
+_strip = _library.basinmug_strip
+_strip.restype = ctypes.c_uint32
+_strip.argtypes = [ctypes.c_char_p, ctypes.c_size_t, ctypes.c_char_p, ctypes.c_size_t, ctypes.POINTER(_Answer)]
 _FAULTS = {
     1: lambda answer: NotUtf8(answer.place),
     2: lambda answer: BrokenEscape(answer.place),
     3: lambda answer: OutOfRange("size out of range"),
     5: lambda answer: OutOfMemory("out of memory"),
     6: lambda answer: TooLong("the text is too long"),
+    39: lambda answer: BadColors("bad colors"),
 }
 
 
-def table(rows_or_text, width=None, *, truncate=False, keep_words=False, priority="none", style="ascii"):
+def table(rows_or_text, width=None, *, truncate=False, keep_words=False, priority="none", style="ascii", colors=None):
     """The table of a text, whose rows end with line feeds and whose cells end with tabs, or of rows of cells.
 
     `width` is the greatest width, in columns; none where the table may be as wide as its text. What passes it is cut
     off where `truncate` is set, else broken over lines, between words with `keep_words`. `priority` is a name of
-    PRIORITIES and says which column gives first, `style` is one of STYLES. Raises a `TableError`.
+    PRIORITIES and says which column gives first, `style` is one of STYLES. `colors` has names of colours by columns,
+    counted from 0, as {0: "bold", 2: "red"}, or is a text as "0=bold,2=red". Raises a `TableError`.
     """
     text = rows_or_text if isinstance(rows_or_text, str) else _text_of(rows_or_text)
     data = text.encode("utf-8", "surrogatepass")
@@ -115,15 +130,49 @@ def table(rows_or_text, width=None, *, truncate=False, keep_words=False, priorit
         truncate=bool(truncate),
         keep_words=bool(keep_words),
     )
-    room = 4 * len(data) + 256
+    listed = None if colors is None or colors == {} else _list_of(colors)
+
+    def write(*room):
+        if listed is None:
+            return _table(options, data, len(data), *room)
+        return _colored_table(options, listed, len(listed), data, len(data), *room)
+
+    return _written(write, 4 * len(data) + 256)
+
+
+def width(text):
+    """How many columns the widest line of a text takes, without its escape sequences. Raises a `TableError`."""
+    data, answer = text.encode("utf-8", "surrogatepass"), _Answer()
+    _check(_width_of(data, len(data), answer), answer)
+    return answer.size
+
+
+def strip(text):
+    """The text without its escape sequences. Raises a `TableError`."""
+    data = text.encode("utf-8", "surrogatepass")
+    return _written(lambda *room: _strip(data, len(data), *room), len(data))
+
+
+def _written(write, room):
+    """What a call writes that takes room, its size and an answer: once more where there was too little."""
     while True:
-        out, answer = ctypes.create_string_buffer(room), _Answer()
-        status = _table(options, data, len(data), out, room, answer)
-        if status:
-            raise _FAULTS.get(status, lambda answer: TableError(f"status {status}"))(answer)
+        out, answer = ctypes.create_string_buffer(max(room, 1)), _Answer()
+        _check(write(out, room, answer), answer)
         if answer.size <= room:
             return out.raw[: answer.size].decode("utf-8")
         room = answer.size
+
+
+def _check(status, answer):
+    if status:
+        raise _FAULTS.get(status, lambda answer: TableError(f"status {status}"))(answer)
+
+
+def _list_of(colors):
+    """The list of these colours, as the library takes it."""
+    if not isinstance(colors, str):
+        colors = ",".join(f"{column}={name}" for column, name in colors.items())
+    return colors.encode("utf-8", "surrogatepass")
 
 
 def _text_of(rows):

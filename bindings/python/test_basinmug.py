@@ -2,7 +2,7 @@
 import unittest
 
 import basinmug
-from basinmug import table
+from basinmug import strip, table, width
 
 TWO_BY_TWO = "+---+---+\n| a | b |\n+---+---+\n| 1 | 2 |\n+---+---+\n"
 
@@ -30,12 +30,42 @@ class Tables(unittest.TestCase):
         self.assertEqual(table("a\tb\n", style="extended"), "╔═══╦═══╗\n║ a ║ b ║\n╚═══╩═══╝\n")
         self.assertEqual(table("a\tb\n", style="empty"), " a  b \n")
 
+    def test_columns_have_colours(self):
+        colored = "+---+---+\n| a | \x1b[31mb\x1b[39m |\n+---+---+\n"
+        self.assertEqual(table("a\tb\n", colors={1: "red"}), colored)
+        self.assertEqual(table([["a", "b"]], colors="1=red"), colored)
+        self.assertEqual(strip(colored), "+---+---+\n| a | b |\n+---+---+\n")
+        self.assertEqual(table("a\tb\n1\t2\n", colors={}), TWO_BY_TWO)
+
     def test_a_table_that_is_longer_than_the_first_room(self):
         text = "\n".join(["x" * 2000] + [""] * 500)
         self.assertGreater(len(table(text)), 4 * len(text) + 256)
 
 
+class Texts(unittest.TestCase):
+    def test_a_text_has_a_width(self):
+        for text, columns in (("", 0), ("ab", 2), ("表 한", 5), ("\x1b[1ma\nbcd\x1b[0m", 3)):
+            with self.subTest(text):
+                self.assertEqual(width(text), columns)
+
+    def test_a_text_is_stripped(self):
+        for text, stripped in (("", ""), ("ab", "ab"), ("\x1b[31mréd\x1b[0m", "réd")):
+            with self.subTest(text):
+                self.assertEqual(strip(text), stripped)
+
+
 class Faults(unittest.TestCase):
+    def test_a_lone_surrogate_has_no_width(self):
+        for call in (width, strip):
+            with self.subTest(call), self.assertRaises(basinmug.NotUtf8) as fault:
+                call("a\ud800")
+            self.assertEqual(fault.exception.place, 1)
+
+    def test_colours_without_the_form(self):
+        for bad in ("", "0", "0=pink", "0=red,0=bold", {-1: "red"}, {0: "\ud800"}):
+            with self.subTest(bad), self.assertRaises(basinmug.BadColors):
+                table("a", colors=bad)
+
     def test_a_lone_surrogate_is_not_utf8(self):
         with self.assertRaises(basinmug.NotUtf8) as fault:
             table("ab\ud800")

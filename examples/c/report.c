@@ -1,5 +1,5 @@
 /*
- * Prints a text as a table of at most 40 columns. Where the library is installed:
+ * Prints a text as a table of at most 40 columns, of which the first is bold. Where the library is installed:
  *
  *     cc -o report report.c -lbasinmug && ./report
  */
@@ -10,6 +10,7 @@
 
 int main(void) {
     const char *text = "job\tstate\tremark\nbackup\t\033[32mdone\033[0m\t3 of 3 disks\nmail\t\033[31mlate\033[0m\twaits for the other host\n";
+    const char *colors = "0=bold";
     struct basinmug_options options = BASINMUG_OPTIONS;
     options.style = BASINMUG_MODERN;
     options.width = 40;
@@ -21,13 +22,13 @@ int main(void) {
     char *table = malloc(room);
     struct basinmug_answer answer = {0, 0, 0, 0};
     uint32_t status = BASINMUG_MEMORY;
-    if (table != NULL) status = basinmug_table(&options, text, strlen(text), table, room, &answer);
+    if (table != NULL) status = basinmug_colored_table(&options, colors, strlen(colors), text, strlen(text), table, room, &answer);
     if (status == BASINMUG_OK && answer.size > room) {
         room = answer.size;
         free(table);
         table = malloc(room);
         status = BASINMUG_MEMORY;
-        if (table != NULL) status = basinmug_table(&options, text, strlen(text), table, room, &answer);
+        if (table != NULL) status = basinmug_colored_table(&options, colors, strlen(colors), text, strlen(text), table, room, &answer);
     }
     if (status == BASINMUG_OK) {
         fwrite(table, 1, answer.size, stdout);

@@ -13,6 +13,10 @@
 static const char TEXT[] = "a\tb\n1\t\033[31m234\033[0m\n";
 static const char TABLE[] = "+---+-----+\n| a | b   |\n+---+-----+\n| 1 | \033[31m234\033[0m |\n+---+-----+\n";
 
+static const char COLORS[] = "1=red,0=bold";
+static const char COLORED[] = "+---+-----+\n| \033[1ma\033[22m | \033[31mb\033[39m   |\n+---+-----+\n| \033[1m1\033[22m | \033[31m\033[31m234\033[0m\033[39m |\n+---+-----+\n";
+static const char BARE[] = "+---+-----+\n| a | b   |\n+---+-----+\n| 1 | 234 |\n+---+-----+\n";
+
 static int counts;
 static unsigned long calls, refused_call, refused;
 
@@ -55,10 +59,24 @@ static int rooms(void) {
     return 0;
 }
 
-/* Each allocation refused in turn: memory, nothing written, and nothing told beside it. */
-static int refusals(void) {
+/* A table, a table in colours, a text without its sequences. */
+static uint32_t table(char *out, size_t room, struct basinmug_answer *answer) {
     struct basinmug_options options = BASINMUG_OPTIONS;
     options.width = 9;
+    return basinmug_table(&options, TEXT, strlen(TEXT), out, room, answer);
+}
+
+static uint32_t colored_table(char *out, size_t room, struct basinmug_answer *answer) {
+    struct basinmug_options options = BASINMUG_OPTIONS;
+    return basinmug_colored_table(&options, COLORS, strlen(COLORS), TEXT, strlen(TEXT), out, room, answer);
+}
+
+static uint32_t stripped(char *out, size_t room, struct basinmug_answer *answer) {
+    return basinmug_strip(TEXT, strlen(TEXT), out, room, answer);
+}
+
+/* Each allocation of a call refused in turn: memory, nothing written, and nothing told beside it. */
+static int refusals(uint32_t (*call)(char *, size_t, struct basinmug_answer *), unsigned long least) {
     unsigned long at = 0;
     do {
         CHECK(++at < 10000);
@@ -66,7 +84,7 @@ static int refusals(void) {
         char out[64];
         memset(out, '#', sizeof out);
         calls = 0, refused = 0, refused_call = at, counts = 1;
-        uint32_t status = basinmug_table(&options, TEXT, strlen(TEXT), out, sizeof out, &answer);
+        uint32_t status = call(out, sizeof out, &answer);
         counts = 0;
         CHECK(status == (refused ? BASINMUG_MEMORY : BASINMUG_OK));
         if (refused) {
@@ -74,7 +92,28 @@ static int refusals(void) {
             for (size_t i = 0; i < sizeof out; i++) CHECK(out[i] == '#');
         }
     } while (refused);
-    CHECK(at > 5);
+    CHECK(at > least);
+    return 0;
+}
+
+/* Colours around the cells that have text; a list that has not the form; nothing allocated for a width. */
+static int colors(void) {
+    char out[256];
+    struct basinmug_answer answer = {1, 1, 1, 1};
+    char *list = copied(COLORS, strlen(COLORS)), *text = copied(TEXT, strlen(TEXT));
+    struct basinmug_options options = BASINMUG_OPTIONS;
+    CHECK(basinmug_colored_table(&options, list, strlen(COLORS), text, strlen(TEXT), out, sizeof out, &answer) == BASINMUG_OK);
+    CHECK(answer.size == strlen(COLORED) && memcmp(out, COLORED, answer.size) == 0);
+    CHECK(basinmug_strip(out, answer.size, out + 200, 20, &answer) == BASINMUG_OK && answer.size == strlen(BARE));
+    CHECK(memcmp(out + 200, BARE, 20) == 0);
+    CHECK(basinmug_colored_table(&options, list, strlen(COLORS) - 1, text, strlen(TEXT), out, sizeof out, &answer) == BASINMUG_BAD_COLORS);
+    CHECK(answer.size == 0 && answer.place == 0 && memcmp(out, COLORED, strlen(COLORED)) == 0);
+    calls = 0, refused = 0, refused_call = 1, counts = 1;
+    uint32_t status = basinmug_width(text, strlen(TEXT), &answer);
+    counts = 0;
+    CHECK(status == BASINMUG_OK && answer.size == 5 && calls == 0);
+    free(list);
+    free(text);
     return 0;
 }
 
@@ -109,7 +148,10 @@ static int threads(void) {
 int main(void) {
     CHECK(basinmug_version() == BASINMUG_VERSION);
     int line = rooms();
-    if (!line) line = refusals();
+    if (!line) line = refusals(table, 5);
+    if (!line) line = refusals(colored_table, 9);
+    if (!line) line = refusals(stripped, 1);
+    if (!line) line = colors();
     if (!line) line = threads();
     return line > 255 ? 255 : line;
 }

@@ -1,6 +1,7 @@
 //! Prints tab-separated text as a table with borders, as the words of the command line ask.
 #![tactic(auto)]
 
+ghost use Rattle.columns_options.specs.ColumnColors.{AllClose};
 ghost use Rattle.columns_run.specs.Plain.{IsPlain};
 ghost use Rattle.grid_config.specs.Compact.{compact_of};
 
@@ -44,7 +45,8 @@ fn words(rt: &HostRuntime) -> io::Result<Vec<String>> {
 // Prints the table. Its lines stand in a buffer until they are many, so that a line costs no call of the
 // system.
 fn print(rt: &HostRuntime, options: &Options, streamed: bool) -> Result<(), RunFault>
-    requires { IsPlain (compact_of options.now.style) }
+    requires plain { IsPlain (compact_of options.now.style) }
+    requires close { AllClose options.now.colors.items }
 {
     let output = Counted::new(rt.stdout());
     let Ok(buffered) = BufWriter::with_capacity(rt.alloc(), OUTPUT_BUFFER, output) else {
@@ -93,9 +95,13 @@ fn ended(rt: &HostRuntime, outcome: Result<(), RunFault>) -> ExitCode {
     }
 }
 
-// Words that the command doesn't take.
+// Words that are at fault. What the parser says of them ends in a line feed, and what is said of colours in none.
 fn faulty(rt: &HostRuntime, text: &str) -> ExitCode {
-    let _ = eprint!(rt; "{text}");
+    if text.ends_with('\n') {
+        let _ = eprint!(rt; "{text}");
+    } else {
+        let _ = eprintln!(rt; "{text}");
+    }
     ExitCode::from(2)
 }
 

@@ -1,1 +1,2 @@
 pub mod StyleLemmas
+mod ColorLemmas

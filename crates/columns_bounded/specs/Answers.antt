@@ -1,17 +1,19 @@
 -- What a request and a text call for, and how it is told in numbers.
-use Rattle.std.specs.Prelude.{◌≡◌, ℕ, List, length, Result, Ok, Err, ⊤}
+use Rattle.std.specs.Prelude.{◌≡◌, ℕ, List, length, Option, None, Some, Result, Ok, Err, ⊤}
 use Rattle.columns_bounded.specs.Fronts.{filled}
-use Rattle.columns_bounded.specs.Requests.{IsAccepted, IsRefusedAs, wanted_by}
+use Rattle.columns_bounded.specs.Requests.{IsAccepted, IsRefusedAs, colors_in, wanted_in}
 use Rattle.columns_bounded.specs.declared.answer.Answer.{Answer}
-use Rattle.columns_bounded.specs.declared.answer.Refusal.{Refusal}
-use Rattle.columns_bounded.specs.declared.answer.Refusal.TheVariants.{Request as OfRequest, Text as OfText}
+use Rattle.columns_bounded.specs.declared.refusal.Refusal.{Refusal}
+use Rattle.columns_bounded.specs.declared.refusal.Refusal.TheVariants.{Request as OfRequest, Colors as OfColors, Text as OfText}
 use Rattle.columns_bounded.specs.declared.request.Request.{Request}
 use Rattle.columns_bounded.specs.declared.request.RequestFault.{RequestFault}
 use Rattle.columns_bounded.specs.declared.request.RequestFault.TheVariants.{Version, Style, Priority, Truncate, KeepWords, Reserved}
 use Rattle.columns_run.specs.Layout.{output_of}
 use Rattle.columns_run.specs.Run.{HasTable, MayRefuse}
+use Rattle.columns_run.specs.Wanted.{Wanted}
 use Rattle.columns_run.specs.declared.fault.RunFault.{RunFault}
 use Rattle.columns_run.specs.declared.fault.RunFault.TheVariants.{Read, ReadTooLong, NotUtf8, Escape, Range, LineTooWide, Write, WriteZero, Memory}
+use Rattle.grid_config.specs.Colors.{Color}
 
 -- ---- the outcome
 
@@ -21,14 +23,19 @@ IsOfWriting Write = ⊤
 IsOfWriting WriteZero = ⊤
 IsOfWriting _ = ⊥
 
+-- this holds of what is wanted: each number of the request stands for something, and the list has the form
+abbrev pub OfWanted : Request → Option (List ℕ) → (Wanted → Type 0) → Type 0
+OfWanted request list holds = IsAccepted request × ((colors : List (ℕ × Color)) × (colors_in list ≡ Some colors) × holds (wanted_in request colors))
+
 -- a table: its front is written and its whole size told; or what is at fault, and nothing is written
-abbrev pub IsOutcome : Request → List ℕ → List ℕ → List ℕ → Result ℕ Refusal → Type 0
-IsOutcome request text old new (Ok size) =
-    IsAccepted request × HasTable (wanted_by request) text
-    × (size ≡ length (output_of (wanted_by request) text)) × (new ≡ filled old (output_of (wanted_by request) text))
-IsOutcome request text old new (Err (OfRequest fault)) = IsRefusedAs request fault × (new ≡ old)
-IsOutcome request text old new (Err (OfText fault)) =
-    IsAccepted request × MayRefuse (wanted_by request) text fault × ¬ (IsOfWriting fault) × (new ≡ old)
+abbrev pub IsOutcome : Request → Option (List ℕ) → List ℕ → List ℕ → List ℕ → Result ℕ Refusal → Type 0
+IsOutcome request list text old new (Ok size) =
+    OfWanted request list (λ wanted. HasTable wanted text × (size ≡ length (output_of wanted text)) × (new ≡ filled old (output_of wanted text)))
+IsOutcome request list text old new (Err (OfRequest fault)) = IsRefusedAs request fault × (new ≡ old)
+IsOutcome request list text old new (Err OfColors) = IsAccepted request × (colors_in list ≡ None) × (new ≡ old)
+IsOutcome request list text old new (Err (OfText Memory)) = IsAccepted request × (new ≡ old)
+IsOutcome request list text old new (Err (OfText fault)) =
+    OfWanted request list (λ wanted. MayRefuse wanted text fault × ¬ (IsOfWriting fault) × (new ≡ old))
 
 -- ---- its numbers
 
@@ -55,6 +62,7 @@ abbrev pub status_of : Result ℕ Refusal → ℕ
 status_of (Ok size) = 0
 status_of (Err (OfText fault)) = text_status fault
 status_of (Err (OfRequest fault)) = request_status fault
+status_of (Err OfColors) = 39
 
 -- the size of the whole table, the byte at fault, or the cell that is too wide; 0 where a number has nothing to tell
 abbrev pub text_answer : RunFault → Answer
@@ -67,12 +75,14 @@ abbrev pub answer_of : Result ℕ Refusal → Answer
 answer_of (Ok size) = record { size = size; place = 0; row = 0; column = 0 }
 answer_of (Err (OfText fault)) = text_answer fault
 answer_of (Err (OfRequest fault)) = record { size = 0; place = 0; row = 0; column = 0 }
+answer_of (Err OfColors) = record { size = 0; place = 0; row = 0; column = 0 }
 
 -- ---- what a caller in another language sees
 
--- there is an outcome that the request and the text call for, and status and answer tell it
-pub record Tells (request : Request) (text old new : List ℕ) (status : ℕ) (answer : Answer) : Type 0 where
+-- there is an outcome that the request, a list of colours if there is one, and the text call for, and status and answer tell
+-- it
+pub record Tells (request : Request) (list : Option (List ℕ)) (text old new : List ℕ) (status : ℕ) (answer : Answer) : Type 0 where
   pub outcome : Result ℕ Refusal
-  pub called_for : IsOutcome request text old new outcome
+  pub called_for : IsOutcome request list text old new outcome
   pub told : status ≡ status_of outcome
   pub told_beside : answer ≡ answer_of outcome

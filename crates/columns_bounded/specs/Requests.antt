@@ -1,10 +1,13 @@
 -- What the numbers of a request stand for.
 use Rattle.std.specs.Prelude.{◌≡◌, ◌≢◌, ◌<◌, ◌≤◌, ◌==◌, ◌-◌, ◌^◌, ℕ, if◌then◌else◌, List, [], ◌∷◌, Option, None, Some, get_or, length}
+use Rattle.std.specs.Str.{is_utf8}
 use Rattle.columns_bounded.specs.declared.request.Request.{Request}
 use Rattle.columns_bounded.specs.declared.request.RequestFault.{RequestFault}
 use Rattle.columns_bounded.specs.declared.request.RequestFault.TheVariants.{Version, Style, Priority, Truncate, KeepWords, Reserved}
+use Rattle.columns_color_list.specs.Listed.{listed_colors}
 use Rattle.columns_options.specs.Settings.{settings_with}
 use Rattle.columns_run.specs.Wanted.{Wanted}
+use Rattle.grid_config.specs.Colors.{Color}
 use Rattle.grid_config_values.specs.Glyphs.{no_borders}
 use Rattle.grid_config_values.specs.declared.borders.Borders.{Borders}
 use Rattle.tabled_glyphs.specs.Glyphs.{ascii, extended, modern}
@@ -48,9 +51,15 @@ IsRefusedAs request Reserved =
     (request.version ≡ 1) × (request.style < length styles) × (request.priority < length priorities) × (request.truncate ≤ 1) × (request.keep_words ≤ 1)
     × ¬ (ReservesNothing request)
 
--- what a request that is accepted wants of a table
-abbrev pub wanted_by : Request → Wanted
-wanted_by request = record {
+-- the colours of a list, none where there is no list; and nothing where the list is no text, or has not the form that the
+-- command line takes
+abbrev pub colors_in : Option (List ℕ) → Option (List (ℕ × Color))
+colors_in None = Some []
+colors_in (Some list) = if is_utf8 list then listed_colors list else None
+
+-- what a request that is accepted wants of a table in these colours
+abbrev pub wanted_in : Request → List (ℕ × Color) → Wanted
+wanted_in request colors = record {
   style = settings_with (get_or styles request.style ascii);
   asked = record {
     width = width_by request.width;
@@ -58,4 +67,9 @@ wanted_by request = record {
     keep_words = request.keep_words == 1;
     priority = get_or priorities request.priority InTurns;
   };
+  colors = colors;
 }
+
+-- and without colours
+abbrev pub wanted_by : Request → Wanted
+wanted_by request = wanted_in request []

@@ -1,48 +1,19 @@
 //! What a caller is told, as numbers.
-ghost use Rattle.std.specs.Prelude.{◌≡◌};
+ghost use Rattle.std.specs.Prelude.{◌≡◌, option_map};
 ghost use Rattle.columns_bounded.specs.Answers.{IsOutcome, Tells, answer_of, request_status, status_of, text_status};
 
+use crate::colors::options_of;
+use crate::refusal::Refusal;
 use crate::request::{Request, RequestFault};
 use crate::table::table_into;
 use columns_run::RunFault;
 use std::alloc::Global;
 
-/// Why there is no table: the request, or the text.
-#[derive(Clone, Copy)]
-pub enum Refusal {
-    /// A number of the request stands for nothing.
-    Request(RequestFault),
-    /// The text has no table.
-    Text(RunFault),
-}
-
-impl From<RequestFault> for Refusal {
-    ghost use Rattle.std.specs.Prelude.{◌≡◌};
-    ghost use Rattle.columns_bounded.specs.declared.answer.Refusal.TheVariants.{Request};
-
-    ghost from_gives = { λ given refusal. refusal ≡ Request given };
-
-    fn from(fault: RequestFault) -> Refusal {
-        Refusal::Request(fault)
-    }
-}
-
-impl From<RunFault> for Refusal {
-    ghost use Rattle.std.specs.Prelude.{◌≡◌};
-    ghost use Rattle.columns_bounded.specs.declared.answer.Refusal.TheVariants.{Text};
-
-    ghost from_gives = { λ given refusal. refusal ≡ Text given };
-
-    fn from(fault: RunFault) -> Refusal {
-        Refusal::Text(fault)
-    }
-}
-
 /// What is told beside a status. A number of which the status says nothing is 0.
 #[repr(C)]
 #[derive(Drop)]
 pub struct Answer {
-    /// How many bytes the whole table has.
+    /// How many bytes the whole table has, or the stripped text; or how many columns a text takes.
     pub size: usize,
     /// The byte of the text that is at fault.
     pub place: usize,
@@ -78,21 +49,23 @@ impl Answer {
     }
 }
 
-/// The table that a request asks for, by `table_into`; or why there is none, and then `out` is as it was. The request is
-/// looked at first.
+/// The table that a request asks for, in the colours of a list where there is one, by `table_into`; or why there is
+/// none, and then `out` is as it was. The request is looked at first, then the list.
 pub fn table_by(
     alloc: Global,
     request: &Request,
+    colors: Option<&[u8]>,
     text: &[u8],
     out: &mut [u8],
 ) -> Result<usize, Refusal>
-    ensures { IsOutcome request.now text.now out.old out.new result }
+    ensures { IsOutcome request.now (option_map (λ list. list.now) colors.entry) text.now out.old out.new result }
 {
-    let options = request.options()?;
+    let options = options_of(alloc, request, colors)?;
     Ok(table_into(alloc, &options, text, out)?)
 }
 
-/// The status of an outcome: 0 where there is a table, from 1 on a fault of the text, from 33 on one of the request.
+/// The status of an outcome: 0 where there is a table, from 1 on a fault of the text, from 33 on one of the request, and
+/// 39 where the list of colours has not the form.
 pub fn status_of(outcome: &Result<usize, Refusal>) -> u32
     ensures { result ≡ status_of outcome.now }
 {
@@ -100,6 +73,7 @@ pub fn status_of(outcome: &Result<usize, Refusal>) -> u32
         Ok(_) => 0,
         Err(Refusal::Text(fault)) => text_status(fault),
         Err(Refusal::Request(fault)) => request_status(fault),
+        Err(Refusal::Colors) => 39,
     }
 }
 
@@ -138,13 +112,14 @@ fn request_status(fault: RequestFault) -> u32
 pub fn table_told(
     alloc: Global,
     request: &Request,
+    colors: Option<&[u8]>,
     text: &[u8],
     out: &mut [u8],
     answer: &mut Answer,
 ) -> u32
-    ensures { Tells request.now text.now out.old out.new result answer.new }
+    ensures { Tells request.now (option_map (λ list. list.now) colors.entry) text.now out.old out.new result answer.new }
 {
-    let outcome = table_by(alloc, request, text, out);
+    let outcome = table_by(alloc, request, colors, text, out);
     *answer = Answer::of(&outcome);
     status_of(&outcome)
 }

@@ -1,14 +1,16 @@
 //! What is asked of a table, as numbers.
 ghost use Rattle.std.specs.Prelude.{◌≡◌, ◌<◌, ◌↔◌, IfErr, IfNone, IfOk, IfSome, IsTrue, Option, get_or, length};
 ghost use Rattle.columns_bounded.specs.Requests.{IsAccepted, IsRefusedAs, ReservesNothing, priorities, styles, wanted_by, width_by};
+ghost use Rattle.columns_options.specs.ColumnColors.{AllClose};
 ghost use Rattle.columns_options.specs.Settings.{settings_with};
 ghost use Rattle.columns_run.specs.Plain.{IsPlain};
 ghost use Rattle.columns_run.specs.Wanted.{wanted_of};
 ghost use Rattle.grid_config.specs.Compact.{compact_of};
 ghost use Rattle.tabled_glyphs.specs.Glyphs.{ascii};
 
-use columns_options::Options;
+use columns_options::{Options, default_style};
 use grid_config::{Borders, CompactConfig};
+use std::alloc::Global;
 use tabled_glyphs::{ascii, extended, modern};
 use tabled_size_priority::Choice;
 
@@ -59,10 +61,12 @@ pub enum RequestFault {
 }
 
 impl Request {
-    /// The options that the numbers stand for, with a plain style; or the first number that stands for nothing.
-    pub fn options(&self) -> Result<Options, RequestFault>
+    /// The options that the numbers stand for, with a plain style and without colours; or the first number that
+    /// stands for nothing. Does not allocate.
+    pub fn options(&self, alloc: Global) -> Result<Options, RequestFault>
         ensures ok { IfOk result (λ options. IsAccepted self.now × (wanted_of options ≡ wanted_by self.now)) }
         ensures plain { IfOk result (λ options. IsPlain (compact_of options.style)) }
+        ensures close { IfOk result (λ options. AllClose options.colors.items) }
         ensures err { IfErr result (λ fault. IsRefusedAs self.now fault) }
     {
         match self.first_fault() {
@@ -73,6 +77,7 @@ impl Request {
                 keep_words: self.keep_words == 1,
                 priority: priority_numbered(self.priority),
                 style: style_numbered(self.style),
+                colors: Vec::new(alloc),
             }),
         }
     }
@@ -120,7 +125,7 @@ fn style_numbered(number: u32) -> CompactConfig
 fn style_of(borders: Borders<char>) -> CompactConfig
     ensures { compact_of result ≡ settings_with borders }
 {
-    Options::new().style.set_borders(borders)
+    default_style().set_borders(borders)
 }
 
 // The glyphs of the style of this number.

@@ -1,6 +1,7 @@
 //! From a text in memory to the front of its table.
 ghost use Rattle.std.specs.Prelude.{◌≡◌, ◌≤◌, ◌↔◌, length, IfErr, IfOk, IsErrOf};
 ghost use Rattle.columns_bounded.specs.Fronts.{filled};
+ghost use Rattle.columns_options.specs.ColumnColors.{AllClose};
 ghost use Rattle.columns_run.specs.Layout.{output_of};
 ghost use Rattle.columns_run.specs.Plain.{IsPlain};
 ghost use Rattle.columns_run.specs.Run.{MayAnswer, read_limit};
@@ -23,7 +24,8 @@ pub fn table_into(
     text: &[u8],
     out: &mut [u8],
 ) -> Result<usize, RunFault>
-    requires { IsPlain (compact_of options.now.style) }
+    requires plain { IsPlain (compact_of options.now.style) }
+    requires close { AllClose options.now.colors.items }
     ensures answers { MayAnswer (wanted_of options.now) text.now result }
     ensures size { IfOk result (λ size. size ≡ length (output_of (wanted_of options.now) text.now)) }
     ensures bytes { IfOk result (λ _. out.new ≡ filled out.old (output_of (wanted_of options.now) text.now)) }
@@ -41,7 +43,8 @@ pub fn table_into(
 
 // The whole table.
 fn table_of(alloc: Global, options: &Options, text: &[u8]) -> Result<Vec<u8>, RunFault>
-    requires { IsPlain (compact_of options.now.style) }
+    requires plain { IsPlain (compact_of options.now.style) }
+    requires close { AllClose options.now.colors.items }
     ensures answers { MayAnswer (wanted_of options.now) text.now result }
     ensures table { IfOk result (λ table. table.items ≡ output_of (wanted_of options.now) text.now) }
     ensures no_write { ¬ (IsErrOf result RunFault.Write) × ¬ (IsErrOf result RunFault.WriteZero) }
@@ -56,8 +59,8 @@ fn table_of(alloc: Global, options: &Options, text: &[u8]) -> Result<Vec<u8>, Ru
     }
 }
 
-// Writes as many bytes as there is room for, from the start.
-fn write_front(bytes: &[u8], out: &mut [u8])
+/// Writes as many bytes as there is room for, from the start.
+pub(crate) fn write_front(bytes: &[u8], out: &mut [u8])
     ensures { out.new ≡ filled out.old bytes.now }
 {
     let count = bytes.len().min(out.len());

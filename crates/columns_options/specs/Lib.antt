@@ -1,1 +1,2 @@
+pub mod ColumnColors
 pub mod Settings

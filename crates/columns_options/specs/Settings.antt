@@ -1,7 +1,6 @@
 -- What a table looks like under each set of glyphs, and which one it has where none is asked for.
-use Rattle.std.specs.Prelude.{◌≡◌, ℕ}
-use Rattle.columns_options.specs.declared.options.Options.{Options}
-use Rattle.grid_config.specs.Compact.{Compact, compact_of, new_compact, no_indent}
+use Rattle.std.specs.Prelude.{ℕ}
+use Rattle.grid_config.specs.Compact.{Compact, new_compact, no_indent}
 use Rattle.grid_config_values.specs.declared.borders.Borders.{Borders}
 use Rattle.tabled_glyphs.specs.Glyphs.{ascii}
 
@@ -14,9 +13,3 @@ settings_with borders = record new_compact {
 
 abbrev pub default_settings : Compact
 default_settings = settings_with ascii
-
--- the same width, ways of narrowing, and settings
-abbrev pub AskTheSame : Options → Options → Type 0
-AskTheSame a b =
-    (a.width ≡ b.width) × (a.truncate ≡ b.truncate) × (a.keep_words ≡ b.keep_words) × (a.priority ≡ b.priority)
-    × (compact_of a.style ≡ compact_of b.style)

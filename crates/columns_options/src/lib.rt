@@ -1,7 +1,8 @@
 //! What the program `columns` is asked, as a value.
 #![tactic(auto)]
 
-pub mod laws;
+mod closing;
 mod options;
 
-pub use options::Options;
+pub use closing::colors_close;
+pub use options::{Options, default_style};

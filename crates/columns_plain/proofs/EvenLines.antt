@@ -1,6 +1,6 @@
 -- All lines of the table of a plain input take as many columns.
 use Rattle.std.proofs.Common.{◌≡◌, ◌==◌, ◌||◌, ◌+◌, ◌<◌, ◌≤◌, max, min, ℕ, suc, Bool, true, false, inl, inr, List, [], ◌∷◌, None, Some, Option, map, length, sum, slice_index, refl, ap, sym, ◌∙◌, arith, if◌then◌else◌}
-use Rattle.std.specs.Prelude.{IfSome}
+use Rattle.std.specs.Prelude.{IfSome, chars}
 use Rattle.std.proofs.Math.Path.{fun_ext}
 use Rattle.std.proofs.lemmas.Bool.{cases_lt}
 use Rattle.std.proofs.lemmas.List.{length-map}
@@ -16,6 +16,7 @@ use Rattle.grid_config_values.specs.declared.sides.Indent.{Indent}
 use Rattle.grid_config_values.specs.declared.sides.Sides.{Sides}
 use Rattle.grid_records_estimate.specs.Totals.{total}
 use Rattle.grid_records_measure.specs.Measures.{columns}
+use Rattle.papergrid_colors.proofs.PieceLemmas.{line-pieces}
 use Rattle.papergrid_picture.specs.Fitting.{table_width}
 use Rattle.papergrid_picture.specs.Frame.{Frame, column_count as columns_of, frame_of, line_count, row_count, total_width, track_at}
 use Rattle.papergrid_picture.specs.Shown.{CostsOne, OnEachSide, ShowsOnly}
@@ -25,6 +26,7 @@ use Rattle.papergrid_picture.proofs.WidthLemmas.{line-columns}
 use Rattle.tabled_size_cells.specs.Resizing.{Resize}
 use Rattle.columns_asked.specs.declared.asked.Asked.{Asked}
 use Rattle.columns_asked.specs.Layout.{asked_frame, asked_widths, frame_under, heights_of, kept_texts, narrowed, paddings, resize_in, too_wide, widths_of}
+use Rattle.columns_options.specs.ColumnColors.{AllClose}
 use Rattle.columns_table.specs.Asking.{narrowest_frame}
 use Rattle.columns_table.proofs.AskedWidths.{padded, width-fitting, width-narrowed}
 use Rattle.columns_table.proofs.NarrowedLemmas.{some-of-table}
@@ -34,8 +36,8 @@ use Rattle.columns_run.specs.Layout.{grid_of, kept_of, line_bytes, piece_bytes}
 use Rattle.columns_run.specs.Plain.{IsPlain, IsPlainCharacter}
 use Rattle.columns_run.specs.Rows.{cell_parts}
 use Rattle.columns_run.specs.Wanted.{Wanted}
-use Rattle.columns_run.proofs.ByteLemmas.{line-pieces}
 use Rattle.columns_run.proofs.CellLemmas.{whole_cells, whole_text}
+use Rattle.columns_run.proofs.PieceLemmas.{line-left}
 use Rattle.columns_run.proofs.PlainLemmas.{bare, plain-space, shown-only}
 use Rattle.columns_run.proofs.TilingLemmas.{room}
 use Rattle.columns_run.specs.Widths.{least_columns, natural_columns, taken_columns}
@@ -153,15 +155,16 @@ module _ (wanted : Wanted) (input : List ℕ) where
     abbrev style : Compact
     style = wanted.style
 
-    pub even : IsPlain wanted.style → (y : ℕ) → y < line_count (grid_of wanted input).frame → columns (shown_chars (line_bytes wanted input y)) ≡ taken_columns wanted input
+    pub even : IsPlain wanted.style → AllClose wanted.colors → (y : ℕ) → y < line_count (grid_of wanted input).frame → columns (shown_chars (line_bytes wanted input y)) ≡ taken_columns wanted input
     unfolding grid_of kept_of piece_bytes kept_texts too_wide
-    even plain y inside =
+    even plain close y inside =
         let asked = wanted.asked in
         let kept = kept_texts style asked texts in
         let widths = asked_widths style asked texts in
         let heights = heights_of style kept in
         let resize : ℕ → Resize = resize_in style asked (narrowed style asked texts) in
         let shown = rows-plainly resize texts (cells-are-plain input is) in
-        ap (λ (bytes : List ℕ). columns (shown_chars bytes)) (sym (line-pieces style (bare style plain) kept widths heights y))
+        ap (λ (shown : List ℕ). columns (chars shown)) (line-left wanted input y plain close is.utf8 is.whole)
+        ∙ ap (λ (bytes : List ℕ). columns (shown_chars bytes)) (sym (line-pieces (compact_look style) kept (λ _. None) widths heights (bare style plain) y))
         ∙ line-columns (compact_look style) kept widths heights (bare style plain) (ones style plain) shown [] y (good style kept widths heights) (room style kept widths heights (never-too_wide style asked texts (whole_cells input (whole_text input is.utf8 is.whole))))
         ∙ total-same (frame_of (compact_look style) widths heights) (omega (arith, inside))

@@ -1,5 +1,5 @@
 -- Texts of characters whose columns add up, and one of them.
-use Rattle.std.specs.Prelude.{◌≡◌, ◌==◌, ℕ, ◌||◌, List, codes, false, true, IsUtf8}
+use Rattle.std.specs.Prelude.{◌≡◌, ◌==◌, ℕ, ◌||◌, List, [], codes, false, true, IsUtf8}
 use Rattle.std.specs.List.{list_all}
 use Rattle.ansi_scan.specs.Sequences.{IsWhole}
 use Rattle.ansi_str.specs.Characters.{shown_chars}
@@ -25,4 +25,4 @@ red_letters = codes "\u{1b}[31mab\u{1b}[0m\tc\n"
 
 -- wrapped in nine columns, of which each of two texts has one
 abbrev pub in_nine_columns : Wanted
-in_nine_columns = record { style = default_settings; asked = wraps 9 false InTurns }
+in_nine_columns = record { style = default_settings; asked = wraps 9 false InTurns; colors = [] }

@@ -1,35 +1,34 @@
 -- The bytes of a table, piece by piece.
-use Rattle.std.proofs.Common.{◌≡◌, ℕ, zero, suc, ◌+◌, ◌<◌, ◌≤◌, ◌==◌, false, List, [], ◌∷◌, ◌++◌, Option, None, Some, length, map, get_or, replicate, refl, ap, sym, ◌∙◌, arith, if◌then◌else◌}
+use Rattle.std.proofs.Common.{◌≡◌, ℕ, zero, suc, ◌+◌, ◌<◌, ◌≤◌, ◌==◌, false, List, [], ◌∷◌, ◌++◌, length, map, get_or, replicate, refl, ap, sym, ◌∙◌, arith, if◌then◌else◌}
 use Rattle.std.specs.Prelude.{encode_utf8, flat_map}
 use Rattle.std.specs.List.{join_with_byte, range_with_len}
 use Rattle.std.proofs.lemmas.Bool.Decides.{nat_tests}
 use Rattle.std.proofs.lemmas.List.{append_assoc, map-id, take_all}
-use Rattle.std.proofs.lemmas.List.Folds.{flat_map-map}
 use Rattle.ansi_scan.specs.Pieces.{pieces}
-use Rattle.columns_asked.specs.Layout.{asked_text, asked_widths, by_column, heights_of, kept_texts, narrowed, resize_in}
+use Rattle.columns_colors.specs.ColoredTables.{colored_text}
+use Rattle.columns_colors.specs.ColumnColors.{cell_color}
+use Rattle.columns_asked.specs.Layout.{asked_widths, by_column, heights_of, kept_texts, narrowed, resize_in}
 use Rattle.columns_asked.specs.Resizing.{resized_text}
-use Rattle.grid_config.specs.Compact.{Compact}
 use Rattle.grid_config.specs.Looks.{compact_look}
-use Rattle.grid_config.specs.Colors.{Color}
 use Rattle.grid_config_values.specs.declared.position.Position.{Position}
 use Rattle.grid_records_measure.proofs.TextLineLemmas.{length-text_lines}
 use Rattle.grid_records_measure.specs.TextLines.{line_feed, shown_lines, text_height, text_lines}
 use Rattle.grid_records_estimate.specs.Rows.{IsInside, row_at, text_at}
 use Rattle.papergrid_picture.proofs.JoinLemmas.{table_text-joined}
-use Rattle.papergrid_picture.proofs.RelatedLemmas.{related-picture_line}
-use Rattle.papergrid_picture.proofs.ShownLemmas.{IsShown-space, get_or-map, painted-nothing}
-use Rattle.papergrid_picture.proofs.WidthLemmas.{line_items-plain}
-use Rattle.papergrid_picture.specs.Blocks.{Content, Fill, Glyph, Grid, TextLine}
+use Rattle.papergrid_colors.specs.ColoredLines.{with_painted_lines}
+use Rattle.papergrid_colors.proofs.PieceLemmas.{line-pieces}
+use Rattle.papergrid_picture.proofs.ShownLemmas.{get_or-map}
+use Rattle.papergrid_picture.specs.Blocks.{Content, Fill, Glyph, TextLine}
 use Rattle.papergrid_picture.specs.CellLines.{cell_lines}
 use Rattle.papergrid_picture.specs.Frame.{frame_of, line_count}
-use Rattle.papergrid_picture.specs.Picture.{Piece, parts_of, picture_line}
-use Rattle.papergrid_picture.specs.Reading.{Reading, content_items, painted, part_items}
-use Rattle.papergrid_picture.specs.Shown.{IsBare, IsShown, WritesNothing}
-use Rattle.papergrid_picture.specs.Tables.{in_bytes, table_grid, table_line}
-use Rattle.columns_run.specs.Layout.{grid_of, kept_of, line_bytes, output_of, piece_bytes, resize_of}
+use Rattle.papergrid_picture.specs.Picture.{Piece}
+use Rattle.papergrid_picture.specs.Reading.{Reading, content_items}
+use Rattle.papergrid_picture.specs.Tables.{in_bytes, table_line}
+use Rattle.columns_run.specs.Layout.{colored_line, grid_of, kept_of, line_bytes, output_of, piece_bytes, resize_of}
 use Rattle.columns_run.specs.Plain.{IsPlain}
 use Rattle.columns_run.specs.Rows.{cell_parts}
 use Rattle.columns_run.specs.Wanted.{Wanted}
+use Rattle.columns_run.proofs.ColorLemmas.{painted-is}
 use Rattle.columns_run.proofs.PlainLemmas.{bare}
 
 -- ---- lines
@@ -48,38 +47,23 @@ ended-lines line (suc n) =
     let some : (suc n == 0) ≡ false = grind (arith, nat_tests) in
     ap (λ none. if none then [] else join_with_byte line_feed (map line (range_with_len 0 (suc n))) ++ line_feed ∷ []) some ∙ ends line 0 (range_with_len 1 n)
 
--- ---- pieces
-
-module _ (style : Compact) (plain : IsBare (compact_look style)) (texts : List (List (List ℕ))) (widths heights : List ℕ) where
-  abbrev reading : Reading ℕ
-  reading = in_bytes (compact_look style) texts
-
-  -- the same without colours
-  abbrev unpainted : Reading ℕ
-  unpainted = record { item = encode_utf8; line = reading.line; paint = λ color bytes. bytes }
-
-  stays : (color : Option Color) (bytes : List ℕ) → painted unpainted color bytes ≡ bytes
-  stays None bytes = refl
-  stays (Some color) [] = refl
-  stays (Some color) (b ∷ bs) = refl
-
-  -- a line is its pieces one behind the other
-  pub line-pieces : (y : ℕ) → table_line (compact_look style) texts (λ _. None) widths heights y
-      ≡ flat_map (λ (piece : Piece). part_items reading piece.part) (picture_line (table_grid (compact_look style) texts (λ _. None) widths heights) y)
-  line-pieces y =
-      let grid : Grid = table_grid (compact_look style) texts (λ _. None) widths heights in
-      related-picture_line (λ (a b : List ℕ). a ≡ b) refl (λ a c b d first second. ap (λ bytes. bytes ++ c) first ∙ ap (λ bytes. b ++ bytes) second)
-      reading unpainted WritesNothing (λ color a b nothing is. painted-nothing (compact_look style) texts color a nothing ∙ is ∙ sym (stays color b))
-      IsShown (λ c shown. refl) IsShown-space grid (λ cell k. refl) (λ _. tt) plain.shown plain.no_colors y
-      ∙ line_items-plain unpainted stays (parts_of (picture_line grid y))
-      ∙ flat_map-map (part_items unpainted) (λ (piece : Piece). piece.part) (picture_line grid y)
+-- a line of a cell has the bytes of that line of the text
+pub line-text : (text : List ℕ) (k : ℕ) → get_or (cell_lines false false text) k [] ≡ get_or (text_lines text) k []
+unfolding text_height
+line-text text k =
+    let lines = text_lines text in
+    let all : length lines ≤ length (shown_lines (pieces text)) = omega (arith, length-text_lines text) in
+    ap (λ (found : List (List ℕ)). get_or found k []) (map-id _ ∙ take_all (length (shown_lines (pieces text))) lines all)
 
 -- ---- the table of a text
 
 module _ (wanted : Wanted) (input : List ℕ) where
+  abbrev reading : Reading ℕ
+  reading = with_painted_lines (in_bytes (compact_look wanted.style) (kept_of wanted input)) (cell_color wanted.colors)
+
   -- the output is the lines of its grid
   pub output-lines : IsPlain wanted.style → output_of wanted input ≡ flat_map (λ y. line_bytes wanted input y ++ line_feed ∷ []) (range_with_len 0 (line_count (grid_of wanted input).frame))
-  unfolding output_of asked_text grid_of kept_of piece_bytes
+  unfolding output_of colored_text grid_of kept_of piece_bytes
   output-lines plain =
       let style = wanted.style in
       let asked = wanted.asked in
@@ -87,31 +71,28 @@ module _ (wanted : Wanted) (input : List ℕ) where
       let widths = asked_widths style asked (cell_parts input) in
       let heights = heights_of style kept in
       let n = line_count (frame_of (compact_look style) widths heights) in
-      ap (λ (text : List ℕ). if n == 0 then [] else text ++ line_feed ∷ []) (table_text-joined (compact_look style) kept (λ _. None) widths heights)
-      ∙ ended-lines (table_line (compact_look style) kept (λ _. None) widths heights) n
-      ∙ (λ k. flat_map (λ y. line-pieces style (bare style plain) kept widths heights y k ++ line_feed ∷ []) (range_with_len 0 n))
+      let colors = cell_color wanted.colors in
+      ap (λ (text : List ℕ). if n == 0 then [] else text ++ line_feed ∷ []) (table_text-joined (compact_look style) kept colors widths heights)
+      ∙ ended-lines (table_line (compact_look style) kept colors widths heights) n
+      ∙ (λ k. flat_map (λ y. line-pieces (compact_look style) kept colors widths heights (bare style plain) y k ++ line_feed ∷ []) (range_with_len 0 n))
 
-  -- a line of a cell has the bytes of that line of the text
-  line-text : (text : List ℕ) (k : ℕ) → get_or (cell_lines false false text) k [] ≡ get_or (text_lines text) k []
-  unfolding text_height
-  line-text text k =
-      let lines = text_lines text in
-      let all : length lines ≤ length (shown_lines (pieces text)) = omega (arith, length-text_lines text) in
-      ap (λ (found : List (List ℕ)). get_or found k []) (map-id _ ∙ take_all (length (shown_lines (pieces text))) lines all)
-
-  pub piece-text : (piece : Piece) (cell : Position) (k : ℕ) → piece.part.content ≡ TextLine cell k → piece_bytes wanted input piece ≡ get_or (text_lines (text_at (kept_of wanted input) cell)) k []
+  pub piece-text : (piece : Piece) (cell : Position) (k : ℕ) → piece.part.content ≡ TextLine cell k
+      → piece_bytes wanted input piece ≡ colored_line (cell_color wanted.colors cell) (get_or (text_lines (text_at (kept_of wanted input) cell)) k [])
   unfolding piece_bytes
   piece-text piece cell k is =
-      ap (λ (content : Content). content_items (in_bytes (compact_look wanted.style) (kept_of wanted input)) content piece.part.width) is
-      ∙ line-text (text_at (kept_of wanted input) cell) k
+      let kept = kept_of wanted input in
+      let color = cell_color wanted.colors cell in
+      ap (λ (content : Content). content_items reading content piece.part.width) is
+      ∙ painted-is (compact_look wanted.style) kept color (get_or (cell_lines false false (text_at kept cell)) k [])
+      ∙ ap (colored_line color) (line-text (text_at kept cell) k)
 
   pub piece-fill : (piece : Piece) (c : ℕ) → piece.part.content ≡ Fill c → piece_bytes wanted input piece ≡ flat_map encode_utf8 (replicate piece.part.width c)
   unfolding piece_bytes
-  piece-fill piece c is = ap (λ (content : Content). content_items (in_bytes (compact_look wanted.style) (kept_of wanted input)) content piece.part.width) is
+  piece-fill piece c is = ap (λ (content : Content). content_items reading content piece.part.width) is
 
   pub piece-glyph : (piece : Piece) (c : ℕ) → piece.part.content ≡ Glyph c → piece_bytes wanted input piece ≡ flat_map encode_utf8 (replicate piece.part.width c)
   unfolding piece_bytes
-  piece-glyph piece c is = ap (λ (content : Content). content_items (in_bytes (compact_look wanted.style) (kept_of wanted input)) content piece.part.width) is
+  piece-glyph piece c is = ap (λ (content : Content). content_items reading content piece.part.width) is
 
 -- ---- cells
 

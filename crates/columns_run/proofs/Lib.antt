@@ -3,6 +3,7 @@ pub mod BegunLemmas
 pub mod BoundLemmas
 pub mod ByteLemmas
 pub mod CellLemmas
+pub mod ColorLemmas
 pub mod EndLemmas
 pub mod GatherLemmas
 pub mod ItemLemmas

@@ -6,22 +6,28 @@ use Rattle.std.proofs.lemmas.Simd.{map-map}
 use Rattle.std.proofs.lemmas.Str.{chars-encodes, encodes-chars, scalars-chars}
 use Rattle.ansi_scan.specs.Sequences.{Piece, ArePiecesOf, IsWhole, NoneBroken}
 use Rattle.ansi_scan.specs.Attributes.{plain_attributes}
+use Rattle.ansi_scan.specs.Pieces.{pieces}
+use Rattle.ansi_scan.proofs.Existence.{ArePiecesOf-pieces}
 use Rattle.ansi_scan.proofs.Uniqueness.{pieces-ArePiecesOf}
 use Rattle.ansi_str.specs.StyledText.{IsClosed, has_escape, strip, styled}
-use Rattle.ansi_str_text.proofs.Stripping.{has_escape-strip}
-use Rattle.columns_asked.specs.Layout.{asked_characters, asked_picture, asked_text}
+use Rattle.ansi_str_text.proofs.Stripping.{has_escape-strip, strip-without_escape}
+use Rattle.columns_asked.specs.Layout.{asked_characters, asked_picture}
 use Rattle.columns_asked.proofs.CharacterLemmas.{picture-alone as asked-alone}
 use Rattle.columns_asked.proofs.PlainTextLemmas.{text-plain}
-use Rattle.columns_asked.proofs.TableLemmas.{picture-feeds, text-shows_picture}
+use Rattle.columns_colors.specs.ColoredTables.{colored_items, colored_text}
+use Rattle.columns_colors.specs.ColumnColors.{cell_color}
+use Rattle.columns_colors.proofs.TableLemmas.{items-characters, items-feeds, text-shows_items}
+use Rattle.columns_options.specs.ColumnColors.{AllClose}
 use Rattle.grid_config.specs.Compact.{Compact}
-use Rattle.papergrid_picture.specs.Shown.{ArePlainTexts, IsPlainText, Styled, character_of, in_plain, styled_texts}
+use Rattle.papergrid_picture.specs.Shown.{ArePlainTexts, AreWholeTexts, IsPlainText, Styled, character_of, in_plain, styled_texts}
 use Rattle.papergrid_picture.proofs.ShownLemmas.{ShowsHere}
 use Rattle.columns_run.specs.Rows.{cell_parts, line_feed, row_texts, rows_of, tab}
-use Rattle.columns_run.specs.Layout.{characters_of, output_of, picture, table_characters, texts_of}
+use Rattle.columns_run.specs.Layout.{characters_of, output_of, picture, picture_without_colors, table_characters, texts_of}
 use Rattle.columns_run.specs.Plain.{IsPlain}
 use Rattle.columns_run.specs.TableShown.{ShowsTableOf}
-use Rattle.columns_run.specs.Wanted.{Wanted}
+use Rattle.columns_run.specs.Wanted.{Wanted, without_colors}
 use Rattle.columns_run.proofs.CellLemmas.{closed_cells, rows_of-characters, styled-cell_parts, whole_cells, whole_text}
+use Rattle.columns_run.proofs.ColorLemmas.{cells-close, output-uncolored}
 use Rattle.columns_run.proofs.ItemLemmas.{map-same}
 use Rattle.columns_run.proofs.PlaceLemmas.{IsWhole-without_escape, cell_parts-plain, plain_cells}
 use Rattle.columns_run.proofs.PlainLemmas.{bare}
@@ -29,52 +35,63 @@ use Rattle.ansi_str_text.proofs.Utf8Pieces.{IsUtf8-stripped, styled-characters}
 use Rattle.columns_run.proofs.SplitLemmas.{IsClosedPart, IsWholeText, styled_characters}
 use Rattle.columns_run.proofs.TextLemmas.{AreScalars, AreScalars-cells, AreScalars-slice_split, AreScalars-without_empty_last, rows_of-encodes}
 
+abbrev FeedIsPlain : Styled → Type 0
+FeedIsPlain x = x.0 ≡ line_feed → x.1 ≡ plain_attributes
+
 -- ---- the output and the picture
 
 module _ (wanted : Wanted) (text : List ℕ) (whole : IsWholeText text) where
   abbrev style : Compact
   style = wanted.style
 
-  picture-cells : picture wanted (styled_characters text) ≡ asked_picture style wanted.asked (styled_texts (cell_parts text))
+  all : AreWholeTexts (cell_parts text)
+  all = whole_cells text whole
+
+  picture-cells : picture wanted text ≡ colored_items style wanted.asked (cell_color wanted.colors) (styled_texts (cell_parts text)) (cell_parts text)
   unfolding picture
-  picture-cells = ap (asked_picture style wanted.asked) (sym (styled-cell_parts text whole))
+  picture-cells = ap (λ (rows : List (List (List Styled))). colored_items style wanted.asked (cell_color wanted.colors) rows (cell_parts text)) (sym (styled-cell_parts text whole))
 
-  output-shows : IsPlain style → ShowsHere (output_of wanted text) (picture wanted (styled_characters text))
+  output-shows : IsPlain style → AllClose wanted.colors → ShowsHere (output_of wanted text) (picture wanted text)
   unfolding output_of
-  output-shows plain =
-      subst (ShowsHere (asked_text style wanted.asked (cell_parts text))) (sym picture-cells)
-      (text-shows_picture style wanted.asked (cell_parts text) (bare style plain) (whole_cells text whole))
+  output-shows plain close =
+      subst (ShowsHere (colored_text style wanted.asked (cell_color wanted.colors) (cell_parts text))) (sym picture-cells)
+      (text-shows_items style wanted.asked (cell_color wanted.colors) (cell_parts text) all (bare style plain) (cells-close wanted.colors close))
 
--- ---- line feeds
+  -- ---- line feeds
 
-abbrev FeedIsPlain : Styled → Type 0
-FeedIsPlain x = x.0 ≡ line_feed → x.1 ≡ plain_attributes
+  feeds-plain : All FeedIsPlain (picture wanted text)
+  feeds-plain = subst (All FeedIsPlain) (sym picture-cells) (items-feeds style wanted.asked (cell_color wanted.colors) (cell_parts text) all)
 
-feeds-plain : (wanted : Wanted) (cs : List Styled) → All FeedIsPlain (picture wanted cs)
-unfolding picture
-feeds-plain wanted cs = picture-feeds wanted.style wanted.asked (rows_of character_of cs)
+  -- ---- characters
+
+  -- colours change none
+  picture-uncolored_characters : characters_of (picture wanted text) ≡ characters_of (picture_without_colors wanted (styled_characters text))
+  unfolding picture_without_colors
+  picture-uncolored_characters =
+      ap characters_of picture-cells ∙ items-characters style wanted.asked (cell_color wanted.colors) (cell_parts text) all
+      ∙ ap (λ (rows : List (List (List Styled))). characters_of (asked_picture style wanted.asked rows)) (styled-cell_parts text whole)
 
 -- ---- the whole
 
-pub output-shows_table : (wanted : Wanted) (text : List ℕ) → IsPlain wanted.style → IsUtf8 text → IsWhole text → ShowsTableOf wanted text (output_of wanted text)
-output-shows_table wanted text plain utf8 whole =
-    let shows = output-shows wanted text (whole_text text utf8 whole) plain in
+pub output-shows_table : (wanted : Wanted) (text : List ℕ) → IsPlain wanted.style → AllClose wanted.colors → IsUtf8 text → IsWhole text → ShowsTableOf wanted text (output_of wanted text)
+output-shows_table wanted text plain close utf8 whole =
+    let of_text = whole_text text utf8 whole in
+    let shows = output-shows wanted text of_text plain close in
     let bytes = output_of wanted text in
-    let cs = styled_characters text in
-    let shown : (qs : List Piece) → ArePiecesOf bytes qs → styled qs ≡ picture wanted cs = λ qs of_output. ap styled (sym (pieces-ArePiecesOf bytes qs of_output)) ∙ shows.shown in
+    let shown : (qs : List Piece) → ArePiecesOf bytes qs → styled qs ≡ picture wanted text = λ qs of_output. ap styled (sym (pieces-ArePiecesOf bytes qs of_output)) ∙ shows.shown in
     record {
       text = shows.utf8;
-      picture = λ ps qs of_input of_output. shown qs of_output ∙ ap (λ found. picture wanted (styled found)) (pieces-ArePiecesOf text ps of_input);
+      picture = shown;
       lines = λ qs of_output. record {
         closed = subst IsClosed (pieces-ArePiecesOf bytes qs of_output) shows.closed;
-        line_feeds = subst (All FeedIsPlain) (sym (shown qs of_output)) (feeds-plain wanted cs);
+        line_feeds = subst (All FeedIsPlain) (sym (shown qs of_output)) (feeds-plain wanted text of_text);
       };
     }
 
 -- ---- without styles
 
-pub picture-alone : (wanted : Wanted) (cs : List Styled) → characters_of (picture wanted cs) ≡ table_characters wanted (characters_of cs)
-unfolding picture table_characters
+pub picture-alone : (wanted : Wanted) (cs : List Styled) → characters_of (picture_without_colors wanted cs) ≡ table_characters wanted (characters_of cs)
+unfolding picture_without_colors table_characters
 picture-alone wanted cs =
     let style = wanted.style in
     asked-alone style wanted.asked (rows_of character_of cs) ∙ ap (asked_characters style wanted.asked) (sym (rows_of-characters cs))
@@ -84,9 +101,15 @@ plain-characters [] = refl
 plain-characters (c ∷ cs) = ap (λ rest. c ∷ rest) (plain-characters cs)
 
 -- without styles the picture is the same
-pub picture-plain : (wanted : Wanted) (cs : List Styled) → characters_of (picture wanted cs) ≡ characters_of (picture wanted (map in_plain (characters_of cs)))
+pub picture-plain : (wanted : Wanted) (cs : List Styled) → characters_of (picture_without_colors wanted cs) ≡ characters_of (picture_without_colors wanted (map in_plain (characters_of cs)))
 picture-plain wanted cs =
     picture-alone wanted cs ∙ ap (table_characters wanted) (sym (plain-characters (characters_of cs))) ∙ sym (picture-alone wanted (map in_plain (characters_of cs)))
+
+-- nor do colours change the characters
+pub picture-characters : (wanted : Wanted) (text : List ℕ) → IsUtf8 text → IsWhole text → characters_of (picture wanted text) ≡ table_characters wanted (chars (strip (pieces text)))
+picture-characters wanted text utf8 whole =
+    picture-uncolored_characters wanted text (whole_text text utf8 whole) ∙ picture-alone wanted (styled (pieces text))
+    ∙ ap (table_characters wanted) (styled-characters text (pieces text) utf8 (ArePiecesOf-pieces text))
 
 -- ---- without sequences
 
@@ -128,21 +151,38 @@ module _ (text : List ℕ) (utf8 : IsUtf8 text) (none : has_escape text ≡ fals
       both [] closed gone = tt
       both (row ∷ rows) closed gone = (in_row row closed.0 gone.0, both rows closed.1 gone.1)
 
-  -- the output is the table of its characters
-  pub output-plain : (wanted : Wanted) → IsPlain wanted.style → output_of wanted text ≡ encode_utf8_all (table_characters wanted (chars text))
-  unfolding output_of table_characters
+  -- without colours the output is the table of its characters
+  pub output-plain : (wanted : Wanted) → IsPlain wanted.style → output_of (without_colors wanted) text ≡ encode_utf8_all (table_characters wanted (chars text))
+  unfolding table_characters
   output-plain wanted plain =
       let style = wanted.style in
-      text-plain style wanted.asked (bare style plain) (cell_parts text) plain_texts
+      output-uncolored (without_colors wanted) text refl
+      ∙ text-plain style wanted.asked (bare style plain) (cell_parts text) plain_texts
       ∙ ap (λ rows. encode_utf8_all (asked_characters style wanted.asked rows)) cells-plain
 
--- without its sequences the output is the output of the text without its own
-pub strip-output : (wanted : Wanted) (text : List ℕ) (ps qs : List Piece) → IsPlain wanted.style → IsUtf8 text → ArePiecesOf text ps → NoneBroken ps → ArePiecesOf (output_of wanted text) qs → strip qs ≡ output_of wanted (strip ps)
-strip-output wanted text ps qs plain utf8 of_text whole of_output =
-    let shows = output-shows_table wanted text plain utf8 (record { pieces = ps; of_text = of_text; none_broken = whole }) in
+-- without its sequences the output is the output of the text without its own, and without colours
+pub strip-output : (wanted : Wanted) (text : List ℕ) (ps qs : List Piece) → IsPlain wanted.style → AllClose wanted.colors → IsUtf8 text → ArePiecesOf text ps → NoneBroken ps → ArePiecesOf (output_of wanted text) qs
+    → strip qs ≡ output_of (without_colors wanted) (strip ps)
+strip-output wanted text ps qs plain close utf8 of_text whole of_output =
+    let is_whole : IsWhole text = record { pieces = ps; of_text = of_text; none_broken = whole } in
+    let shows = output-shows_table wanted text plain close utf8 is_whole in
     let out = output_of wanted text in
     let characters : chars (strip qs) ≡ table_characters wanted (chars (strip ps)) =
-    sym (styled-characters out qs shows.text of_output) ∙ ap characters_of (shows.picture ps qs of_text of_output)
-    ∙ picture-alone wanted (styled ps) ∙ ap (table_characters wanted) (styled-characters text ps utf8 of_text) in
+    sym (styled-characters out qs shows.text of_output) ∙ ap characters_of (shows.picture qs of_output)
+    ∙ picture-characters wanted text utf8 is_whole ∙ ap (λ (found : List Piece). table_characters wanted (chars (strip found))) (pieces-ArePiecesOf text ps of_text) in
     sym (encodes-chars (strip qs) (IsUtf8-stripped out qs shows.text of_output)) ∙ ap encode_utf8_all characters
     ∙ sym (output-plain (strip ps) (IsUtf8-stripped text ps utf8 of_text) (has_escape-strip text ps of_text) wanted plain)
+
+-- so both outputs, stripped, are the same
+pub strip-both : (wanted : Wanted) (text : List ℕ) (ps qs rs : List Piece) → IsPlain wanted.style → AllClose wanted.colors → IsUtf8 text → ArePiecesOf text ps → NoneBroken ps → ArePiecesOf (output_of wanted text) qs
+    → ArePiecesOf (output_of wanted (strip ps)) rs → strip qs ≡ strip rs
+strip-both wanted text ps qs rs plain close utf8 of_text whole of_output of_other =
+    let left = strip ps in
+    let gone : has_escape left ≡ false = has_escape-strip text ps of_text in
+    let again : strip (pieces left) ≡ left = strip-without_escape left (pieces left) (ArePiecesOf-pieces left) gone in
+    strip-output wanted text ps qs plain close utf8 of_text whole of_output
+    ∙ sym (strip-output wanted left (pieces left) rs plain close (IsUtf8-stripped text ps utf8 of_text) (ArePiecesOf-pieces left) (unbroken left (IsWhole-without_escape left gone)) of_other
+    ∙ ap (output_of (without_colors wanted)) again)
+  where
+    unbroken : (bytes : List ℕ) → IsWhole bytes → NoneBroken (pieces bytes)
+    unbroken bytes is = subst NoneBroken (sym (pieces-ArePiecesOf bytes is.pieces is.of_text)) is.none_broken

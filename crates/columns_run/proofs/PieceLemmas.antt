@@ -13,6 +13,8 @@ use Rattle.ansi_str.specs.StyledText.{strip}
 use Rattle.ansi_str_text.specs.Characters.{shown_chars}
 use Rattle.columns_asked.proofs.TableLemmas.{kept-whole}
 use Rattle.columns_asked.specs.Layout.{asked_widths, heights_of, kept_texts}
+use Rattle.columns_colors.specs.ColumnColors.{cell_color}
+use Rattle.columns_options.specs.ColumnColors.{AllClose}
 use Rattle.columns_options.specs.Settings.{default_settings}
 use Rattle.grid_config.specs.Compact.{Compact}
 use Rattle.grid_config.specs.Looks.{Look, compact_look}
@@ -24,9 +26,12 @@ use Rattle.grid_records_measure.specs.Measures.{columns, cost, measure, own_widt
 use Rattle.grid_records_measure.specs.PlainCharacters.{is_one_column, is_plain_character, is_two_columns}
 use Rattle.grid_records_measure.specs.TextLines.{line_measure, shown_lines, text_lines}
 use Rattle.grid_records_estimate.specs.Rows.{text_at}
+use Rattle.papergrid_colors.specs.ClosingColors.{ShowNothing}
+use Rattle.papergrid_colors.specs.ColoredLines.{with_painted_lines}
+use Rattle.papergrid_colors.proofs.StrippedLemmas.{AreSame, AreSame-append, AreSame-character, AreSame-nothing}
 use Rattle.papergrid_picture.proofs.ItemLemmas.{Anything, colored-anyhow}
 use Rattle.papergrid_picture.proofs.RelatedLemmas.{All-get_or, parts-hold}
-use Rattle.papergrid_picture.proofs.ShownLemmas.{IsShown-space, pieces-nothing, those-map}
+use Rattle.papergrid_picture.proofs.ShownLemmas.{IsClosedPart, IsShown-space, lines-closed_parts, pieces-nothing, those-map}
 use Rattle.papergrid_picture.proofs.StrippedLemmas.{Leaves, Leaves-append, Leaves-character}
 use Rattle.papergrid_picture.specs.Blocks.{Fill, Glyph, Grid, Part, TextLine}
 use Rattle.papergrid_picture.specs.CellLines.{cell_lines, cell_measures, those}
@@ -34,16 +39,24 @@ use Rattle.papergrid_picture.specs.Picture.{Piece, parts_of, picture_line}
 use Rattle.papergrid_picture.specs.Reading.{Reading, part_items}
 use Rattle.papergrid_picture.specs.Shown.{AreWholeTexts, IsShown, IsWholeText as IsWholeCell, ShowsOnly}
 use Rattle.papergrid_picture.specs.Tables.{in_bytes, table_grid}
-use Rattle.columns_run.specs.Layout.{content_columns, grid_of, kept_of, piece_bytes, piece_columns}
+use Rattle.columns_run.specs.Layout.{content_columns, grid_of, kept_of, line_bytes, piece_bytes, piece_columns}
 use Rattle.columns_run.specs.Plain.{IsPlain, IsPlainCharacter}
 use Rattle.columns_run.specs.Rows.{cell_parts, stripped}
-use Rattle.columns_run.specs.Wanted.{Wanted}
+use Rattle.columns_run.specs.Wanted.{Wanted, without_colors}
+use Rattle.columns_run.proofs.ByteLemmas.{line-text}
 use Rattle.columns_run.proofs.CellLemmas.{whole_cells, whole_text}
-use Rattle.columns_run.proofs.PlainLemmas.{default-narrow, plain-space, shown-only, shown-plain}
+use Rattle.columns_run.proofs.ColorLemmas.{cells-silent, colored-same, painted-is}
+use Rattle.columns_run.proofs.PlainLemmas.{bare, default-narrow, plain-space, shown-only, shown-plain}
 
 -- ---- a character in each of some columns
 
 module _ (c : ℕ) (is : IsShown c) where
+  filled-same : (n : ℕ) → AreSame (flat_map encode_utf8 (replicate n c)) (flat_map encode_utf8 (replicate n c))
+  filled-same zero = AreSame-nothing
+  filled-same (suc n) =
+      let rest = flat_map encode_utf8 (replicate n c) in
+      AreSame-append (encode_utf8 c) rest (encode_utf8 c) rest (AreSame-character c is) (filled-same n)
+
   filled-left : (n : ℕ) → Leaves (flat_map encode_utf8 (replicate n c)) (flat_map encode_utf8 (replicate n c))
   filled-left zero = record { whole = subst NoneBroken (sym pieces-nothing) tt; left = ap strip pieces-nothing }
   filled-left (suc n) =
@@ -109,9 +122,21 @@ line-measured text k whole =
     ∙ ap (λ (lines : List (List ℕ)). map line_measure (those kept lines)) (text_lines-shown text whole.whole) in
     measured-at (those kept (text_lines text)) k ∙ ap (λ (ms : List ℕ). get_or ms k 0) measures
 
+-- no sequence of it is broken
+line-unbroken : (text : List ℕ) (k : ℕ) → IsWholeCell text → NoneBroken (pieces (get_or (cell_lines false false text) k []))
+line-unbroken text k whole =
+    subst (λ (bytes : List ℕ). NoneBroken (pieces bytes)) (sym (line-text text k))
+    (All-get_or (λ (part : List ℕ). NoneBroken (pieces part)) (text_lines text) k []
+    (each (text_lines text) (lines-closed_parts text whole))
+    (subst NoneBroken (sym pieces-nothing) tt))
+  where
+    each : (parts : List (List ℕ)) → AllByRecursion IsClosedPart parts → AllByRecursion (λ (part : List ℕ). NoneBroken (pieces part)) parts
+    each [] all = tt
+    each (part ∷ parts) all = (all.0.closed.none_broken, each parts all.1)
+
 -- ---- the pieces of a line
 
-module _ (style : Compact) (texts : List (List (List ℕ))) (widths heights : List ℕ) (whole : AreWholeTexts texts) where
+module _ (style : Compact) (texts : List (List (List ℕ))) (colors : Position → Option Color) (widths heights : List ℕ) (whole : AreWholeTexts texts) (silent : ShowNothing colors) where
   abbrev look : Look
   look = compact_look style
 
@@ -119,12 +144,20 @@ module _ (style : Compact) (texts : List (List (List ℕ))) (widths heights : Li
   grid = table_grid look texts (λ _. None) widths heights
 
   abbrev reading : Reading ℕ
-  reading = in_bytes look texts
+  reading = with_painted_lines (in_bytes look texts) colors
 
   whole-at : (cell : Position) → IsWholeCell (text_at texts cell)
   whole-at cell =
       All-get_or IsWholeCell (get_or texts cell.row []) cell.col [] (All-get_or (AllByRecursion IsWholeCell) texts cell.row [] whole tt)
       (record { utf8 = IsUtf8-nil; whole = subst NoneBroken (sym pieces-nothing) tt })
+
+  -- a line in its colour measures what the line does
+  painted-measured : (cell : Position) (k : ℕ) → shown_measure (reading.line cell k) ≡ slice_index (cell_measures false false (text_at texts cell)) k
+  painted-measured cell k =
+      let bytes = get_or (cell_lines false false (text_at texts cell)) k [] in
+      ap shown_measure (painted-is look texts (colors cell) bytes)
+      ∙ ap (λ (shown : List ℕ). measure (chars shown)) (colored-same (colors cell) bytes (silent cell) (line-unbroken (text_at texts cell) k (whole-at cell))).one.left
+      ∙ line-measured (text_at texts cell) k (whole-at cell)
 
   pieces-of : (P : Part → Type 0) (pieces : List Piece) → AllByRecursion P (parts_of pieces) → AllByRecursion (λ piece. P piece.part) pieces
   pieces-of P [] all = tt
@@ -141,36 +174,73 @@ module _ (style : Compact) (texts : List (List (List ℕ))) (widths heights : Li
       (pieces-of P (picture_line grid y)
       (parts-hold P C Anything grid space (λ width c color of_c _. fills width c color of_c) (λ width c color of_c _. glyphs width c color of_c) texts shown (colored-anyhow look) y))
 
+  -- without its sequences a line in colours is the line without them
+  abbrev bare_reading : Reading ℕ
+  bare_reading = with_painted_lines (in_bytes look texts) (λ _. None)
+
+  abbrev IsSamePart : Part → Type 0
+  IsSamePart part = AreSame (part_items reading part) (part_items bare_reading part)
+
+  parts-same : ShowsOnly IsShown look → (y : ℕ) → AllByRecursion IsSamePart (parts_of (picture_line grid y))
+  parts-same shown y =
+      parts-hold IsSamePart IsShown Anything grid IsShown-space
+      (λ width c color is _. filled-same c is width) (λ width c color is _. filled-same c is width)
+      (λ cell k.
+      let bytes = get_or (cell_lines false false (text_at texts cell)) k [] in
+      subst (λ (painted : List ℕ). AreSame painted bytes) (sym (painted-is look texts (colors cell) bytes))
+      (colored-same (colors cell) bytes (silent cell) (line-unbroken (text_at texts cell) k (whole-at cell))))
+      shown (colored-anyhow look) y
+
+  pieces-same : (found : List Piece) → AllByRecursion IsSamePart (parts_of found) → AreSame (flat_map (λ piece. part_items reading piece.part) found) (flat_map (λ piece. part_items bare_reading piece.part) found)
+  pieces-same [] all = AreSame-nothing
+  pieces-same (piece ∷ found) all =
+      AreSame-append (part_items reading piece.part) (flat_map (λ piece. part_items reading piece.part) found) (part_items bare_reading piece.part) (flat_map (λ piece. part_items bare_reading piece.part) found) all.0
+      (pieces-same found all.1)
+
+  pub lines-same : ShowsOnly IsShown look → (y : ℕ)
+      → AreSame (flat_map (λ piece. part_items reading piece.part) (picture_line grid y)) (flat_map (λ piece. part_items bare_reading piece.part) (picture_line grid y))
+  lines-same shown y = pieces-same (picture_line grid y) (parts-same shown y)
+
   pub columns-taken : IsPlain style → (y : ℕ) → All (λ piece. content_columns piece.part.content (part_items reading piece.part) ≡ piece.part.width) (picture_line grid y)
   unfolding IsPlain
   columns-taken plain y =
       each-piece (λ part. content_columns part.content (part_items reading part) ≡ part.width) IsPlainCharacter plain-space
       (λ width c color is. filled-columns width c is) (λ width c color is. filled-columns width c is)
-      (λ cell k. line-measured (text_at texts cell) k (whole-at cell))
+      painted-measured
       (shown-only IsPlainCharacter style plain.glyphs plain.margin plain.padding plain-space) y
 
   pub measures-taken : style ≡ default_settings → (y : ℕ) → All (λ piece. shown_measure (part_items reading piece.part) ≡ piece.part.width) (picture_line grid y)
   measures-taken same y =
       each-piece (λ part. shown_measure (part_items reading part) ≡ part.width) IsNarrow (IsShown-space, refl)
       (λ width c color is. filled-measure width c is) (λ width c color is. filled-measure width c is)
-      (λ cell k. line-measured (text_at texts cell) k (whole-at cell))
+      painted-measured
       (subst (λ (style : Compact). ShowsOnly IsNarrow (compact_look style)) (sym same) default-narrow) y
 
 -- ---- the table of a text
 
 module _ (wanted : Wanted) (input : List ℕ) (y : ℕ) where
-  pub takes-columns : IsPlain wanted.style → IsUtf8 input → IsWhole input → All (λ piece. piece_columns wanted input piece ≡ piece.part.width) (picture_line (grid_of wanted input) y)
+  pub takes-columns : IsPlain wanted.style → AllClose wanted.colors → IsUtf8 input → IsWhole input → All (λ piece. piece_columns wanted input piece ≡ piece.part.width) (picture_line (grid_of wanted input) y)
   unfolding grid_of kept_of piece_bytes piece_columns
-  takes-columns plain utf8 whole =
+  takes-columns plain close utf8 whole =
       let style = wanted.style in
       let asked = wanted.asked in
       let kept = kept_texts style asked (cell_parts input) in
-      columns-taken style kept (asked_widths style asked (cell_parts input)) (heights_of style kept) (kept-whole style asked (cell_parts input) (whole_cells input (whole_text input utf8 whole))) plain y
+      columns-taken style kept (cell_color wanted.colors) (asked_widths style asked (cell_parts input)) (heights_of style kept) (kept-whole style asked (cell_parts input) (whole_cells input (whole_text input utf8 whole))) (cells-silent wanted.colors close) plain y
 
-  pub takes-measures : wanted.style ≡ default_settings → IsUtf8 input → IsWhole input → All (λ piece. measure (shown_chars (piece_bytes wanted input piece)) ≡ piece.part.width) (picture_line (grid_of wanted input) y)
+  pub takes-measures : wanted.style ≡ default_settings → AllClose wanted.colors → IsUtf8 input → IsWhole input → All (λ piece. measure (shown_chars (piece_bytes wanted input piece)) ≡ piece.part.width) (picture_line (grid_of wanted input) y)
   unfolding grid_of kept_of piece_bytes
-  takes-measures same utf8 whole =
+  takes-measures same close utf8 whole =
       let style = wanted.style in
       let asked = wanted.asked in
       let kept = kept_texts style asked (cell_parts input) in
-      measures-taken style kept (asked_widths style asked (cell_parts input)) (heights_of style kept) (kept-whole style asked (cell_parts input) (whole_cells input (whole_text input utf8 whole))) same y
+      measures-taken style kept (cell_color wanted.colors) (asked_widths style asked (cell_parts input)) (heights_of style kept) (kept-whole style asked (cell_parts input) (whole_cells input (whole_text input utf8 whole))) (cells-silent wanted.colors close) same y
+
+  -- without its sequences a line is that line without colours
+  pub line-left : IsPlain wanted.style → AllClose wanted.colors → IsUtf8 input → IsWhole input → strip (pieces (line_bytes wanted input y)) ≡ strip (pieces (line_bytes (without_colors wanted) input y))
+  unfolding grid_of kept_of piece_bytes
+  line-left plain close utf8 whole =
+      let style = wanted.style in
+      let asked = wanted.asked in
+      let kept = kept_texts style asked (cell_parts input) in
+      (lines-same style kept (cell_color wanted.colors) (asked_widths style asked (cell_parts input)) (heights_of style kept) (kept-whole style asked (cell_parts input) (whole_cells input (whole_text input utf8 whole)))
+      (cells-silent wanted.colors close) (bare style plain).shown y).one.left

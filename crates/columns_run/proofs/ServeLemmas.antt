@@ -2,6 +2,7 @@
 use Rattle.std.proofs.Common.{◌≡◌, ℕ, List, [], ◌++◌, Option, Some, None, Result, Err, IfSome, ap, append-nil, refl, sym, subst, ◌∙◌}
 use Rattle.std.specs.Io.KnownBytes.{Appends, Consumes, IsAtEnd, Keeps}
 use Rattle.std.proofs.lemmas.Option.{IfSome_then}
+use Rattle.columns_options.specs.ColumnColors.{AllClose}
 use Rattle.columns_run.specs.declared.fault.RunFault.{RunFault}
 use Rattle.columns_run.specs.Fault.{IsOfInput}
 use Rattle.columns_run.specs.declared.fault.RunFault.TheVariants.{Escape, LineTooWide, Memory, NotUtf8, Range, Read, ReadTooLong, Write, WriteZero}
@@ -12,7 +13,7 @@ use Rattle.columns_run.specs.Run.{MayAnswer, Writes, Serves, LeavesAlone}
 use Rattle.columns_run.specs.Wanted.{Wanted}
 use Rattle.columns_run.proofs.PictureLemmas.{output-shows_table}
 
-module _ (wanted : Wanted) (plain : IsPlain wanted.style) {T : Type 0} (result : Result T RunFault) (old new : Option (List ℕ)) {W : Type 0} (writer left : W) where
+module _ (wanted : Wanted) (plain : IsPlain wanted.style) (close : AllClose wanted.colors) {T : Type 0} (result : Result T RunFault) (old new : Option (List ℕ)) {W : Type 0} (writer left : W) where
   abbrev Answers : List ℕ → Type 0
   Answers input = MayAnswer wanted input result × Writes (output_of wanted input) result old new × LeavesAlone wanted input writer left
 
@@ -20,7 +21,7 @@ module _ (wanted : Wanted) (plain : IsPlain wanted.style) {T : Type 0} (result :
   Serving input = Serves wanted input result old new × LeavesAlone wanted input writer left
 
   serves : (input : List ℕ) → Answers input → Serving input
-  serves input answers = (record { answers = answers.0; writes = answers.1; shows = λ has. output-shows_table wanted input plain has.0 has.1 }, answers.2)
+  serves input answers = (record { answers = answers.0; writes = answers.1; shows = λ has. output-shows_table wanted input plain close has.0 has.1 }, answers.2)
 
   pub known : (input : Option (List ℕ)) → IfSome input Answers → IfSome input Serving
   known input answers = IfSome_then input answers serves

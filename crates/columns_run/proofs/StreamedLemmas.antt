@@ -1,6 +1,7 @@
 -- Without a width the other words of a request change nothing.
-use Rattle.std.proofs.Common.{◌≡◌, ◌↔◌, ℕ, Bool, Err, List, Ok, Option, Result, false, refl, ap, sym, subst, ◌∙◌}
+use Rattle.std.proofs.Common.{◌≡◌, ◌↔◌, ℕ, Bool, Err, List, [], Ok, Option, Result, false, refl, ap, sym, subst, ◌∙◌}
 use Rattle.std.specs.Prelude.{chars, IsUtf8, None, ⊤}
+use Rattle.ansi_scan.specs.Pieces.{pieces}
 use Rattle.ansi_scan.specs.Sequences.{ArePiecesOf}
 use Rattle.ansi_str.specs.StyledText.{styled}
 use Rattle.columns_asked.specs.Layout.{AskedFits, asked_items, asked_text, asked_widths, kept_cells, kept_texts, too_wide}
@@ -9,13 +10,14 @@ use Rattle.grid_config.specs.Compact.{Compact}
 use Rattle.papergrid_picture.specs.Shown.{Styled, character_of, in_plain}
 use Rattle.tabled_size_priority.specs.declared.choice.Choice.{Choice}
 use Rattle.tabled_size_priority.specs.declared.choice.Choice.TheVariants.{None as InTurns}
-use Rattle.columns_run.specs.Layout.{TableFits, output_of, picture, texts_of, wide_cell}
+use Rattle.columns_run.specs.Layout.{TableFits, output_of, picture, picture_without_colors, texts_of, wide_cell}
 use Rattle.columns_run.specs.Rows.{cell_parts, rows_of, stripped}
 use Rattle.columns_run.specs.Run.{HasTable, MayAnswer, MayRefuse, Serves, Writes}
 use Rattle.columns_run.specs.TableShown.{ShowsTableOf}
 use Rattle.columns_run.specs.Wanted.{Wanted, without_width}
 use Rattle.columns_run.specs.declared.fault.RunFault.{RunFault}
 use Rattle.columns_run.specs.declared.fault.RunFault.TheVariants.{Escape, LineTooWide, Memory, NotUtf8, Range, Read, ReadTooLong, Write, WriteZero}
+use Rattle.columns_run.proofs.ColorLemmas.{output-uncolored, picture-uncolored}
 
 -- no width, whatever else is asked
 abbrev no_width : Bool → Bool → Choice → Asked
@@ -44,7 +46,7 @@ module _ (style : Compact) (truncate keep_words : Bool) (priority : Choice) wher
   unfolding asked_items kept_cells asked_widths
   items-bare rows = refl
 
-module _ (wanted : Wanted) (none : wanted.asked.width ≡ None) where
+module _ (wanted : Wanted) (none : wanted.asked.width ≡ None) (uncolored : wanted.colors ≡ []) where
   abbrev unasked : Wanted
   unasked = without_width wanted.style
 
@@ -55,9 +57,10 @@ module _ (wanted : Wanted) (none : wanted.asked.width ≡ None) where
   natural = ap (λ width. record wanted.asked { width = width }) (sym none)
 
   output-same : (input : List ℕ) → output_of unasked input ≡ output_of wanted input
-  unfolding output_of
   output-same input =
-      text-bare style wanted.asked.truncate wanted.asked.keep_words wanted.asked.priority (cell_parts input) ∙ ap (λ asked. asked_text style asked (cell_parts input)) natural
+      output-uncolored unasked input refl
+      ∙ text-bare style wanted.asked.truncate wanted.asked.keep_words wanted.asked.priority (cell_parts input) ∙ ap (λ asked. asked_text style asked (cell_parts input)) natural
+      ∙ sym (output-uncolored wanted input uncolored)
 
   fits-same : (input : List ℕ) → TableFits unasked input ≡ TableFits wanted input
   unfolding TableFits
@@ -71,11 +74,13 @@ module _ (wanted : Wanted) (none : wanted.asked.width ≡ None) where
       let texts = texts_of (chars (stripped input)) in
       wide-bare style wanted.asked.truncate wanted.asked.keep_words wanted.asked.priority texts ∙ ap (λ asked. too_wide style asked texts) natural
 
-  picture-same : (cs : List Styled) → picture unasked cs ≡ picture wanted cs
-  unfolding picture
-  picture-same cs =
-      let rows = rows_of character_of cs in
-      items-bare style wanted.asked.truncate wanted.asked.keep_words wanted.asked.priority rows ∙ ap (λ asked. asked_items character_of in_plain style asked rows) natural
+  picture-same : (input : List ℕ) → picture unasked input ≡ picture wanted input
+  unfolding picture_without_colors
+  picture-same input =
+      let rows = rows_of character_of (styled (pieces input)) in
+      picture-uncolored unasked input refl
+      ∙ items-bare style wanted.asked.truncate wanted.asked.keep_words wanted.asked.priority rows ∙ ap (λ asked. asked_items character_of in_plain style asked rows) natural
+      ∙ sym (picture-uncolored wanted input uncolored)
 
 -- what is wanted in two ways that have the same tables
 record AreAlike (first second : Wanted) : Type 0 where
@@ -83,7 +88,7 @@ record AreAlike (first second : Wanted) : Type 0 where
   fits : (input : List ℕ) → TableFits first input → TableFits second input
   fits_back : (input : List ℕ) → TableFits second input → TableFits first input
   wide : (input : List ℕ) → wide_cell first input ≡ wide_cell second input
-  picture : (cs : List Styled) → picture first cs ≡ picture second cs
+  picture : (input : List ℕ) → picture first input ≡ picture second input
 
 alike-back : (first second : Wanted) → AreAlike first second → AreAlike second first
 alike-back first second alike = record {
@@ -91,7 +96,7 @@ alike-back first second alike = record {
   fits = λ input good. alike.fits_back input good;
   fits_back = λ input good. alike.fits input good;
   wide = λ input. sym (alike.wide input);
-  picture = λ cs. sym (alike.picture cs);
+  picture = λ input. sym (alike.picture input);
 }
 
 module _ (first second : Wanted) (alike : AreAlike first second) (input : List ℕ) where
@@ -118,7 +123,7 @@ module _ (first second : Wanted) (alike : AreAlike first second) (input : List �
       let same = alike.output input in
       record {
         text = subst IsUtf8 same shown.text;
-        picture = λ ps qs of_input of_output. shown.picture ps qs of_input (subst (λ bytes. ArePiecesOf bytes qs) (sym same) of_output) ∙ alike.picture (styled ps);
+        picture = λ qs of_output. shown.picture qs (subst (λ bytes. ArePiecesOf bytes qs) (sym same) of_output) ∙ alike.picture input;
         lines = λ qs of_output. shown.lines qs (subst (λ bytes. ArePiecesOf bytes qs) (sym same) of_output);
       }
 
@@ -130,28 +135,28 @@ alike-serves first second alike input result old new serves = record {
   shows = λ table. shows first second alike input table (serves.shows (has second first (alike-back first second alike) input table));
 }
 
-module _ (wanted : Wanted) (input : List ℕ) (none : wanted.asked.width ≡ None) where
+module _ (wanted : Wanted) (input : List ℕ) (none : wanted.asked.width ≡ None) (uncolored : wanted.colors ≡ []) where
   alike : AreAlike (without_width wanted.style) wanted
-  alike = record { output = output-same wanted none; fits = λ input good. subst (λ (T : Type 0). T) (fits-same wanted none input) good; fits_back = λ input good. subst (λ (T : Type 0). T) (sym (fits-same wanted none input)) good; wide = wide-same wanted none; picture = picture-same wanted none }
+  alike = record { output = output-same wanted none uncolored; fits = λ input good. subst (λ (T : Type 0). T) (fits-same wanted none uncolored input) good; fits_back = λ input good. subst (λ (T : Type 0). T) (sym (fits-same wanted none uncolored input)) good; wide = wide-same wanted none uncolored; picture = picture-same wanted none uncolored }
 
   abbrev back : AreAlike wanted (without_width wanted.style)
   back = alike-back (without_width wanted.style) wanted alike
 
   pub output-streamed : output_of (without_width wanted.style) input ≡ output_of wanted input
-  output-streamed = output-same wanted none input
+  output-streamed = output-same wanted none uncolored input
 
   pub accepted-streamed : HasTable (without_width wanted.style) input ↔ HasTable wanted input
   accepted-streamed = (has (without_width wanted.style) wanted alike input, has wanted (without_width wanted.style) back input)
 
-pub refuses-streamed : (wanted : Wanted) (input : List ℕ) (fault : RunFault) → wanted.asked.width ≡ None → (MayRefuse (without_width wanted.style) input fault ↔ MayRefuse wanted input fault)
-refuses-streamed wanted input fault none = (
-  refuse (without_width wanted.style) wanted (alike wanted input none) input fault,
-  refuse wanted (without_width wanted.style) (back wanted input none) input fault,
+pub refuses-streamed : (wanted : Wanted) (input : List ℕ) (fault : RunFault) → wanted.asked.width ≡ None → wanted.colors ≡ [] → (MayRefuse (without_width wanted.style) input fault ↔ MayRefuse wanted input fault)
+refuses-streamed wanted input fault none uncolored = (
+  refuse (without_width wanted.style) wanted (alike wanted input none uncolored) input fault,
+  refuse wanted (without_width wanted.style) (back wanted input none uncolored) input fault,
 )
 
-pub serves-streamed : (wanted : Wanted) (input : List ℕ) (result : Result ⊤ RunFault) (old new : Option (List ℕ)) → wanted.asked.width ≡ None
+pub serves-streamed : (wanted : Wanted) (input : List ℕ) (result : Result ⊤ RunFault) (old new : Option (List ℕ)) → wanted.asked.width ≡ None → wanted.colors ≡ []
     → (Serves (without_width wanted.style) input result old new ↔ Serves wanted input result old new)
-serves-streamed wanted input result old new none = (
-  alike-serves (without_width wanted.style) wanted (alike wanted input none) input result old new,
-  alike-serves wanted (without_width wanted.style) (back wanted input none) input result old new,
+serves-streamed wanted input result old new none uncolored = (
+  alike-serves (without_width wanted.style) wanted (alike wanted input none uncolored) input result old new,
+  alike-serves wanted (without_width wanted.style) (back wanted input none uncolored) input result old new,
 )

@@ -5,14 +5,17 @@ use Rattle.std.specs.List.{AllByRecursion}
 use Rattle.std.proofs.lemmas.Simd.{map-map}
 use Rattle.ansi_scan.specs.Sequences.{IsWhole}
 use Rattle.ansi_str.specs.StyledText.{has_escape}
-use Rattle.columns_asked.specs.Layout.{AskedFits, asked_text, too_wide}
+use Rattle.columns_asked.specs.Layout.{AskedFits, too_wide}
 use Rattle.columns_asked.proofs.StrippedLemmas.{fits-stripped, too_wide-stripped}
 use Rattle.columns_asked.specs.declared.asked.Asked.{Asked}
+use Rattle.columns_colors.specs.ColoredTables.{colored_text}
+use Rattle.columns_colors.specs.ColumnColors.{cell_color}
 use Rattle.columns_table.proofs.CutLemmas.{cut-map}
 use Rattle.columns_table.specs.Answers.{HasTable as TextsHaveTable, MayRefuse}
 use Rattle.columns_table.specs.Rows.{cut, row_texts_of}
 use Rattle.columns_table.specs.declared.cells.LineCell.{LineCell}
 use Rattle.columns_table.specs.declared.rows.Rows.{Rows}
+use Rattle.grid_config.specs.Colors.{Color}
 use Rattle.grid_config.specs.Compact.{Compact}
 use Rattle.grid_config_values.specs.declared.fault.Fault.{Fault}
 use Rattle.grid_config_values.specs.declared.fault.Fault.TheVariants.{Memory, Range, Room, Spans}
@@ -86,9 +89,11 @@ module _ (wanted : Wanted) (text : List ℕ) (utf8 : IsUtf8 text) (whole : IsWho
   wide : too_wide style asked texts ≡ wide_cell wanted text
   wide = ap (too_wide style asked) (texts-are rows text are) ∙ ap (λ asked. too_wide style asked (cell_parts text)) same ∙ wide-same wanted text (whole_text text utf8 whole)
 
-  pub output-is : asked_text style asked texts ≡ output_of wanted text
+  pub output-is : (colors : List (ℕ × Color)) → colors ≡ wanted.colors → colored_text style asked (cell_color colors) texts ≡ output_of wanted text
   unfolding output_of
-  output-is = ap (asked_text style asked) (texts-are rows text are) ∙ ap (λ asked. asked_text style asked (cell_parts text)) same
+  output-is colors given =
+      ap (colored_text style asked (cell_color colors)) (texts-are rows text are) ∙ ap (λ asked. colored_text style asked (cell_color colors) (cell_parts text)) same
+      ∙ ap (λ (found : List (ℕ × Color)). colored_text style wanted.asked (cell_color found) (cell_parts text)) given
 
   has-table : TextsHaveTable style asked texts → HasTable wanted text
   has-table good = (utf8, whole, subst (λ (T : Type 0). T) fits good.fits, sym wide ∙ good.room)

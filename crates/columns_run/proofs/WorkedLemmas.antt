@@ -1,6 +1,6 @@
 -- Tables in the style that `Wanted::new` has, worked out by hand.
 use Rattle.std.proofs.Common.{◌≡◌, ℕ, List, [], Bool, true, false, refl, ap, ◌∙◌}
-use Rattle.std.specs.Prelude.{codes, None}
+use Rattle.std.specs.Prelude.{◌∷◌, codes, None}
 use Rattle.std.specs.Fmt.{digits}
 use Rattle.std.specs.Str.{chars}
 use Rattle.std.proofs.Math.Utf8.{encode}
@@ -10,9 +10,13 @@ use Rattle.ansi_scan.specs.Rendition.{applied, after_parameters}
 use Rattle.ansi_scan.specs.StartsAndEnds.{start_bytes, start_sequences, end_bytes, end_sequences}
 use Rattle.columns_asked.specs.Layout.{asked_characters, asked_items, asked_text, asked_widths, kept_cells, kept_texts}
 use Rattle.columns_asked.specs.Shrunk.{shrunk_list}
-use Rattle.columns_asked.specs.Worked.{cuts, wraps}
+use Rattle.columns_asked.specs.Worked.{cuts, no_width, wraps}
 use Rattle.columns_asked.specs.declared.asked.Asked.{Asked}
+use Rattle.columns_colors.specs.ColoredTables.{colored_text}
+use Rattle.columns_colors.specs.ColumnColors.{cell_color}
+use Rattle.columns_colors.specs.Worked.{bold, green, only, red}
 use Rattle.columns_options.specs.Settings.{default_settings}
+use Rattle.grid_config.specs.Colors.{Color}
 use Rattle.grid_config.specs.Compact.{Compact}
 use Rattle.grid_config_spans.specs.Spans.{extent_at}
 use Rattle.grid_records_estimate.specs.Estimates.{track_sizes}
@@ -25,6 +29,7 @@ use Rattle.unicode_width.specs.Width.{alone, char_width, past_emoji, step, str_w
 use Rattle.columns_run.specs.Rows.{cell_parts, rows_of}
 use Rattle.columns_run.specs.Layout.{output_of, table_characters}
 use Rattle.columns_run.specs.Wanted.{Wanted}
+use Rattle.columns_run.proofs.ColorLemmas.{output-uncolored}
 
 -- no width, whatever else is asked
 abbrev pub natural : Bool → Bool → Choice → Asked
@@ -35,6 +40,9 @@ characters_under characters style asked = asked_characters style asked (rows_of 
 
 abbrev pub output_under : List ℕ → Compact → Asked → List ℕ
 output_under input style asked = asked_text style asked (cell_parts input)
+
+abbrev pub colored_under : List ℕ → Compact → Asked → List (ℕ × Color) → List ℕ
+colored_under input style asked colors = colored_text style asked (cell_color colors) (cell_parts input)
 
 -- a table of these characters, and of these bytes
 abbrev pub HasCharacters : List ℕ → List ℕ → Type 0
@@ -53,14 +61,19 @@ module _ (wanted : Wanted) (is : wanted.style ≡ default_settings) where
     table_is characters out e =
         ap (λ style. characters_under characters style wanted.asked) is ∙ ap (characters_under characters default_settings) natural_is ∙ e wanted.asked.truncate wanted.asked.keep_words wanted.asked.priority
 
-    pub output_is : (input out : List ℕ) → HasOutput input out → output_of wanted input ≡ out
-    unfolding output_of
-    output_is input out e =
-        ap (λ style. output_under input style wanted.asked) is ∙ ap (output_under input default_settings) natural_is ∙ e wanted.asked.truncate wanted.asked.keep_words wanted.asked.priority
+    pub output_is : (input out : List ℕ) → HasOutput input out → wanted.colors ≡ [] → output_of wanted input ≡ out
+    output_is input out e uncolored =
+        output-uncolored wanted input uncolored
+        ∙ ap (λ style. output_under input style wanted.asked) is ∙ ap (output_under input default_settings) natural_is ∙ e wanted.asked.truncate wanted.asked.keep_words wanted.asked.priority
 
-  pub asked_is : (asked : Asked) (input out : List ℕ) → output_under input default_settings asked ≡ out → wanted.asked ≡ asked → output_of wanted input ≡ out
+  pub asked_is : (asked : Asked) (input out : List ℕ) → output_under input default_settings asked ≡ out → wanted.asked ≡ asked → wanted.colors ≡ [] → output_of wanted input ≡ out
+  asked_is asked input out e same uncolored = output-uncolored wanted input uncolored ∙ ap (λ style. output_under input style wanted.asked) is ∙ ap (output_under input default_settings) same ∙ e
+
+  -- with colours of columns
+  pub colored_is : (asked : Asked) (colors : List (ℕ × Color)) (input out : List ℕ) → colored_under input default_settings asked colors ≡ out → wanted.asked ≡ asked → wanted.colors ≡ colors → output_of wanted input ≡ out
   unfolding output_of
-  asked_is asked input out e same = ap (λ style. output_under input style wanted.asked) is ∙ ap (output_under input default_settings) same ∙ e
+  colored_is asked colors input out e same given =
+      ap (λ style. colored_under input style wanted.asked wanted.colors) is ∙ ap (λ asked. colored_under input default_settings asked wanted.colors) same ∙ ap (colored_under input default_settings asked) given ∙ e
 
 pub empty : HasCharacters [] ([])
 unfolding asked_items kept_cells asked_widths table_widths table_heights track_sizes text_width text_height extent_at str_width step past_emoji pieces first_pieces front chars encode
@@ -165,3 +178,35 @@ out_natural = refl
 pub out_wide : output_under (codes "ab\n") default_settings (wraps 100 false InTurns) ≡ codes "+----+\n| ab |\n+----+\n"
 unfolding asked_text kept_texts asked_widths shrunk_list wrapped_text cut_at table_widths table_heights track_sizes text_width text_height extent_at str_width char_width alone step past_emoji pieces first_pieces front at_escape sequence_front opened control_from string_from escape_from text_lines applied after_parameters plain_attributes start_bytes start_sequences end_bytes end_sequences digits chars encode
 out_wide = refl
+
+pub color_one_column : colored_under (codes "a\tb\n") default_settings no_width (only 1 red) ≡ codes "+---+---+\n| a | \u{1b}[31mb\u{1b}[39m |\n+---+---+\n"
+unfolding colored_text kept_texts asked_widths shrunk_list wrapped_text cut_at table_widths table_heights track_sizes text_width text_height extent_at str_width char_width alone step past_emoji pieces first_pieces front at_escape sequence_front opened control_from string_from escape_from text_lines applied after_parameters plain_attributes start_bytes start_sequences end_bytes end_sequences digits chars encode
+color_one_column = refl
+
+pub color_cleared : colored_under (codes "\u{1b}[1mab\u{1b}[0mc\n") default_settings no_width (only 0 red) ≡ codes "+-----+\n| \u{1b}[31m\u{1b}[1mab\u{1b}[0mc\u{1b}[39m |\n+-----+\n"
+unfolding colored_text kept_texts asked_widths shrunk_list wrapped_text cut_at table_widths table_heights track_sizes text_width text_height extent_at str_width char_width alone step past_emoji pieces first_pieces front at_escape sequence_front opened control_from string_from escape_from text_lines applied after_parameters plain_attributes start_bytes start_sequences end_bytes end_sequences digits chars encode
+color_cleared = refl
+
+pub color_both : colored_under (codes "\u{1b}[1mab\n") default_settings no_width (only 0 red) ≡ codes "+----+\n| \u{1b}[31m\u{1b}[1mab\u{1b}[22m\u{1b}[39m |\n+----+\n"
+unfolding colored_text kept_texts asked_widths shrunk_list wrapped_text cut_at table_widths table_heights track_sizes text_width text_height extent_at str_width char_width alone step past_emoji pieces first_pieces front at_escape sequence_front opened control_from string_from escape_from text_lines applied after_parameters plain_attributes start_bytes start_sequences end_bytes end_sequences digits chars encode
+color_both = refl
+
+pub color_wrapped : colored_under (codes "1234\n") default_settings (wraps 6 false InTurns) (only 0 red) ≡ codes "+----+\n| \u{1b}[31m12\u{1b}[39m |\n| \u{1b}[31m34\u{1b}[39m |\n+----+\n"
+unfolding colored_text kept_texts asked_widths shrunk_list wrapped_text cut_at table_widths table_heights track_sizes text_width text_height extent_at str_width char_width alone step past_emoji pieces first_pieces front at_escape sequence_front opened control_from string_from escape_from text_lines applied after_parameters plain_attributes start_bytes start_sequences end_bytes end_sequences digits chars encode
+color_wrapped = refl
+
+pub color_cut : colored_under (codes "1234\n") default_settings (cuts 6) (only 0 red) ≡ codes "+----+\n| \u{1b}[31m12\u{1b}[39m |\n+----+\n"
+unfolding colored_text kept_texts asked_widths shrunk_list wrapped_text cut_at table_widths table_heights track_sizes text_width text_height extent_at str_width char_width alone step past_emoji pieces first_pieces front at_escape sequence_front opened control_from string_from escape_from text_lines applied after_parameters plain_attributes start_bytes start_sequences end_bytes end_sequences digits chars encode
+color_cut = refl
+
+pub color_empty : colored_under (codes "\ta\n") default_settings no_width (only 0 red) ≡ codes "+--+---+\n|  | a |\n+--+---+\n"
+unfolding colored_text kept_texts asked_widths shrunk_list wrapped_text cut_at table_widths table_heights track_sizes text_width text_height extent_at str_width char_width alone step past_emoji pieces first_pieces front at_escape sequence_front opened control_from string_from escape_from text_lines applied after_parameters plain_attributes start_bytes start_sequences end_bytes end_sequences digits chars encode
+color_empty = refl
+
+pub color_outside : colored_under (codes "a\n") default_settings no_width (only 5 red) ≡ codes "+---+\n| a |\n+---+\n"
+unfolding colored_text kept_texts asked_widths shrunk_list wrapped_text cut_at table_widths table_heights track_sizes text_width text_height extent_at str_width char_width alone step past_emoji pieces first_pieces front at_escape sequence_front opened control_from string_from escape_from text_lines applied after_parameters plain_attributes start_bytes start_sequences end_bytes end_sequences digits chars encode
+color_outside = refl
+
+pub color_last : colored_under (codes "a\n") default_settings no_width ((0, red) ∷ (1, bold) ∷ (0, green) ∷ []) ≡ codes "+---+\n| \u{1b}[32ma\u{1b}[39m |\n+---+\n"
+unfolding colored_text kept_texts asked_widths shrunk_list wrapped_text cut_at table_widths table_heights track_sizes text_width text_height extent_at str_width char_width alone step past_emoji pieces first_pieces front at_escape sequence_front opened control_from string_from escape_from text_lines applied after_parameters plain_attributes start_bytes start_sequences end_bytes end_sequences digits chars encode
+color_last = refl

@@ -1,8 +1,7 @@
 -- What a run answers of a table that is written, or not.
-use Rattle.std.proofs.Common.{◌≡◌, ℕ, List, [], Option, Result, Ok, Err, append-nil, ap, refl, sym, subst, ◌∙◌}
-use Rattle.std.specs.Prelude.{IfErr, IsErrOf, OnOk, length}
+use Rattle.std.proofs.Common.{◌≡◌, ℕ, List, [], Option, Result, Ok, Err, append-nil, refl, sym, subst, ◌∙◌}
+use Rattle.std.specs.Prelude.{IfErr, IsErrOf}
 use Rattle.std.specs.Io.KnownBytes.{Appends}
-use Rattle.std.proofs.KnownBytes.{Appends-nil}
 use Rattle.grid_config_values.specs.declared.fault.Fault.{Fault}
 use Rattle.grid_config_values.specs.declared.fault.Fault.TheVariants.{Memory as NoMemory, Range as PassesMax, Room, Spans}
 use Rattle.tabled_output.specs.Counts.{inner_of, FailsIff, OnlyWrites, TakesNothingIff}
@@ -10,15 +9,11 @@ use Rattle.tabled_output.specs.Pieces.{HasPassed, HasStopped, Passes}
 use Rattle.tabled_output.specs.declared.counted.Counted.{Counted}
 use Rattle.tabled_output.specs.declared.writing.WriteFault.{WriteFault}
 use Rattle.tabled_output.specs.declared.writing.WriteFault.TheVariants.{Write as Failed, WriteZero as TookNothing}
-use Rattle.tabled_output.proofs.PieceLemmas.{front-taken, passes-nothing}
+use Rattle.tabled_output.proofs.PieceLemmas.{front-taken}
 use Rattle.columns_asked.specs.declared.asked.Asked.{Asked}
-use Rattle.columns_asked.specs.Layout.{AskedFits, too_wide}
 use Rattle.columns_table.specs.Answers.{HasTable as TextsHaveTable, MayRefuse as MayRefuseTexts}
 use Rattle.grid_config.specs.Compact.{Compact}
-use Rattle.columns_run.specs.Fault.{IsOfInput, IsOfTable, MayFollowWrites, run_answer, run_fault, write_fault}
-use Rattle.columns_run.specs.Layout.{output_of}
-use Rattle.columns_run.specs.Run.{HasTable, LeavesAlone, Writes}
-use Rattle.columns_run.specs.Wanted.{Wanted}
+use Rattle.columns_run.specs.Fault.{IsOfInput, IsOfTable, run_answer}
 use Rattle.columns_run.specs.Written.{IsWritten}
 use Rattle.columns_run.specs.declared.fault.RunFault.{RunFault}
 use Rattle.columns_run.specs.declared.fault.RunFault.TheVariants.{Escape, LineTooWide, Memory, NotUtf8, Range, Read, ReadTooLong, Write, WriteZero}

@@ -1,24 +1,30 @@
 -- The table of a text: what the program writes for it, and what that shows.
-use Rattle.std.specs.Prelude.{ℕ, List, Option, None, map, chars, encode_utf8_all, flat_map}
+use Rattle.std.specs.Prelude.{ℕ, List, [], ◌∷◌, Option, None, Some, map, chars, encode_utf8_all, flat_map}
+use Rattle.ansi_scan.specs.Pieces.{pieces}
+use Rattle.ansi_str.specs.StyledText.{styled}
 use Rattle.ansi_str_text.specs.Characters.{shown_chars}
 use Rattle.columns_asked.specs.Asked.{Resize}
-use Rattle.columns_asked.specs.Layout.{AskedFits, asked_characters, asked_picture, asked_text, asked_widths, heights_of, kept_texts, narrowed, resize_in, too_wide}
+use Rattle.columns_asked.specs.Layout.{AskedFits, asked_characters, asked_picture, asked_widths, heights_of, kept_texts, narrowed, resize_in, too_wide}
+use Rattle.columns_colors.specs.ColoredTables.{colored_items, colored_text}
+use Rattle.columns_colors.specs.ColumnColors.{cell_color}
+use Rattle.grid_config.specs.Colors.{Color}
 use Rattle.grid_config.specs.Looks.{compact_look}
 use Rattle.grid_config_values.specs.declared.position.Position.{Position}
 use Rattle.grid_records_measure.specs.Measures.{columns, measure}
+use Rattle.papergrid_colors.specs.ColoredLines.{with_painted_lines}
 use Rattle.papergrid_picture.specs.Blocks.{Content, Fill, Glyph, Grid, TextLine}
 use Rattle.papergrid_picture.specs.Picture.{Piece, picture_line}
 use Rattle.papergrid_picture.specs.Reading.{part_items}
 use Rattle.papergrid_picture.specs.Shown.{Styled, character_of}
-use Rattle.papergrid_picture.specs.Tables.{in_bytes, table_grid}
+use Rattle.papergrid_picture.specs.Tables.{in_bytes, in_color, table_grid}
 use Rattle.columns_run.specs.Rows.{cell_parts, rows_of, stripped}
 use Rattle.columns_run.specs.Wanted.{Wanted}
 
 -- ---- by bytes
 
--- the bytes of the table of a text, where each cell is a part of it with its own bytes
+-- the bytes of the table of a text, where each cell is a part of it with its own bytes, and in the colour of its column
 unfoldable pub output_of : Wanted → List ℕ → List ℕ
-output_of wanted input = asked_text wanted.style wanted.asked (cell_parts input)
+output_of wanted input = colored_text wanted.style wanted.asked (cell_color wanted.colors) (cell_parts input)
 
 -- ---- by its pieces
 
@@ -36,9 +42,16 @@ grid_of wanted input =
     let kept = kept_of wanted input in
     table_grid (compact_look wanted.style) kept (λ _. None) (asked_widths wanted.style wanted.asked (cell_parts input)) (heights_of wanted.style kept)
 
+-- a line of a cell in the cell's colour: one without bytes stays so
+abbrev pub colored_line : Option Color → List ℕ → List ℕ
+colored_line None bytes = bytes
+colored_line (Some color) [] = []
+colored_line (Some color) (b ∷ bs) = in_color color (b ∷ bs)
+
 -- the bytes of a piece: a glyph and a fill have those of their character in each of their columns, and a line of a cell its own
+-- in the cell's colour
 unfoldable pub piece_bytes : Wanted → List ℕ → Piece → List ℕ
-piece_bytes wanted input piece = part_items (in_bytes (compact_look wanted.style) (kept_of wanted input)) piece.part
+piece_bytes wanted input piece = part_items (with_painted_lines (in_bytes (compact_look wanted.style) (kept_of wanted input)) (cell_color wanted.colors)) piece.part
 
 -- the columns of what content shows: a glyph and a fill have those of their characters, one by one, and a line of a cell what it
 -- measures as one text
@@ -64,10 +77,15 @@ characters_of styled = map character_of styled
 abbrev pub texts_of : List ℕ → List (List (List ℕ))
 texts_of characters = map (map encode_utf8_all) (rows_of (λ c. c) characters)
 
--- the picture of a text of these characters: its boundaries, fills, line feeds and each U+FFFD that is put in are in the
--- plain style
-unfoldable pub picture : Wanted → List Styled → List Styled
-picture wanted styled = asked_picture wanted.style wanted.asked (rows_of character_of styled)
+-- the picture of a text of these characters without colours: its boundaries, fills, line feeds and each U+FFFD that is put in
+-- are in the plain style
+unfoldable pub picture_without_colors : Wanted → List Styled → List Styled
+picture_without_colors wanted styled = asked_picture wanted.style wanted.asked (rows_of character_of styled)
+
+-- the picture of a text: the same of the characters that it shows, but that in a line of a cell whose column has a colour each
+-- character, also U+FFFD, has the style which the colour's prefix leaves and the sequences of the line before it then change
+unfoldable pub picture : Wanted → List ℕ → List Styled
+picture wanted input = colored_items wanted.style wanted.asked (cell_color wanted.colors) (rows_of character_of (styled (pieces input))) (cell_parts input)
 
 -- ---- without styles
 

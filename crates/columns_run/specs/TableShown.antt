@@ -12,8 +12,9 @@ pub record LinesEndPlain (pieces : List Piece) : Type 0 where
   pub closed : IsClosed pieces
   pub line_feeds : All (λ x. x.0 ≡ line_feed → x.1 ≡ plain_attributes) (styled pieces)
 
--- the output shows the table of the input: the picture of the characters that the input shows, in their styles
+-- the output shows the table of the input: its picture, the characters that it shows in their styles and in the colours of their
+-- columns
 pub record ShowsTableOf (wanted : Wanted) (input output : List ℕ) : Type 0 where
   pub text : IsUtf8 output
-  pub picture : (ps qs : List Piece) → ArePiecesOf input ps → ArePiecesOf output qs → styled qs ≡ picture wanted (styled ps)
+  pub picture : (qs : List Piece) → ArePiecesOf output qs → styled qs ≡ picture wanted input
   pub lines : (qs : List Piece) → ArePiecesOf output qs → LinesEndPlain qs

@@ -1,14 +1,17 @@
--- What is wanted of a table: its look, and its width.
-use Rattle.std.specs.Prelude.{None, false}
+-- What is wanted of a table: its look, its width, and the colours of its columns.
+use Rattle.std.specs.Prelude.{ℕ, List, [], None, false}
 use Rattle.columns_asked.specs.declared.asked.Asked.{Asked}
 use Rattle.columns_options.specs.declared.options.Options.{Options}
+use Rattle.grid_config.specs.Colors.{Color}
 use Rattle.grid_config.specs.Compact.{Compact, compact_of}
 use Rattle.tabled_size_priority.specs.declared.choice.Choice.TheVariants.{None as InTurns}
 
--- the settings of the table, and the width that is asked of it with the way in which it gets narrower
+-- the settings of the table, the width that is asked of it with the way in which it gets narrower, and columns with their
+-- colours, the last of a column deciding
 pub record Wanted : Type 0 where
   pub style : Compact
   pub asked : Asked
+  pub colors : List (ℕ × Color)
 
 -- what options say of the width
 abbrev pub asked_of : Options → Asked
@@ -16,8 +19,12 @@ asked_of options = record { width = options.width; truncate = options.truncate; 
 
 -- what options want
 abbrev pub wanted_of : Options → Wanted
-wanted_of options = record { style = compact_of options.style; asked = asked_of options }
+wanted_of options = record { style = compact_of options.style; asked = asked_of options; colors = options.colors.items }
 
--- a table in this style, as wide as its text
+-- a table in this style, as wide as its text, without colours
 abbrev pub without_width : Compact → Wanted
-without_width style = record { style = style; asked = record { width = None; truncate = false; keep_words = false; priority = InTurns } }
+without_width style = record { style = style; asked = record { width = None; truncate = false; keep_words = false; priority = InTurns }; colors = [] }
+
+-- the same without colours
+abbrev pub without_colors : Wanted → Wanted
+without_colors wanted = record wanted { colors = [] }

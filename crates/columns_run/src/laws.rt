@@ -3,11 +3,16 @@ ghost use Rattle.std.specs.Prelude.{◌≡◌, ◌↔◌, ℕ, ◌<◌, ◌≤�
 ghost use Rattle.std.specs.List.{range_with_len};
 ghost use Rattle.std.specs.Str.{encode_utf8_all};
 ghost use Rattle.ansi_scan.specs.Sequences.{Piece, ArePiecesOf, NoneBroken, IsWhole};
-ghost use Rattle.ansi_str.specs.StyledText.{has_escape, strip};
+ghost use Rattle.ansi_scan.specs.Pieces.{pieces};
+ghost use Rattle.ansi_str.specs.StyledText.{has_escape, strip, styled};
 ghost use Rattle.ansi_str_text.specs.Characters.{shown_chars};
 ghost use Rattle.ansi_str.specs.Matches.{AreMatches};
+ghost use Rattle.columns_asked.specs.Layout.{asked_picture, asked_text};
 ghost use Rattle.columns_asked.specs.Resizing.{resized_text};
-ghost use Rattle.columns_asked.specs.Worked.{cuts, wraps};
+ghost use Rattle.columns_asked.specs.Worked.{cuts, no_width, wraps};
+ghost use Rattle.columns_colors.specs.ColumnColors.{cell_color};
+ghost use Rattle.columns_colors.specs.Worked.{bold, green, only, red};
+ghost use Rattle.columns_options.specs.ColumnColors.{AllClose};
 ghost use Rattle.columns_options.specs.Settings.{default_settings};
 ghost use Rattle.grid_config_values.specs.declared.position.Position.{Position as Cell};
 ghost use Rattle.grid_records_measure.specs.Measures.{measure};
@@ -16,14 +21,14 @@ ghost use Rattle.grid_records_estimate.specs.Rows.{IsInside, text_at};
 ghost use Rattle.papergrid_picture.specs.Blocks.{Fill, Glyph, TextLine, text_line};
 ghost use Rattle.papergrid_picture.specs.Frame.{block_width, column_count, line_count, row_count, total_width, track_at};
 ghost use Rattle.papergrid_picture.specs.Picture.{Piece as TablePiece, at, block_pieces, laid, picture_line};
-ghost use Rattle.papergrid_picture.specs.Shown.{Styled, in_plain};
+ghost use Rattle.papergrid_picture.specs.Shown.{Styled, character_of, in_plain};
 ghost use Rattle.papergrid_picture.specs.Tiling.{IsLineOf, ShowsAllLines, ShowsBlock, Tiles};
-ghost use Rattle.columns_run.specs.Rows.{cell_parts, line_feed, places};
-ghost use Rattle.columns_run.specs.Layout.{TableFits, characters_of, grid_of, kept_of, line_bytes, output_of, picture, piece_bytes, piece_columns, resize_of, table_characters, wide_cell};
+ghost use Rattle.columns_run.specs.Rows.{cell_parts, line_feed, places, rows_of, stripped};
+ghost use Rattle.columns_run.specs.Layout.{TableFits, characters_of, colored_line, grid_of, kept_of, line_bytes, output_of, picture, picture_without_colors, piece_bytes, piece_columns, resize_of, table_characters, wide_cell};
 ghost use Rattle.columns_run.specs.Plain.{IsPlain};
 ghost use Rattle.columns_run.specs.TableShown.{ShowsTableOf};
 ghost use Rattle.columns_run.specs.Run.{HasTable, MayRefuse, Serves};
-ghost use Rattle.columns_run.specs.Wanted.{Wanted, without_width};
+ghost use Rattle.columns_run.specs.Wanted.{Wanted, without_colors, without_width};
 ghost use Rattle.columns_run.specs.Widths.{least_columns, natural_columns, taken_columns};
 ghost use Rattle.columns_run.specs.Fault.{TellsOfInput, fault_text, run_fault, write_fault};
 ghost use Rattle.tabled_size_priority.specs.declared.choice.Choice.TheVariants.{None as InTurns, MaxLeft};
@@ -55,34 +60,51 @@ pub fn worked_tables()
     ensures carriage_return { (wanted : Wanted) → wanted.asked.width ≡ None → wanted.style ≡ default_settings → table_characters wanted (codes "a\r\n") ≡ codes "+----+\n| a\r |\n+----+\n" }
 {}
 
-/// Tables of styled texts, worked out by hand, without a width: their bytes.
+/// Tables of styled texts, worked out by hand, without a width and without colours: their bytes.
 pub fn worked_outputs()
-    ensures two_cells { (wanted : Wanted) → wanted.asked.width ≡ None → wanted.style ≡ default_settings → output_of wanted (codes "\u{1b}[31mab\tc\n") ≡ codes "+----+---+\n| \u{1b}[31mab\u{1b}[39m | \u{1b}[31mc\u{1b}[39m |\n+----+---+\n" }
-    ensures two_lines { (wanted : Wanted) → wanted.asked.width ≡ None → wanted.style ≡ default_settings → output_of wanted (codes "\u{1b}[1ma\nb\u{1b}[0m\n") ≡ codes "+---+\n| \u{1b}[1ma\u{1b}[22m |\n+---+\n| \u{1b}[1mb\u{1b}[0m |\n+---+\n" }
-    ensures lone_sequence { (wanted : Wanted) → wanted.asked.width ≡ None → wanted.style ≡ default_settings → output_of wanted (codes "\u{1b}[31m") ≡ [] }
-    ensures tab_in_a_string { (wanted : Wanted) → wanted.asked.width ≡ None → wanted.style ≡ default_settings → output_of wanted (codes "\u{1b}]0;a\tb\u{7}x\n") ≡ codes "+---+\n| \u{1b}]0;a\tb\u{7}x |\n+---+\n" }
-    ensures same_color_twice { (wanted : Wanted) → wanted.asked.width ≡ None → wanted.style ≡ default_settings → output_of wanted (codes "\u{1b}[31ma\u{1b}[31mb\n") ≡ codes "+----+\n| \u{1b}[31ma\u{1b}[31mb\u{1b}[39m |\n+----+\n" }
+    ensures two_cells { (wanted : Wanted) → wanted.asked.width ≡ None → wanted.style ≡ default_settings → wanted.colors ≡ [] → output_of wanted (codes "\u{1b}[31mab\tc\n") ≡ codes "+----+---+\n| \u{1b}[31mab\u{1b}[39m | \u{1b}[31mc\u{1b}[39m |\n+----+---+\n" }
+    ensures two_lines { (wanted : Wanted) → wanted.asked.width ≡ None → wanted.style ≡ default_settings → wanted.colors ≡ [] → output_of wanted (codes "\u{1b}[1ma\nb\u{1b}[0m\n") ≡ codes "+---+\n| \u{1b}[1ma\u{1b}[22m |\n+---+\n| \u{1b}[1mb\u{1b}[0m |\n+---+\n" }
+    ensures lone_sequence { (wanted : Wanted) → wanted.asked.width ≡ None → wanted.style ≡ default_settings → wanted.colors ≡ [] → output_of wanted (codes "\u{1b}[31m") ≡ [] }
+    ensures tab_in_a_string { (wanted : Wanted) → wanted.asked.width ≡ None → wanted.style ≡ default_settings → wanted.colors ≡ [] → output_of wanted (codes "\u{1b}]0;a\tb\u{7}x\n") ≡ codes "+---+\n| \u{1b}]0;a\tb\u{7}x |\n+---+\n" }
+    ensures same_color_twice { (wanted : Wanted) → wanted.asked.width ≡ None → wanted.style ≡ default_settings → wanted.colors ≡ [] → output_of wanted (codes "\u{1b}[31ma\u{1b}[31mb\n") ≡ codes "+----+\n| \u{1b}[31ma\u{1b}[31mb\u{1b}[39m |\n+----+\n" }
 {}
 
 /// Tables in a width, worked out by hand: their bytes. A coloured text is wrapped, each line in its own
 /// colour, and a style that ended before a break stays ended; it is cut; words are kept; at width 0 only the
 /// paddings stay; columns give in turns, or the widest first; a width that the table doesn't pass changes nothing.
+/// No column has a colour.
 pub fn worked_widths()
-    ensures wrapped { (wanted : Wanted) → wanted.asked ≡ wraps 6 false InTurns → wanted.style ≡ default_settings → output_of wanted (codes "\u{1b}[31m123456\u{1b}[0m\n") ≡ codes "+----+\n| \u{1b}[31m12\u{1b}[39m |\n| \u{1b}[31m34\u{1b}[39m |\n| \u{1b}[31m56\u{1b}[0m |\n+----+\n" }
-    ensures wrapped_behind { (wanted : Wanted) → wanted.asked ≡ wraps 6 false InTurns → wanted.style ≡ default_settings → output_of wanted (codes "\u{1b}[31m12\u{1b}[0m34\n") ≡ codes "+----+\n| \u{1b}[31m12\u{1b}[0m |\n| 34 |\n+----+\n" }
-    ensures cut { (wanted : Wanted) → wanted.asked ≡ cuts 6 → wanted.style ≡ default_settings → output_of wanted (codes "\u{1b}[31m123456\u{1b}[0m\n") ≡ codes "+----+\n| \u{1b}[31m12\u{1b}[39m |\n+----+\n" }
-    ensures words { (wanted : Wanted) → wanted.asked ≡ wraps 8 true InTurns → wanted.style ≡ default_settings → output_of wanted (codes "111 234 1\n") ≡ codes "+------+\n| 111  |\n| 234  |\n| 1    |\n+------+\n" }
-    ensures nothing { (wanted : Wanted) → wanted.asked ≡ wraps 0 false InTurns → wanted.style ≡ default_settings → output_of wanted (codes "ab\tc\n") ≡ codes "+--+--+\n|  |  |\n+--+--+\n" }
-    ensures in_turns { (wanted : Wanted) → wanted.asked ≡ wraps 11 false InTurns → wanted.style ≡ default_settings → output_of wanted (codes "aaaa\tbb\n") ≡ codes "+-----+---+\n| aaa | b |\n| a   | b |\n+-----+---+\n" }
-    ensures widest { (wanted : Wanted) → wanted.asked ≡ wraps 11 false MaxLeft → wanted.style ≡ default_settings → output_of wanted (codes "aaaa\tbb\n") ≡ codes "+----+----+\n| aa | bb |\n| aa |    |\n+----+----+\n" }
-    ensures natural { (wanted : Wanted) → wanted.asked ≡ wraps 6 false InTurns → wanted.style ≡ default_settings → output_of wanted (codes "ab\n") ≡ codes "+----+\n| ab |\n+----+\n" }
-    ensures wide { (wanted : Wanted) → wanted.asked ≡ wraps 100 false InTurns → wanted.style ≡ default_settings → output_of wanted (codes "ab\n") ≡ codes "+----+\n| ab |\n+----+\n" }
+    ensures wrapped { (wanted : Wanted) → wanted.asked ≡ wraps 6 false InTurns → wanted.style ≡ default_settings → wanted.colors ≡ [] → output_of wanted (codes "\u{1b}[31m123456\u{1b}[0m\n") ≡ codes "+----+\n| \u{1b}[31m12\u{1b}[39m |\n| \u{1b}[31m34\u{1b}[39m |\n| \u{1b}[31m56\u{1b}[0m |\n+----+\n" }
+    ensures wrapped_behind { (wanted : Wanted) → wanted.asked ≡ wraps 6 false InTurns → wanted.style ≡ default_settings → wanted.colors ≡ [] → output_of wanted (codes "\u{1b}[31m12\u{1b}[0m34\n") ≡ codes "+----+\n| \u{1b}[31m12\u{1b}[0m |\n| 34 |\n+----+\n" }
+    ensures cut { (wanted : Wanted) → wanted.asked ≡ cuts 6 → wanted.style ≡ default_settings → wanted.colors ≡ [] → output_of wanted (codes "\u{1b}[31m123456\u{1b}[0m\n") ≡ codes "+----+\n| \u{1b}[31m12\u{1b}[39m |\n+----+\n" }
+    ensures words { (wanted : Wanted) → wanted.asked ≡ wraps 8 true InTurns → wanted.style ≡ default_settings → wanted.colors ≡ [] → output_of wanted (codes "111 234 1\n") ≡ codes "+------+\n| 111  |\n| 234  |\n| 1    |\n+------+\n" }
+    ensures nothing { (wanted : Wanted) → wanted.asked ≡ wraps 0 false InTurns → wanted.style ≡ default_settings → wanted.colors ≡ [] → output_of wanted (codes "ab\tc\n") ≡ codes "+--+--+\n|  |  |\n+--+--+\n" }
+    ensures in_turns { (wanted : Wanted) → wanted.asked ≡ wraps 11 false InTurns → wanted.style ≡ default_settings → wanted.colors ≡ [] → output_of wanted (codes "aaaa\tbb\n") ≡ codes "+-----+---+\n| aaa | b |\n| a   | b |\n+-----+---+\n" }
+    ensures widest { (wanted : Wanted) → wanted.asked ≡ wraps 11 false MaxLeft → wanted.style ≡ default_settings → wanted.colors ≡ [] → output_of wanted (codes "aaaa\tbb\n") ≡ codes "+----+----+\n| aa | bb |\n| aa |    |\n+----+----+\n" }
+    ensures natural { (wanted : Wanted) → wanted.asked ≡ wraps 6 false InTurns → wanted.style ≡ default_settings → wanted.colors ≡ [] → output_of wanted (codes "ab\n") ≡ codes "+----+\n| ab |\n+----+\n" }
+    ensures wide { (wanted : Wanted) → wanted.asked ≡ wraps 100 false InTurns → wanted.style ≡ default_settings → wanted.colors ≡ [] → output_of wanted (codes "ab\n") ≡ codes "+----+\n| ab |\n+----+\n" }
 {}
 
-/// The table of a whole text shows the picture of the characters that the text shows, in their styles, and no style is
-/// open where a line of it ends. The style of the table is plain.
+/// Tables with colours of columns, worked out by hand: their bytes. The second of two columns is red; a cell
+/// that resets its style, and one that leaves it open; each line of a wrapped cell and of one that is cut
+/// opens and ends the colour by itself; a cell without text prints nothing of it, nor does a colour of a
+/// column that the table has not; and the last colour of a column decides.
+pub fn worked_colors()
+    ensures one_column { (wanted : Wanted) → wanted.asked ≡ no_width → wanted.style ≡ default_settings → wanted.colors ≡ only 1 red → output_of wanted (codes "a\tb\n") ≡ codes "+---+---+\n| a | \u{1b}[31mb\u{1b}[39m |\n+---+---+\n" }
+    ensures cleared { (wanted : Wanted) → wanted.asked ≡ no_width → wanted.style ≡ default_settings → wanted.colors ≡ only 0 red → output_of wanted (codes "\u{1b}[1mab\u{1b}[0mc\n") ≡ codes "+-----+\n| \u{1b}[31m\u{1b}[1mab\u{1b}[0mc\u{1b}[39m |\n+-----+\n" }
+    ensures both { (wanted : Wanted) → wanted.asked ≡ no_width → wanted.style ≡ default_settings → wanted.colors ≡ only 0 red → output_of wanted (codes "\u{1b}[1mab\n") ≡ codes "+----+\n| \u{1b}[31m\u{1b}[1mab\u{1b}[22m\u{1b}[39m |\n+----+\n" }
+    ensures wrapped { (wanted : Wanted) → wanted.asked ≡ wraps 6 false InTurns → wanted.style ≡ default_settings → wanted.colors ≡ only 0 red → output_of wanted (codes "1234\n") ≡ codes "+----+\n| \u{1b}[31m12\u{1b}[39m |\n| \u{1b}[31m34\u{1b}[39m |\n+----+\n" }
+    ensures cut { (wanted : Wanted) → wanted.asked ≡ cuts 6 → wanted.style ≡ default_settings → wanted.colors ≡ only 0 red → output_of wanted (codes "1234\n") ≡ codes "+----+\n| \u{1b}[31m12\u{1b}[39m |\n+----+\n" }
+    ensures empty { (wanted : Wanted) → wanted.asked ≡ no_width → wanted.style ≡ default_settings → wanted.colors ≡ only 0 red → output_of wanted (codes "\ta\n") ≡ codes "+--+---+\n|  | a |\n+--+---+\n" }
+    ensures outside { (wanted : Wanted) → wanted.asked ≡ no_width → wanted.style ≡ default_settings → wanted.colors ≡ only 5 red → output_of wanted (codes "a\n") ≡ codes "+---+\n| a |\n+---+\n" }
+    ensures last { (wanted : Wanted) → wanted.asked ≡ no_width → wanted.style ≡ default_settings → wanted.colors ≡ (0, red) ∷ (1, bold) ∷ (0, green) ∷ [] → output_of wanted (codes "a\n") ≡ codes "+---+\n| \u{1b}[32ma\u{1b}[39m |\n+---+\n" }
+{}
+
+/// The table of a whole text shows the picture of the text, the characters that it shows in their styles and in the
+/// colours of their columns, and no style is open where a line of it ends. The style of the table is plain,
+/// and each colour closes.
 pub fn table_shown()
-    ensures { (wanted : Wanted) (input : List ℕ) → IsPlain wanted.style → IsUtf8 input → IsWhole input → ShowsTableOf wanted input (output_of wanted input) }
+    ensures { (wanted : Wanted) (input : List ℕ) → IsPlain wanted.style → AllClose wanted.colors → IsUtf8 input → IsWhole input → ShowsTableOf wanted input (output_of wanted input) }
 {}
 
 /// The places of an ASCII character in a text are those at which it matches.
@@ -90,22 +112,37 @@ pub fn places_match()
     ensures { (c : ℕ) (text : List ℕ) → c < 128 → AreMatches (c ∷ []) text (places c text) }
 {}
 
-/// Styles change no character of the picture, which is that of the characters alone. A text without its sequences has
-/// a table where the text has one, and it is, byte for byte, the output without its sequences; it is in range where the
-/// text is, and the same cell of it is too wide. What is said of bytes (`plain`, `output`) is said of a plain style.
+/// Without colours the table is as its style and its width make it: by its bytes, and by its picture.
+pub fn tables_without_colors()
+    ensures same { (wanted : Wanted) → wanted.colors ≡ [] → without_colors wanted ≡ wanted }
+    ensures output { (wanted : Wanted) (input : List ℕ) → output_of (without_colors wanted) input ≡ asked_text wanted.style wanted.asked (cell_parts input) }
+    ensures picture { (wanted : Wanted) (input : List ℕ) → picture (without_colors wanted) input ≡ picture_without_colors wanted (styled (pieces input)) }
+    ensures drawn { (wanted : Wanted) (characters : List Styled) → picture_without_colors wanted characters ≡ asked_picture wanted.style wanted.asked (rows_of character_of characters) }
+{}
+
+/// Neither styles nor colours change a character of the picture, which is that of the characters alone. A text without its sequences has
+/// a table where the text has one, and without colours it is, byte for byte, the output without its sequences, also where
+/// columns have colours; it is in range where the text is, and the same cell of it is too wide. What is said of bytes
+/// (`plain`, `output`, `lines`, `both`) is said of a plain style, and of colours that close.
 pub fn without_styles()
     ensures picture { (wanted : Wanted) (characters : List Styled) →
-        characters_of (picture wanted characters) ≡ characters_of (picture wanted (map in_plain (characters_of characters))) }
+        characters_of (picture_without_colors wanted characters) ≡ characters_of (picture_without_colors wanted (map in_plain (characters_of characters))) }
     ensures characters { (wanted : Wanted) (characters : List Styled) →
-        characters_of (picture wanted characters) ≡ table_characters wanted (characters_of characters) }
+        characters_of (picture_without_colors wanted characters) ≡ table_characters wanted (characters_of characters) }
+    ensures colors { (wanted : Wanted) (input : List ℕ) → IsUtf8 input → IsWhole input →
+        characters_of (picture wanted input) ≡ table_characters wanted (chars (stripped input)) }
     ensures plain { (wanted : Wanted) (text : List ℕ) → IsPlain wanted.style → IsUtf8 text → has_escape text ≡ false →
-        output_of wanted text ≡ encode_utf8_all (table_characters wanted (chars text)) }
+        output_of (without_colors wanted) text ≡ encode_utf8_all (table_characters wanted (chars text)) }
     ensures accepted { (wanted : Wanted) (input : List ℕ) (ps : List Piece) →
         ArePiecesOf input ps → HasTable wanted input → HasTable wanted (strip ps) }
     ensures fits { (wanted : Wanted) (input : List ℕ) (ps : List Piece) → ArePiecesOf input ps → (TableFits wanted (strip ps) ↔ TableFits wanted input) }
     ensures too_wide { (wanted : Wanted) (input : List ℕ) (ps : List Piece) → ArePiecesOf input ps → wide_cell wanted (strip ps) ≡ wide_cell wanted input }
-    ensures output { (wanted : Wanted) (input : List ℕ) (ps qs : List Piece) → IsPlain wanted.style →
-        IsUtf8 input → ArePiecesOf input ps → NoneBroken ps → ArePiecesOf (output_of wanted input) qs → strip qs ≡ output_of wanted (strip ps) }
+    ensures output { (wanted : Wanted) (input : List ℕ) (ps qs : List Piece) → IsPlain wanted.style → AllClose wanted.colors →
+        IsUtf8 input → ArePiecesOf input ps → NoneBroken ps → ArePiecesOf (output_of wanted input) qs → strip qs ≡ output_of (without_colors wanted) (strip ps) }
+    ensures lines { (wanted : Wanted) (input : List ℕ) (y : ℕ) → IsPlain wanted.style → AllClose wanted.colors → IsUtf8 input → IsWhole input →
+        strip (pieces (line_bytes wanted input y)) ≡ strip (pieces (line_bytes (without_colors wanted) input y)) }
+    ensures both { (wanted : Wanted) (input : List ℕ) (ps qs rs : List Piece) → IsPlain wanted.style → AllClose wanted.colors →
+        IsUtf8 input → ArePiecesOf input ps → NoneBroken ps → ArePiecesOf (output_of wanted input) qs → ArePiecesOf (output_of wanted (strip ps)) rs → strip qs ≡ strip rs }
 {}
 
 /// The output is drawn by the pieces of a grid: it is the lines of the grid, each the bytes of its pieces and
@@ -120,14 +157,14 @@ pub fn tiling()
 
 /// What the pieces are. In each line of the rectangle of a cell those between its first column and its last
 /// are one line of the cell's block: paddings, what is left free, and between them a line of the cell's text,
-/// with just the bytes that it has there. All other pieces are characters, each in as many columns as it
+/// with just the bytes that it has there, between the texts of the colour of its column where it has bytes. All other pieces are characters, each in as many columns as it
 /// takes. The cell's text is its part of the input, wrapped or cut where its column gave.
 pub fn cell_lines_keep_their_bytes()
     ensures blocks { (wanted : Wanted) (input : List ℕ) (i j y : ℕ) → HasTable wanted input →
         i < row_count (grid_of wanted input).frame → j < column_count (grid_of wanted input).frame →
         IsLineOf (grid_of wanted input) (at i j) y → ShowsBlock (grid_of wanted input) (at i j) y }
     ensures texts { (wanted : Wanted) (input : List ℕ) (piece : TablePiece) (cell : Cell) (k : ℕ) → piece.part.content ≡ TextLine cell k →
-        piece_bytes wanted input piece ≡ slice_index_or (text_lines (text_at (kept_of wanted input) cell)) k [] }
+        piece_bytes wanted input piece ≡ colored_line (cell_color wanted.colors cell) (slice_index_or (text_lines (text_at (kept_of wanted input) cell)) k []) }
     ensures fills { (wanted : Wanted) (input : List ℕ) (piece : TablePiece) (c : ℕ) → piece.part.content ≡ Fill c →
         piece_bytes wanted input piece ≡ flat_map encode_utf8 (replicate piece.part.width c) }
     ensures glyphs { (wanted : Wanted) (input : List ℕ) (piece : TablePiece) (c : ℕ) → piece.part.content ≡ Glyph c →
@@ -138,11 +175,11 @@ pub fn cell_lines_keep_their_bytes()
 
 /// Each piece takes just the columns that it stands on: a line of a cell measures so many, and the characters
 /// of a glyph or a fill take them one by one. In the style of `Options::new` these measure so many as one
-/// text too. The style is plain, and the input a whole text.
+/// text too. The style is plain, each colour closes, and the input is a whole text.
 pub fn measured_pieces()
-    ensures each { (wanted : Wanted) (input : List ℕ) (y : ℕ) → IsPlain wanted.style → IsUtf8 input → IsWhole input →
+    ensures each { (wanted : Wanted) (input : List ℕ) (y : ℕ) → IsPlain wanted.style → AllClose wanted.colors → IsUtf8 input → IsWhole input →
         All (λ piece. piece_columns wanted input piece ≡ piece.part.width) (picture_line (grid_of wanted input) y) }
-    ensures default_style { (wanted : Wanted) (input : List ℕ) (y : ℕ) → wanted.style ≡ default_settings → IsUtf8 input → IsWhole input →
+    ensures default_style { (wanted : Wanted) (input : List ℕ) (y : ℕ) → wanted.style ≡ default_settings → AllClose wanted.colors → IsUtf8 input → IsWhole input →
         All (λ piece. measure (shown_chars (piece_bytes wanted input piece)) ≡ piece.part.width) (picture_line (grid_of wanted input) y) }
 {}
 
@@ -186,13 +223,13 @@ pub fn default_style_is_plain()
 {}
 
 /// A streamed table is the table: of each input, `run_streamed` promises for a style what `run` promises for
-/// options of that style without a width, whatever else they have. They refuse the same inputs by the same
+/// options of that style without a width and without colours, whatever else they have. They refuse the same inputs by the same
 /// names, memory aside, and write the same bytes.
 pub fn streamed_tables_are_tables()
-    ensures bytes { (wanted : Wanted) (input : List ℕ) → wanted.asked.width ≡ None → output_of (without_width wanted.style) input ≡ output_of wanted input }
-    ensures accepted { (wanted : Wanted) (input : List ℕ) → wanted.asked.width ≡ None → (HasTable (without_width wanted.style) input ↔ HasTable wanted input) }
-    ensures refuses { (wanted : Wanted) (input : List ℕ) (fault : RunFault) → wanted.asked.width ≡ None → (MayRefuse (without_width wanted.style) input fault ↔ MayRefuse wanted input fault) }
-    ensures serves { (wanted : Wanted) (input : List ℕ) (result : Result ⊤ RunFault) (old new : Option (List ℕ)) → wanted.asked.width ≡ None →
+    ensures bytes { (wanted : Wanted) (input : List ℕ) → wanted.asked.width ≡ None → wanted.colors ≡ [] → output_of (without_width wanted.style) input ≡ output_of wanted input }
+    ensures accepted { (wanted : Wanted) (input : List ℕ) → wanted.asked.width ≡ None → wanted.colors ≡ [] → (HasTable (without_width wanted.style) input ↔ HasTable wanted input) }
+    ensures refuses { (wanted : Wanted) (input : List ℕ) (fault : RunFault) → wanted.asked.width ≡ None → wanted.colors ≡ [] → (MayRefuse (without_width wanted.style) input fault ↔ MayRefuse wanted input fault) }
+    ensures serves { (wanted : Wanted) (input : List ℕ) (result : Result ⊤ RunFault) (old new : Option (List ℕ)) → wanted.asked.width ≡ None → wanted.colors ≡ [] →
         (Serves (without_width wanted.style) input result old new ↔ Serves wanted input result old new) }
 {}
 

@@ -38,7 +38,8 @@ pub fn write_text<W: Write>(
         return write_styled(alloc, options, text, writer);
     };
     let asked = asked_of(options);
-    answer(write_rows(alloc, &options.style, &asked, rows, writer))
+    let colors = options.colors.as_slice();
+    answer(write_rows(alloc, &options.style, &asked, colors, rows, writer))
 }
 
 // The same of a text with sequences.
@@ -60,7 +61,8 @@ fn write_styled<W: Write>(
     };
     let rows = Rows::of(&own, rows);
     let asked = asked_of(options);
-    answer(write_rows(alloc, &options.style, &asked, rows, writer))
+    let colors = options.colors.as_slice();
+    answer(write_rows(alloc, &options.style, &asked, colors, rows, writer))
 }
 
 // What a run answers where the table was written so, or not.

@@ -11,7 +11,7 @@ mod running;
 mod style;
 mod styled_rows;
 
-pub use columns_options::Options;
+pub use columns_options::{Options, colors_close};
 pub use fault::RunFault;
 pub use input::read_all;
 pub use running::{run, run_streamed};

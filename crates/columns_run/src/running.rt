@@ -2,6 +2,7 @@
 ghost use Rattle.std.specs.Prelude.{◌≡◌, ◌≢◌, ◌↔◌, ◌⊎◌, IfSome, IfErr, IsErrOf, Err};
 ghost use Rattle.std.specs.Io.KnownBytes.{IsAtEnd};
 ghost use Rattle.tabled_output.specs.Counts.{inner_of, FailsIff, HasGivenPieces, OnlyReads, OnlyWrites, TakesNothingIff, TellsEnd, TellsNoEnd};
+ghost use Rattle.columns_options.specs.ColumnColors.{AllClose};
 ghost use Rattle.columns_run.specs.Fault.{IsOfTable, MayFollowWrites};
 ghost use Rattle.grid_config.specs.Compact.{compact_of};
 ghost use Rattle.columns_run.specs.Layout.{output_of};
@@ -27,7 +28,8 @@ const READ_LIMIT: u64 = 1 << 40;
 /// Reads all text, cells between tabs and rows between line feeds, and writes it as a table with
 /// borders. Where it would pass the width that is asked, its columns give, and its cells are wrapped or
 /// cut to the room that is left; it never gets wider. Each line is written as soon as it is made, and no more
-/// than one is held, beside the input and the places of its cells. `RunFault` says when it gives up. Before a
+/// than one is held, beside the input and the places of its cells. Each line of a cell stands in the colour of
+/// its column, which the last of several decides. `RunFault` says when it gives up. Before a
 /// fault of the reader or the input nothing is written; before one of the writer, or `Memory`, a front of the
 /// table may be. Nothing is flushed.
 pub fn run<R: Read, W: Write>(
@@ -36,7 +38,8 @@ pub fn run<R: Read, W: Write>(
     reader: &mut Counted<R>,
     writer: &mut Counted<W>,
 ) -> Result<(), RunFault>
-    requires { IsPlain (compact_of options.now.style) }
+    requires plain { IsPlain (compact_of options.now.style) }
+    requires close { AllClose options.now.colors.items }
 
     // Where the reader's bytes are known, they decide the answer and what is written.
     ensures known_input { IfSome (R.remaining (inner_of reader.old)) (λ input.
@@ -75,8 +78,8 @@ pub fn run<R: Read, W: Write>(
     write_table(alloc, options, &bytes, writer)
 }
 
-/// The same in this style, as wide as the text: what `run` does with options of this style and without a
-/// width.
+/// The same in this style, as wide as the text and without colours: what `run` does with options of this
+/// style that have no width and no colours.
 pub fn run_streamed<R: Read, W: Write>(
     alloc: Global,
     style: &CompactConfig,
@@ -118,12 +121,13 @@ pub fn run_streamed<R: Read, W: Write>(
     ensures untouched { IfErr result (λ fault.
         ¬ (MayFollowWrites fault) → writer.new ≡ writer.old) }
 {
-    run(alloc, &without_width(style), reader, writer)
+    run(alloc, &without_width(alloc, style), reader, writer)
 }
 
-// The options of a table in this style that is as wide as its text.
-fn without_width(style: &CompactConfig) -> Options
-    ensures { wanted_of result ≡ without_width (compact_of style.now) }
+// The options of a table in this style that is as wide as its text. Does not allocate.
+fn without_width(alloc: Global, style: &CompactConfig) -> Options
+    ensures wanted { wanted_of result ≡ without_width (compact_of style.now) }
+    ensures close { AllClose result.colors.items }
 {
     Options {
         width: None,
@@ -131,6 +135,7 @@ fn without_width(style: &CompactConfig) -> Options
         keep_words: false,
         priority: Choice::None,
         style: *style,
+        colors: Vec::new(alloc),
     }
 }
 

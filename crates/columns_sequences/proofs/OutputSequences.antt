@@ -1,48 +1,57 @@
 -- The sequences of a printed table are those of the lines of its cells.
-use Rattle.std.proofs.Common.{◌≡◌, ◌+◌, ◌*◌, ◌≤◌, ℕ, zero, suc, false, List, [], ◌∷◌, ◌++◌, None, length, map, take, get_or, replicate, refl, ap, sym, subst, ◌∙◌, arith}
-use Rattle.std.specs.Prelude.{encode_utf8, flat_map, IsUtf8}
+use Rattle.std.proofs.Common.{◌≡◌, ◌≢◌, ◌+◌, ◌*◌, ◌≤◌, ℕ, zero, suc, false, List, [], ◌∷◌, ◌++◌, None, Option, Some, length, map, take, get_or, replicate, refl, ap, sym, subst, ◌∙◌, arith}
+use Rattle.std.specs.Prelude.{encode_utf8, flat_map, IfSome, IsUtf8}
 use Rattle.std.proofs.Math.Utf8.{encode}
 use Rattle.std.specs.List.{AllByRecursion, range_with_len, sum_by}
 use Rattle.std.proofs.lemmas.List.{length-map, map-id, take_all}
 use Rattle.std.proofs.lemmas.List.Sums.{sum_by-cons}
 use Rattle.ansi_scan.specs.Pieces.{pieces}
-use Rattle.ansi_scan.specs.Sequences.{IsWhole, NoneBroken}
+use Rattle.ansi_scan.specs.Sequences.{IsWhole, NoneBroken, Piece as TextPiece}
+use Rattle.ansi_scan.specs.declared.items.Kind.TheVariants.{Text}
 use Rattle.ansi_scan.proofs.Existence.{ArePiecesOf-pieces}
 use Rattle.ansi_str.specs.StyledText.{strip}
 use Rattle.columns_asked.specs.Layout.{asked_widths, by_column, heights_of, kept_texts, narrowed, resize_in}
 use Rattle.columns_asked.proofs.TableLemmas.{kept-whole}
+use Rattle.columns_colors.specs.ColumnColors.{cell_color, column_color}
+use Rattle.columns_options.specs.ColumnColors.{AllClose}
+use Rattle.grid_config.specs.Closing.{AreSequences}
+use Rattle.grid_config.specs.Colors.{Color}
 use Rattle.grid_config.specs.Compact.{Compact}
 use Rattle.grid_config.specs.Looks.{Look, compact_look}
 use Rattle.grid_config_values.specs.declared.position.Position.{Position}
 use Rattle.grid_records_measure.specs.TextLines.{line_feed, line_measure, shown_lines, text_height, text_lines}
 use Rattle.grid_records_measure.proofs.TextLineLemmas.{length-text_lines}
 use Rattle.grid_records_estimate.specs.Rows.{text_at}
+use Rattle.papergrid_colors.specs.ClosingColors.{ShowNothing, ShowsNothing}
+use Rattle.papergrid_colors.specs.ColoredLines.{with_painted_lines}
+use Rattle.papergrid_colors.proofs.LineLemmas.{none-shown}
 use Rattle.papergrid_picture.specs.Blocks.{Grid, Part}
 use Rattle.papergrid_picture.specs.CellLines.{cell_lines, cell_measures}
 use Rattle.papergrid_picture.specs.Frame.{column_count, line_count, row_count}
 use Rattle.papergrid_picture.specs.Picture.{Piece, at, parts_of, picture_line}
 use Rattle.papergrid_picture.specs.Reading.{Reading, part_items}
 use Rattle.papergrid_picture.specs.Shown.{AreWholeTexts, IsShown, ShowsOnly}
-use Rattle.papergrid_picture.specs.Tables.{in_bytes, table_grid}
+use Rattle.papergrid_picture.specs.Tables.{in_bytes, in_color, table_grid}
 use Rattle.papergrid_picture.proofs.ItemLemmas.{Anything, colored-anyhow}
 use Rattle.papergrid_picture.proofs.RelatedLemmas.{parts-hold}
 use Rattle.papergrid_picture.proofs.ShownLemmas.{IsClosedPart, IsShown-feed, IsShown-space, lines-closed_parts, pieces-nothing, whole-at}
 use Rattle.papergrid_picture.proofs.StrippedLemmas.{Leaves-append, Leaves-character}
 use Rattle.tabled_size_cells.specs.Resizing.{Resize, resized_text}
 use Rattle.tabled_size_wrap.proofs.ShowLemmas.{ShowsLine-closed, ShowsLine-nothing}
-use Rattle.columns_run.specs.Layout.{grid_of, kept_of, output_of, piece_bytes}
+use Rattle.columns_run.specs.Layout.{colored_line, grid_of, kept_of, output_of, piece_bytes}
 use Rattle.columns_run.specs.Plain.{IsPlain}
 use Rattle.columns_run.specs.Rows.{cell_parts}
 use Rattle.columns_run.specs.Wanted.{Wanted}
 use Rattle.columns_run.proofs.ByteLemmas.{output-lines}
 use Rattle.columns_run.proofs.CellLemmas.{whole_cells, whole_text}
+use Rattle.columns_run.proofs.ColorLemmas.{cells-silent, painted-is}
 use Rattle.columns_run.proofs.PlainLemmas.{bare}
 use Rattle.columns_run.proofs.TilingLemmas.{seen-itself}
-use Rattle.columns_sequences.specs.Bounds.{cell_lines as count_lines, sequence_bytes}
+use Rattle.columns_sequences.specs.Bounds.{cell_lines as count_lines, color_around, color_bytes, row_colors, sequence_bytes}
 use Rattle.columns_sequences.proofs.CellSequences.{IsOneLine, one-line, resized-taken}
 use Rattle.columns_sequences.proofs.CellSums.{all-by, row_sum, rows_sum}
 use Rattle.columns_sequences.proofs.CellsOfText.{cells-are_lines}
-use Rattle.columns_sequences.proofs.PictureSums.{all-shown, content_weight, pieces_weight, rsum, rsum-le, rsum-none}
+use Rattle.columns_sequences.proofs.PictureSums.{all-shown, content_weight, pieces_weight, rsum, rsum-le, rsum-none, rsum-plus}
 use Rattle.columns_sequences.proofs.RunSequences.{taken-both}
 use Rattle.columns_sequences.proofs.SequenceCounts.{taken-sum, taken_by, texts_take, total}
 
@@ -77,6 +86,31 @@ Takes-feed : Takes (line_feed ∷ []) 0
 unfolding encode
 Takes-feed = Takes-shown line_feed IsShown-feed
 
+-- ---- a line in a colour
+
+strip-sequences : (ps : List TextPiece) → AllByRecursion (λ (piece : TextPiece). piece.kind ≢ Text) ps → strip ps ≡ []
+strip-sequences [] none = refl
+strip-sequences (p ∷ ps) none = ap (λ bytes. bytes ++ strip ps) (none-shown p.kind p.bytes none.0) ∙ strip-sequences ps none.1
+
+Takes-all : (bytes : List ℕ) → AreSequences (pieces bytes) → Takes bytes (length bytes)
+Takes-all bytes are = record {
+  whole = are.whole;
+  taken = omega (arith, taken-sum (pieces bytes), ap (λ (xs : List ℕ). length xs) (strip-sequences (pieces bytes) are.no_text), ap (λ (xs : List ℕ). length xs) (ArePiecesOf-pieces bytes).joins);
+}
+
+Takes-colored : (color : Option Color) (line : List ℕ) → IfSome color ShowsNothing → NoneBroken (pieces line) → Takes (colored_line color line) (taken_by (pieces line) + color_around color line)
+Takes-colored None [] silent whole = record { whole = whole; taken = omega arith }
+Takes-colored None (b ∷ bs) silent whole = record { whole = whole; taken = omega arith }
+Takes-colored (Some color) [] silent whole = record { whole = whole; taken = omega arith }
+Takes-colored (Some color) (b ∷ bs) silent whole =
+    let line = b ∷ bs in
+    let own = taken_by (pieces line) in
+    let here : Takes line own = record { whole = whole; taken = refl } in
+    let behind = Takes-append line color.suffix own (length color.suffix) here (Takes-all color.suffix silent.suffix_form) in
+    let all = Takes-append color.prefix (line ++ color.suffix) (length color.prefix) (own + length color.suffix) (Takes-all color.prefix silent.prefix_form) behind in
+    let sum : length color.prefix + (own + length color.suffix) ≡ own + (length color.prefix + length color.suffix) = omega arith in
+    subst (Takes (in_color color line)) sum all
+
 -- ---- sums
 
 total-le : {A : Type 0} (f g : A → ℕ) → ((x : A) → f x ≤ g x) → (xs : List A) → total f xs ≤ total g xs
@@ -95,6 +129,22 @@ over-list h d none (x ∷ xs) (suc n) =
     let next : rsum (λ k. h (get_or (x ∷ xs) (k + 1) d)) 0 n ≤ rsum (λ k. h (get_or xs k d)) 0 n =
     rsum-le (λ k. h (get_or (x ∷ xs) (k + 1) d)) (λ k. h (get_or xs k d)) 0 n (λ k low high. let more : k + 1 ≡ suc k = omega arith in let e = ap (λ (m : ℕ). h (get_or (x ∷ xs) m d)) more in omega (arith, e)) in
     omega (arith, shifted (λ k. h (get_or (x ∷ xs) k d)) 0 n, next, over-list h d none xs n)
+
+-- the cells of a row, each by its column too
+over-row : (h : ℕ → List ℕ → ℕ) → ((j : ℕ) → h j [] ≡ 0) → (row : List (List ℕ)) (first n : ℕ) → rsum (λ k. h (first + k) (get_or row k [])) 0 n ≤ row_sum h first row
+over-row h none [] first n = let all = rsum-none (λ k. h (first + k) (get_or [] k [])) 0 n (λ k low high. none (first + k)) in omega (arith, all)
+over-row h none (x ∷ xs) first zero = omega arith
+over-row h none (x ∷ xs) first (suc n) =
+    let here : first + 0 ≡ first = omega arith in
+    let one : h (first + 0) x ≡ h first x = ap (λ (j : ℕ). h j x) here in
+    let next : rsum (λ k. h (first + (k + 1)) (get_or (x ∷ xs) (k + 1) [])) 0 n ≤ rsum (λ k. h (first + 1 + k) (get_or xs k [])) 0 n =
+    rsum-le (λ k. h (first + (k + 1)) (get_or (x ∷ xs) (k + 1) [])) (λ k. h (first + 1 + k) (get_or xs k [])) 0 n
+    (λ k low high.
+    let more : k + 1 ≡ suc k = omega arith in
+    let place : first + (k + 1) ≡ first + 1 + k = omega arith in
+    let e = ap (λ (m : ℕ). h (first + (k + 1)) (get_or (x ∷ xs) m [])) more ∙ ap (λ (j : ℕ). h j (get_or xs k [])) place in
+    omega (arith, e)) in
+    omega (arith, one, shifted (λ k. h (first + k) (get_or (x ∷ xs) k [])) 0 n, next, over-row h none xs (first + 1) n)
 
 past-end : (lines : List (List ℕ)) → get_or lines (length lines) [] ≡ []
 past-end [] = refl
@@ -117,7 +167,7 @@ same-count text =
     let all : length shown ≤ length shown = omega arith in
     length-map (take (length shown) shown) line_measure ∙ ap (λ (found : List (List ℕ)). length found) (take_all (length shown) shown all) ∙ sym (length-text_lines text)
 
-module _ (style : Compact) (texts : List (List (List ℕ))) (widths heights : List ℕ) (whole : AreWholeTexts texts) (shown : ShowsOnly IsShown (compact_look style)) where
+module _ (style : Compact) (texts : List (List (List ℕ))) (colors : List (ℕ × Color)) (widths heights : List ℕ) (whole : AreWholeTexts texts) (silent : ShowNothing (cell_color colors)) (shown : ShowsOnly IsShown (compact_look style)) where
   abbrev look : Look
   look = compact_look style
 
@@ -125,11 +175,20 @@ module _ (style : Compact) (texts : List (List (List ℕ))) (widths heights : Li
   grid = table_grid look texts (λ _. None) widths heights
 
   abbrev reading : Reading ℕ
-  reading = in_bytes look texts
+  reading = with_painted_lines (in_bytes look texts) (cell_color colors)
 
-  -- what line k of a cell takes
+  abbrev line_of : Position → ℕ → List ℕ
+  line_of cell k = get_or (cell_lines false false (text_at texts cell)) k []
+
+  -- what line k of a cell takes, and what its colour adds
+  abbrev own : Position → ℕ → ℕ
+  own cell k = taken_by (pieces (line_of cell k))
+
+  abbrev extra : Position → ℕ → ℕ
+  extra cell k = color_around (cell_color colors cell) (line_of cell k)
+
   abbrev weight : Position → ℕ → ℕ
-  weight cell k = taken_by (pieces (get_or (cell_lines false false (text_at texts cell)) k []))
+  weight cell k = own cell k + extra cell k
 
   line-whole : (cell : Position) (k : ℕ) → NoneBroken (pieces (get_or (cell_lines false false (text_at texts cell)) k []))
   line-whole cell k =
@@ -148,7 +207,10 @@ module _ (style : Compact) (texts : List (List (List ℕ))) (widths heights : Li
   parts-take y =
       parts-hold PartTakes IsShown Anything grid IsShown-space
       (λ width c color is _. Takes-filled c is width) (λ width c color is _. Takes-filled c is width)
-      (λ cell k. record { whole = line-whole cell k; taken = refl }) shown (colored-anyhow look) y
+      (λ cell k.
+      subst (λ (bytes : List ℕ). Takes bytes (weight cell k)) (sym (painted-is look texts (cell_color colors cell) (line_of cell k)))
+      (Takes-colored (cell_color colors cell) (line_of cell k) (silent cell) (line-whole cell k)))
+      shown (colored-anyhow look) y
 
   pieces-take : (found : List Piece) → AllByRecursion PartTakes (parts_of found) → Takes (flat_map (λ piece. part_items reading piece.part) found) (pieces_weight weight found)
   pieces-take [] all = Takes-nothing
@@ -168,12 +230,15 @@ module _ (style : Compact) (texts : List (List (List ℕ))) (widths heights : Li
       let sum : pieces_weight weight (picture_line grid a) + 0 + rsum (λ y. pieces_weight weight (picture_line grid y)) (a + 1) n ≡ pieces_weight weight (picture_line grid a) + rsum (λ y. pieces_weight weight (picture_line grid y)) (a + 1) n = omega arith in
       subst (Takes (flat_map (λ y. line_at y ++ line_feed ∷ []) (range_with_len a (suc n)))) sum all
 
-  behind : (cell : Position) → weight cell (length (grid.measures cell)) ≡ 0
-  behind cell =
+  line-behind : (cell : Position) → line_of cell (length (grid.measures cell)) ≡ []
+  line-behind cell =
       let text = text_at texts cell in
-      ap (λ (lines : List (List ℕ)). taken_by (pieces (get_or lines (length (cell_measures false false text)) []))) (same-lines text)
-      ∙ ap (λ (n : ℕ). taken_by (pieces (get_or (text_lines text) n []))) (same-count text)
-      ∙ ap (λ (bytes : List ℕ). taken_by (pieces bytes)) (past-end (text_lines text)) ∙ ap taken_by pieces-nothing
+      ap (λ (lines : List (List ℕ)). get_or lines (length (cell_measures false false text)) []) (same-lines text)
+      ∙ ap (λ (n : ℕ). get_or (text_lines text) n []) (same-count text)
+      ∙ past-end (text_lines text)
+
+  behind : (cell : Position) → weight cell (length (grid.measures cell)) ≡ 0
+  behind cell = ap (λ (bytes : List ℕ). taken_by (pieces bytes) + color_around (cell_color colors cell) bytes) (line-behind cell) ∙ ap (λ (ps : List TextPiece). taken_by ps + 0) pieces-nothing
 
   -- ---- cell by cell
 
@@ -207,17 +272,56 @@ module _ (style : Compact) (texts : List (List (List ℕ))) (widths heights : Li
       let second = total-le text_taken (λ text. texts_take (text_lines text)) text-within row in
       omega (arith, first, second)
 
-  cells-within : rsum (λ i. rsum (λ j. rsum (weight (at i j)) 0 (length (grid.measures (at i j)))) 0 (column_count grid.frame)) 0 (row_count grid.frame) ≤ total (total (λ text. texts_take (text_lines text))) texts
+  abbrev over_cells : (Position → ℕ → ℕ) → ℕ
+  over_cells w = rsum (λ i. rsum (λ j. rsum (w (at i j)) 0 (length (grid.measures (at i j)))) 0 (column_count grid.frame)) 0 (row_count grid.frame)
+
+  apart : over_cells weight ≡ over_cells own + over_cells extra
+  apart =
+      (λ t. rsum (λ i. rsum (λ j. rsum-plus (own (at i j)) (extra (at i j)) 0 (length (grid.measures (at i j))) t) 0 (column_count grid.frame)) 0 (row_count grid.frame))
+      ∙ (λ t. rsum (λ i. rsum-plus (λ j. rsum (own (at i j)) 0 (length (grid.measures (at i j)))) (λ j. rsum (extra (at i j)) 0 (length (grid.measures (at i j)))) 0 (column_count grid.frame) t) 0 (row_count grid.frame))
+      ∙ rsum-plus (λ i. rsum (λ j. rsum (own (at i j)) 0 (length (grid.measures (at i j)))) 0 (column_count grid.frame))
+      (λ i. rsum (λ j. rsum (extra (at i j)) 0 (length (grid.measures (at i j)))) 0 (column_count grid.frame)) 0 (row_count grid.frame)
+
+  -- ---- what the colours add
+
+  abbrev text_colors : ℕ → List ℕ → ℕ
+  text_colors column text = total (color_around (column_color colors column)) (text_lines text)
+
+  no-text : (column : ℕ) → text_colors column [] ≡ 0
+  no-text column = ap (total (color_around (column_color colors column))) (one-line [] (ShowsLine-closed [] [] ShowsLine-nothing))
+
+  cell-colors : (i j : ℕ) → rsum (extra (at i j)) 0 (length (grid.measures (at i j))) ≤ text_colors j (text_at texts (at i j))
+  cell-colors i j =
+      let text = text_at texts (at i j) in
+      let within = over-list (color_around (column_color colors j)) [] refl (cell_lines false false text) (length (cell_measures false false text)) in
+      omega (arith, within, ap (total (color_around (column_color colors j))) (same-lines text))
+
+  row-colors : (i : ℕ) → rsum (λ j. rsum (extra (at i j)) 0 (length (grid.measures (at i j)))) 0 (column_count grid.frame) ≤ row_sum text_colors 0 (get_or texts i [])
+  row-colors i =
+      let row = get_or texts i [] in
+      let first =
+      rsum-le (λ j. rsum (extra (at i j)) 0 (length (grid.measures (at i j)))) (λ k. text_colors (0 + k) (get_or row k [])) 0 (column_count grid.frame)
+      (λ j low high. let here : 0 + j ≡ j = omega arith in let same = ap (λ (column : ℕ). text_colors column (get_or row j [])) here in omega (arith, same, cell-colors i j)) in
+      omega (arith, first, over-row text_colors no-text row 0 (column_count grid.frame))
+
+  colors-within : over_cells extra ≤ total (row_sum text_colors 0) texts
+  colors-within =
+      let first =
+      rsum-le (λ i. rsum (λ j. rsum (extra (at i j)) 0 (length (grid.measures (at i j)))) 0 (column_count grid.frame)) (λ i. row_sum text_colors 0 (get_or texts i [])) 0 (row_count grid.frame) (λ i low high. row-colors i) in
+      omega (arith, first, over-list (row_sum text_colors 0) [] refl texts (row_count grid.frame))
+
+  cells-within : over_cells own ≤ total (total (λ text. texts_take (text_lines text))) texts
   cells-within =
       let first = over-list row_taken [] row-none texts (row_count grid.frame) in
       let second = total-le row_taken (total (λ text. texts_take (text_lines text))) row-within texts in
       omega (arith, first, second)
 
-  pub output-within : (n : ℕ) → n ≡ line_count grid.frame → taken_by (pieces (flat_map (λ y. line_at y ++ line_feed ∷ []) (range_with_len 0 n))) ≤ total (total (λ text. texts_take (text_lines text))) texts
+  pub output-within : (n : ℕ) → n ≡ line_count grid.frame → taken_by (pieces (flat_map (λ y. line_at y ++ line_feed ∷ []) (range_with_len 0 n)))
+      ≤ total (total (λ text. texts_take (text_lines text))) texts + total (row_sum text_colors 0) texts
   output-within n same =
       let takes = lines-take 0 n in
       let shows = all-shown weight grid behind (seen-itself style texts widths heights) in
-      omega (arith, takes.taken, ap (rsum (λ y. pieces_weight weight (picture_line grid y)) 0) same, shows, cells-within)
+      omega (arith, takes.taken, ap (rsum (λ y. pieces_weight weight (picture_line grid y)) 0) same, shows, apart, cells-within, colors-within)
 
 -- ---- the texts that are kept
 
@@ -238,11 +342,40 @@ count-same : (rows : List (List (List ℕ))) → total (total text_height) rows 
 count-same [] = refl
 count-same (row ∷ rows) = ap (λ first. first + total (total text_height) rows) (total-sum text_height row) ∙ ap (λ rest. sum_by text_height row + rest) (count-same rows) ∙ sym (sum_by-cons (λ (row : List (List ℕ)). sum_by text_height row) row rows)
 
+-- ---- what the colours add to all cells
+
+module _ (colors : List (ℕ × Color)) where
+  row-colored : (column : ℕ) (row : List (List ℕ)) → row_sum (λ j text. total (color_around (column_color colors j)) (text_lines text)) column row ≡ row_colors colors column row
+  row-colored column [] = refl
+  row-colored column (text ∷ row) =
+      ap (λ first. first + row_sum (λ j text. total (color_around (column_color colors j)) (text_lines text)) (column + 1) row) (total-sum (color_around (column_color colors column)) (text_lines text))
+      ∙ ap (λ rest. sum_by (color_around (column_color colors column)) (text_lines text) + rest) (row-colored (column + 1) row)
+
+  rows-colored : (rows : List (List (List ℕ))) → total (row_sum (λ j text. total (color_around (column_color colors j)) (text_lines text)) 0) rows ≡ color_bytes colors rows
+  rows-colored [] = refl
+  rows-colored (row ∷ rows) =
+      ap (λ first. first + total (row_sum (λ j text. total (color_around (column_color colors j)) (text_lines text)) 0) rows) (row-colored 0 row)
+      ∙ ap (λ rest. row_colors colors 0 row + rest) (rows-colored rows) ∙ sym (sum_by-cons (row_colors colors 0) row rows)
+
+none-around : (lines : List (List ℕ)) → sum_by (color_around None) lines ≡ 0
+none-around [] = refl
+none-around ([] ∷ lines) = let rest = none-around lines in omega (arith, sum_by-cons (color_around None) [] lines, rest)
+none-around ((b ∷ bs) ∷ lines) = let rest = none-around lines in omega (arith, sum_by-cons (color_around None) (b ∷ bs) lines, rest)
+
+row-uncolored : (column : ℕ) (row : List (List ℕ)) → row_colors [] column row ≡ 0
+row-uncolored column [] = refl
+row-uncolored column (text ∷ row) = let one = none-around (text_lines text) in let rest = row-uncolored (column + 1) row in omega (arith, one, rest)
+
+pub no-colors : (rows : List (List (List ℕ))) → color_bytes [] rows ≡ 0
+no-colors [] = refl
+no-colors (row ∷ rows) = let one = row-uncolored 0 row in let rest = no-colors rows in omega (arith, sum_by-cons (row_colors [] 0) row rows, one, rest)
+
 -- ---- the table of a text
 
-pub few-sequences : (wanted : Wanted) (input : List ℕ) → IsPlain wanted.style → IsUtf8 input → IsWhole input → sequence_bytes (output_of wanted input) ≤ sequence_bytes input + 243 * count_lines (kept_of wanted input)
+pub few-sequences : (wanted : Wanted) (input : List ℕ) → IsPlain wanted.style → AllClose wanted.colors → IsUtf8 input → IsWhole input
+    → sequence_bytes (output_of wanted input) ≤ sequence_bytes input + 243 * count_lines (kept_of wanted input) + color_bytes wanted.colors (kept_of wanted input)
 unfolding output_of grid_of kept_of kept_texts piece_bytes
-few-sequences wanted input plain utf8 whole =
+few-sequences wanted input plain close utf8 whole =
     let style = wanted.style in
     let asked = wanted.asked in
     let rows = cell_parts input in
@@ -253,9 +386,9 @@ few-sequences wanted input plain utf8 whole =
     let widths = asked_widths style asked rows in
     let heights = heights_of style kept in
     let out = ap sequence_bytes (output-lines wanted input plain) in
-    let within = output-within style kept widths heights (kept-whole style asked rows (whole_cells input is)) (bare style plain).shown (line_count (table_grid (compact_look style) kept (λ _. None) widths heights).frame) refl in
+    let within = output-within style kept wanted.colors widths heights (kept-whole style asked rows (whole_cells input is)) (cells-silent wanted.colors close) (bare style plain).shown (line_count (table_grid (compact_look style) kept (λ _. None) widths heights).frame) refl in
     let taken = rows-kept (λ j. resized_text (resize j)) (λ text. texts_take (text_lines text)) rows in
     let counted = rows-kept (λ j. resized_text (resize j)) text_height rows in
     let cells = all-by input none_broken IsOneLine (λ j cell. texts_take (text_lines (resized_text (resize j) cell))) (λ j cell. text_height (resized_text (resize j) cell))
     (λ column a b ordered one. resized-taken input none_broken a b ordered one (resize column)) (cells-are_lines input is) in
-    omega (arith, out, within, taken, cells, counted, count-same kept)
+    omega (arith, out, within, taken, cells, counted, count-same kept, rows-colored wanted.colors kept)

@@ -42,7 +42,7 @@ rsum-add f a (suc n) m =
     let rest = rsum-add f (a + 1) n m in
     omega (arith, ap (rsum f a) sum, rest, ap (λ b. rsum f b m) place)
 
-rsum-plus : (f g : ℕ → ℕ) (a n : ℕ) → rsum (λ k. f k + g k) a n ≡ rsum f a n + rsum g a n
+pub rsum-plus : (f g : ℕ → ℕ) (a n : ℕ) → rsum (λ k. f k + g k) a n ≡ rsum f a n + rsum g a n
 rsum-plus f g a zero = refl
 rsum-plus f g a (suc n) = let rest = rsum-plus f g (a + 1) n in omega (arith, rest)
 

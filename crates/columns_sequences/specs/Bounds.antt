@@ -1,12 +1,15 @@
 -- How many bytes the sequences of a text take, and how many lines of cells a table has.
-use Rattle.std.specs.Prelude.{ℕ, List, codes, false, length}
+use Rattle.std.specs.Prelude.{ℕ, ◌+◌, List, [], ◌∷◌, None, Option, Some, codes, false, length}
 use Rattle.std.specs.List.{sum_by}
 use Rattle.ansi_scan.specs.Pieces.{pieces}
 use Rattle.ansi_str.specs.Walking.{sequences}
 use Rattle.columns_asked.specs.Worked.{wraps}
+use Rattle.columns_colors.specs.ColumnColors.{column_color}
+use Rattle.columns_colors.specs.Worked.{only, red}
 use Rattle.columns_options.specs.Settings.{default_settings}
 use Rattle.columns_run.specs.Wanted.{Wanted}
-use Rattle.grid_records_measure.specs.TextLines.{text_height}
+use Rattle.grid_config.specs.Colors.{Color}
+use Rattle.grid_records_measure.specs.TextLines.{text_height, text_lines}
 use Rattle.tabled_size_priority.specs.declared.choice.Choice.TheVariants.{None as InTurns}
 
 -- the bytes of all its sequences
@@ -21,12 +24,33 @@ cell_lines rows = sum_by (λ row. sum_by text_height row) rows
 abbrev pub start_and_end : ℕ
 start_and_end = 243
 
+-- ---- colours of columns
+
+-- what a colour adds to a line: its texts stand round one that has bytes
+abbrev pub color_around : Option Color → List ℕ → ℕ
+color_around color [] = 0
+color_around None (b ∷ bs) = 0
+color_around (Some color) (b ∷ bs) = length color.prefix + length color.suffix
+
+-- what the colours of columns add to the cells of a row, the first of which stands in this column
+abbrev pub row_colors : List (ℕ × Color) → ℕ → List (List ℕ) → ℕ
+row_colors colors column [] = 0
+row_colors colors column (text ∷ texts) = sum_by (color_around (column_color colors column)) (text_lines text) + row_colors colors (column + 1) texts
+
+-- what they add to all cells
+abbrev pub color_bytes : List (ℕ × Color) → List (List (List ℕ)) → ℕ
+color_bytes colors rows = sum_by (row_colors colors 0) rows
+
 -- ---- a table that can be worked out by hand
 
 -- wrapped in five columns, of which a text has one
 abbrev pub in_five_columns : Wanted
-in_five_columns = record { style = default_settings; asked = wraps 5 false InTurns }
+in_five_columns = record { style = default_settings; asked = wraps 5 false InTurns; colors = [] }
 
 -- three letters, each behind a sequence that is bold
 abbrev pub bold_letters : List ℕ
 bold_letters = codes "\u{1b}[1ma\u{1b}[1mb\u{1b}[1mc\n"
+
+-- the same with its column in red
+abbrev pub red_in_five_columns : Wanted
+red_in_five_columns = record in_five_columns { colors = only 0 red }

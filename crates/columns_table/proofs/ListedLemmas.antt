@@ -1,5 +1,5 @@
 -- A table whose sizes are listed, one for each column and row.
-use Rattle.std.proofs.Common.{◌≡◌, ◌∙◌, ℕ, List, None, Option, ap, length, slice_index, subst, sym}
+use Rattle.std.proofs.Common.{◌≡◌, ◌∙◌, ℕ, List, Option, ap, length, slice_index, subst, sym}
 use Rattle.grid_config.specs.Colors.{Color}
 use Rattle.grid_config.specs.Looks.{look_of}
 use Rattle.grid_config.specs.Settings.{Settings}
@@ -27,9 +27,8 @@ module _ (settings : Settings) (columns : ℕ) (rows : List (List (List ℕ))) (
   heights-are : sizes_of height (length rows) ≡ heights
   heights-are = by_number sizes.heights.items (length rows) listed.1 ∙ sym high
 
-  pub listed-text : table_text (look_of settings) rows (λ _. None) widths heights ≡ grid_text (look_of settings) width height (λ _. None) columns rows
-  listed-text =
-      let colors : Position → Option Color = λ _. None in
+  pub listed-text : (colors : Position → Option Color) → table_text (look_of settings) rows colors widths heights ≡ grid_text (look_of settings) width height colors columns rows
+  listed-text colors =
       sym (ap (λ ws. table_text (look_of settings) rows colors ws (sizes_of height (length rows))) widths-are ∙ ap (λ hs. table_text (look_of settings) rows colors widths hs) heights-are)
 
   pub listed-good : Fits settings width height columns rows → AreGood settings.spans (length heights) (length widths)

@@ -32,8 +32,9 @@ use Rattle.papergrid_fits.specs.Tables.{Fits, IsFitsAnswer, sized}
 use Rattle.papergrid_fits.proofs.Estimated.{text_at-fitted}
 use Rattle.papergrid_fits.specs.Grids.{grid_text}
 use Rattle.papergrid_fits.proofs.SameTexts.{answer-same, first_too_wide-same, table_text-same}
+use Rattle.columns_colors.specs.ColoredTables.{colored_text}
 use Rattle.columns_asked.specs.Asked.{Keep}
-use Rattle.columns_asked.specs.Layout.{AskedFits, asked_frame, asked_text, asked_widths, by_column, column_count, frame_under, heights_of, kept_texts, narrow, narrowed, paddings, resize_in, too_wide, widths_of, widths_or}
+use Rattle.columns_asked.specs.Layout.{AskedFits, asked_frame, asked_widths, by_column, column_count, frame_under, heights_of, kept_texts, narrow, narrowed, paddings, resize_in, too_wide, widths_of, widths_or}
 use Rattle.columns_asked.specs.Resizing.{resized_text}
 use Rattle.columns_asked.specs.Shrunk.{shrunk_list}
 use Rattle.columns_asked.specs.declared.asked.Asked.{Asked}
@@ -191,9 +192,8 @@ module _ (style : Compact) (asked : Asked) (texts : List (List (List ℕ))) (wid
       pub fits-is : Fits settings (slice_index widths) (slice_index heights) n rows → FitsAnswer (asked_frame style asked texts) kept (Unit {0}) (Ok tt)
       fits-is fits = answer-is (Ok tt) (fits.good, fits.range, fits.room)
 
-      grid-is : grid_text (look_of settings) (slice_index widths) (slice_index heights) (λ _. None) n rows ≡ table_text (compact_look style) kept (λ _. None) (asked_widths style asked texts) (heights_of style kept)
-      grid-is =
-          let colors : Position → Option Color = λ _. None in
+      grid-is : (colors : Position → Option Color) → grid_text (look_of settings) (slice_index widths) (slice_index heights) colors n rows ≡ table_text (compact_look style) kept colors (asked_widths style asked texts) (heights_of style kept)
+      grid-is colors =
           ap (λ found. grid_text (look_of settings) (slice_index widths) (slice_index heights) colors n found) made-here
           ∙ text-fitted settings (slice_index widths) (slice_index heights) n kept colors
           ∙ ap (λ look. table_text look kept colors (sizes_of (slice_index widths) n) (sizes_of (slice_index heights) (length kept))) (same_look style settings start)
@@ -201,12 +201,12 @@ module _ (style : Compact) (asked : Asked) (texts : List (List (List ℕ))) (wid
           ∙ ap (table_text (compact_look style) kept colors (asked_widths style asked texts)) (by_number heights (length kept) (ap (λ (sizes : List ℕ). length sizes) heights-kept ∙ heights-each) ∙ heights-kept)
 
       -- what is printed
-      pub text-is : (lines : ℕ) → lines ≡ line_count (frame_of (compact_look style) widths heights)
-          → (if lines == 0 then [] else grid_text (look_of settings) (slice_index widths) (slice_index heights) (λ _. None) n rows ++ line_feed ∷ []) ≡ asked_text style asked texts
-      unfolding asked_text
-      text-is lines counted_lines =
-          ap (λ (m : ℕ). if m == 0 then [] else grid_text (look_of settings) (slice_index widths) (slice_index heights) (λ _. None) n rows ++ line_feed ∷ []) (counted_lines ∙ ap (λ (frame : Frame). line_count frame) (frame-is heights heights-kept))
-          ∙ ap (λ (text : List ℕ). if line_count (asked_frame style asked texts) == 0 then [] else text ++ line_feed ∷ []) grid-is
+      pub text-is : (colors : Position → Option Color) (lines : ℕ) → lines ≡ line_count (frame_of (compact_look style) widths heights)
+          → (if lines == 0 then [] else grid_text (look_of settings) (slice_index widths) (slice_index heights) colors n rows ++ line_feed ∷ []) ≡ colored_text style asked colors texts
+      unfolding colored_text
+      text-is colors lines counted_lines =
+          ap (λ (m : ℕ). if m == 0 then [] else grid_text (look_of settings) (slice_index widths) (slice_index heights) colors n rows ++ line_feed ∷ []) (counted_lines ∙ ap (λ (frame : Frame). line_count frame) (frame-is heights heights-kept))
+          ∙ ap (λ (text : List ℕ). if line_count (asked_frame style asked texts) == 0 then [] else text ++ line_feed ∷ []) (grid-is colors)
 
 -- what an estimate refuses is a table out of range
 pub refusal-is : (frame : Frame) (rows : List (List (List ℕ))) (fault : Fault) (Passes : Type 0) → (Passes → ¬ (InRange frame)) → IsRefusal fault Passes → (fault ≡ Memory) ⊎ FitsAnswer frame rows (Unit {0}) (Err fault)
@@ -257,12 +257,12 @@ module _ (style : Compact) (asked : Asked) (texts : List (List (List ℕ))) (tol
       ap (λ (sizes : List ℕ). frame_of (compact_look style) sizes (heights_of style (kept_texts style asked texts))) widths-natural
       ∙ ap (λ (rows : List (List (List ℕ))). frame_of (compact_look style) (widths_of style texts) (heights_of style rows)) kept-natural
 
-  pub text-natural : natural_text style texts ≡ asked_text style asked texts
-  unfolding asked_text
-  text-natural =
-      sym (ap (λ (frame : Frame). if line_count frame == 0 then [] else table_text (compact_look style) (kept_texts style asked texts) (λ _. None) (asked_widths style asked texts) (heights_of style (kept_texts style asked texts)) ++ line_feed ∷ []) frame-natural
-      ∙ ap (λ (sizes : List ℕ). if line_count (frame_under style texts) == 0 then [] else table_text (compact_look style) (kept_texts style asked texts) (λ _. None) sizes (heights_of style (kept_texts style asked texts)) ++ line_feed ∷ []) widths-natural
-      ∙ ap (λ (rows : List (List (List ℕ))). if line_count (frame_under style texts) == 0 then [] else table_text (compact_look style) rows (λ _. None) (widths_of style texts) (heights_of style rows) ++ line_feed ∷ []) kept-natural)
+  pub text-natural : (colors : Position → Option Color) → natural_text style colors texts ≡ colored_text style asked colors texts
+  unfolding colored_text
+  text-natural colors =
+      sym (ap (λ (frame : Frame). if line_count frame == 0 then [] else table_text (compact_look style) (kept_texts style asked texts) colors (asked_widths style asked texts) (heights_of style (kept_texts style asked texts)) ++ line_feed ∷ []) frame-natural
+      ∙ ap (λ (sizes : List ℕ). if line_count (frame_under style texts) == 0 then [] else table_text (compact_look style) (kept_texts style asked texts) colors sizes (heights_of style (kept_texts style asked texts)) ++ line_feed ∷ []) widths-natural
+      ∙ ap (λ (rows : List (List (List ℕ))). if line_count (frame_under style texts) == 0 then [] else table_text (compact_look style) rows colors (widths_of style texts) (heights_of style rows) ++ line_feed ∷ []) kept-natural)
 
   pub fits-natural : InRange (frame_under style texts) → AskedFits style asked texts
   unfolding AskedFits

@@ -102,10 +102,9 @@ module _ (style : Compact) (settings : Settings) (start : StartsWith (compact_st
           subst (λ n. Fits settings (slice_index widths) (slice_index heights) n records) (sym counted)
           (subst (Fits settings (slice_index widths) (slice_index heights) (greatest counts)) (sym (records-are counts cells whole)) fits-texts)
 
-    prints-some : (columns : ℕ) → columns ≡ greatest counts
-        → grid_text (look_of settings) (slice_index widths) (slice_index heights) (λ _. None) columns records ≡ table_text (compact_look style) texts (λ _. None) (widths_of style texts) (heights_of style texts)
-    prints-some columns counted =
-        let colors : Position → Option Color = λ _. None in
+    prints-some : (colors : Position → Option Color) (columns : ℕ) → columns ≡ greatest counts
+        → grid_text (look_of settings) (slice_index widths) (slice_index heights) colors columns records ≡ table_text (compact_look style) texts colors (widths_of style texts) (heights_of style texts)
+    prints-some colors columns counted =
         ap (λ n. grid_text (look_of settings) (slice_index widths) (slice_index heights) colors n records) counted
         ∙ ap (λ rows. grid_text (look_of settings) (slice_index widths) (slice_index heights) colors (greatest counts) rows) (records-are counts cells whole)
         ∙ ap (λ look. table_text look texts colors (sizes_of (slice_index widths) (greatest counts)) (sizes_of (slice_index heights) (length texts))) (same_look style settings start)
@@ -122,15 +121,15 @@ module _ (style : Compact) (settings : Settings) (start : StartsWith (compact_st
         room-under (widths_of style texts) (heights_of style texts) refl refl some
 
   -- what is printed where there are lines, and where there are none
-  pub prints : (widths heights : List ℕ) (lines columns : ℕ) → widths ≡ widths_of style texts → heights ≡ heights_of style texts → lines ≡ line_count (frame_under style texts) → columns ≡ greatest counts
-      → (if lines == 0 then [] else grid_text (look_of settings) (slice_index widths) (slice_index heights) (λ _. None) columns records ++ line_feed ∷ []) ≡ natural_text style texts
-  prints widths heights lines columns wide high counted is = step (lines == 0) refl ∙ ap (λ n. if n == 0 then [] else table_text (compact_look style) texts (λ _. None) (widths_of style texts) (heights_of style texts) ++ line_feed ∷ []) counted where
+  pub prints : (colors : Position → Option Color) (widths heights : List ℕ) (lines columns : ℕ) → widths ≡ widths_of style texts → heights ≡ heights_of style texts → lines ≡ line_count (frame_under style texts) → columns ≡ greatest counts
+      → (if lines == 0 then [] else grid_text (look_of settings) (slice_index widths) (slice_index heights) colors columns records ++ line_feed ∷ []) ≡ natural_text style colors texts
+  prints colors widths heights lines columns wide high counted is = step (lines == 0) refl ∙ ap (λ n. if n == 0 then [] else table_text (compact_look style) texts colors (widths_of style texts) (heights_of style texts) ++ line_feed ∷ []) counted where
     step : (b : Bool) → (lines == 0) ≡ b
-        → (if lines == 0 then [] else grid_text (look_of settings) (slice_index widths) (slice_index heights) (λ _. None) columns records ++ line_feed ∷ [])
-        ≡ (if lines == 0 then [] else table_text (compact_look style) texts (λ _. None) (widths_of style texts) (heights_of style texts) ++ line_feed ∷ [])
+        → (if lines == 0 then [] else grid_text (look_of settings) (slice_index widths) (slice_index heights) colors columns records ++ line_feed ∷ [])
+        ≡ (if lines == 0 then [] else table_text (compact_look style) texts colors (widths_of style texts) (heights_of style texts) ++ line_feed ∷ [])
     step true e =
-        ap (λ (b : Bool). if b then [] else grid_text (look_of settings) (slice_index widths) (slice_index heights) (λ _. None) columns records ++ line_feed ∷ []) e
-        ∙ sym (ap (λ (b : Bool). if b then [] else table_text (compact_look style) texts (λ _. None) (widths_of style texts) (heights_of style texts) ++ line_feed ∷ []) e)
+        ap (λ (b : Bool). if b then [] else grid_text (look_of settings) (slice_index widths) (slice_index heights) colors columns records ++ line_feed ∷ []) e
+        ∙ sym (ap (λ (b : Bool). if b then [] else table_text (compact_look style) texts colors (widths_of style texts) (heights_of style texts) ++ line_feed ∷ []) e)
     step false e =
         let some : line_count (frame_under style texts) ≢ 0 = λ none. let zero_lines : lines ≡ 0 = counted ∙ none in grind (arith, nat_tests, e, zero_lines) in
-        ap (λ (text : List ℕ). if lines == 0 then [] else text ++ line_feed ∷ []) (prints-some widths heights wide high (some-heights style texts some) columns is)
+        ap (λ (text : List ℕ). if lines == 0 then [] else text ++ line_feed ∷ []) (prints-some widths heights wide high (some-heights style texts some) colors columns is)

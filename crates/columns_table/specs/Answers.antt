@@ -1,19 +1,21 @@
 -- Which answer a table of texts in an asked width calls for.
-use Rattle.std.specs.Prelude.{◌≡◌, ℕ, List, None, Some, ⊤}
+use Rattle.std.specs.Prelude.{◌≡◌, ℕ, List, None, Option, Some, ⊤}
+use Rattle.grid_config.specs.Colors.{Color}
 use Rattle.grid_config.specs.Compact.{Compact}
 use Rattle.grid_config.specs.Looks.{compact_look}
 use Rattle.grid_config_values.specs.declared.fault.Fault.{Fault}
 use Rattle.grid_config_values.specs.declared.fault.Fault.TheVariants.{Memory, Range, Room, Spans}
+use Rattle.grid_config_values.specs.declared.position.Position.{Position}
 use Rattle.grid_records_measure.specs.TextLines.{line_feed}
 use Rattle.papergrid_picture.specs.Picture.{at}
 use Rattle.papergrid_picture.specs.Tables.{table_text}
 use Rattle.columns_asked.specs.Layout.{AskedFits, ended, frame_under, heights_of, too_wide, widths_of}
 use Rattle.columns_asked.specs.declared.asked.Asked.{Asked}
 
--- the text of a table whose width isn't asked
-abbrev pub natural_text : Compact → List (List (List ℕ)) → List ℕ
-natural_text style texts =
-    ended line_feed (frame_under style texts) (table_text (compact_look style) texts (λ _. None) (widths_of style texts) (heights_of style texts))
+-- the text of a table whose width isn't asked, where cells have colours
+abbrev pub natural_text : Compact → (Position → Option Color) → List (List (List ℕ)) → List ℕ
+natural_text style colors texts =
+    ended line_feed (frame_under style texts) (table_text (compact_look style) texts colors (widths_of style texts) (heights_of style texts))
 
 module _ (style : Compact) (asked : Asked) (texts : List (List (List ℕ))) where
   -- its sizes are in range, and each cell has room in its column

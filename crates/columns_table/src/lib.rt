@@ -3,6 +3,7 @@
 
 mod cell_row;
 mod cells;
+mod colors;
 mod ends;
 mod kept;
 pub mod laws;

@@ -9,31 +9,35 @@ ghost use Rattle.papergrid_picture.specs.Fitting.{FitsAnswer, InRange, first_too
 ghost use Rattle.papergrid_picture.specs.Frame.{line_count};
 ghost use Rattle.papergrid_fits.specs.Grids.{grid_text};
 ghost use Rattle.papergrid_fits.specs.Tables.{Fits, IsFitsAnswer};
-ghost use Rattle.columns_asked.specs.Layout.{asked_frame, asked_text, frame_under, heights_of, kept_texts, narrow, narrowed, paddings, too_wide, widths_of};
+ghost use Rattle.columns_asked.specs.Layout.{asked_frame, frame_under, heights_of, kept_texts, narrow, narrowed, paddings, too_wide, widths_of};
+ghost use Rattle.columns_colors.specs.ColoredTables.{colored_text};
+ghost use Rattle.columns_colors.specs.ColumnColors.{cell_color};
 ghost use Rattle.columns_table.specs.Answers.{HasTable, MayRefuse, natural_text};
 ghost use Rattle.columns_table.specs.Listed.{AreSizesOf};
 ghost use Rattle.columns_table.specs.Records.{IsMeasured};
 ghost use Rattle.columns_table.specs.Rows.{row_texts_of};
 ghost use Rattle.tabled_output.specs.Pieces.{Passes};
 
+use crate::colors::ColumnColors;
 use crate::kept::kept_rows;
 use crate::least::greatest;
 use crate::placed::PlacedRows;
 use crate::rows::Rows;
 use crate::sizes::{Sizes, sizes_of, totalled};
 use columns_asked::{Asked, narrowed};
-use grid_config::{CompactConfig, Fault, SpannedConfig};
+use grid_config::{ANSIBuf, CompactConfig, Fault, SpannedConfig};
 use grid_records_estimate::CompactGridDimension;
 use grid_records_rows::VecRecords;
 use grid_records_traits::{ExactRecords, PeekableRecords};
 use papergrid_fits::fits;
-use papergrid_print::{NoColors, write_table};
+use papergrid_print::write_table;
 use std::alloc::{AllocError, Global};
 use std::io::Write;
 use tabled_output::{Counted, WriteFault, write_piece};
 
 /// Writes the table of these rows under a style, each of its lines ended by a line feed, in the asked width.
-/// Where it would be wider its columns give, and each cell is wrapped or cut to the room that it has.
+/// Where it would be wider its columns give, and each cell is wrapped or cut to the room that it has. Each
+/// line of a cell stands in the colour of its column, the last that is given for it.
 /// Nothing where there are no rows. Each line is written as soon as it is made, and no more than one is held.
 /// `Ok(Err(..))` where the writer gives up: then a front of the table was taken. Before anything is written it
 /// is refused as `Range` where its width or height passes `usize::MAX`, before its columns give or after; else
@@ -44,19 +48,20 @@ pub fn write_rows<W: Write>(
     alloc: Global,
     style: &CompactConfig,
     asked: &Asked,
+    colors: &[(usize, ANSIBuf)],
     rows: Rows<'_>,
     writer: &mut Counted<W>,
 ) -> Result<Result<(), WriteFault>, Fault>
     requires measured { All IsMeasured rows.cells }
-    ensures table { Passes W.contents (asked_text (compact_of style.now) asked.now (row_texts_of rows.entry)) result [] writer.old writer.new }
+    ensures table { Passes W.contents (colored_text (compact_of style.now) asked.now (cell_color colors.now) (row_texts_of rows.entry)) result [] writer.old writer.new }
     ensures alone { ¬ (HasTable (compact_of style.now) asked.now (row_texts_of rows.entry)) → writer.new ≡ writer.old }
     ensures fits { OnOk result (HasTable (compact_of style.now) asked.now (row_texts_of rows.entry)) }
     ensures refused { IfErr result (MayRefuse (compact_of style.now) asked.now (row_texts_of rows.entry)) }
 {
     let sizes = sizes_of(alloc, &rows, style)?;
     match narrower(alloc, style, asked, &sizes)? {
-        Some(widths) => write_narrowed(alloc, style, asked, rows, widths, writer),
-        None => write_natural(alloc, style, rows, sizes, writer),
+        Some(widths) => write_narrowed(alloc, style, asked, colors, rows, widths, writer),
+        None => write_natural(alloc, style, colors, rows, sizes, writer),
     }
 }
 
@@ -91,6 +96,7 @@ fn beside(style: &CompactConfig) -> usize
 fn write_natural<W: Write>(
     alloc: Global,
     style: &CompactConfig,
+    colors: &[(usize, ANSIBuf)],
     rows: Rows<'_>,
     sizes: Sizes,
     writer: &mut Counted<W>,
@@ -100,7 +106,7 @@ fn write_natural<W: Write>(
     requires heights { sizes.heights.items ≡ heights_of (compact_of style.now) (row_texts_of rows) }
     requires lines { sizes.lines ≡ line_count (frame_under (compact_of style.now) (row_texts_of rows)) }
     requires fits { InRange (frame_under (compact_of style.now) (row_texts_of rows)) }
-    ensures table { Passes W.contents (natural_text (compact_of style.now) (row_texts_of rows.entry)) result [] writer.old writer.new }
+    ensures table { Passes W.contents (natural_text (compact_of style.now) (cell_color colors.now) (row_texts_of rows.entry)) result [] writer.old writer.new }
     ensures alone { ¬ (first_too_wide (frame_under (compact_of style.now) (row_texts_of rows.entry)) (row_texts_of rows.entry) ≡ None) → writer.new ≡ writer.old }
     ensures room { OnOk result (first_too_wide (frame_under (compact_of style.now) (row_texts_of rows.entry)) (row_texts_of rows.entry) ≡ None) }
     ensures refused { IfErr result (λ fault. fault ≡ Memory) }
@@ -108,7 +114,7 @@ fn write_natural<W: Write>(
     let columns = greatest(&rows.counts);
     let records = PlacedRows::new(rows, columns);
     let settings = SpannedConfig::from_compact_config(alloc, *style)?;
-    let written = write_grid(alloc, &records, &settings, sizes, writer);
+    let written = write_grid(alloc, &records, &settings, colors, sizes, writer);
     end(settings);
     written
 }
@@ -118,6 +124,7 @@ fn write_narrowed<W: Write>(
     alloc: Global,
     style: &CompactConfig,
     asked: &Asked,
+    colors: &[(usize, ANSIBuf)],
     rows: Rows<'_>,
     widths: Vec<usize>,
     writer: &mut Counted<W>,
@@ -125,7 +132,7 @@ fn write_narrowed<W: Write>(
     requires measured { All IsMeasured rows.cells }
     requires beside { paddings (compact_of style.now) < 2 ^ 64 }
     requires narrowed { narrowed (compact_of style.now) asked.now (row_texts_of rows) ≡ Some widths.items }
-    ensures table { Passes W.contents (asked_text (compact_of style.now) asked.now (row_texts_of rows.entry)) result [] writer.old writer.new }
+    ensures table { Passes W.contents (colored_text (compact_of style.now) asked.now (cell_color colors.now) (row_texts_of rows.entry)) result [] writer.old writer.new }
     ensures alone { ¬ (InRange (asked_frame (compact_of style.now) asked.now (row_texts_of rows.entry)) × (too_wide (compact_of style.now) asked.now (row_texts_of rows.entry) ≡ None)) → writer.new ≡ writer.old }
     ensures range { OnOk result (InRange (asked_frame (compact_of style.now) asked.now (row_texts_of rows.entry))) }
     ensures room { OnOk result (too_wide (compact_of style.now) asked.now (row_texts_of rows.entry) ≡ None) }
@@ -138,7 +145,7 @@ fn write_narrowed<W: Write>(
     let heights = CompactGridDimension::height(alloc, &records, style)?;
     let sizes = totalled(widths, heights, style)?;
     let settings = SpannedConfig::from_compact_config(alloc, *style)?;
-    let written = write_where_fits(alloc, &records, &settings, sizes, writer);
+    let written = write_where_fits(alloc, &records, &settings, colors, sizes, writer);
     end(settings);
     written
 }
@@ -149,18 +156,19 @@ fn write_where_fits<R: ExactRecords + PeekableRecords, W: Write>(
     alloc: Global,
     records: &R,
     settings: &SpannedConfig,
+    colors: &[(usize, ANSIBuf)],
     sizes: Sizes,
     writer: &mut Counted<W>,
 ) -> Result<Result<(), WriteFault>, Fault>
     requires { sizes.lines ≢ 0 → AreSizesOf sizes (R.columns records.now) (length (R.rows records.now)) }
-    ensures text { Passes W.contents (if sizes.lines == 0 then [] else grid_text (look_of settings.now) (slice_index sizes.widths.items) (slice_index sizes.heights.items) (λ _. None) (R.columns records.now) (R.rows records.now) ++ line_feed ∷ []) result [] writer.old writer.new }
+    ensures text { Passes W.contents (if sizes.lines == 0 then [] else grid_text (look_of settings.now) (slice_index sizes.widths.items) (slice_index sizes.heights.items) (cell_color colors.now) (R.columns records.now) (R.rows records.now) ++ line_feed ∷ []) result [] writer.old writer.new }
     ensures alone { ¬ (Fits settings.now (slice_index sizes.widths.items) (slice_index sizes.heights.items) (R.columns records.now) (R.rows records.now)) → writer.new ≡ writer.old }
     ensures fits { OnOk result (Fits settings.now (slice_index sizes.widths.items) (slice_index sizes.heights.items) (R.columns records.now) (R.rows records.now)) }
     ensures refused { IfErr result (λ fault. (fault ≡ Memory)
         ⊎ IsFitsAnswer settings.now (slice_index sizes.widths.items) (slice_index sizes.heights.items) (R.columns records.now) (R.rows records.now) (Err fault)) }
 {
     fits(records, settings, &sizes)?;
-    write_grid(alloc, records, settings, sizes, writer)
+    write_grid(alloc, records, settings, colors, sizes, writer)
 }
 
 // Writes the text of these records with a line feed after its last line, where they have a line and fit the sizes.
@@ -168,12 +176,13 @@ fn write_grid<R: ExactRecords + PeekableRecords, W: Write>(
     alloc: Global,
     records: &R,
     settings: &SpannedConfig,
+    colors: &[(usize, ANSIBuf)],
     sizes: Sizes,
     writer: &mut Counted<W>,
 ) -> Result<Result<(), WriteFault>, Fault>
     requires fits { sizes.lines ≢ 0 → Fits settings.now (slice_index sizes.widths.items) (slice_index sizes.heights.items) (R.columns records.now) (R.rows records.now) }
     requires listed { sizes.lines ≢ 0 → AreSizesOf sizes (R.columns records.now) (length (R.rows records.now)) }
-    ensures text { Passes W.contents (if sizes.lines == 0 then [] else grid_text (look_of settings.now) (slice_index sizes.widths.items) (slice_index sizes.heights.items) (λ _. None) (R.columns records.now) (R.rows records.now) ++ line_feed ∷ []) result [] writer.old writer.new }
+    ensures text { Passes W.contents (if sizes.lines == 0 then [] else grid_text (look_of settings.now) (slice_index sizes.widths.items) (slice_index sizes.heights.items) (cell_color colors.now) (R.columns records.now) (R.rows records.now) ++ line_feed ∷ []) result [] writer.old writer.new }
     ensures refused { IfErr result (λ fault. fault ≡ Memory) }
 {
     if sizes.lines == 0 {
@@ -181,7 +190,8 @@ fn write_grid<R: ExactRecords + PeekableRecords, W: Write>(
     }
     let widths = sizes.widths.as_slice();
     let heights = sizes.heights.as_slice();
-    if let Err(fault) = write_table(alloc, records, settings, &NoColors, widths, heights, writer)? {
+    let colors = ColumnColors { colors };
+    if let Err(fault) = write_table(alloc, records, settings, &colors, widths, heights, writer)? {
         return Ok(Err(fault));
     }
     Ok(write_piece(writer, b"\n"))

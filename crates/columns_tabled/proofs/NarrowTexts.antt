@@ -34,7 +34,9 @@ use Rattle.tabled_size_dimension.specs.declared.suffix.SuffixLimit.{SuffixLimit}
 use Rattle.tabled_text.specs.Rows.{filled}
 use Rattle.tabled_width_texts.specs.Breaking.{breaking}
 use Rattle.tabled_width_texts.specs.Cutting.{truncating}
+use Rattle.columns_colors.proofs.TableLemmas.{text-uncolored}
 use Rattle.columns_run.specs.Layout.{output_of}
+use Rattle.columns_run.proofs.ColorLemmas.{output-uncolored}
 use Rattle.columns_run.specs.Rows.{cell_parts}
 use Rattle.columns_run.specs.Wanted.{Wanted}
 use Rattle.columns_table.proofs.NarrowedLemmas.{some-of-table}
@@ -164,7 +166,7 @@ module _ (style : Compact) (asked : Asked) (n : ℕ) (rows : List (List (List �
   start = table_under style rows
 
   unchanged : narrowed style asked rows ≡ None → text_of style start ≡ asked_text style asked rows
-  unchanged told = sym (texts-same style n rows long) ∙ text-natural style asked rows told
+  unchanged told = sym (texts-same style n rows long) ∙ text-natural style asked rows told (λ _. None) ∙ text-uncolored style asked rows
 
   pub natural-is : natural_widths (look style) count rows ≡ natural
   natural-is = natural-widths style n rows long
@@ -408,7 +410,7 @@ truncate-turned asked suffix limit try_color cuts none width text =
 
 -- ---- the rows of a text, filled
 
-module _ (wanted : Wanted) (input : List ℕ) (width : ℕ) (is_width : wanted.asked.width ≡ Some width) where
+module _ (wanted : Wanted) (input : List ℕ) (width : ℕ) (is_width : wanted.asked.width ≡ Some width) (uncolored : wanted.colors ≡ []) where
   abbrev parts : List (List (List ℕ))
   parts = cell_parts input
 
@@ -419,8 +421,7 @@ module _ (wanted : Wanted) (input : List ℕ) (width : ℕ) (is_width : wanted.a
   full-long = subst (AreEquallyLong (column_count parts)) (sym (filled-is parts)) (long-fitted (column_count parts) parts)
 
   output-is : output_of wanted input ≡ asked_text wanted.style wanted.asked full
-  unfolding output_of
-  output-is = sym (text-filled wanted.style wanted.asked parts) ∙ ap (asked_text wanted.style wanted.asked) (sym (filled-is parts))
+  output-is = output-uncolored wanted input uncolored ∙ sym (text-filled wanted.style wanted.asked parts) ∙ ap (asked_text wanted.style wanted.asked) (sym (filled-is parts))
 
   -- by any priority of this name, and any measurement that gives this width
   module _ {P : Type 0} (shrinks : P → List ℕ → ℕ → List ℕ → P → List ℕ → Type 0) (priority : P)

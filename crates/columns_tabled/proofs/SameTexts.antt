@@ -21,7 +21,9 @@ use Rattle.columns_table.specs.Answers.{natural_text}
 use Rattle.columns_table.proofs.NarrowedLemmas.{text-natural}
 use Rattle.columns_table.proofs.SizeLemmas.{height-each, width-each}
 use Rattle.papergrid_picture.specs.Fitting.{table_width}
+use Rattle.columns_colors.proofs.TableLemmas.{text-uncolored}
 use Rattle.columns_run.specs.Layout.{output_of}
+use Rattle.columns_run.proofs.ColorLemmas.{output-uncolored}
 use Rattle.columns_run.specs.Rows.{cell_parts}
 use Rattle.columns_run.specs.Wanted.{Wanted}
 use Rattle.columns_tabled.specs.Tables.{AreEquallyLong, ended_table, table_of, table_under}
@@ -78,7 +80,7 @@ module _ (style : Compact) (n : ℕ) (rows : List (List (List ℕ))) (long : Are
     heights-are : drawn_heights table ≡ heights_of style rows
     heights-are = drawn-heights ∙ by_number (heights_of style rows) (length rows) (height-each style rows some)
 
-    with-cells : natural_text style rows ≡ ended line_feed (drawn_frame table) (printed table)
+    with-cells : natural_text style (λ _. None) rows ≡ ended line_feed (drawn_frame table) (printed table)
     with-cells =
         let by : List ℕ → List ℕ → List ℕ = λ widths heights. if line_count (frame_of (compact_look style) widths heights) == 0 then [] else table_text (compact_look style) rows (λ _. None) widths heights ++ line_feed ∷ [] in
         ap (λ (widths : List ℕ). by widths (heights_of style rows)) (sym widths-are) ∙ ap (by (drawn_widths table)) (sym heights-are)
@@ -98,25 +100,25 @@ module _ (style : Compact) (n : ℕ) (rows : List (List (List ℕ))) (long : Are
               no-columns (drawn_frame table) (omega (arith, ap (λ (sizes : List ℕ). length sizes) drawn-widths, count, counts-same n rows long, gone))
         ]
 
-    without-cells : natural_text style rows ≡ ended line_feed (drawn_frame table) (printed table)
+    without-cells : natural_text style (λ _. None) rows ≡ ended line_feed (drawn_frame table) (printed table)
     without-cells =
         sym (empty (frame_under style rows) (table_text (compact_look style) rows (λ _. None) (widths_of style rows) (heights_of style rows)) (no-lines (frame_under style rows) none))
         ∙ empty (drawn_frame table) (printed table) no-drawn
 
-  pub texts-same : natural_text style rows ≡ ended line_feed (drawn_frame table) (printed table)
+  pub texts-same : natural_text style (λ _. None) rows ≡ ended line_feed (drawn_frame table) (printed table)
   texts-same =
       elim (cases_lt 0 (length (heights_of style rows))) [
         | inl some ↦ with-cells some
         | inr none ↦ without-cells (omega (arith, none))
       ]
 
-pub one-table : (wanted : Wanted) (input : List ℕ) → wanted.asked.width ≡ None → output_of wanted input ≡ ended_table (table_of wanted input)
-unfolding output_of
-one-table wanted input none =
+pub one-table : (wanted : Wanted) (input : List ℕ) → wanted.asked.width ≡ None → wanted.colors ≡ [] → output_of wanted input ≡ ended_table (table_of wanted input)
+one-table wanted input none uncolored =
     let rows : List (List (List ℕ)) = cell_parts input in
     let full : List (List (List ℕ)) = fitted (column_count rows) rows in
     let told : narrowed wanted.style wanted.asked full ≡ None = ap (narrow wanted.style wanted.asked (widths_of wanted.style full) (table_width (frame_under wanted.style full))) none in
-    sym (text-filled wanted.style wanted.asked rows)
-    ∙ sym (text-natural wanted.style wanted.asked full told)
+    output-uncolored wanted input uncolored
+    ∙ sym (text-filled wanted.style wanted.asked rows)
+    ∙ sym (text-natural wanted.style wanted.asked full told (λ _. None) ∙ text-uncolored wanted.style wanted.asked full)
     ∙ texts-same wanted.style (column_count rows) full (long-fitted (column_count rows) rows)
     ∙ ap (λ (texts : List (List (List ℕ))). ended_table (table_under wanted.style texts)) (sym (filled-is rows))

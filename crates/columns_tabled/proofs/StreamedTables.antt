@@ -29,7 +29,9 @@ use Rattle.tabled_iter.specs.Tables.{Streamed, column_count as stream_columns, c
 use Rattle.tabled_size_dimension.specs.Sizes.{size_at}
 use Rattle.columns_asked.proofs.NarrowLemmas.{map-below}
 use Rattle.columns_asked.specs.Layout.{column_count, ended, frame_under, heights_of, narrow, narrowed, widths_of}
+use Rattle.columns_colors.proofs.TableLemmas.{text-uncolored}
 use Rattle.columns_run.specs.Layout.{output_of}
+use Rattle.columns_run.proofs.ColorLemmas.{output-uncolored}
 use Rattle.columns_run.specs.Rows.{cell_parts}
 use Rattle.columns_run.specs.Wanted.{Wanted}
 use Rattle.columns_table.proofs.LeastLemmas.{map-from, single-sizes}
@@ -242,7 +244,7 @@ module _ (style : Compact) (sniff : ℕ) (rows : List (List (List ℕ))) (all : 
     abbrev text_by : List (List (List ℕ)) → List ℕ → List ℕ → List ℕ
     text_by texts widths heights = ended line_feed (frame_of (compact_look style) widths heights) (table_text (compact_look style) texts (λ _. None) widths heights)
 
-    with-columns : column_count rows ≤ 2 ^ 64 → natural_text style rows ≡ ended_stream table
+    with-columns : column_count rows ≤ 2 ^ 64 → natural_text style (λ _. None) rows ≡ ended_stream table
     with-columns low =
         sym (ap (λ (texts : List (List (List ℕ))). text_by texts (sizes_of (width_at table) (stream_columns table)) (sizes_of (height_at table) (length texts))) (rows-are low)
         ∙ ap (λ (widths : List ℕ). text_by (fitted n rows) widths (sizes_of (height_at table) (length (fitted n rows)))) widths-are
@@ -260,22 +262,21 @@ module _ (style : Compact) (sniff : ℕ) (rows : List (List (List ℕ))) (all : 
           | inr gone ↦ omega (arith, gone)
         ]
 
-    without-columns : natural_text style rows ≡ ended_stream table
+    without-columns : natural_text style (λ _. None) rows ≡ ended_stream table
     without-columns =
         sym (empty (frame_under style rows) (table_text (compact_look style) rows (λ _. None) (widths_of style rows) (heights_of style rows)) (no-lines (frame_under style rows) no-heights))
         ∙ empty (frame table) (printed table) (no-columns (frame table) (length-map-range_with_len (width_at table) 0 (stream_columns table) ∙ columns-all ∙ none))
 
-  pub streamed-text : column_count rows ≤ 2 ^ 64 → natural_text style rows ≡ ended_stream table
+  pub streamed-text : column_count rows ≤ 2 ^ 64 → natural_text style (λ _. None) rows ≡ ended_stream table
   streamed-text low =
       elim (cases_lt 0 n) [
         | inl some ↦ with-columns some low
         | inr none ↦ without-columns (omega (arith, none))
       ]
 
-pub one-stream : (wanted : Wanted) (input : List ℕ) (sniff : ℕ) → wanted.asked.width ≡ None → length (cell_parts input) ≤ sniff → column_count (cell_parts input) ≤ 2 ^ 64
+pub one-stream : (wanted : Wanted) (input : List ℕ) (sniff : ℕ) → wanted.asked.width ≡ None → wanted.colors ≡ [] → length (cell_parts input) ≤ sniff → column_count (cell_parts input) ≤ 2 ^ 64
     → output_of wanted input ≡ ended_stream (sniffing sniff wanted.style (cell_parts input))
-unfolding output_of
-one-stream wanted input sniff none all low =
+one-stream wanted input sniff none uncolored all low =
     let texts : List (List (List ℕ)) = cell_parts input in
     let told : narrowed wanted.style wanted.asked texts ≡ None = ap (narrow wanted.style wanted.asked (widths_of wanted.style texts) (table_width (frame_under wanted.style texts))) none in
-    sym (text-natural wanted.style wanted.asked texts told) ∙ streamed-text wanted.style sniff texts all low
+    output-uncolored wanted input uncolored ∙ sym (text-natural wanted.style wanted.asked texts told (λ _. None) ∙ text-uncolored wanted.style wanted.asked texts) ∙ streamed-text wanted.style sniff texts all low

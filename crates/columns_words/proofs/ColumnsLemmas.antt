@@ -75,23 +75,25 @@ module _ (priorities styles : Borrowed) where
   abbrev rules : List Rule
   rules = (listed priorities styles).top.rules
 
-  alone_at : (j : ℕ) (r : Rule) → j < 6 → bytes_eq (slice_index_or rules j r).id (codes "width") ≡ true → j ≡ 0
+  alone_at : (j : ℕ) (r : Rule) → j < 7 → bytes_eq (slice_index_or rules j r).id (codes "width") ≡ true → j ≡ 0
   alone_at zero r lt e = refl
   alone_at (suc zero) r lt e = cc
   alone_at (suc (suc zero)) r lt e = cc
   alone_at (suc (suc (suc zero))) r lt e = cc
   alone_at (suc (suc (suc (suc zero)))) r lt e = cc
   alone_at (suc (suc (suc (suc (suc zero))))) r lt e = cc
-  alone_at (suc (suc (suc (suc (suc (suc j)))))) r lt e = absurd (omega arith)
+  alone_at (suc (suc (suc (suc (suc (suc zero)))))) r lt e = cc
+  alone_at (suc (suc (suc (suc (suc (suc (suc j))))))) r lt e = absurd (omega arith)
 
-  simple_at : (j : ℕ) (r : Rule) → j < 6 → (slice_index_or rules j r).is_simple ≡ true
+  simple_at : (j : ℕ) (r : Rule) → j < 7 → (slice_index_or rules j r).is_simple ≡ true
   simple_at zero r lt = refl
   simple_at (suc zero) r lt = refl
   simple_at (suc (suc zero)) r lt = refl
   simple_at (suc (suc (suc zero))) r lt = refl
   simple_at (suc (suc (suc (suc zero)))) r lt = refl
   simple_at (suc (suc (suc (suc (suc zero))))) r lt = refl
-  simple_at (suc (suc (suc (suc (suc (suc j)))))) r lt = absurd (omega arith)
+  simple_at (suc (suc (suc (suc (suc (suc zero)))))) r lt = refl
+  simple_at (suc (suc (suc (suc (suc (suc (suc j))))))) r lt = absurd (omega arith)
 
 -- an argument that is simple names no group
 no_group_named : (a : Arg) → (rule_of a).is_simple ≡ true → a.groups.items ≡ []
@@ -104,8 +106,8 @@ module _ (command : Command) (priorities styles : Borrowed) (e : app_of command 
   are_wanted : map rule_of (args_of command) ≡ wanted
   are_wanted = ap (λ (a : App). a.top.rules) e
 
-  are_six : length (args_of command) ≡ 6
-  are_six = sym (length-map (args_of command) rule_of) ∙ ap length are_wanted
+  are_seven : length (args_of command) ≡ 7
+  are_seven = sym (length-map (args_of command) rule_of) ∙ ap length are_wanted
 
   plain : (out-Command command).groups.items ≡ []
   plain = nil_if_empty _ (and_first _ _ (ap (λ (a : App). a.top.is_plain) e))
@@ -118,15 +120,15 @@ module _ (command : Command) (priorities styles : Borrowed) (e : app_of command 
 
   width_alone : (d : Arg) → StandsAlone command 0 d (Unsigned 0 4294967295)
   width_alone d = record {
-    inside = rw are_six (omega arith);
-    alone = λ j x lt same. alone_at priorities styles j (rule_of x) (subst (λ (n : ℕ). j < n) are_six lt) (rw (id_at j x, id_at 0 d) at same);
+    inside = rw are_seven (omega arith);
+    alone = λ j x lt same. alone_at priorities styles j (rule_of x) (subst (λ (n : ℕ). j < n) are_seven lt) (rw (id_at j x, id_at 0 d) at same);
     own = λ auto. elim auto [
       | inl help ↦ not_help (sym (id_at 0 d) ∙ help)
       | inr version ↦ not_version (sym (id_at 0 d) ∙ version)
     ];
     named = λ empty. not_empty (sym (id_at 0 d) ∙ empty);
     parser = ap (λ (r : Rule). r.parser) (rule_at (args_of command) wanted are_wanted 0 d);
-    no_names = λ j x lt. no_group_named (slice_index_or (args_of command) j x) (ap (λ (r : Rule). r.is_simple) (rule_at (args_of command) wanted are_wanted j x) ∙ simple_at priorities styles j (rule_of x) (subst (λ (n : ℕ). j < n) are_six lt));
+    no_names = λ j x lt. no_group_named (slice_index_or (args_of command) j x) (ap (λ (r : Rule). r.is_simple) (rule_at (args_of command) wanted are_wanted j x) ∙ simple_at priorities styles j (rule_of x) (subst (λ (n : ℕ). j < n) are_seven lt));
     no_groups = plain;
     no_globals = local;
   }
@@ -156,8 +158,8 @@ width_passes command m h p = go (args_of command) refl
   where
     go : (xs : List Arg) → args_of command ≡ xs → IfSome (first_value (found_of m) (codes "width")) IsWidth
     go [] none =
-        let six : length (args_of command) ≡ 6 = are_six command h.priorities.0 h.styles.0 (is_listed (app_of command) h) in
-        let some : 0 < length (args_of command) = rw six (omega arith) in
+        let seven : length (args_of command) ≡ 7 = are_seven command h.priorities.0 h.styles.0 (is_listed (app_of command) h) in
+        let some : 0 < length (args_of command) = rw seven (omega arith) in
         let bad : 0 < 0 = subst (λ (xs : List Arg). 0 < length xs) none some in
         absurd (omega arith)
     go (d ∷ xs) some = first_arg command h.priorities.0 h.styles.0 (is_listed (app_of command) h) d m p

@@ -1,3 +1,4 @@
 pub mod ColumnsLemmas
 pub mod PassedLemmas
 pub mod StyleLemmas
+pub mod ColorLemmas

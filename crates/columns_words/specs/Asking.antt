@@ -1,5 +1,5 @@
 -- What the words of the command line ask.
-use Rattle.std.specs.Prelude.{◌≡◌, ◌<◌, ◌^◌, ℕ, Bool, true, false, List, [], Option, Some, None, codes, ⊤}
+use Rattle.std.specs.Prelude.{◌≡◌, ◌<◌, ◌^◌, ◌⊎◌, ℕ, Bool, true, false, List, [], Option, Some, None, codes, string_bytes}
 use Rattle.std.specs.Option.{option_map_or}
 use Rattle.std.specs.Str.{bytes_eq}
 use Rattle.std.specs.Str.Parse.{digits_value, without_leading_plus}
@@ -7,12 +7,14 @@ use Rattle.clap.specs.Words.{Accepts, App, IsAmong, Text, fault_of, first_of, ma
 use Rattle.clap.specs.declared.builder.value_parser.ValueParser.TheVariants.{Unsigned}
 use Rattle.clap.specs.declared.error.kind.ErrorKind.{ErrorKind}
 use Rattle.clap.specs.declared.error.kind.ErrorKind.TheVariants.{DisplayHelp, DisplayVersion}
+use Rattle.columns_color_list.specs.Listed.{listed_colors}
 use Rattle.columns_options.specs.declared.options.Options.{Options}
 use Rattle.columns_options.specs.Settings.{settings_with}
 use Rattle.columns_words.specs.Command.{IsColumns}
 use Rattle.columns_words.specs.Names.{named, priorities, styles}
 use Rattle.columns_words.specs.declared.words.Asked.{Asked}
 use Rattle.columns_words.specs.declared.words.Asked.TheVariants.{Run, Help, Faulty}
+use Rattle.grid_config.specs.Colors.{Color}
 use Rattle.grid_config.specs.Compact.{compact_of}
 use Rattle.tabled_size_priority.specs.declared.choice.Choice.TheVariants.{None as InTurns}
 use Rattle.tabled_glyphs.specs.Glyphs.{ascii}
@@ -36,6 +38,12 @@ abbrev pub IsWidthOf : Option Text → Option ℕ → Type 0
 IsWidthOf None width = width ≡ None
 IsWidthOf (Some text) width = (width ≡ Some (number text)) × (number text < 2 ^ 32)
 
+-- the colours of columns: those of the list that is given, and no colour where there is no list; none where the
+-- list has not the form
+abbrev pub colors_asked : Option Text → Option (List (ℕ × Color))
+colors_asked None = Some []
+colors_asked (Some list) = listed_colors list
+
 -- each field of a run, by the values that are given for the options
 pub record IsRead (given : Text → Option Text) (options : Options) (by_row : Bool) : Type 0 where
   pub width : IsWidthOf (given (codes "width")) options.width
@@ -44,14 +52,17 @@ pub record IsRead (given : Text → Option Text) (options : Options) (by_row : B
   pub priority : options.priority ≡ named priorities InTurns (given (codes "priority"))
   pub style : compact_of options.style ≡ settings_with (named styles ascii (given (codes "style")))
   pub streamed : by_row ≡ is_set (given (codes "streamed"))
+  pub colors : colors_asked (given (codes "color")) ≡ Some options.colors.items
 
+-- what is told of colours that are none
+abbrev pub IsBadColor : Option Text → Text → Type 0
+IsBadColor list text = (colors_asked list ≡ None) × (text ≡ codes "columns: bad color")
+
+-- a run by the values that are given; or a fault, where the list of colours has not the form
 abbrev pub IsRunOf : (Text → Option Text) → Asked → Type 0
 IsRunOf given (Run options streamed) = IsRead given options streamed
-IsRunOf given _ = ⊥
-
-abbrev pub IsRun : Asked → Type 0
-IsRun (Run options streamed) = ⊤
-IsRun _ = ⊥
+IsRunOf given (Help text) = ⊥
+IsRunOf given (Faulty text) = IsBadColor (given (codes "color")) (string_bytes text)
 
 -- ---- words that give no values
 
@@ -69,14 +80,24 @@ IsTold kind (Faulty text) = is_wanted kind ≡ false
 
 -- ---- the answer
 
--- a run where the command finds no fault; the help, the version or a fault by the kinds that it finds
-abbrev pub Answers : App → List Text → Asked → Type 0
-Answers command words (Run options streamed) = (fault_of command words ≡ []) × IsRead (λ id. first_of id (matches_of command words)) options streamed
-Answers command words asked = (kind : ErrorKind) × IsAmong kind (fault_of command words) × IsTold kind asked
+-- the command finds no fault, and this is asked by the values that it gives
+abbrev pub IsRunBy : App → List Text → Asked → Type 0
+IsRunBy command words asked = (fault_of command words ≡ []) × IsRunOf (λ id. first_of id (matches_of command words)) asked
 
--- what the words ask of `columns`; words that it takes ask for a run
+-- it finds one of this kind, of which this is told
+abbrev pub IsToldBy : App → List Text → Asked → Type 0
+IsToldBy command words asked = (kind : ErrorKind) × IsAmong kind (fault_of command words) × IsTold kind asked
+
+-- a run where the command finds no fault; the help, the version or a fault by the kinds that it finds; a fault also where
+-- it finds none, and the list of colours has not the form
+abbrev pub Answers : App → List Text → Asked → Type 0
+Answers command words (Run options streamed) = IsRunBy command words (Run options streamed)
+Answers command words (Help text) = IsToldBy command words (Help text)
+Answers command words (Faulty text) = IsRunBy command words (Faulty text) ⊎ IsToldBy command words (Faulty text)
+
+-- what the words ask of `columns`; words that it takes ask for a run, or are at fault by their list of colours alone
 pub record IsAnswer (words : List Text) (asked : Asked) : Type 0 where
   pub command : App
   pub columns : IsColumns command
   pub answer : Answers command words asked
-  pub taken : takes command words ≡ true → IsRun asked
+  pub taken : takes command words ≡ true → IsRunOf (λ id. first_of id (matches_of command words)) asked

@@ -5,7 +5,7 @@ use Rattle.clap.specs.Simple.{new_shape}
 use Rattle.clap.specs.Words.{App, Rule, Text, new_rule}
 use Rattle.clap.specs.declared.builder.action.ArgAction.TheVariants.{Set, SetTrue}
 use Rattle.clap.specs.declared.builder.value_parser.ValueParser.{ValueParser}
-use Rattle.clap.specs.declared.builder.value_parser.ValueParser.TheVariants.{Names, Unsigned}
+use Rattle.clap.specs.declared.builder.value_parser.ValueParser.TheVariants.{Names, Unsigned, String as AnyText}
 use Rattle.columns_words.specs.Names.{priority_names, style_names}
 
 -- an option that takes one value
@@ -21,6 +21,10 @@ value_rule name parser defaults = record (new_rule name) {
 -- a number from 0 to 4294967295, with no default
 abbrev pub width_rule : Rule
 width_rule = value_rule (codes "width") (Unsigned 0 4294967295) []
+
+-- any text, with no default
+abbrev pub color_rule : Rule
+color_rule = value_rule (codes "color") AnyText []
 
 -- an option without a value
 abbrev pub flag_rule : Text → Rule
@@ -40,7 +44,7 @@ abbrev pub columns_app : Rule → Rule → App
 columns_app priority style = record {
   top = record (new_shape (codes "columns")) {
     has_version = true;
-    rules = width_rule ∷ flag_rule (codes "truncate") ∷ flag_rule (codes "keep-words") ∷ priority ∷ style ∷ flag_rule (codes "streamed") ∷ [];
+    rules = width_rule ∷ flag_rule (codes "truncate") ∷ flag_rule (codes "keep-words") ∷ priority ∷ style ∷ flag_rule (codes "streamed") ∷ color_rule ∷ [];
   };
   subs = [];
 }

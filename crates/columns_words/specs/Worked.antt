@@ -23,7 +23,7 @@ line words = codes "columns" ∷ words
 -- the values of the options of a line, in the order of the command
 abbrev values_of : List Text → List (Option Text)
 values_of words = map (λ id. first_of id (matches_of columns_by_hand (line words)))
-    (codes "width" ∷ codes "truncate" ∷ codes "keep-words" ∷ codes "priority" ∷ codes "style" ∷ codes "streamed" ∷ [])
+    (codes "width" ∷ codes "truncate" ∷ codes "keep-words" ∷ codes "priority" ∷ codes "style" ∷ codes "streamed" ∷ codes "color" ∷ [])
 
 -- the command takes the words, without a fault, and gives these values
 abbrev pub Gives : List Text → List (Option Text) → Type 0

@@ -1,7 +1,7 @@
 //! The command, with its options and the texts of its help.
 ghost use Rattle.std.specs.Prelude.{◌≡◌, IfOk, codes, false};
 ghost use Rattle.clap.specs.Words.{app_of, rule_of};
-ghost use Rattle.columns_words.specs.Command.{IsColumns, IsOfNames, flag_rule, width_rule};
+ghost use Rattle.columns_words.specs.Command.{IsColumns, IsOfNames, color_rule, flag_rule, width_rule};
 ghost use Rattle.columns_words.specs.Names.{priority_names, style_names};
 
 use clap::builder::ValueParser;
@@ -22,11 +22,16 @@ Each line is a row, and a tab ends a cell. Colours and other escape sequences
 are kept.";
 
 const AFTER_HELP: &str = "\
+Colours:
+  black, red, green, yellow, blue, magenta, cyan, white, bold, underline
+
 Examples:
   printf 'name\\tsize\\nlog\\t42\\n' | columns
           a table of two rows, with lines of -, | and +
   columns --width 40 --keep-words --style modern < notes.tsv
           a table narrowed to 40 columns, its lines broken between words
+  columns --color 0=bold,2=red < notes.tsv
+          a table whose first column is bold and whose third is red
 
 Exit status:
   0  the table, this help or the version was printed
@@ -46,7 +51,8 @@ pub fn command<'a>(alloc: Global) -> Result<Command<'a>, AllocError>
         .arg(keep_words(alloc))?
         .arg(priority(alloc))?
         .arg(style(alloc))?
-        .arg(streamed(alloc))
+        .arg(streamed(alloc))?
+        .arg(color(alloc))
 }
 
 // How wide the table may be, in columns.
@@ -121,4 +127,17 @@ fn streamed<'a>(alloc: Global) -> Arg<'a>
         .long("streamed")
         .action(ArgAction::SetTrue)
         .help("Print a streamed table: as wide as its text, by --style alone")
+}
+
+// The colours of columns.
+fn color<'a>(alloc: Global) -> Arg<'a>
+    ensures rule { rule_of result ≡ color_rule }
+    ensures global { result.global ≡ false }
+{
+    Arg::new(alloc, "color")
+        .long("color")
+        .value_name("LIST")
+        .action(ArgAction::Set)
+        .value_parser(ValueParser::String)
+        .help("Colour columns, from 0: COLUMN=NAME, parted by commas [default: none]")
 }

@@ -1,7 +1,8 @@
 //! Command lines worked by hand: what the command makes of their words. The functions do nothing.
 ghost use Rattle.std.specs.Prelude.{◌≡◌, ◌∷◌, [], Some, None, codes};
 ghost use Rattle.clap.specs.declared.error.kind.ErrorKind.TheVariants.{ArgumentConflict, DisplayHelp, DisplayVersion, InvalidValue, UnknownArgument, ValueValidation};
-ghost use Rattle.columns_words.specs.Asking.{number};
+ghost use Rattle.columns_color_list.specs.Names.{sequences};
+ghost use Rattle.columns_words.specs.Asking.{colors_asked, number};
 ghost use Rattle.columns_words.specs.Command.{IsColumns};
 ghost use Rattle.columns_words.specs.Names.{named, priorities, styles};
 ghost use Rattle.columns_words.specs.Worked.{Finds, Gives, columns_by_hand};
@@ -17,11 +18,13 @@ pub fn the_command_is_columns()
 
 /// Lines that ask for a run, with the values that they give.
 pub fn words_are_taken()
-    ensures nothing { Gives [] (None ∷ Some (codes "false") ∷ Some (codes "false") ∷ Some (codes "none") ∷ Some (codes "ascii") ∷ Some (codes "false") ∷ []) }
-    ensures narrowed { Gives (codes "--width" ∷ codes "6" ∷ codes "--truncate" ∷ codes "--priority" ∷ codes "max" ∷ []) (Some (codes "6") ∷ Some (codes "true") ∷ Some (codes "false") ∷ Some (codes "max") ∷ Some (codes "ascii") ∷ Some (codes "false") ∷ []) }
-    ensures attached { Gives (codes "--keep-words" ∷ codes "--width=0" ∷ []) (Some (codes "0") ∷ Some (codes "false") ∷ Some (codes "true") ∷ Some (codes "none") ∷ Some (codes "ascii") ∷ Some (codes "false") ∷ []) }
-    ensures greatest { Gives (codes "--width" ∷ codes "4294967295" ∷ []) (Some (codes "4294967295") ∷ Some (codes "false") ∷ Some (codes "false") ∷ Some (codes "none") ∷ Some (codes "ascii") ∷ Some (codes "false") ∷ []) }
-    ensures streamed { Gives (codes "--streamed" ∷ codes "--style" ∷ codes "modern" ∷ []) (None ∷ Some (codes "false") ∷ Some (codes "false") ∷ Some (codes "none") ∷ Some (codes "modern") ∷ Some (codes "true") ∷ []) }
+    ensures nothing { Gives [] (None ∷ Some (codes "false") ∷ Some (codes "false") ∷ Some (codes "none") ∷ Some (codes "ascii") ∷ Some (codes "false") ∷ None ∷ []) }
+    ensures narrowed { Gives (codes "--width" ∷ codes "6" ∷ codes "--truncate" ∷ codes "--priority" ∷ codes "max" ∷ []) (Some (codes "6") ∷ Some (codes "true") ∷ Some (codes "false") ∷ Some (codes "max") ∷ Some (codes "ascii") ∷ Some (codes "false") ∷ None ∷ []) }
+    ensures attached { Gives (codes "--keep-words" ∷ codes "--width=0" ∷ []) (Some (codes "0") ∷ Some (codes "false") ∷ Some (codes "true") ∷ Some (codes "none") ∷ Some (codes "ascii") ∷ Some (codes "false") ∷ None ∷ []) }
+    ensures greatest { Gives (codes "--width" ∷ codes "4294967295" ∷ []) (Some (codes "4294967295") ∷ Some (codes "false") ∷ Some (codes "false") ∷ Some (codes "none") ∷ Some (codes "ascii") ∷ Some (codes "false") ∷ None ∷ []) }
+    ensures colored { Gives (codes "--color" ∷ codes "0=red,2=bold" ∷ []) (None ∷ Some (codes "false") ∷ Some (codes "false") ∷ Some (codes "none") ∷ Some (codes "ascii") ∷ Some (codes "false") ∷ Some (codes "0=red,2=bold") ∷ []) }
+    ensures no_list { Gives (codes "--color=" ∷ []) (None ∷ Some (codes "false") ∷ Some (codes "false") ∷ Some (codes "none") ∷ Some (codes "ascii") ∷ Some (codes "false") ∷ Some [] ∷ []) }
+    ensures streamed { Gives (codes "--streamed" ∷ codes "--style" ∷ codes "modern" ∷ []) (None ∷ Some (codes "false") ∷ Some (codes "false") ∷ Some (codes "none") ∷ Some (codes "modern") ∷ Some (codes "true") ∷ None ∷ []) }
 {}
 
 /// Lines that the command does not take, with the kind of their fault.
@@ -32,6 +35,8 @@ pub fn words_are_at_fault()
     ensures stray { Finds (codes "x" ∷ []) (UnknownArgument ∷ []) }
     ensures twice { Finds (codes "--truncate" ∷ codes "--truncate" ∷ []) (ArgumentConflict ∷ []) }
     ensures no_value { Finds (codes "--width" ∷ []) (InvalidValue ∷ []) }
+    ensures no_colors { Finds (codes "--color" ∷ []) (InvalidValue ∷ []) }
+    ensures two_lists { Finds (codes "--color" ∷ codes "0=red" ∷ codes "--color" ∷ codes "1=red" ∷ []) (ArgumentConflict ∷ []) }
 {}
 
 /// Lines that ask for the help and for the version.
@@ -49,4 +54,7 @@ pub fn values_by_hand()
     ensures no_name { named priorities Choice.Left None ≡ Choice.Left }
     ensures modern { named styles ascii (Some (codes "modern")) ≡ modern }
     ensures empty { named styles ascii (Some (codes "empty")) ≡ no_borders }
+    ensures uncolored { colors_asked None ≡ Some [] }
+    ensures red { colors_asked (Some (codes "1=red")) ≡ Some ((1, sequences (codes "\u{1b}[31m") (codes "\u{1b}[39m")) ∷ []) }
+    ensures pink { colors_asked (Some (codes "0=pink")) ≡ None }
 {}

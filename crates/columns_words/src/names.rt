@@ -5,7 +5,7 @@ ghost use Rattle.grid_config.specs.Compact.{compact_of};
 ghost use Rattle.columns_options.specs.Settings.{settings_with};
 ghost use Rattle.tabled_glyphs.specs.Glyphs.{ascii};
 
-use columns_options::Options;
+use columns_options::default_style;
 use grid_config::{Borders, CompactConfig};
 use tabled_glyphs::{ascii, extended, modern};
 use tabled_size_priority::Choice;
@@ -27,7 +27,7 @@ pub fn priority_named(name: Option<&str>) -> Choice
 pub fn style_named(name: Option<&str>) -> CompactConfig
     ensures { compact_of result ≡ settings_with (named styles ascii (option_map (λ text. text.now) name.entry)) }
 {
-    Options::new().style.set_borders(glyphs_named(name))
+    default_style().set_borders(glyphs_named(name))
 }
 
 // The glyphs of the style of this name.

@@ -1,15 +1,20 @@
 //! What the words of the command line ask.
-ghost use Rattle.std.specs.Prelude.{◌≡◌, codes, map, IfOk, IfSome, IsErr};
+ghost use Rattle.std.specs.Prelude.{◌≡◌, codes, map, option_map, vec_items, IfOk, IfSome, IsErr};
 ghost use Rattle.clap.specs.Words.{first_value, found_of, kind_of};
-ghost use Rattle.columns_words.specs.Asking.{IsAnswer, IsRunOf, IsTold, IsWidth, IsWidthOf, is_set};
+ghost use Rattle.columns_words.specs.Asking.{IsAnswer, IsRunOf, IsTold, IsWidth, IsWidthOf, colors_asked, is_set};
 
 use crate::command::command;
 use crate::names::{priority_named, style_named};
 use clap::error::ErrorKind;
 use clap::{ArgMatches, Error};
+use columns_color_list::colors_of;
 use columns_options::Options;
+use grid_config::ANSIBuf;
 use std::alloc::{AllocError, Global};
 use std::convert::AsStr;
+
+// What is said of a list of colours that is none.
+const BAD_COLOR: &str = "columns: bad color";
 
 /// What the words of a command line ask.
 #[derive(Debug, Drop)]
@@ -18,7 +23,8 @@ pub enum Asked {
     Run { options: Options, streamed: bool },
     /// This text, the help or the version, which is for standard output.
     Help(String),
-    /// Nothing that the command takes: this text, which is for standard error, says why.
+    /// Nothing that can be done: this text, which is for standard error, says why. That of a list of colours
+    /// that is none is `columns: bad color`, and ends without a line feed.
     Faulty(String),
 }
 
@@ -28,26 +34,44 @@ pub fn read_words<S: AsStr>(alloc: Global, words: &[S]) -> Result<Asked, AllocEr
     ensures { IfOk result (IsAnswer (map S.text words.entry.now)) }
 {
     match command(alloc)?.try_get_matches_from(words) {
-        Ok(matches) => Ok(run_of(&matches)),
+        Ok(matches) => run_of(alloc, &matches),
         Err(error) => told(alloc, &error),
     }
 }
 
-// The table that is asked for, by the values that the command gives.
-fn run_of(matches: &ArgMatches<'_>) -> Asked
+// The table that is asked for, by the values that the command gives; a list of colours that is none is a
+// fault, whatever else is asked.
+fn run_of(alloc: Global, matches: &ArgMatches<'_>) -> Result<Asked, AllocError>
     requires { IfSome (first_value (found_of matches.now) (codes "width")) IsWidth }
-    ensures { IsRunOf (first_value (found_of matches.now)) result }
+    ensures { IfOk result (IsRunOf (first_value (found_of matches.now))) }
 {
+    let Some(colors) = colors(alloc, matches)? else {
+        return Ok(Asked::Faulty(String::from_str(alloc, BAD_COLOR)?));
+    };
     let options = Options {
         width: width(matches),
         truncate: is_set(matches, "truncate"),
         keep_words: is_set(matches, "keep-words"),
         priority: priority_named(matches.get_str("priority")),
         style: style_named(matches.get_str("style")),
+        colors,
     };
-    Asked::Run {
+    Ok(Asked::Run {
         options,
         streamed: is_set(matches, "streamed"),
+    })
+}
+
+// The colours that are asked for; none where their list has not the form.
+fn colors(
+    alloc: Global,
+    matches: &ArgMatches<'_>,
+) -> Result<Option<Vec<(usize, ANSIBuf)>>, AllocError>
+    ensures { IfOk result (λ found. option_map vec_items found ≡ colors_asked (first_value (found_of matches.now) (codes "color"))) }
+{
+    match matches.get_str("color") {
+        Some(list) => colors_of(alloc, list),
+        None => Ok(Some(Vec::new(alloc))),
     }
 }
 

@@ -6,7 +6,7 @@ use columns_run::{Counted, Options, RunFault, run};
 
 /// Standard input to standard output.
 pub(crate) fn paged(rt: &HostRuntime) -> Result<(), RunFault> {
-    let options = Options::new();
+    let options = Options::new(rt.alloc());
     let mut reader = Counted::new(Commas::new(rt.stdin()));
     let mut writer = Counted::new(Pages::new(rt.stdout(), 20));
     run(rt.alloc(), &options, &mut reader, &mut writer)

@@ -3,3 +3,4 @@ pub mod Adjusting
 pub mod Choosing
 pub mod Running
 pub mod Naming
+mod Coloring

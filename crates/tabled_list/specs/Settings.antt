@@ -1,13 +1,14 @@
 -- The steps of settings.
-use Rattle.std.specs.Prelude.{◌≡◌, ℕ, Bool, List, Option, None, Some, string_bytes}
+use Rattle.std.specs.Prelude.{◌≡◌, ℕ, Bool, List, Option, None, Some, Ok, string_bytes}
 use Rattle.grid_config_values.specs.declared.entity.Entity.{Entity}
 use Rattle.grid_config_values.specs.declared.entity.Entity.TheVariants.{Global as EveryCell, Row as OneRow}
+use Rattle.grid_config.specs.Colors.{Color as CellColor}
 use Rattle.grid_config.specs.Looks.{Look}
 use Rattle.tabled_height.specs.Steps.{LimitsCells, RaisesCells, listing_heights}
 use Rattle.tabled_size_dimension.specs.declared.suffix.SuffixLimit.{SuffixLimit}
 use Rattle.tabled_size_priority.specs.Choices.{IsGrownByChoice, IsShrunkByChoice}
 use Rattle.tabled_steps.specs.Changes.{changing}
-use Rattle.tabled_steps.specs.Looks.{with_alignment_horizontal, with_alignment_vertical, with_borders, with_column_span, with_justification, with_line_alignment, with_margin, with_padding, with_row_span, with_trim_horizontal, with_trim_vertical}
+use Rattle.tabled_steps.specs.Looks.{covering, with_alignment_horizontal, with_alignment_vertical, with_borders, with_column_span, with_justification, with_line_alignment, with_margin, with_padding, with_row_span, with_trim_horizontal, with_trim_vertical}
 use Rattle.tabled_steps.specs.States.{Outcome, Settles, State, looking, positive}
 use Rattle.tabled_width.specs.Breaking.{breaking, justifying, wrapping_wider}
 use Rattle.tabled_width.specs.Cutting.{Cutting, truncating}
@@ -18,7 +19,7 @@ use Rattle.tabled_list.specs.Amounts.{height_of, width_of}
 use Rattle.tabled_list.specs.Priorities.{LimitsBy, NarrowsBy, RaisesBy, WidensBy}
 use Rattle.tabled_list.specs.declared.amount.Amount.{Amount}
 use Rattle.tabled_list.specs.declared.setting.Setting.{Setting}
-use Rattle.tabled_list.specs.declared.setting.Setting.TheVariants.{Wrap, CellWrap, Truncate, CellTruncate, MinWidth, CellMinWidth, Justify, WidthList, HeightList, HeightIncrease, HeightLimit, CellHeightIncrease, CellHeightLimit, ColumnSpan, RowSpan, AlignHorizontal, AlignVertical, LineAlignment, TrimHorizontal, TrimVertical, Justification, Padding, Margin, Borders}
+use Rattle.tabled_list.specs.declared.setting.Setting.TheVariants.{Wrap, CellWrap, Truncate, CellTruncate, MinWidth, CellMinWidth, Justify, WidthList, HeightList, HeightIncrease, HeightLimit, CellHeightIncrease, CellHeightLimit, ColumnSpan, RowSpan, AlignHorizontal, AlignVertical, LineAlignment, TrimHorizontal, TrimVertical, Justification, Padding, Margin, Borders, Color}
 
 -- how a suffix stands after what is cut
 abbrev pub cutting_by : List ℕ → SuffixLimit → Bool → Bool → Cutting
@@ -33,6 +34,10 @@ CellsChange at width change =
 -- the settings change so; then no size is kept
 abbrev pub LookChanges : (Look → Look) → State → Outcome → Type 0
 LookChanges change = Settles (Some EveryCell) (λ state outcome. looking change state ≡ outcome)
+
+-- the cells of the entity have this colour; texts, settings and sizes stay
+abbrev pub coloring : Entity → CellColor → State → Outcome
+coloring at color state = Ok (record state { colors = covering at (Some color) state.colors })
 
 -- a table is changed by a setting: what its option or its setter makes of it, and which sizes are kept then
 abbrev pub setting_step : Setting → State → Outcome → Type 0
@@ -61,3 +66,4 @@ setting_step (Justification at fill) = LookChanges (with_justification at fill)
 setting_step (Padding at value) = LookChanges (with_padding at value)
 setting_step (Margin value) = LookChanges (with_margin value)
 setting_step (Borders value) = LookChanges (with_borders value)
+setting_step (Color at color) = Settles (Some EveryCell) (λ state outcome. coloring at color state ≡ outcome)

@@ -6,6 +6,7 @@ mod adjustable;
 mod amount;
 mod by_choice;
 mod cells;
+mod colored;
 pub mod laws;
 mod list;
 mod setting;

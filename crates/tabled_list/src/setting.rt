@@ -8,9 +8,11 @@ use crate::adjustable::Adjustable;
 use crate::amount::Amount;
 use crate::by_choice::{TextCutting, by_choice, cutting};
 use crate::cells::CellSetting;
+use crate::colored::Colored;
 use crate::whole::{Bordered, ColumnsAt, RowsAt};
 use grid_config::{
-    AlignmentHorizontal, AlignmentVertical, Borders, Entity, Fault, Indent, Position, Sides,
+    ANSIBuf, AlignmentHorizontal, AlignmentVertical, Borders, Entity, Fault, Indent, Position,
+    Sides,
 };
 use grid_records_rows::FromText;
 use std::alloc::Global;
@@ -117,6 +119,8 @@ pub enum Setting {
     Margin(Sides<Indent>),
     /// `set_borders`.
     Borders(Borders<char>),
+    /// `set_color`: the colour of the cells' lines.
+    Color(Entity, ANSIBuf),
 }
 
 impl Setting {
@@ -220,6 +224,10 @@ impl Setting {
             Setting::Padding(at, sides) => table.adjust_cells(*at, &Padding::from(*sides)),
             Setting::Margin(sides) => table.adjust(Margin::from(*sides)),
             Setting::Borders(borders) => table.adjust(Bordered { borders: *borders }),
+            Setting::Color(at, color) => table.adjust(Colored {
+                at: *at,
+                color: color.clone(alloc)?,
+            }),
         }
     }
 }

@@ -1,4 +1,4 @@
--- What settings make of a look, and that the colours of cells stay: a bare look stays bare.
+-- What settings make of a look and of the colours of cells: a bare look stays bare.
 use Rattle.std.proofs.Common.{◌≡◌, ◌==◌, ◌-◌, nat_lt, nat_le, ℕ, Bool, true, false, List, [], ◌∷◌, Option, None, Some, Result, Ok, Err, length, refl, ap, sym, subst, ◌∙◌, if◌then◌else◌}
 use Rattle.std.specs.Prelude.{IfSome, MatchResult, string_bytes}
 use Rattle.grid_config.specs.Colors.{Color}
@@ -13,6 +13,7 @@ use Rattle.grid_config_values.specs.declared.fault.Fault.TheVariants.{Spans}
 use Rattle.grid_config_values.specs.declared.position.Position.{Position}
 use Rattle.grid_config_values.specs.declared.sides.Indent.{Indent}
 use Rattle.grid_config_values.specs.declared.sides.Sides.{Sides}
+use Rattle.papergrid_colors.specs.ClosingColors.{ShowNothing, ShowsNothing}
 use Rattle.papergrid_picture.specs.Shown.{IsBare, IsColoredBy, IsShown, OnEachSide, ShowsOnly, WritesNothing}
 use Rattle.tabled_height.specs.Heights.{Estimate, estimated}
 use Rattle.tabled_height.specs.Lines.{limited, raised}
@@ -20,10 +21,10 @@ use Rattle.tabled_height.specs.Steps.{GrownRows, Measured as MeasuredHeight, Res
 use Rattle.tabled_list.specs.Amounts.{height_of, width_of}
 use Rattle.tabled_list.specs.Lists.{Runs}
 use Rattle.tabled_list.specs.Priorities.{LimitsBy, NarrowsBy, RaisesBy, WidensBy, grows_so, measured_so, shrinks_so}
-use Rattle.tabled_list.specs.Settings.{CellsChange, LookChanges, cutting_by, setting_step}
+use Rattle.tabled_list.specs.Settings.{CellsChange, LookChanges, coloring, cutting_by, setting_step}
 use Rattle.tabled_list.specs.declared.amount.Amount.{Amount}
 use Rattle.tabled_list.specs.declared.setting.Setting.{Setting}
-use Rattle.tabled_list.specs.declared.setting.Setting.TheVariants.{Wrap, CellWrap, Truncate, CellTruncate, MinWidth, CellMinWidth, Justify, WidthList, HeightList, HeightIncrease, HeightLimit, CellHeightIncrease, CellHeightLimit, ColumnSpan, RowSpan, AlignHorizontal, AlignVertical, LineAlignment, TrimHorizontal, TrimVertical, Justification, Padding, Margin, Borders}
+use Rattle.tabled_list.specs.declared.setting.Setting.TheVariants.{Wrap, CellWrap, Truncate, CellTruncate, MinWidth, CellMinWidth, Justify, WidthList, HeightList, HeightIncrease, HeightLimit, CellHeightIncrease, CellHeightLimit, ColumnSpan, RowSpan, AlignHorizontal, AlignVertical, LineAlignment, TrimHorizontal, TrimVertical, Justification, Padding, Margin, Borders, Color as Colored}
 use Rattle.tabled_size_priority.specs.Choices.{IsGrownByChoice, IsShrunkByChoice}
 use Rattle.tabled_steps.specs.Changes.{changing}
 use Rattle.tabled_steps.specs.Looks.{covering, with_alignment_horizontal, with_alignment_vertical, with_borders, with_column_span, with_justification, with_line_alignment, with_margin, with_padding, with_row_span, with_trim_horizontal, with_trim_vertical}
@@ -36,13 +37,17 @@ use Rattle.tabled_width.specs.Lists.{with_width_list}
 use Rattle.tabled_width_tables.specs.Rooms.{column_widths, least_widths}
 use Rattle.tabled_width_tables.specs.Steps.{Measured, Then}
 use Rattle.tabled_width_tables.specs.Tables.{Grown, Narrows, NarrowsTable, Shrunk, Where, Widens, WidensTable, drawn, has_cells, keeping, narrowed}
-use Rattle.tabled_stripping.specs.Stripping.{AreClear, AreShown, IsClear}
+use Rattle.tabled_stripping.specs.Stripping.{AreClear, AreShown, IsClear, colored_by, colors_after}
+
+-- the look is bare, and cells have these colours
+abbrev pub BareWith : (Position → Option Color) → Outcome → Type 0
+BareWith colors (Ok m) = IsBare m.look × (m.colors ≡ colors)
+BareWith colors (Err fault) = Unit {0}
 
 module _ (s : State) where
-  -- the look is bare, and cells have the colours that they had
+  -- those that they had
   abbrev pub Bare : Outcome → Type 0
-  Bare (Ok m) = IsBare m.look × (m.colors ≡ s.colors)
-  Bare (Err fault) = Unit {0}
+  Bare outcome = BareWith s.colors outcome
 
   settled-bare : (hint : Option Entity) (outcome : Outcome) → Bare outcome → Bare (settled hint outcome)
   settled-bare hint (Ok m) bare = bare
@@ -255,7 +260,11 @@ heights-bare s bare at height change =
     (measured_height-bare s bare (λ columns rows look outcome. height_of height columns rows look ≡ outcome) (λ n s outcome. changing (change n) at s ≡ outcome)
     (λ n outcome is. equals-bare s (changing (change n) at s) outcome (bare, refl) is))
 
-pub step-bare : (setting : Setting) → IsClear setting → (s : State) → IsBare s.look → (outcome : Outcome) → setting_step setting s outcome → Bare s outcome
+colored-bare : (s : State) → IsBare s.look → (at : Entity) (color : Color) (outcome : Outcome) → Settles (Some EveryCell) (λ s outcome. coloring at color s ≡ outcome) s outcome → BareWith (covering at (Some color) s.colors) outcome
+colored-bare s bare at color outcome is =
+    subst (BareWith (covering at (Some color) s.colors)) is.2 (subst (λ (changed : Outcome). BareWith (covering at (Some color) s.colors) (settled (Some EveryCell) changed)) is.1 (bare, refl))
+
+pub step-bare : (setting : Setting) → IsClear setting → (s : State) → IsBare s.look → (outcome : Outcome) → setting_step setting s outcome → BareWith (colored_by s.colors setting) outcome
 step-bare (Wrap width keep_words priority) clear s bare =
     settles-bare s (Some (OneRow 0)) (NarrowsBy (IsShrunkByChoice priority) (breaking keep_words) (width_of width)) (narrows-bare s bare (IsShrunkByChoice priority) (breaking keep_words) (measured_so (width_of width)))
 step-bare (CellWrap at width keep_words) clear s bare = texts-bare s bare at width (wrapping_wider keep_words)
@@ -302,10 +311,45 @@ step-bare (Justification at fill) clear s bare = changed-bare s bare (with_justi
 step-bare (Padding at value) clear s bare = changed-bare s bare (with_padding at value) (padding-bare s.look bare at value clear)
 step-bare (Margin value) clear s bare = changed-bare s bare (with_margin value) (margin-bare s.look bare value clear)
 step-bare (Borders value) clear s bare = changed-bare s bare (with_borders value) (borders-bare s.look bare value clear)
+step-bare (Colored at color) clear s bare = colored-bare s bare at color
 
-pub runs-bare : (settings : List Setting) → AreClear settings → (s last : State) → IsBare s.look → Runs settings s last → IsBare last.look × (last.colors ≡ s.colors)
+pub runs-bare : (settings : List Setting) → AreClear settings → (s last : State) → IsBare s.look → Runs settings s last → IsBare last.look × (last.colors ≡ colors_after settings s.colors)
 runs-bare [] clear s last bare is = (subst (λ (m : State). IsBare m.look) is bare, sym (ap (λ (m : State). m.colors) is))
 runs-bare (setting ∷ settings) clear s last bare is =
     let one = step-bare setting clear.0 s bare (Ok is.0) is.1 in
     let others = runs-bare settings clear.1 is.0 last one.0 is.2 in
-    (others.0, others.1 ∙ one.1)
+    (others.0, others.1 ∙ ap (colors_after settings) one.1)
+
+-- ---- colours
+
+-- a setting that puts in sequences alone leaves colours that are such
+setting-silent : (setting : Setting) → IsClear setting → (colors : Position → Option Color) → ShowNothing colors → ShowNothing (colored_by colors setting)
+setting-silent (Wrap width keep_words priority) clear colors silent = silent
+setting-silent (CellWrap at width keep_words) clear colors silent = silent
+setting-silent (Truncate width suffix limit multiline try_color priority) clear colors silent = silent
+setting-silent (CellTruncate at width suffix limit multiline try_color) clear colors silent = silent
+setting-silent (MinWidth width priority) clear colors silent = silent
+setting-silent (CellMinWidth at width fill) clear colors silent = silent
+setting-silent (Justify width) clear colors silent = silent
+setting-silent (WidthList widths) clear colors silent = silent
+setting-silent (HeightList heights) clear colors silent = silent
+setting-silent (HeightIncrease height priority) clear colors silent = silent
+setting-silent (HeightLimit height priority) clear colors silent = silent
+setting-silent (CellHeightIncrease at height) clear colors silent = silent
+setting-silent (CellHeightLimit at height) clear colors silent = silent
+setting-silent (ColumnSpan place n) clear colors silent = silent
+setting-silent (RowSpan place n) clear colors silent = silent
+setting-silent (AlignHorizontal at value) clear colors silent = silent
+setting-silent (AlignVertical at value) clear colors silent = silent
+setting-silent (LineAlignment at on) clear colors silent = silent
+setting-silent (TrimHorizontal at on) clear colors silent = silent
+setting-silent (TrimVertical at on) clear colors silent = silent
+setting-silent (Justification at fill) clear colors silent = silent
+setting-silent (Padding at value) clear colors silent = silent
+setting-silent (Margin value) clear colors silent = silent
+setting-silent (Borders value) clear colors silent = silent
+setting-silent (Colored at color) clear colors silent = covering-is (λ (color : Option Color). IfSome color ShowsNothing) at (Some color) colors clear silent
+
+pub colors-silent : (settings : List Setting) → AreClear settings → (colors : Position → Option Color) → ShowNothing colors → ShowNothing (colors_after settings colors)
+colors-silent [] clear colors silent = silent
+colors-silent (setting ∷ settings) clear colors silent = colors-silent settings clear.1 (colored_by colors setting) (setting-silent setting clear.0 colors silent)

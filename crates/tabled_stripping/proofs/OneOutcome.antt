@@ -13,10 +13,10 @@ use Rattle.tabled_height.specs.Steps.{GrownRows, Measured as MeasuredHeight, Res
 use Rattle.tabled_list.specs.Amounts.{height_of, width_of}
 use Rattle.tabled_list.specs.Lists.{RefusedAt, Runs}
 use Rattle.tabled_list.specs.Priorities.{grows_so, measured_so, shrinks_so, NarrowsBy, WidensBy, RaisesBy, LimitsBy}
-use Rattle.tabled_list.specs.Settings.{CellsChange, LookChanges, cutting_by, setting_step}
+use Rattle.tabled_list.specs.Settings.{CellsChange, LookChanges, coloring, cutting_by, setting_step}
 use Rattle.tabled_list.specs.declared.amount.Amount.{Amount}
 use Rattle.tabled_list.specs.declared.setting.Setting.{Setting}
-use Rattle.tabled_list.specs.declared.setting.Setting.TheVariants.{Wrap, CellWrap, Truncate, CellTruncate, MinWidth, CellMinWidth, Justify, WidthList, HeightList, HeightIncrease, HeightLimit, CellHeightIncrease, CellHeightLimit, ColumnSpan, RowSpan, AlignHorizontal, AlignVertical, LineAlignment, TrimHorizontal, TrimVertical, Justification, Padding, Margin, Borders}
+use Rattle.tabled_list.specs.declared.setting.Setting.TheVariants.{Wrap, CellWrap, Truncate, CellTruncate, MinWidth, CellMinWidth, Justify, WidthList, HeightList, HeightIncrease, HeightLimit, CellHeightIncrease, CellHeightLimit, ColumnSpan, RowSpan, AlignHorizontal, AlignVertical, LineAlignment, TrimHorizontal, TrimVertical, Justification, Padding, Margin, Borders, Color as Colored}
 use Rattle.tabled_size_priority.specs.Choices.{IsGrownByChoice, IsShrunkByChoice}
 use Rattle.tabled_size_priority.specs.declared.choice.Choice.{Choice}
 use Rattle.tabled_size_priority.specs.declared.choice.Choice.TheVariants.{None as InTurns, MinLeft, MinRight, MaxLeft, MaxRight, Left, Right}
@@ -220,6 +220,7 @@ one-outcome (Justification at fill) s = one-look (with_justification at fill) s
 one-outcome (Padding at value) s = one-look (with_padding at value) s
 one-outcome (Margin value) s = one-look (with_margin value) s
 one-outcome (Borders value) s = one-look (with_borders value) s
+one-outcome (Colored at color) s = one-settles (Some EveryCell) (λ s outcome. coloring at color s ≡ outcome) s (one-equal (coloring at color s))
 
 -- ---- lists
 

@@ -1,5 +1,5 @@
 -- Each setting passes through a change of the texts by which no measure changes, and so does a list of settings.
-use Rattle.std.proofs.Common.{◌≡◌, ℕ, zero, suc, List, [], ◌∷◌, Option, None, Some, Ok, Err, take, ap, subst}
+use Rattle.std.proofs.Common.{◌≡◌, ℕ, zero, suc, List, [], ◌∷◌, Option, None, Some, Ok, Err, take, ap, refl, subst}
 use Rattle.std.specs.List.{AllByRecursion}
 use Rattle.std.specs.Prelude.{IfSome, slice_get, string_bytes}
 use Rattle.grid_config.specs.Looks.{Look}
@@ -14,10 +14,10 @@ use Rattle.tabled_height.specs.Steps.{listing_heights}
 use Rattle.tabled_list.specs.Amounts.{height_of, width_of}
 use Rattle.tabled_list.specs.Lists.{RefusedAt, Runs}
 use Rattle.tabled_list.specs.Priorities.{LimitsBy, NarrowsBy, RaisesBy, WidensBy, grows_so, measured_so, shrinks_so}
-use Rattle.tabled_list.specs.Settings.{CellsChange, LookChanges, cutting_by, setting_step}
+use Rattle.tabled_list.specs.Settings.{CellsChange, LookChanges, coloring, cutting_by, setting_step}
 use Rattle.tabled_list.specs.declared.amount.Amount.{Amount}
 use Rattle.tabled_list.specs.declared.setting.Setting.{Setting}
-use Rattle.tabled_list.specs.declared.setting.Setting.TheVariants.{Wrap, CellWrap, Truncate, CellTruncate, MinWidth, CellMinWidth, Justify, WidthList, HeightList, HeightIncrease, HeightLimit, CellHeightIncrease, CellHeightLimit, ColumnSpan, RowSpan, AlignHorizontal, AlignVertical, LineAlignment, TrimHorizontal, TrimVertical, Justification, Padding, Margin, Borders}
+use Rattle.tabled_list.specs.declared.setting.Setting.TheVariants.{Wrap, CellWrap, Truncate, CellTruncate, MinWidth, CellMinWidth, Justify, WidthList, HeightList, HeightIncrease, HeightLimit, CellHeightIncrease, CellHeightLimit, ColumnSpan, RowSpan, AlignHorizontal, AlignVertical, LineAlignment, TrimHorizontal, TrimVertical, Justification, Padding, Margin, Borders, Color as Colored}
 use Rattle.tabled_size_priority.specs.Choices.{IsGrownByChoice, IsShrunkByChoice}
 use Rattle.tabled_steps.specs.Changes.{changing}
 use Rattle.tabled_steps.specs.Looks.{with_alignment_horizontal, with_alignment_vertical, with_borders, with_column_span, with_justification, with_line_alignment, with_margin, with_padding, with_row_span, with_trim_horizontal, with_trim_vertical}
@@ -30,7 +30,7 @@ use Rattle.tabled_width.specs.Lists.{with_width_list}
 use Rattle.tabled_width.specs.Steps.{Measured}
 use Rattle.tabled_height.specs.Steps.{Measured as MeasuredHeight}
 use Rattle.tabled_stripping.proofs.TextsByPlace.{state_by}
-use Rattle.tabled_stripping.proofs.PassingSteps.{Commutes, IsBlind, Passes, changes_texts, height_blind, limits_table, lists_heights, lists_widths, looks, measured, measured_height, narrows_table, positives, raises_table, settles, width_blind, widens_table}
+use Rattle.tabled_stripping.proofs.PassingSteps.{Commutes, IsBlind, Passes, changes_texts, equals, height_blind, limits_table, lists_heights, lists_widths, looks, measured, measured_height, narrows_table, positives, raises_table, settles, width_blind, widens_table}
 
 module _ (f : Position → List ℕ → List ℕ) (blind : IsBlind f) where
   -- what becomes of texts by any width passes through
@@ -101,6 +101,7 @@ module _ (f : Position → List ℕ → List ℕ) (blind : IsBlind f) where
   passes (Padding at value) commutes = look (with_padding at value)
   passes (Margin value) commutes = look (with_margin value)
   passes (Borders value) commutes = look (with_borders value)
+  passes (Colored at color) commutes = settles f blind (Some EveryCell) (λ s outcome. coloring at color s ≡ outcome) (equals f blind (coloring at color) (λ s whole. (refl, whole)))
 
   -- ---- lists
 

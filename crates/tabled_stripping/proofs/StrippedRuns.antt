@@ -13,7 +13,7 @@ use Rattle.tabled_height.specs.Lines.{limited, raised}
 use Rattle.tabled_list.specs.Lists.{RefusedAt, Runs}
 use Rattle.tabled_list.specs.Settings.{cutting_by}
 use Rattle.tabled_list.specs.declared.setting.Setting.{Setting}
-use Rattle.tabled_list.specs.declared.setting.Setting.TheVariants.{Wrap, CellWrap, Truncate, CellTruncate, MinWidth, CellMinWidth, Justify, WidthList, HeightList, HeightIncrease, HeightLimit, CellHeightIncrease, CellHeightLimit, ColumnSpan, RowSpan, AlignHorizontal, AlignVertical, LineAlignment, TrimHorizontal, TrimVertical, Justification, Padding, Margin, Borders}
+use Rattle.tabled_list.specs.declared.setting.Setting.TheVariants.{Wrap, CellWrap, Truncate, CellTruncate, MinWidth, CellMinWidth, Justify, WidthList, HeightList, HeightIncrease, HeightLimit, CellHeightIncrease, CellHeightLimit, ColumnSpan, RowSpan, AlignHorizontal, AlignVertical, LineAlignment, TrimHorizontal, TrimVertical, Justification, Padding, Margin, Borders, Color as Colored}
 use Rattle.tabled_steps.specs.States.{State}
 use Rattle.tabled_width.specs.Breaking.{breaking, justifying, wrapping_wider}
 use Rattle.tabled_width.specs.Cutting.{truncating}
@@ -58,6 +58,7 @@ module _ (keep : Position → Bool) where
   clear-passes (Padding at value) clear = tt
   clear-passes (Margin value) clear = tt
   clear-passes (Borders value) clear = tt
+  clear-passes (Colored at color) clear = tt
 
   all-pass : (settings : List Setting) → AreClear settings → AllPass f (blind-stripped keep) settings
   all-pass [] all = tt

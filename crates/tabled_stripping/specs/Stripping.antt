@@ -1,18 +1,21 @@
 -- Tables without the sequences of their texts, and settings that put in none.
-use Rattle.std.specs.Prelude.{ℕ, List, None, IfSome, string_bytes}
+use Rattle.std.specs.Prelude.{ℕ, List, Option, None, Some, IfSome, fold, string_bytes}
 use Rattle.std.specs.List.{AllByRecursion}
+use Rattle.grid_config.specs.Colors.{Color}
 use Rattle.grid_config_values.specs.declared.borders.Borders.{Borders as Glyphs}
 use Rattle.grid_config_values.specs.declared.fault.Fault.{Fault}
 use Rattle.grid_config_values.specs.declared.fault.Fault.TheVariants.{Memory, Range, Room, Spans}
 use Rattle.grid_config_values.specs.declared.position.Position.{Position}
+use Rattle.papergrid_colors.specs.ClosingColors.{ShowsNothing}
 use Rattle.papergrid_picture.specs.Blocks.{Grid}
 use Rattle.papergrid_picture.specs.Reading.{painted}
 use Rattle.papergrid_picture.specs.Shown.{IsPlainText, IsShown, OnEachSide, stripped_texts}
 use Rattle.papergrid_picture.specs.Tables.{in_bytes, table_grid}
 use Rattle.tabled_list.specs.declared.setting.Setting.{Setting}
-use Rattle.tabled_list.specs.declared.setting.Setting.TheVariants.{Truncate, CellTruncate, CellMinWidth, Justification, Padding, Margin, Borders}
+use Rattle.tabled_list.specs.declared.setting.Setting.TheVariants.{Truncate, CellTruncate, CellMinWidth, Justification, Padding, Margin, Borders, Color as Colored}
 use Rattle.tabled_size_dimension.specs.declared.suffix.SuffixLimit.{SuffixLimit}
 use Rattle.tabled_size_dimension.specs.declared.suffix.SuffixLimit.TheVariants.{Cut, Ignore, Replace}
+use Rattle.tabled_steps.specs.Looks.{covering}
 use Rattle.tabled_steps.specs.States.{State}
 use Rattle.tabled_stripping.specs.Printing.{drawn_heights, drawn_widths}
 
@@ -51,7 +54,7 @@ AreShown b =
     × (IfSome b.top IsShown × IfSome b.horizontal IsShown × IfSome b.bottom IsShown)
     × (IfSome b.left IsShown × IfSome b.vertical IsShown × IfSome b.right IsShown)
 
--- the setting puts in no character that begins a sequence
+-- the setting puts in no character that begins a sequence, or a colour that is sequences alone
 abbrev pub IsClear : Setting → Type 0
 IsClear (Truncate width suffix limit multiline try_color priority) = IsPlainText (string_bytes suffix) × LimitIsShown limit
 IsClear (CellTruncate at width suffix limit multiline try_color) = IsPlainText (string_bytes suffix) × LimitIsShown limit
@@ -60,10 +63,20 @@ IsClear (Justification at fill) = IsShown fill
 IsClear (Padding at value) = OnEachSide (λ indent. IsShown indent.fill) value
 IsClear (Margin value) = OnEachSide (λ indent. IsShown indent.fill) value
 IsClear (Borders value) = AreShown value
+IsClear (Colored at color) = ShowsNothing color
 IsClear _ = Unit {0}
 
 abbrev pub AreClear : List Setting → Type 0
 AreClear settings = AllByRecursion IsClear settings
+
+-- the colours of cells behind a setting that is accepted
+abbrev pub colored_by : (Position → Option Color) → Setting → Position → Option Color
+colored_by colors (Colored at color) = covering at (Some color) colors
+colored_by colors _ = colors
+
+-- and behind a list of them
+abbrev pub colors_after : List Setting → (Position → Option Color) → Position → Option Color
+colors_after settings colors = fold colored_by colors settings
 
 -- ---- refusals
 

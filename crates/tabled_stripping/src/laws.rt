@@ -13,7 +13,7 @@ ghost use Rattle.tabled_list.specs.Settings.{setting_step};
 ghost use Rattle.tabled_list.specs.declared.setting.Setting.{Setting};
 ghost use Rattle.tabled_steps.specs.States.{Outcome, State};
 ghost use Rattle.tabled_stripping.specs.Printing.{IsFit, drawn_heights, drawn_widths, printed};
-ghost use Rattle.tabled_stripping.specs.Stripping.{AreClear, IsNamed, cell_line_bytes, drawn_grid, stripped_state, uncolored_state};
+ghost use Rattle.tabled_stripping.specs.Stripping.{AreClear, IsNamed, cell_line_bytes, colors_after, drawn_grid, stripped_state, uncolored_state};
 ghost use Rattle.tabled_stripping.specs.Totals.{drawn_height, drawn_width};
 
 /// A setting makes one thing of a table, and so does a list of settings: it leads to one table, or is refused
@@ -27,7 +27,8 @@ pub fn lists_lead_to_one_table()
         Runs settings s a → ¬ (RefusedAt settings s b i fault) }
 {}
 
-/// What a list of settings that put in no character which begins a sequence makes of a table, it makes, without
+/// What a list of settings that put in no character which begins a sequence, and no colour but such as are
+/// sequences alone, makes of a table, it makes, without
 /// sequences, of the table of the stripped texts; a setting that is refused of the one is refused of the other.
 /// Its texts stay whole.
 pub fn settings_change_stripped_tables_alike()
@@ -57,17 +58,18 @@ pub fn stripped_tables_print_the_stripped_text()
 {}
 
 /// Layout and stripping can be exchanged. A list that puts in no character which begins a sequence leaves a look
-/// whose glyphs and fills begin none and that has no colour as such a one, and the colours of cells as they
-/// were. So the text of the table that it leads to is, without its sequences, the text, without colours, of the
+/// whose glyphs and fills begin none and that has no colour as such a one, and cells the colours of the last
+/// setting that covers them, or as they were; where all are sequences alone, those are too. So the text of the table that it leads to is, without its sequences, the text, without colours, of the
 /// table that it makes of the stripped texts; and both are printed, or refused by the same name.
 pub fn layout_and_stripping_can_be_exchanged()
     ensures look { (settings : List Setting) (s last : State) → AreClear settings → IsBare s.look → Runs settings s last → IsBare last.look }
-    ensures colors { (settings : List Setting) (s last : State) → AreClear settings → IsBare s.look → Runs settings s last → last.colors ≡ s.colors }
+    ensures colors { (settings : List Setting) (s last : State) → AreClear settings → IsBare s.look → Runs settings s last → last.colors ≡ colors_after settings s.colors }
+    ensures silent { (settings : List Setting) (s last : State) → AreClear settings → IsBare s.look → ShowNothing s.colors → Runs settings s last → ShowNothing last.colors }
     ensures text { (settings : List Setting) (s last other : State) → AreClear settings → AreWholeTexts s.rows → IsBare s.look → ShowNothing s.colors →
         Runs settings s last → Runs settings (stripped_state s) other → strip (pieces (printed last)) ≡ printed (uncolored_state other) }
     ensures both { (settings : List Setting) (s last other : State) → AreClear settings → AreWholeTexts s.rows → IsBare s.look → ShowNothing s.colors →
         Runs settings s last → Runs settings (stripped_state s) other → strip (pieces (printed last)) ≡ strip (pieces (printed other)) }
-    ensures no_colors { (settings : List Setting) (s last other : State) → AreClear settings → AreWholeTexts s.rows → IsBare s.look → s.colors ≡ (λ _. None) →
+    ensures no_colors { (settings : List Setting) (s last other : State) → AreClear settings → AreWholeTexts s.rows → IsBare s.look → colors_after settings s.colors ≡ (λ _. None) →
         Runs settings s last → Runs settings (stripped_state s) other → strip (pieces (printed last)) ≡ printed other }
     ensures refused { (settings : List Setting) (s last other : State) (a b : Result (Unit {0}) Refusal) → AreClear settings → AreWholeTexts s.rows →
         Runs settings s last → Runs settings (stripped_state s) other → IsFit last a → IsFit other b → a ≡ b }

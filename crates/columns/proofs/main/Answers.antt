@@ -1,7 +1,11 @@
 use Rattle.std.proofs.Common.{subst}
 use Rattle.columns_words.specs.Asking.{IsAnswer}
+use Rattle.columns_words.proofs.ColorLemmas.{asked-close}
 use Rattle.columns.proofs.StyleLemmas.{asked-plain}
 use Rattle.columns.proofs.main.Goals as goal
 
-pub print-requires : goal.print-requires
-print-requires c = asked-plain _ c.in-Ok-Run.options c.in-Ok-Run.streamed (subst (IsAnswer _) c.in-Ok-Run.field-0-is c.in-Ok-Run.ensures)
+pub print-requires-clause-plain : goal.print-requires-clause-plain
+print-requires-clause-plain c = asked-plain _ c.in-Ok-Run.options c.in-Ok-Run.streamed (subst (IsAnswer _) c.in-Ok-Run.field-0-is c.in-Ok-Run.ensures)
+
+pub print-requires-clause-close : goal.print-requires-clause-close
+print-requires-clause-close c = asked-close _ c.in-Ok-Run.options c.in-Ok-Run.streamed (subst (IsAnswer _) c.in-Ok-Run.field-0-is c.in-Ok-Run.ensures)

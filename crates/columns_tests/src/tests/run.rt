@@ -1,13 +1,14 @@
 //! What a run writes, whole and streamed, and when it gives up.
 ghost use Rattle.std.specs.Prelude.{◌≡◌, IfOk};
 ghost use Rattle.grid_config.specs.Compact.{compact_of};
+ghost use Rattle.columns_options.specs.ColumnColors.{AllClose};
 ghost use Rattle.columns_run.specs.Layout.{output_of};
 ghost use Rattle.columns_run.specs.Plain.{IsPlain};
 ghost use Rattle.columns_run.specs.Wanted.{wanted_of};
 
 use super::printing::{FAULTS, TABLES, WAYS, Way, defaults, expect_taken, print};
 use super::readers::ByteReader;
-use columns_run::{Counted, Options, RunFault, run, style_is_plain};
+use columns_run::{Counted, Options, RunFault, colors_close, run, style_is_plain};
 use grid_config::{Indent, Sides};
 use std::alloc::Global;
 use std::io::ErrorKind;
@@ -21,7 +22,8 @@ const TABLE: &[u8] = b"+---+---+\n| a | b |\n+---+---+\n| 1 | 2 |\n+---+---+\n";
 
 // The contract of `run` tells its caller which bytes these are.
 fn table_bytes(alloc: Global, options: &Options, input: &[u8]) -> Result<Vec<u8>, RunFault>
-    requires { IsPlain (compact_of options.now.style) }
+    requires plain { IsPlain (compact_of options.now.style) }
+    requires close { AllClose options.now.colors.items }
     ensures { IfOk result (λ bytes. bytes.items ≡ output_of (wanted_of options.now) input.now) }
 {
     let mut writer = Counted::new(Vec::new(alloc));
@@ -34,7 +36,7 @@ fn expect_pieces(rt: &impl Abort, alloc: Global, way: Way, input: &[u8], table: 
     for step in 1..7 {
         let mut reader = Counted::new(ByteReader::new(input));
         let mut writer = Counted::new(StepWriter::new(alloc, step, 0));
-        let result = print(way, alloc, &defaults(rt), &mut reader, &mut writer);
+        let result = print(way, alloc, &defaults(rt, alloc), &mut reader, &mut writer);
         assert_eq!(rt; result, Ok(()), "by {step}");
         expect_taken(rt, writer, (0, 0), table);
     }
@@ -45,7 +47,7 @@ fn writes_the_table(rt: HostRuntime) -> Result<(), RunFault> {
     for (input, table) in TABLES {
         let (input, table) = (input.as_bytes(), table.as_bytes());
         assert_eq!(&rt;
-            table_bytes(rt.alloc(), &defaults(&rt), input)?.as_slice(),
+            table_bytes(rt.alloc(), &defaults(&rt, rt.alloc()), input)?.as_slice(),
             table
         );
         expect_pieces(&rt, rt.alloc(), Way::Whole, input, table);
@@ -58,7 +60,7 @@ fn writes_the_table(rt: HostRuntime) -> Result<(), RunFault> {
 fn expect_input_fault(rt: &impl Abort, alloc: Global, way: Way, input: &[u8], fault: RunFault) {
     let mut writer = Counted::new(StepWriter::new(alloc, 1, 0));
     let mut reader = Counted::new(input);
-    let result = print(way, alloc, &defaults(rt), &mut reader, &mut writer);
+    let result = print(way, alloc, &defaults(rt, alloc), &mut reader, &mut writer);
     assert_eq!(rt; result, Err(fault), "{input:?}");
     expect_taken(rt, writer, (0, 0), b"");
 }
@@ -84,7 +86,7 @@ fn expect_written(
 ) {
     let mut reader = Counted::new(input);
     let mut writer = Counted::new(writer);
-    let result = print(way, alloc, &defaults(rt), &mut reader, &mut writer);
+    let result = print(way, alloc, &defaults(rt, alloc), &mut reader, &mut writer);
     assert_eq!(rt; result, answer, "{taken:?}");
     expect_taken(rt, writer, counts, taken);
 }
@@ -136,14 +138,15 @@ fn a_writer_that_takes_nothing_is_refused(rt: HostRuntime) {
 // A table past the greatest width is refused by that name.
 fn expect_range(rt: &impl Abort, alloc: Global, way: Way) {
     let (none, endless) = (Indent::spaced(0), Indent::spaced(usize::MAX));
-    let style = defaults(rt)
+    let style = defaults(rt, alloc)
         .style
         .set_padding(Sides::new(endless, none, none, none));
     let options = Options {
         style,
-        ..Options::new()
+        ..Options::new(alloc)
     };
     assert!(rt; style_is_plain(&options.style));
+    assert!(rt; colors_close(&options));
     let mut reader = Counted::new(b"a\n".as_slice());
     let mut writer = Counted::new(StepWriter::new(alloc, 1, 0));
     let result = print(way, alloc, &options, &mut reader, &mut writer);

@@ -4,14 +4,17 @@ use Rattle.std.specs.Fmt.{digits}
 use Rattle.std.specs.Prelude.{IsUtf8}
 use Rattle.std.specs.Str.{chars}
 use Rattle.std.proofs.Math.Utf8.{encode}
+use Rattle.std.proofs.lemmas.List.Elements.{All-nil}
 use Rattle.ansi_scan.specs.Attributes.{plain_attributes}
 use Rattle.ansi_scan.specs.Pieces.{pieces, first_pieces, front, at_escape, sequence_front, opened, control_from, string_from, escape_from}
 use Rattle.ansi_scan.specs.Sequences.{NoneBroken}
 use Rattle.ansi_scan.proofs.Existence.{ArePiecesOf-pieces}
 use Rattle.ansi_scan.specs.Rendition.{applied, after_parameters}
 use Rattle.ansi_scan.specs.StartsAndEnds.{start_bytes, start_sequences, end_bytes, end_sequences}
-use Rattle.columns_asked.specs.Layout.{asked_text, asked_widths, kept_texts}
+use Rattle.columns_asked.specs.Layout.{asked_widths, kept_texts}
 use Rattle.columns_asked.specs.Shrunk.{shrunk_list}
+use Rattle.columns_colors.specs.ColoredTables.{colored_text}
+use Rattle.columns_options.specs.ColumnColors.{AllClose}
 use Rattle.columns_run.specs.Layout.{grid_of, kept_of, output_of}
 use Rattle.columns_run.specs.Widths.{taken_columns}
 use Rattle.grid_config_spans.specs.Spans.{extent_at}
@@ -45,12 +48,15 @@ pub returns-clause-plain : goal.returns-clause-plain
 returns-clause-plain c = is-plain
 
 pub returns-clause-output : goal.returns-clause-output
-unfolding output_of kept_of asked_text kept_texts asked_widths shrunk_list wrapped_text cut_at table_widths table_heights track_sizes text_width text_height extent_at str_width char_width alone step past_emoji pieces first_pieces front at_escape sequence_front opened control_from string_from escape_from text_lines applied after_parameters plain_attributes start_bytes start_sequences end_bytes end_sequences digits chars encode
+unfolding output_of kept_of colored_text kept_texts asked_widths shrunk_list wrapped_text cut_at table_widths table_heights track_sizes text_width text_height extent_at str_width char_width alone step past_emoji pieces first_pieces front at_escape sequence_front opened control_from string_from escape_from text_lines applied after_parameters plain_attributes start_bytes start_sequences end_bytes end_sequences digits chars encode
 returns-clause-output c = refl
 
 taken : taken_columns in_nine_columns red_letters ≡ 9
-unfolding grid_of kept_of asked_text kept_texts asked_widths shrunk_list wrapped_text cut_at table_widths table_heights track_sizes text_width text_height extent_at str_width char_width alone step past_emoji pieces first_pieces front at_escape sequence_front opened control_from string_from escape_from text_lines applied after_parameters plain_attributes start_bytes start_sequences end_bytes end_sequences digits chars encode
+unfolding grid_of kept_of colored_text kept_texts asked_widths shrunk_list wrapped_text cut_at table_widths table_heights track_sizes text_width text_height extent_at str_width char_width alone step past_emoji pieces first_pieces front at_escape sequence_front opened control_from string_from escape_from text_lines applied after_parameters plain_attributes start_bytes start_sequences end_bytes end_sequences digits chars encode
 taken = refl
 
+none-given : AllClose in_nine_columns.colors
+none-given = All-nil _
+
 pub returns-clause-lines : goal.returns-clause-lines
-returns-clause-lines c = λ y inside. even in_nine_columns red_letters is-plain default-plain y inside ∙ taken
+returns-clause-lines c = λ y inside. even in_nine_columns red_letters is-plain default-plain none-given y inside ∙ taken

@@ -1,14 +1,18 @@
 use Rattle.columns_run.proofs.AcceptedLemmas.{HasTable-strip, fits-strip, wide_cell-strip}
-use Rattle.columns_run.proofs.PictureLemmas.{output-plain, picture-alone, picture-plain, strip-output}
+use Rattle.columns_run.proofs.PictureLemmas.{output-plain, picture-alone, picture-characters, picture-plain, strip-both, strip-output}
+use Rattle.columns_run.proofs.PieceLemmas.{line-left}
 use Rattle.columns_run.proofs.laws.without_styles.Goals as goal
 
 pub returns : goal.returns
 returns c = record {
   picture = picture-plain;
   characters = picture-alone;
+  colors = picture-characters;
   plain = λ wanted text plain utf8 none. output-plain text utf8 none wanted plain;
   accepted = HasTable-strip;
   fits = fits-strip;
   too_wide = wide_cell-strip;
   output = strip-output;
+  lines = line-left;
+  both = strip-both;
 }

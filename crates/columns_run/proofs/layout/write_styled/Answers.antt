@@ -1,4 +1,4 @@
-use Rattle.std.proofs.Common.{◌≡◌, [], length, List, ℕ, Option, Some, map, string_bytes, ap, refl, rules, subst, sym, ◌∙◌}
+use Rattle.std.proofs.Common.{◌≡◌, [], length, List, ℕ, Option, Some, map, string_bytes, ap, refl, subst, sym, ◌∙◌}
 use Rattle.std.specs.Prelude.{◌↔◌, IfSome, IsSome}
 use Rattle.std.proofs.lemmas.List.{length-map}
 use Rattle.ansi_scan.specs.Sequences.{IsWhole}
@@ -17,10 +17,10 @@ use Rattle.columns_run.proofs.TableLemmas.{answered, left-alone, output-is}
 use Rattle.grid_config.specs.Compact.{compact_of}
 use Rattle.tabled_output.specs.Pieces.{Passes}
 use Rattle.tabled_output.proofs.PieceLemmas.{passes-nothing}
-use Rattle.columns_asked.specs.Layout.{asked_text}
+use Rattle.columns_colors.specs.ColoredTables.{colored_text}
+use Rattle.columns_colors.specs.ColumnColors.{cell_color}
 use Rattle.columns_run.specs.Layout.{output_of}
-use Rattle.columns_run.proofs.ServeLemmas.{left_alone}
-use Rattle.columns_run.proofs.WrittenLemmas.{is-of-table, is-written, is-written-none}
+use Rattle.columns_run.proofs.WrittenLemmas.{is-of-table, is-written}
 use Rattle.columns_run.proofs.layout.write_styled.Given.{Over}
 use Rattle.columns_run.proofs.layout.write_styled.Goals as goal
 use Rattle.columns_run.proofs.layout.write_styled.Goals.{After-of-rows}
@@ -61,7 +61,7 @@ pub returns-clause-written : goal.returns-clause-written
 returns-clause-written g c =
     let rows = c.of-rows.result in
     let are = known g (goal.at.returns-clause-written g c).After-of-rows in
-    let output = output-is (wanted_of c.args.options.now) c.args.text.now c.utf8.text are.whole rows are.are c.asked_of-asked.result c.asked_of-asked.ensures in
+    let output = output-is (wanted_of c.args.options.now) c.args.text.now c.utf8.text are.whole rows are.are c.asked_of-asked.result c.asked_of-asked.ensures c.as_slice-colors.result.now c.as_slice-colors.ensures.value in
     is-written g.W.Write.contents (output_of (wanted_of c.args.options.now) c.args.text.now) c.args.writer.now c.write_rows.new.writer (compact_of c.args.options.now.style) c.asked_of-asked.result (row_texts_of rows) c.write_rows.result c.answer.result c.answer.ensures
     (subst (λ text. Passes g.W.Write.contents text c.write_rows.result [] c.args.writer.now c.write_rows.new.writer) output c.write_rows.ensures.table) c.write_rows.ensures.alone c.write_rows.ensures.refused
 
@@ -69,9 +69,9 @@ pub returns-clause-alone : goal.returns-clause-alone
 returns-clause-alone g c =
     let rows = c.of-rows.result in
     let are = known g (goal.at.returns-clause-alone g c).After-of-rows in
-    let output = output-is (wanted_of c.args.options.now) c.args.text.now c.utf8.text are.whole rows are.are c.asked_of-asked.result c.asked_of-asked.ensures in
+    let output = output-is (wanted_of c.args.options.now) c.args.text.now c.utf8.text are.whole rows are.are c.asked_of-asked.result c.asked_of-asked.ensures c.as_slice-colors.result.now c.as_slice-colors.ensures.value in
     left-alone (wanted_of c.args.options.now) c.args.text.now c.utf8.text are.whole rows are.are c.asked_of-asked.result c.asked_of-asked.ensures c.args.writer.now c.write_rows.new.writer c.write_rows.ensures.alone
-    (λ none. passes-nothing g.W.Write.contents (asked_text (compact_of c.args.options.now.style) c.asked_of-asked.result (row_texts_of rows)) [] c.write_rows.result c.args.writer.now c.write_rows.new.writer c.write_rows.ensures.table (ap length output ∙ none))
+    (λ none. passes-nothing g.W.Write.contents (colored_text (compact_of c.args.options.now.style) c.asked_of-asked.result (cell_color c.as_slice-colors.result.now) (row_texts_of rows)) [] c.write_rows.result c.args.writer.now c.write_rows.new.writer c.write_rows.ensures.table (ap length output ∙ none))
 
 pub returns-clause-faults : goal.returns-clause-faults
 returns-clause-faults g c = is-of-table c.write_rows.result c.answer.result c.answer.ensures

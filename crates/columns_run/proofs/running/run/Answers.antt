@@ -1,4 +1,4 @@
-use Rattle.std.proofs.Common.{◌≡◌, inl, inr, rules, arith, subst}
+use Rattle.std.proofs.Common.{inl, inr, rules, arith, subst}
 use Rattle.std.proofs.lemmas.Grind.{common_steps}
 use Rattle.tabled_output.specs.Counts.{inner_of}
 use Rattle.columns_run.specs.Layout.{output_of}
@@ -11,12 +11,12 @@ use Rattle.columns_run.proofs.running.run.Goals as goal
 pub returns-in_err-bytes-clause-known_input : goal.returns-in_err-bytes-clause-known_input
 returns-in_err-bytes-clause-known_input g c =
     let written = g.W.Write.contents (inner_of c.args.writer.now) in
-    known (wanted_of c.args.options.now) c.requires c.from_residual.result written written c.args.writer.now c.args.writer.now (g.R.Read.remaining (inner_of c.args.reader.now)) (grind (arith, common_steps))
+    known (wanted_of c.args.options.now) c.requires.plain c.requires.close c.from_residual.result written written c.args.writer.now c.args.writer.now (g.R.Read.remaining (inner_of c.args.reader.now)) (grind (arith, common_steps))
 
 pub returns-in_err-bytes-clause-some_input : goal.returns-in_err-bytes-clause-some_input
 returns-in_err-bytes-clause-some_input g c =
     let written = g.W.Write.contents (inner_of c.args.writer.now) in
-    some (wanted_of c.args.options.now) c.requires c.from_residual.result written written c.args.writer.now c.args.writer.now (g.R.Read.remaining (inner_of c.args.reader.now)) (g.R.Read.remaining (inner_of c.read_all.new.reader)) (search rules)
+    some (wanted_of c.args.options.now) c.requires.plain c.requires.close c.from_residual.result written written c.args.writer.now c.args.writer.now (g.R.Read.remaining (inner_of c.args.reader.now)) (g.R.Read.remaining (inner_of c.read_all.new.reader)) (search rules)
 
 pub returns-clause-known_input : goal.returns-clause-known_input
 returns-clause-known_input g c =
@@ -26,7 +26,7 @@ returns-clause-known_input g c =
     let result = c.write_table.result in
     let bytes = c.in_ok-bytes.bytes.items in
     let before = g.R.Read.remaining (inner_of c.args.reader.now) in
-    known wanted c.requires result old new c.args.writer.now c.write_table.new.writer before
+    known wanted c.requires.plain c.requires.close result old new c.args.writer.now c.write_table.new.writer before
     (all-read before (g.R.Read.remaining (inner_of c.read_all.new.reader)) bytes
     (λ input. MayAnswer wanted input result × Writes (output_of wanted input) result old new × LeavesAlone wanted input c.args.writer.now c.write_table.new.writer)
     c.in_ok-bytes.ensures.bytes c.in_ok-bytes.ensures.end
@@ -39,7 +39,7 @@ returns-clause-some_input g c =
     let old = g.W.Write.contents (inner_of c.args.writer.now) in
     let new = g.W.Write.contents (inner_of c.write_table.new.writer) in
     let result = c.write_table.result in
-    some wanted c.requires result old new c.args.writer.now c.write_table.new.writer
+    some wanted c.requires.plain c.requires.close result old new c.args.writer.now c.write_table.new.writer
     (g.R.Read.remaining (inner_of c.args.reader.now)) (g.R.Read.remaining (inner_of c.read_all.new.reader)) (
       c.in_ok-bytes.bytes.items,
       c.in_ok-bytes.ensures.bytes,

@@ -1,5 +1,5 @@
-use Rattle.columns_sequences.proofs.OutputSequences.{few-sequences}
+use Rattle.columns_sequences.proofs.OutputSequences.{few-sequences, no-colors}
 use Rattle.columns_sequences.proofs.laws.sequences_are_few.Goals as goal
 
 pub returns : goal.returns
-returns c = few-sequences
+returns c = record { all = few-sequences; no_colors = no-colors }

@@ -1,6 +1,8 @@
 use Rattle.std.proofs.Common.{[], ◌≡◌, ◌<◌, ◌⊎◌, arith, inl, inr, ℕ, List, Some, Err, Global, Vec, length, ap, sym, subst, ◌∙◌}
 use Rattle.std.specs.Cow.{cow_str_bytes}
 use Rattle.std.proofs.lemmas.Result.{IfErr-weaker}
+use Rattle.columns_colors.specs.ColoredTables.{colored_text}
+use Rattle.columns_colors.specs.ColumnColors.{cell_color}
 use Rattle.grid_config.specs.Compact.{Compact, compact_of}
 use Rattle.grid_config.specs.Settings.{Settings, StartsWith, compact_start}
 use Rattle.grid_config.specs.Looks.{compact_look}
@@ -16,7 +18,7 @@ use Rattle.grid_records_estimate.specs.Sizing.{compact_sizing}
 use Rattle.columns_asked.specs.declared.asked.Asked.{Asked}
 use Rattle.papergrid_picture.specs.Fitting.{InRange}
 use Rattle.papergrid_picture.specs.Frame.{Frame, frame_of, line_count}
-use Rattle.columns_asked.specs.Layout.{asked_frame, asked_text, kept_texts, narrowed, too_wide}
+use Rattle.columns_asked.specs.Layout.{asked_frame, kept_texts, narrowed, too_wide}
 use Rattle.columns_table.specs.Rows.{row_texts_of}
 use Rattle.columns_table.specs.declared.kept.KeptCell.{KeptCell}
 use Rattle.tabled_output.specs.Pieces.{Passes}
@@ -109,24 +111,24 @@ returns-clause-table g c =
     let rows = c.new-records.result.rows.items in
     let sizes = c.in_ok-sizes.sizes in
     subst (λ text. Passes g.W.Write.contents text c.write_where_fits-written.result [] c.args.writer.now c.write_where_fits-written.new.writer)
-    (text-is (compact_of c.args.style.now) c.args.asked.now (row_texts_of c.args.rows) sizes.widths.items known.0 (columns_of rows) (texts_of_rows text_of rows) known.1 known.2 c.in_ok-settings.settings known.3 sizes.heights.items known.4 sizes.lines known.5)
+    (text-is (compact_of c.args.style.now) c.args.asked.now (row_texts_of c.args.rows) sizes.widths.items known.0 (columns_of rows) (texts_of_rows text_of rows) known.1 known.2 c.in_ok-settings.settings known.3 sizes.heights.items known.4 (cell_color c.args.colors.now) sizes.lines known.5)
     c.write_where_fits-written.ensures.text
 
 pub returns-in_err-kept-clause-table : goal.returns-in_err-kept-clause-table
 returns-in_err-kept-clause-table g c =
-    passes-none g.W.Write.contents (asked_text (compact_of c.args.style.now) c.args.asked.now (row_texts_of c.args.rows)) [] c.from_residual.result c.args.writer.now c.from_residual.ensures.0
+    passes-none g.W.Write.contents (colored_text (compact_of c.args.style.now) c.args.asked.now (cell_color c.args.colors.now) (row_texts_of c.args.rows)) [] c.from_residual.result c.args.writer.now c.from_residual.ensures.0
 
 pub returns-in_err-heights-clause-table : goal.returns-in_err-heights-clause-table
 returns-in_err-heights-clause-table g c =
-    passes-none g.W.Write.contents (asked_text (compact_of c.args.style.now) c.args.asked.now (row_texts_of c.args.rows)) [] c.from_residual-in_err-heights.result c.args.writer.now c.from_residual-in_err-heights.ensures.0
+    passes-none g.W.Write.contents (colored_text (compact_of c.args.style.now) c.args.asked.now (cell_color c.args.colors.now) (row_texts_of c.args.rows)) [] c.from_residual-in_err-heights.result c.args.writer.now c.from_residual-in_err-heights.ensures.0
 
 pub returns-in_err-sizes-clause-table : goal.returns-in_err-sizes-clause-table
 returns-in_err-sizes-clause-table g c =
-    passes-none g.W.Write.contents (asked_text (compact_of c.args.style.now) c.args.asked.now (row_texts_of c.args.rows)) [] c.from_residual-in_err-sizes.result c.args.writer.now c.from_residual-in_err-sizes.ensures.0
+    passes-none g.W.Write.contents (colored_text (compact_of c.args.style.now) c.args.asked.now (cell_color c.args.colors.now) (row_texts_of c.args.rows)) [] c.from_residual-in_err-sizes.result c.args.writer.now c.from_residual-in_err-sizes.ensures.0
 
 pub returns-in_err-settings-clause-table : goal.returns-in_err-settings-clause-table
 returns-in_err-settings-clause-table g c =
-    passes-none g.W.Write.contents (asked_text (compact_of c.args.style.now) c.args.asked.now (row_texts_of c.args.rows)) [] c.from_residual-in_err-settings.result c.args.writer.now c.from_residual-in_err-settings.ensures.0
+    passes-none g.W.Write.contents (colored_text (compact_of c.args.style.now) c.args.asked.now (cell_color c.args.colors.now) (row_texts_of c.args.rows)) [] c.from_residual-in_err-settings.result c.args.writer.now c.from_residual-in_err-settings.ensures.0
 
 pub returns-clause-range : goal.returns-clause-range
 returns-clause-range g c =

@@ -1,4 +1,5 @@
-use Rattle.std.proofs.Common.{◌++◌, ◌∷◌, ◌==◌, [], List, None, ℕ, length, slice_index, sym, subst, ap, ◌∙◌, if◌then◌else◌}
+use Rattle.std.proofs.Common.{◌++◌, ◌∷◌, ◌==◌, [], List, ℕ, length, slice_index, sym, subst, ap, ◌∙◌, if◌then◌else◌}
+use Rattle.columns_colors.specs.ColumnColors.{cell_color}
 use Rattle.grid_config.specs.Compact.{compact_of}
 use Rattle.grid_config.specs.Looks.{look_of}
 use Rattle.grid_records_estimate.specs.Estimates.{greatest}
@@ -41,14 +42,14 @@ returns-clause-table g c =
     let heights = c.args.sizes.heights.items in
     let columns = c.new-records.ensures.columns ∙ c.greatest-columns.ensures ∙ ap greatest c.deref.ensures.value in
     subst (λ text. Passes g.W.Write.contents text c.write_grid-written.result [] c.args.writer.now c.write_grid-written.new.writer)
-    (ap (λ texts. if c.args.sizes.lines == 0 then [] else grid_text (look_of settings) (slice_index widths) (slice_index heights) (λ _. None) c.new-records.result.columns texts ++ line_feed ∷ []) c.new-records.ensures.rows
-    ∙ prints (compact_of c.args.style.now) settings c.in_ok-settings.ensures.settings rows.counts.items rows.cells rows.whole widths heights
+    (ap (λ texts. if c.args.sizes.lines == 0 then [] else grid_text (look_of settings) (slice_index widths) (slice_index heights) (cell_color c.args.colors.now) c.new-records.result.columns texts ++ line_feed ∷ []) c.new-records.ensures.rows
+    ∙ prints (compact_of c.args.style.now) settings c.in_ok-settings.ensures.settings rows.counts.items rows.cells rows.whole (cell_color c.args.colors.now) widths heights
     c.args.sizes.lines c.new-records.result.columns c.requires.widths c.requires.heights c.requires.lines columns)
     c.write_grid-written.ensures.text
 
 pub returns-in_err-settings-clause-table : goal.returns-in_err-settings-clause-table
 returns-in_err-settings-clause-table g c =
-    passes-none g.W.Write.contents (natural_text (compact_of c.args.style.now) (row_texts_of c.args.rows)) [] c.from_residual.result c.args.writer.now c.from_residual.ensures.0
+    passes-none g.W.Write.contents (natural_text (compact_of c.args.style.now) (cell_color c.args.colors.now) (row_texts_of c.args.rows)) [] c.from_residual.result c.args.writer.now c.from_residual.ensures.0
 
 pub returns-clause-alone : goal.returns-clause-alone
 returns-clause-alone g c = λ wide.

@@ -1,7 +1,9 @@
 use Rattle.std.proofs.Common.{[], ◌≡◌, ◌<◌, ◌^◌, ℕ, List, Some, sum, length, sym, subst, ◌∙◌, vec_items}
+use Rattle.columns_colors.specs.ColoredTables.{colored_text}
+use Rattle.columns_colors.specs.ColumnColors.{cell_color}
 use Rattle.grid_config.specs.Compact.{compact_of}
 use Rattle.grid_records_estimate.proofs.MeetLemmas.{IfErr-told}
-use Rattle.columns_asked.specs.Layout.{asked_text, narrowed}
+use Rattle.columns_asked.specs.Layout.{narrowed}
 use Rattle.tabled_output.specs.Pieces.{Passes}
 use Rattle.tabled_output.proofs.PieceLemmas.{passes-none}
 use Rattle.columns_table.specs.Rows.{row_texts_of}
@@ -70,16 +72,16 @@ returns-in-None-clause-table g c =
     let sizes = c.in_ok-sizes.sizes in
     let told = c.in_ok-widths.ensures ∙ narrow-is style asked texts sizes.widths.items sizes.columns c.in_ok-sizes.ensures.widths c.in_ok-sizes.ensures.columns in
     subst (λ text. Passes g.W.Write.contents text c.write_natural.result [] c.args.writer.now c.write_natural.new.writer)
-    (text-natural style asked texts (found-none vec_items c.in_ok-widths.field-0 (narrowed style asked texts) c.in-None.is told))
+    (text-natural style asked texts (found-none vec_items c.in_ok-widths.field-0 (narrowed style asked texts) c.in-None.is told) (cell_color c.args.colors.now))
     c.write_natural.ensures.table
 
 pub returns-in_err-sizes-clause-table : goal.returns-in_err-sizes-clause-table
 returns-in_err-sizes-clause-table g c =
-    passes-none g.W.Write.contents (asked_text (compact_of c.args.style.now) c.args.asked.now (row_texts_of c.args.rows)) [] c.from_residual.result c.args.writer.now c.from_residual.ensures.0
+    passes-none g.W.Write.contents (colored_text (compact_of c.args.style.now) c.args.asked.now (cell_color c.args.colors.now) (row_texts_of c.args.rows)) [] c.from_residual.result c.args.writer.now c.from_residual.ensures.0
 
 pub returns-in_err-widths-clause-table : goal.returns-in_err-widths-clause-table
 returns-in_err-widths-clause-table g c =
-    passes-none g.W.Write.contents (asked_text (compact_of c.args.style.now) c.args.asked.now (row_texts_of c.args.rows)) [] c.from_residual-in_err-widths.result c.args.writer.now c.from_residual-in_err-widths.ensures.0
+    passes-none g.W.Write.contents (colored_text (compact_of c.args.style.now) c.args.asked.now (cell_color c.args.colors.now) (row_texts_of c.args.rows)) [] c.from_residual-in_err-widths.result c.args.writer.now c.from_residual-in_err-widths.ensures.0
 
 pub returns-in-None-clause-fits : goal.returns-in-None-clause-fits
 returns-in-None-clause-fits g c = (natural-known g (goal.at.returns-in-None-clause-fits g c).After-write_natural).fits

@@ -16,10 +16,11 @@ returns c =
     let three = c.in_ok-arg-3.ensures.shape c.keep_words.ensures.global ∙ ap₂ with_rule two c.keep_words.ensures.rule in
     let four = c.in_ok-arg-4.ensures.shape c.priority.ensures.global ∙ ap (λ (a : App). with_rule a (rule_of c.priority.result)) three in
     let five = c.in_ok-arg-5.ensures.shape c.style.ensures.global ∙ ap (λ (a : App). with_rule a (rule_of c.style.result)) four in
-    IfOk-weaker c.arg-6.result _ _ (λ command added. record {
+    let six = c.in_ok-arg-6.ensures.shape c.streamed.ensures.global ∙ ap₂ with_rule five c.streamed.ensures.rule in
+    IfOk-weaker c.arg-7.result _ _ (λ command added. record {
       priority = rule_of c.priority.result;
       style = rule_of c.style.result;
       priorities = c.priority.ensures.rule;
       styles = c.style.ensures.rule;
-      is = added.shape c.streamed.ensures.global ∙ ap₂ with_rule five c.streamed.ensures.rule;
-    }) c.arg-6.ensures
+      is = added.shape c.color.ensures.global ∙ ap₂ with_rule six c.color.ensures.rule;
+    }) c.arg-7.ensures

@@ -25,3 +25,11 @@ returns-clause-twice c = refl
 pub returns-clause-no_value : goal.returns-clause-no_value
 unfolding clap_on_literals
 returns-clause-no_value c = refl
+
+pub returns-clause-no_colors : goal.returns-clause-no_colors
+unfolding clap_on_literals
+returns-clause-no_colors c = refl
+
+pub returns-clause-two_lists : goal.returns-clause-two_lists
+unfolding clap_on_literals
+returns-clause-two_lists c = refl

@@ -21,3 +21,11 @@ returns-clause-greatest c = (refl, refl, refl)
 pub returns-clause-streamed : goal.returns-clause-streamed
 unfolding clap_on_literals
 returns-clause-streamed c = (refl, refl, refl)
+
+pub returns-clause-colored : goal.returns-clause-colored
+unfolding clap_on_literals
+returns-clause-colored c = (refl, refl, refl)
+
+pub returns-clause-no_list : goal.returns-clause-no_list
+unfolding clap_on_literals
+returns-clause-no_list c = (refl, refl, refl)

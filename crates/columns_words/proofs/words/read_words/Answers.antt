@@ -1,5 +1,6 @@
-use Rattle.std.proofs.Common.{◌≡◌, ◌∙◌, ◌⊎◌, false, true, List, Option, Result, Ok, Err, IfOk, ap, inl, inr, codes, map}
+use Rattle.std.proofs.Common.{◌≡◌, ◌∙◌, ◌⊎◌, false, true, List, Option, Result, Ok, Err, IfOk, ap, sym, inl, inr, codes, map}
 use Rattle.std.specs.Prelude.{IsErr, []}
+use Rattle.std.proofs.lemmas.Result.{IfOk-weaker}
 use Rattle.clap.specs.Faults.{fault_of}
 use Rattle.clap.specs.Kinds.{IsAmong}
 use Rattle.clap.specs.Matches.{first_value, found_of}
@@ -10,7 +11,7 @@ use Rattle.clap.specs.declared.error.kind.ErrorKind.{ErrorKind}
 use Rattle.clap.specs.declared.error.kind.ErrorKind.TheVariants.{OutOfMemory}
 use Rattle.clap.proofs.WalkLemmas.{first_value-rows}
 use Rattle.columns_options.specs.Settings.{settings_with}
-use Rattle.columns_words.specs.Asking.{IsAnswer, IsRunOf, IsTold, is_set}
+use Rattle.columns_words.specs.Asking.{IsAnswer, IsRead, IsRunOf, IsTold, colors_asked, is_set}
 use Rattle.columns_words.specs.Names.{named, priorities, styles}
 use Rattle.tabled_size_priority.specs.declared.choice.Choice.TheVariants.{None as InTurns}
 use Rattle.columns_words.specs.Command.{IsColumns}
@@ -26,21 +27,27 @@ same_run : (command : App) (words : List Text) (given : Text → Option Text) �
 same_run command words given same columns faultless (Run options streamed) read = record {
   command = command;
   columns = columns;
-  answer = (
-    faultless,
-    record {
+  answer = (faultless, again);
+  taken = λ _. again;
+}
+  where
+    again : IsRead (λ id. first_of id (matches_of command words)) options streamed
+    again = record {
       width = rw (← same (codes "width")) read.width;
       truncate = read.truncate ∙ ap is_set (same (codes "truncate"));
       keep_words = read.keep_words ∙ ap is_set (same (codes "keep-words"));
       priority = read.priority ∙ ap (named priorities InTurns) (same (codes "priority"));
       style = read.style ∙ ap (λ (o : Option Text). settings_with (named styles ascii o)) (same (codes "style"));
       streamed = read.streamed ∙ ap is_set (same (codes "streamed"));
-    },
-  );
-  taken = λ _. tt;
-}
+      colors = sym (ap colors_asked (same (codes "color"))) ∙ read.colors;
+    }
 same_run command words given same columns faultless (Help text) read = absurd read
-same_run command words given same columns faultless (Faulty text) read = absurd read
+same_run command words given same columns faultless (Faulty text) read = record {
+  command = command;
+  columns = columns;
+  answer = inl (faultless, (sym (ap colors_asked (same (codes "color"))) ∙ read.0, read.1));
+  taken = λ _. (sym (ap colors_asked (same (codes "color"))) ∙ read.0, read.1);
+}
 
 -- what is told of a fault of the command
 same_fault : (command : App) (words : List Text) (kind : ErrorKind) → IsColumns command
@@ -55,7 +62,7 @@ same_fault command words kind columns untaken among (Help text) told = record {
 same_fault command words kind columns untaken among (Faulty text) told = record {
   command = command;
   columns = columns;
-  answer = (kind, among, told);
+  answer = inr (kind, among, told);
   taken = λ t. absurd (untaken t);
 }
 
@@ -84,8 +91,8 @@ returns-in-Ok g c =
     let columns : IsColumns command = c.in_ok-command.ensures in
     let rows : rows_of (found_of c.in-Ok.matches) ≡ matches_of command words = (c.in-Ok.ensures.matches (columns-simple command columns)).0 in
     let faultless : fault_of command words ≡ [] = c.in-Ok.ensures.kinds (columns-free command columns) in
-    same_run command words (first_value (found_of c.in-Ok.matches)) (λ (id : Text). first_value-rows (found_of c.in-Ok.matches) id ∙ ap (first_of id) rows)
-    columns faultless c.run_of.result c.run_of.ensures
+    IfOk-weaker c.run_of.result (IsRunOf (first_value (found_of c.in-Ok.matches))) (IsAnswer words)
+    (same_run command words (first_value (found_of c.in-Ok.matches)) (λ (id : Text). first_value-rows (found_of c.in-Ok.matches) id ∙ ap (first_of id) rows) columns faultless) c.run_of.ensures
 
 pub returns-in-Err : goal.returns-in-Err
 returns-in-Err g c =

@@ -5,7 +5,7 @@ use Rattle.papergrid_colors.specs.ClosingColors.{ShowNothing}
 use Rattle.tabled_steps.specs.States.{State, column_count}
 use Rattle.tabled_stripping.specs.Printing.{IsFit, SpansAreGood, drawn_frame, printed}
 use Rattle.tabled_stripping.specs.Stripping.{stripped_state, uncolored_state}
-use Rattle.tabled_stripping.proofs.BareLooks.{runs-bare}
+use Rattle.tabled_stripping.proofs.BareLooks.{colors-silent, runs-bare}
 use Rattle.tabled_stripping.proofs.OneOutcome.{one-run}
 use Rattle.tabled_stripping.proofs.StrippedRuns.{runs-stripped}
 use Rattle.tabled_stripping.proofs.StrippedTables.{fit-stripped, one-answer, printed-stripped, printed-uncolored, strips-same}
@@ -17,18 +17,22 @@ returns-clause-look c = λ settings s last clear bare is. (runs-bare settings cl
 pub returns-clause-colors : goal.returns-clause-colors
 returns-clause-colors c = λ settings s last clear bare is. (runs-bare settings clear s last bare is).1
 
+pub returns-clause-silent : goal.returns-clause-silent
+returns-clause-silent c = λ settings s last clear bare silent is.
+    subst ShowNothing (sym (runs-bare settings clear s last bare is).1) (colors-silent settings clear s.colors silent)
+
 pub returns-clause-text : goal.returns-clause-text
 returns-clause-text c = λ settings s last other clear whole bare silent is there.
     let passed = runs-stripped settings s last clear whole is in
     let looks = runs-bare settings clear s last bare is in
-    printed-stripped last looks.0 passed.1 (subst ShowNothing (sym looks.1) silent)
+    printed-stripped last looks.0 passed.1 (subst ShowNothing (sym looks.1) (colors-silent settings clear s.colors silent))
     ∙ ap (λ (m : State). printed (uncolored_state m)) (one-run settings (stripped_state s) (stripped_state last) other passed.0 there)
 
 pub returns-clause-both : goal.returns-clause-both
 returns-clause-both c = λ settings s last other clear whole bare silent is there.
     let passed = runs-stripped settings s last clear whole is in
     let looks = runs-bare settings clear s last bare is in
-    strips-same last looks.0 passed.1 (subst ShowNothing (sym looks.1) silent)
+    strips-same last looks.0 passed.1 (subst ShowNothing (sym looks.1) (colors-silent settings clear s.colors silent))
     ∙ ap (λ (m : State). strip (pieces (printed m))) (one-run settings (stripped_state s) (stripped_state last) other passed.0 there)
 
 pub returns-clause-no_colors : goal.returns-clause-no_colors

@@ -1,0 +1,63 @@
+//! How wide a text is, and what it shows, as numbers and bytes.
+ghost use Rattle.std.specs.Prelude.{◌≡◌, IfErr, IfOk, IsUtf8};
+ghost use Rattle.std.specs.Str.Lossy.{utf8_valid_len};
+ghost use Rattle.columns_bounded.specs.Texts.{IsMeasured, IsStripped, TellsStripped, TellsWidth};
+
+use crate::answer::{Answer, status_of};
+use crate::refusal::Refusal;
+use crate::table::write_front;
+use ansi_str::AnsiStr;
+use columns_run::RunFault;
+use grid_records_measure::get_text_width;
+use std::alloc::Global;
+use std::str;
+
+/// The columns that the widest line of a text takes, without its sequences; or where it is no text. Does not allocate.
+pub fn width_of(text: &[u8]) -> Result<usize, Refusal>
+    ensures { IsMeasured text.now result }
+{
+    let text = text_of(text)?;
+    Ok(get_text_width(text))
+}
+
+/// Writes the front of a text without its sequences that there is room for, from the start of `out`, and answers how many
+/// bytes the whole has. What `out` holds behind them stays, and all of it where the bytes are no text or allocation
+/// fails.
+pub fn strip_into(alloc: Global, text: &[u8], out: &mut [u8]) -> Result<usize, Refusal>
+    ensures { IsStripped text.now out.old out.new result }
+{
+    let text = text_of(text)?;
+    let Ok(stripped) = text.ansi_strip(alloc) else {
+        return Err(Refusal::Text(RunFault::Memory));
+    };
+    write_front(stripped.as_bytes(), out);
+    Ok(stripped.len())
+}
+
+/// The same outcome as `width_of`, told by its status and by what `answer` then holds.
+pub fn width_told(text: &[u8], answer: &mut Answer) -> u32
+    ensures { TellsWidth text.now result answer.new }
+{
+    let outcome = width_of(text);
+    *answer = Answer::of(&outcome);
+    status_of(&outcome)
+}
+
+/// The same outcome as `strip_into`, told by its status and by what `answer` then holds.
+pub fn strip_told(alloc: Global, text: &[u8], out: &mut [u8], answer: &mut Answer) -> u32
+    ensures { TellsStripped text.now out.old out.new result answer.new }
+{
+    let outcome = strip_into(alloc, text, out);
+    *answer = Answer::of(&outcome);
+    status_of(&outcome)
+}
+
+// The bytes as text. Where they are no UTF-8, `NotUtf8` has the length of the longest text at their front.
+fn text_of(bytes: &[u8]) -> Result<&str, RunFault>
+    ensures ok { IfOk result (λ text. (text.now ≡ bytes.now) × IsUtf8 bytes.now) }
+    ensures err { IfErr result (λ fault. ¬ (IsUtf8 bytes.now) × (fault ≡ RunFault.NotUtf8 (utf8_valid_len bytes.now))) }
+{
+    str::from_utf8(bytes).map_err(|error| RunFault::NotUtf8 {
+        at: error.valid_up_to(),
+    })
+}

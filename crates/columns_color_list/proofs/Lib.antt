@@ -1,0 +1,3 @@
+pub mod NameLemmas
+mod ClosedNames
+pub mod ClosedLists

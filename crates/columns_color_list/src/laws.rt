@@ -1,0 +1,39 @@
+//! Laws of lists of colours, and lists worked by hand. The functions do nothing.
+ghost use Rattle.std.specs.Prelude.{◌≡◌, ◌∷◌, ℕ, List, [], None, Some, IfSome, codes};
+ghost use Rattle.std.specs.List.{AllByRecursion};
+ghost use Rattle.papergrid_colors.specs.ClosingColors.{IsClosing};
+ghost use Rattle.columns_color_list.specs.Listed.{listed_colors};
+ghost use Rattle.columns_color_list.specs.Names.{named_colors, sequences};
+
+/// The colours that have names close, and so does each colour of a list.
+pub fn named_colors_close()
+    ensures names { AllByRecursion (λ row. IsClosing row.1) named_colors }
+    ensures listed { (list : List ℕ) → IfSome (listed_colors list) (AllByRecursion (λ given. IsClosing given.1)) }
+{}
+
+/// Lists that name colours.
+pub fn lists_that_name_colors()
+    ensures one { listed_colors (codes "1=red") ≡ Some ((1, sequences (codes "\u{1b}[31m") (codes "\u{1b}[39m")) ∷ []) }
+    ensures two { listed_colors (codes "0=bold,007=underline") ≡ Some ((0, sequences (codes "\u{1b}[1m") (codes "\u{1b}[22m")) ∷ (7, sequences (codes "\u{1b}[4m") (codes "\u{1b}[24m")) ∷ []) }
+    ensures greatest { listed_colors (codes "4294967295=white") ≡ Some ((4294967295, sequences (codes "\u{1b}[37m") (codes "\u{1b}[39m")) ∷ []) }
+{}
+
+/// Lists that don't.
+pub fn lists_that_are_none()
+    ensures no_name { listed_colors (codes "0=pink") ≡ None }
+    ensures twice { listed_colors (codes "0=red,0=bold") ≡ None }
+    ensures again { listed_colors (codes "0=red,00=red") ≡ None }
+    ensures no_form { listed_colors (codes "0") ≡ None }
+    ensures nothing { listed_colors [] ≡ None }
+    ensures comma { listed_colors (codes ",") ≡ None }
+    ensures at_end { listed_colors (codes "0=red,") ≡ None }
+    ensures at_front { listed_colors (codes ",0=red") ≡ None }
+    ensures too_great { listed_colors (codes "4294967296=red") ≡ None }
+    ensures plus { listed_colors (codes "+1=red") ≡ None }
+    ensures minus { listed_colors (codes "-1=red") ≡ None }
+    ensures space { listed_colors (codes "0= red") ≡ None }
+    ensures blank { listed_colors (codes " 0=red") ≡ None }
+    ensures no_column { listed_colors (codes "=red") ≡ None }
+    ensures nameless { listed_colors (codes "0=") ≡ None }
+    ensures capital { listed_colors (codes "0=Red") ≡ None }
+{}

@@ -1,0 +1,27 @@
+//! The names of colours.
+ghost use Rattle.std.specs.Prelude.{◌≡◌};
+ghost use Rattle.std.specs.Option.{option_map};
+ghost use Rattle.grid_config_colors.specs.Colors.{color_of};
+ghost use Rattle.columns_color_list.specs.Listed.{named};
+
+use grid_config_colors::ANSIStr;
+
+/// The colour of this name.
+pub fn color_named(name: &str) -> Option<ANSIStr<'static>>
+    ensures { option_map color_of result ≡ named name.now }
+{
+    let (prefix, suffix) = match name {
+        "black" => ("\u{1b}[30m", "\u{1b}[39m"),
+        "red" => ("\u{1b}[31m", "\u{1b}[39m"),
+        "green" => ("\u{1b}[32m", "\u{1b}[39m"),
+        "yellow" => ("\u{1b}[33m", "\u{1b}[39m"),
+        "blue" => ("\u{1b}[34m", "\u{1b}[39m"),
+        "magenta" => ("\u{1b}[35m", "\u{1b}[39m"),
+        "cyan" => ("\u{1b}[36m", "\u{1b}[39m"),
+        "white" => ("\u{1b}[37m", "\u{1b}[39m"),
+        "bold" => ("\u{1b}[1m", "\u{1b}[22m"),
+        "underline" => ("\u{1b}[4m", "\u{1b}[24m"),
+        _ => return None,
+    };
+    Some(ANSIStr::new(prefix, suffix))
+}
