@@ -4,6 +4,7 @@ pub mod Shares
 pub mod Boxes
 pub mod Sizes
 pub mod Canvas
+pub mod Open
 pub mod Framed
 pub mod Crossings
 pub mod Runs
