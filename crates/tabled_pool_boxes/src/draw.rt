@@ -40,9 +40,7 @@ pub(crate) fn draw<'s>(
     let own = first(sizes);
     let rest = behind_first(sizes);
     match value {
-        TableValue::Cell(text) => draw_cell(
-            pen, text, own.height, rest, top, width, height, lines,
-        ),
+        TableValue::Cell(text) => draw_cell(pen, text, own.height, rest, top, width, height, lines),
         TableValue::Row(members) => draw_row(
             pen, members, own.width, rest, top, width, height, lines,
         ),

@@ -22,11 +22,7 @@ impl<'a> OpenText<'a> {
     ghost use Rattle.tabled_pool_boxes.specs.Open.{measures_of, texts_of};
 
     /// A text of these lines, which measure this, in a place of so many columns.
-    pub(crate) fn new(
-        lines: Vec<CowStr<'a>>,
-        measured: &'a [Size],
-        width: usize,
-    ) -> OpenText<'a>
+    pub(crate) fn new(lines: Vec<CowStr<'a>>, measured: &'a [Size], width: usize) -> OpenText<'a>
         ensures texts { texts_of result ≡ map cow_str_bytes lines.entry.items }
         ensures measures { measures_of result ≡ widths_of measured.now }
         ensures width { result.width ≡ width }

@@ -80,7 +80,13 @@ fn push_text_size(cfg: &SpannedConfig, text: &str, sizes: &mut Vec<Size>) -> Res
     ensures range { IfErr result (λ fault. fault ≡ Range → IsTooLarge (text_box (look_of cfg.now) text.now)) }
 {
     let at = sizes.len();
-    push_size(sizes, Size { width: 0, height: 0 })?;
+    push_size(
+        sizes,
+        Size {
+            width: 0,
+            height: 0,
+        },
+    )?;
     let columns = push_line_sizes(sizes, text)?;
     let size = padded(cfg, columns, sizes.len() - at - 1)?;
     sizes[at] = size;

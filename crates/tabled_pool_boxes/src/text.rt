@@ -38,7 +38,10 @@ pub(crate) fn draw_no_text(
     requires inside { top + height ≤ length lines.old }
     ensures { OnOk result (Adds lines.old lines.new (from_line top ((text_box (look_of pen.now.cfg.now) []).line pen.now.takers width height))) }
 {
-    let line = Size { width: 0, height: 1 };
+    let line = Size {
+        width: 0,
+        height: 1,
+    };
     draw_text(pen, "", &[line], top, width, height, lines)
 }
 
