@@ -7,6 +7,7 @@ pub mod Canvas
 pub mod Open
 pub mod Framed
 pub mod Crossings
+pub mod SetGlyphs
 pub mod Runs
 pub mod Glyphs
 pub mod Texts
