@@ -1,12 +1,12 @@
 //! Values are drawn onto lines of parts, from left to right: each part is made once, and none is moved.
 //! Drawing recurses once a level of a value.
-ghost use Rattle.std.specs.Prelude.{◌≡◌, ◌==◌, ◌+◌, ◌-◌, ◌≤◌, ◌<◌, ◌++◌, ◌∷◌, [], IfOk, OnOk, drop, if◌then◌else◌, length, slice_index_or};
+ghost use Rattle.std.specs.Prelude.{◌≡◌, ◌+◌, ◌-◌, ◌≤◌, ◌<◌, ◌++◌, IfOk, OnOk, drop, length, slice_index_or};
 ghost use Rattle.grid_config.specs.Looks.{look_of};
-ghost use Rattle.tabled_pool_boxes.specs.Boxes.{Upright, box_of, first_lines, from_line, gap, has_level, level_before, text_box, upright_before};
+ghost use Rattle.tabled_pool_boxes.specs.Boxes.{box_of, from_line, gap, has_level, level_before, text_box, upright_before};
 ghost use Rattle.papergrid_picture.specs.Frame.{thickness};
-ghost use Rattle.tabled_pool_boxes.specs.Canvas.{Adds, BeginWith, HasRoom, kind_of, shape_of};
-ghost use Rattle.tabled_pool_boxes.specs.Sizes.{line_sizes, sizes_of, sizes_of_all};
 ghost use Rattle.papergrid_picture.specs.Picture.{at};
+ghost use Rattle.tabled_pool_boxes.specs.Canvas.{Adds, BeginWith, HasRoom};
+ghost use Rattle.tabled_pool_boxes.specs.Sizes.{line_sizes, sizes_of, sizes_of_all};
 ghost use Rattle.tabled_pool_boxes.specs.Values.{Beside, Stacked, layout_of, layouts_of};
 
 use crate::canvas::{Pen, draw_upright, push_part};
