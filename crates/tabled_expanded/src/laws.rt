@@ -1,5 +1,5 @@
-//! Laws of what the other contracts cite, and tables, cuts and escapes worked by hand.
-ghost use Rattle.std.specs.Prelude.{◌≡◌, ◌↔◌, ℕ, Result, String as Bytes, Vec as List1, [], ◌∷◌, ◌++◌, codes, true, false};
+//! Laws of what the other contracts cite, tables, cuts and escapes worked by hand, and a closure that gives heads.
+ghost use Rattle.std.specs.Prelude.{◌≡◌, ◌↔◌, ℕ, IfOk, List, Result, String as Bytes, Vec as List1, [], ◌∷◌, ◌++◌, codes, length, string_bytes, true, false};
 ghost use Rattle.std.specs.declared.alloc.Global.{Global as Heap};
 ghost use Rattle.grid_config_values.specs.declared.fault.Fault.{Fault as Refusal};
 ghost use Rattle.tabled_expanded.specs.Cutting.{Fields, Values, cut_for, cut_text, has_room};
@@ -39,6 +39,16 @@ pub fn clones_are_the_same<F: Clone>()
     ensures function { (source clone : F) → ⟦<Given<F> as Clone>⟧.is_clone source clone → F.is_clone source clone }
     ensures function_comes { (source : F) → F.is_infallible source → ⟦<Given<F> as Clone>⟧.is_infallible source }
 {}
+
+/// A closure that may be called for each number is a template, and its table is printed: neither call wants a proof.
+pub fn closures_give_heads(alloc: Global, table: ExtendedTable) -> Result<String, Fault>
+    ensures { IfOk result (λ text. (heads : List (List ℕ)) × (length heads ≡ length (expanded table).records) × (string_bytes text ≡ expanded_text (expanded table) heads)) }
+{
+    let days = table.template(|alloc: Global, day: usize| -> Result<String, Fault> {
+        Ok(format!(in alloc; "day {day}")?)
+    });
+    days.to_string(alloc)
+}
 
 /// Heads are as wide as the widest line, with a `+` where they leave the place of the bar; a record may have
 /// fewer values than there are fields, or more.

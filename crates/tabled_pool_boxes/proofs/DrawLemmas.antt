@@ -211,7 +211,7 @@ need-all look takers (value ∷ values) height some room =
 -- ---- sizes
 
 pub first-size : (look : Look) (layout : Layout) → (more : List Size) × (sizes_of look layout ≡ size_of (box_of look layout) ∷ more)
-first-size look (Text text) = ([], refl)
+first-size look (Text text) = (_, refl)
 first-size look (Beside layouts) = (_, refl)
 first-size look (Stacked layouts) = (_, refl)
 

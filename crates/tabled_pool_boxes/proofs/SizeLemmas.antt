@@ -1,20 +1,30 @@
 -- What the lines of a text measure, and the sizes of several boxes.
 use Rattle.std.proofs.Common.{◌≡◌, ℕ, zero, suc, ◌+◌, ◌^◌, ◌<◌, ◌≤◌, Bool, false, true≢false, List, [], ◌∷◌, ◌++◌, drop, get_or, length, map, max, set, refl, ap, sym, ◌∙◌, arith, append_assoc, append-nil}
 use Rattle.std.specs.Prelude.{nat_eq}
-use Rattle.std.specs.List.{sum_by}
+use Rattle.std.specs.List.{slice_split, sum_by}
 use Rattle.std.proofs.lemmas.List.Sums.{sum_by-cons}
 use Rattle.std.proofs.Math.Seq.{take-length}
-use Rattle.std.proofs.lemmas.List.{at_drop_more, drop_all, length-map}
+use Rattle.std.proofs.lemmas.List.{at_drop_more, drop_all, length-append, length-map}
 use Rattle.ansi_scan.specs.Pieces.{pieces}
+use Rattle.ansi_scan.proofs.Existence.{ArePiecesOf-pieces}
+use Rattle.ansi_str_text.proofs.Stripping.{strip-without_escape}
 use Rattle.grid_config.specs.Looks.{Look}
-use Rattle.grid_records_measure.specs.TextLines.{line_measure, shown_lines, text_height, text_width, widest}
+use Rattle.grid_records_measure.specs.TextLines.{is_line_feed, line_measure, shown_lines, widest}
+use Rattle.grid_records_traits.proofs.LineAt.{no_columns}
 use Rattle.papergrid_picture.specs.Blocks.{greatest}
 use Rattle.papergrid_picture.specs.CellLines.{cell_measures}
 use Rattle.tabled_pool_boxes.specs.declared.size.Size.{Size}
 use Rattle.tabled_pool_boxes.specs.declared.value.TableValue.{TableValue}
-use Rattle.tabled_pool_boxes.specs.Boxes.{Box, box_of, boxes_of, column_box, column_height, row_box, row_width}
-use Rattle.tabled_pool_boxes.specs.Sizes.{IsTooLarge, size_of, sizes_of_all}
+use Rattle.tabled_pool_boxes.specs.Boxes.{Box, box_of, boxes_of, column_box, column_height, row_box, row_width, text_box}
+use Rattle.tabled_pool_boxes.specs.Sizes.{IsTooLarge, line_size, line_sizes, padded, size_of, sizes_of_all, widths_of}
 use Rattle.tabled_pool_boxes.specs.Values.{Beside, Stacked, layout_of, layouts_of}
+
+-- what stands behind some others is replaced
+pub set-behind : {T : Type 0} (xs ys : List T) (x y : T) → set (xs ++ x ∷ ys) (length xs) y ≡ xs ++ y ∷ ys
+set-behind [] ys x y = refl
+set-behind (z ∷ xs) ys x y = ap (λ l. z ∷ l) (set-behind xs ys x y)
+
+-- ---- the lines of a text
 
 greatest-widest : (lines : List (List ℕ)) → greatest (map line_measure lines) ≡ widest lines
 greatest-widest [] = refl
@@ -23,18 +33,58 @@ greatest-widest (line ∷ lines) = ap (max (line_measure line)) (greatest-widest
 measures : (text : List ℕ) → cell_measures false false text ≡ map line_measure (shown_lines (pieces text))
 measures text = ap (map line_measure) (take-length (shown_lines (pieces text)))
 
-pub text_width_is : (text : List ℕ) → greatest (cell_measures false false text) ≡ text_width text
-unfolding text_width
-text_width_is text = ap greatest (measures text) ∙ greatest-widest (shown_lines (pieces text))
+pub text_widest : (text : List ℕ) → greatest (cell_measures false false text) ≡ widest (shown_lines (pieces text))
+text_widest text = ap greatest (measures text) ∙ greatest-widest (shown_lines (pieces text))
 
-pub text_height_is : (text : List ℕ) → length (cell_measures false false text) ≡ text_height text
-unfolding text_height
-text_height_is text = ap length (measures text) ∙ length-map (shown_lines (pieces text)) line_measure
+-- the sizes of lines that are shown
+abbrev pub sized : List (List ℕ) → List Size
+sized lines = map line_size (map line_measure lines)
 
--- what stands behind some others is replaced
-pub set-behind : {T : Type 0} (xs ys : List T) (x y : T) → set (xs ++ x ∷ ys) (length xs) y ≡ xs ++ y ∷ ys
-set-behind [] ys x y = refl
-set-behind (z ∷ xs) ys x y = ap (λ l. z ∷ l) (set-behind xs ys x y)
+pub text_sized : (text : List ℕ) → line_sizes text ≡ sized (shown_lines (pieces text))
+text_sized text = ap (map line_size) (measures text)
+
+-- no text is one line, which takes no column
+no-line : cell_measures false false [] ≡ 0 ∷ []
+no-line =
+    measures []
+    ∙ (ap (λ shown. map line_measure (slice_split is_line_feed shown)) (strip-without_escape [] (pieces []) (ArePiecesOf-pieces []) refl)
+    ∙ ap (λ n. n ∷ []) no_columns)
+
+pub no-text-sizes : line_sizes [] ≡ record { width = 0; height = 1 } ∷ []
+no-text-sizes = ap (map line_size) no-line
+
+pub no-text-size : (look : Look) → padded look 0 1 ≡ size_of (text_box look [])
+no-text-size look = ap (λ (ms : List ℕ). padded look (greatest ms) (length ms)) (sym no-line)
+
+pub count-sizes : (text : List ℕ) → length (line_sizes text) ≡ length (cell_measures false false text)
+count-sizes text = length-map (cell_measures false false text) line_size
+
+widths-sizes : (measures : List ℕ) → widths_of (map line_size measures) ≡ measures
+widths-sizes [] = refl
+widths-sizes (measure ∷ measures) = ap (λ ms. measure ∷ ms) (widths-sizes measures)
+
+-- lines that were measured are as wide as they measure
+pub widths-text : (text : List ℕ) → widths_of (line_sizes text) ≡ cell_measures false false text
+widths-text text = widths-sizes (cell_measures false false text)
+
+-- a line more, of those that are left
+pub sizes-more : (old now start : List Size) (line : List ℕ) (left behind all : List (List ℕ)) → left ≡ line ∷ behind → now ≡ old ++ line_size (line_measure line) ∷ []
+    → old ++ sized left ≡ start ++ sized all → now ++ sized behind ≡ start ++ sized all
+sizes-more old now start line left behind all is pushed so_far =
+    ap (λ l. l ++ sized behind) pushed ∙ (append_assoc old (line_size (line_measure line) ∷ []) (sized behind) ∙ (ap (λ l. old ++ sized l) (sym is) ∙ so_far))
+
+-- with the own size of a text there are as many as lines, and one
+pub text-count : (old start now : List Size) (text : List ℕ) (first : Size) → start ≡ old ++ first ∷ [] → now ≡ start ++ line_sizes text
+    → length now ≡ length old + 1 + length (cell_measures false false text)
+text-count old start now text first begun pushed =
+    omega (arith, ap length pushed, length-append start (line_sizes text), ap length begun, length-append old (first ∷ []), count-sizes text)
+
+-- the size of a text is put before those of its lines
+pub text-end : (old start now : List Size) (text : List ℕ) (first own : Size) → start ≡ old ++ first ∷ [] → now ≡ start ++ line_sizes text
+    → set now (length old) own ≡ old ++ own ∷ line_sizes text
+text-end old start now text first own begun pushed =
+    let now_is : now ≡ old ++ first ∷ line_sizes text = pushed ∙ (ap (λ l. l ++ line_sizes text) begun ∙ append_assoc old (first ∷ []) (line_sizes text)) in
+    ap (λ l. set l (length old) own) now_is ∙ set-behind old (line_sizes text) first own
 
 pub not-empty : (b : Bool) (n m : ℕ) → b ≡ nat_eq n 0 → b ≡ false → m ≡ n → 0 < m
 not-empty b zero m e f g = absurd (true≢false (sym e ∙ f))

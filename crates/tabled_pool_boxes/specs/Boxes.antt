@@ -1,11 +1,11 @@
 -- The boxes of a pool: how large one is by itself, and what it shows in each line of the place that it gets.
-use Rattle.std.specs.Prelude.{ℕ, ◌+◌, ◌-◌, ◌==◌, nat_lt, Bool, false, None, List, [], ◌∷◌, ◌++◌, flat_map, length, map, replicate, slice_index_or, if◌then◌else◌}
+use Rattle.std.specs.Prelude.{ℕ, ◌+◌, ◌-◌, ◌==◌, nat_lt, Bool, false, None, List, [], ◌∷◌, ◌++◌, flat_map, length, map, replicate, slice_index, slice_index_or, if◌then◌else◌}
 use Rattle.std.specs.List.{sum_by}
 use Rattle.grid_config.specs.Looks.{Look}
 use Rattle.grid_config_values.specs.Glyphs.{BoundaryKind, First, Between, has_column_boundary, has_row_boundary}
 use Rattle.papergrid_picture.specs.Frame.{frame_of, thickness}
 use Rattle.papergrid_picture.specs.Picture.{at, blank}
-use Rattle.papergrid_picture.specs.Blocks.{Part as Piece, fill, free_above, greatest, text_line, Grid}
+use Rattle.papergrid_picture.specs.Blocks.{Part as Piece, fill, free_above, free_left, greatest, text_line, Grid}
 use Rattle.papergrid_picture.specs.CellLines.{cell_lines, cell_measures}
 use Rattle.papergrid_cells.specs.BlockLines.{part_bytes}
 use Rattle.tabled_size_dimension.specs.Takers.{Takers}
@@ -57,6 +57,10 @@ module _ (look : Look) where
   -- a cell in a table of its own, whose lines measure this
   abbrev pub alone : List ℕ → Grid
   alone measures = record { frame = frame_of look [] []; measures = λ _. measures; text_color = λ _. None }
+
+  -- how many of `room` columns stand before line k of a text: with line alignment by the line itself, and else by the widest one
+  abbrev pub indent : List ℕ → ℕ → ℕ → ℕ
+  indent measures room k = free_left (look.alignment_horizontal (at 0 0)) (room - (if look.line_alignment (at 0 0) then slice_index measures k else greatest measures))
 
   abbrev pub spaces : ℕ → List Piece
   spaces width = fill width blank None ∷ []

@@ -4,8 +4,10 @@ pub mod Shares
 pub mod Boxes
 pub mod Sizes
 pub mod Canvas
+pub mod Open
 pub mod Framed
 pub mod Crossings
+pub mod SetGlyphs
 pub mod Runs
 pub mod Glyphs
 pub mod Texts

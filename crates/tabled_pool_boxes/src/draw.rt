@@ -1,19 +1,22 @@
 //! Values are drawn onto lines of parts, from left to right: each part is made once, and none is moved.
 //! Drawing recurses once a level of a value.
-ghost use Rattle.std.specs.Prelude.{◌≡◌, ◌==◌, ◌+◌, ◌≤◌, ◌<◌, ◌++◌, ◌∷◌, [], IfOk, OnOk, drop, if◌then◌else◌, length, slice_index_or};
+ghost use Rattle.std.specs.Prelude.{◌≡◌, ◌+◌, ◌-◌, ◌≤◌, ◌<◌, ◌++◌, IfOk, OnOk, drop, length, slice_index_or};
 ghost use Rattle.grid_config.specs.Looks.{look_of};
-ghost use Rattle.tabled_pool_boxes.specs.Boxes.{Upright, box_of, first_lines, from_line, gap, has_level, level_before, upright_before};
+ghost use Rattle.tabled_pool_boxes.specs.Boxes.{box_of, from_line, gap, has_level, level_before, text_box, upright_before};
 ghost use Rattle.papergrid_picture.specs.Frame.{thickness};
-ghost use Rattle.tabled_pool_boxes.specs.Canvas.{Adds, BeginWith, HasRoom, kind_of, shape_of};
-ghost use Rattle.tabled_pool_boxes.specs.Sizes.{sizes_of, sizes_of_all};
+ghost use Rattle.papergrid_picture.specs.Picture.{at};
+ghost use Rattle.tabled_pool_boxes.specs.Canvas.{Adds, BeginWith, HasRoom};
+ghost use Rattle.tabled_pool_boxes.specs.Sizes.{line_sizes, sizes_of, sizes_of_all};
 ghost use Rattle.tabled_pool_boxes.specs.Values.{Beside, Stacked, layout_of, layouts_of};
 
 use crate::canvas::{Pen, draw_upright, push_part};
 use crate::part::{Edge, Part};
 use crate::share::share;
 use crate::size::Size;
-use crate::text::draw_text;
+use crate::text::{draw_no_text, draw_text};
 use crate::value::TableValue;
+use grid_config::SpannedConfig;
+use grid_config_values::Position;
 use std::alloc::AllocError;
 
 /// Draws a value in a place that has room for it; its sizes come first in `sizes`, and what comes behind
@@ -37,10 +40,7 @@ pub(crate) fn draw<'s>(
     let own = first(sizes);
     let rest = behind_first(sizes);
     match value {
-        TableValue::Cell(text) => {
-            draw_text(pen, text, top, width, height, lines)?;
-            Ok(rest)
-        }
+        TableValue::Cell(text) => draw_cell(pen, text, own.height, rest, top, width, height, lines),
         TableValue::Row(members) => draw_row(
             pen, members, own.width, rest, top, width, height, lines,
         ),
@@ -70,7 +70,7 @@ fn draw_row<'s>(
     ensures lines { OnOk result (Adds lines.old lines.new (from_line top ((box_of (look_of pen.now.cfg.now) (Beside (layouts_of members.now.items))).line pen.now.takers width height))) }
 {
     if members.is_empty() {
-        draw_text(pen, "", top, width, height, lines)?;
+        draw_no_text(pen, top, width, height, lines)?;
         return Ok(sizes);
     }
     let beyond = width - own;
@@ -105,7 +105,7 @@ fn draw_column<'s>(
     ensures lines { OnOk result (Adds lines.old lines.new (from_line top ((box_of (look_of pen.now.cfg.now) (Stacked (layouts_of members.now.items))).line pen.now.takers width height))) }
 {
     if members.is_empty() {
-        draw_text(pen, "", top, width, height, lines)?;
+        draw_no_text(pen, top, width, height, lines)?;
         return Ok(sizes);
     }
     let beyond = height - own;
@@ -120,6 +120,39 @@ fn draw_column<'s>(
         at += given;
     }
     Ok(sizes)
+}
+
+// Draws a text that is so high by itself, of whose lines the sizes come first.
+fn draw_cell<'s>(
+    pen: &Pen<'_>,
+    text: &str,
+    own: usize,
+    sizes: &'s [Size],
+    top: usize,
+    width: usize,
+    height: usize,
+    lines: &mut [Vec<Part>],
+) -> Result<&'s [Size], AllocError>
+    requires own { own ≡ (text_box (look_of pen.now.cfg.now) text.now).height }
+    requires sizes { BeginWith (line_sizes text.now) sizes.now }
+    requires room { HasRoom (text_box (look_of pen.now.cfg.now) text.now) width height }
+    requires inside { top + height ≤ length lines.old }
+    ensures rest { IfOk result (λ rest. sizes.now ≡ line_sizes text.now ++ rest.now) }
+    ensures lines { OnOk result (Adds lines.old lines.new (from_line top ((text_box (look_of pen.now.cfg.now) text.now).line pen.now.takers width height))) }
+{
+    let count = count_lines(pen.cfg, own);
+    draw_text(pen, text, &sizes[..count], top, width, height, lines)?;
+    Ok(&sizes[count..])
+}
+
+// How many lines a text has that is so high with its paddings.
+fn count_lines(cfg: &SpannedConfig, height: usize) -> usize
+    ensures { result ≡ height - ((look_of cfg.now).padding (at 0 0)).top.size - ((look_of cfg.now).padding (at 0 0)).bottom.size }
+{
+    let padding = cfg.get_padding(Position::new(0, 0));
+    height
+        .saturating_sub(padding.top.size)
+        .saturating_sub(padding.bottom.size)
 }
 
 // The size of the first value.

@@ -1,12 +1,16 @@
-//! Laws: when values are equal and which comes first, and texts of pools that are worked out by hand.
-ghost use Rattle.std.specs.Prelude.{◌≡◌, ◌↔◌, Some, codes, [], ◌∷◌, true};
+//! Laws: when values are equal and which comes first, what stands where lines meet, and texts of pools that are
+//! worked out by hand.
+ghost use Rattle.std.specs.Prelude.{◌≡◌, ◌↔◌, Bool, Some, codes, [], ◌∷◌, true};
 ghost use Rattle.std.specs.Cmp.{IsTotalOrder};
 ghost use Rattle.std.specs.declared.cmp.Ordering.TheVariants.{Equal};
 ghost use Rattle.tabled_pool_boxes.specs.Worked.{each};
 ghost use Rattle.tabled_pool_boxes.specs.Texts.{pool_text};
 ghost use Rattle.tabled_pool_boxes.specs.Worked.{ascii, cell, greetings, in_lines, last, nested, row, rows, text_of};
 ghost use Rattle.tabled_pool_boxes.specs.Boxes.{column_box, row_box};
+ghost use Rattle.grid_config.specs.Looks.{Look};
+ghost use Rattle.tabled_pool_boxes.specs.Crossings.{crossing_glyph};
 ghost use Rattle.tabled_pool_boxes.specs.Order.{compared};
+ghost use Rattle.tabled_pool_boxes.specs.SetGlyphs.{ShowsSetCrossing};
 ghost use Rattle.tabled_pool_boxes.specs.Values.{layout_of};
 ghost use Rattle.tabled_pool_boxes.specs.declared.value.TableValue.{TableValue as OneValue};
 
@@ -24,6 +28,11 @@ pub fn values_are_ordered()
     ensures order { (a b : OneValue) → ⟦<TableValue as Ord>⟧.cmp a b ≡ compared (layout_of a) (layout_of b) }
     ensures partial { (a b : OneValue) → ⟦<TableValue as PartialOrd>⟧.partial_cmp a b ≡ Some (compared (layout_of a) (layout_of b)) }
     ensures total { IsTotalOrder ⟦<TableValue as Ord>⟧.cmp }
+{}
+
+/// Where lines meet, at a corner too, stands a glyph that is set for such places, or a space.
+pub fn crossings_are_set()
+    ensures { (look : Look) (up down left right : Bool) → ShowsSetCrossing look (crossing_glyph look up down left right) }
 {}
 
 /// A nested table of greetings.

@@ -10,6 +10,7 @@ pub mod laws;
 mod line;
 mod margins;
 mod marks;
+mod open_text;
 mod part;
 mod share;
 mod size;

@@ -1,15 +1,19 @@
-//! How large values are by themselves. Each text is measured once; measuring recurses once a level of a value.
-ghost use Rattle.std.specs.Prelude.{◌≡◌, ◌+◌, ◌^◌, ◌<◌, ◌≤◌, ◌⊎◌, ◌++◌, ◌∷◌, [], IfErr, IfOk, OnErr, OnOk};
+//! How large values are by themselves, and the lines of their texts. Each text is measured here, once; measuring
+//! recurses once a level of a value.
+ghost use Rattle.std.specs.Prelude.{◌≡◌, ◌+◌, ◌^◌, ◌<◌, ◌≤◌, ◌⊎◌, ◌++◌, ◌∷◌, [], IfErr, IfOk, OnErr, OnOk, false, max};
 ghost use Rattle.grid_config.specs.Looks.{look_of};
 ghost use Rattle.grid_config_values.specs.declared.fault.Fault.TheVariants.{Memory, Range};
+ghost use Rattle.grid_records_measure.specs.TextLines.{line_width};
+ghost use Rattle.papergrid_picture.specs.Blocks.{greatest};
+ghost use Rattle.papergrid_picture.specs.CellLines.{cell_measures};
 ghost use Rattle.tabled_pool_boxes.specs.Boxes.{box_of, gaps, text_box};
-ghost use Rattle.tabled_pool_boxes.specs.Sizes.{IsTooLarge, size_of, sizes_of};
+ghost use Rattle.tabled_pool_boxes.specs.Sizes.{IsTooLarge, line_size, line_sizes, padded, size_of, sizes_of};
 ghost use Rattle.tabled_pool_boxes.specs.Values.{Beside, Stacked, layout_of, layouts_of};
 
 use crate::value::TableValue;
 use grid_config::{Fault, SpannedConfig};
 use grid_config_values::Position;
-use grid_records_measure::get_text_dimension;
+use grid_records_measure::{get_line_width, split_line};
 use std::alloc::AllocError;
 
 /// Columns and lines.
@@ -19,15 +23,13 @@ pub struct Size {
     pub height: usize,
 }
 
-// A text with its paddings.
-#[tactic(auto, using(crate::proofs::SizeLemmas::text_width_is, crate::proofs::SizeLemmas::text_height_is))]
-fn text_size(cfg: &SpannedConfig, text: &str) -> Result<Size, Fault>
-    ensures own { IfOk result (λ size. size ≡ size_of (text_box (look_of cfg.now) text.now)) }
+// So many columns and lines with the paddings of a cell. Refused as `Range` exactly where a sum is out of range.
+fn padded(cfg: &SpannedConfig, columns: usize, lines: usize) -> Result<Size, Fault>
+    ensures own { IfOk result (λ size. size ≡ padded (look_of cfg.now) columns lines) }
     ensures fault { IfErr result (λ fault. fault ≡ Range) }
-    ensures range { OnErr result (IsTooLarge (text_box (look_of cfg.now) text.now)) }
+    ensures range { OnErr result (2 ^ 64 ≤ max (padded (look_of cfg.now) columns lines).width (padded (look_of cfg.now) columns lines).height) }
 {
     let padding = cfg.get_padding(Position::new(0, 0));
-    let (lines, columns) = get_text_dimension(text);
     let width = add_both(columns, padding.left.size, padding.right.size)?;
     let height = add_both(lines, padding.top.size, padding.bottom.size)?;
     Ok(Size { width, height })
@@ -50,7 +52,7 @@ fn gaps(is_there: bool, n: usize) -> usize
     if is_there { n - 1 } else { 0 }
 }
 
-/// Adds the sizes of all values in a value, and its own before them, which it returns. Refused as `Range`
+/// Adds the sizes of all values and lines in a value, and its own before them, which it returns. Refused as `Range`
 /// exactly where its own is out of range, and as `Memory` where allocation fails.
 #[cycle(measure)]
 pub(crate) fn push_sizes(
@@ -70,14 +72,61 @@ pub(crate) fn push_sizes(
     }
 }
 
-// The same of a text.
+// The same of a text: its own, and then those of its lines.
 fn push_text_size(cfg: &SpannedConfig, text: &str, sizes: &mut Vec<Size>) -> Result<Size, Fault>
-    ensures sizes { OnOk result (sizes.new.items ≡ sizes.old.items ++ size_of (text_box (look_of cfg.now) text.now) ∷ []) }
+    ensures sizes { OnOk result (sizes.new.items ≡ sizes.old.items ++ size_of (text_box (look_of cfg.now) text.now) ∷ line_sizes text.now) }
     ensures own { IfOk result (λ size. size ≡ size_of (text_box (look_of cfg.now) text.now)) }
     ensures fault { IfErr result (λ fault. (fault ≡ Memory) ⊎ (fault ≡ Range)) }
     ensures range { IfErr result (λ fault. fault ≡ Range → IsTooLarge (text_box (look_of cfg.now) text.now)) }
 {
-    let size = text_size(cfg, text)?;
+    let at = sizes.len();
+    push_size(
+        sizes,
+        Size {
+            width: 0,
+            height: 0,
+        },
+    )?;
+    let columns = push_line_sizes(sizes, text)?;
+    let size = padded(cfg, columns, sizes.len() - at - 1)?;
+    sizes[at] = size;
+    Ok(size)
+}
+
+// Adds the sizes of the lines of a text, and returns how many columns the widest takes. Each line is measured
+// here, and nowhere else.
+fn push_line_sizes(sizes: &mut Vec<Size>, text: &str) -> Result<usize, AllocError>
+    ensures sizes { OnOk result (sizes.new.items ≡ sizes.old.items ++ line_sizes text.now) }
+    ensures widest { IfOk result (λ widest. widest ≡ greatest (cell_measures false false text.now)) }
+{
+    let mut widest = 0;
+    let mut rest = Some(text);
+    while let Some(lines) = rest {
+        let (line, behind) = split_line(lines);
+        widest = push_line_size(sizes, line)?.max(widest);
+        rest = behind;
+    }
+    Ok(widest)
+}
+
+// Adds the size of a line, and returns how many columns it takes.
+fn push_line_size(sizes: &mut Vec<Size>, line: &str) -> Result<usize, AllocError>
+    ensures size { OnOk result (sizes.new.items ≡ sizes.old.items ++ line_size (line_width line.now) ∷ []) }
+    ensures columns { IfOk result (λ columns. columns ≡ line_width line.now) }
+{
+    let width = get_line_width(line);
+    push_size(sizes, Size { width, height: 1 })?;
+    Ok(width)
+}
+
+// The same of a row or a column without a member, which is as large as a text of one line without columns.
+fn push_empty_size(cfg: &SpannedConfig, sizes: &mut Vec<Size>) -> Result<Size, Fault>
+    ensures sizes { OnOk result (sizes.new.items ≡ sizes.old.items ++ size_of (text_box (look_of cfg.now) []) ∷ []) }
+    ensures own { IfOk result (λ size. size ≡ size_of (text_box (look_of cfg.now) [])) }
+    ensures fault { IfErr result (λ fault. (fault ≡ Memory) ⊎ (fault ≡ Range)) }
+    ensures range { IfErr result (λ fault. fault ≡ Range → IsTooLarge (text_box (look_of cfg.now) [])) }
+{
+    let size = padded(cfg, 0, 1)?;
     push_size(sizes, size)?;
     Ok(size)
 }
@@ -95,7 +144,7 @@ fn push_row_sizes(
     ensures range { IfErr result (λ fault. fault ≡ Range → IsTooLarge (box_of (look_of cfg.now) (Beside (layouts_of members.now.items)))) }
 {
     if members.is_empty() {
-        return push_text_size(cfg, "", sizes);
+        return push_empty_size(cfg, sizes);
     }
     let at = sizes.len();
     let mut width = gaps(cfg.has_vertical(0, 1), members.len());
@@ -123,7 +172,7 @@ fn push_column_sizes(
     ensures range { IfErr result (λ fault. fault ≡ Range → IsTooLarge (box_of (look_of cfg.now) (Stacked (layouts_of members.now.items)))) }
 {
     if members.is_empty() {
-        return push_text_size(cfg, "", sizes);
+        return push_empty_size(cfg, sizes);
     }
     let at = sizes.len();
     let mut width = 0;

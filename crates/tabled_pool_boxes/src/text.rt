@@ -1,58 +1,62 @@
-//! The lines of a cell, drawn as parts.
-ghost use Rattle.std.specs.Prelude.{◌≡◌, ◌+◌, ◌≤◌, IfOk, None, OnOk, [], ◌∷◌, false, length, string_bytes};
+//! Texts, drawn as parts line by line.
+ghost use Rattle.std.specs.Prelude.{◌≡◌, ◌+◌, ◌-◌, ◌≤◌, IfOk, OnOk, [], ◌∷◌, false, flat_map, length, map, string_bytes};
+ghost use Rattle.std.specs.Cow.{cow_str_bytes};
 ghost use Rattle.grid_config.specs.Looks.{look_of};
-ghost use Rattle.papergrid_cells.specs.BlockLines.{alone_bytes, line_kind};
-ghost use Rattle.papergrid_cells.specs.Painting.{fill_bytes};
-ghost use Rattle.papergrid_cells.specs.Shown.{measures_of, texts_of};
-ghost use Rattle.papergrid_picture.specs.Blocks.{free_above};
+ghost use Rattle.papergrid_cells.specs.BlockLines.{part_bytes};
+ghost use Rattle.papergrid_cells.specs.Painting.{colored, fill_bytes};
+ghost use Rattle.papergrid_picture.specs.Blocks.{free_above, text_line};
+ghost use Rattle.papergrid_picture.specs.CellLines.{cell_lines};
 ghost use Rattle.papergrid_picture.specs.Picture.{at};
-ghost use Rattle.tabled_pool_boxes.specs.Boxes.{Shown, cell_bytes, cell_height, first_lines, from_line, text_box, text_bytes};
+ghost use Rattle.tabled_pool_boxes.specs.Boxes.{Shown, alone, cell_bytes, cell_height, first_lines, from_line, indent, text_box};
 ghost use Rattle.tabled_pool_boxes.specs.Canvas.{Adds, HasRoom};
+ghost use Rattle.tabled_pool_boxes.specs.Open.{line_of, measures_of, texts_of};
+ghost use Rattle.tabled_pool_boxes.specs.Sizes.{line_sizes};
 
 use crate::canvas::{Pen, push_part};
+use crate::open_text::OpenText;
 use crate::part::Part;
+use crate::size::Size;
 use grid_config::{ANSIBuf, SpannedConfig};
-use grid_config_values::{AlignmentVertical, Position};
-use grid_records_measure::count_lines;
-use grid_records_traits::{PeekableRecords, RecordTexts};
-use papergrid_cells::{CellLines, OpenCell, block_line, push_blank, push_block_line, read_cell};
+use grid_config_values::{AlignmentHorizontal, AlignmentVertical, Position};
+use grid_records_measure::get_lines;
+use papergrid_cells::{push_blank, push_indent};
 use std::alloc::{AllocError, Global};
+use std::borrow::CowStr;
 
 // The cell whose settings are those of all cells.
 const FIRST: Position = Position { row: 0, col: 0 };
 
-/// Records of one cell, with this text.
-#[derive(Clone, Copy)]
-struct OneText<'a> {
-    text: &'a str,
-}
-
-impl<'a> RecordTexts for OneText<'a> {
-    ghost rows = { λ records. (records.text.now ∷ []) ∷ [] };
-
-    ghost may_refuse = { λ _. false };
-}
-
-impl<'a> PeekableRecords for OneText<'a> {
-    fn get_text(&self, pos: Position) -> &str {
-        if pos.row == 0 && pos.col == 0 {
-            self.text
-        } else {
-            ""
-        }
-    }
-}
-
-/// Draws a text in a place that has room for it: in each line of the place all its columns. A place
-/// without a column shows nothing. Fails only where allocation fails.
-pub(crate) fn draw_text(
+/// Draws no text, in a place that has room for the paddings and one line. Fails only where allocation fails.
+pub(crate) fn draw_no_text(
     pen: &Pen<'_>,
-    text: &str,
     top: usize,
     width: usize,
     height: usize,
     lines: &mut [Vec<Part>],
 ) -> Result<(), AllocError>
+    requires room { HasRoom (text_box (look_of pen.now.cfg.now) []) width height }
+    requires inside { top + height ≤ length lines.old }
+    ensures { OnOk result (Adds lines.old lines.new (from_line top ((text_box (look_of pen.now.cfg.now) []).line pen.now.takers width height))) }
+{
+    let line = Size {
+        width: 0,
+        height: 1,
+    };
+    draw_text(pen, "", &[line], top, width, height, lines)
+}
+
+/// Draws a text, whose lines were measured, in a place that has room for it: in each line of the place all its
+/// columns. A place without a column shows nothing. Fails only where allocation fails.
+pub(crate) fn draw_text(
+    pen: &Pen<'_>,
+    text: &str,
+    measured: &[Size],
+    top: usize,
+    width: usize,
+    height: usize,
+    lines: &mut [Vec<Part>],
+) -> Result<(), AllocError>
+    requires measured { measured.now ≡ line_sizes text.now }
     requires room { HasRoom (text_box (look_of pen.now.cfg.now) text.now) width height }
     requires inside { top + height ≤ length lines.old }
     ensures { OnOk result (Adds lines.old lines.new (from_line top ((text_box (look_of pen.now.cfg.now) text.now).line pen.now.takers width height))) }
@@ -60,121 +64,143 @@ pub(crate) fn draw_text(
     if width == 0 {
         return Ok(());
     }
-    let one = OneText { text };
-    draw_cell(pen, &one, top, width, height, lines)
+    let shown = OpenText::new(lines_of(pen.alloc, text)?, measured, width);
+    draw_lines(pen, &shown, top, height, lines)
 }
 
-// The same, where there is a column.
-fn draw_cell(
+// The lines of a text, each with its styles opened and ended within; without ESC they are borrows.
+fn lines_of<'a>(alloc: Global, text: &'a str) -> Result<Vec<CowStr<'a>>, AllocError>
+    ensures { IfOk result (λ lines. map cow_str_bytes lines.items ≡ cell_lines false false text.now) }
+{
+    let mut lines = Vec::new(alloc);
+    for line in get_lines(alloc, text) {
+        lines.push(line?)?;
+    }
+    Ok(lines)
+}
+
+// Draws the lines of a place of this height.
+fn draw_lines(
     pen: &Pen<'_>,
-    one: &OneText<'_>,
+    shown: &OpenText<'_>,
     top: usize,
-    width: usize,
     height: usize,
     lines: &mut [Vec<Part>],
 ) -> Result<(), AllocError>
-    requires room { (text_box (look_of pen.now.cfg.now) one.now.text.now).height ≤ height }
+    requires room { cell_height (look_of pen.now.cfg.now) (measures_of shown.now) ≤ height }
     requires inside { top + height ≤ length lines.old }
-    ensures { OnOk result (Adds lines.old lines.new (from_line top (first_lines height (λ y. Shown width (text_bytes (look_of pen.now.cfg.now) one.now.text.now width height y) ∷ [])))) }
+    ensures { OnOk result (Adds lines.old lines.new (from_line top (first_lines height (λ y. Shown shown.now.width (cell_bytes (look_of pen.now.cfg.now) (measures_of shown.now) (texts_of shown.now) shown.now.width height y) ∷ [])))) }
 {
-    let shown = read_cell(pen.alloc, one, FIRST, false, false)?;
-    let own = own_height(pen.cfg, one.text, height);
-    draw_lines(pen, shown, own, top, width, height, lines)
-}
-
-// Draws the lines of a cell which is `own` lines high by itself.
-fn draw_lines<'a>(
-    pen: &Pen<'_>,
-    shown: CellLines<'a>,
-    own: usize,
-    top: usize,
-    width: usize,
-    height: usize,
-    lines: &mut [Vec<Part>],
-) -> Result<(), AllocError>
-    requires own { own ≡ cell_height (look_of pen.now.cfg.now) (measures_of shown) }
-    requires room { own ≤ height }
-    requires inside { top + height ≤ length lines.old }
-    ensures { OnOk result (Adds lines.old lines.new (from_line top (first_lines height (λ y. Shown width (cell_bytes (look_of pen.now.cfg.now) (measures_of shown.entry) (texts_of shown.entry) width height y) ∷ [])))) }
-{
-    let cell = OpenCell {
-        pos: FIRST,
-        lines: shown,
-        color: None,
-        width,
-        height: own,
-        top: 0,
-    };
     for y in 0..height {
-        let line = cell_line(pen, &cell, height, y)?;
-        push_part(lines, top + y, Part::Shown(width, line))?;
+        let line = place_line(pen, shown, height, y)?;
+        push_part(lines, top + y, Part::Shown(shown.width, line))?;
     }
     Ok(())
 }
 
-// How high a text is with the paddings above and below it, which is at most `room`.
-#[tactic(auto, using(crate::proofs::SizeLemmas::text_height_is))]
-fn own_height(cfg: &SpannedConfig, text: &str, room: usize) -> usize
-    requires { (text_box (look_of cfg.now) text.now).height ≤ room }
-    ensures { result ≡ (text_box (look_of cfg.now) text.now).height }
-{
-    let padding = cfg.get_padding(FIRST);
-    let _room = room;
-    count_lines(text) + padding.top.size + padding.bottom.size
-}
-
-// Line `y` of a cell that is as high as it is by itself, in a place of this height.
-fn cell_line(
+// Line `y` of a place of this height: blank lines by the vertical alignment, padding, the lines of the text,
+// padding, blank lines.
+fn place_line(
     pen: &Pen<'_>,
-    cell: &OpenCell<'_>,
+    shown: &OpenText<'_>,
     height: usize,
     y: usize,
 ) -> Result<String, AllocError>
-    requires pos { cell.now.pos ≡ at 0 0 }
-    requires color { cell.now.color ≡ None }
-    requires own { cell.now.height ≡ cell_height (look_of pen.now.cfg.now) (measures_of cell.now.lines) }
-    requires room { cell.now.height ≤ height }
-    ensures { IfOk result (λ line. string_bytes line ≡ cell_bytes (look_of pen.now.cfg.now) (measures_of cell.now.lines) (texts_of cell.now.lines) cell.now.width height y) }
+    requires room { cell_height (look_of pen.now.cfg.now) (measures_of shown.now) ≤ height }
+    ensures { IfOk result (λ line. string_bytes line ≡ cell_bytes (look_of pen.now.cfg.now) (measures_of shown.now) (texts_of shown.now) shown.now.width height y) }
 {
-    let alignment = pen.cfg.get_alignment_vertical(FIRST);
-    let above = free_above(alignment, height - cell.height);
+    let padding = pen.cfg.get_padding(FIRST);
+    let colors = pen.cfg.get_padding_color(FIRST);
+    let above = lines_above(pen.cfg, shown.count(), height);
     if y < above {
-        return blank_line(pen.alloc, cell.width);
+        return blank_line(pen.alloc, shown.width);
     }
     let inner = y - above;
-    if inner >= cell.height {
-        return blank_line(pen.alloc, cell.width);
+    if inner < padding.top.size {
+        return filled_line(pen.alloc, padding.top.fill, shown.width, &colors.top);
     }
-    inner_line(pen, cell, inner)
+    let k = inner - padding.top.size;
+    if k < shown.count() {
+        return text_line(pen, shown, k);
+    }
+    if k - shown.count() < padding.bottom.size {
+        return filled_line(pen.alloc, padding.bottom.fill, shown.width, &colors.bottom);
+    }
+    blank_line(pen.alloc, shown.width)
+}
+
+// How many blank lines stand above a text of so many lines and its paddings, in a place of this height.
+fn lines_above(cfg: &SpannedConfig, count: usize, height: usize) -> usize
+    requires { count + ((look_of cfg.now).padding (at 0 0)).top.size + ((look_of cfg.now).padding (at 0 0)).bottom.size ≤ height }
+    ensures { result ≡ free_above ((look_of cfg.now).alignment_vertical (at 0 0)) (height - (count + ((look_of cfg.now).padding (at 0 0)).top.size + ((look_of cfg.now).padding (at 0 0)).bottom.size)) }
+{
+    let padding = cfg.get_padding(FIRST);
+    let free = height - (count + padding.top.size + padding.bottom.size);
+    match cfg.get_alignment_vertical(FIRST) {
+        AlignmentVertical::Top => 0,
+        AlignmentVertical::Center => free / 2,
+        AlignmentVertical::Bottom => free,
+    }
 }
 
 // A line of spaces.
 fn blank_line(alloc: Global, width: usize) -> Result<String, AllocError>
     ensures { IfOk result (λ line. string_bytes line ≡ fill_bytes 32 width) }
 {
-    let mut line = String::new(alloc);
     let plain: Option<ANSIBuf> = None;
-    push_blank(&mut line, ' ', width, &plain)?;
+    filled_line(alloc, ' ', width, &plain)
+}
+
+// A line of one character.
+fn filled_line(
+    alloc: Global,
+    character: char,
+    width: usize,
+    color: &Option<ANSIBuf>,
+) -> Result<String, AllocError>
+    ensures { IfOk result (λ line. string_bytes line ≡ colored color.now (fill_bytes character width)) }
+{
+    let mut line = String::new(alloc);
+    push_blank(&mut line, character, width, color)?;
     Ok(line)
 }
 
-// Line `inner` of a cell that is as high as it is by itself.
-fn inner_line(pen: &Pen<'_>, cell: &OpenCell<'_>, inner: usize) -> Result<String, AllocError>
-    ensures { IfOk result (λ line. string_bytes line ≡ alone_bytes (look_of pen.now.cfg.now) cell.now (line_kind (look_of pen.now.cfg.now) cell.now.pos (length (measures_of cell.now.lines)) cell.now.height inner)) }
+// Line `k` of the text: padding, indent, the line, what is left, padding.
+fn text_line(pen: &Pen<'_>, shown: &OpenText<'_>, k: usize) -> Result<String, AllocError>
+    ensures { IfOk result (λ line. string_bytes line ≡ flat_map (part_bytes (line_of shown.now)) (text_line (alone (look_of pen.now.cfg.now) (measures_of shown.now)) (at 0 0) shown.now.width k)) }
 {
+    let padding = pen.cfg.get_padding(FIRST);
+    let colors = pen.cfg.get_padding_color(FIRST);
+    let fill = pen.cfg.get_justification(FIRST);
+    let color = pen.cfg.get_justification_color(FIRST);
+    let room = shown
+        .width
+        .saturating_sub(padding.left.size)
+        .saturating_sub(padding.right.size);
+    let indent = indent_of(pen.cfg, shown, room, k);
+    let rest = room.saturating_sub(indent).saturating_sub(shown.measure(k));
     let mut line = String::new(pen.alloc);
-    let shown = block_line(pen.cfg, cell, inner);
-    push_block_line(&mut line, pen.cfg, cell, shown)?;
+    push_indent(&mut line, &padding.left, &colors.left)?;
+    push_blank(&mut line, fill, indent, color)?;
+    line.push_str(shown.line(k))?;
+    push_blank(&mut line, fill, rest, color)?;
+    push_indent(&mut line, &padding.right, &colors.right)?;
     Ok(line)
 }
 
-// How many of the free lines stand above a text.
-fn free_above(alignment: AlignmentVertical, free: usize) -> usize
-    ensures { result ≡ free_above alignment free }
+// How many of `room` columns stand before line `k` of the text.
+fn indent_of(cfg: &SpannedConfig, shown: &OpenText<'_>, room: usize, k: usize) -> usize
+    ensures { result ≡ indent (look_of cfg.now) (measures_of shown.now) room k }
 {
-    match alignment {
-        AlignmentVertical::Top => 0,
-        AlignmentVertical::Center => free / 2,
-        AlignmentVertical::Bottom => free,
+    let measure = if cfg.get_line_alignment(FIRST) {
+        shown.measure(k)
+    } else {
+        shown.widest()
+    };
+    let free = room.saturating_sub(measure);
+    match cfg.get_alignment_horizontal(FIRST) {
+        AlignmentHorizontal::Left => 0,
+        AlignmentHorizontal::Center => free / 2,
+        AlignmentHorizontal::Right => free,
     }
 }

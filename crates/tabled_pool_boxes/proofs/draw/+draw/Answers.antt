@@ -1,5 +1,5 @@
 use Rattle.std.proofs.Common.{◌≡◌, ◌<◌, ◌≤◌, ◌+◌, ◌-◌, get_or, length, ap, subst, sym, ◌∙◌, arith, rules}
-use Rattle.std.specs.Prelude.{string_bytes}
+use Rattle.std.specs.Prelude.{OnOk, string_bytes}
 use Rattle.grid_config.specs.Looks.{look_of}
 use Rattle.tabled_pool_boxes.specs.declared.value.TableValue.{the_lemmas}
 use Rattle.tabled_pool_boxes.specs.Boxes.{box_of, boxes_of, column_height, from_line, gap, has_level, level_before, row_width, text_box}
@@ -11,12 +11,12 @@ use Rattle.tabled_pool_boxes.proofs.DrawLemmas.{begins-first, column_end, column
 use Rattle.tabled_pool_boxes.proofs.SizeLemmas.{box, highest_box, widest_box, not-empty, some-beside, some-stacked}
 use Rattle.tabled_pool_boxes.proofs.draw.+draw.Goals as goal
 
-pub draw-returns-in_ok-draw_text-in-Cell-clause-lines : goal.draw-returns-in_ok-draw_text-in-Cell-clause-lines
-draw-returns-in_ok-draw_text-in-Cell-clause-lines t c =
+pub draw-returns-in-Cell-clause-lines : goal.draw-returns-in-Cell-clause-lines
+draw-returns-in-Cell-clause-lines t c =
     let look = look_of c.args.pen.now.cfg.now in
     let layout : layout_of c.args.value.now ≡ Text (string_bytes c.in-Cell.text) = ap layout_of c.in-Cell.is ∙ layout-cell c.in-Cell.text in
     let same : text_box look c.deref.result.now ≡ box_of look (layout_of c.args.value.now) = ap (text_box look) c.deref.ensures ∙ ap (box_of look) (sym layout) in
-    subst (λ b. Adds c.args.lines.now c.draw_text.new.lines (from_line c.args.top (b.line c.args.pen.now.takers c.args.width c.args.height))) same c.in_ok-draw_text-in-Cell.ensures
+    subst (λ b. OnOk c.draw_cell.result (Adds c.args.lines.now c.draw_cell.new.lines (from_line c.args.top (b.line c.args.pen.now.takers c.args.width c.args.height)))) same c.draw_cell.ensures.lines
 
 pub draw_row-overflow_add-given : goal.draw_row-overflow_add-given
 draw_row-overflow_add-given t c =
