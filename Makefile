@@ -17,7 +17,7 @@ FROM = $(if $(filter /dev/stdin -,$(INPUT)),,< '$(INPUT)')
 # No rule of make's own makes a source file; so it looks for none.
 MAKEFLAGS += --no-builtin-rules
 .NOTPARALLEL:
-.PHONY: run build lib test check fmt bench attack install install-program install-library dist clean help
+.PHONY: run build lib test check fmt bench soak attack install install-program install-library dist clean help
 
 # Where the program is not built, this is a run of a minute that is checked, and not proved.
 run:                ## print the table of INPUT (INPUT=/dev/stdin reads standard input) as WORDS ask
@@ -38,6 +38,12 @@ fmt:                ## lay out the source files
 
 bench: $(PROGRAM)   ## instructions and memory per input byte (BENCH='--kinds wide' and the like)
 	@bench/run $(BENCH)
+
+# CASES and SEED, and a folder MODEL with the plain model, which is no part of this repository.
+CASES ?= 100000
+SEED ?= 1
+soak: $(PROGRAM)    ## compare CASES random runs with the plain model of the folder MODEL
+	@bench/soak '$(MODEL)' --cases $(CASES) --seed $(SEED)
 
 attack:             ## try the wrong bodies of attacks/ (ATTACK='CRATE' or 'CRATE/NAME' for some)
 	@attacks/run $(ATTACK)
