@@ -12,14 +12,14 @@ use Rattle.columns_table.proofs.ListedLemmas.{listed-good, listed-range, listed-
 use Rattle.columns_table.proofs.NaturalLemmas.{OnOk-always}
 use Rattle.columns_table.proofs.table.write_grid.Goals as goal
 
-pub write_table-requires-clause-good : goal.write_table-requires-clause-good
-write_table-requires-clause-good g c =
+pub write_lines-requires-clause-good : goal.write_lines-requires-clause-good
+write_lines-requires-clause-good g c =
     let some : c.args.sizes.lines ≢ 0 = λ none. omega (arith, none, c.if-sizes-eq0.false) in
     listed-good c.args.settings.now (g.R.RecordColumns.columns c.args.records.now) (g.R.RecordTexts.rows c.args.records.now) c.args.sizes c.as_slice-widths.result.now c.as_slice-heights.result.now c.as_slice-widths.ensures.value c.as_slice-heights.ensures.value
     (c.requires.listed some) (c.requires.fits some)
 
-pub write_table-requires-clause-range : goal.write_table-requires-clause-range
-write_table-requires-clause-range g c =
+pub write_lines-requires-clause-range : goal.write_lines-requires-clause-range
+write_lines-requires-clause-range g c =
     let some : c.args.sizes.lines ≢ 0 = λ none. omega (arith, none, c.if-sizes-eq0.false) in
     listed-range c.args.settings.now (g.R.RecordColumns.columns c.args.records.now) (g.R.RecordTexts.rows c.args.records.now) c.args.sizes c.as_slice-widths.result.now c.as_slice-heights.result.now c.as_slice-widths.ensures.value c.as_slice-heights.ensures.value
     (c.requires.listed some) (c.requires.fits some)
@@ -34,7 +34,7 @@ pub returns-in_err-fault-clause-text : goal.returns-in_err-fault-clause-text
 returns-in_err-fault-clause-text g c =
     let K = g.W.Write.contents in
     let a = c.args.writer.now in
-    let b = c.write_table.new.writer in
+    let b = c.write_lines.new.writer in
     let grid = (table_text (look_of c.args.settings.now) (g.R.RecordTexts.rows c.args.records.now) (cell_color c.args.colors.now) c.as_slice-widths.result.now c.as_slice-heights.result.now) in
     let whole = (if c.args.sizes.lines == 0 then [] else (grid_text (look_of c.args.settings.now) (slice_index c.args.sizes.widths.items) (slice_index c.args.sizes.heights.items) (cell_color c.args.colors.now) (g.R.RecordColumns.columns c.args.records.now) (g.R.RecordTexts.rows c.args.records.now)) ++ line_feed ∷ []) in
     let is : whole ≡ grid ++ line_feed ∷ [] = ended-is c.args.sizes.lines (grid_text (look_of c.args.settings.now) (slice_index c.args.sizes.widths.items) (slice_index c.args.sizes.heights.items) (cell_color c.args.colors.now) (g.R.RecordColumns.columns c.args.records.now) (g.R.RecordTexts.rows c.args.records.now)) grid (λ none. omega (arith, none, c.if-sizes-eq0.false))
@@ -45,7 +45,7 @@ pub returns-in-Err-clause-text : goal.returns-in-Err-clause-text
 returns-in-Err-clause-text g c =
     let K = g.W.Write.contents in
     let a = c.args.writer.now in
-    let b = c.write_table.new.writer in
+    let b = c.write_lines.new.writer in
     let grid = (table_text (look_of c.args.settings.now) (g.R.RecordTexts.rows c.args.records.now) (cell_color c.args.colors.now) c.as_slice-widths.result.now c.as_slice-heights.result.now) in
     let whole = (if c.args.sizes.lines == 0 then [] else (grid_text (look_of c.args.settings.now) (slice_index c.args.sizes.widths.items) (slice_index c.args.sizes.heights.items) (cell_color c.args.colors.now) (g.R.RecordColumns.columns c.args.records.now) (g.R.RecordTexts.rows c.args.records.now)) ++ line_feed ∷ []) in
     let is : whole ≡ grid ++ line_feed ∷ [] = ended-is c.args.sizes.lines (grid_text (look_of c.args.settings.now) (slice_index c.args.sizes.widths.items) (slice_index c.args.sizes.heights.items) (cell_color c.args.colors.now) (g.R.RecordColumns.columns c.args.records.now) (g.R.RecordTexts.rows c.args.records.now)) grid (λ none. omega (arith, none, c.if-sizes-eq0.false))
@@ -56,7 +56,7 @@ pub returns-clause-text : goal.returns-clause-text
 returns-clause-text g c =
     let K = g.W.Write.contents in
     let a = c.args.writer.now in
-    let b = c.write_table.new.writer in
+    let b = c.write_lines.new.writer in
     let grid = (table_text (look_of c.args.settings.now) (g.R.RecordTexts.rows c.args.records.now) (cell_color c.args.colors.now) c.as_slice-widths.result.now c.as_slice-heights.result.now) in
     let whole = (if c.args.sizes.lines == 0 then [] else (grid_text (look_of c.args.settings.now) (slice_index c.args.sizes.widths.items) (slice_index c.args.sizes.heights.items) (cell_color c.args.colors.now) (g.R.RecordColumns.columns c.args.records.now) (g.R.RecordTexts.rows c.args.records.now)) ++ line_feed ∷ []) in
     let is : whole ≡ grid ++ line_feed ∷ [] = ended-is c.args.sizes.lines (grid_text (look_of c.args.settings.now) (slice_index c.args.sizes.widths.items) (slice_index c.args.sizes.heights.items) (cell_color c.args.colors.now) (g.R.RecordColumns.columns c.args.records.now) (g.R.RecordTexts.rows c.args.records.now)) grid (λ none. omega (arith, none, c.if-sizes-eq0.false))

@@ -1,0 +1,23 @@
+-- Where no colour is given no cell has one.
+use Rattle.std.proofs.Common.{◌≡◌, ◌∷◌, List, [], ℕ, Option, length, refl, subst, arith, None}
+use Rattle.std.proofs.lemmas.Bool.Decides.{nat_tests}
+use Rattle.columns_colors.specs.ColumnColors.{cell_color}
+use Rattle.grid_config.specs.Colors.{Color}
+use Rattle.grid_config_values.specs.declared.position.Position.{Position}
+use Rattle.grid_config.specs.Looks.{look_of}
+use Rattle.papergrid_picture.specs.Tables.{table_text}
+use Rattle.tabled_output.specs.Pieces.{Passes}
+use Rattle.columns_table.proofs.table.write_lines.Goals as goal
+
+abbrev no_color : Position → Option Color
+no_color cell = None
+
+none-given : (colors : List (ℕ × Color)) → length colors ≡ 0 → no_color ≡ cell_color colors
+none-given [] empty = refl
+none-given (given ∷ more) empty = absurd (omega (arith, empty))
+
+pub returns-then-is_empty : goal.returns-then-is_empty
+returns-then-is_empty g c =
+    let empty : length c.args.colors.now ≡ 0 = grind (arith, nat_tests, c.is_empty.ensures, c.if-is_empty.true) in
+    subst (λ (colors : Position → Option Color). Passes g.W.Write.contents (table_text (look_of c.args.settings.now) (g.R.RecordTexts.rows c.args.records.now) colors c.args.widths.now c.args.heights.now) c.write_table.result [] c.args.writer.now c.write_table.new.writer)
+    (none-given c.args.colors.now empty) c.write_table.ensures
