@@ -16,7 +16,6 @@ int main(int count, char **paths) {
         fclose(file);
         LLVMFuzzerTestOneInput(data, size);
         free(data);
-        puts(paths[i]);
     }
     return 0;
 }

@@ -84,8 +84,6 @@ static size_t utf8_front(struct bytes text) {
 }
 
 /* Which attributes a rendition sets or clears: a bit each. */
-enum { ALL = 0x1fffff };
-
 static unsigned set_by(int code) {
     static const int codes[] = {1, 2, 3, 20, 4, 21, 5, 6, 7, 8, 9, 26, 51, 52, 53, 60, 61, 62, 63, 64, 73, 74};
     for (unsigned i = 0; i < sizeof codes / sizeof *codes; i++) if (codes[i] == code) return 1u << i;
@@ -153,8 +151,9 @@ static void ends_plain(struct bytes table) {
     }
 }
 
-/* Whether all lines are as long, which those of printable ASCII are. */
-static void is_straight(struct bytes text, struct bytes table) {
+/* Whether all lines are as long, which those of printable ASCII in lines of ASCII, or in none, are. */
+static void is_straight(uint32_t style, struct bytes text, struct bytes table) {
+    if (style != BASINMUG_ASCII && style != BASINMUG_EMPTY) return;
     for (size_t i = 0; i < text.size; i++)
         if (!is_between(text.at[i], 0x20, 0x7e) && text.at[i] != '\t' && text.at[i] != '\n') return;
     size_t first = 0, start = 0;
@@ -200,9 +199,8 @@ int LLVMFuzzerTestOneInput(const uint8_t *data, size_t size) {
         ends_plain(table);
         struct bytes plain = stripped(text), left = stripped(table);
         HOLDS(table_of(&options, plain, &plain_table) == BASINMUG_OK);
-        /* an escape that joins over a sequence is none of the stripped text's own */
         HOLDS(left.size == plain_table.size && memcmp(left.at, plain_table.at, left.size) == 0);
-        is_straight(plain, plain_table);
+        is_straight(options.style, plain, plain_table);
         free(plain.at), free(left.at), free(plain_table.at);
     }
     free(text.at), free(table.at);
