@@ -1,14 +1,17 @@
 -- What one run promises, of an input: which answer it calls for, and what is written.
-use Rattle.std.specs.Prelude.{◌≡◌, ℕ, ◌^◌, ◌≤◌, List, length, ⊤, Option, None, Some, Result, Ok, Err, IsUtf8}
+use Rattle.std.specs.Prelude.{◌≡◌, ◌≢◌, ◌↔◌, ◌⊎◌, ℕ, ◌^◌, ◌≤◌, List, length, ⊤, Option, None, Some, Result, Ok, Err, IfErr, IfSome, IsErrOf, IsUtf8}
 use Rattle.std.specs.Str.Lossy.{utf8_valid_len}
-use Rattle.std.specs.Io.KnownBytes.{Appends, Keeps}
+use Rattle.std.specs.Io.KnownBytes.{Appends, IsAtEnd, Keeps}
 use Rattle.columns_run.specs.declared.fault.RunFault.{RunFault}
 use Rattle.columns_run.specs.declared.fault.RunFault.TheVariants.{Read, ReadTooLong, NotUtf8, Escape, Range, LineTooWide, Write, WriteZero, Memory}
 use Rattle.ansi_scan.specs.Sequences.{IsWhole, IsFirstBroken}
 use Rattle.columns_run.specs.Layout.{output_of, TableFits, wide_cell}
 use Rattle.columns_run.specs.TableShown.{ShowsTableOf}
 use Rattle.columns_run.specs.Wanted.{Wanted}
-use Rattle.tabled_output.specs.Streams.{AppendsFront}
+use Rattle.columns_run.specs.Fault.{MayFollowWrites}
+use Rattle.tabled_output.specs.declared.counted.Counted.{Counted}
+use Rattle.tabled_output.specs.Counts.{FailsIff, HasGivenPieces, OnlyReads, OnlyWrites, TakesNothingIff, TellsEnd, TellsNoEnd, inner_of}
+use Rattle.tabled_output.specs.Streams.{AppendsFront, ConsumesSome}
 
 -- how many reads without an end are too many
 abbrev pub read_limit : ℕ
@@ -64,3 +67,31 @@ pub record Serves {T : Type 0} (wanted : Wanted) (input : List ℕ) (result : Re
 pub record LeavesAlone {T : Type 0} (wanted : Wanted) (input : List ℕ) (old new : T) : Type 0 where
   pub no_table : ¬ (HasTable wanted input) → new ≡ old
   pub empty : length (output_of wanted input) ≡ 0 → new ≡ old
+
+-- of an input: what is answered and written, and when the writer is left alone
+abbrev pub AnswersInput : {T W : Type 0} → (W → Option (List ℕ)) → Wanted → Result T RunFault → Counted W → Counted W → List ℕ → Type 0
+AnswersInput contents wanted result before after input =
+    Serves wanted input result (contents (inner_of before)) (contents (inner_of after)) × LeavesAlone wanted input before after
+
+-- one run: a reader, of which `remaining` tells the bytes that are left, to a writer, of which `contents` tells the bytes that it took
+pub record IsRun {R W T : Type 0} (remaining : R → Option (List ℕ)) (contents : W → Option (List ℕ)) (wanted : Wanted) (result : Result T RunFault)
+    (reader reader_then : Counted R) (writer writer_then : Counted W) : Type 0 where
+  -- where the reader's bytes are known, they decide the answer and what is written
+  pub known_input : IfSome (remaining (inner_of reader)) (AnswersInput contents wanted result writer writer_then)
+  -- where they are not, the same holds of some bytes; nothing but the counts below ties these to what the reader gave
+  pub some_input : ConsumesSome (remaining (inner_of reader)) (remaining (inner_of reader_then)) (AnswersInput contents wanted result writer writer_then)
+  pub at_end : HasReadAll result → IsAtEnd (remaining (inner_of reader_then))
+  -- the reader tells its end once, by its last answer, and else not
+  pub told_end : HasReadAll result → TellsEnd reader reader_then
+  pub no_end : (IsErrOf result Read ⊎ IsErrOf result ReadTooLong) → TellsNoEnd reader reader_then
+  pub one_end : TellsEnd reader reader_then ⊎ TellsNoEnd reader reader_then
+  -- the counts say exactly when a fault of the reader or the writer comes
+  pub read : FailsIff (IsErrOf result Read) reader reader_then
+  pub read_too_long : result ≢ Err Memory → (IsErrOf result ReadTooLong ↔ HasGivenPieces reader reader_then read_limit)
+  pub write : FailsIff (IsErrOf result Write) writer writer_then
+  pub write_zero : TakesNothingIff (IsErrOf result WriteZero) writer writer_then
+  -- a reader is only read, and a writer only written, by pieces that have bytes: nothing is flushed
+  pub only_reads : OnlyReads reader reader_then
+  pub only_writes : OnlyWrites writer writer_then
+  -- a fault of the reader or the input comes before the writer is touched
+  pub untouched : IfErr result (λ fault. ¬ (MayFollowWrites fault) → writer_then ≡ writer)

@@ -1,14 +1,11 @@
 //! From a reader to a writer: all bytes, the text, the table.
-ghost use Rattle.std.specs.Prelude.{◌≡◌, ◌≢◌, ◌↔◌, ◌⊎◌, IfSome, IfErr, IsErrOf, Err};
-ghost use Rattle.std.specs.Io.KnownBytes.{IsAtEnd};
-ghost use Rattle.tabled_output.specs.Counts.{inner_of, FailsIff, HasGivenPieces, OnlyReads, OnlyWrites, TakesNothingIff, TellsEnd, TellsNoEnd};
+ghost use Rattle.std.specs.Prelude.{◌≡◌, IfErr};
 ghost use Rattle.columns_options.specs.ColumnColors.{AllClose};
-ghost use Rattle.columns_run.specs.Fault.{IsOfTable, MayFollowWrites};
+ghost use Rattle.columns_run.specs.Fault.{IsOfTable};
 ghost use Rattle.grid_config.specs.Compact.{compact_of};
 ghost use Rattle.columns_run.specs.Layout.{output_of};
 ghost use Rattle.columns_run.specs.Plain.{IsPlain};
-ghost use Rattle.tabled_output.specs.Streams.{ConsumesSome};
-ghost use Rattle.columns_run.specs.Run.{MayAnswer, Serves, LeavesAlone, HasReadAll, read_limit};
+ghost use Rattle.columns_run.specs.Run.{IsRun, LeavesAlone, MayAnswer};
 ghost use Rattle.columns_run.specs.Wanted.{wanted_of, without_width};
 ghost use Rattle.columns_run.specs.Written.{IsWritten};
 
@@ -40,39 +37,7 @@ pub fn run<R: Read, W: Write>(
 ) -> Result<(), RunFault>
     requires plain { IsPlain (compact_of options.now.style) }
     requires close { AllClose options.now.colors.items }
-
-    // Where the reader's bytes are known, they decide the answer and what is written.
-    ensures known_input { IfSome (R.remaining (inner_of reader.old)) (λ input.
-        Serves (wanted_of options.now) input result (W.contents (inner_of writer.old)) (W.contents (inner_of writer.new))
-        × LeavesAlone (wanted_of options.now) input writer.old writer.new) }
-
-    // Where they are not, the same holds of some bytes. Nothing but the counts below ties these to what the
-    // reader gave.
-    ensures some_input { ConsumesSome (R.remaining (inner_of reader.old))
-        (R.remaining (inner_of reader.new)) (λ input.
-        Serves (wanted_of options.now) input result (W.contents (inner_of writer.old)) (W.contents (inner_of writer.new))
-        × LeavesAlone (wanted_of options.now) input writer.old writer.new) }
-    ensures at_end { HasReadAll result → IsAtEnd (R.remaining (inner_of reader.new)) }
-
-    // The reader tells its end once, by its last answer, and else not.
-    ensures told_end { HasReadAll result → TellsEnd reader.old reader.new }
-    ensures no_end { (IsErrOf result RunFault.Read ⊎ IsErrOf result RunFault.ReadTooLong) → TellsNoEnd reader.old reader.new }
-    ensures one_end { TellsEnd reader.old reader.new ⊎ TellsNoEnd reader.old reader.new }
-
-    // The counts say exactly when a fault of the reader or the writer comes.
-    ensures read { FailsIff (IsErrOf result RunFault.Read) reader.old reader.new }
-    ensures read_too_long { result ≢ Err RunFault.Memory →
-        (IsErrOf result RunFault.ReadTooLong ↔ HasGivenPieces reader.old reader.new read_limit) }
-    ensures write { FailsIff (IsErrOf result RunFault.Write) writer.old writer.new }
-    ensures write_zero { TakesNothingIff (IsErrOf result RunFault.WriteZero) writer.old writer.new }
-
-    // A reader is only read, and a writer only written, by pieces that have bytes: nothing is flushed.
-    ensures only_reads { OnlyReads reader.old reader.new }
-    ensures only_writes { OnlyWrites writer.old writer.new }
-
-    // A fault of the reader or the input comes before the writer is touched.
-    ensures untouched { IfErr result (λ fault.
-        ¬ (MayFollowWrites fault) → writer.new ≡ writer.old) }
+    ensures { IsRun R.remaining W.contents (wanted_of options.now) result reader.old reader.new writer.old writer.new }
 {
     let bytes = read_all(alloc, reader, READ_LIMIT)?;
     write_table(alloc, options, &bytes, writer)
@@ -87,39 +52,7 @@ pub fn run_streamed<R: Read, W: Write>(
     writer: &mut Counted<W>,
 ) -> Result<(), RunFault>
     requires { IsPlain (compact_of style.now) }
-
-    // Where the reader's bytes are known, they decide the answer and what is written.
-    ensures known_input { IfSome (R.remaining (inner_of reader.old)) (λ input.
-        Serves (without_width (compact_of style.now)) input result (W.contents (inner_of writer.old)) (W.contents (inner_of writer.new))
-        × LeavesAlone (without_width (compact_of style.now)) input writer.old writer.new) }
-
-    // Where they are not, the same holds of some bytes. Nothing but the counts below ties these to what the
-    // reader gave.
-    ensures some_input { ConsumesSome (R.remaining (inner_of reader.old))
-        (R.remaining (inner_of reader.new)) (λ input.
-        Serves (without_width (compact_of style.now)) input result (W.contents (inner_of writer.old)) (W.contents (inner_of writer.new))
-        × LeavesAlone (without_width (compact_of style.now)) input writer.old writer.new) }
-    ensures at_end { HasReadAll result → IsAtEnd (R.remaining (inner_of reader.new)) }
-
-    // The reader tells its end once, by its last answer, and else not.
-    ensures told_end { HasReadAll result → TellsEnd reader.old reader.new }
-    ensures no_end { (IsErrOf result RunFault.Read ⊎ IsErrOf result RunFault.ReadTooLong) → TellsNoEnd reader.old reader.new }
-    ensures one_end { TellsEnd reader.old reader.new ⊎ TellsNoEnd reader.old reader.new }
-
-    // The counts say exactly when a fault of the reader or the writer comes.
-    ensures read { FailsIff (IsErrOf result RunFault.Read) reader.old reader.new }
-    ensures read_too_long { result ≢ Err RunFault.Memory →
-        (IsErrOf result RunFault.ReadTooLong ↔ HasGivenPieces reader.old reader.new read_limit) }
-    ensures write { FailsIff (IsErrOf result RunFault.Write) writer.old writer.new }
-    ensures write_zero { TakesNothingIff (IsErrOf result RunFault.WriteZero) writer.old writer.new }
-
-    // A reader is only read, and a writer only written, by pieces that have bytes: nothing is flushed.
-    ensures only_reads { OnlyReads reader.old reader.new }
-    ensures only_writes { OnlyWrites writer.old writer.new }
-
-    // A fault of the reader or the input comes before the writer is touched.
-    ensures untouched { IfErr result (λ fault.
-        ¬ (MayFollowWrites fault) → writer.new ≡ writer.old) }
+    ensures { IsRun R.remaining W.contents (without_width (compact_of style.now)) result reader.old reader.new writer.old writer.new }
 {
     run(alloc, &without_width(alloc, style), reader, writer)
 }
