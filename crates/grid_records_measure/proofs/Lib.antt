@@ -6,6 +6,7 @@ pub mod RawLineLemmas
 pub mod Drained
 pub mod PlainLemmas
 pub mod PrintableLemmas
+pub mod PrintableCuts
 pub mod ShownCuts
 pub mod TextLineLemmas
 pub mod TrimmedLemmas

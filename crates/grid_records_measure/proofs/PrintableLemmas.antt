@@ -17,7 +17,7 @@ use Rattle.grid_records_measure.specs.Measures.{are_printable, measure}
 in_range-ascii : (b : ℕ) → is_in_range 0x20 0x7E b ≡ true → b < 128
 in_range-ascii b h = grind (arith, nat_tests)
 
-printable-ascii : (bytes : List ℕ) → are_printable bytes ≡ true → (i : ℕ) → get_or bytes i 0 < 128
+pub printable-ascii : (bytes : List ℕ) → are_printable bytes ≡ true → (i : ℕ) → get_or bytes i 0 < 128
 printable-ascii [] h i = omega arith
 printable-ascii (b ∷ bs) h zero = in_range-ascii b (and_parts (is_in_range 0x20 0x7E b) (are_printable bs) h).0
 printable-ascii (b ∷ bs) h (suc i) = printable-ascii bs (and_parts (is_in_range 0x20 0x7E b) (are_printable bs) h).1 i

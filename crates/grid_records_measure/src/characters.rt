@@ -2,6 +2,7 @@
 ghost use Rattle.std.specs.Prelude.{◌≡◌, chars};
 ghost use Rattle.grid_records_measure.specs.Measures.{cost, measure, own_width};
 
+use crate::printable::is_printable;
 use unicode_width::{UnicodeWidthChar, UnicodeWidthStr};
 
 /// The columns that a character takes by itself; none counts as 0. Does not allocate. (Unicode Standard
@@ -16,7 +17,11 @@ pub fn get_char_width(c: char) -> usize
 pub fn get_string_width(text: &str) -> usize
     ensures { result ≡ measure (chars text.now) }
 {
-    text.width()
+    if is_printable(text) {
+        text.len()
+    } else {
+        text.width()
+    }
 }
 
 /// What a character costs in a line that is cut or broken: the larger of 1 and its own width.

@@ -9,6 +9,7 @@ ghost use Rattle.grid_records_measure.specs.CutTexts.{cut_at};
 ghost use Rattle.grid_records_measure.specs.Filling.{behind_front, columns_with, front, front_columns};
 
 use crate::characters::cost;
+use crate::printable::is_printable;
 use ansi_str::{AnsiStr, get_blocks};
 use std::alloc::{AllocError, Global};
 use std::borrow::CowStr;
@@ -38,6 +39,9 @@ fn place_and_lacking(text: &str, width: usize) -> (usize, usize)
     ensures place { result.0 ≡ length (encode_utf8_all (front width 0 (chars (strip (pieces_of text.now))))) }
     ensures left { result.1 ≡ lacking width (front width 0 (chars (strip (pieces_of text.now)))) (behind_front width 0 (chars (strip (pieces_of text.now)))) }
 {
+    if let Some(place) = printable_front(text, width) {
+        return (place, 0);
+    }
     let mut place = 0;
     let mut used = 0;
     for block in get_blocks(text) {
@@ -50,6 +54,21 @@ fn place_and_lacking(text: &str, width: usize) -> (usize, usize)
         }
     }
     (place, 0)
+}
+
+/// How many bytes fit of a text whose first bytes are printable ASCII, as many as the width or all: just these, and
+/// no column is lacking. None of any other text.
+fn printable_front(text: &str, width: usize) -> Option<usize>
+    ensures place { IfSome result (λ place. place ≡ length (encode_utf8_all (front width 0 (chars (strip (pieces_of text.now)))))) }
+    ensures left { IfSome result (λ _. 0 ≡ lacking width (front width 0 (chars (strip (pieces_of text.now)))) (behind_front width 0 (chars (strip (pieces_of text.now))))) }
+{
+    let room = width.min(text.len());
+    let (front, _) = text.split_at_checked(room)?;
+    if is_printable(front) {
+        Some(room)
+    } else {
+        None
+    }
 }
 
 /// How many bytes of a text without sequences fit after `before` columns of a line, and the columns of the

@@ -5,11 +5,12 @@ ghost use Rattle.ansi_str.specs.StyledText.{strip};
 ghost use Rattle.grid_records_measure.specs.Measures.{measure};
 ghost use Rattle.grid_records_measure.specs.TextLines.{line_width, shown_lines, text_height, text_width, widest};
 
+use crate::characters::get_string_width;
 use crate::printable::printable_width;
 use crate::raw_lines::split_line;
 use ansi_str::AnsiStr;
 use ansi_str_text::stripped_chars;
-use unicode_width::{UnicodeWidthStr, char_iter_width};
+use unicode_width::char_iter_width;
 
 /// The columns that a text takes without its sequences, as one line. Does not allocate. (Unicode Standard
 /// Annex 11, by the rules of `unicode_width`.)
@@ -18,7 +19,7 @@ pub fn get_line_width(text: &str) -> usize
     ensures text { result ≡ line_width text.now }
 {
     if !text.ansi_has_any() {
-        return text.width();
+        return get_string_width(text);
     }
     match printable_width(text) {
         Some(width) => width,

@@ -26,11 +26,14 @@ pub(crate) fn printable_width(text: &str) -> Option<usize>
     Some(width)
 }
 
-/// Whether each byte is printable ASCII.
-fn is_printable(text: &str) -> bool
+/// Whether each byte of a text is printable ASCII, which takes one column. Each byte is looked at, so that many are
+/// compared at a time. Does not allocate.
+pub fn is_printable(text: &str) -> bool
     ensures { result ≡ are_printable text.now }
 {
-    text.as_bytes()
-        .iter()
-        .all(|byte| matches!(*byte, b' '..=b'~'))
+    let mut printable = true;
+    for byte in text.as_bytes() {
+        printable &= matches!(*byte, b' '..=b'~');
+    }
+    printable
 }

@@ -1,11 +1,17 @@
 //! The lines of a text as they stand in it: between the line feeds that it shows.
 ghost use Rattle.std.specs.Prelude.{◌≡◌, ◌<◌, ◌∷◌, IfSome, length};
+ghost use Rattle.std.specs.List.{prefix_len};
 ghost use Rattle.ansi_scan.specs.Pieces.{pieces};
 ghost use Rattle.ansi_str.specs.StyledText.{strip};
-ghost use Rattle.grid_records_measure.specs.TextLines.{shown_lines};
+ghost use Rattle.ansi_str.specs.Walking.{is_other};
+ghost use Rattle.grid_records_measure.specs.TextLines.{line_feed, shown_lines};
 ghost use Rattle.grid_records_measure.specs.RawLines.{IsFromLineFeed, IsLineAndRest, lines_behind};
 
-use ansi_str_search::{begins_with_escape, behind_item, run_len};
+use ansi_str_search::{begins_with_escape, behind_item};
+use memchr::memchr2;
+
+/// ESCAPE (ECMA-48, 8.3.48).
+const ESC: u8 = 0x1b;
 
 /// The first line of a text as it stands there, byte for byte, and what stands after its line feed; the
 /// whole text where it shows none. Does not allocate.
@@ -26,10 +32,20 @@ pub fn split_line(text: &str) -> (&str, Option<&str>)
 fn from_line_feed(text: &str) -> &str
     ensures { IsFromLineFeed text.now result.now }
 {
-    let mut rest = &text[run_len(text, b'\n')..];
+    let mut rest = &text[run_len(text)..];
     while begins_with_escape(rest) {
         rest = behind_item(rest);
-        rest = &rest[run_len(rest, b'\n')..];
+        rest = &rest[run_len(rest)..];
     }
     rest
+}
+
+/// How many bytes stand before the first ESC and the first line feed, or all where neither comes.
+fn run_len(text: &str) -> usize
+    ensures value { result ≡ prefix_len (is_other line_feed) text.now }
+{
+    match memchr2(ESC, b'\n', text.as_bytes()) {
+        Some(len) => len,
+        None => text.len(),
+    }
 }

@@ -6,6 +6,7 @@ pub mod FewestLemmas
 pub mod StandingLemmas
 pub mod WalkLemmas
 pub mod AsciiLemmas
+pub mod PrintableLemmas
 pub mod WrapLemmas
 pub mod WorkedLemmas
 pub mod ShowLemmas

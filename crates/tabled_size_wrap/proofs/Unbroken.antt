@@ -189,7 +189,7 @@ line_is width keep_words line plain stay =
 -- ---- a text
 
 -- the lines of a text without ESC are its parts between line feeds
-plain_lines : (text : List ℕ) → has_escape text ≡ false → text_lines text ≡ slice_split is_line_feed text
+pub plain_lines : (text : List ℕ) → has_escape text ≡ false → text_lines text ≡ slice_split is_line_feed text
 plain_lines text plain =
     let are = text_lines-are text in
     let of_text = ArePiecesOf-pieces text in

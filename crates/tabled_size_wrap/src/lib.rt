@@ -3,6 +3,7 @@
 
 mod broken_lines;
 mod cut;
+mod full_lines;
 pub mod laws;
 mod line_units;
 mod staying;

@@ -4,8 +4,9 @@ ghost use Rattle.ansi_scan.specs.Sequences.{Piece, ArePiecesOf};
 ghost use Rattle.ansi_str.specs.StyledText.{strip};
 ghost use Rattle.tabled_size_wrap.specs.Units.{line_units, placed};
 
-use crate::words::{cost, split_character, split_word, word_cost};
+use crate::words::{cost, split_character, split_word};
 use ansi_str::AnsiStr;
+use grid_records_measure::get_string_width;
 use std::alloc::{AllocError, Global};
 use std::marker::Model;
 
@@ -103,7 +104,7 @@ impl Iterator for LineUnits<'_> {
         let start = self.place;
         if self.characters.is_empty() {
             let (word, rest) = split_word(self.words);
-            let cost = word_cost(word);
+            let cost = get_string_width(word);
             self.words = rest;
             if !word.is_empty() && cost <= self.width {
                 self.place += word.len();

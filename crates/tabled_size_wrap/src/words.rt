@@ -1,11 +1,11 @@
 //! Words of a line without sequences, and what they cost.
 ghost use Rattle.std.specs.Prelude.{◌≡◌, ◌++◌, ◌∷◌, [], MatchOption, not, chars, encode_utf8};
 ghost use Rattle.std.specs.List.{prefix_len};
-ghost use Rattle.grid_records_measure.specs.Measures.{are_printable, cost, measure};
+ghost use Rattle.grid_records_measure.specs.Measures.{cost};
 ghost use Rattle.tabled_size_wrap.specs.Units.{is_space};
 ghost use Rattle.tabled_size_wrap.specs.Words.{AreWordAndRest};
 
-use grid_records_measure::{get_char_width, get_string_width};
+use grid_records_measure::get_char_width;
 
 /// The word at the front of a text, or the space that stands there, and what stands after it; nothing
 /// twice where the text is empty.
@@ -36,26 +36,6 @@ fn word_len(text: &str) -> usize
         }
     }
     text.len()
-}
-
-/// The columns that a word takes.
-pub(crate) fn word_cost(word: &str) -> usize
-    ensures { result ≡ measure (chars word.now) }
-{
-    if is_printable(word) {
-        word.len()
-    } else {
-        get_string_width(word)
-    }
-}
-
-// Whether each byte is printable ASCII, which takes one column.
-fn is_printable(text: &str) -> bool
-    ensures { result ≡ are_printable text.now }
-{
-    text.as_bytes()
-        .iter()
-        .all(|byte| matches!(*byte, b' '..=b'~'))
 }
 
 /// What a character costs: the larger of 1 and the columns that it takes by itself.

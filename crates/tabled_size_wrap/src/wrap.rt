@@ -5,7 +5,8 @@ ghost use Rattle.tabled_size_wrap.specs.Bytes.{wrapped_text};
 ghost use Rattle.tabled_size_wrap.specs.Wrapping.{IsWrapped};
 
 use crate::broken_lines::push_broken_lines;
-use grid_records_measure::get_lines;
+use crate::full_lines::full_lines;
+use grid_records_measure::{get_lines, is_printable};
 use std::alloc::{AllocError, Global};
 
 /// A text with its lines broken at a width, in columns. Each line of `get_lines` is broken by itself into runs of
@@ -25,10 +26,13 @@ pub fn wrap_styled(
     ensures bytes { IfOk result (λ out. string_bytes out ≡ wrapped_text width keep_words text.now) }
     ensures nothing { width ≡ 0 → IsOk result }
 {
-    let mut out = String::new(alloc);
     if width == 0 {
-        return Ok(out);
+        return Ok(String::new(alloc));
     }
+    if !keep_words && !text.is_empty() && is_printable(text) {
+        return full_lines(alloc, text, width);
+    }
+    let mut out = String::new(alloc);
     let mut begun = false;
     for line in get_lines(alloc, text) {
         let line = line?;

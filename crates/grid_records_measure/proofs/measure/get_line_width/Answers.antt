@@ -13,7 +13,7 @@ use Rattle.grid_records_measure.proofs.measure.get_line_width.Goals as goal
 
 pub returns-then-not-ansi_has_any-clause-pieces : goal.returns-then-not-ansi_has_any-clause-pieces
 returns-then-not-ansi_has_any-clause-pieces c = λ found of_text.
-    c.width.ensures.value ∙ ap (λ (bytes : List ℕ). measure (chars bytes)) (sym (strip-without_escape c.args.text.now found of_text (sym c.ansi_has_any.ensures ∙ c.if-not-ansi_has_any.true)))
+    c.get_string_width.ensures ∙ ap (λ (bytes : List ℕ). measure (chars bytes)) (sym (strip-without_escape c.args.text.now found of_text (sym c.ansi_has_any.ensures ∙ c.if-not-ansi_has_any.true)))
 
 pub returns-then-not-ansi_has_any-clause-text : goal.returns-then-not-ansi_has_any-clause-text
 returns-then-not-ansi_has_any-clause-text c = returns-then-not-ansi_has_any-clause-pieces c (pieces c.args.text.now) (ArePiecesOf-pieces c.args.text.now)

@@ -1,14 +1,20 @@
 -- The lines come one after the other, and all of them come.
-use Rattle.std.proofs.Common.{◌≡◌, ◌∙◌, ◌<◌, ◌++◌, ◌∷◌, [], List, ℕ, Bool, flat_map, ap, sym, arith, append-nil, string_bytes, if◌then◌else◌}
+use Rattle.std.proofs.Common.{◌≡◌, ◌∙◌, ◌<◌, ◌++◌, ◌∷◌, [], List, ℕ, Bool, true, false, flat_map, ap, sym, arith, append-nil, string_bytes, if◌then◌else◌}
 use Rattle.std.specs.Cow.{cow_str_bytes}
 use Rattle.std.specs.List.{join_with_byte}
+use Rattle.std.proofs.lemmas.Result.{IfOk-weaker}
 use Rattle.std.proofs.lemmas.Str.{encode_ascii}
 use Rattle.ansi_scan.specs.Pieces.{pieces}
+use Rattle.ansi_scan.specs.Sequences.{Piece, ArePiecesOf}
 use Rattle.ansi_str.specs.Splitting.{PartsLeft}
+use Rattle.grid_records_measure.specs.Measures.{are_printable}
 use Rattle.grid_records_measure.specs.TextLines.{line_feed}
+use Rattle.tabled_size_wrap.specs.Bytes.{wrapped_text}
 use Rattle.tabled_size_wrap.specs.Runs.{broken_lines}
+use Rattle.tabled_size_wrap.specs.Wrapping.{IsWrapped}
 use Rattle.ansi_scan.proofs.Existence.{ArePiecesOf-pieces}
 use Rattle.tabled_size_wrap.proofs.BytesLemmas.{wrapped_text-one}
+use Rattle.tabled_size_wrap.proofs.PrintableLemmas.{printable-is_wrapped}
 use Rattle.tabled_size_wrap.proofs.WrapLemmas.{lines_left, line-more, line-last, next-line, is-wrapped, wrapped-nothing}
 use Rattle.tabled_size_wrap.proofs.wrap.wrap_styled.Goals as goal
 use Rattle.tabled_size_wrap.proofs.wrap.wrap_styled.Goals.{then-begun+in_ok-push, else-begun}
@@ -72,5 +78,25 @@ returns-clause-bytes c =
 pub returns-then-width-eq0-clause-bytes : goal.returns-then-width-eq0-clause-bytes
 returns-then-width-eq0-clause-bytes c =
     let text = c.args.text.now in
-    wrapped_text-one c.args.width c.args.keep_words text (string_bytes c.new-out.result) (pieces text) (ArePiecesOf-pieces text)
-    (wrapped-nothing c.args.width c.args.keep_words (pieces text) (string_bytes c.new-out.result) c.if-width-eq0.true c.new-out.ensures.bytes)
+    wrapped_text-one c.args.width c.args.keep_words text (string_bytes c.new.result) (pieces text) (ArePiecesOf-pieces text)
+    (wrapped-nothing c.args.width c.args.keep_words (pieces text) (string_bytes c.new.result) c.if-width-eq0.true c.new.ensures.bytes)
+
+-- printable ASCII is its only line
+pub returns-then-is_printable-clause-wrapped : goal.returns-then-is_printable-clause-wrapped
+returns-then-is_printable-clause-wrapped c =
+    let text = c.args.text.now in
+    let width = c.args.width in
+    let some : 0 < width = omega (arith, c.if-width-eq0.false) in
+    let printable : are_printable text ≡ true = sym c.is_printable.ensures ∙ c.if-is_printable.true in
+    IfOk-weaker c.full_lines.result (λ out. string_bytes out ≡ join_with_byte line_feed (broken_lines width false (pieces text)))
+    (λ out. (ps : List Piece) → ArePiecesOf text ps → IsWrapped width c.args.keep_words ps (string_bytes out))
+    (λ out is ps of_text. printable-is_wrapped text (string_bytes out) width c.args.keep_words ps some printable c.if-not-keep_words.true of_text is) c.full_lines.ensures
+
+pub returns-then-is_printable-clause-bytes : goal.returns-then-is_printable-clause-bytes
+returns-then-is_printable-clause-bytes c =
+    let text = c.args.text.now in
+    let width = c.args.width in
+    IfOk-weaker c.full_lines.result (λ out. (ps : List Piece) → ArePiecesOf text ps → IsWrapped width c.args.keep_words ps (string_bytes out))
+    (λ out. string_bytes out ≡ wrapped_text width c.args.keep_words text)
+    (λ out is. wrapped_text-one width c.args.keep_words text (string_bytes out) (pieces text) (ArePiecesOf-pieces text) (is (pieces text) (ArePiecesOf-pieces text)))
+    (returns-then-is_printable-clause-wrapped c)

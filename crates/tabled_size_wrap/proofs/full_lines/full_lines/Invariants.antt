@@ -1,0 +1,12 @@
+-- What was written and what the bytes that are left give are all lines.
+use denote.Shadow.{shadow}
+use denote.Text.{Utf8}
+use Rattle.std.proofs.Common.{length, string_bytes}
+use Rattle.tabled_size_wrap.proofs.PrintableLemmas.{Filled}
+use Rattle.tabled_size_wrap.proofs.full_lines.full_lines.Given as goal
+
+abbrev pub invariant-loop-rest : goal.invariant-loop-rest
+invariant-loop-rest l = shadow (Utf8 l.rest) × Filled l.text l.width (string_bytes l.out) l.rest
+
+abbrev pub decreases-loop-rest : goal.decreases-loop-rest
+decreases-loop-rest l = length l.rest
