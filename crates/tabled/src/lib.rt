@@ -29,8 +29,8 @@ pub use tabled_options::{
 pub use tabled_output::Counted;
 pub use tabled_size_dimension::SuffixLimit;
 pub use tabled_size_priority::{
-    Choice, Peaker, Priority, PriorityLeast, PriorityLeft, PriorityMax, PriorityMin, PriorityNone,
-    PriorityRight,
+    Choice, Peaker, Priority, PriorityChosen, PriorityLeast, PriorityLeft, PriorityMax,
+    PriorityMin, PriorityNone, PriorityRight,
 };
 pub use tabled_steps::{CellOption, Max, Measurement, Min, Percent, TableOption};
 pub use tabled_text::{Builder, CellText, Tabled};

@@ -16,7 +16,7 @@ pub mod formatting {
 /// Which columns give first where a table is made narrower.
 pub mod peaker {
     pub use tabled_size_priority::{
-        Choice, Peaker, Priority, PriorityLeast, PriorityLeft, PriorityMax, PriorityMin,
-        PriorityNone, PriorityRight,
+        Choice, Peaker, Priority, PriorityChosen, PriorityLeast, PriorityLeft, PriorityMax,
+        PriorityMin, PriorityNone, PriorityRight,
     };
 }

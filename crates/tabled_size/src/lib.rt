@@ -8,6 +8,7 @@ pub use tabled_size_dimension::{
     PoolTableDimension, StaticDimension, SuffixLimit, ZeroDimension,
 };
 pub use tabled_size_priority::{
-    Choice, Peaker, Priority, PriorityLeft, PriorityMax, PriorityMin, PriorityNone, PriorityRight,
+    Choice, Peaker, Priority, PriorityChosen, PriorityLeast, PriorityLeft, PriorityMax,
+    PriorityMin, PriorityNone, PriorityRight,
 };
 pub use tabled_size_wrap::{Unit, cut_styled, units, wrap_styled};

@@ -12,3 +12,4 @@ pub mod Alone
 pub mod Turning
 pub mod Turns
 pub mod Moves
+pub mod Held

@@ -7,5 +7,6 @@ pub mod Growing
 pub mod Turns
 pub mod Levels
 pub mod Choices
+pub mod Chosen
 pub mod Leasts
 pub mod Laws

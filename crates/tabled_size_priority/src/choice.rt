@@ -1,7 +1,9 @@
 //! Priorities by name.
 ghost use Rattle.std.specs.Prelude.{◌≡◌, ◌+◌, ◌^◌, ◌<◌, length, sum};
 ghost use Rattle.tabled_size_priority.specs.Choices.{IsGrownByChoice, IsShrunkByChoice};
+ghost use Rattle.tabled_size_priority.specs.Chosen.{chosen};
 
+use crate::chosen::PriorityChosen;
 use crate::left::PriorityLeft;
 use crate::max::PriorityMax;
 use crate::min::PriorityMin;
@@ -29,6 +31,21 @@ pub enum Choice {
 }
 
 impl Choice {
+    /// The priority of this name, as its constructor gives it: for what asks for a `Peaker`.
+    pub const fn priority(self) -> PriorityChosen
+        ensures { result ≡ chosen self }
+    {
+        match self {
+            Choice::None => PriorityChosen::None(PriorityNone::new()),
+            Choice::MinLeft => PriorityChosen::Min(PriorityMin::left()),
+            Choice::MinRight => PriorityChosen::Min(PriorityMin::right()),
+            Choice::MaxLeft => PriorityChosen::Max(PriorityMax::left()),
+            Choice::MaxRight => PriorityChosen::Max(PriorityMax::right()),
+            Choice::Left => PriorityChosen::Left(PriorityLeft::new()),
+            Choice::Right => PriorityChosen::Right(PriorityRight::new()),
+        }
+    }
+
     /// Shrinks the widths by `by` columns as the priority of this name does, as its constructor gives it:
     /// see `Peaker::shrink`. The widths must sum to at most `usize::MAX`, and have as many leasts.
     pub fn shrink(self, widths: &mut [usize], least: &[usize], by: usize)
@@ -36,15 +53,7 @@ impl Choice {
         requires leasts { length least.now ≡ length widths.old }
         ensures { IsShrunkByChoice self least.now by widths.old widths.new }
     {
-        match self {
-            Choice::None => PriorityNone::new().shrink(widths, least, by),
-            Choice::MinLeft => PriorityMin::left().shrink(widths, least, by),
-            Choice::MinRight => PriorityMin::right().shrink(widths, least, by),
-            Choice::MaxLeft => PriorityMax::left().shrink(widths, least, by),
-            Choice::MaxRight => PriorityMax::right().shrink(widths, least, by),
-            Choice::Left => PriorityLeft::new().shrink(widths, least, by),
-            Choice::Right => PriorityRight::new().shrink(widths, least, by),
-        }
+        self.priority().shrink(widths, least, by);
     }
 
     /// Grows the widths by `by` columns as the priority of this name does, as its constructor gives it:
@@ -53,14 +62,6 @@ impl Choice {
         requires { sum widths.old + by < 2 ^ 64 }
         ensures { IsGrownByChoice self by widths.old widths.new }
     {
-        match self {
-            Choice::None => PriorityNone::new().grow(widths, by),
-            Choice::MinLeft => PriorityMin::left().grow(widths, by),
-            Choice::MinRight => PriorityMin::right().grow(widths, by),
-            Choice::MaxLeft => PriorityMax::left().grow(widths, by),
-            Choice::MaxRight => PriorityMax::right().grow(widths, by),
-            Choice::Left => PriorityLeft::new().grow(widths, by),
-            Choice::Right => PriorityRight::new().grow(widths, by),
-        }
+        self.priority().grow(widths, by);
     }
 }

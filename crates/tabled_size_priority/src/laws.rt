@@ -3,6 +3,7 @@ ghost use Rattle.std.specs.Prelude.{◌≡◌, ◌↔◌, ◌+◌, ◌^◌, ℕ,
 ghost use Rattle.std.specs.declared.cmp.Ordering.TheVariants.{Equal};
 ghost use Rattle.tabled_size_priority.specs.Columns.{from_side};
 ghost use Rattle.tabled_size_priority.specs.Choices.{IsGrownByChoice, IsShrunkByChoice};
+ghost use Rattle.tabled_size_priority.specs.Chosen.{HoldsThen, chosen};
 ghost use Rattle.tabled_size_priority.specs.Growing.{IsGrownByNarrowest, IsGrownByWidest, IsGrownFromSide, IsGrownInTurns, grown_to_level};
 ghost use Rattle.tabled_size_priority.specs.Levels.{AreAtLeast, AreAtMost, CouldBeGrown, CouldBeShrunk, IsGreatestLevel, IsLeastLevel};
 ghost use Rattle.tabled_size_priority.specs.Peaks.{narrowest_peaks, side_peaks, start_of, turn_peaks, widest_peaks};
@@ -10,10 +11,13 @@ ghost use Rattle.tabled_size_priority.specs.Shrinking.{IsOfForm, IsShrunkByNarro
 ghost use Rattle.tabled_size_priority.specs.Turns.{grows_in_turns, shrinks_in_turns};
 ghost use Rattle.tabled_size_priority.specs.declared.choice.Choice.{Choice as OneChoice};
 ghost use Rattle.tabled_size_priority.specs.declared.choice.Choice.TheVariants.{None as InTurns, MinLeft, MinRight, MaxLeft, MaxRight, Left, Right};
+ghost use Rattle.tabled_size_priority.specs.declared.chosen.PriorityChosen.{PriorityChosen as OneChosen};
+ghost use Rattle.tabled_size_priority.specs.declared.chosen.PriorityChosen.TheVariants.{None as GoesRound, Min as NarrowestFirst, Max as WidestFirst, Left as LeftFirst, Right as RightFirst};
 ghost use Rattle.tabled_size_priority.specs.declared.left.PriorityLeft.{PriorityLeft as FromLeft};
 ghost use Rattle.tabled_size_priority.specs.declared.right.PriorityRight.{PriorityRight as FromRight};
 
 use crate::choice::Choice;
+use crate::chosen::PriorityChosen;
 use crate::left::PriorityLeft;
 use crate::max::PriorityMax;
 use crate::min::PriorityMin;
@@ -100,7 +104,7 @@ pub fn narrowest_first_is_best()
         AreAtLeast widths 1 → IsGrownByNarrowest right by widths sizes → CouldBeGrown widths sizes others → AreAtLeast others fewest → AreAtLeast sizes fewest }
 {}
 
-/// `==` of priorities and of `Choice` is equality of what they keep, and where they have an order `cmp` finds the
+/// `==` of priorities, of `Choice` and of `PriorityChosen` is equality of what they keep, and where they have an order `cmp` finds the
 /// same ones equal; a clone is the same, and is never refused; made by default, a priority goes on at the first
 /// column, or prefers the left.
 pub fn priorities_are_compared_and_cloned_whole()
@@ -108,14 +112,17 @@ pub fn priorities_are_compared_and_cloned_whole()
     ensures widest { (a b : Bool) → (⟦<PriorityMax as PartialEq>⟧.eq a b ≡ true) ↔ (a ≡ b) }
     ensures narrowest { (a b : Bool) → (⟦<PriorityMin as PartialEq>⟧.eq a b ≡ true) ↔ (a ≡ b) }
     ensures names { (a b : OneChoice) → (⟦<Choice as PartialEq>⟧.eq a b ≡ true) ↔ (a ≡ b) }
+    ensures chosen { (a b : OneChosen) → (⟦<PriorityChosen as PartialEq>⟧.eq a b ≡ true) ↔ (a ≡ b) }
     ensures clone_of_none { (source clone : ℕ) → ⟦<PriorityNone as Clone>⟧.is_clone source clone → clone ≡ source }
     ensures clone_of_widest { (source clone : Bool) → ⟦<PriorityMax as Clone>⟧.is_clone source clone → clone ≡ source }
     ensures clone_of_narrowest { (source clone : Bool) → ⟦<PriorityMin as Clone>⟧.is_clone source clone → clone ≡ source }
     ensures clone_of_name { (source clone : OneChoice) → ⟦<Choice as Clone>⟧.is_clone source clone → clone ≡ source }
+    ensures clone_of_chosen { (source clone : OneChosen) → ⟦<PriorityChosen as Clone>⟧.is_clone source clone → clone ≡ source }
     ensures none_comes { (source : ℕ) → ⟦<PriorityNone as Clone>⟧.is_infallible source }
     ensures widest_comes { (source : Bool) → ⟦<PriorityMax as Clone>⟧.is_infallible source }
     ensures narrowest_comes { (source : Bool) → ⟦<PriorityMin as Clone>⟧.is_infallible source }
     ensures name_comes { (source : OneChoice) → ⟦<Choice as Clone>⟧.is_infallible source }
+    ensures chosen_comes { (source : OneChosen) → ⟦<PriorityChosen as Clone>⟧.is_infallible source }
     ensures none_order { (a b : ℕ) → (⟦<PriorityNone as Ord>⟧.cmp a b ≡ Equal) ↔ (a ≡ b) }
     ensures widest_order { (a b : Bool) → (⟦<PriorityMax as Ord>⟧.cmp a b ≡ Equal) ↔ (a ≡ b) }
     ensures narrowest_order { (a b : Bool) → (⟦<PriorityMin as Ord>⟧.cmp a b ≡ Equal) ↔ (a ≡ b) }
@@ -182,6 +189,32 @@ pub fn names_stand_for_their_priorities()
     ensures grown_by_widest_right { (widths sizes : List ℕ) (by : ℕ) → (IsGrownByChoice MaxRight by widths sizes ↔ ⟦<PriorityMax as Peaker>⟧.grows true by widths true sizes) }
     ensures grown_from_left { (before after : FromLeft) (widths sizes : List ℕ) (by : ℕ) → (IsGrownByChoice Left by widths sizes ↔ ⟦<PriorityLeft as Peaker>⟧.grows before by widths after sizes) }
     ensures grown_from_right { (before after : FromRight) (widths sizes : List ℕ) (by : ℕ) → (IsGrownByChoice Right by widths sizes ↔ ⟦<PriorityRight as Peaker>⟧.grows before by widths after sizes) }
+{}
+
+/// A chosen priority names the columns, and makes of widths the lists, that the one which it holds does, and then
+/// holds that one as it is then.
+pub fn chosen_priorities_do_as_those_that_they_hold()
+    ensures names_in_turns { (held : ℕ) (after : OneChosen) (least sizes : List ℕ) (answer : Option ℕ) → ⟦<PriorityChosen as Peaker>⟧.peaks (GoesRound held) least sizes answer after → HoldsThen GoesRound after (λ then. ⟦<PriorityNone as Peaker>⟧.peaks held least sizes answer then) }
+    ensures names_narrowest { (held : Bool) (after : OneChosen) (least sizes : List ℕ) (answer : Option ℕ) → ⟦<PriorityChosen as Peaker>⟧.peaks (NarrowestFirst held) least sizes answer after → HoldsThen NarrowestFirst after (λ then. ⟦<PriorityMin as Peaker>⟧.peaks held least sizes answer then) }
+    ensures names_widest { (held : Bool) (after : OneChosen) (least sizes : List ℕ) (answer : Option ℕ) → ⟦<PriorityChosen as Peaker>⟧.peaks (WidestFirst held) least sizes answer after → HoldsThen WidestFirst after (λ then. ⟦<PriorityMax as Peaker>⟧.peaks held least sizes answer then) }
+    ensures names_left { (held : FromLeft) (after : OneChosen) (least sizes : List ℕ) (answer : Option ℕ) → ⟦<PriorityChosen as Peaker>⟧.peaks (LeftFirst held) least sizes answer after → HoldsThen LeftFirst after (λ then. ⟦<PriorityLeft as Peaker>⟧.peaks held least sizes answer then) }
+    ensures names_right { (held : FromRight) (after : OneChosen) (least sizes : List ℕ) (answer : Option ℕ) → ⟦<PriorityChosen as Peaker>⟧.peaks (RightFirst held) least sizes answer after → HoldsThen RightFirst after (λ then. ⟦<PriorityRight as Peaker>⟧.peaks held least sizes answer then) }
+    ensures shrunk_in_turns { (held : ℕ) (after : OneChosen) (least widths sizes : List ℕ) (by : ℕ) → ⟦<PriorityChosen as Peaker>⟧.shrinks (GoesRound held) least by widths after sizes → HoldsThen GoesRound after (λ then. ⟦<PriorityNone as Peaker>⟧.shrinks held least by widths then sizes) }
+    ensures shrunk_narrowest { (held : Bool) (after : OneChosen) (least widths sizes : List ℕ) (by : ℕ) → ⟦<PriorityChosen as Peaker>⟧.shrinks (NarrowestFirst held) least by widths after sizes → HoldsThen NarrowestFirst after (λ then. ⟦<PriorityMin as Peaker>⟧.shrinks held least by widths then sizes) }
+    ensures shrunk_widest { (held : Bool) (after : OneChosen) (least widths sizes : List ℕ) (by : ℕ) → ⟦<PriorityChosen as Peaker>⟧.shrinks (WidestFirst held) least by widths after sizes → HoldsThen WidestFirst after (λ then. ⟦<PriorityMax as Peaker>⟧.shrinks held least by widths then sizes) }
+    ensures shrunk_left { (held : FromLeft) (after : OneChosen) (least widths sizes : List ℕ) (by : ℕ) → ⟦<PriorityChosen as Peaker>⟧.shrinks (LeftFirst held) least by widths after sizes → HoldsThen LeftFirst after (λ then. ⟦<PriorityLeft as Peaker>⟧.shrinks held least by widths then sizes) }
+    ensures shrunk_right { (held : FromRight) (after : OneChosen) (least widths sizes : List ℕ) (by : ℕ) → ⟦<PriorityChosen as Peaker>⟧.shrinks (RightFirst held) least by widths after sizes → HoldsThen RightFirst after (λ then. ⟦<PriorityRight as Peaker>⟧.shrinks held least by widths then sizes) }
+    ensures grown_in_turns { (held : ℕ) (after : OneChosen) (widths sizes : List ℕ) (by : ℕ) → ⟦<PriorityChosen as Peaker>⟧.grows (GoesRound held) by widths after sizes → HoldsThen GoesRound after (λ then. ⟦<PriorityNone as Peaker>⟧.grows held by widths then sizes) }
+    ensures grown_narrowest { (held : Bool) (after : OneChosen) (widths sizes : List ℕ) (by : ℕ) → ⟦<PriorityChosen as Peaker>⟧.grows (NarrowestFirst held) by widths after sizes → HoldsThen NarrowestFirst after (λ then. ⟦<PriorityMin as Peaker>⟧.grows held by widths then sizes) }
+    ensures grown_widest { (held : Bool) (after : OneChosen) (widths sizes : List ℕ) (by : ℕ) → ⟦<PriorityChosen as Peaker>⟧.grows (WidestFirst held) by widths after sizes → HoldsThen WidestFirst after (λ then. ⟦<PriorityMax as Peaker>⟧.grows held by widths then sizes) }
+    ensures grown_left { (held : FromLeft) (after : OneChosen) (widths sizes : List ℕ) (by : ℕ) → ⟦<PriorityChosen as Peaker>⟧.grows (LeftFirst held) by widths after sizes → HoldsThen LeftFirst after (λ then. ⟦<PriorityLeft as Peaker>⟧.grows held by widths then sizes) }
+    ensures grown_right { (held : FromRight) (after : OneChosen) (widths sizes : List ℕ) (by : ℕ) → ⟦<PriorityChosen as Peaker>⟧.grows (RightFirst held) by widths after sizes → HoldsThen RightFirst after (λ then. ⟦<PriorityRight as Peaker>⟧.grows held by widths then sizes) }
+{}
+
+/// The priority that a name gives makes of widths what its name makes of them.
+pub fn chosen_priorities_do_as_their_names()
+    ensures shrunk { (name : OneChoice) (after : OneChosen) (least widths sizes : List ℕ) (by : ℕ) → ⟦<PriorityChosen as Peaker>⟧.shrinks (chosen name) least by widths after sizes → IsShrunkByChoice name least by widths sizes }
+    ensures grown { (name : OneChoice) (after : OneChosen) (widths sizes : List ℕ) (by : ℕ) → ⟦<PriorityChosen as Peaker>⟧.grows (chosen name) by widths after sizes → IsGrownByChoice name by widths sizes }
 {}
 
 /// A priority names the column of its kind, whether one is to give or to grow.

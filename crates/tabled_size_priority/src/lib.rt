@@ -3,6 +3,7 @@
 #![tactic(auto)]
 
 mod choice;
+mod chosen;
 pub mod laws;
 mod least;
 mod left;
@@ -15,6 +16,7 @@ mod right;
 mod search;
 
 pub use choice::Choice;
+pub use chosen::PriorityChosen;
 pub use least::PriorityLeast;
 pub use left::PriorityLeft;
 pub use max::PriorityMax;
