@@ -42,13 +42,13 @@ fmt:                ## lay out the source files
 	@for crate in crates/*/; do (cd "$$crate" && rt fmt) || exit 1; done
 
 bench: $(PROGRAM)   ## instructions and memory per input byte (BENCH='--kinds wide' and the like)
-	@bench/run $(BENCH)
+	@bench/costs/run $(BENCH)
 
 # CASES and SEED, and a folder MODEL with the plain model, which is no part of this repository.
 CASES ?= 100000
 SEED ?= 1
 soak: $(PROGRAM)    ## compare CASES random runs with the plain model of the folder MODEL
-	@bench/soak '$(MODEL)' --cases $(CASES) --seed $(SEED)
+	@bench/compared/soak '$(MODEL)' --cases $(CASES) --seed $(SEED)
 
 attack:             ## try the wrong bodies of attacks/ (ATTACK='CRATE' or 'CRATE/NAME' for some)
 	@attacks/run $(ATTACK)
@@ -79,7 +79,7 @@ dist: $(PROGRAM)    ## pack the program, its manual page and completions into di
 	@tools/dist
 
 clean:              ## remove everything that was built or generated
-	rm -rf crates/*/out bench/data dist lib
+	rm -rf crates/*/out bench/costs/data dist lib
 	find . -name __pycache__ -prune -exec rm -rf {} +
 
 help:               ## this list
