@@ -2,13 +2,15 @@
 
 PROGRAM := crates/columns/out/columns
 LIBRARY := lib/libbasinmug.so.0
-TESTS := $(foreach crate,ansi_tests grid_tests tabled_tests,crates/$(crate)/out/$(crate)_tests)
 INPUT ?= examples/nightly.tsv
 PREFIX ?= /usr/local
 
-# Folders count too, so that a file that went away is noticed.
-SOURCES := crates.txt HANDLES $(shell find crates -name out -prune -o \
-	\( -path '*/src*' -o -path '*/specs*' -o -path '*/proofs*' \) -print)
+# A run asks only whether anything is newer than the program; what else is made of them names all source files, and the
+# tests that are refused memory, as programs.
+ifneq ($(filter-out run help,$(or $(MAKECMDGOALS),run)),)
+SOURCES := $(shell tools/sources)
+TESTS := $(foreach crate,$(shell sed 's/[ \#].*//' tests/memory/tests | sort -u),crates/$(crate)/out/$(crate)_tests)
+endif
 # The words of the program: `make run WORDS='--width 60'`.
 WORDS ?=
 # Standard input is taken as it comes and not opened anew.
@@ -17,7 +19,7 @@ FROM = $(if $(filter /dev/stdin -,$(INPUT)),,< '$(INPUT)')
 # No rule of make's own makes a source file; so it looks for none.
 MAKEFLAGS += --no-builtin-rules
 .NOTPARALLEL:
-.PHONY: run build lib test check fmt bench soak attack install install-program install-library dist clean help
+.PHONY: run build built lib test check fmt bench soak attack install install-program install-library dist clean help
 
 # Where the program is not built, this is a run of a minute that is checked, and not proved.
 run:                ## print the table of INPUT (INPUT=/dev/stdin reads standard input) as WORDS ask
@@ -30,6 +32,9 @@ lib: $(LIBRARY)     ## prove and build the library for C, Python and Rust, into 
 test:               ## the gate: every proof, every test, then the built program from outside
 	@tests/run
 
+# What the tests run from outside; `make -q built` tells whether it is there.
+built: $(PROGRAM) $(TESTS)
+
 check:              ## prove what has changed
 	@rt all check
 
@@ -37,13 +42,13 @@ fmt:                ## lay out the source files
 	@for crate in crates/*/; do (cd "$$crate" && rt fmt) || exit 1; done
 
 bench: $(PROGRAM)   ## instructions and memory per input byte (BENCH='--kinds wide' and the like)
-	@bench/run $(BENCH)
+	@bench/costs/run $(BENCH)
 
 # CASES and SEED, and a folder MODEL with the plain model, which is no part of this repository.
 CASES ?= 100000
 SEED ?= 1
 soak: $(PROGRAM)    ## compare CASES random runs with the plain model of the folder MODEL
-	@bench/soak '$(MODEL)' --cases $(CASES) --seed $(SEED)
+	@bench/compared/soak '$(MODEL)' --cases $(CASES) --seed $(SEED)
 
 attack:             ## try the wrong bodies of attacks/ (ATTACK='CRATE' or 'CRATE/NAME' for some)
 	@attacks/run $(ATTACK)
@@ -74,7 +79,7 @@ dist: $(PROGRAM)    ## pack the program, its manual page and completions into di
 	@tools/dist
 
 clean:              ## remove everything that was built or generated
-	rm -rf crates/*/out bench/data dist lib
+	rm -rf crates/*/out bench/costs/data dist lib
 	find . -name __pycache__ -prune -exec rm -rf {} +
 
 help:               ## this list

@@ -7,6 +7,12 @@ _columns() {
     elif [[ $before == = && $COMP_CWORD -ge 2 ]]; then
         before=${COMP_WORDS[COMP_CWORD - 2]}
     fi
+    # After a '<' stands the file to read.
+    if [[ $before == '<' ]]; then
+        compopt -o filenames 2> /dev/null
+        mapfile -t COMPREPLY < <(compgen -f -- "$word")
+        return
+    fi
     local options='--width --truncate --keep-words --priority --style --streamed --color --help --version'
     case $before in
         --width) options= ;;

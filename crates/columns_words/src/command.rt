@@ -21,11 +21,15 @@ Without words columns reads standard input, also from a terminal, to its end
 Each line is a row, and a tab ends a cell. Colours and other escape sequences
 are kept.";
 
+const USAGE: &str = "columns [OPTIONS] < FILE";
+
 const AFTER_HELP: &str = "\
 Colours:
   black, red, green, yellow, blue, magenta, cyan, white, bold, underline
 
 Examples:
+  columns --width 60 --priority max < report.tsv
+          a table narrowed to 60 columns, of which the widest gives first
   printf 'name\\tsize\\nlog\\t42\\n' | columns
           a table of two rows, with lines of -, | and +
   columns --width 40 --keep-words --style modern < notes.tsv
@@ -45,6 +49,7 @@ pub fn command<'a>(alloc: Global) -> Result<Command<'a>, AllocError>
     Command::new(alloc, "columns")
         .version(VERSION)
         .about(ABOUT)
+        .override_usage(USAGE)
         .after_help(AFTER_HELP)
         .arg(width(alloc))?
         .arg(truncate(alloc))?

@@ -10,7 +10,7 @@ with_version a = record a { top = record a.top { has_version = true } }
 pub returns : goal.returns
 returns c =
     let versioned : app_of c.after_help.result ≡ with_version (new_app (codes "columns")) =
-    ap app_of_fields c.after_help.ensures ∙ (ap app_of_fields c.about.ensures ∙ (ap app_of_fields c.version.ensures ∙ ap with_version c.new.ensures.app)) in
+    ap app_of_fields c.after_help.ensures ∙ (ap app_of_fields c.override_usage.ensures ∙ (ap app_of_fields c.about.ensures ∙ (ap app_of_fields c.version.ensures ∙ ap with_version c.new.ensures.app))) in
     let one = c.in_ok-arg.ensures.shape c.width.ensures.global ∙ ap₂ with_rule versioned c.width.ensures.rule in
     let two = c.in_ok-arg-2.ensures.shape c.truncate.ensures.global ∙ ap₂ with_rule one c.truncate.ensures.rule in
     let three = c.in_ok-arg-3.ensures.shape c.keep_words.ensures.global ∙ ap₂ with_rule two c.keep_words.ensures.rule in
