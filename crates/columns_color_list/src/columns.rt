@@ -4,7 +4,7 @@ ghost use Rattle.columns_color_list.specs.Listed.{column_of, with_digit};
 
 const GREATEST: usize = 4294967295;
 
-/// The column that decimal digits write, one at least; none above 4294967295.
+/// The column that decimal digits write, one at least; none above 4294967295. Does not allocate.
 pub fn column_of(text: &str) -> Option<usize>
     ensures { result ≡ column_of text.now }
 {

@@ -6,7 +6,7 @@ ghost use Rattle.columns_color_list.specs.Listed.{named};
 
 use grid_config_colors::ANSIStr;
 
-/// The colour of this name.
+/// The colour of this name; none where no colour has it. Does not allocate.
 pub fn color_named(name: &str) -> Option<ANSIStr<'static>>
     ensures { option_map color_of result ≡ named name.now }
 {

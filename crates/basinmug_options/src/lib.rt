@@ -1,0 +1,6 @@
+//! What the program `basinmug` is asked, as a value.
+#![tactic(auto)]
+
+mod options;
+
+pub use options::{ColumnName, Look, Options, Rules};

@@ -1,0 +1,5 @@
+pub mod ByteLemmas
+pub mod CommandLemmas
+pub mod ListLemmas
+pub mod MetLemmas
+pub mod NameLemmas

@@ -1,0 +1,13 @@
+use Rattle.std.proofs.Common.{◌≡◌, map, take}
+use Rattle.std.specs.List.{list_any}
+use Rattle.basinmug_words.specs.Lists.{Column, has_twice, is_same, seen}
+use Rattle.basinmug_words.specs.Met.{is_met}
+use Rattle.basinmug_words.proofs.twice.has_twice.Given as goal
+
+abbrev pub invariant-loop-item : goal.invariant-loop-item
+invariant-loop-item g l =
+    let taken = map (λ item. seen item.0) (take l.item-index l.given) in
+    record {
+      twice : l.twice ≡ has_twice taken;
+      met : (other : Column) → is_met l.columns other ≡ list_any (λ column. is_same column other) taken;
+    }

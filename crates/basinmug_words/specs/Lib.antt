@@ -1,0 +1,7 @@
+pub mod Asking
+pub mod Command
+pub mod Lists
+pub mod Met
+pub mod Names
+pub mod Refusing
+pub mod Worked

@@ -1,0 +1,254 @@
+//! The command, with its options and the texts of its help.
+ghost use Rattle.std.specs.Prelude.{◌≡◌, IfOk, codes, false};
+ghost use Rattle.clap.specs.Words.{app_of, rule_of};
+ghost use Rattle.basinmug_words.specs.Command.{IsBasinmug, IsOfNames, file_rule, flag_rule, text_rule};
+ghost use Rattle.basinmug_words.specs.Names.{look_names, priority_names, rules_names};
+
+use clap::builder::ValueParser;
+use clap::{Arg, ArgAction, Command};
+use std::alloc::{AllocError, Global};
+
+static PRIORITIES: [&str; 5] = ["max", "none", "min", "left", "right"];
+
+static STYLES: [&str; 6] = [
+    "rounded", "modern", "ascii", "extended", "markdown", "empty",
+];
+
+static RULES: [&str; 3] = ["header", "all", "none"];
+
+const VERSION: &str = "0.1.0";
+
+const INPUT: &str = "Input";
+
+const WIDTH: &str = "Width";
+
+const LOOKS: &str = "Look";
+
+const ROWS: &str = "Rows";
+
+const ABOUT: &str = "\
+Prints CSV or TSV as a table.
+
+FILE is CSV where its name ends in .csv, and TSV else; without FILE, or where
+it is -, standard input is read as TSV. The table is as wide as COLUMNS says in
+the environment, where that is a number, and else as wide as its text. Colours
+and other escape sequences are kept. Columns of numbers stand at the right.";
+
+const AFTER_HELP: &str = "\
+Columns in lists:
+  by number, from 0, or by their text in the header: 0=bold,price=red
+
+Colours:
+  black, red, green, yellow, blue, magenta, cyan, white, bold, underline
+
+Examples:
+  basinmug notes.csv
+          the table of a file, with a line below its header
+  printf 'name;size\\nlog;42\\n' | basinmug --delimiter ';'
+          fields between semicolons, from standard input
+  basinmug --width 60 --style modern --rules all notes.csv
+          a table of at most 60 columns, with a line below each row
+  basinmug --color 0=bold,hours=red --align author=right notes.csv
+          a bold first column, red hours, authors at the right
+  basinmug --style markdown notes.csv > notes.md
+          a table for a document
+  basinmug --expanded --max-rows 2 notes.csv
+          the first two records, a line for each field
+
+Exit status:
+  0  the table, this help or the version was printed
+  1  reading, the text or printing is at fault: a line on standard error says how
+  2  the words are at fault: the text on standard error says how";
+
+/// The command: its options, and the values that each takes.
+pub fn command<'a>(alloc: Global) -> Result<Command<'a>, AllocError>
+    ensures { IfOk result (λ command. IsBasinmug (app_of command)) }
+{
+    Command::new(alloc, "basinmug")
+        .version(VERSION)
+        .about(ABOUT)
+        .after_help(AFTER_HELP)
+        .arg(file(alloc))?
+        .arg(delimiter(alloc))?
+        .arg(no_header(alloc))?
+        .arg(width(alloc))?
+        .arg(priority(alloc))?
+        .arg(truncate(alloc))?
+        .arg(style(alloc))?
+        .arg(rules(alloc))?
+        .arg(align(alloc))?
+        .arg(color(alloc))?
+        .arg(max_rows(alloc))?
+        .arg(expanded(alloc))
+}
+
+// The file that is read.
+fn file<'a>(alloc: Global) -> Arg<'a>
+    ensures rule { rule_of result ≡ file_rule }
+    ensures global { result.global ≡ false }
+{
+    Arg::new(alloc, "file")
+        .value_name("FILE")
+        .action(ArgAction::Set)
+        .value_parser(ValueParser::String)
+        .help("The file to read; - or none: standard input")
+}
+
+// What stands between fields.
+fn delimiter<'a>(alloc: Global) -> Arg<'a>
+    ensures rule { rule_of result ≡ text_rule (codes "delimiter") }
+    ensures global { result.global ≡ false }
+{
+    Arg::new(alloc, "delimiter")
+        .long("delimiter")
+        .value_name("CHAR")
+        .action(ArgAction::Set)
+        .value_parser(ValueParser::String)
+        .help_heading(INPUT)
+        .help(
+            "What stands between fields: an ASCII character, or \\t for a tab [default: by FILE's ending]",
+        )
+}
+
+// Whether there is no header.
+fn no_header<'a>(alloc: Global) -> Arg<'a>
+    ensures rule { rule_of result ≡ flag_rule (codes "no-header") }
+    ensures global { result.global ≡ false }
+{
+    Arg::new(alloc, "no-header")
+        .long("no-header")
+        .action(ArgAction::SetTrue)
+        .help_heading(INPUT)
+        .help("The first record is no header")
+}
+
+// How wide the table may be, in columns.
+fn width<'a>(alloc: Global) -> Arg<'a>
+    ensures rule { rule_of result ≡ text_rule (codes "width") }
+    ensures global { result.global ≡ false }
+{
+    Arg::new(alloc, "width")
+        .long("width")
+        .value_name("N")
+        .action(ArgAction::Set)
+        .value_parser(ValueParser::String)
+        .help_heading(WIDTH)
+        .help(
+            "At most N columns, 0 to 4294967295, or none: as wide as its text [default: COLUMNS, else none]",
+        )
+}
+
+// Which column gives first.
+fn priority<'a>(alloc: Global) -> Arg<'a>
+    ensures rule { IsOfNames (codes "priority") priority_names (rule_of result) }
+    ensures global { result.global ≡ false }
+{
+    Arg::new(alloc, "priority")
+        .long("priority")
+        .value_name("PRIORITY")
+        .action(ArgAction::Set)
+        .value_parser(PRIORITIES.as_slice())
+        .default_value("max")
+        .help_heading(WIDTH)
+        .help("In a width: which column gives first; none: each in turn")
+}
+
+// Whether to cut off what doesn't fit.
+fn truncate<'a>(alloc: Global) -> Arg<'a>
+    ensures rule { rule_of result ≡ flag_rule (codes "truncate") }
+    ensures global { result.global ≡ false }
+{
+    Arg::new(alloc, "truncate")
+        .long("truncate")
+        .action(ArgAction::SetTrue)
+        .help_heading(WIDTH)
+        .help("In a width: cut off what doesn't fit [default: break lines between words]")
+}
+
+// The lines of the table.
+fn style<'a>(alloc: Global) -> Arg<'a>
+    ensures rule { IsOfNames (codes "style") look_names (rule_of result) }
+    ensures global { result.global ≡ false }
+{
+    Arg::new(alloc, "style")
+        .long("style")
+        .value_name("STYLE")
+        .action(ArgAction::Set)
+        .value_parser(STYLES.as_slice())
+        .default_value("rounded")
+        .help_heading(LOOKS)
+        .help("The table's lines; markdown takes no width")
+}
+
+// Between which rows lines stand.
+fn rules<'a>(alloc: Global) -> Arg<'a>
+    ensures rule { IsOfNames (codes "rules") rules_names (rule_of result) }
+    ensures global { result.global ≡ false }
+{
+    Arg::new(alloc, "rules")
+        .long("rules")
+        .value_name("RULES")
+        .action(ArgAction::Set)
+        .value_parser(RULES.as_slice())
+        .default_value("header")
+        .help_heading(LOOKS)
+        .help("Lines between rows: below the header, all or none")
+}
+
+// Where the texts of columns stand.
+fn align<'a>(alloc: Global) -> Arg<'a>
+    ensures rule { rule_of result ≡ text_rule (codes "align") }
+    ensures global { result.global ≡ false }
+{
+    Arg::new(alloc, "align")
+        .long("align")
+        .value_name("LIST")
+        .action(ArgAction::Set)
+        .value_parser(ValueParser::String)
+        .help_heading(LOOKS)
+        .help(
+            "Where texts stand: COLUMN=left, center or right, parted by commas [default: numbers at the right]",
+        )
+}
+
+// The colours of columns.
+fn color<'a>(alloc: Global) -> Arg<'a>
+    ensures rule { rule_of result ≡ text_rule (codes "color") }
+    ensures global { result.global ≡ false }
+{
+    Arg::new(alloc, "color")
+        .long("color")
+        .value_name("LIST")
+        .action(ArgAction::Set)
+        .value_parser(ValueParser::String)
+        .help_heading(LOOKS)
+        .help("Colour columns: COLUMN=NAME, parted by commas [default: none]")
+}
+
+// How many records are shown.
+fn max_rows<'a>(alloc: Global) -> Arg<'a>
+    ensures rule { rule_of result ≡ text_rule (codes "max-rows") }
+    ensures global { result.global ≡ false }
+{
+    Arg::new(alloc, "max-rows")
+        .long("max-rows")
+        .value_name("N")
+        .action(ArgAction::Set)
+        .value_parser(ValueParser::String)
+        .help_heading(ROWS)
+        .help("Show at most N records, 0 to 4294967295 [default: all]")
+}
+
+// Whether records stand one below the other.
+fn expanded<'a>(alloc: Global) -> Arg<'a>
+    ensures rule { rule_of result ≡ flag_rule (codes "expanded") }
+    ensures global { result.global ≡ false }
+{
+    Arg::new(alloc, "expanded")
+        .long("expanded")
+        .action(ArgAction::SetTrue)
+        .help_heading(ROWS)
+        .help(
+            "Records one below the other, a line for each field; options of width and look do nothing then",
+        )
+}

@@ -1,0 +1,93 @@
+//! Command lines worked by hand: what the command makes of their words. The functions do nothing.
+ghost use Rattle.std.specs.Prelude.{◌≡◌, ◌∷◌, [], Some, None, codes};
+ghost use Rattle.clap.specs.declared.error.kind.ErrorKind.TheVariants.{ArgumentConflict, DisplayHelp, DisplayVersion, InvalidValue, UnknownArgument};
+ghost use Rattle.columns_color_list.specs.Names.{sequences};
+ghost use Rattle.basinmug_words.specs.Asking.{alignments_asked, colors_asked, delimiter_asked, file_asked, refusal_of, rows_asked, table_width, width_asked};
+ghost use Rattle.basinmug_words.specs.Command.{IsBasinmug};
+ghost use Rattle.basinmug_words.specs.Lists.{Numbered, Titled};
+ghost use Rattle.basinmug_words.specs.Names.{looks, named, priorities, rules};
+ghost use Rattle.basinmug_words.specs.Worked.{Finds, Gives, basinmug_by_hand};
+
+use crate::words::WidthAsked;
+use basinmug_options::{Look, Rules};
+use grid_config_values::AlignmentHorizontal;
+use tabled_size_priority::Choice;
+
+/// The command that the lines below are read by is the one that `read_words` reads by.
+pub fn the_command_is_basinmug()
+    ensures { IsBasinmug basinmug_by_hand }
+{}
+
+/// Lines that ask for a run, with some of the values that they give.
+pub fn words_are_taken()
+    ensures nothing { Gives [] (codes "file" ∷ codes "width" ∷ codes "style" ∷ codes "priority" ∷ codes "rules" ∷ codes "truncate" ∷ [])
+        (None ∷ None ∷ Some (codes "rounded") ∷ Some (codes "max") ∷ Some (codes "header") ∷ Some (codes "false") ∷ []) }
+    ensures file { Gives (codes "notes.csv" ∷ []) (codes "file" ∷ []) (Some (codes "notes.csv") ∷ []) }
+    ensures dash { Gives (codes "-" ∷ []) (codes "file" ∷ []) (Some (codes "-") ∷ []) }
+    ensures behind { Gives (codes "--" ∷ codes "--x" ∷ []) (codes "file" ∷ []) (Some (codes "--x") ∷ []) }
+    ensures mixed { Gives (codes "--width" ∷ codes "60" ∷ codes "notes.csv" ∷ codes "--expanded" ∷ []) (codes "file" ∷ codes "width" ∷ codes "expanded" ∷ [])
+        (Some (codes "notes.csv") ∷ Some (codes "60") ∷ Some (codes "true") ∷ []) }
+    ensures lists { Gives (codes "--color=0=red,note=bold" ∷ codes "--align" ∷ codes "1=right" ∷ []) (codes "color" ∷ codes "align" ∷ [])
+        (Some (codes "0=red,note=bold") ∷ Some (codes "1=right") ∷ []) }
+    ensures tab { Gives (codes "--delimiter" ∷ codes "\\t" ∷ codes "--no-header" ∷ []) (codes "delimiter" ∷ codes "no-header" ∷ [])
+        (Some (codes "\\t") ∷ Some (codes "true") ∷ []) }
+{}
+
+/// Lines that the command does not take, with the kind of their fault.
+pub fn words_are_at_fault()
+    ensures two_files { Finds (codes "a" ∷ codes "b" ∷ []) (UnknownArgument ∷ []) }
+    ensures no_style { Finds (codes "--style" ∷ codes "round" ∷ []) (InvalidValue ∷ []) }
+    ensures no_rules { Finds (codes "--rules=some" ∷ []) (InvalidValue ∷ []) }
+    ensures twice { Finds (codes "--truncate" ∷ codes "--truncate" ∷ []) (ArgumentConflict ∷ []) }
+    ensures no_value { Finds (codes "--width" ∷ []) (InvalidValue ∷ []) }
+    ensures unknown { Finds (codes "--colour" ∷ codes "0=red" ∷ []) (UnknownArgument ∷ []) }
+    ensures below_zero { Finds (codes "--max-rows" ∷ codes "-1" ∷ []) (UnknownArgument ∷ []) }
+{}
+
+/// Lines that ask for the help and for the version.
+pub fn texts_are_asked_for()
+    ensures help { Finds (codes "--help" ∷ []) (DisplayHelp ∷ []) }
+    ensures short { Finds (codes "-h" ∷ []) (DisplayHelp ∷ []) }
+    ensures version { Finds (codes "--version" ∷ []) (DisplayVersion ∷ []) }
+{}
+
+/// What some values stand for.
+pub fn values_by_hand()
+    ensures path { file_asked (Some (codes "notes.csv")) ≡ Some (codes "notes.csv") }
+    ensures dash { file_asked (Some (codes "-")) ≡ None }
+    ensures semicolon { delimiter_asked (Some (codes ";")) ≡ Some (Some 0x3b) }
+    ensures tab { delimiter_asked (Some (codes "\\t")) ≡ Some (Some 0x09) }
+    ensures ending { delimiter_asked None ≡ Some None }
+    ensures rows { rows_asked (Some (codes "007")) ≡ Some (Some 7) }
+    ensures width { width_asked (Some (codes "60")) ≡ Some (WidthAsked.Columns 60) }
+    ensures any_width { width_asked (Some (codes "none")) ≡ Some WidthAsked.None }
+    ensures environment { table_width None None ≡ Some WidthAsked.Environment }
+    ensures markdown { table_width (Some (codes "markdown")) None ≡ Some WidthAsked.None }
+    ensures max { named priorities Choice.None (Some (codes "max")) ≡ Choice.MaxRight }
+    ensures look { named looks Look.Rounded (Some (codes "extended")) ≡ Look.Extended }
+    ensures rules { named rules Rules.Header (Some (codes "none")) ≡ Rules.None }
+    ensures red { colors_asked (Some (codes "1=red")) ≡ Some ((Numbered 1, sequences (codes "\u{1b}[31m") (codes "\u{1b}[39m")) ∷ []) }
+    ensures no_list { alignments_asked None ≡ Some [] }
+    ensures two { alignments_asked (Some (codes "007=right,a b=left")) ≡ Some ((Numbered 7, AlignmentHorizontal.Right) ∷ (Titled (codes "a b"), AlignmentHorizontal.Left) ∷ []) }
+{}
+
+/// Values that are at fault.
+pub fn values_that_are_none()
+    ensures no_byte { delimiter_asked (Some []) ≡ None }
+    ensures two_bytes { delimiter_asked (Some (codes ";;")) ≡ None }
+    ensures quote { delimiter_asked (Some (0x22 ∷ [])) ≡ None }
+    ensures line_feed { delimiter_asked (Some (0x0a ∷ [])) ≡ None }
+    ensures rows { rows_asked (Some (codes "4294967296")) ≡ None }
+    ensures plus { width_asked (Some (codes "+6")) ≡ None }
+    ensures markdown { table_width (Some (codes "markdown")) (Some (codes "60")) ≡ None }
+    ensures middle { alignments_asked (Some (codes "0=middle")) ≡ None }
+    ensures twice { alignments_asked (Some (codes "0=left,00=left")) ≡ None }
+    ensures title_twice { alignments_asked (Some (codes "a=left,b=left,a=right")) ≡ None }
+    ensures empty { alignments_asked (Some []) ≡ None }
+    ensures at_end { alignments_asked (Some (codes "0=left,")) ≡ None }
+    ensures no_column { alignments_asked (Some (codes "=left")) ≡ None }
+    ensures no_name { alignments_asked (Some (codes "0")) ≡ None }
+    ensures too_great { alignments_asked (Some (codes "4294967296=left")) ≡ None }
+    ensures first { refusal_of (λ _. Some (codes "x")) ≡ Some (codes "basinmug: bad number of rows") }
+    ensures none { refusal_of (λ _. None) ≡ None }
+{}

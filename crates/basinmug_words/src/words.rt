@@ -1,0 +1,239 @@
+//! What the words of the command line ask.
+ghost use Rattle.std.specs.Prelude.{◌≡◌, codes, map, option_map, string_bytes, Some, None, IfOk, IfErr, IsErr};
+ghost use Rattle.clap.specs.Words.{first_value, found_of, kind_of};
+ghost use Rattle.basinmug_words.specs.Asking.{IsAnswer, IsRead, IsRunOf, IsTold, byte_named, can_delimit, delimiter_asked, delimiter_named, file_asked, is_set, list_asked, rows_asked, width_asked, width_for};
+ghost use Rattle.basinmug_words.specs.Lists.{seen_items};
+ghost use Rattle.basinmug_words.specs.Refusing.{IsOfList, IsRefusal, Refuses};
+
+use crate::command::command;
+use crate::lists::listed;
+use crate::names::{Named, look_named, priority_named, rules_named};
+use crate::refusal::Refusal;
+use basinmug_options::{ColumnName, Look, Options};
+use clap::error::ErrorKind;
+use clap::{ArgMatches, Error};
+use columns_color_list::column_of;
+use std::alloc::{AllocError, Global};
+use std::convert::AsStr;
+
+/// What the words of a command line ask.
+#[derive(Debug, Drop)]
+pub enum Asked {
+    /// A table.
+    Run(Plan),
+    /// This text, the help or the version, which is for standard output.
+    Help(String),
+    /// Nothing that can be done: this text, which is for standard error, says why. That of a value that the
+    /// command takes and that is at fault ends without a line feed.
+    Faulty(String),
+}
+
+/// What a run is asked.
+#[derive(Debug, Drop)]
+pub struct Plan {
+    /// The path of the file; none for standard input.
+    pub file: Option<String>,
+    /// The byte between fields; none where the file's name decides.
+    pub delimiter: Option<u8>,
+    /// How wide the table may be.
+    pub width: WidthAsked,
+    /// The options of the table; their width is none.
+    pub options: Options,
+}
+
+/// How wide a table may be.
+#[derive(Clone, Copy, Debug, PartialEq, Eq)]
+pub enum WidthAsked {
+    /// As wide as its text.
+    None,
+    /// So many columns.
+    Columns(usize),
+    /// What the environment says.
+    Environment,
+}
+
+/// What the words ask. The first is the program's name and is passed over. Fails only where
+/// allocation fails.
+pub fn read_words<S: AsStr>(alloc: Global, words: &[S]) -> Result<Asked, AllocError>
+    ensures { IfOk result (IsAnswer (map S.text words.entry.now)) }
+{
+    match command(alloc)?.try_get_matches_from(words) {
+        Ok(matches) => run_of(alloc, &matches),
+        Err(error) => told(alloc, &error),
+    }
+}
+
+// The table that is asked for, by the values that the command gives, or what is at fault with them.
+fn run_of(alloc: Global, matches: &ArgMatches<'_>) -> Result<Asked, AllocError>
+    ensures { IfOk result (IsRunOf (first_value (found_of matches.now))) }
+{
+    match plan_of(alloc, matches) {
+        Ok(plan) => Ok(Asked::Run(plan)),
+        Err(Refusal::Memory) => Err(AllocError),
+        Err(refusal) => Ok(Asked::Faulty(String::from_str(alloc, refusal.text())?)),
+    }
+}
+
+// What a run is asked by these values.
+fn plan_of(alloc: Global, matches: &ArgMatches<'_>) -> Result<Plan, Refusal>
+    ensures read { IfOk result (IsRead (first_value (found_of matches.now))) }
+    ensures refused { IfErr result (IsRefusal (first_value (found_of matches.now))) }
+{
+    let delimiter = delimiter(matches)?;
+    let max_rows = max_rows(matches)?;
+    let look = look_named(matches.get_str("style"));
+    let width = width_for(look, width(matches)?)?;
+    let alignments = list_in(alloc, matches, "align", Refusal::Alignment)?;
+    let colors = list_in(alloc, matches, "color", Refusal::Color)?;
+    let file = file(alloc, matches)?;
+    let options = Options {
+        look,
+        header: !is_set(matches, "no-header"),
+        rules: rules_named(matches.get_str("rules")),
+        width: None,
+        truncate: is_set(matches, "truncate"),
+        priority: priority_named(matches.get_str("priority")),
+        alignments,
+        colors,
+        expanded: is_set(matches, "expanded"),
+        max_rows,
+    };
+    Ok(Plan {
+        file,
+        delimiter,
+        width,
+        options,
+    })
+}
+
+// The path of the file that is asked for.
+fn file(alloc: Global, matches: &ArgMatches<'_>) -> Result<Option<String>, AllocError>
+    ensures { IfOk result (λ file. option_map string_bytes file ≡ file_asked (first_value (found_of matches.now) (codes "file"))) }
+{
+    match matches.get_str("file") {
+        Some("-") | None => Ok(None),
+        Some(path) => Ok(Some(String::from_str(alloc, path)?)),
+    }
+}
+
+// The byte that is to stand between fields.
+fn delimiter(matches: &ArgMatches<'_>) -> Result<Option<u8>, Refusal>
+    ensures { Refuses (delimiter_asked (first_value (found_of matches.now) (codes "delimiter"))) Refusal.Delimiter result }
+{
+    let Some(text) = matches.get_str("delimiter") else {
+        return Ok(None);
+    };
+    match delimiter_named(text) {
+        Some(byte) => Ok(Some(byte)),
+        None => Err(Refusal::Delimiter),
+    }
+}
+
+// The byte that a text names.
+fn delimiter_named(text: &str) -> Option<u8>
+    ensures { result ≡ delimiter_named text.now }
+{
+    match text {
+        "\\t" => Some(b'\t'),
+        "tab" => Some(b'\t'),
+        _ => byte_named(text),
+    }
+}
+
+// The byte that a text is.
+fn byte_named(text: &str) -> Option<u8>
+    ensures { result ≡ byte_named text.now }
+{
+    match text.as_bytes() {
+        [byte] if can_delimit(*byte) => Some(*byte),
+        _ => None,
+    }
+}
+
+// Whether a byte can stand between fields.
+fn can_delimit(byte: u8) -> bool
+    ensures { result ≡ can_delimit byte }
+{
+    byte.is_ascii() && byte != b'"' && byte != b'\n' && byte != b'\r'
+}
+
+// How many records are to be shown.
+fn max_rows(matches: &ArgMatches<'_>) -> Result<Option<usize>, Refusal>
+    ensures { Refuses (rows_asked (first_value (found_of matches.now) (codes "max-rows"))) Refusal.Rows result }
+{
+    let Some(text) = matches.get_str("max-rows") else {
+        return Ok(None);
+    };
+    match column_of(text) {
+        Some(rows) => Ok(Some(rows)),
+        None => Err(Refusal::Rows),
+    }
+}
+
+// The width that is asked for.
+fn width(matches: &ArgMatches<'_>) -> Result<WidthAsked, Refusal>
+    ensures { Refuses (width_asked (first_value (found_of matches.now) (codes "width"))) Refusal.Width result }
+{
+    match matches.get_str("width") {
+        None => Ok(WidthAsked::Environment),
+        Some("none") => Ok(WidthAsked::None),
+        Some(text) => match column_of(text) {
+            Some(width) => Ok(WidthAsked::Columns(width)),
+            None => Err(Refusal::Width),
+        },
+    }
+}
+
+// The width of a table that looks so: one of Markdown has none.
+fn width_for(look: Look, asked: WidthAsked) -> Result<WidthAsked, Refusal>
+    ensures { Refuses (width_for look asked) Refusal.MarkdownWidth result }
+{
+    match (look, asked) {
+        (Look::Markdown, WidthAsked::Columns(_)) => Err(Refusal::MarkdownWidth),
+        (Look::Markdown, _) => Ok(WidthAsked::None),
+        _ => Ok(asked),
+    }
+}
+
+// The list of columns that is asked for.
+fn list_in<T: Named + Drop>(
+    alloc: Global,
+    matches: &ArgMatches<'_>,
+    id: &str,
+    refusal: Refusal,
+) -> Result<Vec<(ColumnName, T)>, Refusal>
+    ensures read { IfOk result (λ given. list_asked T.value_of (first_value (found_of matches.now) id.now) ≡ Some (seen_items given.items)) }
+    ensures refused { IfErr result (IsOfList (list_asked T.value_of (first_value (found_of matches.now) id.now)) refusal) }
+{
+    let Some(list) = matches.get_str(id) else {
+        return Ok(Vec::new(alloc));
+    };
+    match listed(alloc, list)? {
+        Some(given) => Ok(given),
+        None => Err(refusal),
+    }
+}
+
+// Whether the flag of this id is set.
+fn is_set(matches: &ArgMatches<'_>, id: &str) -> bool
+    ensures { result ≡ is_set (first_value (found_of matches.now) id.now) }
+{
+    match matches.get_str(id) {
+        Some(text) => text == "true",
+        None => false,
+    }
+}
+
+// Why the command gives no values, told to the user.
+fn told(alloc: Global, error: &Error) -> Result<Asked, AllocError>
+    ensures text { IfOk result (IsTold (kind_of error.now)) }
+    ensures memory { kind_of error.now ≡ ErrorKind.OutOfMemory → IsErr result }
+{
+    match error.kind() {
+        ErrorKind::OutOfMemory => Err(AllocError),
+        ErrorKind::DisplayHelp | ErrorKind::DisplayVersion => {
+            Ok(Asked::Help(error.to_string(alloc)?))
+        }
+        _ => Ok(Asked::Faulty(error.to_string(alloc)?)),
+    }
+}
