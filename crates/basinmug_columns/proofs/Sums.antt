@@ -1,0 +1,34 @@
+-- What shrunk widths sum to.
+use Rattle.std.proofs.Common.{◌≡◌, ◌≤◌, ◌<◌, ◌-◌, ◌+◌, ℕ, Bool, false, List, [], ◌∷◌, length, map, max, min, sum, arith, ap, ◌∙◌, if◌then◌else◌}
+use Rattle.std.specs.Prelude.{slice_index_or}
+use Rattle.std.specs.List.{enumerate_from}
+use Rattle.std.proofs.lemmas.List.{length-map}
+use Rattle.std.proofs.lemmas.List.FromFn.{length-enumerate_from}
+use Rattle.tabled_size_priority.specs.Choices.{IsShrunkByChoice}
+use Rattle.tabled_size_priority.specs.Laws.Runs.{floors-room}
+use Rattle.tabled_size_priority.specs.Shrinking.{floors as least_widths, room_of, shrunk_sum}
+use Rattle.tabled_size_priority.specs.declared.choice.Choice.{Choice}
+use Rattle.tabled_size_priority.specs.declared.choice.Choice.TheVariants.{None, MinLeft, MinRight, MaxLeft, MaxRight, Left, Right}
+use Rattle.basinmug_columns.specs.Rooms.{first_floors, floors, least_room}
+
+shrunk-sum : (priority : Choice) (least : List ℕ) (by : ℕ) (widths sizes : List ℕ) → IsShrunkByChoice priority least by widths sizes → sum sizes ≡ shrunk_sum least widths by
+shrunk-sum None least by widths sizes is = is.sums
+shrunk-sum MinLeft least by widths sizes is = is.sums
+shrunk-sum MinRight least by widths sizes is = is.sums
+shrunk-sum MaxLeft least by widths sizes is = is.sums
+shrunk-sum MaxRight least by widths sizes is = is.sums
+shrunk-sum Left least by widths sizes is = is.sums
+shrunk-sum Right least by widths sizes is = is.sums
+
+-- widths that are shrunk are no more together
+pub shrunk-below : (priority : Choice) (least : List ℕ) (by : ℕ) (widths sizes : List ℕ) → IsShrunkByChoice priority least by widths sizes → sum sizes ≤ sum widths
+shrunk-below priority least by widths sizes is =
+    let left : sum sizes ≡ max (sum widths - by) (sum (least_widths least widths)) = shrunk-sum priority least by widths sizes is in
+    omega (arith, left, floors-room least widths)
+
+pub floors-length : (widths : List ℕ) → length (floors widths) ≡ length widths
+floors-length widths = length-map widths (λ width. min width least_room)
+
+pub first_floors-length : (numeric : List Bool) (widths : List ℕ) → length (first_floors numeric widths) ≡ length widths
+first_floors-length numeric widths =
+    length-map (enumerate_from 0 widths) (λ placed. if slice_index_or numeric placed.0 false then placed.1 else min placed.1 least_room) ∙ length-enumerate_from 0 widths

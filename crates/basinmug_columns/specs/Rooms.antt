@@ -1,0 +1,25 @@
+-- The rooms of columns whose table is to be narrower: widths in columns of text and padding.
+use Rattle.std.specs.Prelude.{◌≡◌, ℕ, ◌-◌, min, Bool, false, List, map, slice_index_or, sum, if◌then◌else◌}
+use Rattle.std.specs.List.{enumerate_from}
+use Rattle.tabled_size_priority.specs.Choices.{IsShrunkByChoice}
+use Rattle.tabled_size_priority.specs.declared.choice.Choice.{Choice}
+
+-- two columns of text, and a padding at each side
+abbrev pub least_room : ℕ
+least_room = 4
+
+-- what columns of these widths keep in any case
+abbrev pub floors : List ℕ → List ℕ
+floors widths = map (λ width. min width least_room) widths
+
+-- what they keep while others can give: columns of numbers all
+abbrev pub first_floors : List Bool → List ℕ → List ℕ
+first_floors numeric widths =
+    map (λ (placed : ℕ × ℕ). if slice_index_or numeric placed.0 false then placed.1 else min placed.1 least_room) (enumerate_from 0 widths)
+
+-- widths that are to be so many columns less together: first the columns give that aren't of numbers, as the priority
+-- says, and where that is not enough all of them
+pub record AreRooms (priority : Choice) (numeric : List Bool) (by : ℕ) (widths rooms : List ℕ) : Type 0 where
+  pub first : List ℕ
+  pub numbers_stay : IsShrunkByChoice priority (first_floors numeric widths) by widths first
+  pub all_give : IsShrunkByChoice priority (floors widths) (by - (sum widths - sum first)) first rooms

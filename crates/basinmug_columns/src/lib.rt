@@ -1,0 +1,8 @@
+//! Columns by what they are called, and the rooms that they have in a table that is to be narrower.
+#![tactic(auto)]
+
+mod names;
+mod rooms;
+
+pub use names::column_number;
+pub use rooms::shrink_columns;
