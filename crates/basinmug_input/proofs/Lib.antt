@@ -1,0 +1,5 @@
+pub mod ByteLemmas
+pub mod CleanLemmas
+pub mod QuoteLemmas
+pub mod RecordLemmas
+pub mod RowLemmas

@@ -1,0 +1,106 @@
+-- Fields and rows, one after the other.
+use Rattle.std.proofs.Common.{◌≡◌, ◌∙◌, ◌+◌, ◌<◌, ◌≤◌, ℕ, zero, suc, Bool, true, false, List, [], ◌∷◌, ◌++◌, Some, None, Result, Ok, Err, length, get_or, drop, sym, ap, subst, arith}
+use Rattle.std.specs.List.{AllByRecursion}
+use Rattle.std.specs.Prelude.{OnOk, if◌then◌else◌}
+use Rattle.std.proofs.lemmas.List.{get_or_at, length-append}
+use Rattle.ansi_scan.specs.Sequences.{EachStands, IsFirstBroken, Piece, joined}
+use Rattle.ansi_scan.proofs.Uniqueness.{Stands-some}
+use Rattle.csv.specs.Reading.{is_bom, records, strip_bom}
+use Rattle.csv.specs.Records.{field_at}
+use Rattle.csv.specs.declared.parser.Config.{Config}
+use Rattle.basinmug_input.specs.Faults.{HasFirstFlaw}
+use Rattle.basinmug_input.specs.Places.{IsReadAs, field_at as field_of_byte, line_at}
+use Rattle.basinmug_input.specs.Reading.{HasByte}
+use Rattle.basinmug_input.specs.Rows.{IsFirstFlawed}
+use Rattle.basinmug_input.specs.declared.records.Flawed.{Flawed}
+
+-- a field by its place
+pub field_at-some : (fs : List (List ℕ)) (i : ℕ) (f : List ℕ) → field_at fs i ≡ Some f → (i < length fs) × (get_or fs i [] ≡ f)
+unfolding field_at
+field_at-some [] i f e = cc e
+field_at-some (x ∷ fs) zero f e = (omega arith, cc e)
+field_at-some (x ∷ fs) (suc i) f e = let (below, is) = field_at-some fs i f e in (omega (arith, below), is)
+
+pub field_at-none : (fs : List (List ℕ)) (i : ℕ) → field_at fs i ≡ None → length fs ≤ i
+unfolding field_at
+field_at-none [] i e = omega arith
+field_at-none (x ∷ fs) zero e = cc e
+field_at-none (x ∷ fs) (suc i) e = let low = field_at-none fs i e in omega (arith, low)
+
+pub all-push : {A : Type 0} (P : A → Type 0) (xs : List A) (x : A) → AllByRecursion P xs → P x → AllByRecursion P (xs ++ x ∷ [])
+all-push P [] x all here = (here, tt)
+all-push P (y ∷ xs) x all here = (all.0, all-push P xs x all.1 here)
+
+-- what holds where a call is not refused
+pub on_ok-map : {E : Type 0} (r : Result (Unit {0}) E) (P Q : Type 0) → OnOk r P → (P → Q) → OnOk r Q
+on_ok-map (Ok u) P Q p f = f p
+on_ok-map (Err e) P Q p f = p
+
+-- ---- the byte of a flaw is one of its field
+
+pieces-below : (before : List Piece) (piece : Piece) (after : List Piece) → EachStands (before ++ piece ∷ after) → length (joined before) < length (joined (before ++ piece ∷ after))
+pieces-below [] piece after stand =
+    let some = Stands-some piece.kind piece.bytes after stand.0 in
+    let size = length-append piece.bytes (joined after) in
+    omega (arith, some, size)
+pieces-below (p ∷ before) piece after stand =
+    let more = pieces-below before piece after stand.1 in
+    let old = length-append p.bytes (joined before) in
+    let new = length-append p.bytes (joined (before ++ piece ∷ after)) in
+    omega (arith, more, old, new)
+
+pub broken-below : (field : List ℕ) (byte : ℕ) → IsFirstBroken field byte → byte < length field
+broken-below field byte first =
+    let below = pieces-below first.before first.broken first.after first.of_text.stand in
+    let size = ap length first.of_text.joins in
+    let place = first.place in
+    omega (arith, below, size, place)
+
+-- the first field with a flaw, in the records
+pub has-byte : (cfg : Config) (text : List ℕ) (row : ℕ) (flawed : Flawed) (byte : ℕ) (first : IsFirstFlawed cfg text row flawed)
+    → byte < length first.flaw.here → HasByte cfg text row flawed.field byte
+has-byte cfg text row flawed byte first below =
+    let in_row : get_or (records cfg text) row [] ≡ first.here =
+    ap (λ (rows : List (List (List ℕ))). get_or rows row []) first.of_text ∙ get_or_at first.before first.here first.after [] row (sym first.place) in
+    let in_field : get_or first.here flawed.field [] ≡ first.flaw.here =
+    ap (λ (fields : List (List ℕ)). get_or fields flawed.field []) first.flaw.of_fields
+    ∙ get_or_at first.flaw.before first.flaw.here first.flaw.behind [] flawed.field (sym first.flaw.place) in
+    subst (λ (field : List ℕ). byte < length field) (sym (ap (λ (fields : List (List ℕ)). get_or fields flawed.field []) in_row ∙ in_field)) below
+
+-- what is found of it
+pub first-flaw : (cfg : Config) (text : List ℕ) (row : ℕ) (flawed : Flawed) (Flaw : List ℕ → ℕ → Type 0) (byte at line field : ℕ) (first : IsFirstFlawed cfg text row flawed)
+    → Flaw first.flaw.here byte → IsReadAs cfg text at row flawed.field byte → line ≡ line_at text at → field ≡ field_of_byte cfg text at
+    → HasFirstFlaw Flaw cfg text line field
+first-flaw cfg text row flawed Flaw byte at line field first flaw read in_line in_field = record {
+  is_text = first.is_text;
+  before = first.before;
+  fields = first.flaw.before;
+  here = first.flaw.here;
+  behind = first.flaw.behind;
+  after = first.after;
+  of_text = first.of_text ∙ ap (λ (fields : List (List ℕ)). first.before ++ fields ∷ first.after) first.flaw.of_fields;
+  sound_records = first.sound;
+  sound_fields = first.flaw.sound;
+  byte = byte;
+  flaw = flaw;
+  at = at;
+  read = rw (← first.place, ← first.flaw.place) read;
+  in_line = in_line;
+  in_field = in_field ∙ ap (λ n. n + 1) (read.in_field ∙ first.flaw.place);
+}
+
+-- ---- the byte order mark
+
+pub mark-goes : (bs : List ℕ) → 3 ≤ length bs → is_bom (get_or bs 0 0) (get_or bs 1 0) (get_or bs 2 0) ≡ true → drop 3 bs ≡ strip_bom bs
+unfolding strip_bom
+mark-goes [] le e = absurd (omega (arith, le))
+mark-goes (a ∷ []) le e = absurd (omega (arith, le))
+mark-goes (a ∷ b ∷ []) le e = absurd (omega (arith, le))
+mark-goes (a ∷ b ∷ c ∷ rest) le e = sym (ap (λ (m : Bool). if m then rest else a ∷ b ∷ c ∷ rest) e)
+
+pub mark-stays : (bs : List ℕ) → 3 ≤ length bs → is_bom (get_or bs 0 0) (get_or bs 1 0) (get_or bs 2 0) ≡ false → bs ≡ strip_bom bs
+unfolding strip_bom
+mark-stays [] le e = absurd (omega (arith, le))
+mark-stays (a ∷ []) le e = absurd (omega (arith, le))
+mark-stays (a ∷ b ∷ []) le e = absurd (omega (arith, le))
+mark-stays (a ∷ b ∷ c ∷ rest) le e = sym (ap (λ (m : Bool). if m then rest else a ∷ b ∷ c ∷ rest) e)

@@ -1,0 +1,99 @@
+-- One record more is read, as the reader's contract says.
+use Rattle.std.proofs.Common.{Bor, List, ℕ, ◌∙◌, ◌∷◌, ◌++◌, [], Some, sym, refl, ap, subst, inl, inr, length, map, vec_items, string_bytes}
+use Rattle.std.proofs.lemmas.List.{length-map, map_push}
+use Rattle.std.specs.List.{AllByRecursion}
+use Rattle.csv.specs.Reading.{Reached, strip_bom}
+use Rattle.csv.specs.Records.{fields_of}
+use Rattle.csv.specs.declared.parser.Config.{Config}
+use Rattle.csv.specs.declared.parser.State.TheVariants as st
+use Rattle.csv.proofs.ReadFacts.{rows-end, rows-more}
+use Rattle.basinmug_input.specs.Cleaning.{cleaned}
+use Rattle.basinmug_input.specs.Flaws.{IsSound}
+use Rattle.basinmug_input.specs.Reading.{settings}
+use Rattle.basinmug_input.specs.Rows.{IsFirstFlawed, text_rows}
+use Rattle.basinmug_input.proofs.RecordLemmas.{records-go_on, records-only}
+use Rattle.basinmug_input.proofs.RowLemmas.{all-push}
+use Rattle.basinmug_input.proofs.records.read_rows.Goals as goal
+
+pub loop-init : goal.loop-init
+unfolding Reached
+loop-init c =
+    let made = c.from_reader-reader.ensures in
+    record {
+      trim = rw (c.flexible.ensures, c.has_headers.ensures, c.delimiter.ensures) at made.trim ∙ c.new.ensures.trim;
+      ready = inr (inr (rw (c.flexible.ensures, c.has_headers.ensures) at made.has_headers, made.headers));
+      config = rw (c.flexible.ensures, c.has_headers.ensures, c.delimiter.ensures) at made.config ∙ ap (λ (cfg : Config). record cfg { delimiter = c.args.delimiter }) c.new.ensures.config;
+      left = strip_bom c.args.bytes.now;
+      raw = [];
+      source = made.source;
+      reached = (sym made.state, refl);
+      texts = ap text_rows c.new-rows.ensures.items;
+      sound = tt;
+    }
+
+pub returns-then-not-found-clause-rows : goal.returns-then-not-found-clause-rows
+returns-then-not-found-clause-rows c =
+    let known = c.loop.invariant in
+    let cfg = settings c.args.delimiter in
+    let text = strip_bom c.args.bytes.now in
+    let read = rw c.if-not-found.true at (c.in-Ok.ensures.reads known.trim known.ready) in
+    let ends = rows-end (λ (s : Bor (List ℕ)). Some s.now) c.loop.reader c.read_byte_record.new.self (fields_of c.read_byte_record.new.row) cfg known.left known.config known.source read in
+    known.texts ∙ ap (map (map cleaned)) (sym (records-only cfg text known.raw (c.loop.reader.state, known.left, known.reached, ends)))
+
+pub returns-then-not-found-clause-readable : goal.returns-then-not-found-clause-readable
+returns-then-not-found-clause-readable c =
+    let known = c.loop.invariant in
+    let cfg = settings c.args.delimiter in
+    let text = strip_bom c.args.bytes.now in
+    let read = rw c.if-not-found.true at (c.in-Ok.ensures.reads known.trim known.ready) in
+    let ends = rows-end (λ (s : Bor (List ℕ)). Some s.now) c.loop.reader c.read_byte_record.new.self (fields_of c.read_byte_record.new.row) cfg known.left known.config known.source read in
+    record {
+      is_text = c.requires;
+      sound = subst (AllByRecursion (AllByRecursion IsSound)) (sym (records-only cfg text known.raw (c.loop.reader.state, known.left, known.reached, ends))) known.sound;
+    }
+
+pub fault_of-requires : goal.fault_of-requires
+fault_of-requires c =
+    let known = c.loop.invariant in
+    let cfg = settings c.args.delimiter in
+    let text = strip_bom c.args.bytes.now in
+    let here = fields_of c.read_byte_record.new.row in
+    let read = rw c.if-not-found.false at (c.in-Ok.ensures.reads known.trim known.ready) in
+    let (left, source, reached) = rows-more (λ (s : Bor (List ℕ)). Some s.now) c.loop.reader c.read_byte_record.new.self here cfg st.StartRecord text known.left known.raw known.config known.source known.reached read in
+    let (after, of_text) = records-go_on cfg text known.raw here c.read_byte_record.new.self.state left reached in
+    let first : IsFirstFlawed cfg text c.len.result c.in-Err.flawed = record {
+      is_text = c.requires;
+      before = known.raw;
+      here = here;
+      after = after;
+      of_text = of_text;
+      sound = known.sound;
+      place = c.len.ensures ∙ c.loop.rows.ok.0 ∙ sym (length-map c.loop.rows.items (λ row. map string_bytes (vec_items row))) ∙ ap length known.texts ∙ length-map known.raw (map cleaned);
+      flaw = rw c.in-Err.is at c.in_ok-row.ensures;
+    } in
+    subst (λ (of : List ℕ). IsFirstFlawed cfg of c.len.result c.in-Err.flawed) (sym c.without_mark.ensures) first
+
+pub loop-preserved : goal.loop-preserved
+loop-preserved c =
+    let known = c.loop.invariant in
+    let cfg = settings c.args.delimiter in
+    let text = strip_bom c.args.bytes.now in
+    let here = fields_of c.read_byte_record.new.row in
+    let read = rw c.if-not-found.false at (c.in-Ok.ensures.reads known.trim known.ready) in
+    let (left, source, reached) = rows-more (λ (s : Bor (List ℕ)). Some s.now) c.loop.reader c.read_byte_record.new.self here cfg st.StartRecord text known.left known.raw known.config known.source known.reached read in
+    let row = rw c.in-Ok-2.is at c.in_ok-row.ensures in
+    record {
+      trim = read.3 ∙ known.trim;
+      ready = inl (c.in-Ok.ensures.ready known.trim);
+      config = read.2 ∙ known.config;
+      left = left;
+      raw = known.raw ++ here ∷ [];
+      source = source;
+      reached = reached;
+      texts = ap text_rows c.in_ok-push-in-Ok-2.ensures.items
+          ∙ map_push (λ row. map string_bytes (vec_items row)) c.loop.rows.items c.in-Ok-2.row
+          ∙ ap (λ (rows : List (List (List ℕ))). rows ++ map string_bytes (vec_items c.in-Ok-2.row) ∷ []) known.texts
+          ∙ ap (λ (texts : List (List ℕ)). map (map cleaned) known.raw ++ texts ∷ []) row.texts
+          ∙ sym (map_push (map cleaned) known.raw here);
+      sound = all-push (AllByRecursion IsSound) known.raw here known.sound row.sound;
+    }

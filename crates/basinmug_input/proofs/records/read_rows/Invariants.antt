@@ -1,0 +1,24 @@
+-- The records so far are the first of the text, sound, and the rows have them.
+use Rattle.std.proofs.Common.{◌≡◌, ℕ, List, Some, map}
+use Rattle.std.specs.List.{AllByRecursion}
+use Rattle.csv.specs.Reading.{Reached, Ready, reader_config, reader_state, reader_trim, source_of, strip_bom}
+use Rattle.csv.specs.declared.parser.State.TheVariants as st
+use Rattle.csv.specs.declared.reader.Trim.TheVariants as trim
+use Rattle.basinmug_input.specs.Cleaning.{cleaned}
+use Rattle.basinmug_input.specs.Flaws.{IsSound}
+use Rattle.basinmug_input.specs.Reading.{settings}
+use Rattle.basinmug_input.specs.Rows.{text_rows}
+use Rattle.basinmug_input.proofs.records.read_rows.Given as goal
+
+abbrev pub invariant-loop : goal.invariant-loop
+invariant-loop l = record {
+  trim : reader_trim l.reader ≡ trim.None;
+  ready : Ready l.reader;
+  config : reader_config l.reader ≡ settings l.delimiter;
+  left : List ℕ;
+  raw : List (List (List ℕ));
+  source : source_of (λ s. Some s.now) l.reader ≡ Some left;
+  reached : Reached (settings l.delimiter) st.StartRecord (strip_bom l.bytes) raw (reader_state l.reader) left;
+  texts : text_rows l.rows.items ≡ map (map cleaned) raw;
+  sound : AllByRecursion (AllByRecursion IsSound) raw;
+}

@@ -1,0 +1,66 @@
+-- Why a text has no rows, and what a fault prints.
+use Rattle.std.specs.Prelude.{◌≡◌, ◌+◌, ◌⊎◌, ℕ, List, ◌∷◌, ◌++◌, ⊤, IsUtf8, codes, decimal, length}
+use Rattle.std.specs.List.{AllByRecursion}
+use Rattle.std.specs.Str.{IsValidUpTo}
+use Rattle.csv.specs.Reading.{records}
+use Rattle.csv.specs.declared.parser.Config.{Config}
+use Rattle.basinmug_input.specs.Flaws.{IsBroken, IsNoText, IsSound}
+use Rattle.basinmug_input.specs.Places.{EndsInQuotes, IsOpenQuote, IsReadAs, field_at, line_at}
+use Rattle.basinmug_input.specs.declared.fault.InputFault.{InputFault}
+use Rattle.basinmug_input.specs.declared.fault.InputFault.TheVariants.{NotText, Quote, Escape, Memory}
+
+-- the bytes that a fault prints
+abbrev pub fault_text : InputFault → List ℕ
+fault_text (NotText line field) = codes "line " ++ (decimal line ++ (codes ", field " ++ (decimal field ++ codes ": not UTF-8")))
+fault_text (Quote line) = codes "line " ++ (decimal line ++ codes ": a quote that is not closed")
+fault_text (Escape line field) = codes "line " ++ (decimal line ++ (codes ", field " ++ (decimal field ++ codes ": an escape that begins no sequence")))
+fault_text Memory = codes "out of memory"
+
+-- the bytes are text, and each quote that opens a field is closed
+abbrev pub IsText : Config → List ℕ → Type 0
+IsText cfg text = IsUtf8 text × ¬ (EndsInQuotes cfg text)
+
+-- the text has rows: nothing is wrong with any of its fields
+pub record IsReadable (cfg : Config) (text : List ℕ) : Type 0 where
+  pub is_text : IsText cfg text
+  pub sound : AllByRecursion (AllByRecursion IsSound) (records cfg text)
+
+-- the bytes are no text: `at` bytes, and no more, are the longest text at their front. What follows stands at this place
+pub record IsNotUtf8 (cfg : Config) (text : List ℕ) (line field : ℕ) : Type 0 where
+  pub no_text : ¬ (IsUtf8 text)
+  pub at : ℕ
+  pub valid : IsValidUpTo text at
+  pub in_line : line ≡ line_at text at
+  pub in_field : field ≡ field_at cfg text at
+
+-- the quote on this line opens a field and isn't closed
+pub record HasOpenQuote (cfg : Config) (text : List ℕ) (line : ℕ) : Type 0 where
+  pub is_text : IsUtf8 text
+  pub at : ℕ
+  pub quote : IsOpenQuote cfg text at
+  pub in_line : line ≡ line_at text at
+
+-- the first field with a flaw has this one: fields are read record by record. Its place is that of the flaw's byte
+pub record HasFirstFlaw (Flaw : List ℕ → ℕ → Type 0) (cfg : Config) (text : List ℕ) (line field : ℕ) : Type 0 where
+  pub is_text : IsText cfg text
+  pub before : List (List (List ℕ))
+  pub fields : List (List ℕ)
+  pub here : List ℕ
+  pub behind : List (List ℕ)
+  pub after : List (List (List ℕ))
+  pub of_text : records cfg text ≡ before ++ (fields ++ here ∷ behind) ∷ after
+  pub sound_records : AllByRecursion (AllByRecursion IsSound) before
+  pub sound_fields : AllByRecursion IsSound fields
+  pub byte : ℕ
+  pub flaw : Flaw here byte
+  pub at : ℕ
+  pub read : IsReadAs cfg text at (length before) (length fields) byte
+  pub in_line : line ≡ line_at text at
+  pub in_field : field ≡ length fields + 1
+
+-- why a text has no rows. A delimiter past ASCII may part a character, so that a field of a text is none
+abbrev pub IsFaultOf : Config → List ℕ → InputFault → Type 0
+IsFaultOf cfg text (NotText line field) = IsNotUtf8 cfg text line field ⊎ HasFirstFlaw IsNoText cfg text line field
+IsFaultOf cfg text (Quote line) = HasOpenQuote cfg text line
+IsFaultOf cfg text (Escape line field) = HasFirstFlaw IsBroken cfg text line field
+IsFaultOf cfg text Memory = ⊤

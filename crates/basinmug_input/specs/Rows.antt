@@ -1,0 +1,40 @@
+-- Rows as the code holds them, and what is wrong with the first field that has a flaw.
+use Rattle.std.specs.Prelude.{◌≡◌, ℕ, List, ◌∷◌, ◌++◌, Vec, length, map, string_bytes, vec_items}
+use Rattle.std.specs.List.{AllByRecursion}
+use Rattle.std.specs.declared.string.String.{String}
+use Rattle.csv.specs.Reading.{records}
+use Rattle.csv.specs.declared.parser.Config.{Config}
+use Rattle.basinmug_input.specs.Cleaning.{cleaned}
+use Rattle.basinmug_input.specs.Faults.{IsText}
+use Rattle.basinmug_input.specs.Flaws.{HasFlaw, IsSound}
+use Rattle.basinmug_input.specs.declared.records.Flawed.{Flawed}
+
+-- the bytes of the texts of rows
+abbrev pub text_rows : {Z : Type 0} → List (Vec (String Z) Z) → List (List (List ℕ))
+text_rows rows = map (λ row. map string_bytes (vec_items row)) rows
+
+-- these fields are sound, and the row has them as a table shows them
+pub record IsRowOf {Z : Type 0} (fields : List (List ℕ)) (row : Vec (String Z) Z) : Type 0 where
+  pub sound : AllByRecursion IsSound fields
+  pub texts : map string_bytes (vec_items row) ≡ map cleaned fields
+
+-- the first of these fields that isn't sound has this flaw
+pub record HasFlawed (fields : List (List ℕ)) (flawed : Flawed) : Type 0 where
+  pub before : List (List ℕ)
+  pub here : List ℕ
+  pub behind : List (List ℕ)
+  pub of_fields : fields ≡ before ++ here ∷ behind
+  pub sound : AllByRecursion IsSound before
+  pub place : flawed.field ≡ length before
+  pub flaw : HasFlaw here flawed.flaw
+
+-- the first record of a text with a field that isn't sound is this one, and its first such field has this flaw
+pub record IsFirstFlawed (cfg : Config) (text : List ℕ) (row : ℕ) (flawed : Flawed) : Type 0 where
+  pub is_text : IsText cfg text
+  pub before : List (List (List ℕ))
+  pub here : List (List ℕ)
+  pub after : List (List (List ℕ))
+  pub of_text : records cfg text ≡ before ++ here ∷ after
+  pub sound : AllByRecursion (AllByRecursion IsSound) before
+  pub place : row ≡ length before
+  pub flaw : HasFlawed here flawed

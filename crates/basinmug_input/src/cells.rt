@@ -1,0 +1,140 @@
+//! The text of a field as a table shows it.
+ghost use Rattle.std.specs.Prelude.{◌≡◌, ◌+◌, ◌<◌, ◌==◌, ◌&&◌, ◌++◌, [], not, if◌then◌else◌, IfOk, OnOk, MatchResult, string_bytes, chars};
+ghost use Rattle.std.specs.List.{list_all};
+ghost use Rattle.csv.specs.Machine.{carriage_return, line_feed};
+ghost use Rattle.basinmug_input.specs.Cleaning.{cleaned, cleaned_text, is_control, shown, stays};
+ghost use Rattle.basinmug_input.specs.Flaws.{HasFlaw, IsSound};
+
+use ansi_scan::{Kind, first_broken, scan};
+use simdutf8::compat;
+use std::alloc::{AllocError, Global};
+
+/// What a tab becomes.
+const TAB: &str = "    ";
+
+/// What a character of the second set of control characters becomes, which have no pictures: REPLACEMENT CHARACTER.
+const REPLACEMENT: char = '\u{fffd}';
+
+/// What is wrong with a field, and at which of its bytes.
+#[derive(Clone, Copy)]
+pub(crate) enum Flaw {
+    /// It is no text from this byte on.
+    NotText { byte: usize },
+    /// The ESC at this byte begins no whole sequence.
+    Escape { byte: usize },
+}
+
+/// The text of a field as a table shows it, or what is wrong with the field.
+pub(crate) fn cell_of(alloc: Global, field: &[u8]) -> Result<Result<String, Flaw>, AllocError>
+    ensures { IfOk result (λ read. MatchResult read (λ cell. IsSound field.now × (string_bytes cell ≡ cleaned field.now)) (HasFlaw field.now)) }
+{
+    let text = match compat::from_utf8(field) {
+        Ok(text) => text,
+        Err(error) => {
+            return Ok(Err(Flaw::NotText {
+                byte: error.valid_up_to(),
+            }));
+        }
+    };
+    match first_broken(text) {
+        Some(byte) => Ok(Err(Flaw::Escape { byte })),
+        None => Ok(Ok(cleaned(alloc, text)?)),
+    }
+}
+
+// A text with its control characters made visible; its sequences stay as they are.
+fn cleaned(alloc: Global, text: &str) -> Result<String, AllocError>
+    ensures { IfOk result (λ out. string_bytes out ≡ cleaned text.now) }
+{
+    let mut out = String::with_capacity(alloc, text.len())?;
+    for item in scan(text) {
+        let bytes = &text[item.start..item.end];
+        match item.kind {
+            Kind::Text => push_cleaned(&mut out, bytes)?,
+            _ => out.push_str(bytes)?,
+        }
+    }
+    Ok(out)
+}
+
+// Appends a text without sequences, its control characters made visible.
+fn push_cleaned(out: &mut String, text: &str) -> Result<(), AllocError>
+    ensures { OnOk result (string_bytes out.new ≡ string_bytes out.old ++ cleaned_text (chars text.now)) }
+{
+    if stays(text) {
+        return out.push_str(text);
+    }
+    push_visible(out, text)
+}
+
+// Whether no character of a text is a control character other than a line feed.
+fn stays(text: &str) -> bool
+    ensures { result ≡ list_all stays (chars text.now) }
+{
+    text.chars().all(|c| !is_control(c) || c == '\n')
+}
+
+// Whether a character is of C0 or of C1, or DELETE.
+fn is_control(c: char) -> bool
+    ensures { result ≡ is_control c }
+{
+    c < ' ' || ('\u{7f}'..'\u{a0}').contains(&c)
+}
+
+// Appends a text, character by character. A carriage return waits until the character behind it is known.
+fn push_visible(out: &mut String, text: &str) -> Result<(), AllocError>
+    ensures { OnOk result (string_bytes out.new ≡ string_bytes out.old ++ cleaned_text (chars text.now)) }
+{
+    let mut waits = false;
+    for c in text.chars() {
+        push_return(out, waits, c)?;
+        push_other(out, c)?;
+        waits = c == '\r';
+    }
+    if waits {
+        return push_shown(out, '\r');
+    }
+    Ok(())
+}
+
+// Appends the carriage return that waits, if one does, unless this character behind it is a line feed.
+fn push_return(out: &mut String, waits: bool, c: char) -> Result<(), AllocError>
+    ensures { OnOk result (string_bytes out.new ≡ string_bytes out.old ++ (if waits && not (c == line_feed) then shown carriage_return else [])) }
+{
+    if waits && c != '\n' {
+        return push_shown(out, '\r');
+    }
+    Ok(())
+}
+
+// Appends a character, if it is no carriage return.
+fn push_other(out: &mut String, c: char) -> Result<(), AllocError>
+    ensures { OnOk result (string_bytes out.new ≡ string_bytes out.old ++ (if c == carriage_return then [] else shown c)) }
+{
+    if c == '\r' {
+        return Ok(());
+    }
+    push_shown(out, c)
+}
+
+// Appends what a character is shown as.
+fn push_shown(out: &mut String, c: char) -> Result<(), AllocError>
+    ensures { OnOk result (string_bytes out.new ≡ string_bytes out.old ++ shown c) }
+{
+    match c {
+        '\n' => out.push('\n'),
+        '\t' => out.push_str(TAB),
+        '\u{7f}' => out.push('\u{2421}'),
+        '\u{80}'..='\u{9f}' => out.push(REPLACEMENT),
+        _ if c < ' ' => out.push(picture(c)),
+        _ => out.push(c),
+    }
+}
+
+// The picture of a control character of C0.
+fn picture(control: char) -> char
+    requires { control < 32 }
+    ensures { result ≡ 0x2400 + control }
+{
+    char::from_u32(0x2400 + control as u32).unwrap_or(REPLACEMENT)
+}

@@ -1,0 +1,13 @@
+//! The records of a delimited text, each field ready to stand in a table.
+#![tactic(auto)]
+
+mod cells;
+mod fault;
+mod files;
+mod places;
+mod progress;
+mod records;
+
+pub use fault::InputFault;
+pub use files::delimiter_for;
+pub use records::rows_of;

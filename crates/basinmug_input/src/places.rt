@@ -1,0 +1,88 @@
+//! Where in a text something stands: its line and its field, both from 1.
+ghost use Rattle.std.specs.Prelude.{◌≡◌, ◌≤◌, ◌<◌, ◌↔◌, ℕ, length, IfSome, IsSome, IsTrue};
+ghost use Rattle.csv.specs.declared.parser.Action.TheVariants as act;
+ghost use Rattle.csv.specs.declared.parser.State.TheVariants as st;
+ghost use Rattle.basinmug_input.specs.Reading.{HasByte, settings};
+ghost use Rattle.basinmug_input.specs.Places.{EndsInQuotes, IsOpenQuote, IsReadAs, field_at, line_at};
+ghost use Rattle.basinmug_input.specs.Walking.{csv_action, csv_state};
+
+use crate::progress::{Action, Progress, State, step};
+
+/// The line of a byte: one more than the line feeds before it.
+pub(crate) fn line_of(text: &[u8], at: usize) -> usize
+    requires { at ≤ length text.now }
+    ensures { result ≡ line_at text.now at }
+{
+    let mut line = 1;
+    for i in 0..at {
+        if text[i] == b'\n' {
+            line += 1;
+        }
+    }
+    line
+}
+
+/// The field of a byte in its record: one more than the fields that have ended before it.
+pub(crate) fn field_of(text: &[u8], delimiter: u8, at: usize) -> usize
+    requires { at ≤ length text.now }
+    ensures { result ≡ field_at (settings delimiter) text.now at }
+{
+    let mut read = Progress::start();
+    for i in 0..at {
+        read = read.with(delimiter, text[i]);
+    }
+    read.fields + 1
+}
+
+/// Where the quote stands that opens the last field and isn't closed, if the text ends in a quoted field.
+pub(crate) fn open_quote(text: &[u8], delimiter: u8) -> Option<usize>
+    ensures open { IfSome result (IsOpenQuote (settings delimiter) text.now) }
+    ensures closed { IsSome result ↔ EndsInQuotes (settings delimiter) text.now }
+{
+    let mut state = State::RecordStart;
+    let mut opened = 0;
+    for i in 0..text.len() {
+        let (next, action) = step(delimiter, state, text[i]);
+        if opens(next, action) {
+            opened = i;
+        }
+        state = next;
+    }
+    match state {
+        State::Quoted => Some(opened),
+        _ => None,
+    }
+}
+
+// Whether a byte with this action, behind which this state is, is a quote that opens a field.
+fn opens(state: State, action: Action) -> bool
+    ensures { IsTrue result ↔ ((csv_state state ≡ st.InQuoted) × (csv_action action ≡ act.Skip)) }
+{
+    matches!((state, action), (State::Quoted, Action::Skip))
+}
+
+/// Where the byte of a text stands that is read as this byte of this field of the record `row`, all from 0.
+pub(crate) fn place_of(text: &[u8], delimiter: u8, row: usize, field: usize, byte: usize) -> usize
+    requires { HasByte (settings delimiter) text.now row field byte }
+    ensures { IsReadAs (settings delimiter) text.now result row field byte }
+{
+    let mut read = Progress::start();
+    for i in 0..text.len() {
+        let (_, action) = step(delimiter, read.state, text[i]);
+        if is_read_as(action, read, row, field, byte) {
+            return i;
+        }
+        read = read.with(delimiter, text[i]);
+    }
+    text.len()
+}
+
+// Whether a byte with this action is read as this byte of this field of this record, behind what is read before it.
+fn is_read_as(action: Action, before: Progress, row: usize, field: usize, byte: usize) -> bool
+    ensures { IsTrue result ↔ ((csv_action action ≡ act.Copy) × (before.records ≡ row) × (before.fields ≡ field) × (before.bytes ≡ byte)) }
+{
+    matches!(action, Action::Copy)
+        && before.records == row
+        && before.fields == field
+        && before.bytes == byte
+}

@@ -1,0 +1,143 @@
+//! How far a text of records is read: the state machine of CSV (RFC 4180, section 2).
+ghost use Rattle.std.specs.Prelude.{◌≡◌, ◌+◌, ℕ, List, [], ◌∷◌, ◌++◌};
+ghost use Rattle.csv.specs.Machine as Machine;
+ghost use Rattle.csv.specs.declared.parser.State.TheVariants as st;
+ghost use Rattle.basinmug_input.specs.Reading.{settings};
+ghost use Rattle.basinmug_input.specs.Walking.{csv_action, csv_state, HasAtMost, HasRoom, IsReadOf};
+
+/// What a quoted field stands in.
+const QUOTE: u8 = b'"';
+
+/// Where in a record the machine stands.
+#[derive(Clone, Copy)]
+pub(crate) enum State {
+    RecordStart,
+    FieldStart,
+    Unquoted,
+    Quoted,
+    /// Behind a quote in a quoted field: it closes the field, or is the first of two.
+    QuoteBehind,
+    /// Behind a carriage return that ended a record.
+    ReturnBehind,
+}
+
+/// What a byte does.
+#[derive(Clone, Copy)]
+pub(crate) enum Action {
+    Skip,
+    Copy,
+    EndField,
+    EndRecord,
+}
+
+/// What has been read of a text: the machine's state, and how many records, fields of the record at hand and bytes of
+/// the field at hand.
+#[derive(Clone, Copy)]
+pub(crate) struct Progress {
+    pub(crate) state: State,
+    pub(crate) records: usize,
+    pub(crate) fields: usize,
+    pub(crate) bytes: usize,
+}
+
+impl Progress {
+    /// Nothing read.
+    pub(crate) fn start() -> Progress
+        ensures read { (delimiter : ℕ) → IsReadOf (settings delimiter) [] result }
+        ensures few { HasAtMost 0 result }
+    {
+        Progress {
+            state: State::RecordStart,
+            records: 0,
+            fields: 0,
+            bytes: 0,
+        }
+    }
+
+    /// What has been read with one byte more.
+    pub(crate) fn with(self, delimiter: u8, byte: u8) -> Progress
+        requires { HasRoom self }
+        ensures read { (front : List ℕ) → IsReadOf (settings delimiter) front self → IsReadOf (settings delimiter) (front ++ byte ∷ []) result }
+        ensures few { (n : ℕ) → HasAtMost n self → HasAtMost (n + 1) result }
+    {
+        let (state, action) = step(delimiter, self.state, byte);
+        match action {
+            Action::Skip => Progress { state, ..self },
+            Action::Copy => Progress {
+                state,
+                bytes: self.bytes + 1,
+                ..self
+            },
+            Action::EndField => Progress {
+                state,
+                fields: self.fields + 1,
+                bytes: 0,
+                ..self
+            },
+            Action::EndRecord => Progress {
+                state,
+                records: self.records + 1,
+                fields: 0,
+                bytes: 0,
+            },
+        }
+    }
+}
+
+/// The state after a byte, and what the byte does.
+pub(crate) fn step(delimiter: u8, state: State, byte: u8) -> (State, Action)
+    ensures state { csv_state result.0 ≡ (Machine.step (settings delimiter) (csv_state state) byte).0 }
+    ensures action { csv_action result.1 ≡ (Machine.step (settings delimiter) (csv_state state) byte).1 }
+{
+    match state {
+        State::RecordStart => record_start(delimiter, byte),
+        State::FieldStart => field_start(delimiter, byte),
+        State::Unquoted => unquoted(delimiter, byte),
+        State::Quoted if byte == QUOTE => (State::QuoteBehind, Action::Skip),
+        State::Quoted => (State::Quoted, Action::Copy),
+        State::QuoteBehind if byte == QUOTE => (State::Quoted, Action::Copy),
+        State::QuoteBehind => unquoted(delimiter, byte),
+        State::ReturnBehind if byte == b'\n' => (State::RecordStart, Action::Skip),
+        State::ReturnBehind => record_start(delimiter, byte),
+    }
+}
+
+// The same where a record may begin: empty lines are no records.
+fn record_start(delimiter: u8, byte: u8) -> (State, Action)
+    ensures state { csv_state result.0 ≡ (Machine.step (settings delimiter) st.StartRecord byte).0 }
+    ensures action { csv_action result.1 ≡ (Machine.step (settings delimiter) st.StartRecord byte).1 }
+{
+    if byte == b'\r' || byte == b'\n' {
+        (State::RecordStart, Action::Skip)
+    } else {
+        field_start(delimiter, byte)
+    }
+}
+
+// The same where a field begins.
+fn field_start(delimiter: u8, byte: u8) -> (State, Action)
+    ensures state { csv_state result.0 ≡ (Machine.step (settings delimiter) st.StartField byte).0 }
+    ensures action { csv_action result.1 ≡ (Machine.step (settings delimiter) st.StartField byte).1 }
+{
+    if byte == QUOTE {
+        (State::Quoted, Action::Skip)
+    } else {
+        unquoted(delimiter, byte)
+    }
+}
+
+// The same outside quotes.
+fn unquoted(delimiter: u8, byte: u8) -> (State, Action)
+    ensures state { csv_state result.0 ≡ (Machine.step (settings delimiter) st.InField byte).0 }
+    ensures action { csv_action result.1 ≡ (Machine.step (settings delimiter) st.InField byte).1 }
+{
+    if byte == delimiter {
+        (State::FieldStart, Action::EndField)
+    } else if byte == b'\r' {
+        (State::ReturnBehind, Action::EndRecord)
+    } else if byte == b'\n' {
+        (State::RecordStart, Action::EndRecord)
+    } else {
+        (State::Unquoted, Action::Copy)
+    }
+}

@@ -1,0 +1,156 @@
+//! From bytes to rows of texts.
+ghost use Rattle.std.specs.Prelude.{◌≡◌, ◌+◌, ◌<◌, ◌^◌, ℕ, List, [], ◌∷◌, ◌++◌, Err, IfErr, IfOk, IsUtf8, MatchResult, OnOk, length, map, string_bytes};
+ghost use Rattle.csv.specs.Reading.{is_bom, records, strip_bom};
+ghost use Rattle.csv.specs.Records.{fields_of};
+ghost use Rattle.basinmug_input.specs.Cleaning.{cleaned};
+ghost use Rattle.basinmug_input.specs.Faults.{HasOpenQuote, IsFaultOf, IsNotUtf8, IsReadable, IsText};
+ghost use Rattle.basinmug_input.specs.Places.{EndsInQuotes};
+ghost use Rattle.basinmug_input.specs.Reading.{HasByte, settings};
+ghost use Rattle.basinmug_input.specs.Rows.{HasFlawed, IsFirstFlawed, IsRowOf, text_rows};
+
+use crate::cells::{Flaw, cell_of};
+use crate::fault::InputFault;
+use crate::places::{field_of, line_of, open_quote, place_of};
+use csv::{ByteRecord, ReaderBuilder};
+use simdutf8::compat;
+use std::alloc::{AllocError, Global};
+
+/// The records of a text, in which this byte parts fields. A byte order mark at the front isn't read.
+pub fn rows_of(alloc: Global, bytes: &[u8], delimiter: u8) -> Result<Vec<Vec<String>>, InputFault>
+    ensures rows { IfOk result (λ rows. text_rows rows.items ≡ map (map cleaned) (records (settings delimiter) (strip_bom bytes.now))) }
+    ensures readable { OnOk result (IsReadable (settings delimiter) (strip_bom bytes.now)) }
+    ensures fault { IfErr result (IsFaultOf (settings delimiter) (strip_bom bytes.now)) }
+{
+    let text = without_mark(bytes);
+    check_text(text, delimiter)?;
+    check_quotes(text, delimiter)?;
+    read_rows(alloc, bytes, delimiter)
+}
+
+// The bytes without a byte order mark at the front.
+fn without_mark(bytes: &[u8]) -> &[u8]
+    ensures { result.now ≡ strip_bom bytes.now }
+{
+    match bytes {
+        [a, b, c, rest @ ..] if is_mark(*a, *b, *c) => rest,
+        _ => bytes,
+    }
+}
+
+// Whether these bytes are U+FEFF BYTE ORDER MARK in UTF-8.
+fn is_mark(a: u8, b: u8, c: u8) -> bool
+    ensures { result ≡ is_bom a b c }
+{
+    a == 0xef && b == 0xbb && c == 0xbf
+}
+
+// Refuses bytes that are no text.
+fn check_text(text: &[u8], delimiter: u8) -> Result<(), InputFault>
+    ensures text { OnOk result (IsUtf8 text.now) }
+    ensures fault { IfErr result (IsFaultOf (settings delimiter) text.now) }
+{
+    match compat::from_utf8(text) {
+        Ok(_) => Ok(()),
+        Err(error) => {
+            let at = error.valid_up_to();
+            Err(InputFault::NotText {
+                line: line_of(text, at),
+                field: field_of(text, delimiter, at),
+            })
+        }
+    }
+}
+
+// Refuses a text that ends in a quoted field.
+fn check_quotes(text: &[u8], delimiter: u8) -> Result<(), InputFault>
+    requires { IsUtf8 text.now }
+    ensures closed { OnOk result (¬ EndsInQuotes (settings delimiter) text.now) }
+    ensures fault { IfErr result (IsFaultOf (settings delimiter) text.now) }
+{
+    match open_quote(text, delimiter) {
+        Some(at) => Err(InputFault::Quote {
+            line: line_of(text, at),
+        }),
+        None => Ok(()),
+    }
+}
+
+// The records of bytes that are text, with each quote closed.
+fn read_rows(alloc: Global, bytes: &[u8], delimiter: u8) -> Result<Vec<Vec<String>>, InputFault>
+    requires { IsText (settings delimiter) (strip_bom bytes.now) }
+    ensures rows { IfOk result (λ rows. text_rows rows.items ≡ map (map cleaned) (records (settings delimiter) (strip_bom bytes.now))) }
+    ensures readable { OnOk result (IsReadable (settings delimiter) (strip_bom bytes.now)) }
+    ensures fault { IfErr result (IsFaultOf (settings delimiter) (strip_bom bytes.now)) }
+{
+    let mut reader = ReaderBuilder::new()
+        .delimiter(delimiter)
+        .has_headers(false)
+        .flexible(true)
+        .from_reader(alloc, bytes);
+    let mut record = ByteRecord::new(alloc);
+    let mut rows = Vec::new(alloc);
+    for _ in 0..u64::MAX {
+        let Ok(found) = reader.read_byte_record(&mut record) else {
+            return Err(InputFault::Memory);
+        };
+        if !found {
+            return Ok(rows);
+        }
+        match row_of(alloc, &record)? {
+            Ok(row) => rows.push(row)?,
+            Err(flawed) => {
+                return Err(fault_of(without_mark(bytes), delimiter, rows.len(), flawed));
+            }
+        }
+    }
+    Err(InputFault::Memory)
+}
+
+/// A field that can't be shown: its number in its record, from 0, and what is wrong with it.
+#[derive(Clone, Copy)]
+struct Flawed {
+    field: usize,
+    flaw: Flaw,
+}
+
+// The fields of a record as a table shows them, or the first that can't be shown.
+fn row_of(alloc: Global, given: &ByteRecord) -> Result<Result<Vec<String>, Flawed>, AllocError>
+    ensures { IfOk result (λ read. MatchResult read (IsRowOf (fields_of given.now)) (HasFlawed (fields_of given.now))) }
+{
+    let mut row = Vec::with_capacity(alloc, given.len())?;
+    while let Some(field) = given.get(row.len()) {
+        match cell_of(alloc, field)? {
+            Ok(cell) => row.push(cell)?,
+            Err(flaw) => {
+                return Ok(Err(Flawed {
+                    field: row.len(),
+                    flaw,
+                }));
+            }
+        }
+    }
+    Ok(Ok(row))
+}
+
+// The fault of a text whose record at this place, from 0, has the first field with a flaw.
+fn fault_of(text: &[u8], delimiter: u8, row: usize, flawed: Flawed) -> InputFault
+    requires { IsFirstFlawed (settings delimiter) text.now row flawed }
+    ensures { IsFaultOf (settings delimiter) text.now result }
+{
+    match flawed.flaw {
+        Flaw::NotText { byte } => {
+            let at = place_of(text, delimiter, row, flawed.field, byte);
+            InputFault::NotText {
+                line: line_of(text, at),
+                field: field_of(text, delimiter, at),
+            }
+        }
+        Flaw::Escape { byte } => {
+            let at = place_of(text, delimiter, row, flawed.field, byte);
+            InputFault::Escape {
+                line: line_of(text, at),
+                field: field_of(text, delimiter, at),
+            }
+        }
+    }
+}
