@@ -1,6 +1,7 @@
 # `rt` proves, builds and tests; `rt help` tells its commands. What follows only calls it.
 
 PROGRAM := crates/columns/out/columns
+BASINMUG := crates/basinmug/out/basinmug
 LIBRARY := lib/libbasinmug.so.0
 INPUT ?= examples/nightly.tsv
 PREFIX ?= /usr/local
@@ -25,7 +26,7 @@ MAKEFLAGS += --no-builtin-rules
 run:                ## print the table of INPUT (INPUT=/dev/stdin reads standard input) as WORDS ask
 	@tools/try $(WORDS) $(FROM)
 
-build: $(PROGRAM)   ## prove and build the program, which takes half an hour at first
+build: $(PROGRAM) $(BASINMUG) ## prove and build both programs, which takes an hour at first
 
 lib: $(LIBRARY)     ## prove and build the library for C, Python and Rust, into lib/
 
@@ -33,7 +34,7 @@ test:               ## the gate: every proof, every test, then the built program
 	@tests/run
 
 # What the tests run from outside; `make -q built` tells whether it is there.
-built: $(PROGRAM) $(TESTS)
+built: $(PROGRAM) $(BASINMUG) $(TESTS)
 
 check:              ## prove what has changed
 	@rt all check
@@ -53,17 +54,20 @@ soak: $(PROGRAM)    ## compare CASES random runs with the plain model of the fol
 attack:             ## try the wrong bodies of attacks/ (ATTACK='CRATE' or 'CRATE/NAME' for some)
 	@attacks/run $(ATTACK)
 
-install: install-program install-library ## put the program and the library, with what belongs to them, into PREFIX
+install: install-program install-library ## put the programs and the library, with what belongs to them, into PREFIX
 
-# The program, its manual page and completions.
-install-program: $(PROGRAM)
+# The programs, their manual pages and completions.
+install-program: $(PROGRAM) $(BASINMUG)
 	install -d '$(DESTDIR)$(PREFIX)/bin' '$(DESTDIR)$(PREFIX)/share/man/man1'
-	install -m 755 $(PROGRAM) '$(DESTDIR)$(PREFIX)/bin/columns'
-	install -m 644 docs/columns.1 '$(DESTDIR)$(PREFIX)/share/man/man1/columns.1'
 	install -d '$(DESTDIR)$(PREFIX)/share/bash-completion/completions' '$(DESTDIR)$(PREFIX)/share/zsh/site-functions' '$(DESTDIR)$(PREFIX)/share/fish/vendor_completions.d'
-	install -m 644 completions/columns.bash '$(DESTDIR)$(PREFIX)/share/bash-completion/completions/columns'
-	install -m 644 completions/_columns '$(DESTDIR)$(PREFIX)/share/zsh/site-functions/_columns'
-	install -m 644 completions/columns.fish '$(DESTDIR)$(PREFIX)/share/fish/vendor_completions.d/columns.fish'
+	for program in $(PROGRAM) $(BASINMUG); do \
+		name=$${program##*/}; \
+		install -m 755 "$$program" "$(DESTDIR)$(PREFIX)/bin/$$name" && \
+		install -m 644 "docs/$$name.1" "$(DESTDIR)$(PREFIX)/share/man/man1/$$name.1" && \
+		install -m 644 "completions/$$name.bash" "$(DESTDIR)$(PREFIX)/share/bash-completion/completions/$$name" && \
+		install -m 644 "completions/_$$name" "$(DESTDIR)$(PREFIX)/share/zsh/site-functions/_$$name" && \
+		install -m 644 "completions/$$name.fish" "$(DESTDIR)$(PREFIX)/share/fish/vendor_completions.d/$$name.fish" || exit 1; \
+	done
 
 # The library, its header, and what pkg-config tells of them.
 install-library: $(LIBRARY)
@@ -75,7 +79,7 @@ install-library: $(LIBRARY)
 	sed 's|@PREFIX@|$(PREFIX)|' include/basinmug.pc.in > '$(DESTDIR)$(PREFIX)/lib/pkgconfig/basinmug.pc'
 	chmod 644 '$(DESTDIR)$(PREFIX)/lib/pkgconfig/basinmug.pc'
 
-dist: $(PROGRAM)    ## pack the program, its manual page and completions into dist/, for Linux on x86-64
+dist: $(PROGRAM) $(BASINMUG) ## pack the programs, their manual pages and completions into dist/, for Linux on x86-64
 	@tools/dist
 
 clean:              ## remove everything that was built or generated
@@ -87,8 +91,8 @@ help:               ## this list
 		printf '  make %-9s %s\n' "$$name" "$$what"; done
 
 # It goes by contents, so a file that was only touched costs no proof, and writes to standard error alone.
-$(PROGRAM): $(SOURCES)
-	@tools/build columns
+$(PROGRAM) $(BASINMUG): $(SOURCES)
+	@tools/build $(@F)
 	@touch $@
 
 $(LIBRARY): $(SOURCES) tools/library

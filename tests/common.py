@@ -14,14 +14,14 @@ def tests_of(crate):
     return f"crates/{crate}/out/{crate}_tests"
 
 
-def arguments(what):
-    """Reads the command line, and gives the path of the program to run."""
+def arguments(what, name=PROGRAM):
+    """Reads the command line, and gives the path of the program to run: of this name, where none is given."""
     words = argparse.ArgumentParser(description=what)
     words.add_argument("--program", help="another program than the one that this repository builds")
     given = words.parse_args()
     if given.program:
         return os.path.abspath(given.program), True
-    return made(PROGRAM), False
+    return made(name), False
 
 
 def made(name):
