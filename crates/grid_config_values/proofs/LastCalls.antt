@@ -1,5 +1,6 @@
 -- The last of some calls, and what it decides.
-use Rattle.std.proofs.Common.{◌≡◌, ◌≢◌, ◌<◌, ◌≤◌, ◌+◌, ℕ, zero, suc, true, false, Bool, IsTrue, List, [], ◌∷◌, ◌++◌, ◌⊎◌, inl, inr, Option, None, Some, length, take, drop, slice_index_or, refl, ap, sym, subst, ◌∙◌, arith, if◌then◌else◌, cond}
+use Rattle.std.proofs.Common.{◌≡◌, ◌≢◌, ◌<◌, ◌≤◌, ◌+◌, ℕ, zero, suc, true, false, Bool, IsTrue, List, [], ◌∷◌, ◌++◌}
+use Rattle.std.proofs.Common.{◌⊎◌, inl, inr, Option, None, Some, length, take, drop, slice_index_or, refl, ap, sym, subst, ◌∙◌, arith, if◌then◌else◌, cond}
 use Rattle.std.specs.List.{All, slice_get}
 use Rattle.std.specs.BTreeMap.{BTreeMap, Updates, get}
 use Rattle.std.specs.Option.{option_cmp}
@@ -92,10 +93,12 @@ named_if_covers (Cell row col) p it =
 covers_named : (entity : Entity) (p : Position) → ((entity ≡ Column p.col) ⊎ (entity ≡ Row p.row)) ⊎ (entity ≡ Cell p.row p.col) → IsTrue (covers entity p)
 covers_named entity p it =
     elim it [
-      inl other ↦ elim other [
-        inl column ↦ subst (λ (e : Entity). IsTrue (covers e p)) (sym column) (grind (arith, nat_tests))
-      | inr row ↦ subst (λ (e : Entity). IsTrue (covers e p)) (sym row) (grind (arith, nat_tests)) ]
-    | inr cell ↦ subst (λ (e : Entity). IsTrue (covers e p)) (sym cell) (grind (arith, nat_tests)) ]
+      | inl other ↦ elim other [
+        | inl column ↦ subst (λ (e : Entity). IsTrue (covers e p)) (sym column) (grind (arith, nat_tests))
+        | inr row ↦ subst (λ (e : Entity). IsTrue (covers e p)) (sym row) (grind (arith, nat_tests))
+      ]
+      | inr cell ↦ subst (λ (e : Entity). IsTrue (covers e p)) (sym cell) (grind (arith, nat_tests))
+    ]
 
 not_true : (b : Bool) → (IsTrue b → ⊥) → b ≡ false
 not_true true never = absurd (never refl)
@@ -137,8 +140,9 @@ module _ {T : Type 0} where
     last_kept place before other = record {
       such = λ k is. let (entity, (value, at), it) = before.such k is in (entity, (value, call_kept calls (added ∷ []) k (entity, value) at), it);
       last = λ j entity at it. elim (call_is calls added (entity, at.0) j at.1) [
-        inl old ↦ before.last j entity (at.0, old) it
-      | inr new ↦ absurd (other (subst Is (sym (ap (λ (call : Entity × T). call.0) new.1)) it)) ];
+        | inl old ↦ before.last j entity (at.0, old) it
+        | inr new ↦ absurd (other (subst Is (sym (ap (λ (call : Entity × T). call.0) new.1)) it))
+      ];
     }
 
     -- a call for such an entity is the last one
@@ -146,8 +150,9 @@ module _ {T : Type 0} where
     last_added it = record {
       such = λ k is. let here : length calls ≡ k = cc in (added.0, (added.1, subst (λ (at : ℕ). slice_get (calls ++ added ∷ []) at ≡ Some added) here (call_added calls added)), it);
       last = λ j entity at it. elim (call_is calls added (entity, at.0) j at.1) [
-        inl old ↦ (length calls, refl, omega (arith, slice_get_within calls j (entity, at.0) old))
-      | inr new ↦ (length calls, refl, omega (arith, new.0)) ];
+        | inl old ↦ (length calls, refl, omega (arith, slice_get_within calls j (entity, at.0) old))
+        | inr new ↦ (length calls, refl, omega (arith, new.0))
+      ];
     }
 
   -- what is known of a call that is added is where the last of each entity stands
@@ -159,7 +164,7 @@ module _ {T : Type 0} where
       by_test : (b : Bool) → is_eq (order.cmp added.0 entity) ≡ b → IsLastOf (calls ++ added ∷ []) entity (if b then Some (length calls) else get order.cmp old entity)
       by_test true is = last_added calls added (λ other. other ≡ entity) (same_entity added.0 entity is)
       by_test false is = last_kept calls added (λ other. other ≡ entity) (get order.cmp old entity) (before entity)
-        (λ same. absurd (let yes : is_eq (order.cmp added.0 entity) ≡ true = subst (λ (e : Entity). is_eq (order.cmp added.0 e) ≡ true) same (itself added.0) in cc))
+          (λ same. absurd (let yes : is_eq (order.cmp added.0 entity) ≡ true = subst (λ (e : Entity). is_eq (order.cmp added.0 e) ≡ true) same (itself added.0) in cc))
 
   -- where there is none at the name of all cells, no call is for these
   pub none_is_for_all : (calls : List (Entity × T)) (place : Option ℕ) → IsLastOf calls Global place → place ≡ None → (j : ℕ) → IsFor calls j Global → ⊥
@@ -170,11 +175,13 @@ module _ {T : Type 0} where
       IsLast calls (λ entity. A entity ⊎ B entity) (later a b)
   last_of_either calls A B a b of_a of_b = record {
     such = λ k is. elim (is_one_of (is_lt (option_cmp nat_cmp b a)) a b) [
-      inl first ↦ let (entity, at, it) = of_a.such k (sym first ∙ is) in (entity, at, inl it)
-    | inr second ↦ let (entity, at, it) = of_b.such k (sym second ∙ is) in (entity, at, inr it) ];
+      | inl first ↦ let (entity, at, it) = of_a.such k (sym first ∙ is) in (entity, at, inl it)
+      | inr second ↦ let (entity, at, it) = of_b.such k (sym second ∙ is) in (entity, at, inr it)
+    ];
     last = λ j entity at it. elim it [
-      inl is ↦ let (k, here, most) = of_a.last j entity at is in let (m, found, more) = not_before a b k here in (m, found, omega (arith, most, more))
-    | inr is ↦ let (k, here, most) = of_b.last j entity at is in let (m, found, more) = not_before_second a b k here in (m, found, omega (arith, most, more)) ];
+      | inl is ↦ let (k, here, most) = of_a.last j entity at is in let (m, found, more) = not_before a b k here in (m, found, omega (arith, most, more))
+      | inr is ↦ let (k, here, most) = of_b.last j entity at is in let (m, found, more) = not_before_second a b k here in (m, found, omega (arith, most, more))
+    ];
   }
 
   -- the last of the calls for its column, its row and itself is the last one that covers a cell
@@ -186,14 +193,15 @@ module _ {T : Type 0} where
       record {
         such = λ k is. let (entity, at, it) = any.such k is in (entity, at, covers_named entity p it);
         last = λ j entity at it. elim (named_if_covers entity p it) [
-          inl all ↦ absurd (none j (subst (λ (e : Entity). IsFor calls j e) all at))
-        | inr named ↦ any.last j entity at named ];
+          | inl all ↦ absurd (none j (subst (λ (e : Entity). IsFor calls j e) all at))
+          | inr named ↦ any.last j entity at named
+        ];
       }
 
   -- where there is no such call the value is the one from the start
   pub value_of_none : (value : T) (calls : List (Entity × T)) (p : Position) → IsLastFor calls p None → value_after value calls p ≡ value
   value_of_none value calls p none = covered_by_none value calls p
-    (λ i d lt. not_true (covers (slice_index_or calls i d).0 p)
+      (λ i d lt. not_true (covers (slice_index_or calls i d).0 p)
       (λ it. let (k, found, less) = none.last i (slice_index_or calls i d).0 ((slice_index_or calls i d).1, slice_get-get_or calls i d lt) it in absurd (let never : None ≡ Some k = found in cc)))
 
   none_after : (calls : List (Entity × T)) (p : Position) (k : ℕ) → IsLastFor calls p (Some k) → All (λ other. covers other.0 p ≡ false) (drop (suc k) calls)
@@ -203,7 +211,7 @@ module _ {T : Type 0} where
       let it_is : slice_index_or (drop (suc k) calls) i d ≡ other = get_or-drop (suc k) calls i d in
       ap (λ (c : Entity × T). covers c.0 p) it_is
       ∙ not_true (covers other.0 p) (λ it. let (m, same, more) = is.last (suc k + i) other.0 (other.1, slice_get-get_or calls (suc k + i) d inside) it in
-          let here : k ≡ m = cc in absurd (omega (arith, here, more)))
+      let here : k ≡ m = cc in absurd (omega (arith, here, more)))
 
   -- else it is that of this call
   pub value_of_last : (value : T) (calls : List (Entity × T)) (p : Position) (k : ℕ) (d : Entity × T) → IsLastFor calls p (Some k) → value_after value calls p ≡ (slice_index_or calls k d).1

@@ -31,7 +31,7 @@ impl<T: Drop> EntityMap<T> {
     }
 
     /// The value of the cell at this place.
-    #[tactic(auto, using(crate::proofs::Settings::value_after_append), unfolding(crate::specs::Settings::value_at))]
+    #[tactic(auto, unfolding(crate::specs::Settings::value_at))]
     pub fn get(&self, pos: Position) -> &T
         ensures { result.now ≡ value_at self.now pos }
     {
