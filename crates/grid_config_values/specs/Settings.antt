@@ -12,7 +12,7 @@ value_after value (call ∷ later) p = value_after (if covers call.0 p then call
 
 -- the value at a position
 unfoldable pub value_at : {T : Type 0} → EntityMap T → Position → T
-value_at map p = value_after map.global map.calls.items p
+value_at map p = value_after map.global map.calls p
 
 -- new has the value where the entity covers the position, and at every other position what old has
 abbrev pub SetsCovered : {T : Type 0} → EntityMap T → EntityMap T → Entity → T → Type 0

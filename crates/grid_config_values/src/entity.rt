@@ -9,7 +9,7 @@ use crate::position::Position;
 use std::ops::Range;
 
 /// A set of cells. Rows and columns count from 0.
-#[derive(Clone, Copy, Debug, PartialEq, Eq)]
+#[derive(Clone, Copy, Debug, PartialEq, Eq, PartialOrd, Ord)]
 pub enum Entity {
     /// All cells.
     Global,

@@ -4,6 +4,7 @@ ghost use Rattle.grid_config_values.specs.declared.entity.Entity.TheVariants.{Gl
 ghost use Rattle.grid_config_values.specs.declared.position.Position.{Position as Place};
 ghost use Rattle.grid_config_values.specs.Settings.{IsUniform, IsUnchanged, SetsCovered, value_at};
 
+use crate::calls::Calls;
 use crate::clone_in::CloneIn;
 use crate::entity::Entity;
 use crate::position::Position;
@@ -14,8 +15,7 @@ use std::alloc::{AllocError, Global};
 #[derive(Debug, Drop)]
 pub struct EntityMap<T> {
     global: T,
-    // the calls, the oldest first
-    calls: Vec<(Entity, T)>,
+    calls: Calls<T>,
 }
 
 impl<T: Drop> EntityMap<T> {
@@ -26,23 +26,16 @@ impl<T: Drop> EntityMap<T> {
     {
         EntityMap {
             global,
-            calls: Vec::new(alloc),
+            calls: Calls::new(alloc),
         }
     }
 
     /// The value of the cell at this place.
-    #[tactic(auto, using(crate::proofs::Settings::value_after_append), unfolding(crate::specs::Settings::value_at))]
+    #[tactic(auto, unfolding(crate::specs::Settings::value_at))]
     pub fn get(&self, pos: Position) -> &T
         ensures { result.now ≡ value_at self.now pos }
     {
-        let mut calls = self.calls.as_slice();
-        while let Some(((entity, value), earlier)) = calls.split_last() {
-            if entity.covers(pos) {
-                return value;
-            }
-            calls = earlier;
-        }
-        &self.global
+        self.calls.get(pos, &self.global)
     }
 
     /// Whether the map has one value for all cells: no call named fewer since the last that named all.
@@ -68,7 +61,7 @@ impl<T: Drop> EntityMap<T> {
                 self.calls.clear();
                 self.global = value;
             }
-            _ => self.calls.push((entity, value))?,
+            _ => self.calls.push(entity, value)?,
         }
         Ok(())
     }
@@ -81,18 +74,7 @@ impl<T: CloneIn> EntityMap<T> {
         ensures { IfOk result (IsUnchanged self.now) }
     {
         let global = self.global.clone_in(alloc)?;
-        let calls = copied(&self.calls, alloc)?;
+        let calls = self.calls.clone(alloc)?;
         Ok(EntityMap { global, calls })
     }
-}
-
-// The calls again.
-fn copied<T: CloneIn>(calls: &[(Entity, T)], alloc: Global) -> Result<Vec<(Entity, T)>, AllocError>
-    ensures { IfOk result (λ copy. copy.items ≡ calls.now) }
-{
-    let mut copy = Vec::new(alloc);
-    for (entity, value) in calls {
-        copy.push((*entity, value.clone_in(alloc)?))?;
-    }
-    Ok(copy)
 }

@@ -67,6 +67,7 @@ pub fn equality_compares_all_parts()
     ensures horizontal { (a b : Horizontal) → (⟦<AlignmentHorizontal as PartialEq>⟧.eq a b ≡ true) ↔ (a ≡ b) }
     ensures vertical { (a b : Vertical) → (⟦<AlignmentVertical as PartialEq>⟧.eq a b ≡ true) ↔ (a ≡ b) }
     ensures formatting { (a b : TextFormatting) → (⟦<Formatting as PartialEq>⟧.eq a b ≡ true) ↔ (a ≡ b) }
+    ensures entities_order { (a b : CellSet) → (⟦<Entity as Ord>⟧.cmp a b ≡ Equal) ↔ (a ≡ b) }
     ensures positions_order { (a b : Place) → ⟦<Position as Ord>⟧.cmp a b ≡ position_cmp a b }
     ensures horizontal_order { (a b : Horizontal) → (⟦<AlignmentHorizontal as Ord>⟧.cmp a b ≡ Equal) ↔ (a ≡ b) }
     ensures vertical_order { (a b : Vertical) → (⟦<AlignmentVertical as Ord>⟧.cmp a b ≡ Equal) ↔ (a ≡ b) }

@@ -3,6 +3,7 @@
 
 mod alignment;
 mod borders;
+mod calls;
 mod clone_in;
 mod entity;
 mod entity_iterator;
