@@ -1,8 +1,8 @@
 -- How the classes of bytes lie to one another.
 use Rattle.std.proofs.Common.{◌≡◌, ◌==◌, ◌<◌, ℕ, Bool, true, false, arith}
 use Rattle.std.proofs.lemmas.Bool.Decides.{nat_tests}
-use Rattle.ansi_scan.specs.Sequences.{is_parameter, is_intermediate, is_final, is_escape_final, is_plain, opens_string, opens_longer}
-use Rattle.ansi_scan.specs.Pieces.{is_inside}
+use Rattle.ansi_scan.specs.Sequences.{is_parameter, is_intermediate, is_final, is_escape_final, is_not_escape, opens_string, opens_longer}
+use Rattle.ansi_scan.specs.Pieces.{is_in_string}
 use Rattle.ansi_scan_style.specs.Rendition.{is_numeric}
 
 pub is_parameter-numeric : (b : ℕ) → is_numeric b ≡ true → is_parameter b ≡ true
@@ -39,16 +39,16 @@ pub is_escape_final-ascii : (b : ℕ) → is_escape_final b ≡ true → b < 128
 is_escape_final-ascii b final = grind (arith, nat_tests)
 
 -- no ESC is among the bytes of parameters, of intermediates and of strings
-pub is_plain-parameter : (b : ℕ) → is_parameter b ≡ true → is_plain b ≡ true
-is_plain-parameter b is_one = grind (arith, nat_tests)
+pub is_not_escape-parameter : (b : ℕ) → is_parameter b ≡ true → is_not_escape b ≡ true
+is_not_escape-parameter b is_one = grind (arith, nat_tests)
 
-pub is_plain-intermediate : (b : ℕ) → is_intermediate b ≡ true → is_plain b ≡ true
-is_plain-intermediate b is_one = grind (arith, nat_tests)
+pub is_not_escape-intermediate : (b : ℕ) → is_intermediate b ≡ true → is_not_escape b ≡ true
+is_not_escape-intermediate b is_one = grind (arith, nat_tests)
 
-pub is_plain-inside : (bell_ends : Bool) (b : ℕ) → is_inside bell_ends b ≡ true → is_plain b ≡ true
-is_plain-inside true b is_one = grind (arith, nat_tests)
-is_plain-inside false b is_one = grind (arith, nat_tests)
+pub is_not_escape-inside : (bell_ends : Bool) (b : ℕ) → is_in_string bell_ends b ≡ true → is_not_escape b ≡ true
+is_not_escape-inside true b is_one = grind (arith, nat_tests)
+is_not_escape-inside false b is_one = grind (arith, nat_tests)
 
 -- what opens a longer sequence is no ESC
-pub is_plain-opens_string : (b : ℕ) → opens_string b ≡ true → is_plain b ≡ true
-is_plain-opens_string b opens = grind (arith, nat_tests)
+pub is_not_escape-opens_string : (b : ℕ) → opens_string b ≡ true → is_not_escape b ≡ true
+is_not_escape-opens_string b opens = grind (arith, nat_tests)

@@ -8,7 +8,7 @@ use Rattle.ansi_scan.specs.declared.items.Kind.{Kind}
 use Rattle.ansi_scan.specs.declared.items.Kind.TheVariants.{Sgr, Csi, Osc, Esc, Str}
 use Rattle.ansi_scan.specs.Sequences.{escape, bell, string_terminator, is_parameter, is_intermediate, is_final, is_escape_final, is_command_byte, opens_string, opens_longer, IsControlSequence, IsSgr, IsOsc, IsStr, IsEsc}
 use Rattle.ansi_scan_style.specs.Rendition.{is_numeric}
-use Rattle.ansi_scan.specs.Pieces.{control_from, is_inside, string_end, string_from, escape_from, behind_opener, opened, sequence_front}
+use Rattle.ansi_scan.specs.Pieces.{control_from, is_in_string, string_end, string_from, escape_from, behind_opener, opened, sequence_front}
 use Rattle.ansi_scan.proofs.ByteClasses.{is_parameter-numeric, is_parameter-final, is_intermediate-final, is_intermediate-escape_final, opens_string-bracket, opens_string-closing_bracket, opens_longer-intermediate}
 
 -- ---- control sequences
@@ -148,15 +148,15 @@ EndsControl-sequence_front form after control =
 -- ---- strings
 
 -- the bytes of a string are gone through
-pub string_from-inside : (len : ℕ) (bell_ends : Bool) (string rest : List ℕ) → list_all (is_inside bell_ends) string ≡ true → string_from len bell_ends (string ++ rest) ≡ string_from (len + length string) bell_ends rest
+pub string_from-inside : (len : ℕ) (bell_ends : Bool) (string rest : List ℕ) → list_all (is_in_string bell_ends) string ≡ true → string_from len bell_ends (string ++ rest) ≡ string_from (len + length string) bell_ends rest
 unfolding string_from
 string_from-inside len bell_ends [] rest each =
     let same : len ≡ len + 0 = omega arith in
     ap (λ n. string_from n bell_ends rest) same
 string_from-inside len bell_ends (b ∷ string) rest each =
-    let parts = and_parts (is_inside bell_ends b) (list_all (is_inside bell_ends) string) each in
+    let parts = and_parts (is_in_string bell_ends b) (list_all (is_in_string bell_ends) string) each in
     let longer : (len + 1) + length string ≡ len + suc (length string) = omega arith in
-    cond-true (is_inside bell_ends b) (string_from (len + 1) bell_ends (string ++ rest)) (string_end len bell_ends b (string ++ rest)) parts.0
+    cond-true (is_in_string bell_ends b) (string_from (len + 1) bell_ends (string ++ rest)) (string_end len bell_ends b (string ++ rest)) parts.0
     ∙ string_from-inside (len + 1) bell_ends string rest parts.1
     ∙ ap (λ n. string_from n bell_ends rest) longer
 
@@ -177,7 +177,7 @@ string_from-bell_ended string after each =
     let same : (0 + length string) + 1 ≡ length string + 1 = omega arith in
     string_from-inside 0 true string (bell ∷ after) each ∙ string_from-bell (0 + length string) after ∙ ap (λ n. Some n) same
 
-pub string_from-terminated : (bell_ends : Bool) (string after : List ℕ) → list_all (is_inside bell_ends) string ≡ true → string_from 0 bell_ends (string ++ escape ∷ 0x5c ∷ after) ≡ Some (length string + 2)
+pub string_from-terminated : (bell_ends : Bool) (string after : List ℕ) → list_all (is_in_string bell_ends) string ≡ true → string_from 0 bell_ends (string ++ escape ∷ 0x5c ∷ after) ≡ Some (length string + 2)
 string_from-terminated bell_ends string after each =
     let same : (0 + length string) + 2 ≡ length string + 2 = omega arith in
     string_from-inside 0 bell_ends string (escape ∷ 0x5c ∷ after) each ∙ string_from-terminator (0 + length string) bell_ends after ∙ ap (λ n. Some n) same

@@ -1,23 +1,23 @@
--- The front of a text, and the pieces one by one.
+-- The leading_piece of a text, and the pieces one by one.
 use Rattle.std.proofs.Common.{◌≡◌, ◌≢◌, ◌+◌, ◌<◌, ◌≤◌, ℕ, zero, suc, Option, Some, None, unwrap_or, List, [], ◌∷◌, length, take, drop, nat_lt, refl, ap, sym, ◌∙◌, subst, inl, inr, arith, length-append, length-drop}
 use Rattle.std.proofs.lemmas.Bool.{cases_lt, cond-true, cond-false, lt-ltb, le-ltb}
 use Rattle.std.proofs.lemmas.List.Sums.{prefix_len-le-length}
 use Rattle.ansi_scan.specs.declared.items.Kind.{Kind}
 use Rattle.ansi_scan.specs.declared.items.Kind.TheVariants.{Text, Broken}
-use Rattle.ansi_scan.specs.Sequences.{Piece, escape, is_plain}
-use Rattle.ansi_scan.specs.Pieces.{text_len, sequence_front, at_escape, front, first_pieces, pieces}
+use Rattle.ansi_scan.specs.Sequences.{Piece, escape, is_not_escape}
+use Rattle.ansi_scan.specs.Pieces.{text_len, sequence_front, at_escape, leading_piece, first_pieces, pieces}
 use Rattle.ansi_scan.proofs.Sound.{FormAtFront, FormAtFront-sequence_front}
 use Rattle.ansi_scan.proofs.Forms.{HasForm-some, HasForm-other}
 
 -- where the text does not begin with an ESC
-pub front-text : (bytes : List ℕ) → 0 < text_len bytes → front bytes ≡ (Text, text_len bytes)
-unfolding front
-front-text bytes some = cond-true (nat_lt 0 (text_len bytes)) (Text, text_len bytes) (at_escape bytes) (lt-ltb 0 (text_len bytes) some)
+pub leading_piece-text : (bytes : List ℕ) → 0 < text_len bytes → leading_piece bytes ≡ (Text, text_len bytes)
+unfolding leading_piece
+leading_piece-text bytes some = cond-true (nat_lt 0 (text_len bytes)) (Text, text_len bytes) (at_escape bytes) (lt-ltb 0 (text_len bytes) some)
 
 -- where it does, or is empty
-pub front-escape : (bytes : List ℕ) → text_len bytes ≡ 0 → front bytes ≡ at_escape bytes
-unfolding front
-front-escape bytes none = cond-false (nat_lt 0 (text_len bytes)) (Text, text_len bytes) (at_escape bytes) (le-ltb 0 (text_len bytes) (omega arith))
+pub leading_piece-escape : (bytes : List ℕ) → text_len bytes ≡ 0 → leading_piece bytes ≡ at_escape bytes
+unfolding leading_piece
+leading_piece-escape bytes none = cond-false (nat_lt 0 (text_len bytes)) (Text, text_len bytes) (at_escape bytes) (le-ltb 0 (text_len bytes) (omega arith))
 
 -- the byte that is an ESC is not looked at again
 pub sequence_front-first : (b c : ℕ) (bs : List ℕ) → sequence_front (b ∷ bs) ≡ sequence_front (c ∷ bs)
@@ -49,34 +49,34 @@ unfolding at_escape
 IsAtEscape-at_escape bytes = IsAtEscape-found bytes (sequence_front bytes) refl
 
 -- the first piece has a byte
-pub front-some : (bytes : List ℕ) → 0 < (front bytes).1
-front-some bytes =
+pub leading_piece-some : (bytes : List ℕ) → 0 < (leading_piece bytes).1
+leading_piece-some bytes =
     let Some_ : (Kind × ℕ) → Type 0 = λ f. 0 < f.1 in
     elim (cases_lt 0 (text_len bytes)) [
-      | inl some ↦ subst Some_ (sym (front-text bytes some)) some
-      | inr none ↦ subst Some_ (sym (front-escape bytes (omega arith))) (IsAtEscape-at_escape bytes).some
+      | inl some ↦ subst Some_ (sym (leading_piece-text bytes some)) some
+      | inr none ↦ subst Some_ (sym (leading_piece-escape bytes (omega arith))) (IsAtEscape-at_escape bytes).some
     ]
 
 -- the first piece is no longer than the text
-pub front-in_range : (bytes : List ℕ) → 0 < length bytes → (front bytes).1 ≤ length bytes
-front-in_range bytes nonempty =
+pub leading_piece-in_range : (bytes : List ℕ) → 0 < length bytes → (leading_piece bytes).1 ≤ length bytes
+leading_piece-in_range bytes nonempty =
     let Fits_ : (Kind × ℕ) → Type 0 = λ f. f.1 ≤ length bytes in
     elim (cases_lt 0 (text_len bytes)) [
-      | inl some ↦ subst Fits_ (sym (front-text bytes some)) (prefix_len-le-length is_plain bytes)
-      | inr none ↦ subst Fits_ (sym (front-escape bytes (omega arith))) ((IsAtEscape-at_escape bytes).in_range nonempty)
+      | inl some ↦ subst Fits_ (sym (leading_piece-text bytes some)) (prefix_len-le-length is_not_escape bytes)
+      | inr none ↦ subst Fits_ (sym (leading_piece-escape bytes (omega arith))) ((IsAtEscape-at_escape bytes).in_range nonempty)
     ]
 
 -- the first piece, as `first_pieces` makes it
 abbrev pub first_piece : List ℕ → Piece
-first_piece bytes = record { kind = (front bytes).0; bytes = take (front bytes).1 bytes }
+first_piece bytes = record { kind = (leading_piece bytes).0; bytes = take (leading_piece bytes).1 bytes }
 
 -- what is left behind the first piece
 abbrev pub behind_first : List ℕ → List ℕ
-behind_first bytes = drop (front bytes).1 bytes
+behind_first bytes = drop (leading_piece bytes).1 bytes
 
 -- fewer bytes are left
 pub length-behind_first : (b : ℕ) (bs : List ℕ) (n : ℕ) → length (b ∷ bs) ≤ suc n → length (behind_first (b ∷ bs)) ≤ n
-length-behind_first b bs n enough = omega (arith, length-drop (front (b ∷ bs)).1 (b ∷ bs), front-some (b ∷ bs))
+length-behind_first b bs n enough = omega (arith, length-drop (leading_piece (b ∷ bs)).1 (b ∷ bs), leading_piece-some (b ∷ bs))
 
 -- more turns than bytes change nothing
 pub first_pieces-enough : (n m : ℕ) (bytes : List ℕ) → length bytes ≤ n → length bytes ≤ m → first_pieces n bytes ≡ first_pieces m bytes

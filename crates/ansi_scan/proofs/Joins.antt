@@ -5,7 +5,7 @@ use Rattle.std.specs.Cmp.Derive.{both_true}
 use Rattle.std.proofs.lemmas.Bool.{and_parts, cond_both}
 use Rattle.ansi_scan.specs.declared.items.Kind.{Kind}
 use Rattle.ansi_scan.specs.declared.items.Kind.TheVariants.{Text, Sgr, Csi, Osc, Esc, Str, Broken}
-use Rattle.ansi_scan.specs.Sequences.{Piece, joined, is_plain, IsText, Stands, EachStands, ArePiecesOf, NoneBroken, IsWhole}
+use Rattle.ansi_scan.specs.Sequences.{Piece, joined, is_not_escape, IsText, Stands, EachStands, ArePiecesOf, NoneBroken, IsWhole}
 use Rattle.ansi_scan.specs.Joining.{is_text_kind, put_before, put_all_before}
 
 -- all of two lists pass
@@ -19,7 +19,7 @@ list_all-append p (x ∷ xs) ys each_x each_y =
 pub IsText-append : (xs ys : List ℕ) (between after : List Piece) → IsText xs between → IsText ys after → IsText (xs ++ ys) after
 IsText-append xs ys between after x y = record {
   some = omega (arith, length-append xs ys, x.some);
-  plain = list_all-append is_plain xs ys x.plain y.plain;
+  plain = list_all-append is_not_escape xs ys x.plain y.plain;
   ends = y.ends;
 }
 

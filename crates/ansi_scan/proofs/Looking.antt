@@ -6,13 +6,13 @@ use Rattle.std.proofs.lemmas.Bool.Decides.{nat_tests}
 use Rattle.std.proofs.lemmas.List.{drop_more, length-take-le}
 use Rattle.ansi_scan.specs.declared.items.Kind.{Kind}
 use Rattle.ansi_scan.specs.declared.items.Kind.TheVariants.{Text, Sgr, Csi, Osc, Esc, Str, Broken}
-use Rattle.ansi_scan.specs.Sequences.{Piece, escape, joined, is_parameter, is_intermediate, is_plain, opens_string, HasForm, Stands, EachStands}
-use Rattle.ansi_scan.specs.Pieces.{text_len, is_inside, string_end, string_from, front, pieces}
+use Rattle.ansi_scan.specs.Sequences.{Piece, escape, joined, is_parameter, is_intermediate, is_not_escape, opens_string, HasForm, Stands, EachStands}
+use Rattle.ansi_scan.specs.Pieces.{text_len, is_in_string, string_end, string_from, leading_piece, pieces}
 use Rattle.ansi_scan.specs.Looks.{and_next, control_looks, string_end_looks, string_looks, escape_looks, opened_looks, tried_looks, piece_looks, looks_over}
-use Rattle.ansi_scan.proofs.ByteClasses.{is_plain-parameter, is_plain-intermediate, is_plain-inside, is_plain-opens_string}
+use Rattle.ansi_scan.proofs.ByteClasses.{is_not_escape-parameter, is_not_escape-intermediate, is_not_escape-inside, is_not_escape-opens_string}
 use Rattle.ansi_scan.proofs.Existence.{ArePiecesOf-pieces}
 use Rattle.ansi_scan.proofs.Forms.{HasForm-starts}
-use Rattle.ansi_scan.proofs.Fronts.{behind_first, front-in_range, pieces-step}
+use Rattle.ansi_scan.proofs.Fronts.{behind_first, leading_piece-in_range, pieces-step}
 use Rattle.ansi_scan.proofs.Runs.{prefix_len-pass, prefix_len-fail}
 
 -- behind some bytes of a control sequence, of which the flag says that all are parameter bytes
@@ -20,20 +20,20 @@ abbrev pub control_looks_from : Bool → List ℕ → ℕ
 control_looks_from parameters bytes = cond parameters (control_looks bytes) (and_next (prefix_len is_intermediate bytes) bytes)
 
 -- a byte of the string, and what is behind it
-pub string_looks-step : (bell_ends : Bool) (bytes : List ℕ) (i : ℕ) → i < length bytes → is_inside bell_ends (get_or bytes i 0) ≡ true → i + string_looks bell_ends (drop i bytes) ≡ i + 1 + string_looks bell_ends (drop (i + 1) bytes)
+pub string_looks-step : (bell_ends : Bool) (bytes : List ℕ) (i : ℕ) → i < length bytes → is_in_string bell_ends (get_or bytes i 0) ≡ true → i + string_looks bell_ends (drop i bytes) ≡ i + 1 + string_looks bell_ends (drop (i + 1) bytes)
 string_looks-step bell_ends bytes i within inside =
     let b = get_or bytes i 0 in
     let bs = drop (i + 1) bytes in
-    let run : prefix_len (is_inside bell_ends) (b ∷ bs) ≡ suc (prefix_len (is_inside bell_ends) bs) = prefix_len-pass (is_inside bell_ends) b bs inside in
-    let here : string_looks bell_ends (drop i bytes) ≡ suc (prefix_len (is_inside bell_ends) bs) + string_end_looks (drop (prefix_len (is_inside bell_ends) bs) bs) =
+    let run : prefix_len (is_in_string bell_ends) (b ∷ bs) ≡ suc (prefix_len (is_in_string bell_ends) bs) = prefix_len-pass (is_in_string bell_ends) b bs inside in
+    let here : string_looks bell_ends (drop i bytes) ≡ suc (prefix_len (is_in_string bell_ends) bs) + string_end_looks (drop (prefix_len (is_in_string bell_ends) bs) bs) =
     ap (string_looks bell_ends) (drop_more bytes i 0 within) ∙ ap (λ n. n + string_end_looks (drop n (b ∷ bs))) run in
     omega (arith, here)
 
-pub string_from-step : (bell_ends : Bool) (bytes : List ℕ) (i : ℕ) → i < length bytes → is_inside bell_ends (get_or bytes i 0) ≡ true → string_from i bell_ends (drop i bytes) ≡ string_from (i + 1) bell_ends (drop (i + 1) bytes)
+pub string_from-step : (bell_ends : Bool) (bytes : List ℕ) (i : ℕ) → i < length bytes → is_in_string bell_ends (get_or bytes i 0) ≡ true → string_from i bell_ends (drop i bytes) ≡ string_from (i + 1) bell_ends (drop (i + 1) bytes)
 unfolding string_from
 string_from-step bell_ends bytes i within inside =
     ap (string_from i bell_ends) (drop_more bytes i 0 within)
-    ∙ cond-true (is_inside bell_ends (get_or bytes i 0)) (string_from (i + 1) bell_ends (drop (i + 1) bytes)) (string_end i bell_ends (get_or bytes i 0) (drop (i + 1) bytes)) inside
+    ∙ cond-true (is_in_string bell_ends (get_or bytes i 0)) (string_from (i + 1) bell_ends (drop (i + 1) bytes)) (string_end i bell_ends (get_or bytes i 0) (drop (i + 1) bytes)) inside
 
 -- two bytes more, of a piece that begins with an ESC
 pub piece_looks-more : (kind : Kind) (n m : ℕ) (behind : List ℕ) → piece_looks kind (n + m) behind ≡ piece_looks kind n behind + m
@@ -51,15 +51,15 @@ piece_looks-found (Some f) bytes old new some none = omega (arith, some (drop f.
 piece_looks-found None bytes old new some none = omega (arith, none)
 
 -- the first piece, and those behind it
-pub looks_over-step : (bytes : List ℕ) (f : Kind × ℕ) (rest : List ℕ) → 0 < length bytes → f ≡ front bytes → rest ≡ drop f.1 bytes → looks_over (pieces bytes) ≡ piece_looks f.0 f.1 (drop f.1 bytes) + looks_over (pieces rest)
+pub looks_over-step : (bytes : List ℕ) (f : Kind × ℕ) (rest : List ℕ) → 0 < length bytes → f ≡ leading_piece bytes → rest ≡ drop f.1 bytes → looks_over (pieces bytes) ≡ piece_looks f.0 f.1 (drop f.1 bytes) + looks_over (pieces rest)
 unfolding pieces
 looks_over-step bytes f rest nonempty is_front is_rest =
     let Step : (Kind × ℕ) → ℕ → List ℕ → ℕ = λ g n behind. piece_looks g.0 n behind + looks_over (pieces (drop g.1 bytes)) in
-    let own : length (take (front bytes).1 bytes) ≡ (front bytes).1 = length-take-le (front bytes).1 bytes (front-in_range bytes nonempty) in
+    let own : length (take (leading_piece bytes).1 bytes) ≡ (leading_piece bytes).1 = length-take-le (leading_piece bytes).1 bytes (leading_piece-in_range bytes nonempty) in
     let behind : joined (pieces (behind_first bytes)) ≡ behind_first bytes = (ArePiecesOf-pieces (behind_first bytes)).joins in
     ap looks_over (pieces-step bytes nonempty)
-    ∙ ap (λ n. Step (front bytes) n (joined (pieces (behind_first bytes)))) own
-    ∙ ap (λ bs. Step (front bytes) (front bytes).1 bs) behind
+    ∙ ap (λ n. Step (leading_piece bytes) n (joined (pieces (behind_first bytes)))) own
+    ∙ ap (λ bs. Step (leading_piece bytes) (leading_piece bytes).1 bs) behind
     ∙ ap (λ (g : Kind × ℕ). Step g g.1 (drop g.1 bytes)) (sym is_front)
     ∙ ap (λ bs. piece_looks f.0 f.1 (drop f.1 bytes) + looks_over (pieces bs)) (sym is_rest)
 
@@ -77,7 +77,7 @@ prefix_len-within {X} p q wider (x ∷ xs) =
 pub control_looks-few : (bytes : List ℕ) → control_looks bytes ≤ text_len bytes + 1
 control_looks-few bytes =
     let behind = drop (prefix_len is_parameter bytes) bytes in
-    omega (arith, prefix_len-within is_parameter is_plain is_plain-parameter bytes, prefix_len-within is_intermediate is_plain is_plain-intermediate behind)
+    omega (arith, prefix_len-within is_parameter is_not_escape is_not_escape-parameter bytes, prefix_len-within is_intermediate is_not_escape is_not_escape-intermediate behind)
 
 pub string_end_looks-few : (bytes : List ℕ) → string_end_looks bytes ≤ 2
 string_end_looks-few [] = omega arith
@@ -90,27 +90,27 @@ string_end_looks-few (b ∷ bs) =
 
 pub string_looks-few : (bell_ends : Bool) (bytes : List ℕ) → string_looks bell_ends bytes ≤ text_len bytes + 2
 string_looks-few bell_ends bytes =
-    omega (arith, prefix_len-within (is_inside bell_ends) is_plain (is_plain-inside bell_ends) bytes, string_end_looks-few (drop (prefix_len (is_inside bell_ends) bytes) bytes))
+    omega (arith, prefix_len-within (is_in_string bell_ends) is_not_escape (is_not_escape-inside bell_ends) bytes, string_end_looks-few (drop (prefix_len (is_in_string bell_ends) bytes) bytes))
 
 pub escape_looks-few : (bytes : List ℕ) → escape_looks bytes ≤ text_len bytes + 1
-escape_looks-few bytes = omega (arith, prefix_len-within is_intermediate is_plain is_plain-intermediate bytes)
+escape_looks-few bytes = omega (arith, prefix_len-within is_intermediate is_not_escape is_not_escape-intermediate bytes)
 
 -- behind a byte that is no opener nothing more is looked at, and an opener is no ESC
 pub opened_looks-few : (opener : ℕ) (rest : List ℕ) → 1 + opened_looks opener rest ≤ text_len (opener ∷ rest) + 2
 opened_looks-few opener rest =
     let Few : ℕ → Type 0 = λ n. 1 + n ≤ text_len (opener ∷ rest) + 2 in
-    let one : is_plain opener ≡ true → text_len (opener ∷ rest) ≡ 1 + text_len rest = λ plain. omega (arith, prefix_len-pass is_plain opener rest plain) in
+    let one : is_not_escape opener ≡ true → text_len (opener ∷ rest) ≡ 1 + text_len rest = λ plain. omega (arith, prefix_len-pass is_not_escape opener rest plain) in
     let third = cond (is_intermediate opener) (escape_looks rest) 0 in
     let second = cond (opens_string opener) (string_looks false rest) third in
     let first = cond (opener == 0x5d) (string_looks true rest) second in
     elim (cases_Bool (opener == 0x5b)) [
-      | inl is ↦ subst Few (sym (cond-true (opener == 0x5b) (control_looks rest) first is)) (let plain : is_plain opener ≡ true = grind (arith, nat_tests, is) in omega (arith, control_looks-few rest, one plain))
+      | inl is ↦ subst Few (sym (cond-true (opener == 0x5b) (control_looks rest) first is)) (let plain : is_not_escape opener ≡ true = grind (arith, nat_tests, is) in omega (arith, control_looks-few rest, one plain))
       | inr not_1 ↦ subst Few (sym (cond-false (opener == 0x5b) (control_looks rest) first not_1)) (elim (cases_Bool (opener == 0x5d)) [
-        | inl is ↦ subst Few (sym (cond-true (opener == 0x5d) (string_looks true rest) second is)) (let plain : is_plain opener ≡ true = grind (arith, nat_tests, is) in omega (arith, string_looks-few true rest, one plain))
+        | inl is ↦ subst Few (sym (cond-true (opener == 0x5d) (string_looks true rest) second is)) (let plain : is_not_escape opener ≡ true = grind (arith, nat_tests, is) in omega (arith, string_looks-few true rest, one plain))
         | inr not_2 ↦ subst Few (sym (cond-false (opener == 0x5d) (string_looks true rest) second not_2)) (elim (cases_Bool (opens_string opener)) [
-          | inl is ↦ subst Few (sym (cond-true (opens_string opener) (string_looks false rest) third is)) (omega (arith, string_looks-few false rest, one (is_plain-opens_string opener is)))
+          | inl is ↦ subst Few (sym (cond-true (opens_string opener) (string_looks false rest) third is)) (omega (arith, string_looks-few false rest, one (is_not_escape-opens_string opener is)))
           | inr not_3 ↦ subst Few (sym (cond-false (opens_string opener) (string_looks false rest) third not_3)) (elim (cases_Bool (is_intermediate opener)) [
-            | inl is ↦ subst Few (sym (cond-true (is_intermediate opener) (escape_looks rest) 0 is)) (omega (arith, escape_looks-few rest, one (is_plain-intermediate opener is)))
+            | inl is ↦ subst Few (sym (cond-true (is_intermediate opener) (escape_looks rest) 0 is)) (omega (arith, escape_looks-few rest, one (is_not_escape-intermediate opener is)))
             | inr not_4 ↦ subst Few (sym (cond-false (is_intermediate opener) (escape_looks rest) 0 not_4)) (omega arith)
           ])
         ])
@@ -122,11 +122,11 @@ tried_looks-few [] = omega arith
 tried_looks-few (opener ∷ rest) = opened_looks-few opener rest
 
 -- plain bytes before others
-pub text_len-behind : (bytes more : List ℕ) → list_all is_plain bytes ≡ true → text_len (bytes ++ more) ≡ length bytes + text_len more
+pub text_len-behind : (bytes more : List ℕ) → list_all is_not_escape bytes ≡ true → text_len (bytes ++ more) ≡ length bytes + text_len more
 text_len-behind [] more plain = omega arith
 text_len-behind (b ∷ bs) more plain =
-    let parts = and_parts (is_plain b) (list_all is_plain bs) plain in
-    omega (arith, prefix_len-pass is_plain b (bs ++ more) parts.0, text_len-behind bs more parts.1)
+    let parts = and_parts (is_not_escape b) (list_all is_not_escape bs) plain in
+    omega (arith, prefix_len-pass is_not_escape b (bs ++ more) parts.0, text_len-behind bs more parts.1)
 
 -- before a piece that begins with an ESC no other byte stands
 pub text_len-escape : (bytes rest more : List ℕ) → bytes ≡ escape ∷ rest → text_len (bytes ++ more) ≡ 0

@@ -8,7 +8,7 @@ use Rattle.ansi_scan.specs.declared.items.Kind.{Kind}
 use Rattle.ansi_scan.specs.declared.items.Kind.TheVariants.{Sgr, Csi, Osc, Esc, Str}
 use Rattle.ansi_scan.specs.Sequences.{escape, bell, string_terminator, is_parameter, is_intermediate, is_final, is_escape_final, opens_string, opens_longer, HasForm}
 use Rattle.ansi_scan_style.specs.Rendition.{is_numeric}
-use Rattle.ansi_scan.specs.Pieces.{control_from, is_inside, string_end, string_from, escape_from, behind_opener, opened, sequence_front}
+use Rattle.ansi_scan.specs.Pieces.{control_from, is_in_string, string_end, string_from, escape_from, behind_opener, opened, sequence_front}
 use Rattle.ansi_scan.proofs.ByteClasses.{is_numeric-intermediate}
 use Rattle.ansi_scan.proofs.Complete.{control_from-on, control_from-off, sequence_front-Sgr}
 
@@ -192,7 +192,7 @@ pub record StringFound (len : ℕ) (bell_ends : Bool) (bytes : List ℕ) (n : �
   pub ending : List ℕ
   pub after : List ℕ
   pub spelled : bytes ≡ string ++ (ending ++ after)
-  pub each_byte : list_all (is_inside bell_ends) string ≡ true
+  pub each_byte : list_all (is_in_string bell_ends) string ≡ true
   pub ends : ((bell_ends ≡ true) × (ending ≡ bell ∷ [])) ⊎ (ending ≡ string_terminator)
   pub counted : n ≡ len + (length string + length ending)
 
@@ -242,9 +242,9 @@ pub StringFound-string_from : (len : ℕ) (bell_ends : Bool) (bytes : List ℕ) 
 unfolding string_from
 StringFound-string_from len bell_ends [] n is = absurd (let none : None ≡ Some n = is in cc none)
 StringFound-string_from len bell_ends (b ∷ bs) n is =
-    elim (cases_Bool (is_inside bell_ends b)) [
+    elim (cases_Bool (is_in_string bell_ends b)) [
       | inl inside ↦
-          (let rest = StringFound-string_from (len + 1) bell_ends bs n (sym (cond-true (is_inside bell_ends b) (string_from (len + 1) bell_ends bs) (string_end len bell_ends b bs) inside) ∙ is) in
+          (let rest = StringFound-string_from (len + 1) bell_ends bs n (sym (cond-true (is_in_string bell_ends b) (string_from (len + 1) bell_ends bs) (string_end len bell_ends b bs) inside) ∙ is) in
           record {
             string = b ∷ rest.string;
             ending = rest.ending;
@@ -254,7 +254,7 @@ StringFound-string_from len bell_ends (b ∷ bs) n is =
             ends = rest.ends;
             counted = (let counted : n ≡ len + (suc (length rest.string) + length rest.ending) = omega (arith, rest.counted) in counted);
           })
-      | inr end ↦ StringFound-end len bell_ends b bs n (sym (cond-false (is_inside bell_ends b) (string_from (len + 1) bell_ends bs) (string_end len bell_ends b bs) end) ∙ is)
+      | inr end ↦ StringFound-end len bell_ends b bs n (sym (cond-false (is_in_string bell_ends b) (string_from (len + 1) bell_ends bs) (string_end len bell_ends b bs) end) ∙ is)
     ]
 
 -- an operating system command stands at the front

@@ -3,11 +3,11 @@ use Rattle.std.proofs.Common.{◌≡◌, ◌≢◌, ◌<◌, ℕ, unwrap_or, Lis
 use Rattle.std.proofs.Math.Seq.{take-append_seam, drop-append_seam}
 use Rattle.ansi_scan.specs.declared.items.Kind.{Kind}
 use Rattle.ansi_scan.specs.declared.items.Kind.TheVariants.{Text, Sgr, Csi, Osc, Esc, Str, Broken}
-use Rattle.ansi_scan.specs.Sequences.{Piece, escape, joined, is_plain, NoTextFirst, HasForm, NoFormBegins, Stands, EachStands, ArePiecesOf}
-use Rattle.ansi_scan.specs.Pieces.{text_len, sequence_front, at_escape, front, first_pieces, pieces}
+use Rattle.ansi_scan.specs.Sequences.{Piece, escape, joined, is_not_escape, NoTextFirst, HasForm, NoFormBegins, Stands, EachStands, ArePiecesOf}
+use Rattle.ansi_scan.specs.Pieces.{text_len, sequence_front, at_escape, leading_piece, first_pieces, pieces}
 use Rattle.ansi_scan.proofs.Forms.{HasForm-starts, HasForm-some, sequence_front-HasForm, found-NoFormBegins}
 use Rattle.ansi_scan.proofs.Runs.{prefix_len-run}
-use Rattle.ansi_scan.proofs.Fronts.{front-text, front-escape, pieces-step}
+use Rattle.ansi_scan.proofs.Fronts.{leading_piece-text, leading_piece-escape, pieces-step}
 
 -- every piece but a text begins with an ESC
 pub begins_with_escape : (kind : Kind) (bytes : List ℕ) (after : List Piece) → Stands kind bytes after → kind ≢ Text → (rest : List ℕ) × (bytes ≡ escape ∷ rest)
@@ -59,25 +59,25 @@ at_escape-stands Esc bytes after stands each other = at_escape-HasForm Esc bytes
 at_escape-stands Str bytes after stands each other = at_escape-HasForm Str bytes (joined after) stands
 at_escape-stands Broken bytes after stands each other = at_escape-NoFormBegins bytes (joined after) stands.spelled stands.no_form
 
--- a piece other than a text is found at the front
-pub front-other : (kind : Kind) (bytes : List ℕ) (after : List Piece) → Stands kind bytes after → EachStands after → kind ≢ Text → front (bytes ++ joined after) ≡ (kind, length bytes)
-front-other kind bytes after stands each other =
+-- a piece other than a text is found at the leading_piece
+pub leading_piece-other : (kind : Kind) (bytes : List ℕ) (after : List Piece) → Stands kind bytes after → EachStands after → kind ≢ Text → leading_piece (bytes ++ joined after) ≡ (kind, length bytes)
+leading_piece-other kind bytes after stands each other =
     let starts = begins_with_escape kind bytes after stands other in
     let stops : text_len (bytes ++ joined after) ≡ 0 = ap (λ bs. text_len (bs ++ joined after)) starts.1 in
-    front-escape (bytes ++ joined after) stops ∙ at_escape-stands kind bytes after stands each other
+    leading_piece-escape (bytes ++ joined after) stops ∙ at_escape-stands kind bytes after stands each other
 
--- a piece is found at the front
-pub front-stands : (kind : Kind) (bytes : List ℕ) (after : List Piece) → Stands kind bytes after → EachStands after → front (bytes ++ joined after) ≡ (kind, length bytes)
-front-stands Text bytes after stands each =
-    let len : text_len (bytes ++ joined after) ≡ length bytes = prefix_len-run is_plain bytes (joined after) stands.plain (text_len-joined after each stands.ends) in
+-- a piece is found at the leading_piece
+pub leading_piece-stands : (kind : Kind) (bytes : List ℕ) (after : List Piece) → Stands kind bytes after → EachStands after → leading_piece (bytes ++ joined after) ≡ (kind, length bytes)
+leading_piece-stands Text bytes after stands each =
+    let len : text_len (bytes ++ joined after) ≡ length bytes = prefix_len-run is_not_escape bytes (joined after) stands.plain (text_len-joined after each stands.ends) in
     let some : 0 < text_len (bytes ++ joined after) = omega (arith, len, stands.some) in
-    front-text (bytes ++ joined after) some ∙ ap (λ n. (Text, n)) len
-front-stands Sgr bytes after stands each = front-other Sgr bytes after stands each (λ same. cc same)
-front-stands Csi bytes after stands each = front-other Csi bytes after stands each (λ same. cc same)
-front-stands Osc bytes after stands each = front-other Osc bytes after stands each (λ same. cc same)
-front-stands Esc bytes after stands each = front-other Esc bytes after stands each (λ same. cc same)
-front-stands Str bytes after stands each = front-other Str bytes after stands each (λ same. cc same)
-front-stands Broken bytes after stands each = front-other Broken bytes after stands each (λ same. cc same)
+    leading_piece-text (bytes ++ joined after) some ∙ ap (λ n. (Text, n)) len
+leading_piece-stands Sgr bytes after stands each = leading_piece-other Sgr bytes after stands each (λ same. cc same)
+leading_piece-stands Csi bytes after stands each = leading_piece-other Csi bytes after stands each (λ same. cc same)
+leading_piece-stands Osc bytes after stands each = leading_piece-other Osc bytes after stands each (λ same. cc same)
+leading_piece-stands Esc bytes after stands each = leading_piece-other Esc bytes after stands each (λ same. cc same)
+leading_piece-stands Str bytes after stands each = leading_piece-other Str bytes after stands each (λ same. cc same)
+leading_piece-stands Broken bytes after stands each = leading_piece-other Broken bytes after stands each (λ same. cc same)
 
 -- pieces that stand rightly are those that the function makes of them
 pub pieces-joined : (ps : List Piece) → EachStands ps → pieces (joined ps) ≡ ps
@@ -85,7 +85,7 @@ unfolding pieces first_pieces
 pieces-joined [] each = refl
 pieces-joined (p ∷ ps) each =
     let bytes : List ℕ = p.bytes ++ joined ps in
-    let found : front (p.bytes ++ joined ps) ≡ (p.kind, length p.bytes) = front-stands p.kind p.bytes ps each.0 each.1 in
+    let found : leading_piece (p.bytes ++ joined ps) ≡ (p.kind, length p.bytes) = leading_piece-stands p.kind p.bytes ps each.0 each.1 in
     let nonempty : 0 < length (p.bytes ++ joined ps) = omega (arith, length-append p.bytes (joined ps), Stands-some p.kind p.bytes ps each.0) in
     let Step : (Kind × ℕ) → List Piece = λ f. record { kind = f.0; bytes = take f.1 (p.bytes ++ joined ps) } ∷ pieces (drop f.1 (p.bytes ++ joined ps)) in
     let own : take (length p.bytes) (p.bytes ++ joined ps) ≡ p.bytes = take-append_seam p.bytes (joined ps) in

@@ -6,7 +6,7 @@ use Rattle.std.specs.List.{prefix_len}
 use Rattle.ansi_scan.specs.declared.items.Kind.{Kind}
 use Rattle.ansi_scan.specs.declared.items.Kind.TheVariants.{Text, Sgr, Csi, Osc, Esc, Str, Broken}
 use Rattle.ansi_scan.specs.Sequences.{Piece, joined, escape, is_parameter, is_intermediate, opens_string}
-use Rattle.ansi_scan.specs.Pieces.{is_inside}
+use Rattle.ansi_scan.specs.Pieces.{is_in_string}
 
 -- as many bytes and the byte behind them, where there is one
 abbrev pub and_next : ℕ → List ℕ → ℕ
@@ -26,7 +26,7 @@ string_end_looks (b ∷ bs) = 1 + cond (b == escape) (min 1 (length bs)) 0
 -- behind the opener of a string, which BELL may end: the bytes of the string, and what shows that it does not end
 abbrev pub string_looks : Bool → List ℕ → ℕ
 string_looks bell_ends bytes =
-    prefix_len (is_inside bell_ends) bytes + string_end_looks (drop (prefix_len (is_inside bell_ends) bytes) bytes)
+    prefix_len (is_in_string bell_ends) bytes + string_end_looks (drop (prefix_len (is_in_string bell_ends) bytes) bytes)
 
 -- behind ESC and an intermediate byte: the other intermediate bytes, and the byte behind them
 abbrev pub escape_looks : List ℕ → ℕ

@@ -4,12 +4,12 @@ use Rattle.std.specs.List.{prefix_len}
 use Rattle.std.specs.Option.{option_map}
 use Rattle.ansi_scan.specs.declared.items.Kind.{Kind}
 use Rattle.ansi_scan.specs.declared.items.Kind.TheVariants.{Text, Sgr, Csi, Osc, Esc, Str, Broken}
-use Rattle.ansi_scan.specs.Sequences.{Piece, escape, bell, is_plain, is_parameter, is_intermediate, is_final, is_escape_final, is_string_byte, opens_string}
+use Rattle.ansi_scan.specs.Sequences.{Piece, escape, bell, is_not_escape, is_parameter, is_intermediate, is_final, is_escape_final, is_string_byte, opens_string}
 use Rattle.ansi_scan_style.specs.Rendition.{is_numeric}
 
 -- how many bytes stand before the first ESC
 abbrev pub text_len : List ℕ → ℕ
-text_len bytes = prefix_len is_plain bytes
+text_len bytes = prefix_len is_not_escape bytes
 
 -- after `len` bytes of a control sequence, of which `numeric` says that all are numeric, and
 -- `parameters` that all are parameter bytes: what it is, and its length
@@ -21,8 +21,8 @@ control_from len numeric parameters (b ∷ bs) =
     (cond (is_final b) (Some (cond (numeric && b == 0x6d) Sgr Csi, len + 1)) None)
 
 -- a byte of the string, where BELL may end it
-abbrev pub is_inside : Bool → ℕ → Bool
-is_inside bell_ends b = not (bell_ends && b == bell) && is_string_byte b
+abbrev pub is_in_string : Bool → ℕ → Bool
+is_in_string bell_ends b = not (bell_ends && b == bell) && is_string_byte b
 
 -- after `len` bytes of a string: its length with the end, where this byte ends it
 abbrev pub string_end : ℕ → Bool → ℕ → List ℕ → Option ℕ
@@ -34,7 +34,7 @@ string_end len bell_ends b bs =
 unfoldable pub string_from : ℕ → Bool → List ℕ → Option ℕ
 string_from len bell_ends [] = None
 string_from len bell_ends (b ∷ bs) =
-    cond (is_inside bell_ends b) (string_from (len + 1) bell_ends bs) (string_end len bell_ends b bs)
+    cond (is_in_string bell_ends b) (string_from (len + 1) bell_ends bs) (string_end len bell_ends b bs)
 
 -- after `len` intermediate bytes of an escape sequence: their length with the final byte
 unfoldable pub escape_from : ℕ → List ℕ → Option ℕ
@@ -55,7 +55,7 @@ opened opener rest =
     (cond (is_intermediate opener) (behind_opener Esc (escape_from 0 rest))
     (cond (is_escape_final opener) (Some (Esc, 2)) None))))
 
--- the kind and the length of the sequence at the front of bytes that begin with an ESC
+-- the kind and the length of the sequence at the leading_piece of bytes that begin with an ESC
 unfoldable pub sequence_front : List ℕ → Option (Kind × ℕ)
 sequence_front [] = None
 sequence_front (b ∷ []) = None
@@ -66,16 +66,16 @@ unfoldable pub at_escape : List ℕ → Kind × ℕ
 at_escape bytes = unwrap_or (sequence_front bytes) (Broken, 1)
 
 -- the kind and the length of the first piece
-unfoldable pub front : List ℕ → Kind × ℕ
-front bytes = cond (nat_lt 0 (text_len bytes)) (Text, text_len bytes) (at_escape bytes)
+unfoldable pub leading_piece : List ℕ → Kind × ℕ
+leading_piece bytes = cond (nat_lt 0 (text_len bytes)) (Text, text_len bytes) (at_escape bytes)
 
 -- the first pieces, at most this many
 unfoldable pub first_pieces : ℕ → List ℕ → List Piece
 first_pieces zero bytes = []
 first_pieces (suc n) [] = []
 first_pieces (suc n) (b ∷ bs) =
-    record { kind = (front (b ∷ bs)).0; bytes = take (front (b ∷ bs)).1 (b ∷ bs) }
-    ∷ first_pieces n (drop (front (b ∷ bs)).1 (b ∷ bs))
+    record { kind = (leading_piece (b ∷ bs)).0; bytes = take (leading_piece (b ∷ bs)).1 (b ∷ bs) }
+    ∷ first_pieces n (drop (leading_piece (b ∷ bs)).1 (b ∷ bs))
 
 -- all pieces; there are no more than bytes
 unfoldable pub pieces : List ℕ → List Piece

@@ -137,8 +137,8 @@ joined [] = []
 joined (p ∷ ps) = p.bytes ++ joined ps
 
 -- the byte is not ESC
-abbrev pub is_plain : ℕ → Bool
-is_plain b = not (b == escape)
+abbrev pub is_not_escape : ℕ → Bool
+is_not_escape b = not (b == escape)
 
 -- no Text piece stands first
 abbrev pub NoTextFirst : List Piece → Type 0
@@ -148,7 +148,7 @@ NoTextFirst (p ∷ ps) = p.kind ≢ Text
 -- some bytes, none of which is ESC, up to the next ESC or the end of the text
 pub record IsText (bytes : List ℕ) (after : List Piece) : Type 0 where
   pub some : 0 < length bytes
-  pub plain : IsTrue (list_all is_plain bytes)
+  pub plain : IsTrue (list_all is_not_escape bytes)
   pub ends : NoTextFirst after
 
 -- one ESC from which no sequence begins

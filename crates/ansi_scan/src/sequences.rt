@@ -6,7 +6,7 @@
 //! three looks at each byte of a text.
 
 ghost use Rattle.std.specs.Prelude.{◌≡◌, ◌≤◌, ◌<◌, ◌+◌, ◌^◌, ℕ, List, IfNone, IfSome, drop, length, true};
-ghost use Rattle.ansi_scan.specs.Pieces.{text_len, control_from, string_from, escape_from, sequence_front, front};
+ghost use Rattle.ansi_scan.specs.Pieces.{text_len, control_from, string_from, escape_from, sequence_front, leading_piece};
 ghost use Rattle.ansi_scan.specs.Looks.{control_looks, escape_looks, piece_looks, string_looks, tried_looks};
 
 use crate::items::Kind;
@@ -36,7 +36,7 @@ pub(crate) struct FirstItem {
 #[tactic(auto, unfolding(crate::specs::Pieces::front, crate::specs::Pieces::at_escape))]
 pub(crate) fn front(bytes: &[u8]) -> FirstItem
     requires { 0 < length bytes.now }
-    ensures kind { (result.kind, result.len) ≡ front bytes.now }
+    ensures kind { (result.kind, result.len) ≡ leading_piece bytes.now }
     ensures some { 0 < result.len }
     ensures in_range { result.len ≤ length bytes.now }
     ensures looks { result.len + result.beyond ≡ piece_looks result.kind result.len (drop result.len bytes.now) }

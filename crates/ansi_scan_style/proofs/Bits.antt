@@ -12,7 +12,7 @@ use Rattle.ansi_scan_style.specs.declared.flags.Flag.{Flag}
 use Rattle.ansi_scan_style.specs.declared.flags.Flag.TheVariants.{Bold, Faint, Italic, Underline, SlowBlink, RapidBlink, Inverted, Hidden, CrossedOut, Fraktur, DoubleUnderline, ProportionalSpacing, Framed, Encircled, Overlined, IdeogramUnderline, IdeogramDoubleUnderline, IdeogramOverline, IdeogramDoubleOverline, IdeogramStress, Superscript, Subscript}
 use Rattle.ansi_scan_style.specs.Attributes.{after_code}
 use Rattle.ansi_scan_style.specs.FlagSet.{FlagSet}
-use Rattle.ansi_scan_style.specs.Flags.{flags_of, only_flags, is_set, place, in_places, word_of, has_bit, flags_in, bits_set_by, bits_kept_by}
+use Rattle.ansi_scan_style.specs.Flags.{flags_of, only_flags, is_set, bit_place, in_places, word_of, has_bit, flags_in, bits_set_by, bits_kept_by}
 
 -- a bit is 1 where it is tested
 bit_of_test : (n : ℕ) → n < 2 → cond (n == 1) 1 0 ≡ n
@@ -145,33 +145,33 @@ tested : (b : Bool) (p : ℕ) → 0 < p → not (cond b 1 0 * p == 0) ≡ b
 tested true p positive = ap not (ne_eqb (1 * p) 0 (λ e. omega arith))
 tested false p positive = let none : 0 * p ≡ 0 = omega arith in ap (λ n. not (n == 0)) none
 
-is_set-place : (flag : Flag) (flags : FlagSet) → get_or (in_places flags) (place flag) false ≡ is_set flag flags
-is_set-place Bold flags = refl
-is_set-place Faint flags = refl
-is_set-place Italic flags = refl
-is_set-place Underline flags = refl
-is_set-place SlowBlink flags = refl
-is_set-place RapidBlink flags = refl
-is_set-place Inverted flags = refl
-is_set-place Hidden flags = refl
-is_set-place CrossedOut flags = refl
-is_set-place Fraktur flags = refl
-is_set-place DoubleUnderline flags = refl
-is_set-place ProportionalSpacing flags = refl
-is_set-place Framed flags = refl
-is_set-place Encircled flags = refl
-is_set-place Overlined flags = refl
-is_set-place IdeogramUnderline flags = refl
-is_set-place IdeogramDoubleUnderline flags = refl
-is_set-place IdeogramOverline flags = refl
-is_set-place IdeogramDoubleOverline flags = refl
-is_set-place IdeogramStress flags = refl
-is_set-place Superscript flags = refl
-is_set-place Subscript flags = refl
+is_set-bit_place : (flag : Flag) (flags : FlagSet) → get_or (in_places flags) (bit_place flag) false ≡ is_set flag flags
+is_set-bit_place Bold flags = refl
+is_set-bit_place Faint flags = refl
+is_set-bit_place Italic flags = refl
+is_set-bit_place Underline flags = refl
+is_set-bit_place SlowBlink flags = refl
+is_set-bit_place RapidBlink flags = refl
+is_set-bit_place Inverted flags = refl
+is_set-bit_place Hidden flags = refl
+is_set-bit_place CrossedOut flags = refl
+is_set-bit_place Fraktur flags = refl
+is_set-bit_place DoubleUnderline flags = refl
+is_set-bit_place ProportionalSpacing flags = refl
+is_set-bit_place Framed flags = refl
+is_set-bit_place Encircled flags = refl
+is_set-bit_place Overlined flags = refl
+is_set-bit_place IdeogramUnderline flags = refl
+is_set-bit_place IdeogramDoubleUnderline flags = refl
+is_set-bit_place IdeogramOverline flags = refl
+is_set-bit_place IdeogramDoubleOverline flags = refl
+is_set-bit_place IdeogramStress flags = refl
+is_set-bit_place Superscript flags = refl
+is_set-bit_place Subscript flags = refl
 
-pub is_set-tested : (flag : Flag) (flags : FlagSet) → not (bit_and (word_of flags) (2 ^ place flag) == 0) ≡ is_set flag flags
+pub is_set-tested : (flag : Flag) (flags : FlagSet) → not (bit_and (word_of flags) (2 ^ bit_place flag) == 0) ≡ is_set flag flags
 is_set-tested flag flags =
-    ap (λ n. not (n == 0)) (and_pow (word_of flags) (place flag)
-    ∙ ap (λ n. n * 2 ^ place flag) (bit_mask_l (in_places flags) (place flag)))
-    ∙ (tested (get_or (in_places flags) (place flag) false) (2 ^ place flag) (pow_pos (place flag))
-    ∙ is_set-place flag flags)
+    ap (λ n. not (n == 0)) (and_pow (word_of flags) (bit_place flag)
+    ∙ ap (λ n. n * 2 ^ bit_place flag) (bit_mask_l (in_places flags) (bit_place flag)))
+    ∙ (tested (get_or (in_places flags) (bit_place flag) false) (2 ^ bit_place flag) (pow_pos (bit_place flag))
+    ∙ is_set-bit_place flag flags)

@@ -4,7 +4,7 @@ use Rattle.ansi_scan_style.specs.declared.color.AnsiColor.{AnsiColor}
 use Rattle.ansi_scan_style.specs.declared.color.AnsiColor.TheVariants.{Bit4, Bit8, Bit24}
 use Rattle.ansi_scan_style.specs.declared.color.Color.{Color}
 use Rattle.ansi_scan_style.specs.declared.color.Color.TheVariants.{Black, Red, Green, Yellow, Blue, Magenta, Cyan, White, BrightBlack, BrightRed, BrightGreen, BrightYellow, BrightBlue, BrightMagenta, BrightCyan, BrightWhite, Purple, BrightPurple}
-use Rattle.ansi_scan_style.specs.Color.{color_of, named_color}
+use Rattle.ansi_scan_style.specs.Color.{as_color, named_color}
 
 either : (P : Color → Type 0) (b : Bool) (x y : Color) → P x → P y → P (if b then x else y)
 either P true x y here there = here
@@ -34,7 +34,7 @@ named_color_is_not_purple code =
     (either IsNotPurple (code == 97 || code == 107) BrightWhite _ ((λ e. cc), (λ e. cc))
     ((λ e. cc), (λ e. cc)))))))))))))))))
 
-pub color_of_is_not_purple : (color : AnsiColor) → (color_of color ≢ Purple) × (color_of color ≢ BrightPurple)
+pub color_of_is_not_purple : (color : AnsiColor) → (as_color color ≢ Purple) × (as_color color ≢ BrightPurple)
 color_of_is_not_purple (Bit4 code) = named_color_is_not_purple code
 color_of_is_not_purple (Bit8 n) = ((λ e. cc), (λ e. cc))
 color_of_is_not_purple (Bit24 r g b) = ((λ e. cc), (λ e. cc))

@@ -26,7 +26,7 @@ named_color code =
     (if code == 97 || code == 107 then BrightWhite else
     Fixed code)))))))))))))))
 
-abbrev pub color_of : AnsiColor → Color
-color_of (Bit4 code) = named_color code
-color_of (Bit8 n) = Fixed n
-color_of (Bit24 r g b) = Rgb r g b
+abbrev pub as_color : AnsiColor → Color
+as_color (Bit4 code) = named_color code
+as_color (Bit8 n) = Fixed n
+as_color (Bit24 r g b) = Rgb r g b

@@ -89,30 +89,30 @@ is_set IdeogramStress flags = flags.ideogram_stress
 is_set Superscript flags = flags.superscript
 is_set Subscript flags = flags.subscript
 
--- the place of its bit: the first attribute has the highest
-abbrev pub place : Flag → ℕ
-place Bold = 21
-place Faint = 20
-place Italic = 19
-place Underline = 18
-place SlowBlink = 17
-place RapidBlink = 16
-place Inverted = 15
-place Hidden = 14
-place CrossedOut = 13
-place Fraktur = 12
-place DoubleUnderline = 11
-place ProportionalSpacing = 10
-place Framed = 9
-place Encircled = 8
-place Overlined = 7
-place IdeogramUnderline = 6
-place IdeogramDoubleUnderline = 5
-place IdeogramOverline = 4
-place IdeogramDoubleOverline = 3
-place IdeogramStress = 2
-place Superscript = 1
-place Subscript = 0
+-- the bit_place of its bit: the first attribute has the highest
+abbrev pub bit_place : Flag → ℕ
+bit_place Bold = 21
+bit_place Faint = 20
+bit_place Italic = 19
+bit_place Underline = 18
+bit_place SlowBlink = 17
+bit_place RapidBlink = 16
+bit_place Inverted = 15
+bit_place Hidden = 14
+bit_place CrossedOut = 13
+bit_place Fraktur = 12
+bit_place DoubleUnderline = 11
+bit_place ProportionalSpacing = 10
+bit_place Framed = 9
+bit_place Encircled = 8
+bit_place Overlined = 7
+bit_place IdeogramUnderline = 6
+bit_place IdeogramDoubleUnderline = 5
+bit_place IdeogramOverline = 4
+bit_place IdeogramDoubleOverline = 3
+bit_place IdeogramStress = 2
+bit_place Superscript = 1
+bit_place Subscript = 0
 
 -- the attributes from the lowest bit on
 abbrev pub in_places : FlagSet → List Bool

@@ -1,6 +1,6 @@
 //! Colours, as sequences set them and as they are named.
 ghost use Rattle.std.specs.Prelude.{◌≡◌};
-ghost use Rattle.ansi_scan_style.specs.Color.{color_of, named_color};
+ghost use Rattle.ansi_scan_style.specs.Color.{as_color, named_color};
 
 /// A colour as a sequence sets it.
 #[derive(Clone, Copy, Debug, PartialEq, Eq, PartialOrd, Ord, Hash)]
@@ -44,9 +44,9 @@ pub enum Color {
 
 impl From<AnsiColor> for Color {
     ghost use Rattle.std.specs.Prelude.{◌≡◌};
-    ghost use Rattle.ansi_scan_style.specs.Color.{color_of};
+    ghost use Rattle.ansi_scan_style.specs.Color.{as_color};
 
-    ghost from_gives = { λ color result. result ≡ color_of color };
+    ghost from_gives = { λ color result. result ≡ as_color color };
 
     /// The name of a code of its own, where it has one; no colour is read as purple.
     fn from(color: AnsiColor) -> Color {

@@ -2,7 +2,7 @@
 ghost use Rattle.std.specs.Prelude.{◌≡◌, ◌==◌, ◌^◌};
 ghost use Rattle.std.specs.Simd.Lanes.{mask_l};
 ghost use Rattle.ansi_scan_style.specs.Attributes.{after_code};
-ghost use Rattle.ansi_scan_style.specs.Flags.{bits_kept_by, bits_set_by, flags_of, is_set, only_flags, place, word_of};
+ghost use Rattle.ansi_scan_style.specs.Flags.{bits_kept_by, bits_set_by, flags_of, is_set, only_flags, bit_place, word_of};
 
 use std::marker::Model;
 
@@ -105,7 +105,7 @@ impl Model for Flags {
 impl Flag {
     // The bit of an attribute.
     fn bit(self) -> u32
-        ensures { result ≡ 2 ^ place self }
+        ensures { result ≡ 2 ^ bit_place self }
     {
         match self {
             Flag::Bold => BOLD,

@@ -9,7 +9,7 @@ ghost use Rattle.ansi_scan_style.specs.declared.color.Color.{Color as OneColor};
 ghost use Rattle.ansi_scan_style.specs.declared.color.Color.TheVariants.{BrightPurple, Purple};
 ghost use Rattle.ansi_scan_style.specs.declared.next.Layer.{Layer};
 ghost use Rattle.ansi_scan_style.specs.Attributes.{Attributes, IsRendition, after_code, plain_attributes};
-ghost use Rattle.ansi_scan_style.specs.Color.{color_of};
+ghost use Rattle.ansi_scan_style.specs.Color.{as_color};
 ghost use Rattle.ansi_scan_style.specs.Rendition.{after_parameters, applied, is_numeric, number, sgr_parameters};
 ghost use Rattle.ansi_scan_style.specs.ColorForms.{after_color, color_at_front, is_color_code};
 ghost use Rattle.ansi_scan_style.specs.Equality.{compared, equal};
@@ -103,8 +103,8 @@ pub fn equal_styles_set_the_same()
 
 /// No colour is read as purple.
 pub fn no_color_is_purple()
-    ensures dark { (color : OneAnsiColor) → color_of color ≢ Purple }
-    ensures bright { (color : OneAnsiColor) → color_of color ≢ BrightPurple }
+    ensures dark { (color : OneAnsiColor) → as_color color ≢ Purple }
+    ensures bright { (color : OneAnsiColor) → as_color color ≢ BrightPurple }
 {}
 
 /// `==` of colours is equality, all of their parts compared, and `cmp` finds the same ones equal.
@@ -117,7 +117,7 @@ pub fn equal_colors_are_the_same()
 
 /// A colour that a sequence sets becomes the one of its name.
 pub fn colors_have_their_names()
-    ensures { (color : OneAnsiColor) (name : OneColor) → ⟦<Color as From<AnsiColor>>⟧.from_gives color name → name ≡ color_of color }
+    ensures { (color : OneAnsiColor) (name : OneColor) → ⟦<Color as From<AnsiColor>>⟧.from_gives color name → name ≡ as_color color }
 {}
 
 /// A start and an end of a style are printed as their bytes.

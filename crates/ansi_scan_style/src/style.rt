@@ -2,7 +2,7 @@
 ghost use Rattle.std.specs.Prelude.{◌≡◌, ◌↔◌, IsTrue, Some};
 ghost use Rattle.std.specs.Option.{option_map};
 ghost use Rattle.ansi_scan_style.specs.Attributes.{IsColor, IsRendition, after_code, is_no_code, plain_attributes};
-ghost use Rattle.ansi_scan_style.specs.Color.{color_of};
+ghost use Rattle.ansi_scan_style.specs.Color.{as_color};
 ghost use Rattle.ansi_scan_style.specs.NextParameter.{after_parameter};
 ghost use Rattle.ansi_scan_style.specs.Rendition.{after_parameter_bytes, applied, with_color};
 ghost use Rattle.ansi_scan_style.specs.Plain.{sets_nothing};
@@ -185,14 +185,14 @@ impl Style {
 
     /// The foreground, where one is set.
     pub fn foreground(&self) -> Option<Color>
-        ensures { result ≡ option_map color_of self.now.foreground }
+        ensures { result ≡ option_map as_color self.now.foreground }
     {
         self.foreground.color().map(Color::from)
     }
 
     /// The background, where one is set.
     pub fn background(&self) -> Option<Color>
-        ensures { result ≡ option_map color_of self.now.background }
+        ensures { result ≡ option_map as_color self.now.background }
     {
         self.background.color().map(Color::from)
     }

@@ -6,7 +6,7 @@ use Rattle.std.proofs.Math.Seq.{take-append_seam}
 use Rattle.std.proofs.lemmas.List.{length-drop}
 use Rattle.std.proofs.lemmas.List.Folds.{list_any-append}
 use Rattle.std.proofs.lemmas.Str.{IsCharBoundary-start, IsCharBoundary-from_rest}
-use Rattle.ansi_scan.specs.Sequences.{Piece, escape, is_plain, joined, Stands, EachStands, ArePiecesOf}
+use Rattle.ansi_scan.specs.Sequences.{Piece, escape, is_not_escape, joined, Stands, EachStands, ArePiecesOf}
 use Rattle.ansi_scan.specs.Joining.{is_text_kind}
 use Rattle.ansi_scan.specs.Pieces.{pieces, text_len}
 use Rattle.ansi_scan.specs.Attributes.{Attributes, plain_attributes}
@@ -118,11 +118,11 @@ module _ (bytes : List ℕ) (k n : ℕ) (order : k ≤ n) where
       let fits : k ≤ length bytes = omega (arith, less) in
       subst (IsCharBoundary bytes) sum (IsCharBoundary-from_rest bytes k (n - k) fits (good left))
 
-pub run-left : (rest : List ℕ) (left k : ℕ) → k ≡ prefix_len is_plain (take left rest) → k ≤ left
-run-left rest left k is_run = omega (arith, is_run, run_within is_plain left rest)
+pub run-left : (rest : List ℕ) (left k : ℕ) → k ≡ prefix_len is_not_escape (take left rest) → k ≤ left
+run-left rest left k is_run = omega (arith, is_run, run_within is_not_escape left rest)
 
-run-within : (rest : List ℕ) (left k : ℕ) → k ≡ prefix_len is_plain (take left rest) → k ≤ text_len rest
-run-within rest left k is_run = omega (arith, is_run, (run_of is_plain left rest).0)
+run-within : (rest : List ℕ) (left k : ℕ) → k ≡ prefix_len is_not_escape (take left rest) → k ≤ text_len rest
+run-within rest left k is_run = omega (arith, is_run, (run_of is_not_escape left rest).0)
 
 -- a bound is as good here as that one is there
 abbrev pub SameBound : List ℕ → ℕ → List ℕ → ℕ → Type 0
@@ -130,7 +130,7 @@ SameBound rest left text at = IsGoodBound (strip (pieces rest)) left ↔ IsGoodB
 
 module _ (rest : List ℕ) (left : ℕ) (text : List ℕ) (at : ℕ) (same : SameBound rest left text at) where
   -- over some bytes of text
-  module _ (k : ℕ) (is_run : k ≡ prefix_len is_plain (take left rest)) where
+  module _ (k : ℕ) (is_run : k ≡ prefix_len is_not_escape (take left rest)) where
     pub SameBound-plain : SameBound (drop k rest) (left - k) text at
     SameBound-plain =
         let order = run-left rest left k is_run in
@@ -143,7 +143,7 @@ module _ (rest : List ℕ) (left : ℕ) (text : List ℕ) (at : ℕ) (same : Sam
     bound-inside good = run_boundary rest plain_attributes left rest plain_attributes left (record { found = refl; styled = refl; cut = same.1 good }) k is_run
 
   -- over a sequence
-  pub bound-sequence : (behind : List ℕ) (first : Piece) → pieces rest ≡ first ∷ pieces behind → prefix_len is_plain rest ≡ 0 → SameBound behind left text at
+  pub bound-sequence : (behind : List ℕ) (first : Piece) → pieces rest ≡ first ∷ pieces behind → prefix_len is_not_escape rest ≡ 0 → SameBound behind left text at
   bound-sequence behind first read gone =
       let stripped = strip-sequence rest behind first read gone in
       (λ good. same.0 (subst (λ bytes. IsGoodBound bytes left) (sym stripped) good), λ good. subst (λ bytes. IsGoodBound bytes left) stripped (same.1 good))

@@ -7,7 +7,7 @@ use Rattle.std.proofs.lemmas.Bool.Decides.{nat_tests}
 use Rattle.std.proofs.lemmas.List.{length-drop, drop_all, take_all}
 use Rattle.std.proofs.lemmas.Str.{IsCharBoundary-start}
 use Rattle.ansi_scan.specs.declared.items.Kind.TheVariants.{Text}
-use Rattle.ansi_scan.specs.Sequences.{Piece, escape, is_plain}
+use Rattle.ansi_scan.specs.Sequences.{Piece, escape, is_not_escape}
 use Rattle.ansi_scan.specs.Joining.{is_text_kind}
 use Rattle.ansi_scan.specs.Pieces.{pieces}
 use Rattle.ansi_scan.proofs.Existence.{ArePiecesOf-pieces}
@@ -55,11 +55,11 @@ kept-one : (a b : ℕ) (t : List ℕ) → kept a b (record { kind = Text; bytes 
 kept-one a b t = let first : a - 0 ≡ a = omega arith in let last : b - 0 ≡ b = omega arith in
     append-nil (slice_range t (a - 0) (b - 0)) ∙ ap (λ n. slice_range t n (b - 0)) first ∙ ap (λ n. slice_range t a n) last
 
-plain_all : (t : List ℕ) → has_escape t ≡ false → list_all is_plain t ≡ true
+plain_all : (t : List ℕ) → has_escape t ≡ false → list_all is_not_escape t ≡ true
 plain_all [] gone = refl
 plain_all (b ∷ bs) gone = by (b == escape) refl gone (plain_all bs)
   where
-    by : (is_escape : Bool) → (b == escape) ≡ is_escape → (is_escape || has_escape bs) ≡ false → (has_escape bs ≡ false → list_all is_plain bs ≡ true) → list_all is_plain (b ∷ bs) ≡ true
+    by : (is_escape : Bool) → (b == escape) ≡ is_escape → (is_escape || has_escape bs) ≡ false → (has_escape bs ≡ false → list_all is_not_escape bs ≡ true) → list_all is_not_escape (b ∷ bs) ≡ true
     by true e h others = cc h
     by false e h others = both_true (ap not e) (others h)
 

@@ -4,7 +4,7 @@ use Rattle.std.specs.List.{list_all}
 use Rattle.std.proofs.lemmas.Bool.Decides.{nat_tests}
 use Rattle.ansi_scan.specs.declared.items.Kind.{Kind}
 use Rattle.ansi_scan.specs.declared.items.Kind.TheVariants.{Text, Sgr, Csi, Osc, Esc, Str, Broken}
-use Rattle.ansi_scan.specs.Sequences.{Piece, joined, Stands, EachStands, ArePiecesOf, NoneBroken, NoTextFirst, is_plain}
+use Rattle.ansi_scan.specs.Sequences.{Piece, joined, Stands, EachStands, ArePiecesOf, NoneBroken, NoTextFirst, is_not_escape}
 use Rattle.ansi_scan.specs.Joining.{is_text_kind}
 use Rattle.ansi_scan.proofs.Uniqueness.{ArePiecesOf-unique}
 use Rattle.ansi_str.specs.StyledText.{text_of, strip}
@@ -84,12 +84,12 @@ NoTextFirst-kept a b place (p ∷ ps) first =
 some_bytes : (bytes : List ℕ) → (length bytes == 0) ≡ false → 0 < length bytes
 some_bytes bytes e = grind (arith, nat_tests)
 
-stand-text_if : (bytes : List ℕ) (rest : List Piece) (none : Bool) → (length bytes == 0) ≡ none → IsTrue (list_all is_plain bytes) → NoTextFirst rest → EachStands rest → EachStands (text_if bytes none ++ rest)
+stand-text_if : (bytes : List ℕ) (rest : List Piece) (none : Bool) → (length bytes == 0) ≡ none → IsTrue (list_all is_not_escape bytes) → NoTextFirst rest → EachStands rest → EachStands (text_if bytes none ++ rest)
 stand-text_if bytes rest true e plain first each = each
 stand-text_if bytes rest false e plain first each = (record { some = some_bytes bytes e; plain = plain; ends = first }, each)
 
 -- the bytes of a text are plain, and no text follows it
-plain_text : (kind : Kind) (bytes : List ℕ) (after : List Piece) → is_text_kind kind ≡ true → Stands kind bytes after → IsTrue (list_all is_plain bytes) × NoTextFirst after
+plain_text : (kind : Kind) (bytes : List ℕ) (after : List Piece) → is_text_kind kind ≡ true → Stands kind bytes after → IsTrue (list_all is_not_escape bytes) × NoTextFirst after
 plain_text Text bytes after e stands = (stands.plain, stands.ends)
 plain_text Sgr bytes after e stands = cc e
 plain_text Csi bytes after e stands = cc e
@@ -103,7 +103,7 @@ stand-of_kind : (a b : ℕ) (p : Piece) (ps rest : List Piece) (text : Bool) →
 stand-of_kind a b p ps rest true e stands whole turn each =
     let slice = slice_range p.bytes a b in
     let own = plain_text p.kind p.bytes ps e stands in
-    stand-text_if slice rest (length slice == 0) refl (list_all-take is_plain (b - a) (drop a p.bytes) (list_all-drop is_plain a p.bytes own.0)) (turn own.1) each
+    stand-text_if slice rest (length slice == 0) refl (list_all-take is_not_escape (b - a) (drop a p.bytes) (list_all-drop is_not_escape a p.bytes own.0)) (turn own.1) each
 stand-of_kind a b p ps rest false e stands whole turn each = (Stands-before p.kind p.bytes ps rest stands whole turn, each)
 
 EachStands-kept : (a b place : ℕ) (ps : List Piece) → EachStands ps → NoneBroken ps → EachStands (kept_pieces a b place ps)

@@ -11,7 +11,7 @@ use Rattle.std.proofs.lemmas.List.Sums.{fold-append}
 use Rattle.std.proofs.lemmas.Str.{chars-nil}
 use Rattle.ansi_scan.specs.declared.items.Kind.{Kind}
 use Rattle.ansi_scan.specs.declared.items.Kind.TheVariants.{Text, Sgr, Csi, Osc, Esc, Str, Broken}
-use Rattle.ansi_scan.specs.Sequences.{Piece, joined, Stands, EachStands, ArePiecesOf, NoneBroken, NoTextFirst, is_plain}
+use Rattle.ansi_scan.specs.Sequences.{Piece, joined, Stands, EachStands, ArePiecesOf, NoneBroken, NoTextFirst, is_not_escape}
 use Rattle.ansi_scan.specs.Joining.{is_text_kind}
 use Rattle.ansi_scan.specs.Attributes.{Attributes, IsRendition, plain_attributes}
 use Rattle.ansi_scan.specs.Rendition.{applied, sgr_parameters}
@@ -122,7 +122,7 @@ list_all-take p (suc n) (x ∷ xs) h =
     both_true parts.0 (list_all-take p n xs parts.1)
 
 pub Stands-take : (kind : Kind) (bytes : List ℕ) (after : List Piece) (n : ℕ) → is_text_kind kind ≡ true → 0 < n → n < length bytes → Stands kind bytes after → Stands kind (take n bytes) []
-Stands-take Text bytes after n e some h stands = record { some = omega (arith, length-take n bytes); plain = list_all-take is_plain n bytes stands.plain; ends = tt }
+Stands-take Text bytes after n e some h stands = record { some = omega (arith, length-take n bytes); plain = list_all-take is_not_escape n bytes stands.plain; ends = tt }
 Stands-take Sgr bytes after n e some h stands = cc e
 Stands-take Csi bytes after n e some h stands = cc e
 Stands-take Osc bytes after n e some h stands = cc e

@@ -11,7 +11,7 @@ use Rattle.std.proofs.lemmas.Bool.Decides.{nat_tests}
 use Rattle.std.proofs.lemmas.List.{length-take, length-drop, take-append-drop}
 use Rattle.std.proofs.lemmas.List.Sums.{prefix_len-le-length, prefix_len_stops}
 use Rattle.std.proofs.lemmas.Str.{IsUtf8-drop, IsUtf8-from_ascii, IsCharBoundary-start, IsCharBoundary-end, IsCharBoundary-before_ascii, IsCharBoundary-from_drop}
-use Rattle.ansi_scan.specs.Sequences.{escape, is_plain}
+use Rattle.ansi_scan.specs.Sequences.{escape, is_not_escape}
 use Rattle.ansi_scan.specs.Pieces.{pieces, text_len}
 use Rattle.ansi_scan.proofs.Existence.{ArePiecesOf-pieces}
 use Rattle.ansi_scan.proofs.Uniqueness.{pieces-joined}
@@ -67,22 +67,22 @@ one_behind : (c : ℕ) (xs ys : List ℕ) → list_all (is_other c) xs ≡ true 
 one_behind c [] ys others = count_none (first_match (c ∷ []) 0 ys)
 one_behind c (x ∷ xs) ys others =
     let parts = and_parts (is_other c x) (list_all (is_other c) xs) others in
-    let other = not_true (x == c) (and_parts (is_plain x) (not (x == c)) parts.0).1 in
+    let other = not_true (x == c) (and_parts (is_not_escape x) (not (x == c)) parts.0).1 in
     one_past c x (xs ++ ys) other ∙ ap (option_map (λ n. suc n)) (one_behind c xs ys parts.1) ∙ count_suc (length xs) (first_match (c ∷ []) 0 ys)
 
 -- ---- bytes of text of which none is c
 
-run_tests : (c x : ℕ) (xs : List ℕ) (plain other : Bool) → is_plain x ≡ plain → is_other c x ≡ other → prefix_len (is_other c) xs ≤ prefix_len is_plain xs → prefix_len (is_other c) (x ∷ xs) ≤ prefix_len is_plain (x ∷ xs)
+run_tests : (c x : ℕ) (xs : List ℕ) (plain other : Bool) → is_not_escape x ≡ plain → is_other c x ≡ other → prefix_len (is_other c) xs ≤ prefix_len is_not_escape xs → prefix_len (is_other c) (x ∷ xs) ≤ prefix_len is_not_escape (x ∷ xs)
 run_tests c x xs plain false e f others = let none = prefix_len-fail (is_other c) x xs f in omega (arith, none)
 run_tests c x xs true true e f others =
     let here = prefix_len-pass (is_other c) x xs f in
-    let all = prefix_len-pass is_plain x xs e in
+    let all = prefix_len-pass is_not_escape x xs e in
     omega (arith, here, all, others)
 run_tests c x xs false true e f others = let both : true ≡ false = sym f ∙ ap (λ t. t && not (x == c)) e in cc both
 
 pub other_run : (c : ℕ) (t : List ℕ) → prefix_len (is_other c) t ≤ text_len t
 other_run c [] = omega arith
-other_run c (x ∷ xs) = run_tests c x xs (is_plain x) (is_other c x) refl refl (other_run c xs)
+other_run c (x ∷ xs) = run_tests c x xs (is_not_escape x) (is_other c x) refl refl (other_run c xs)
 
 module _ (c : ℕ) (low : c < 128) (t : List ℕ) (k : ℕ) (is_run : k ≡ prefix_len (is_other c) t) where
   within : k ≤ text_len t
@@ -151,7 +151,7 @@ match-here c (b ∷ bs) low plain stop some =
     let inside_t : prefix_len (is_other c) (b ∷ bs) < length (b ∷ bs) = omega (arith, stop, some) in
     let other : is_other c b ≡ false = ap (λ n. is_other c (get_or (b ∷ bs) n 0)) (sym stop) ∙ prefix_len_stops (is_other c) (b ∷ bs) 0 inside_t in
     let same = found_byte c (b ∷ bs) b bs (b == c) refl plain other refl in
-    let text : 0 < text_len (b ∷ bs) = let pass = prefix_len-pass is_plain b bs (ap not plain) in omega (arith, pass) in
+    let text : 0 < text_len (b ∷ bs) = let pass = prefix_len-pass is_not_escape b bs (ap not plain) in omega (arith, pass) in
     let byte = strip_byte (b ∷ bs) 0 text in
     head_is c (strip (pieces (b ∷ bs))) low byte.1 (byte.0 ∙ same)
 
@@ -231,7 +231,7 @@ text_end t = by (nat_lt (text_len t) (length t)) refl
     by true e = let inside_t : text_len t < length t = grind (arith, nat_tests) in IsCharBoundary-before_ascii t (text_len t) inside_t (escape_ends t (text_len t) inside_t refl)
     by false e =
         let over : length t ≤ text_len t = grind (arith, nat_tests) in
-        let end : length t ≡ text_len t = omega (arith, over, prefix_len-le-length is_plain t) in
+        let end : length t ≡ text_len t = omega (arith, over, prefix_len-le-length is_not_escape t) in
         subst (IsCharBoundary t) end (IsCharBoundary-end t)
 
 module _ (t : List ℕ) (k : ℕ) (utf8 : IsUtf8 t) (text : 0 < text_len t) (some : 1 ≤ k) (boundary : IsCharBoundary t k) (nearest : (i : ℕ) → 1 ≤ i → i < k → ¬ (IsCharBoundary t i)) where
@@ -258,7 +258,7 @@ module _ (t : List ℕ) (k : ℕ) (utf8 : IsUtf8 t) (text : 0 < text_len t) (som
       let fits = char_within in
       let inside_text : i < text_len t = omega (arith, high, fits) in
       let byte = strip_byte t i inside_text in
-      let len = prefix_len-le-length is_plain t in
+      let len = prefix_len-le-length is_not_escape t in
       nearest i low high (omega (arith, inside_text, len), λ _. subst (λ b. 128 ≤ b → 192 ≤ b) byte.0 (occurs.boundary.1 byte.1))
 
   first_character-is : IsFirstOrNone [] (strip (pieces t)) 1 (Some k)
@@ -280,7 +280,7 @@ first_match-no_character (b ∷ bs) gone = absurd (omega (arith, gone))
 -- a text that does not begin with a sequence begins with text
 pub text_some : (t : List ℕ) → begins_with_escape t ≡ false → 0 < length t → 0 < text_len t
 text_some [] plain some = absurd (omega (arith, some))
-text_some (b ∷ bs) plain some = let pass = prefix_len-pass is_plain b bs (ap not plain) in omega (arith, pass)
+text_some (b ∷ bs) plain some = let pass = prefix_len-pass is_not_escape b bs (ap not plain) in omega (arith, pass)
 
 -- ---- both ends of a match
 

@@ -6,7 +6,7 @@ use Rattle.std.proofs.lemmas.List.{length-drop, get_or-drop, get_or_append_left}
 use Rattle.std.proofs.lemmas.List.Elements.{All-from_recursion, recursion_from_All, All-weaker, All-get_or}
 use Rattle.std.proofs.lemmas.List.Sums.{fold-append}
 use Rattle.ansi_scan.specs.declared.items.Kind.TheVariants.{Text}
-use Rattle.ansi_scan.specs.Sequences.{Piece, joined, is_plain, ArePiecesOf}
+use Rattle.ansi_scan.specs.Sequences.{Piece, joined, is_not_escape, ArePiecesOf}
 use Rattle.ansi_scan.specs.Joining.{put_before, put_all_before}
 use Rattle.ansi_scan.specs.Pieces.{pieces}
 use Rattle.ansi_scan.specs.Attributes.{plain_attributes}
@@ -48,19 +48,19 @@ all_pieces c [] = []
 all_pieces c (part ∷ []) = pieces part
 all_pieces c (part ∷ next ∷ others) = pieces part ++ sole c ∷ all_pieces c (next ∷ others)
 
-ArePiecesOf-sole : (c : ℕ) → is_plain c ≡ true → ArePiecesOf (c ∷ []) (sole c ∷ [])
+ArePiecesOf-sole : (c : ℕ) → is_not_escape c ≡ true → ArePiecesOf (c ∷ []) (sole c ∷ [])
 ArePiecesOf-sole c plain =
     let some : 0 < length (c ∷ []) = omega arith in
-    let each : list_all is_plain (c ∷ []) ≡ true = ap (λ t. t && true) plain in
+    let each : list_all is_not_escape (c ∷ []) ≡ true = ap (λ t. t && true) plain in
     record { joins = refl; stand = (record { some = some; plain = each; ends = tt }, tt) }
 
-ArePiecesOf-next : (c : ℕ) (part rest : List ℕ) → is_plain c ≡ true → IsClosed (pieces part) → ArePiecesOf (part ++ c ∷ rest) (put_all_before (pieces part) (put_before (sole c) (pieces rest)))
+ArePiecesOf-next : (c : ℕ) (part rest : List ℕ) → is_not_escape c ≡ true → IsClosed (pieces part) → ArePiecesOf (part ++ c ∷ rest) (put_all_before (pieces part) (put_before (sole c) (pieces rest)))
 ArePiecesOf-next c part rest plain closed =
     ArePiecesOf-append part (c ∷ rest) (pieces part) (put_before (sole c) (pieces rest)) (ArePiecesOf-pieces part) closed.none_broken
     (ArePiecesOf-append (c ∷ []) rest (sole c ∷ []) (pieces rest) (ArePiecesOf-sole c plain) ((λ same. cc same), tt) (ArePiecesOf-pieces rest))
 
 -- but for neighbouring texts, they are the pieces of the joined text
-pieces-alike : (c : ℕ) (part : List ℕ) (others : List (List ℕ)) → is_plain c ≡ true → AllByRecursion (IsPart c) (part ∷ others)
+pieces-alike : (c : ℕ) (part : List ℕ) (others : List (List ℕ)) → is_not_escape c ≡ true → AllByRecursion (IsPart c) (part ∷ others)
     → AreReadAlike (pieces (join_with_byte c (part ∷ others))) (all_pieces c (part ∷ others))
 pieces-alike c part [] plain each = alike-same (pieces part)
 pieces-alike c part (next ∷ others) plain each =
@@ -260,7 +260,7 @@ module _ (c : ℕ) (low : c < 128) (ps : List Piece) where
       ∙ ap (λ rest. part ∷ rest) (parts-from (at + 1) next others matches each.1 left_there are.1)
 
 -- closed texts without this character, joined by it, are the parts of a split at it
-pub split-joined : (c : ℕ) (part : List ℕ) (others : List (List ℕ)) (ps : List Piece) (matches : List ℕ) → c < 128 → is_plain c ≡ true → AllByRecursion (IsPart c) (part ∷ others)
+pub split-joined : (c : ℕ) (part : List ℕ) (others : List (List ℕ)) (ps : List Piece) (matches : List ℕ) → c < 128 → is_not_escape c ≡ true → AllByRecursion (IsPart c) (part ∷ others)
     → ArePiecesOf (join_with_byte c (part ∷ others)) ps → AreMatches (c ∷ []) (strip ps) matches → styled_parts ps (split_bounds (c ∷ []) (strip ps) matches) ≡ part ∷ others
 split-joined c part others ps matches low plain each of_text are =
     let text = join_with_byte c (part ∷ others) in

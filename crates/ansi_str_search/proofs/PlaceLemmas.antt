@@ -6,7 +6,7 @@ use Rattle.std.proofs.lemmas.Bool.Decides.{nat_tests}
 use Rattle.std.proofs.lemmas.List.{length-drop, take-append-drop}
 use Rattle.ansi_scan.specs.declared.items.Kind.{Kind}
 use Rattle.ansi_scan.specs.declared.items.Kind.TheVariants.{Text, Sgr, Csi, Osc, Esc, Str, Broken}
-use Rattle.ansi_scan.specs.Sequences.{Piece, joined, Stands, EachStands, ArePiecesOf, is_plain}
+use Rattle.ansi_scan.specs.Sequences.{Piece, joined, Stands, EachStands, ArePiecesOf, is_not_escape}
 use Rattle.ansi_scan.specs.Joining.{is_text_kind}
 use Rattle.ansi_str_text.specs.StyledText.{text_of, strip}
 use Rattle.ansi_str_search.specs.Parts.{piece_from, from_place, front_of, before_place, through_place}
@@ -122,7 +122,7 @@ list_all-drop p (suc n) [] h = h
 list_all-drop p (suc n) (x ∷ xs) h = list_all-drop p n xs (and_parts (p x) (list_all p xs) h).1
 
 Stands-from : (kind : Kind) (bytes : List ℕ) (after : List Piece) (n : ℕ) → is_text_kind kind ≡ true → n < length bytes → Stands kind bytes after → Stands kind (drop n bytes) after
-Stands-from Text bytes after n e h stands = record { some = omega (arith, length-drop n bytes); plain = list_all-drop is_plain n bytes stands.plain; ends = stands.ends }
+Stands-from Text bytes after n e h stands = record { some = omega (arith, length-drop n bytes); plain = list_all-drop is_not_escape n bytes stands.plain; ends = stands.ends }
 Stands-from Sgr bytes after n e h stands = cc e
 Stands-from Csi bytes after n e h stands = cc e
 Stands-from Osc bytes after n e h stands = cc e

@@ -5,7 +5,7 @@ use Rattle.std.specs.Option.{option_map}
 use Rattle.std.specs.Str.{IsCharBoundary}
 use Rattle.std.proofs.Math.Seq.{take-append_seam}
 use Rattle.std.proofs.lemmas.List.Folds.{list_any-append}
-use Rattle.ansi_scan.specs.Sequences.{Piece, escape, is_plain, joined, EachStands}
+use Rattle.ansi_scan.specs.Sequences.{Piece, escape, is_not_escape, joined, EachStands}
 use Rattle.ansi_scan.specs.Joining.{is_text_kind}
 use Rattle.ansi_scan.specs.Pieces.{pieces, text_len}
 use Rattle.ansi_scan.specs.Attributes.{Attributes, plain_attributes}
@@ -103,7 +103,7 @@ module _ (rest : List ℕ) (style : Attributes) (n : ℕ) (cut : List ℕ) (cut_
 
 no_escape-tests : (b : ℕ) (bs : List ℕ) (is_escape : Bool) → (b == escape) ≡ is_escape → (is_escape || has_escape bs) ≡ false → (has_escape bs ≡ false → text_len bs ≡ length bs) → text_len (b ∷ bs) ≡ length (b ∷ bs)
 no_escape-tests b bs true e gone others = cc gone
-no_escape-tests b bs false e gone others = prefix_len-pass is_plain b bs (ap not e) ∙ ap suc (others gone)
+no_escape-tests b bs false e gone others = prefix_len-pass is_not_escape b bs (ap not e) ∙ ap suc (others gone)
 
 no_escape-plain : (t : List ℕ) → has_escape t ≡ false → text_len t ≡ length t
 no_escape-plain [] gone = refl

@@ -9,7 +9,7 @@ use Rattle.std.proofs.lemmas.Bool.Decides.{nat_tests}
 use Rattle.std.proofs.lemmas.List.{length-take, take-append-drop}
 use Rattle.std.proofs.lemmas.List.Sums.{prefix_len-le-length}
 use Rattle.std.proofs.lemmas.Str.{IsCharBoundary-start, IsCharBoundary-before_ascii, IsCharBoundary-from_rest}
-use Rattle.ansi_scan.specs.Sequences.{Piece, ArePiecesOf, escape, is_plain}
+use Rattle.ansi_scan.specs.Sequences.{Piece, ArePiecesOf, escape, is_not_escape}
 use Rattle.ansi_scan.specs.Pieces.{pieces, text_len}
 use Rattle.ansi_scan.specs.Attributes.{plain_attributes}
 use Rattle.ansi_scan.proofs.Uniqueness.{pieces-joined, pieces-ArePiecesOf}
@@ -34,8 +34,8 @@ strip-parted t k within =
     ∙ ap (λ front. front ++ drop k (strip (pieces t))) (take-strip t k within)
     ∙ ap (λ bytes. take k t ++ bytes) (sym (strip-from k (pieces t)) ∙ ap strip (from-plain t k within))
 
-pub strip-byte : (b : ℕ) (bs : List ℕ) → is_plain b ≡ true → strip (pieces (b ∷ bs)) ≡ b ∷ strip (pieces bs)
-strip-byte b bs plain = strip-parted (b ∷ bs) 1 (omega (arith, prefix_len-pass is_plain b bs plain))
+pub strip-byte : (b : ℕ) (bs : List ℕ) → is_not_escape b ≡ true → strip (pieces (b ∷ bs)) ≡ b ∷ strip (pieces bs)
+strip-byte b bs plain = strip-parted (b ∷ bs) 1 (omega (arith, prefix_len-pass is_not_escape b bs plain))
 
 pub strip-nothing : (t : List ℕ) → length t ≡ 0 → strip (pieces t) ≡ []
 strip-nothing t gone = ap (λ bytes. strip (pieces bytes)) (empty_text t gone) ∙ ap strip (pieces-joined [] tt)
@@ -81,12 +81,12 @@ module _ (rest : List ℕ) (left : ℕ) (text : List ℕ) (n : ℕ) (same : IsSa
         there = λ at. same.there (subst (λ bytes. IsCharBoundary bytes left) (sym shown) at);
       }
 
-  module _ (k : ℕ) (is_run : k ≡ prefix_len is_plain (take left rest)) where
+  module _ (k : ℕ) (is_run : k ≡ prefix_len is_not_escape (take left rest)) where
     pub run-low : k ≤ left
-    run-low = omega (arith, is_run, run_within is_plain left rest)
+    run-low = omega (arith, is_run, run_within is_not_escape left rest)
 
     within : k ≤ text_len rest
-    within = omega (arith, is_run, (run_of is_plain left rest).0)
+    within = omega (arith, is_run, (run_of is_not_escape left rest).0)
 
     sum : k + (left - k) ≡ left
     sum = let h = run-low in omega (arith, h)
@@ -95,7 +95,7 @@ module _ (rest : List ℕ) (left : ℕ) (text : List ℕ) (n : ℕ) (same : IsSa
     fits =
         let h = within in
         let len : length (take k (strip (pieces rest))) ≡ length (take k rest) = ap length (take-strip rest k h) in
-        omega (arith, h, len, prefix_len-le-length is_plain rest, length-take k (strip (pieces rest)), length-take k rest)
+        omega (arith, h, len, prefix_len-le-length is_not_escape rest, length-take k (strip (pieces rest)), length-take k rest)
 
     shown : strip (pieces (drop k rest)) ≡ drop k (strip (pieces rest))
     shown = ap strip (sym (from-plain rest k within)) ∙ strip-from k (pieces rest)
@@ -116,14 +116,14 @@ module _ (rest : List ℕ) (left : ℕ) (text : List ℕ) (n : ℕ) (same : IsSa
     -- where more is left, a sequence stands behind them
     pub run-ends : 0 < left - k → text_len (drop k rest) ≡ 0
     run-ends some =
-        let less : prefix_len is_plain (take left rest) < left = omega (arith, is_run, some) in
-        let all : k ≡ text_len rest = omega (arith, is_run, (run_of is_plain left rest).1 less) in
-        ap (λ m. text_len (drop m rest)) all ∙ prefix_len-drop_run is_plain rest
+        let less : prefix_len is_not_escape (take left rest) < left = omega (arith, is_run, some) in
+        let all : k ≡ text_len rest = omega (arith, is_run, (run_of is_not_escape left rest).1 less) in
+        ap (λ m. text_len (drop m rest)) all ∙ prefix_len-drop_run is_not_escape rest
 
 -- ---- the pattern at the front
 
-byte_tests : (a b : ℕ) → (is_plain b && b == a) ≡ true → (is_plain b ≡ true) × (b ≡ a)
-byte_tests a b e = let parts = and_parts (is_plain b) (b == a) e in (parts.0, eqb-true b a parts.1)
+byte_tests : (a b : ℕ) → (is_not_escape b && b == a) ≡ true → (is_not_escape b ≡ true) × (b ≡ a)
+byte_tests a b e = let parts = and_parts (is_not_escape b) (b == a) e in (parts.0, eqb-true b a parts.1)
 
 same_first : (a b : ℕ) (others bs : List ℕ) → b ≡ a → begins_with (a ∷ others) (b ∷ bs) ≡ begins_with others bs
 same_first a b others bs e = let test : (a == b) ≡ true = grind (arith, nat_tests) in ap (λ t. t && begins_with others bs) test
@@ -134,7 +134,7 @@ Left n p t = begins_with (drop n p) (strip (pieces (drop n t)))
 abbrev counted : Bool → ℕ → ℕ
 counted test n = if test then suc n else 0
 
-left_step : (a b : ℕ) (others bs : List ℕ) (test : Bool) → (is_plain b && b == a) ≡ test → Left (shared_len others bs) others bs ≡ begins_with others (strip (pieces bs))
+left_step : (a b : ℕ) (others bs : List ℕ) (test : Bool) → (is_not_escape b && b == a) ≡ test → Left (shared_len others bs) others bs ≡ begins_with others (strip (pieces bs))
     → Left (counted test (shared_len others bs)) (a ∷ others) (b ∷ bs) ≡ begins_with (a ∷ others) (strip (pieces (b ∷ bs)))
 left_step a b others bs true e behind =
     let parts = byte_tests a b e in
@@ -144,12 +144,12 @@ left_step a b others bs false e behind = refl
 pub shared-left : (p t : List ℕ) → Left (shared_len p t) p t ≡ begins_with p (strip (pieces t))
 shared-left [] t = refl
 shared-left (a ∷ others) [] = refl
-shared-left (a ∷ others) (b ∷ bs) = left_step a b others bs (is_plain b && b == a) refl (shared-left others bs)
+shared-left (a ∷ others) (b ∷ bs) = left_step a b others bs (is_not_escape b && b == a) refl (shared-left others bs)
 
 abbrev Behind : ℕ → List ℕ → List ℕ → ℕ
 Behind n p t = shared_len (drop n p) (drop n t)
 
-behind_step : (a b : ℕ) (others bs : List ℕ) (test : Bool) → (is_plain b && b == a) ≡ test → Behind (shared_len others bs) others bs ≡ 0
+behind_step : (a b : ℕ) (others bs : List ℕ) (test : Bool) → (is_not_escape b && b == a) ≡ test → Behind (shared_len others bs) others bs ≡ 0
     → Behind (counted test (shared_len others bs)) (a ∷ others) (b ∷ bs) ≡ 0
 behind_step a b others bs true e behind = behind
 behind_step a b others bs false e behind = ap (λ t. counted t (shared_len others bs)) e
@@ -158,7 +158,7 @@ behind_step a b others bs false e behind = ap (λ t. counted t (shared_len other
 pub shared-behind : (p t : List ℕ) → Behind (shared_len p t) p t ≡ 0
 shared-behind [] t = refl
 shared-behind (a ∷ others) [] = refl
-shared-behind (a ∷ others) (b ∷ bs) = behind_step a b others bs (is_plain b && b == a) refl (shared-behind others bs)
+shared-behind (a ∷ others) (b ∷ bs) = behind_step a b others bs (is_not_escape b && b == a) refl (shared-behind others bs)
 
 -- text that shares no byte with the pattern does not begin with it
 pub shared-none : (p t : List ℕ) → 0 < length p → shared_len p t ≡ 0 → begins_with_escape t ≡ false → begins_with p (strip (pieces t)) ≡ false
@@ -166,7 +166,7 @@ shared-none [] t some none text = absurd (omega (arith, some))
 shared-none (a ∷ others) [] some none text = ap (begins_with (a ∷ others)) (strip-nothing [] refl)
 shared-none (a ∷ others) (b ∷ bs) some none text = by (b == a) refl
   where
-    plain : is_plain b ≡ true
+    plain : is_not_escape b ≡ true
     plain = ap not text
 
     by : (test : Bool) → (b == a) ≡ test → begins_with (a ∷ others) (strip (pieces (b ∷ bs))) ≡ false

@@ -9,7 +9,7 @@ use Rattle.std.proofs.lemmas.List.{length-take, length-drop, get_or-drop, take-a
 use Rattle.std.proofs.lemmas.Str.{IsCharBoundary-end, IsCharBoundary-before_ascii}
 use Rattle.ansi_scan.specs.declared.items.Kind.{Kind}
 use Rattle.ansi_scan.specs.declared.items.Kind.TheVariants.{Text, Sgr, Csi, Osc, Esc, Str, Broken}
-use Rattle.ansi_scan.specs.Sequences.{Piece, escape, is_plain, joined, Stands, EachStands}
+use Rattle.ansi_scan.specs.Sequences.{Piece, escape, is_not_escape, joined, Stands, EachStands}
 use Rattle.ansi_scan.specs.Joining.{is_text_kind}
 use Rattle.ansi_scan.specs.Pieces.{pieces, text_len}
 use Rattle.ansi_scan.specs.Attributes.{Attributes}
@@ -36,7 +36,7 @@ pub record BeginsWithText (t : List ℕ) : Type 0 where
   pub stand : EachStands (first ∷ after)
 
 text_len-text : (bytes : List ℕ) (after : List Piece) → Stands Text bytes after → EachStands after → text_len (bytes ++ joined after) ≡ length bytes
-text_len-text bytes after stands each = prefix_len-run is_plain bytes (joined after) stands.plain (text_len-joined after each stands.ends)
+text_len-text bytes after stands each = prefix_len-run is_not_escape bytes (joined after) stands.plain (text_len-joined after each stands.ends)
 
 other_len : (kind : Kind) (bytes : List ℕ) (after : List Piece) → EachStands (record { kind = kind; bytes = bytes } ∷ after) → kind ≢ Text → text_len (bytes ++ joined after) ≡ 0
 other_len kind bytes after each other = text_len-joined (record { kind = kind; bytes = bytes } ∷ after) each other
@@ -265,7 +265,7 @@ IsCharBoundary-drop bs k i at = (
   λ some. let inside_bs : k + i < length bs = omega (arith, some, length-drop k bs) in subst (λ b. 128 ≤ b → 192 ≤ b) (sym (get_or-drop k bs i 0)) (at.1 inside_bs),
 )
 
-not_plain : (b : ℕ) (is_escape : Bool) → (b == escape) ≡ is_escape → is_plain b ≡ false → b < 128
+not_plain : (b : ℕ) (is_escape : Bool) → (b == escape) ≡ is_escape → is_not_escape b ≡ false → b < 128
 not_plain b true e plain = let same = eqb-true b escape e in omega (arith, same)
 not_plain b false e plain = let both : true ≡ false = ap not (sym e) ∙ plain in cc both
 
@@ -273,7 +273,7 @@ not_plain b false e plain = let both : true ≡ false = ap not (sym e) ∙ plain
 pub escape_ends : (t : List ℕ) (k : ℕ) → k < length t → k ≡ text_len t → get_or t k 0 < 128
 escape_ends t k some all =
     let inside_t : text_len t < length t = omega (arith, some, all) in
-    subst (λ m. get_or t m 0 < 128) (sym all) (not_plain (get_or t (text_len t) 0) (get_or t (text_len t) 0 == escape) refl (prefix_len_stops is_plain t 0 inside_t))
+    subst (λ m. get_or t m 0 < 128) (sym all) (not_plain (get_or t (text_len t) 0) (get_or t (text_len t) 0 == escape) refl (prefix_len_stops is_not_escape t 0 inside_t))
 
 not_less : (k n : ℕ) → k ≤ n → (k < n → ⊥) → k ≡ n
 not_less k n h less = by (nat_lt k n) refl
@@ -306,12 +306,12 @@ module _ (rest : List ℕ) (style : Attributes) (left : ℕ) (from : List ℕ) (
       )
 
   -- over k bytes of text
-  module _ (k : ℕ) (is_run : k ≡ prefix_len is_plain (take left rest)) where
+  module _ (k : ℕ) (is_run : k ≡ prefix_len is_not_escape (take left rest)) where
     pub run_left : k ≤ left
-    run_left = omega (arith, is_run, run_within is_plain left rest)
+    run_left = omega (arith, is_run, run_within is_not_escape left rest)
 
     within : k ≤ text_len rest
-    within = omega (arith, is_run, (run_of is_plain left rest).0)
+    within = omega (arith, is_run, (run_of is_not_escape left rest).0)
 
     parts : k + (left - k) ≡ left
     parts = let h = run_left in omega (arith, h)
@@ -344,17 +344,17 @@ module _ (rest : List ℕ) (style : Attributes) (left : ℕ) (from : List ℕ) (
     long : k < text_len rest → IsCharBoundary rest k
     long some =
         let h = run_left in
-        let whole : k ≡ left = not_less k left h (λ less. let all = (run_of is_plain left rest).1 (subst (λ m. m < left) is_run less) in omega (arith, all, is_run, some)) in
+        let whole : k ≡ left = not_less k left h (λ less. let all = (run_of is_not_escape left rest).1 (subst (λ m. m < left) is_run less) in omega (arith, all, is_run, some)) in
         let byte = strip_byte rest k some in
         let inside_strip : left < length (strip (pieces rest)) = omega (arith, whole, byte.1) in
         let at = subst (IsCharBoundary (strip (pieces rest))) (sym whole) (same.cut inside_strip) in
-        let fits = prefix_len-le-length is_plain rest in
+        let fits = prefix_len-le-length is_not_escape rest in
         (omega (arith, fits, some), λ _. subst (λ b. 128 ≤ b → 192 ≤ b) byte.0 (at.1 byte.1))
 
     run_boundary-or : (is_short is_long : Bool) → nat_lt k (length rest) ≡ is_short → nat_lt k (text_len rest) ≡ is_long → IsCharBoundary rest k
     run_boundary-or false is_long e f =
         let over : length rest ≤ k = grind (arith, nat_tests) in
-        let fits = prefix_len-le-length is_plain rest in
+        let fits = prefix_len-le-length is_not_escape rest in
         let h = within in
         let end : length rest ≡ k = omega (arith, over, fits, h) in
         subst (IsCharBoundary rest) end (IsCharBoundary-end rest)
@@ -379,21 +379,21 @@ module _ (rest : List ℕ) (style : Attributes) (left : ℕ) (from : List ℕ) (
         }
 
 -- where no text stands before the first ESC, the text has none there
-pub run_none : (rest : List ℕ) (left k : ℕ) → k ≡ prefix_len is_plain (take left rest) → k ≤ 0 → 0 < left → text_len rest ≡ 0
+pub run_none : (rest : List ℕ) (left k : ℕ) → k ≡ prefix_len is_not_escape (take left rest) → k ≤ 0 → 0 < left → text_len rest ≡ 0
 run_none rest left k is_run low some =
-    let less : prefix_len is_plain (take left rest) < left = omega (arith, is_run, low, some) in
-    let all = (run_of is_plain left rest).1 less in
+    let less : prefix_len is_not_escape (take left rest) < left = omega (arith, is_run, low, some) in
+    let all = (run_of is_not_escape left rest).1 less in
     omega (arith, is_run, low, all)
 
 -- a text that begins with ESC begins with a sequence, and has some bytes
 pub escape_first : (t : List ℕ) → begins_with_escape t ≡ true → (text_len t ≡ 0) × (0 < length t)
 escape_first [] e = cc e
-escape_first (b ∷ bs) e = (prefix_len-fail is_plain b bs (ap not e), omega arith)
+escape_first (b ∷ bs) e = (prefix_len-fail is_not_escape b bs (ap not e), omega arith)
 
 -- another one begins with text, or is empty
 pub other_first : (t : List ℕ) → begins_with_escape t ≡ false → (length t ≡ 0) ⊎ (0 < text_len t)
 other_first [] e = inl refl
-other_first (b ∷ bs) e = let pass = prefix_len-pass is_plain b bs (ap not e) in inr (omega (arith, pass))
+other_first (b ∷ bs) e = let pass = prefix_len-pass is_not_escape b bs (ap not e) in inr (omega (arith, pass))
 
 -- what is looked for behind the sequences is here
 pub at_text : (t : List ℕ) (style : Attributes) → begins_with_escape t ≡ false → (from_text (pieces t) ≡ pieces t) × (style_after_all style (through_place 0 (pieces t)) ≡ style)

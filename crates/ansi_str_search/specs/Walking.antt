@@ -1,6 +1,6 @@
 -- Steps through the pieces of a text.
 use Rattle.std.specs.Prelude.{◌≡◌, ◌<◌, slice_index, length, None, Some, unwrap_or, ◌==◌, ◌&&◌, not, ℕ, Bool, false, List, [], ◌∷◌, if◌then◌else◌, suc, flat_map}
-use Rattle.ansi_scan.specs.Sequences.{Piece, escape, is_plain}
+use Rattle.ansi_scan.specs.Sequences.{Piece, escape, is_not_escape}
 use Rattle.ansi_scan.specs.Joining.{is_text_kind}
 use Rattle.ansi_scan.specs.Attributes.{Attributes}
 use Rattle.ansi_scan.specs.Pieces.{pieces}
@@ -38,7 +38,7 @@ pub record IsBehindFirst (all rest : List Piece) : Type 0 where
 
 -- neither ESC nor this byte
 abbrev pub is_other : ℕ → ℕ → Bool
-is_other byte b = is_plain b && not (b == byte)
+is_other byte b = is_not_escape b && not (b == byte)
 
 -- how many bytes the text shows before the first such byte, or at all
 abbrev pub bytes_to : ℕ → List ℕ → ℕ
@@ -57,4 +57,4 @@ pub record Lands (byte : ℕ) (text : List ℕ) (style : Attributes) (end : List
 abbrev pub shared_len : List ℕ → List ℕ → ℕ
 shared_len [] bs = 0
 shared_len (a ∷ others) [] = 0
-shared_len (a ∷ others) (b ∷ bs) = if is_plain b && b == a then suc (shared_len others bs) else 0
+shared_len (a ∷ others) (b ∷ bs) = if is_not_escape b && b == a then suc (shared_len others bs) else 0

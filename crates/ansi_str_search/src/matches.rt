@@ -3,7 +3,7 @@ ghost use Rattle.std.specs.Prelude.{◌≡◌, ◌<◌, ◌≤◌, ◌+◌, [], 
 ghost use Rattle.std.specs.List.{prefix_len};
 ghost use Rattle.std.specs.Str.{IsCharBoundary};
 ghost use Rattle.ansi_scan.specs.Pieces.{pieces};
-ghost use Rattle.ansi_scan.specs.Sequences.{is_plain};
+ghost use Rattle.ansi_scan.specs.Sequences.{is_not_escape};
 ghost use Rattle.ansi_str_text.specs.StyledText.{strip};
 ghost use Rattle.ansi_str_search.specs.PartsLeft.{first_match, passed_over};
 ghost use Rattle.ansi_str_search.specs.Walking.{begins_with_escape, is_other};
@@ -28,7 +28,7 @@ pub(crate) fn first_character(text: &str) -> Option<usize>
     requires { begins_with_escape text.now ≡ false }
     ensures found { result ≡ first_match [] 1 (strip (pieces text.now)) }
     ensures cut { IfSome result (λ n. IsCharBoundary text.now n) }
-    ensures within { IfSome result (λ n. n ≤ prefix_len is_plain text.now) }
+    ensures within { IfSome result (λ n. n ≤ prefix_len is_not_escape text.now) }
 {
     if text.is_empty() {
         return None;

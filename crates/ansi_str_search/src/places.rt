@@ -3,7 +3,7 @@ ghost use Rattle.std.specs.Prelude.{slice_index, drop, ◌≡◌, ◌≤◌, ◌
 ghost use Rattle.std.specs.Cow.{IsOwnedStr, cow_str_bytes};
 ghost use Rattle.std.specs.List.{prefix_len};
 ghost use Rattle.std.specs.Str.{IsCharBoundary};
-ghost use Rattle.ansi_scan.specs.Sequences.{is_plain, joined};
+ghost use Rattle.ansi_scan.specs.Sequences.{is_not_escape, joined};
 ghost use Rattle.ansi_scan.specs.Pieces.{pieces};
 ghost use Rattle.ansi_scan.specs.Attributes.{plain_attributes};
 ghost use Rattle.ansi_scan.specs.StartsAndEnds.{start_bytes, end_bytes};
@@ -213,7 +213,7 @@ pub fn begins_with_escape(text: &str) -> bool
 
 /// How many of the first bytes, `most` of them or all, stand before the first ESC among them.
 pub fn text_len(text: &str, most: usize) -> usize
-    ensures value { result ≡ prefix_len is_plain (take most text.now) }
+    ensures value { result ≡ prefix_len is_not_escape (take most text.now) }
 {
     let bytes = text.as_bytes();
     let bytes = &bytes[..bytes.len().min(most)];

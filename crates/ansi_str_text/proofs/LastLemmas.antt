@@ -12,9 +12,9 @@ use Rattle.ansi_scan.specs.declared.items.Kind.{Kind}
 use Rattle.ansi_scan.specs.declared.items.Kind.TheVariants.{Text, Broken}
 use Rattle.ansi_scan.specs.Sequences.{Piece, escape}
 use Rattle.ansi_scan.specs.Places.{AreItemsOf}
-use Rattle.ansi_scan.specs.Pieces.{text_len, sequence_front, at_escape, front, first_pieces, pieces}
+use Rattle.ansi_scan.specs.Pieces.{text_len, sequence_front, at_escape, leading_piece, first_pieces, pieces}
 use Rattle.ansi_scan.proofs.Sound.{FormAtFront, FormAtFront-sequence_front}
-use Rattle.ansi_scan.proofs.Fronts.{IsAtEscape-at_escape, front-escape, front-some, front-in_range, pieces-step}
+use Rattle.ansi_scan.proofs.Fronts.{IsAtEscape-at_escape, leading_piece-escape, leading_piece-some, leading_piece-in_range, pieces-step}
 use Rattle.ansi_scan.proofs.Existence.{ArePiecesOf-pieces}
 use Rattle.ansi_scan.proofs.Uniqueness.{pieces-ArePiecesOf, at_escape-HasForm}
 use Rattle.ansi_str_text.specs.StyledText.{has_escape, shown, text_of, strip}
@@ -51,12 +51,12 @@ has_escape-none bs none = list_any_none (λ b. b == escape) bs (All-from_get_or 
 
 -- ---- the first item
 
-pub front-IsFirstItem : (text : List ℕ) (item : Item) → 0 < length text → IsFirstItem text item → item.end ≡ (front text).1
-front-IsFirstItem text item some first =
+pub leading_piece-IsFirstItem : (text : List ℕ) (item : Item) → 0 < length text → IsFirstItem text item → item.end ≡ (leading_piece text).1
+leading_piece-IsFirstItem text item some first =
     let same = sym first.read ∙ pieces-step text some in
-    let bytes : slice_range text 0 item.end ≡ take (front text).1 text = ap (λ (piece : Piece). piece.bytes) (heads same) in
+    let bytes : slice_range text 0 item.end ≡ take (leading_piece text).1 text = ap (λ (piece : Piece). piece.bytes) (heads same) in
     let own : length (take (item.end - 0) text) ≡ item.end - 0 = length-take-le (item.end - 0) text (omega (arith, first.within)) in
-    let found : length (take (front text).1 text) ≡ (front text).1 = length-take-le (front text).1 text (front-in_range text some) in
+    let found : length (take (leading_piece text).1 text) ≡ (leading_piece text).1 = length-take-le (leading_piece text).1 text (leading_piece-in_range text some) in
     omega (arith, own, found, ap length bytes)
 
 pub nothing-short : (text : List ℕ) → 0 < length text → pieces text ≡ [] → ⊥
@@ -111,17 +111,17 @@ NoneReaches-byte text at other =
     eqb-false (slice_index text (at + 1)) 0x5c other (ap (λ n. get_or text n 0) place ∙ sym (get_or-drop (at + 1) text 0 0) ∙ ap (λ bs. get_or bs 0 0) same))
 
 -- what begins with the ESC before it ends before it
-NoneReaches-ended : (text behind : List ℕ) (at : ℕ) → IsLastEscape text at → at + (front (escape ∷ (drop (at + 1) text ++ escape ∷ behind))).1 ≤ length text → NoneReaches text behind
+NoneReaches-ended : (text behind : List ℕ) (at : ℕ) → IsLastEscape text at → at + (leading_piece (escape ∷ (drop (at + 1) text ++ escape ∷ behind))).1 ≤ length text → NoneReaches text behind
 NoneReaches-ended text behind at is ended = λ before inside same r.
     (let ends = EndsString-Reaches inside behind r in
     let plain : has_escape inside ≡ false = ap has_escape ends.front_is ∙ has_escape-plain (ends.opener ∷ ends.string) (plain-open ends.opener ends.string ends.opened) in
     let parts = same_last (take at text) (drop (at + 1) text) before inside (sym is.here ∙ same) is.last plain in
     let place : length (take at text) ≡ length before = ap length parts.fronts in
     let len : length text ≡ length before + suc (length inside) = ap length same ∙ length-append before (escape ∷ inside) in
-    let found : front (escape ∷ (inside ++ escape ∷ behind)) ≡ (r.kind, length r.form) =
-    front-escape (escape ∷ (inside ++ escape ∷ behind)) refl ∙ ap at_escape r.spelled ∙ at_escape-HasForm r.kind r.form r.after r.has in
-    let long : (front (escape ∷ (drop (at + 1) text ++ escape ∷ behind))).1 ≡ length r.form =
-    ap (λ bs. (front (escape ∷ (bs ++ escape ∷ behind))).1) parts.rests ∙ ap (λ (f : Kind × ℕ). f.1) found in
+    let found : leading_piece (escape ∷ (inside ++ escape ∷ behind)) ≡ (r.kind, length r.form) =
+    leading_piece-escape (escape ∷ (inside ++ escape ∷ behind)) refl ∙ ap at_escape r.spelled ∙ at_escape-HasForm r.kind r.form r.after r.has in
+    let long : (leading_piece (escape ∷ (drop (at + 1) text ++ escape ∷ behind))).1 ≡ length r.form =
+    ap (λ bs. (leading_piece (escape ∷ (bs ++ escape ∷ behind))).1) parts.rests ∙ ap (λ (f : Kind × ℕ). f.1) found in
     omega (arith, ended, place, is.before, len, long, r.longer))
 
 -- ---- where the last sequence begins
@@ -132,7 +132,7 @@ parted text behind none =
     (ArePiecesOf-seam text behind (pieces text) (pieces (escape ∷ behind)) (ArePiecesOf-pieces text) (ArePiecesOf-pieces (escape ∷ behind)) none)
 
 -- behind so many bytes
-IsLastSequence-behind : (text before rest : List ℕ) (at : ℕ) → text ≡ before ++ escape ∷ rest → length before ≡ at → NoneReaches before rest → has_escape (drop (front (escape ∷ rest)).1 (escape ∷ rest)) ≡ false → IsLastSequence text at
+IsLastSequence-behind : (text before rest : List ℕ) (at : ℕ) → text ≡ before ++ escape ∷ rest → length before ≡ at → NoneReaches before rest → has_escape (drop (leading_piece (escape ∷ rest)).1 (escape ∷ rest)) ≡ false → IsLastSequence text at
 IsLastSequence-behind text before rest at spelled place none plain =
     let of_at : drop at text ≡ escape ∷ rest = ap (λ n. drop n text) (sym place) ∙ ap (λ bs. drop (length before) bs) spelled ∙ drop-append_seam before (escape ∷ rest) in
     let of_before : take at text ≡ before = ap (λ n. take n text) (sym place) ∙ ap (λ bs. take (length before) bs) spelled ∙ take-append_seam before (escape ∷ rest) in
@@ -140,14 +140,14 @@ IsLastSequence-behind text before rest at spelled place none plain =
       rest = rest;
       here = of_at;
       parted = ap pieces spelled ∙ parted before rest none ∙ ap (λ bs. pieces bs ++ pieces (escape ∷ rest)) (sym of_before) ∙ ap (λ bs. pieces (take at text) ++ pieces bs) (sym of_at);
-      last = ap (λ bs. has_escape (drop (front bs).1 bs)) of_at ∙ plain;
+      last = ap (λ bs. has_escape (drop (leading_piece bs).1 bs)) of_at ∙ plain;
     }
 
 -- at the last ESC, where no sequence reaches over it
 pub IsLastSequence-last : (text : List ℕ) (at : ℕ) → IsLastEscape text at → NoneReaches (take at text) (drop (at + 1) text) → IsLastSequence text at
 IsLastSequence-last text at is none =
     IsLastSequence-behind text (take at text) (drop (at + 1) text) at is.here is.before none
-    (has_escape-behind (front (escape ∷ drop (at + 1) text)).1 (drop (at + 1) text) (front-some (escape ∷ drop (at + 1) text)) is.last)
+    (has_escape-behind (leading_piece (escape ∷ drop (at + 1) text)).1 (drop (at + 1) text) (leading_piece-some (escape ∷ drop (at + 1) text)) is.last)
 
 -- what stands from the ESC before the last one on
 from_escape : (text : List ℕ) (last at : ℕ) → IsLastEscape text last → IsLastEscape (take last text) at
@@ -161,11 +161,11 @@ dropped : (text before rest : List ℕ) (at : ℕ) → text ≡ before ++ rest �
 dropped text before rest at spelled place = ap (λ n. drop n text) (sym place) ∙ ap (λ bs. drop (length before) bs) spelled ∙ drop-append_seam before rest
 
 -- the item at the ESC before the last one ends before that
-pub NoneReaches-short : (text : List ℕ) (last at : ℕ) → IsLastEscape text last → IsLastEscape (take last text) at → at + (front (drop at text)).1 ≤ last → NoneReaches (take last text) (drop (last + 1) text)
+pub NoneReaches-short : (text : List ℕ) (last at : ℕ) → IsLastEscape text last → IsLastEscape (take last text) at → at + (leading_piece (drop at text)).1 ≤ last → NoneReaches (take last text) (drop (last + 1) text)
 NoneReaches-short text last at is_last is short =
     let rest : List ℕ = escape ∷ (drop (at + 1) (take last text) ++ escape ∷ drop (last + 1) text) in
     let same : drop at text ≡ rest = dropped text (take at (take last text)) rest at (from_escape text last at is_last is) is.before in
-    let len : (front (drop at text)).1 ≡ (front rest).1 = ap (λ bs. (front bs).1) same in
+    let len : (leading_piece (drop at text)).1 ≡ (leading_piece rest).1 = ap (λ bs. (leading_piece bs).1) same in
     NoneReaches-ended (take last text) (drop (last + 1) text) at is (omega (arith, len, short, is_last.before))
 
 -- the item at the ESC before the last one ends behind that
@@ -176,7 +176,7 @@ reaching inside behind (Some found) is longer =
     let at : FormAtFront (escape ∷ (inside ++ escape ∷ behind)) found = FormAtFront-sequence_front (inside ++ escape ∷ behind) found is in
     (record { kind = found.0; form = at.form; after = at.after; has = at.has; spelled = at.spelled; longer = (let long : length (escape ∷ inside) < length at.form = omega (arith, longer, at.counted) in long) }, at.counted)
 
-pub IsLastSequence-opened : (text : List ℕ) (last at : ℕ) → IsLastEscape text last → IsLastEscape (take last text) at → last < at + (front (drop at text)).1 → IsLastSequence text at
+pub IsLastSequence-opened : (text : List ℕ) (last at : ℕ) → IsLastEscape text last → IsLastEscape (take last text) at → last < at + (leading_piece (drop at text)).1 → IsLastSequence text at
 unfolding at_escape
 IsLastSequence-opened text last at is_last is long =
     let before : List ℕ = take at (take last text) in
@@ -185,14 +185,14 @@ IsLastSequence-opened text last at is_last is long =
     let rest : List ℕ = inside ++ escape ∷ behind in
     let spelled : text ≡ before ++ escape ∷ rest = from_escape text last at is_last is in
     let same : drop at text ≡ escape ∷ rest = dropped text before (escape ∷ rest) at spelled is.before in
-    let found : front (drop at text) ≡ unwrap_or (sequence_front (escape ∷ rest)) (Broken, 1) = ap front same ∙ front-escape (escape ∷ rest) refl in
+    let found : leading_piece (drop at text) ≡ unwrap_or (sequence_front (escape ∷ rest)) (Broken, 1) = ap leading_piece same ∙ leading_piece-escape (escape ∷ rest) refl in
     let len : length (take last text) ≡ length before + suc (length inside) = ap length is.here ∙ length-append before (escape ∷ inside) in
-    let size : (front (drop at text)).1 ≡ (unwrap_or (sequence_front (escape ∷ rest)) (Broken, 1)).1 = ap (λ (f : Kind × ℕ). f.1) found in
+    let size : (leading_piece (drop at text)).1 ≡ (unwrap_or (sequence_front (escape ∷ rest)) (Broken, 1)).1 = ap (λ (f : Kind × ℕ). f.1) found in
     let reach = reaching inside behind (sequence_front (escape ∷ rest)) refl (omega (arith, long, len, size, is.before, is_last.before)) in
     let r = reach.0 in
     let ends = EndsString-Reaches inside behind r in
-    let own : (front (escape ∷ rest)).1 ≡ length r.form = ap (λ (bs : List ℕ). (front bs).1) (sym same) ∙ size ∙ reach.1 in
-    let after : drop (front (escape ∷ rest)).1 (escape ∷ rest) ≡ r.after =
+    let own : (leading_piece (escape ∷ rest)).1 ≡ length r.form = ap (λ (bs : List ℕ). (leading_piece bs).1) (sym same) ∙ size ∙ reach.1 in
+    let after : drop (leading_piece (escape ∷ rest)).1 (escape ∷ rest) ≡ r.after =
     ap (λ n. drop n (escape ∷ rest)) own ∙ ap (λ bs. drop (length r.form) bs) r.spelled ∙ drop-append_seam r.form r.after in
     let plain : has_escape r.after ≡ false = (has_escape-append (0x5c ∷ []) r.after (ap has_escape (sym ends.behind_is) ∙ is_last.last)).1 in
     let first : rest ≡ ends.opener ∷ (ends.string ++ escape ∷ behind) = ap (λ bs. bs ++ escape ∷ behind) ends.front_is in
@@ -210,19 +210,19 @@ pub strip-plain : (text : List ℕ) → has_escape text ≡ false → strip (pie
 strip-plain text none = strip-without_escape text (pieces text) (ArePiecesOf-pieces text) none
 
 -- a text shows what stands before its last sequence, and what stands behind that
-pub strip-last : (text before sequence behind : List ℕ) (at len : ℕ) → IsLastSequence text at → before ≡ take at text → sequence ≡ drop at text → len ≡ (front sequence).1 → behind ≡ drop len sequence
+pub strip-last : (text before sequence behind : List ℕ) (at len : ℕ) → IsLastSequence text at → before ≡ take at text → sequence ≡ drop at text → len ≡ (leading_piece sequence).1 → behind ≡ drop len sequence
     → strip (pieces text) ≡ strip (pieces before) ++ behind
 strip-last text before sequence behind at len is is_before is_sequence is_len is_behind =
     let starts : sequence ≡ escape ∷ is.rest = is_sequence ∙ is.here in
     let some : 0 < length sequence = (let size : length sequence ≡ suc (length is.rest) = ap length starts in omega (arith, size)) in
-    let at_front : front sequence ≡ at_escape sequence = front-escape sequence (ap text_len starts) in
-    let other : (front sequence).0 ≢ Text = λ same. (IsAtEscape-at_escape sequence).other (ap (λ (f : Kind × ℕ). f.0) (sym at_front) ∙ same) in
-    let after : behind ≡ drop (front sequence).1 sequence = is_behind ∙ ap (λ n. drop n sequence) is_len in
-    let plain : has_escape (drop (front sequence).1 sequence) ≡ false = ap (λ bs. has_escape (drop (front bs).1 bs)) is_sequence ∙ is.last in
+    let at_front : leading_piece sequence ≡ at_escape sequence = leading_piece-escape sequence (ap text_len starts) in
+    let other : (leading_piece sequence).0 ≢ Text = λ same. (IsAtEscape-at_escape sequence).other (ap (λ (f : Kind × ℕ). f.0) (sym at_front) ∙ same) in
+    let after : behind ≡ drop (leading_piece sequence).1 sequence = is_behind ∙ ap (λ n. drop n sequence) is_len in
+    let plain : has_escape (drop (leading_piece sequence).1 sequence) ≡ false = ap (λ bs. has_escape (drop (leading_piece bs).1 bs)) is_sequence ∙ is.last in
     let shows : strip (pieces sequence) ≡ behind =
     ap strip (pieces-step sequence some)
-    ∙ ap (λ bs. bs ++ strip (pieces (drop (front sequence).1 sequence))) (shown-sequence (front sequence).0 (take (front sequence).1 sequence) other)
-    ∙ strip-plain (drop (front sequence).1 sequence) plain
+    ∙ ap (λ bs. bs ++ strip (pieces (drop (leading_piece sequence).1 sequence))) (shown-sequence (leading_piece sequence).0 (take (leading_piece sequence).1 sequence) other)
+    ∙ strip-plain (drop (leading_piece sequence).1 sequence) plain
     ∙ sym after in
     ap strip is.parted
     ∙ strip-append (pieces (take at text)) (pieces (drop at text))

@@ -6,7 +6,7 @@ use Rattle.std.proofs.lemmas.List.Concat.{flat_map-append}
 use Rattle.std.proofs.lemmas.List.Folds.{list_any-append}
 use Rattle.ansi_scan.specs.declared.items.Kind.{Kind}
 use Rattle.ansi_scan.specs.declared.items.Kind.TheVariants.{Text, Sgr, Csi, Osc, Esc, Str, Broken}
-use Rattle.ansi_scan.specs.Sequences.{Piece, escape, is_plain, joined, Stands, EachStands, ArePiecesOf}
+use Rattle.ansi_scan.specs.Sequences.{Piece, escape, is_not_escape, joined, Stands, EachStands, ArePiecesOf}
 use Rattle.ansi_scan.proofs.Uniqueness.{begins_with_escape}
 use Rattle.ansi_str_text.specs.StyledText.{has_escape, shown, strip}
 
@@ -62,9 +62,9 @@ escape_step : (is_escape others_plain others_have : Bool) → (not is_escape && 
 escape_step true others_plain others_have plain others = cc plain
 escape_step false others_plain others_have plain others = others plain
 
-pub has_escape-plain : (bytes : List ℕ) → IsTrue (list_all is_plain bytes) → has_escape bytes ≡ false
+pub has_escape-plain : (bytes : List ℕ) → IsTrue (list_all is_not_escape bytes) → has_escape bytes ≡ false
 has_escape-plain [] plain = refl
-has_escape-plain (b ∷ bs) plain = escape_step (b == escape) (list_all is_plain bs) (has_escape bs) plain (has_escape-plain bs)
+has_escape-plain (b ∷ bs) plain = escape_step (b == escape) (list_all is_not_escape bs) (has_escape bs) plain (has_escape-plain bs)
 
 has_escape-shown : (kind : Kind) (bytes : List ℕ) (after : List Piece) → Stands kind bytes after → has_escape (shown kind bytes) ≡ false
 has_escape-shown Text bytes after stands = has_escape-plain bytes stands.plain

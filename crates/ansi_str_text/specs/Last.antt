@@ -1,7 +1,7 @@
 -- The last sequence of a text, and what stands after it.
 use Rattle.std.specs.Prelude.{◌≡◌, ◌+◌, ℕ, false, List, ◌∷◌, ◌++◌, length, take, drop}
 use Rattle.ansi_scan.specs.Sequences.{escape}
-use Rattle.ansi_scan.specs.Pieces.{front, pieces}
+use Rattle.ansi_scan.specs.Pieces.{leading_piece, pieces}
 use Rattle.ansi_str_text.specs.StyledText.{has_escape}
 
 -- the last ESC of the text stands there
@@ -16,4 +16,4 @@ pub record IsLastSequence (text : List ℕ) (at : ℕ) : Type 0 where
   pub rest : List ℕ
   pub here : drop at text ≡ escape ∷ rest
   pub parted : pieces text ≡ pieces (take at text) ++ pieces (drop at text)
-  pub last : has_escape (drop (front (drop at text)).1 (drop at text)) ≡ false
+  pub last : has_escape (drop (leading_piece (drop at text)).1 (drop at text)) ≡ false

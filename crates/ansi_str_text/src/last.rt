@@ -6,7 +6,7 @@
 //! them is looked at again so. With the look at a character that is given, that makes five at most.
 ghost use Rattle.std.specs.Prelude.{◌≡◌, ◌==◌, ◌<◌, [], ◌++◌, false, MatchOption, IfSome, chars, length, slice_index};
 ghost use Rattle.std.specs.Str.{IsCharBoundary};
-ghost use Rattle.ansi_scan.specs.Pieces.{front};
+ghost use Rattle.ansi_scan.specs.Pieces.{leading_piece};
 ghost use Rattle.ansi_str_text.specs.StyledText.{has_escape};
 ghost use Rattle.ansi_str_text.specs.Characters.{shown_chars};
 ghost use Rattle.ansi_str_text.specs.Last.{IsLastEscape, IsLastSequence};
@@ -81,7 +81,7 @@ fn last_escape(text: &str) -> Option<usize>
 /// The length of the first item.
 fn first_len(text: &str) -> usize
     requires { 0 < length text.now }
-    ensures value { result ≡ (front text.now).1 }
+    ensures value { result ≡ (leading_piece text.now).1 }
     ensures cut { IsCharBoundary text.now result }
 {
     match scan(text).next() {

@@ -10,7 +10,7 @@ use Rattle.grid_records_measure.specs.TextLines.{text_height, text_width}
 use Rattle.grid_records_estimate.specs.Rows.{fitted, fitted_row, text_at}
 use Rattle.grid_records_estimate.specs.Estimates.{greatest, track_sizes}
 use Rattle.grid_records_estimate.specs.Sizes.{table_heights, table_widths}
-use Rattle.grid_records_estimate.specs.Sizing.{Sizing, column_axis, compact_sizing, place, row_axis}
+use Rattle.grid_records_estimate.specs.Sizing.{Sizing, column_axis, compact_sizing, position_at, row_axis}
 use Rattle.papergrid_picture.specs.Frame.{frame_of}
 use Rattle.papergrid_picture.specs.Shown.{stripped_texts}
 use Rattle.papergrid_picture.proofs.StrippedLemmas.{stripped}
@@ -50,14 +50,14 @@ module _ (f : List ℕ → List ℕ) (none : f [] ≡ []) where
     widths-map same =
         ap (λ found. track_sizes (column_axis sizing n found)) (fitted-map n rows)
         ∙ ap (λ crossings. track_sizes (record (column_axis sizing n (map (map f) all)) { crossings = crossings })) (length-map all (map f))
-        ∙ (λ k. track_sizes (record (column_axis sizing n all) { need = λ column row. let padding = sizing.padding (place row column) in (ap text_width (text-map f none all (place row column)) ∙ same (text_at all (place row column))) k + padding.left.size + padding.right.size }))
+        ∙ (λ k. track_sizes (record (column_axis sizing n all) { need = λ column row. let padding = sizing.padding (position_at row column) in (ap text_width (text-map f none all (position_at row column)) ∙ same (text_at all (position_at row column))) k + padding.left.size + padding.right.size }))
 
     heights-map : ((text : List ℕ) → text_height (f text) ≡ text_height text) → table_heights sizing n (map (map f) rows) ≡ table_heights sizing n rows
     unfolding table_heights
     heights-map same =
         ap (λ found. track_sizes (row_axis sizing n found)) (fitted-map n rows)
         ∙ ap (λ m. track_sizes (record (row_axis sizing n (map (map f) all)) { tracks = m; has_boundary = λ i. has_row_boundary sizing.borders (boundary_kind i m) })) (length-map all (map f))
-        ∙ (λ k. track_sizes (record (row_axis sizing n all) { need = λ row column. let padding = sizing.padding (place row column) in (ap text_height (text-map f none all (place row column)) ∙ same (text_at all (place row column))) k + padding.top.size + padding.bottom.size }))
+        ∙ (λ k. track_sizes (record (row_axis sizing n all) { need = λ row column. let padding = sizing.padding (position_at row column) in (ap text_height (text-map f none all (position_at row column)) ∙ same (text_at all (position_at row column))) k + padding.top.size + padding.bottom.size }))
 
   module _ (style : Compact) (rows : List (List (List ℕ))) (wide : (text : List ℕ) → text_width (f text) ≡ text_width text) (high : (text : List ℕ) → text_height (f text) ≡ text_height text) where
     pub same-widths : widths_of style (map (map f) rows) ≡ widths_of style rows

@@ -17,9 +17,9 @@ IsNoText bytes (OfText (NotUtf8 at)) = ¬ (IsUtf8 bytes) × (at ≡ utf8_valid_l
 IsNoText bytes refusal = ⊥
 
 -- the columns of the widest line that the text shows
-abbrev pub IsMeasured : List ℕ → Result ℕ Refusal → Type 0
-IsMeasured text (Ok columns) = IsUtf8 text × (columns ≡ text_width text)
-IsMeasured text (Err refusal) = IsNoText text refusal
+abbrev pub IsTextWidth : List ℕ → Result ℕ Refusal → Type 0
+IsTextWidth text (Ok columns) = IsUtf8 text × (columns ≡ text_width text)
+IsTextWidth text (Err refusal) = IsNoText text refusal
 
 -- the front of the text without its sequences is written, and its whole size told; or nothing is written
 abbrev pub IsStripped : List ℕ → List ℕ → List ℕ → Result ℕ Refusal → Type 0
@@ -31,7 +31,7 @@ IsStripped text old new (Err refusal) = IsNoText text refusal × (new ≡ old)
 
 pub record TellsWidth (text : List ℕ) (status : ℕ) (answer : Answer) : Type 0 where
   pub outcome : Result ℕ Refusal
-  pub called_for : IsMeasured text outcome
+  pub called_for : IsTextWidth text outcome
   pub told : status ≡ status_of outcome
   pub told_beside : answer ≡ answer_of outcome
 

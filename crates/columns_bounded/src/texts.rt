@@ -1,7 +1,7 @@
 //! How wide a text is, and what it shows, as numbers and bytes.
 ghost use Rattle.std.specs.Prelude.{◌≡◌, IfErr, IfOk, IsUtf8};
 ghost use Rattle.std.specs.Str.Lossy.{utf8_valid_len};
-ghost use Rattle.columns_bounded.specs.Texts.{IsMeasured, IsStripped, TellsStripped, TellsWidth};
+ghost use Rattle.columns_bounded.specs.Texts.{IsTextWidth, IsStripped, TellsStripped, TellsWidth};
 
 use crate::answer::{Answer, status_of};
 use crate::refusal::Refusal;
@@ -14,7 +14,7 @@ use std::str;
 
 /// The columns that the widest line of a text takes, without its sequences; or where it is no text. Does not allocate.
 pub fn width_of(text: &[u8]) -> Result<usize, Refusal>
-    ensures { IsMeasured text.now result }
+    ensures { IsTextWidth text.now result }
 {
     let text = text_of(text)?;
     Ok(get_text_width(text))

@@ -15,10 +15,10 @@ use Rattle.grid_records_bounds.proofs.CostLemmas.{bounded}
 use Rattle.grid_records_bounds.proofs.SpaceLemmas.{measure-marks}
 use Rattle.grid_records_estimate.specs.Estimates.{greatest}
 use Rattle.grid_records_measure.specs.Cutting.{LinesFit, lacking, last_of, lines_of, replacement}
-use Rattle.grid_records_measure.specs.Filling.{behind_front, front}
+use Rattle.grid_records_measure.specs.Filling.{behind_front, fitting_front}
 use Rattle.grid_records_measure.specs.Measures.{columns, measure}
 use Rattle.grid_records_measure.specs.TextLines.{is_line_feed, line_feed, shown_lines as text_shown_lines, text_width, widest}
-use Rattle.grid_records_measure.proofs.FillingLemmas.{IsLongestFront-front}
+use Rattle.grid_records_measure.proofs.FillingLemmas.{IsLongestFront-fitting_front}
 use Rattle.papergrid_picture.specs.Shown.{IsWholeText, Styled, character_of, in_plain}
 use Rattle.papergrid_picture.proofs.ItemLemmas.{slice_split-map}
 use Rattle.papergrid_picture.proofs.ShownLemmas.{pieces-nothing, styled_of}
@@ -162,7 +162,7 @@ lacks width kept (c ∷ left) = omega arith
 -- the cut of a cell, where these are its characters
 abbrev cut_by : ℕ → List ℕ → List ℕ → List ℕ
 cut_by width cell characters =
-    let kept = front width 0 characters in
+    let kept = fitting_front width 0 characters in
     take (length kept) cell ++ map (λ c. c) (replicate (lacking width kept (behind_front width 0 characters)) replacement)
 
 cut-fits : (width : ℕ) (cell : List ℕ) → width_in (cut (λ c. c) (λ c. c) width cell) ≤ width
@@ -170,10 +170,10 @@ cut-fits width cell = subst (λ (found : List ℕ). width_in (cut_by width cell 
   where
     here : width_in (cut_by width cell cell) ≤ width
     here =
-        let kept = front width 0 cell in
+        let kept = fitting_front width 0 cell in
         let left = behind_front width 0 cell in
         let n = lacking width kept left in
-        let longest = IsLongestFront-front width cell in
+        let longest = IsLongestFront-fitting_front width cell in
         let shown : cut_by width cell cell ≡ kept ++ replicate n replacement =
         ap (λ (cs : List ℕ). take (length kept) cs ++ map (λ c. c) (replicate n replacement)) longest.parted
         ∙ ap (λ (cs : List ℕ). cs ++ map (λ c. c) (replicate n replacement)) (take-append_seam kept left)

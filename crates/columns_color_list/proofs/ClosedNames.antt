@@ -9,7 +9,7 @@ use Rattle.std.proofs.lemmas.Bool.{and_parts, ltb-true}
 use Rattle.std.proofs.lemmas.List.Elements.{All-from_recursion}
 use Rattle.std.proofs.lemmas.Str.{IsUtf8-from_ascii}
 use Rattle.std.proofs.lemmas.Str.Ascii.{IsAscii-from_all}
-use Rattle.ansi_scan.specs.Pieces.{pieces, first_pieces, front, at_escape, sequence_front, opened, control_from, string_from, escape_from}
+use Rattle.ansi_scan.specs.Pieces.{pieces, first_pieces, leading_piece, at_escape, sequence_front, opened, control_from, string_from, escape_from}
 use Rattle.ansi_scan.specs.Attributes.{plain_attributes}
 use Rattle.ansi_scan.specs.Rendition.{applied, after_parameters}
 use Rattle.ansi_scan.proofs.Existence.{ArePiecesOf-pieces}
@@ -46,5 +46,5 @@ closed prefix suffix first second before behind clears = record {
 
 -- each by computation
 pub names-close : AllByRecursion (λ (row : List ℕ × Color). IsClosing row.1) named_colors
-unfolding pieces first_pieces front at_escape sequence_front opened control_from string_from escape_from applied after_parameters plain_attributes digits chars encode
+unfolding pieces first_pieces leading_piece at_escape sequence_front opened control_from string_from escape_from applied after_parameters plain_attributes digits chars encode
 names-close = (closed (codes "\u{1b}[30m") (codes "\u{1b}[39m") refl refl (record { whole = ((λ e. cc e), tt); no_text = ((λ e. cc e), tt) }) (record { whole = ((λ e. cc e), tt); no_text = ((λ e. cc e), tt) }) (record { from_plain = refl; from_style = refl }), (closed (codes "\u{1b}[31m") (codes "\u{1b}[39m") refl refl (record { whole = ((λ e. cc e), tt); no_text = ((λ e. cc e), tt) }) (record { whole = ((λ e. cc e), tt); no_text = ((λ e. cc e), tt) }) (record { from_plain = refl; from_style = refl }), (closed (codes "\u{1b}[32m") (codes "\u{1b}[39m") refl refl (record { whole = ((λ e. cc e), tt); no_text = ((λ e. cc e), tt) }) (record { whole = ((λ e. cc e), tt); no_text = ((λ e. cc e), tt) }) (record { from_plain = refl; from_style = refl }), (closed (codes "\u{1b}[33m") (codes "\u{1b}[39m") refl refl (record { whole = ((λ e. cc e), tt); no_text = ((λ e. cc e), tt) }) (record { whole = ((λ e. cc e), tt); no_text = ((λ e. cc e), tt) }) (record { from_plain = refl; from_style = refl }), (closed (codes "\u{1b}[34m") (codes "\u{1b}[39m") refl refl (record { whole = ((λ e. cc e), tt); no_text = ((λ e. cc e), tt) }) (record { whole = ((λ e. cc e), tt); no_text = ((λ e. cc e), tt) }) (record { from_plain = refl; from_style = refl }), (closed (codes "\u{1b}[35m") (codes "\u{1b}[39m") refl refl (record { whole = ((λ e. cc e), tt); no_text = ((λ e. cc e), tt) }) (record { whole = ((λ e. cc e), tt); no_text = ((λ e. cc e), tt) }) (record { from_plain = refl; from_style = refl }), (closed (codes "\u{1b}[36m") (codes "\u{1b}[39m") refl refl (record { whole = ((λ e. cc e), tt); no_text = ((λ e. cc e), tt) }) (record { whole = ((λ e. cc e), tt); no_text = ((λ e. cc e), tt) }) (record { from_plain = refl; from_style = refl }), (closed (codes "\u{1b}[37m") (codes "\u{1b}[39m") refl refl (record { whole = ((λ e. cc e), tt); no_text = ((λ e. cc e), tt) }) (record { whole = ((λ e. cc e), tt); no_text = ((λ e. cc e), tt) }) (record { from_plain = refl; from_style = refl }), (closed (codes "\u{1b}[1m") (codes "\u{1b}[22m") refl refl (record { whole = ((λ e. cc e), tt); no_text = ((λ e. cc e), tt) }) (record { whole = ((λ e. cc e), tt); no_text = ((λ e. cc e), tt) }) (record { from_plain = refl; from_style = refl }), (closed (codes "\u{1b}[4m") (codes "\u{1b}[24m") refl refl (record { whole = ((λ e. cc e), tt); no_text = ((λ e. cc e), tt) }) (record { whole = ((λ e. cc e), tt); no_text = ((λ e. cc e), tt) }) (record { from_plain = refl; from_style = refl }), tt))))))))))

@@ -6,10 +6,10 @@ use Rattle.std.proofs.lemmas.Bool.Decides.{nat_tests}
 use Rattle.std.proofs.lemmas.List.{map-id}
 use Rattle.ansi_str_search.proofs.CharLemmas.{hold_both}
 use Rattle.grid_records_measure.specs.Cutting.{lacking, replacement}
-use Rattle.grid_records_measure.specs.Filling.{behind_front, front}
+use Rattle.grid_records_measure.specs.Filling.{behind_front, fitting_front}
 use Rattle.grid_records_measure.specs.PlainCharacters.{is_plain_character}
 use Rattle.grid_records_measure.specs.TextLines.{is_line_feed, line_feed}
-use Rattle.grid_records_measure.proofs.FillingLemmas.{IsLongestFront-front}
+use Rattle.grid_records_measure.proofs.FillingLemmas.{IsLongestFront-fitting_front}
 use Rattle.papergrid_picture.proofs.ShownLemmas.{All-drop, All-take}
 use Rattle.tabled_size_cells.specs.Resizing.{Break, Cut, Keep, Resize, broken, broken_line, cell_width, cut, resized}
 use Rattle.tabled_size_cells.proofs.CharacterLemmas.{same}
@@ -102,7 +102,7 @@ module _ (cs : List ℕ) (plain_all : ArePlain cs) where
 
   module _ (width : ℕ) where
     abbrev kept : List ℕ
-    kept = front width 0 cs
+    kept = fitting_front width 0 cs
 
     abbrev left : List ℕ
     left = behind_front width 0 cs
@@ -111,7 +111,7 @@ module _ (cs : List ℕ) (plain_all : ArePlain cs) where
     marks = replicate (lacking width kept left) replacement
 
     parted : cs ≡ kept ++ left
-    parted = (IsLongestFront-front width cs).parted
+    parted = (IsLongestFront-fitting_front width cs).parted
 
     kept-plain : ArePlain kept
     kept-plain = subst ArePlain (ap (take (length kept)) parted ∙ take-append_seam kept left) (All-take IsPlain (length kept) cs plain_all)
@@ -122,7 +122,7 @@ module _ (cs : List ℕ) (plain_all : ArePlain cs) where
 
     cut-is : cut same same width cs ≡ kept ++ marks
     cut-is =
-        let by : List ℕ → List ℕ = λ found. take (length (front width 0 found)) cs ++ map same (replicate (lacking width (front width 0 found) (behind_front width 0 found)) replacement) in
+        let by : List ℕ → List ℕ = λ found. take (length (fitting_front width 0 found)) cs ++ map same (replicate (lacking width (fitting_front width 0 found) (behind_front width 0 found)) replacement) in
         ap by (map-id cs)
         ∙ ap (λ (first : List ℕ). first ++ map same marks) (ap (take (length kept)) parted ∙ take-append_seam kept left)
         ∙ ap (λ (rest : List ℕ). kept ++ rest) (map-id marks)

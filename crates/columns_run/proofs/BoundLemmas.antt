@@ -11,7 +11,7 @@ use Rattle.ansi_scan.proofs.Runs.{prefix_len-pass, prefix_len-fail}
 use Rattle.ansi_str_search.specs.Parts.{split_part}
 use Rattle.ansi_str_search.specs.Matches.{bounds_between}
 use Rattle.ansi_str_search.proofs.SliceLemmas.{strip-split_part}
-use Rattle.columns_run.specs.Rows.{line_feed, tab, stripped, places_from, parts_at, without_bare_last, cell_parts}
+use Rattle.columns_run.specs.Rows.{line_feed, tab, stripped, places_from, parts_by_character, without_bare_last, cell_parts}
 use Rattle.columns_run.specs.Ends.{is_cell_byte}
 use Rattle.columns_run.proofs.NestedLemmas.{part_of_part}
 use Rattle.columns_run.proofs.PassLemmas.{cell-empty}
@@ -116,7 +116,7 @@ module _ (text : List ℕ) (whole : NoneBroken (pieces text)) where
             ∙ ap (λ n. parts_of (bounds_between 1 (a + s) (a + e) (places_from tab n xs))) sum
             ∙ ap (λ t. parts_of (bounds_between 1 (a + s) (a + e) ((if t then (a + k) ∷ [] else []) ++ places_from tab (a + k + 1) xs))) (sym same)
 
-    row-cells : parts_at tab row_part ≡ cells_to a a b
+    row-cells : parts_by_character tab row_part ≡ cells_to a a b
     row-cells =
         let slice = slice_range shown a b in
         let size = slice-size in
@@ -161,7 +161,7 @@ module _ (text : List ℕ) (whole : NoneBroken (pieces text)) where
       ∙ ap (λ bytes. row ++ parts_of (bounds_between 1 start b (places_from tab place bytes))) (slice-more place b x bs more left)
       ∙ ap (λ t. row ++ parts_of (bounds_between 1 start b ((if t then place ∷ [] else []) ++ places_from tab (place + 1) (slice_range shown (place + 1) b)))) other
 
-  row-ended : (row : List (List ℕ)) (a start place : ℕ) → a ≤ place → place ≤ length shown → InRow row a start place → row ++ part_of start place ∷ [] ≡ parts_at tab (part_of a place)
+  row-ended : (row : List (List ℕ)) (a start place : ℕ) → a ≤ place → place ≤ length shown → InRow row a start place → row ++ part_of start place ∷ [] ≡ parts_by_character tab (part_of a place)
   row-ended row a start place low within known =
       let here : place ≤ place = omega arith in
       ap (λ bytes. row ++ parts_of (bounds_between 1 start place (places_from tab place bytes))) (sym (cell-empty shown place))
@@ -171,7 +171,7 @@ module _ (text : List ℕ) (whole : NoneBroken (pieces text)) where
 
   -- the rows from the one that begins at place a, where the line feeds behind `place` are those of the bytes
   abbrev rows_left : ℕ → ℕ → List ℕ → List (List (List ℕ))
-  rows_left a place bs = map (parts_at tab) (without_bare_last (parts_of (bounds_between 1 a (length shown) (places_from line_feed place bs))))
+  rows_left a place bs = map (parts_by_character tab) (without_bare_last (parts_of (bounds_between 1 a (length shown) (places_from line_feed place bs))))
 
   keep-first : (part : List ℕ) (from : ℕ) (others : List ℕ)
       → without_bare_last (part ∷ parts_of (bounds_between 1 from (length shown) others)) ≡ part ∷ without_bare_last (parts_of (bounds_between 1 from (length shown) others))
@@ -180,7 +180,7 @@ module _ (text : List ℕ) (whole : NoneBroken (pieces text)) where
 
   last-row : (row : List (List ℕ)) (a start place : ℕ) → a + length row ≤ start → start ≤ place → (length row ≡ 0 → start ≡ a) → place ≡ length shown → InRow row a start place
       → (bare ended : Bool) → (length (stripped (part_of a place)) == 0) ≡ bare → (length row + (place - start) == 0) ≡ ended
-      → (if ended then [] else (row ++ part_of start place ∷ []) ∷ []) ≡ map (parts_at tab) (if bare then [] else part_of a place ∷ [])
+      → (if ended then [] else (row ++ part_of start place ∷ []) ∷ []) ≡ map (parts_by_character tab) (if bare then [] else part_of a place ∷ [])
   last-row row a start place low high first end known bare ended e f =
       let before : a ≤ place = omega arith in
       let within : place ≤ length shown = omega arith in
@@ -188,7 +188,7 @@ module _ (text : List ℕ) (whole : NoneBroken (pieces text)) where
       by bare ended e f size
     where
       by : (bare ended : Bool) → (length (stripped (part_of a place)) == 0) ≡ bare → (length row + (place - start) == 0) ≡ ended → length (stripped (part_of a place)) ≡ place - a
-          → (if ended then [] else (row ++ part_of start place ∷ []) ∷ []) ≡ map (parts_at tab) (if bare then [] else part_of a place ∷ [])
+          → (if ended then [] else (row ++ part_of start place ∷ []) ∷ []) ≡ map (parts_by_character tab) (if bare then [] else part_of a place ∷ [])
       by true true e f size = refl
       by true false e f size =
           let none = eqb-true (length (stripped (part_of a place))) 0 e in
@@ -212,7 +212,7 @@ module _ (text : List ℕ) (whole : NoneBroken (pieces text)) where
   rows-from [] row a start place left low high first within known =
       let end : place ≡ length shown = omega (arith, ap length left, length-drop place shown) in
       last-row row a start place low high first end known (length (stripped (part_of a place)) == 0) (length row + (place - start) == 0) refl refl
-      ∙ ap (λ n. map (parts_at tab) (without_bare_last (part_of a n ∷ []))) end
+      ∙ ap (λ n. map (parts_by_character tab) (without_bare_last (part_of a n ∷ []))) end
   rows-from (x ∷ bs) row a start place left low high first within known =
       by (x == line_feed) refl (x == tab) refl (λ row a start low high first known. rows-from bs row a start (place + 1) (behind_one place x bs left) low high first (omega (arith, ap length left, length-drop place shown)) known)
     where
@@ -231,8 +231,8 @@ module _ (text : List ℕ) (whole : NoneBroken (pieces text)) where
           (cond (x == tab) (cells_from part_of (row ++ part_of start place ∷ []) (place + 1) (place + 1) bs) (cells_from part_of row start (place + 1) bs))) e
           ∙ ap (λ rows. (row ++ part_of start place ∷ []) ∷ rows) (rest [] (place + 1) (place + 1) empty here (λ _. refl) (λ b more inside. refl))
           ∙ ap (λ cells. cells ∷ rows_left (place + 1) (place + 1) bs) (row-ended row a start place before within known)
-          ∙ ap (map (parts_at tab)) (sym (keep-first (part_of a place) (place + 1) (places_from line_feed (place + 1) bs)))
-          ∙ ap (λ t. map (parts_at tab) (without_bare_last (parts_of (bounds_between 1 a (length shown) ((if t then place ∷ [] else []) ++ places_from line_feed (place + 1) bs))))) (sym e)
+          ∙ ap (map (parts_by_character tab)) (sym (keep-first (part_of a place) (place + 1) (places_from line_feed (place + 1) bs)))
+          ∙ ap (λ t. map (parts_by_character tab) (without_bare_last (parts_of (bounds_between 1 a (length shown) ((if t then place ∷ [] else []) ++ places_from line_feed (place + 1) bs))))) (sym e)
       by false e true f rest =
           let longer : a + length (row ++ part_of start place ∷ []) ≤ place + 1 = omega (arith, length-append row (part_of start place ∷ [])) in
           let some : length (row ++ part_of start place ∷ []) ≡ 0 → place + 1 ≡ a = λ none. absurd (omega (arith, none, length-append row (part_of start place ∷ []))) in
@@ -240,14 +240,14 @@ module _ (text : List ℕ) (whole : NoneBroken (pieces text)) where
           (cond (x == tab) (cells_from part_of (row ++ part_of start place ∷ []) (place + 1) (place + 1) bs) (cells_from part_of row start (place + 1) bs))) e
           ∙ ap (λ t. cond t (cells_from part_of (row ++ part_of start place ∷ []) (place + 1) (place + 1) bs) (cells_from part_of row start (place + 1) bs)) f
           ∙ rest (row ++ part_of start place ∷ []) a (place + 1) longer here some (InRow-tab row a start place x bs left f known)
-          ∙ ap (λ t. map (parts_at tab) (without_bare_last (parts_of (bounds_between 1 a (length shown) ((if t then place ∷ [] else []) ++ places_from line_feed (place + 1) bs))))) (sym e)
+          ∙ ap (λ t. map (parts_by_character tab) (without_bare_last (parts_of (bounds_between 1 a (length shown) ((if t then place ∷ [] else []) ++ places_from line_feed (place + 1) bs))))) (sym e)
       by false e false f rest =
           let later : start ≤ place + 1 = omega arith in
           ap (λ t. cond t ((row ++ part_of start place ∷ []) ∷ cells_from part_of [] (place + 1) (place + 1) bs)
           (cond (x == tab) (cells_from part_of (row ++ part_of start place ∷ []) (place + 1) (place + 1) bs) (cells_from part_of row start (place + 1) bs))) e
           ∙ ap (λ t. cond t (cells_from part_of (row ++ part_of start place ∷ []) (place + 1) (place + 1) bs) (cells_from part_of row start (place + 1) bs)) f
           ∙ rest row a start low later first (InRow-other row a start place x bs left f known)
-          ∙ ap (λ t. map (parts_at tab) (without_bare_last (parts_of (bounds_between 1 a (length shown) ((if t then place ∷ [] else []) ++ places_from line_feed (place + 1) bs))))) (sym e)
+          ∙ ap (λ t. map (parts_by_character tab) (without_bare_last (parts_of (bounds_between 1 a (length shown) ((if t then place ∷ [] else []) ++ places_from line_feed (place + 1) bs))))) (sym e)
 
   -- one pass over what a text shows finds the cells of its rows
   pub cells_from-start : cells_from part_of [] 0 0 shown ≡ cell_parts text

@@ -13,7 +13,7 @@ use Rattle.grid_config.specs.Looks.{compact_look}
 use Rattle.grid_config_values.specs.declared.position.Position.{Position}
 use Rattle.grid_records_measure.proofs.TextLineLemmas.{length-text_lines}
 use Rattle.grid_records_measure.specs.TextLines.{line_feed, shown_lines, text_height, text_lines}
-use Rattle.grid_records_estimate.specs.Rows.{IsInside, row_at, text_at}
+use Rattle.grid_records_estimate.specs.Rows.{HasCell, row_at, text_at}
 use Rattle.papergrid_picture.proofs.JoinLemmas.{table_text-joined}
 use Rattle.papergrid_colors.specs.ColoredLines.{with_painted_lines}
 use Rattle.papergrid_colors.proofs.PieceLemmas.{line-pieces}
@@ -21,7 +21,7 @@ use Rattle.papergrid_picture.proofs.ShownLemmas.{get_or-map}
 use Rattle.papergrid_picture.specs.Blocks.{Content, Fill, Glyph, TextLine}
 use Rattle.papergrid_picture.specs.CellLines.{cell_lines}
 use Rattle.papergrid_picture.specs.Frame.{frame_of, line_count}
-use Rattle.papergrid_picture.specs.Picture.{Piece}
+use Rattle.papergrid_picture.specs.Picture.{PlacedPart}
 use Rattle.papergrid_picture.specs.Reading.{Reading, content_items}
 use Rattle.papergrid_picture.specs.Tables.{in_bytes, table_line}
 use Rattle.columns_run.specs.Layout.{colored_line, grid_of, kept_of, line_bytes, output_of, piece_bytes, resize_of}
@@ -76,7 +76,7 @@ module _ (wanted : Wanted) (input : List ℕ) where
       ∙ ended-lines (table_line (compact_look style) kept colors widths heights) n
       ∙ (λ k. flat_map (λ y. line-pieces (compact_look style) kept colors widths heights (bare style plain) y k ++ line_feed ∷ []) (range_with_len 0 n))
 
-  pub piece-text : (piece : Piece) (cell : Position) (k : ℕ) → piece.part.content ≡ TextLine cell k
+  pub piece-text : (piece : PlacedPart) (cell : Position) (k : ℕ) → piece.part.content ≡ TextLine cell k
       → piece_bytes wanted input piece ≡ colored_line (cell_color wanted.colors cell) (get_or (text_lines (text_at (kept_of wanted input) cell)) k [])
   unfolding piece_bytes
   piece-text piece cell k is =
@@ -86,11 +86,11 @@ module _ (wanted : Wanted) (input : List ℕ) where
       ∙ painted-is (compact_look wanted.style) kept color (get_or (cell_lines false false (text_at kept cell)) k [])
       ∙ ap (colored_line color) (line-text (text_at kept cell) k)
 
-  pub piece-fill : (piece : Piece) (c : ℕ) → piece.part.content ≡ Fill c → piece_bytes wanted input piece ≡ flat_map encode_utf8 (replicate piece.part.width c)
+  pub piece-fill : (piece : PlacedPart) (c : ℕ) → piece.part.content ≡ Fill c → piece_bytes wanted input piece ≡ flat_map encode_utf8 (replicate piece.part.width c)
   unfolding piece_bytes
   piece-fill piece c is = ap (λ (content : Content). content_items reading content piece.part.width) is
 
-  pub piece-glyph : (piece : Piece) (c : ℕ) → piece.part.content ≡ Glyph c → piece_bytes wanted input piece ≡ flat_map encode_utf8 (replicate piece.part.width c)
+  pub piece-glyph : (piece : PlacedPart) (c : ℕ) → piece.part.content ≡ Glyph c → piece_bytes wanted input piece ≡ flat_map encode_utf8 (replicate piece.part.width c)
   unfolding piece_bytes
   piece-glyph piece c is = ap (λ (content : Content). content_items reading content piece.part.width) is
 
@@ -104,7 +104,7 @@ by_column-at f first (suc j) (text ∷ row) inside =
     by_column-at f (first + 1) j row (omega (arith, inside)) ∙ ap (λ n. f n (get_or row j [])) same
 
 -- a cell that is kept is the part of the text, resized
-pub kept-resized : (wanted : Wanted) (input : List ℕ) (cell : Position) → IsInside (cell_parts input) cell → text_at (kept_of wanted input) cell ≡ resized_text (resize_of wanted input cell.col) (text_at (cell_parts input) cell)
+pub kept-resized : (wanted : Wanted) (input : List ℕ) (cell : Position) → HasCell (cell_parts input) cell → text_at (kept_of wanted input) cell ≡ resized_text (resize_of wanted input cell.col) (text_at (cell_parts input) cell)
 unfolding kept_of kept_texts resize_of
 kept-resized wanted input cell inside =
     let style = wanted.style in

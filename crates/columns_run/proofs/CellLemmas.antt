@@ -9,10 +9,10 @@ use Rattle.ansi_scan.specs.Sequences.{NoneBroken, IsWhole}
 use Rattle.ansi_scan.proofs.Uniqueness.{pieces-ArePiecesOf}
 use Rattle.papergrid_picture.specs.Shown.{AreWholeTexts, IsWholeText as IsWholeCell, Styled}
 use Rattle.ansi_str_text.proofs.Utf8Pieces.{IsUtf8-shown_text}
-use Rattle.columns_run.specs.Rows.{line_feed, tab, stripped, without_empty_last, rows_of, row_texts, parts_at, without_bare_last, row_parts, cell_parts}
+use Rattle.columns_run.specs.Rows.{line_feed, tab, stripped, without_empty_last, rows_of, row_texts, parts_by_character, without_bare_last, row_parts, cell_parts}
 use Rattle.columns_run.specs.Layout.{characters_of, texts_of}
 use Rattle.columns_run.proofs.ShowLemmas.{characters_of-styled}
-use Rattle.columns_run.proofs.SplitLemmas.{styled_characters, IsWholeText, IsClosedPart, whole-closed, styled-parts_at, closed-parts_at}
+use Rattle.columns_run.proofs.SplitLemmas.{styled_characters, IsWholeText, IsClosedPart, whole-closed, styled-parts_by_character, closed-parts_by_character}
 use Rattle.columns_run.proofs.ItemLemmas.{AllByRecursion-keeps, AllByRecursion-map_of, map-same}
 
 pub whole_text : (text : List ℕ) → IsUtf8 text → IsWhole text → IsWholeText text
@@ -69,11 +69,11 @@ without_bare_last-keeps P (part ∷ next ∷ parts) all = (all.0, without_bare_l
 
 module _ (text : List ℕ) (whole : IsWholeText text) where
   pub closed_rows : AllByRecursion IsClosedPart (row_parts text)
-  closed_rows = without_bare_last-keeps IsClosedPart (parts_at line_feed text) (closed-parts_at line_feed text (lit< tt) whole)
+  closed_rows = without_bare_last-keeps IsClosedPart (parts_by_character line_feed text) (closed-parts_by_character line_feed text (lit< tt) whole)
 
   pub closed_cells : AllByRecursion (AllByRecursion IsClosedPart) (cell_parts text)
   closed_cells =
-      AllByRecursion-map_of IsClosedPart (AllByRecursion IsClosedPart) (parts_at tab) (λ row closed. closed-parts_at tab row (lit< tt) (whole-closed row closed)) (row_parts text) closed_rows
+      AllByRecursion-map_of IsClosedPart (AllByRecursion IsClosedPart) (parts_by_character tab) (λ row closed. closed-parts_by_character tab row (lit< tt) (whole-closed row closed)) (row_parts text) closed_rows
 
   pub whole_cells : AreWholeTexts (cell_parts text)
   whole_cells =
@@ -83,14 +83,14 @@ module _ (text : List ℕ) (whole : IsWholeText text) where
 
   styled-row_parts : map styled_characters (row_parts text) ≡ row_texts (λ x. x.0) (styled_characters text)
   styled-row_parts =
-      styled-without_bare_last (parts_at line_feed text) (closed-parts_at line_feed text (lit< tt) whole)
-      ∙ ap without_empty_last (styled-parts_at line_feed text (lit< tt) whole)
+      styled-without_bare_last (parts_by_character line_feed text) (closed-parts_by_character line_feed text (lit< tt) whole)
+      ∙ ap without_empty_last (styled-parts_by_character line_feed text (lit< tt) whole)
 
   pub styled-cell_parts : map (map styled_characters) (cell_parts text) ≡ rows_of (λ x. x.0) (styled_characters text)
   styled-cell_parts =
       let cells = slice_split (λ (x : Styled). x.0 == tab) in
-      map-map (map styled_characters) (parts_at tab) (row_parts text)
-      ∙ map-same IsClosedPart (λ row. map styled_characters (parts_at tab row)) (λ row. cells (styled_characters row)) (λ row closed. styled-parts_at tab row (lit< tt) (whole-closed row closed)) (row_parts text) closed_rows
+      map-map (map styled_characters) (parts_by_character tab) (row_parts text)
+      ∙ map-same IsClosedPart (λ row. map styled_characters (parts_by_character tab row)) (λ row. cells (styled_characters row)) (λ row closed. styled-parts_by_character tab row (lit< tt) (whole-closed row closed)) (row_parts text) closed_rows
       ∙ sym (map-map cells styled_characters (row_parts text))
       ∙ ap (map cells) styled-row_parts
 

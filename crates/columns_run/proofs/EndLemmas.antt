@@ -8,7 +8,7 @@ use Rattle.std.proofs.lemmas.List.{length-take, take-append-drop}
 use Rattle.std.proofs.lemmas.List.Sums.{prefix_len-le-length, prefix_len_stops}
 use Rattle.std.proofs.lemmas.Str.{IsCharBoundary-end, IsCharBoundary-before_ascii}
 use Rattle.std.specs.Str.{IsCharBoundary}
-use Rattle.ansi_scan.specs.Sequences.{escape, is_plain}
+use Rattle.ansi_scan.specs.Sequences.{escape, is_not_escape}
 use Rattle.ansi_scan.specs.Pieces.{pieces, text_len}
 use Rattle.ansi_scan.specs.Attributes.{Attributes}
 use Rattle.ansi_scan.proofs.Uniqueness.{pieces-joined}
@@ -43,19 +43,19 @@ cell_bytes : (xs : List ℕ) → list_all is_cell_text xs ≡ true → list_all 
 cell_bytes [] each = refl
 cell_bytes (x ∷ xs) each =
     let parts = and_parts (is_cell_text x) (list_all is_cell_text xs) each in
-    both_true (and_parts (is_plain x) (is_cell_byte x) parts.0).1 (cell_bytes xs parts.1)
+    both_true (and_parts (is_not_escape x) (is_cell_byte x) parts.0).1 (cell_bytes xs parts.1)
 
-run_tests : (x : ℕ) (xs : List ℕ) (plain other : Bool) → is_plain x ≡ plain → is_cell_text x ≡ other → prefix_len is_cell_text xs ≤ prefix_len is_plain xs → prefix_len is_cell_text (x ∷ xs) ≤ prefix_len is_plain (x ∷ xs)
+run_tests : (x : ℕ) (xs : List ℕ) (plain other : Bool) → is_not_escape x ≡ plain → is_cell_text x ≡ other → prefix_len is_cell_text xs ≤ prefix_len is_not_escape xs → prefix_len is_cell_text (x ∷ xs) ≤ prefix_len is_not_escape (x ∷ xs)
 run_tests x xs plain false e f others = let none = prefix_len-fail is_cell_text x xs f in omega (arith, none)
 run_tests x xs true true e f others =
     let here = prefix_len-pass is_cell_text x xs f in
-    let all = prefix_len-pass is_plain x xs e in
+    let all = prefix_len-pass is_not_escape x xs e in
     omega (arith, here, all, others)
 run_tests x xs false true e f others = let both : true ≡ false = sym f ∙ ap (λ t. t && is_cell_byte x) e in cc both
 
 cell_run : (t : List ℕ) → prefix_len is_cell_text t ≤ text_len t
 cell_run [] = omega arith
-cell_run (x ∷ xs) = run_tests x xs (is_plain x) (is_cell_text x) refl refl (cell_run xs)
+cell_run (x ∷ xs) = run_tests x xs (is_not_escape x) (is_cell_text x) refl refl (cell_run xs)
 
 stop_tests : (b : ℕ) (is_escape is_tab is_feed : Bool) → (b == escape) ≡ is_escape → (b == tab) ≡ is_tab → (b == line_feed) ≡ is_feed → is_cell_text b ≡ false → b < 128
 stop_tests b true is_tab is_feed e f g stop = let same = eqb-true b escape e in omega (arith, same)
@@ -143,7 +143,7 @@ module _ (rest : List ℕ) (style : Attributes) (behind : List ℕ) (after : Att
 -- what a text shows first, where it begins with no sequence
 pub shown_first : (b : ℕ) (bs : List ℕ) → begins_with_escape (b ∷ bs) ≡ false → stripped (b ∷ bs) ≡ b ∷ stripped bs
 shown_first b bs plain =
-    let some : 1 ≤ text_len (b ∷ bs) = (let one = prefix_len-pass is_plain b bs (ap not plain) in omega (arith, one)) in
+    let some : 1 ≤ text_len (b ∷ bs) = (let one = prefix_len-pass is_not_escape b bs (ap not plain) in omega (arith, one)) in
     sym (take-append-drop 1 (stripped (b ∷ bs)))
     ∙ ap (λ front. front ++ drop 1 (stripped (b ∷ bs))) (take-strip (b ∷ bs) 1 some)
     ∙ ap (λ bytes. b ∷ bytes) (sym (strip-from 1 (pieces (b ∷ bs))) ∙ ap strip (from-plain (b ∷ bs) 1 some))

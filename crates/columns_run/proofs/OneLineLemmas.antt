@@ -13,15 +13,15 @@ use Rattle.ansi_str_search.proofs.AllParts.{strip-styled_parts}
 use Rattle.ansi_str_search.proofs.StdSplits.{split_at_one_byte}
 use Rattle.grid_records_measure.specs.TextLines.{is_line_feed, line_feed, widest}
 use Rattle.columns_run.specs.Cells.{Line, shown, line_rows, part_line, rows_shown}
-use Rattle.columns_table.specs.Records.{IsMeasured, IsOneLine}
+use Rattle.columns_table.specs.Records.{KeepsWidth, IsOneLine}
 use Rattle.columns_table.specs.Rows.{cut}
-use Rattle.columns_run.specs.Rows.{tab, stripped, places, parts_at, row_parts, cell_parts}
+use Rattle.columns_run.specs.Rows.{tab, stripped, places, parts_by_character, row_parts, cell_parts}
 use Rattle.columns_table.specs.declared.rows.Rows.{Rows}
 use Rattle.columns_run.proofs.ItemLemmas.{AllByRecursion-append, AllByRecursion-map_of}
 use Rattle.columns_run.proofs.CellLemmas.{Fails, closed_rows, slice_split-fails, slice_split-keeps, without_bare_last-keeps}
 use Rattle.columns_table.proofs.RecordLemmas.{only_line}
 use Rattle.columns_run.proofs.PlaceLemmas.{AreMatches-places}
-use Rattle.columns_run.proofs.SplitLemmas.{IsWholeText, IsClosedPart, closed-parts_at, whole-closed}
+use Rattle.columns_run.proofs.SplitLemmas.{IsWholeText, IsClosedPart, closed-parts_by_character, whole-closed}
 
 -- ---- what a text without line feed shows
 
@@ -59,8 +59,8 @@ part-measured part (whole, one) =
 
 -- ---- the parts of a text
 
-stripped-parts_at : (c : ℕ) (text : List ℕ) → c < 128 → IsWholeText text → map stripped (parts_at c text) ≡ slice_split (λ b. b == c) (stripped text)
-stripped-parts_at c text ascii whole =
+stripped-parts_by_character : (c : ℕ) (text : List ℕ) → c < 128 → IsWholeText text → map stripped (parts_by_character c text) ≡ slice_split (λ b. b == c) (stripped text)
+stripped-parts_by_character c text ascii whole =
     let matches = places c (stripped text) in
     let are = AreMatches-places c (stripped text) ascii in
     strip-styled_parts (c ∷ []) text (pieces text) matches (ArePiecesOf-pieces text) whole.none_broken are
@@ -75,25 +75,25 @@ both : {A : Type 0} (P Q : A → Type 0) (xs : List A) → AllByRecursion P xs �
 both P Q [] first second = tt
 both P Q (x ∷ xs) first second = ((first.0, second.0), both P Q xs first.1 second.1)
 
-lines-one : (text : List ℕ) → IsWholeText text → AllByRecursion HasOneLine (parts_at line_feed text)
+lines-one : (text : List ℕ) → IsWholeText text → AllByRecursion HasOneLine (parts_by_character line_feed text)
 lines-one text whole =
-    of_images NoLineFeeds stripped (parts_at line_feed text)
-    (subst (AllByRecursion NoLineFeeds) (sym (stripped-parts_at line_feed text (lit< tt) whole)) (slice_split-fails is_line_feed (stripped text)))
+    of_images NoLineFeeds stripped (parts_by_character line_feed text)
+    (subst (AllByRecursion NoLineFeeds) (sym (stripped-parts_by_character line_feed text (lit< tt) whole)) (slice_split-fails is_line_feed (stripped text)))
 
-cells-one : (row : List ℕ) → IsWholeText row → HasOneLine row → AllByRecursion HasOneLine (parts_at tab row)
+cells-one : (row : List ℕ) → IsWholeText row → HasOneLine row → AllByRecursion HasOneLine (parts_by_character tab row)
 cells-one row whole one =
-    of_images NoLineFeeds stripped (parts_at tab row)
-    (subst (AllByRecursion NoLineFeeds) (sym (stripped-parts_at tab row (lit< tt) whole)) (slice_split-keeps (Fails is_line_feed) (λ b. b == tab) (stripped row) one))
+    of_images NoLineFeeds stripped (parts_by_character tab row)
+    (subst (AllByRecursion NoLineFeeds) (sym (stripped-parts_by_character tab row (lit< tt) whole)) (slice_split-keeps (Fails is_line_feed) (λ b. b == tab) (stripped row) one))
 
 rows-measured : (text : List ℕ) → IsWholeText text → AllByRecursion (AllByRecursion IsMeasuredLine) (line_rows text)
 rows-measured text whole =
     let rows = row_parts text in
-    let one = without_bare_last-keeps HasOneLine (parts_at line_feed text) (lines-one text whole) in
+    let one = without_bare_last-keeps HasOneLine (parts_by_character line_feed text) (lines-one text whole) in
     AllByRecursion-map_of (AllByRecursion (λ part. IsClosedPart part × HasOneLine part)) (AllByRecursion IsMeasuredLine) (map part_line)
     (λ cells each. AllByRecursion-map_of (λ part. IsClosedPart part × HasOneLine part) IsMeasuredLine part_line part-measured cells each)
     (cell_parts text)
-    (AllByRecursion-map_of (λ row. IsClosedPart row × HasOneLine row) (AllByRecursion (λ part. IsClosedPart part × HasOneLine part)) (parts_at tab)
-    (λ row known. both IsClosedPart HasOneLine (parts_at tab row) (closed-parts_at tab row (lit< tt) (whole-closed row known.0)) (cells-one row (whole-closed row known.0) known.1)) rows
+    (AllByRecursion-map_of (λ row. IsClosedPart row × HasOneLine row) (AllByRecursion (λ part. IsClosedPart part × HasOneLine part)) (parts_by_character tab)
+    (λ row known. both IsClosedPart HasOneLine (parts_by_character tab row) (closed-parts_by_character tab row (lit< tt) (whole-closed row known.0)) (cells-one row (whole-closed row known.0) known.1)) rows
     (both IsClosedPart HasOneLine rows (closed_rows text whole) one))
 
 -- ---- the cells of the rows
@@ -106,9 +106,9 @@ of_cut P (n ∷ ns) xs whole all =
     subst (AllByRecursion P) (take-append-drop n xs) (AllByRecursion-append P (take n xs) (drop n xs) all.0 (of_cut P ns (drop n xs) left all.1))
 
 pub cells-measured : (text : List ℕ) (rows : Rows) → IsWholeText text → sum (vec_items rows.counts) ≡ length (map shown rows.cells) → rows_shown rows ≡ line_rows text
-    → All IsMeasured rows.cells
+    → All KeepsWidth rows.cells
 cells-measured text rows whole counted are =
-    All-from_recursion IsMeasured rows.cells
+    All-from_recursion KeepsWidth rows.cells
     (of_images IsMeasuredLine shown rows.cells
     (of_cut IsMeasuredLine (vec_items rows.counts) (map shown rows.cells) counted
     (subst (AllByRecursion (AllByRecursion IsMeasuredLine)) (sym are) (rows-measured text whole))))

@@ -8,7 +8,7 @@ use Rattle.std.proofs.lemmas.Bool.Decides.{nat_tests}
 use Rattle.std.proofs.lemmas.List.Folds.{list_all-append}
 use Rattle.std.proofs.lemmas.List.{drop_more, drop_all, take_all, take_more, get_or-drop}
 use Rattle.std.proofs.lemmas.Bool.{and_parts}
-use Rattle.ansi_scan.specs.Sequences.{escape, is_plain}
+use Rattle.ansi_scan.specs.Sequences.{escape, is_not_escape}
 use Rattle.memchr.specs.Find.{is_byte3}
 use Rattle.ansi_str_text.specs.StyledText.{has_escape}
 use Rattle.ansi_str_text.proofs.LastLemmas.{has_escape-drop, has_escape-none}
@@ -134,7 +134,7 @@ Pass-other text end start count plain counts lines below pass no_tab no_line_fee
 -- bytes of the present cell
 cell_text : (b : ℕ) → is_cell_text b ≡ true → (b ≢ escape) × (b ≢ tab) × (b ≢ line_feed)
 cell_text b is =
-    let parts = and_parts (is_plain b) (is_cell_byte b) is in
+    let parts = and_parts (is_not_escape b) (is_cell_byte b) is in
     let others = and_parts (not (b == tab)) (not (b == line_feed)) parts.1 in
     (λ same. grind (arith, nat_tests), λ same. grind (arith, nat_tests), λ same. grind (arith, nat_tests))
 

@@ -35,7 +35,7 @@ use Rattle.papergrid_picture.proofs.ShownLemmas.{IsClosedPart, IsShown-space, li
 use Rattle.papergrid_picture.proofs.StrippedLemmas.{Leaves, Leaves-append, Leaves-character}
 use Rattle.papergrid_picture.specs.Blocks.{Fill, Glyph, Grid, Part, TextLine}
 use Rattle.papergrid_picture.specs.CellLines.{cell_lines, cell_measures, those}
-use Rattle.papergrid_picture.specs.Picture.{Piece, parts_of, picture_line}
+use Rattle.papergrid_picture.specs.Picture.{PlacedPart, parts_of, picture_line}
 use Rattle.papergrid_picture.specs.Reading.{Reading, part_items}
 use Rattle.papergrid_picture.specs.Shown.{AreWholeTexts, IsShown, IsWholeText as IsWholeCell, ShowsOnly}
 use Rattle.papergrid_picture.specs.Tables.{in_bytes, table_grid}
@@ -159,7 +159,7 @@ module _ (style : Compact) (texts : List (List (List ℕ))) (colors : Position �
       ∙ ap (λ (shown : List ℕ). measure (chars shown)) (colored-same (colors cell) bytes (silent cell) (line-unbroken (text_at texts cell) k (whole-at cell))).one.left
       ∙ line-measured (text_at texts cell) k (whole-at cell)
 
-  pieces-of : (P : Part → Type 0) (pieces : List Piece) → AllByRecursion P (parts_of pieces) → AllByRecursion (λ piece. P piece.part) pieces
+  pieces-of : (P : Part → Type 0) (pieces : List PlacedPart) → AllByRecursion P (parts_of pieces) → AllByRecursion (λ piece. P piece.part) pieces
   pieces-of P [] all = tt
   pieces-of P (piece ∷ pieces) all = (all.0, pieces-of P pieces all.1)
 
@@ -170,7 +170,7 @@ module _ (style : Compact) (texts : List (List (List ℕ))) (colors : Position �
       → ((cell : Position) (k : ℕ) → P (record { width = slice_index (grid.measures cell) k; content = TextLine cell k; color = None }))
       → ShowsOnly C look → (y : ℕ) → All (λ piece. P piece.part) (picture_line grid y)
   each-piece P C space fills glyphs texts shown y =
-      All-from_recursion (λ (piece : Piece). P piece.part) (picture_line grid y)
+      All-from_recursion (λ (piece : PlacedPart). P piece.part) (picture_line grid y)
       (pieces-of P (picture_line grid y)
       (parts-hold P C Anything grid space (λ width c color of_c _. fills width c color of_c) (λ width c color of_c _. glyphs width c color of_c) texts shown (colored-anyhow look) y))
 
@@ -191,7 +191,7 @@ module _ (style : Compact) (texts : List (List (List ℕ))) (colors : Position �
       (colored-same (colors cell) bytes (silent cell) (line-unbroken (text_at texts cell) k (whole-at cell))))
       shown (colored-anyhow look) y
 
-  pieces-same : (found : List Piece) → AllByRecursion IsSamePart (parts_of found) → AreSame (flat_map (λ piece. part_items reading piece.part) found) (flat_map (λ piece. part_items bare_reading piece.part) found)
+  pieces-same : (found : List PlacedPart) → AllByRecursion IsSamePart (parts_of found) → AreSame (flat_map (λ piece. part_items reading piece.part) found) (flat_map (λ piece. part_items bare_reading piece.part) found)
   pieces-same [] all = AreSame-nothing
   pieces-same (piece ∷ found) all =
       AreSame-append (part_items reading piece.part) (flat_map (λ piece. part_items reading piece.part) found) (part_items bare_reading piece.part) (flat_map (λ piece. part_items bare_reading piece.part) found) all.0

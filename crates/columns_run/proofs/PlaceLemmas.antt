@@ -7,7 +7,7 @@ use Rattle.std.proofs.lemmas.Str.{IsCharBoundary-before_ascii}
 use Rattle.std.proofs.lemmas.List.{drop-drop, drop_all, get_or-drop}
 use Rattle.std.proofs.lemmas.List.Splits.{slice_split-cons_yes, slice_split-cons_no}
 use Rattle.ansi_scan.specs.declared.items.Kind.TheVariants.{Text}
-use Rattle.ansi_scan.specs.Sequences.{Piece, escape, is_plain, ArePiecesOf, IsWhole}
+use Rattle.ansi_scan.specs.Sequences.{Piece, escape, is_not_escape, ArePiecesOf, IsWhole}
 use Rattle.ansi_scan.specs.Pieces.{pieces}
 use Rattle.ansi_scan.specs.Attributes.{Attributes, plain_attributes}
 use Rattle.ansi_scan.specs.StartsAndEnds.{start_bytes, start_sequences, end_bytes, end_sequences}
@@ -15,7 +15,7 @@ use Rattle.ansi_scan.proofs.Uniqueness.{pieces-ArePiecesOf}
 use Rattle.ansi_str.specs.StyledText.{has_escape, strip}
 use Rattle.ansi_str.specs.Parts.{split_part}
 use Rattle.ansi_str.specs.Matches.{Occurs, AreMatches, AreMatchesFrom, bounds_between, split_bounds, text_parts, styled_parts}
-use Rattle.columns_run.specs.Rows.{line_feed, tab, stripped, places_from, places, parts_at, without_empty_last, without_bare_last, row_parts, cell_parts, row_texts, rows_of}
+use Rattle.columns_run.specs.Rows.{line_feed, tab, stripped, places_from, places, parts_by_character, without_empty_last, without_bare_last, row_parts, cell_parts, row_texts, rows_of}
 use Rattle.columns_run.proofs.RowLemmas.{onto_front, slice_split-parts}
 use Rattle.columns_run.proofs.PassLemmas.{cell-empty, cell-more}
 use Rattle.columns_run.proofs.ItemLemmas.{AllByRecursion-map_of, map-same}
@@ -142,11 +142,11 @@ not_escape : (is_escape others : Bool) → (is_escape || others) ≡ false → (
 not_escape true others e = absurd (cc e)
 not_escape false others e = (refl, e)
 
-plain_bytes : (bytes : List ℕ) → has_escape bytes ≡ false → list_all is_plain bytes ≡ true
+plain_bytes : (bytes : List ℕ) → has_escape bytes ≡ false → list_all is_not_escape bytes ≡ true
 plain_bytes [] none = refl
 plain_bytes (b ∷ bs) none =
     let parts = not_escape (b == escape) (has_escape bs) none in
-    ap (λ t. t && list_all is_plain bs) parts.0 ∙ plain_bytes bs parts.1
+    ap (λ t. t && list_all is_not_escape bs) parts.0 ∙ plain_bytes bs parts.1
 
 abbrev text_piece : List ℕ → Piece
 text_piece bytes = record { kind = Text; bytes = bytes }
@@ -221,8 +221,8 @@ split_part-plain [] none bound = ap (split_part bound.0 bound.1) pieces-none ∙
 split_part-plain (b ∷ bs) none bound = ap (split_part bound.0 bound.1) (pieces-some b bs none) ∙ split_part-text (b ∷ bs) bound.0 bound.1
 
 -- the parts of a text without ESC are slices of it
-pub parts_at-without_escape : (c : ℕ) (text : List ℕ) → has_escape text ≡ false → parts_at c text ≡ slice_split (λ b. b == c) text
-parts_at-without_escape c text none =
+pub parts_by_character-without_escape : (c : ℕ) (text : List ℕ) → has_escape text ≡ false → parts_by_character c text ≡ slice_split (λ b. b == c) text
+parts_by_character-without_escape c text none =
     ap (λ shown. styled_parts (pieces text) (split_bounds (c ∷ []) shown (places c shown))) (stripped-without_escape text none)
     ∙ (λ n. map (λ bound. split_part-plain text none bound n) (split_bounds (c ∷ []) text (places c text)))
     ∙ text_parts-split c text
@@ -283,11 +283,11 @@ module _ (text : List ℕ) (none : has_escape text ≡ false) where
 
   row_parts-plain : row_parts text ≡ row_texts (λ b. b) text
   row_parts-plain =
-      ap without_bare_last (parts_at-without_escape line_feed text none)
+      ap without_bare_last (parts_by_character-without_escape line_feed text none)
       ∙ without_bare_last-plain (slice_split (λ b. b == line_feed) text) (NoEscape-parts line_feed text none)
 
   -- the rows and cells of a text without ESC are slices of it
   pub cell_parts-plain : cell_parts text ≡ rows_of (λ b. b) text
   cell_parts-plain =
-      ap (map (parts_at tab)) row_parts-plain
-      ∙ map-same NoEscape (parts_at tab) (slice_split (λ b. b == tab)) (λ row plain. parts_at-without_escape tab row plain) (row_texts (λ b. b) text) plain_rows
+      ap (map (parts_by_character tab)) row_parts-plain
+      ∙ map-same NoEscape (parts_by_character tab) (slice_split (λ b. b == tab)) (λ row plain. parts_by_character-without_escape tab row plain) (row_texts (λ b. b) text) plain_rows

@@ -13,7 +13,7 @@ use Rattle.ansi_str.specs.StyledText.{IsClosed, styled}
 use Rattle.ansi_str.specs.Lines.{IsClosedText}
 use Rattle.ansi_str_search.proofs.Utf8Lemmas.{All-closed, All-utf8}
 use Rattle.ansi_str_search.proofs.CutLemmas.{shown-parts}
-use Rattle.columns_run.specs.Rows.{stripped, places, parts_at}
+use Rattle.columns_run.specs.Rows.{stripped, places, parts_by_character}
 use Rattle.columns_run.proofs.PlaceLemmas.{AreMatches-places}
 
 -- the characters that a text shows, each with its style
@@ -52,14 +52,14 @@ both (part ∷ parts) utf8 closed =
     )
 
 module _ (c : ℕ) (text : List ℕ) (ascii : c < 128) (whole : IsWholeText text) where
-  pub styled-parts_at : map styled_characters (parts_at c text) ≡ slice_split (λ x. x.0 == c) (styled_characters text)
-  styled-parts_at =
+  pub styled-parts_by_character : map styled_characters (parts_by_character c text) ≡ slice_split (λ x. x.0 == c) (styled_characters text)
+  styled-parts_by_character =
       shown-parts c text (pieces text) ascii whole.utf8 (ArePiecesOf-pieces text) whole.none_broken (places c (stripped text)) (AreMatches-places c (stripped text) ascii)
 
-  pub closed-parts_at : AllByRecursion IsClosedPart (parts_at c text)
-  closed-parts_at =
+  pub closed-parts_by_character : AllByRecursion IsClosedPart (parts_by_character c text)
+  closed-parts_by_character =
       let matches = places c (stripped text) in
       let are = AreMatches-places c (stripped text) ascii in
-      both (parts_at c text)
+      both (parts_by_character c text)
       (All-utf8 (c ∷ []) text (pieces text) matches (ArePiecesOf-pieces text) are whole.utf8 (IsUtf8-one c ascii))
       (All-closed (c ∷ []) text (pieces text) matches (ArePiecesOf-pieces text) are whole.none_broken)

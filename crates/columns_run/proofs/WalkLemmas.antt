@@ -5,7 +5,7 @@ use Rattle.std.specs.List.{prefix_len}
 use Rattle.std.proofs.lemmas.Bool.Decides.{nat_tests}
 use Rattle.std.proofs.lemmas.List.{drop-append-le, drop_all}
 use Rattle.std.proofs.lemmas.List.Sums.{prefix_len-le-length}
-use Rattle.ansi_scan.specs.Sequences.{Piece, joined, EachStands, IsWhole, is_plain}
+use Rattle.ansi_scan.specs.Sequences.{Piece, joined, EachStands, IsWhole, is_not_escape}
 use Rattle.ansi_scan.specs.Joining.{is_text_kind}
 use Rattle.ansi_scan.specs.Pieces.{pieces, text_len}
 use Rattle.ansi_scan.specs.Attributes.{Attributes, plain_attributes}
@@ -82,7 +82,7 @@ module _ (rest : List ℕ) (style : Attributes) (end : List ℕ) (end_style : At
       where
         by : (end : List ℕ) → 0 < length end → begins_with_escape end ≡ false → 1 ≤ text_len end
         by [] some plain = absurd (omega arith)
-        by (b ∷ bs) some plain = let one = prefix_len-pass is_plain b bs (ap not plain) in omega (arith, one)
+        by (b ∷ bs) some plain = let one = prefix_len-pass is_not_escape b bs (ap not plain) in omega (arith, one)
 
     cell-there : pieces (drop 1 end) ≡ from_place (n + 1) (pieces rest)
     cell-there =

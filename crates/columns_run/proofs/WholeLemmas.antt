@@ -4,7 +4,7 @@ use Rattle.std.specs.List.{prefix_len, list_all}
 use Rattle.std.proofs.lemmas.Bool.{and_parts}
 use Rattle.std.specs.Cmp.Derive.{both_true}
 use Rattle.std.proofs.lemmas.List.{take-append-drop}
-use Rattle.ansi_scan.specs.Sequences.{Piece, NoneBroken, IsWhole, is_plain}
+use Rattle.ansi_scan.specs.Sequences.{Piece, NoneBroken, IsWhole, is_not_escape}
 use Rattle.ansi_scan.specs.Pieces.{pieces}
 use Rattle.ansi_scan.specs.declared.items.Kind.TheVariants.{Broken}
 use Rattle.ansi_scan.proofs.Existence.{ArePiecesOf-pieces}
@@ -35,11 +35,11 @@ whole-nothing (b ∷ bs) none = absurd (omega (arith, none))
 pub whole-from : (text rest : List ℕ) (n : ℕ) → pieces rest ≡ from_place n (pieces text) → IsWhole text → IsWhole rest
 whole-from text rest n there whole = whole-pieces rest (subst NoneBroken (sym there) (NoneBroken-from n (pieces text) (pieces-whole text whole)))
 
-pub plain_bytes : (xs : List ℕ) → list_all is_cell_text xs ≡ true → list_all is_plain xs ≡ true
+pub plain_bytes : (xs : List ℕ) → list_all is_cell_text xs ≡ true → list_all is_not_escape xs ≡ true
 plain_bytes [] each = refl
 plain_bytes (x ∷ xs) each =
     let parts = and_parts (is_cell_text x) (list_all is_cell_text xs) each in
-    both_true (and_parts (is_plain x) (is_cell_byte x) parts.0).0 (plain_bytes xs parts.1)
+    both_true (and_parts (is_not_escape x) (is_cell_byte x) parts.0).0 (plain_bytes xs parts.1)
 
 -- behind bytes of a cell
 module _ (rest left : List ℕ) (is_left : left ≡ drop (prefix_len is_cell_text rest) rest) where

@@ -1,7 +1,7 @@
 -- Where a cell of a text ends: before the next tab or line feed that the text shows, or at the end of the text.
 use Rattle.std.specs.Prelude.{◌≡◌, ◌==◌, ◌++◌, ◌&&◌, not, ℕ, Bool, false, true, length, IsTrue, List}
 use Rattle.std.specs.List.{prefix_len}
-use Rattle.ansi_scan.specs.Sequences.{NoneBroken, is_plain}
+use Rattle.ansi_scan.specs.Sequences.{NoneBroken, is_not_escape}
 use Rattle.ansi_scan.specs.Pieces.{pieces}
 use Rattle.ansi_scan.specs.Attributes.{Attributes}
 use Rattle.ansi_str.specs.StyledText.{style_after_all}
@@ -16,7 +16,7 @@ is_cell_byte b = not (b == tab) && not (b == line_feed)
 
 -- nor the start of a sequence
 abbrev pub is_cell_text : ℕ → Bool
-is_cell_text b = is_plain b && is_cell_byte b
+is_cell_text b = is_not_escape b && is_cell_byte b
 
 -- how many bytes a text shows before the first tab and the first line feed
 abbrev pub cell_size : List ℕ → ℕ

@@ -13,7 +13,7 @@ use Rattle.grid_config_values.specs.declared.position.Position.{Position}
 use Rattle.grid_records_measure.specs.Measures.{columns, measure}
 use Rattle.papergrid_colors.specs.ColoredLines.{with_painted_lines}
 use Rattle.papergrid_picture.specs.Blocks.{Content, Fill, Glyph, Grid, TextLine}
-use Rattle.papergrid_picture.specs.Picture.{Piece, picture_line}
+use Rattle.papergrid_picture.specs.Picture.{PlacedPart, picture_line}
 use Rattle.papergrid_picture.specs.Reading.{part_items}
 use Rattle.papergrid_picture.specs.Shown.{Styled, character_of}
 use Rattle.papergrid_picture.specs.Tables.{in_bytes, in_color, table_grid}
@@ -50,7 +50,7 @@ colored_line (Some color) (b ∷ bs) = in_color color (b ∷ bs)
 
 -- the bytes of a piece: a glyph and a fill have those of their character in each of their columns, and a line of a cell its own
 -- in the cell's colour
-unfoldable pub piece_bytes : Wanted → List ℕ → Piece → List ℕ
+unfoldable pub piece_bytes : Wanted → List ℕ → PlacedPart → List ℕ
 piece_bytes wanted input piece = part_items (with_painted_lines (in_bytes (compact_look wanted.style) (kept_of wanted input)) (cell_color wanted.colors)) piece.part
 
 -- the columns of what content shows: a glyph and a fill have those of their characters, one by one, and a line of a cell what it
@@ -60,7 +60,7 @@ content_columns (Fill c) bytes = columns (shown_chars bytes)
 content_columns (Glyph c) bytes = columns (shown_chars bytes)
 content_columns (TextLine cell k) bytes = measure (shown_chars bytes)
 
-unfoldable pub piece_columns : Wanted → List ℕ → Piece → ℕ
+unfoldable pub piece_columns : Wanted → List ℕ → PlacedPart → ℕ
 piece_columns wanted input piece = content_columns piece.part.content (piece_bytes wanted input piece)
 
 -- line y of the table

@@ -39,8 +39,8 @@ abbrev pub places : ℕ → List ℕ → List ℕ
 places byte text = places_from byte 0 text
 
 -- the parts of a text between the places at which an ASCII character stands among those that it shows
-abbrev pub parts_at : ℕ → List ℕ → List (List ℕ)
-parts_at character text =
+abbrev pub parts_by_character : ℕ → List ℕ → List (List ℕ)
+parts_by_character character text =
     styled_parts (pieces text) (split_bounds (character ∷ []) (stripped text) (places character (stripped text)))
 
 -- the parts, but for a last one that shows nothing
@@ -51,8 +51,8 @@ without_bare_last (part ∷ next ∷ parts) = part ∷ without_bare_last (next �
 
 -- what stands between line feeds, but for a last row without characters
 abbrev pub row_parts : List ℕ → List (List ℕ)
-row_parts text = without_bare_last (parts_at line_feed text)
+row_parts text = without_bare_last (parts_by_character line_feed text)
 
 -- the cells of each row: what stands between its tabs
 abbrev pub cell_parts : List ℕ → List (List (List ℕ))
-cell_parts text = map (parts_at tab) (row_parts text)
+cell_parts text = map (parts_by_character tab) (row_parts text)

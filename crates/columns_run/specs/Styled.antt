@@ -10,8 +10,8 @@ use Rattle.columns_run.specs.Rows.{line_feed, stripped}
 use Rattle.columns_run.specs.declared.styled_rows.StyledCells.{StyledCells}
 
 -- the cells as lines
-abbrev pub cell_lines : StyledCells → List Line
-cell_lines cells = map shown (cells_in (string_bytes cells.text) cells.rows.ends)
+abbrev pub styled_cell_lines : StyledCells → List Line
+styled_cell_lines cells = map shown (cells_in (string_bytes cells.text) cells.rows.ends)
 
 -- what stands in a text from here, where this style is known, to an end, where that style is open: a part that opens and ends its own styles
 abbrev pub part_between : List ℕ → Attributes → List ℕ → Attributes → List ℕ

@@ -17,10 +17,10 @@ ghost use Rattle.columns_options.specs.Settings.{default_settings};
 ghost use Rattle.grid_config_values.specs.declared.position.Position.{Position as Cell};
 ghost use Rattle.grid_records_measure.specs.Measures.{measure};
 ghost use Rattle.grid_records_measure.specs.TextLines.{text_lines};
-ghost use Rattle.grid_records_estimate.specs.Rows.{IsInside, text_at};
+ghost use Rattle.grid_records_estimate.specs.Rows.{HasCell, text_at};
 ghost use Rattle.papergrid_picture.specs.Blocks.{Fill, Glyph, TextLine, text_line};
 ghost use Rattle.papergrid_picture.specs.Frame.{block_width, column_count, line_count, row_count, total_width, track_at};
-ghost use Rattle.papergrid_picture.specs.Picture.{Piece as TablePiece, at, block_pieces, laid, picture_line};
+ghost use Rattle.papergrid_picture.specs.Picture.{PlacedPart as TablePiece, at, block_pieces, laid, picture_line};
 ghost use Rattle.papergrid_picture.specs.Shown.{Styled, character_of, in_plain};
 ghost use Rattle.papergrid_picture.specs.Tiling.{IsLineOf, ShowsAllLines, ShowsBlock, Tiles};
 ghost use Rattle.columns_run.specs.Rows.{cell_parts, line_feed, places, rows_of, stripped};
@@ -169,7 +169,7 @@ pub fn cell_lines_keep_their_bytes()
         piece_bytes wanted input piece ≡ flat_map encode_utf8 (replicate piece.part.width c) }
     ensures glyphs { (wanted : Wanted) (input : List ℕ) (piece : TablePiece) (c : ℕ) → piece.part.content ≡ Glyph c →
         piece_bytes wanted input piece ≡ flat_map encode_utf8 (replicate piece.part.width c) }
-    ensures kept { (wanted : Wanted) (input : List ℕ) (cell : Cell) → IsInside (cell_parts input) cell →
+    ensures kept { (wanted : Wanted) (input : List ℕ) (cell : Cell) → HasCell (cell_parts input) cell →
         text_at (kept_of wanted input) cell ≡ resized_text (resize_of wanted input cell.col) (text_at (cell_parts input) cell) }
 {}
 

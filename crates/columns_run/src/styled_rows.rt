@@ -8,7 +8,7 @@ ghost use Rattle.ansi_str_search.specs.Walking.{AreFirstAndRest, begins_with_esc
 ghost use Rattle.columns_run.specs.Rows.{line_feed, stripped};
 ghost use Rattle.columns_run.specs.Cells.{line_rows};
 ghost use Rattle.columns_run.specs.Ends.{is_cell_text, EndsCell, Passes};
-ghost use Rattle.columns_run.specs.Styled.{AddsCell, cell_lines, part_between};
+ghost use Rattle.columns_run.specs.Styled.{AddsCell, styled_cell_lines, part_between};
 ghost use Rattle.columns_table.specs.Ends.{AreCellEnds};
 ghost use Rattle.columns_table.specs.Rows.{cut};
 ghost use Rattle.grid_records_measure.specs.Measures.{are_printable, measure};
@@ -50,7 +50,7 @@ pub fn styled_cells(alloc: Global, text: &str) -> Result<Option<StyledCells>, Al
     ensures whole { IfOk result (λ found. IsSome found ↔ IsWhole text.now) }
     ensures fit { IfOk result (λ found. IfSome found (λ cells. AreCellEnds (string_bytes cells.text) cells.rows.ends)) }
     ensures ended { IfOk result (λ found. IfSome found (λ cells. cells.rows.begun ≡ 0)) }
-    ensures cells { IfOk result (λ found. IfSome found (λ cells. cut cells.rows.counts (cell_lines cells) ≡ line_rows text.now)) }
+    ensures cells { IfOk result (λ found. IfSome found (λ cells. cut cells.rows.counts (styled_cell_lines cells) ≡ line_rows text.now)) }
 {
     let mut found = StyledCells {
         text: String::new(alloc),

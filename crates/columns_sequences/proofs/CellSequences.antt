@@ -22,7 +22,7 @@ use Rattle.ansi_str_search.proofs.SliceLemmas.{strip-dressed_pieces}
 use Rattle.ansi_str_text.proofs.Stripping.{strip-without_escape}
 use Rattle.ansi_str_text.proofs.Utf8Pieces.{IsUtf8-shown_text}
 use Rattle.grid_records_measure.specs.Cutting.{lacking, replacement}
-use Rattle.grid_records_measure.specs.Filling.{behind_front, front}
+use Rattle.grid_records_measure.specs.Filling.{behind_front, fitting_front}
 use Rattle.grid_records_measure.specs.TextLines.{line_feed, text_height, text_lines, text_width}
 use Rattle.grid_records_measure.proofs.LineLemmas.{lines-joined}
 use Rattle.grid_records_measure.proofs.TextLineLemmas.{length-text_lines, text_lines-are}
@@ -122,8 +122,8 @@ module _ (style : Attributes) (is : IsRendition style) (slice : List Piece) (eac
             subst (λ (lines : List (List ℕ)). texts_take lines ≤ taken_by slice + 243 * length lines) (sym (nothing-broken width keep_words bare)) (omega (arith, here))
       ]
 
-  pub front-taken : (n k : ℕ) → taken_by (pieces (cut_part 0 n all ++ encode_utf8_all (replicate k replacement))) ≤ taken_by slice + 243
-  front-taken n k =
+  pub fitting_front-taken : (n k : ℕ) → taken_by (pieces (cut_part 0 n all ++ encode_utf8_all (replicate k replacement))) ≤ taken_by slice + 243
+  fitting_front-taken n k =
       let marks = encode_utf8_all (replicate k replacement) in
       omega (arith, taken-both (cut_part 0 n all) marks (cut-whole style is slice each whole n), free-taken marks (free-marks k), first-taken style is slice each whole n, taken-through n slice)
 
@@ -226,11 +226,11 @@ module _ (text : List ℕ) (whole : NoneBroken (pieces text)) (a b : ℕ) (order
     unfolding cut_at
     cut-taken width =
         let characters = chars (strip (pieces cell)) in
-        let kept = front width 0 characters in
+        let kept = fitting_front width 0 characters in
         let n = length (encode_utf8_all kept) in
         let k = lacking width kept (behind_front width 0 characters) in
         subst (λ (ps : List Piece). taken_by (pieces (cut_part 0 n ps ++ encode_utf8_all (replicate k replacement))) ≤ taken_by slice_of + 243) (sym cell-is)
-        (front-taken style_of style-is slice_of slice-stand slice-whole n k)
+        (fitting_front-taken style_of style-is slice_of slice-stand slice-whole n k)
 
     lines-taken : (resize : Resize) → texts_take (lines_of resize cell) ≤ taken_by slice_of + 243 * length (lines_of resize cell)
     lines-taken Keep = omega (arith, whole-taken)

@@ -6,11 +6,11 @@ use Rattle.ansi_scan.proofs.Existence.{ArePiecesOf-pieces}
 use Rattle.ansi_str_search.proofs.AllParts.{strip-styled_parts}
 use Rattle.ansi_str_search.proofs.StdSplits.{split_at_one_byte}
 use Rattle.grid_records_measure.specs.TextLines.{is_line_feed, line_feed}
-use Rattle.columns_run.specs.Rows.{cell_parts, parts_at, places, row_parts, stripped, tab}
+use Rattle.columns_run.specs.Rows.{cell_parts, parts_by_character, places, row_parts, stripped, tab}
 use Rattle.columns_run.proofs.CellLemmas.{Fails, closed_rows, slice_split-fails, slice_split-keeps, without_bare_last-keeps}
 use Rattle.columns_run.proofs.ItemLemmas.{AllByRecursion-map_of}
 use Rattle.columns_run.proofs.PlaceLemmas.{AreMatches-places}
-use Rattle.columns_run.proofs.SplitLemmas.{IsClosedPart, IsWholeText, closed-parts_at, whole-closed}
+use Rattle.columns_run.proofs.SplitLemmas.{IsClosedPart, IsWholeText, closed-parts_by_character, whole-closed}
 use Rattle.columns_sequences.proofs.CellSequences.{IsOneLine}
 
 abbrev NoLineFeeds : List ℕ → Type 0
@@ -23,7 +23,7 @@ no_feed : (bytes : List ℕ) → NoLineFeeds bytes → list_any (λ byte. byte =
 no_feed [] none = refl
 no_feed (b ∷ bs) none = ap (λ t. t || list_any (λ byte. byte == 0x0a) bs) none.0 ∙ no_feed bs none.1
 
-stripped-parts : (c : ℕ) (text : List ℕ) → c < 128 → IsWholeText text → map stripped (parts_at c text) ≡ slice_split (λ b. b == c) (stripped text)
+stripped-parts : (c : ℕ) (text : List ℕ) → c < 128 → IsWholeText text → map stripped (parts_by_character c text) ≡ slice_split (λ b. b == c) (stripped text)
 stripped-parts c text ascii whole =
     let matches = places c (stripped text) in
     let are = AreMatches-places c (stripped text) ascii in
@@ -37,15 +37,15 @@ both : {A : Type 0} (P Q : A → Type 0) (xs : List A) → AllByRecursion P xs �
 both P Q [] first second = tt
 both P Q (x ∷ xs) first second = ((first.0, second.0), both P Q xs first.1 second.1)
 
-cells-one : (row : List ℕ) → IsWholeText row → HasOneLine row → AllByRecursion HasOneLine (parts_at tab row)
+cells-one : (row : List ℕ) → IsWholeText row → HasOneLine row → AllByRecursion HasOneLine (parts_by_character tab row)
 cells-one row whole one =
-    of_images NoLineFeeds stripped (parts_at tab row)
+    of_images NoLineFeeds stripped (parts_by_character tab row)
     (subst (AllByRecursion NoLineFeeds) (sym (stripped-parts tab row (lit< tt) whole)) (slice_split-keeps (Fails is_line_feed) (λ b. b == tab) (stripped row) one))
 
 module _ (text : List ℕ) (whole : IsWholeText text) where
-  lines-one : AllByRecursion HasOneLine (parts_at line_feed text)
+  lines-one : AllByRecursion HasOneLine (parts_by_character line_feed text)
   lines-one =
-      of_images NoLineFeeds stripped (parts_at line_feed text)
+      of_images NoLineFeeds stripped (parts_by_character line_feed text)
       (subst (AllByRecursion NoLineFeeds) (sym (stripped-parts line_feed text (lit< tt) whole)) (slice_split-fails is_line_feed (stripped text)))
 
   part-one : (part : List ℕ) → IsClosedPart part × HasOneLine part → IsOneLine part
@@ -54,10 +54,10 @@ module _ (text : List ℕ) (whole : IsWholeText text) where
     line = record { pieces = pieces part; of_line = ArePiecesOf-pieces part; closed = is.0.closed; one_line = no_feed (stripped part) is.1 };
   }
 
-  row-one : (row : List ℕ) → IsClosedPart row × HasOneLine row → AllByRecursion IsOneLine (parts_at tab row)
+  row-one : (row : List ℕ) → IsClosedPart row × HasOneLine row → AllByRecursion IsOneLine (parts_by_character tab row)
   row-one row is =
-      let cells = both IsClosedPart HasOneLine (parts_at tab row) (closed-parts_at tab row (lit< tt) (whole-closed row is.0)) (cells-one row (whole-closed row is.0) is.1) in
-      each (parts_at tab row) cells
+      let cells = both IsClosedPart HasOneLine (parts_by_character tab row) (closed-parts_by_character tab row (lit< tt) (whole-closed row is.0)) (cells-one row (whole-closed row is.0) is.1) in
+      each (parts_by_character tab row) cells
     where
       each : (parts : List (List ℕ)) → AllByRecursion (λ part. IsClosedPart part × HasOneLine part) parts → AllByRecursion IsOneLine parts
       each [] all = tt
@@ -65,5 +65,5 @@ module _ (text : List ℕ) (whole : IsWholeText text) where
 
   pub cells-are_lines : AllByRecursion (AllByRecursion IsOneLine) (cell_parts text)
   cells-are_lines =
-      AllByRecursion-map_of (λ row. IsClosedPart row × HasOneLine row) (AllByRecursion IsOneLine) (parts_at tab) row-one (row_parts text)
-      (both IsClosedPart HasOneLine (row_parts text) (closed_rows text whole) (without_bare_last-keeps HasOneLine (parts_at line_feed text) lines-one))
+      AllByRecursion-map_of (λ row. IsClosedPart row × HasOneLine row) (AllByRecursion IsOneLine) (parts_by_character tab) row-one (row_parts text)
+      (both IsClosedPart HasOneLine (row_parts text) (closed_rows text whole) (without_bare_last-keeps HasOneLine (parts_by_character line_feed text) lines-one))

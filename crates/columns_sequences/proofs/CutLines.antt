@@ -19,7 +19,7 @@ use Rattle.ansi_str_search.proofs.DressedLemmas.{ArePiecesOf-dressed, EachStands
 use Rattle.ansi_str_search.proofs.SliceLemmas.{strip-dressed_pieces, strip-through}
 use Rattle.ansi_str_text.proofs.Stripping.{strip-without_escape}
 use Rattle.grid_records_measure.specs.Cutting.{lacking, replacement}
-use Rattle.grid_records_measure.specs.Filling.{behind_front, front}
+use Rattle.grid_records_measure.specs.Filling.{behind_front, fitting_front}
 use Rattle.grid_records_measure.proofs.CutLemmas.{cut_at-meets}
 use Rattle.grid_records_measure.proofs.ShownCuts.{cut-shows}
 use Rattle.papergrid_picture.proofs.StrippedLemmas.{Leaves, Leaves-append, none-broken}
@@ -40,16 +40,16 @@ module _ (ps : List Piece) (stand : EachStands ps) (whole : NoneBroken ps) (n : 
   abbrev inner : List Piece
   inner = through_place n ps
 
-  front-pieces : pieces (cut_part 0 n ps) ≡ dressed_pieces plain_attributes inner
-  front-pieces =
+  fitting_front-pieces : pieces (cut_part 0 n ps) ≡ dressed_pieces plain_attributes inner
+  fitting_front-pieces =
       ap pieces (first_part-slice n ps)
       ∙ pieces-ArePiecesOf (dressed plain_attributes inner) (dressed_pieces plain_attributes inner)
       (ArePiecesOf-dressed plain_attributes inner IsRendition-plain (EachStands-through n ps stand whole) (NoneBroken-through n ps whole))
 
-  front-leaves : Leaves (cut_part 0 n ps) (take n (strip ps))
-  front-leaves = record {
-    whole = subst NoneBroken (sym front-pieces) (IsClosed-dressed plain_attributes inner IsRendition-plain (NoneBroken-through n ps whole)).none_broken;
-    left = ap strip front-pieces ∙ strip-dressed_pieces plain_attributes inner ∙ strip-through n ps;
+  fitting_front-leaves : Leaves (cut_part 0 n ps) (take n (strip ps))
+  fitting_front-leaves = record {
+    whole = subst NoneBroken (sym fitting_front-pieces) (IsClosed-dressed plain_attributes inner IsRendition-plain (NoneBroken-through n ps whole)).none_broken;
+    left = ap strip fitting_front-pieces ∙ strip-dressed_pieces plain_attributes inner ∙ strip-through n ps;
   }
 
 marks-leave : (n : ℕ) → Leaves (encode_utf8_all (replicate n replacement)) (encode_utf8_all (replicate n replacement))
@@ -68,11 +68,11 @@ cut-closed_line width cell utf8 closed =
     let line : feeds (strip ps) ≡ false = subst (λ (qs : List Piece). feeds (strip qs) ≡ false) (sym same) closed.one_line in
     let of_text = ArePiecesOf-pieces cell in
     let out = cut_at width cell in
-    let kept = front width 0 (chars (strip ps)) in
+    let kept = fitting_front width 0 (chars (strip ps)) in
     let n = length (encode_utf8_all kept) in
     let k = lacking width kept (behind_front width 0 (chars (strip ps))) in
     let marks = encode_utf8_all (replicate k replacement) in
-    let leaves = Leaves-append (cut_part 0 n ps) marks (take n (strip ps)) marks (front-leaves ps of_text.stand whole n) (marks-leave k) in
+    let leaves = Leaves-append (cut_part 0 n ps) marks (take n (strip ps)) marks (fitting_front-leaves ps of_text.stand whole n) (marks-leave k) in
     let shows = cut-shows width cell out ps (pieces out) utf8 of_text whole (cut_at-meets width cell ps of_text) (ArePiecesOf-pieces out) in
     record {
       pieces = pieces out;

@@ -6,7 +6,7 @@ use Rattle.std.specs.List.{AllByRecursion, range_with_len, sum_by}
 use Rattle.std.proofs.lemmas.List.{length-map, map-id, take_all}
 use Rattle.std.proofs.lemmas.List.Sums.{sum_by-cons}
 use Rattle.ansi_scan.specs.Pieces.{pieces}
-use Rattle.ansi_scan.specs.Sequences.{IsWhole, NoneBroken, Piece as TextPiece}
+use Rattle.ansi_scan.specs.Sequences.{IsWhole, NoneBroken, PlacedPart as TextPiece}
 use Rattle.ansi_scan.specs.declared.items.Kind.TheVariants.{Text}
 use Rattle.ansi_scan.proofs.Existence.{ArePiecesOf-pieces}
 use Rattle.ansi_str.specs.StyledText.{strip}
@@ -28,7 +28,7 @@ use Rattle.papergrid_colors.proofs.LineLemmas.{none-shown}
 use Rattle.papergrid_picture.specs.Blocks.{Grid, Part}
 use Rattle.papergrid_picture.specs.CellLines.{cell_lines, cell_measures}
 use Rattle.papergrid_picture.specs.Frame.{column_count, line_count, row_count}
-use Rattle.papergrid_picture.specs.Picture.{Piece, at, parts_of, picture_line}
+use Rattle.papergrid_picture.specs.Picture.{PlacedPart, at, parts_of, picture_line}
 use Rattle.papergrid_picture.specs.Reading.{Reading, part_items}
 use Rattle.papergrid_picture.specs.Shown.{AreWholeTexts, IsShown, ShowsOnly}
 use Rattle.papergrid_picture.specs.Tables.{in_bytes, in_color, table_grid}
@@ -47,7 +47,7 @@ use Rattle.columns_run.proofs.CellLemmas.{whole_cells, whole_text}
 use Rattle.columns_run.proofs.ColorLemmas.{cells-silent, painted-is}
 use Rattle.columns_run.proofs.PlainLemmas.{bare}
 use Rattle.columns_run.proofs.TilingLemmas.{seen-itself}
-use Rattle.columns_sequences.specs.Bounds.{cell_lines as count_lines, color_around, color_bytes, row_colors, sequence_bytes}
+use Rattle.columns_sequences.specs.Bounds.{count_cell_lines as count_lines, color_around, color_bytes, row_colors, sequence_bytes}
 use Rattle.columns_sequences.proofs.CellSequences.{IsOneLine, one-line, resized-taken}
 use Rattle.columns_sequences.proofs.CellSums.{all-by, row_sum, rows_sum}
 use Rattle.columns_sequences.proofs.CellsOfText.{cells-are_lines}
@@ -212,7 +212,7 @@ module _ (style : Compact) (texts : List (List (List ℕ))) (colors : List (ℕ 
       (Takes-colored (cell_color colors cell) (line_of cell k) (silent cell) (line-whole cell k)))
       shown (colored-anyhow look) y
 
-  pieces-take : (found : List Piece) → AllByRecursion PartTakes (parts_of found) → Takes (flat_map (λ piece. part_items reading piece.part) found) (pieces_weight weight found)
+  pieces-take : (found : List PlacedPart) → AllByRecursion PartTakes (parts_of found) → Takes (flat_map (λ piece. part_items reading piece.part) found) (pieces_weight weight found)
   pieces-take [] all = Takes-nothing
   pieces-take (piece ∷ found) all =
       Takes-append (part_items reading piece.part) (flat_map (λ piece. part_items reading piece.part) found) (content_weight weight piece.part.content) (pieces_weight weight found) all.0 (pieces-take found all.1)

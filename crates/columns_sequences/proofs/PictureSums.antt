@@ -8,7 +8,7 @@ use Rattle.grid_config.specs.Colors.{Color}
 use Rattle.grid_config_values.specs.declared.position.Position.{Position}
 use Rattle.papergrid_picture.specs.Blocks.{Content, Fill, Glyph, Grid, Part, TextLine, block, fill, free_above, text_line}
 use Rattle.papergrid_picture.specs.Frame.{Boundary, Outside, Place, Row, Tracks, block_height, block_width, boundary_at, column_count, line_count, place, row_count, thickness, track_at}
-use Rattle.papergrid_picture.specs.Picture.{Piece, across, along, at, blank, block_pieces, boundary_part, corner, edge, laid, margin_line, picture_line, pieces_at, row_part, seen, upright}
+use Rattle.papergrid_picture.specs.Picture.{PlacedPart, across, along, at, blank, block_pieces, boundary_part, corner, edge, laid, margin_line, picture_line, pieces_at, row_part, seen, upright}
 use Rattle.papergrid_picture.proofs.FrameLemmas.{boundary-first, boundary-next, place-above, place-below, place-boundary, place-row}
 
 -- ---- sums over numbers
@@ -62,7 +62,7 @@ module _ (w : Position → ℕ → ℕ) where
   parts_weight [] = 0
   parts_weight (part ∷ parts) = content_weight part.content + parts_weight parts
 
-  abbrev pub pieces_weight : List Piece → ℕ
+  abbrev pub pieces_weight : List PlacedPart → ℕ
   pieces_weight [] = 0
   pieces_weight (piece ∷ pieces) = content_weight piece.part.content + pieces_weight pieces
 
@@ -70,7 +70,7 @@ module _ (w : Position → ℕ → ℕ) where
   lines_weight [] = 0
   lines_weight (line ∷ lines) = parts_weight line + lines_weight lines
 
-  pieces-both : (xs ys : List Piece) → pieces_weight (xs ++ ys) ≡ pieces_weight xs + pieces_weight ys
+  pieces-both : (xs ys : List PlacedPart) → pieces_weight (xs ++ ys) ≡ pieces_weight xs + pieces_weight ys
   pieces-both [] ys = omega arith
   pieces-both (x ∷ xs) ys = omega (arith, pieces-both xs ys)
 
@@ -86,7 +86,7 @@ module _ (w : Position → ℕ → ℕ) where
   lines-same zero line none = refl
   lines-same (suc n) line none = omega (arith, none, lines-same n line none)
 
-  over-columns : (part : ℕ → List Piece) (a n : ℕ) → pieces_weight (flat_map part (range_with_len a n)) ≡ rsum (λ j. pieces_weight (part j)) a n
+  over-columns : (part : ℕ → List PlacedPart) (a n : ℕ) → pieces_weight (flat_map part (range_with_len a n)) ≡ rsum (λ j. pieces_weight (part j)) a n
   over-columns part a zero = refl
   over-columns part a (suc n) = pieces-both (part a) (flat_map part (range_with_len (a + 1) n)) ∙ ap (λ k. pieces_weight (part a) + k) (over-columns part (a + 1) n)
 
@@ -160,7 +160,7 @@ module _ (w : Position → ℕ → ℕ) where
 
     row-part : (i y j : ℕ) → pieces_weight (row_part grid i y j) ≡ cell_weight i y j
     row-part i y j =
-        let cell_pieces : Position → List Piece = λ cell. if cell.col == j then upright grid j ++ block_pieces grid cell y else [] in
+        let cell_pieces : Position → List PlacedPart = λ cell. if cell.col == j then upright grid j ++ block_pieces grid cell y else [] in
         let here : (j == j) ≡ true = grind (arith, nat_tests) in
         ap (λ (cell : Position). pieces_weight (cell_pieces cell)) (itself i j) ∙ ap (λ (b : Bool). pieces_weight (if b then upright grid j ++ block_pieces grid (at i j) y else [])) here
         ∙ pieces-both (upright grid j) (block_pieces grid (at i j) y) ∙ ap (λ n. n + pieces_weight (block_pieces grid (at i j) y)) (upright-weight j)
@@ -169,13 +169,13 @@ module _ (w : Position → ℕ → ℕ) where
 
     boundary-part : (i y j : ℕ) → pieces_weight (boundary_part grid i y j) ≡ 0
     boundary-part i y j =
-        let cell_pieces : Position → List Piece = λ cell. if nat_lt cell.row i then (if cell.col == j then corner grid i j ++ block_pieces grid cell y else []) else corner grid i j ++ along grid i j in
+        let cell_pieces : Position → List PlacedPart = λ cell. if nat_lt cell.row i then (if cell.col == j then corner grid i j ++ block_pieces grid cell y else []) else corner grid i j ++ along grid i j in
         let below : nat_lt i i ≡ false = grind (arith, nat_tests) in
         ap (λ (cell : Position). pieces_weight (cell_pieces cell)) (itself i j)
         ∙ ap (λ (b : Bool). pieces_weight (if b then (if (at i j).col == j then corner grid i j ++ block_pieces grid (at i j) y else []) else corner grid i j ++ along grid i j)) below
         ∙ pieces-both (corner grid i j) (along grid i j) ∙ ap (λ n. n + pieces_weight (along grid i j)) (corner-weight i j)
 
-    across-weight : (part : ℕ → List Piece) (last : List Piece) → pieces_weight last ≡ 0 → pieces_weight (across grid part last) ≡ rsum (λ j. pieces_weight (part j)) 0 (column_count grid.frame)
+    across-weight : (part : ℕ → List PlacedPart) (last : List PlacedPart) → pieces_weight last ≡ 0 → pieces_weight (across grid part last) ≡ rsum (λ j. pieces_weight (part j)) 0 (column_count grid.frame)
     across-weight part last none =
         let margin = grid.frame.look.margin in
         let color = grid.frame.look.margin_color in

@@ -17,8 +17,8 @@ abbrev pub sequence_bytes : List ℕ → ℕ
 sequence_bytes text = length (sequences (pieces text))
 
 -- the lines of all cells, each in its own row; a cell without text has one
-abbrev pub cell_lines : List (List (List ℕ)) → ℕ
-cell_lines rows = sum_by (λ row. sum_by text_height row) rows
+abbrev pub count_cell_lines : List (List (List ℕ)) → ℕ
+count_cell_lines rows = sum_by (λ row. sum_by text_height row) rows
 
 -- what a line of a cell may take beside the input's sequences: 163 bytes are the longest start of a style, and 80 the longest end
 abbrev pub start_and_end : ℕ

@@ -15,12 +15,12 @@ use Rattle.columns_asked.specs.Asked.{Resize}
 use Rattle.columns_asked.specs.Resizing.{resized_text}
 use Rattle.columns_asked.specs.declared.asked.Asked.{Asked}
 use Rattle.columns_table.specs.Kept.{first_kept, kept_row, resize_to}
-use Rattle.columns_table.specs.Records.{IsMeasured}
+use Rattle.columns_table.specs.Records.{KeepsWidth}
 use Rattle.columns_table.specs.Rows.{cell_texts, cut}
 use Rattle.columns_table.specs.declared.cells.LineCell.{LineCell}
 
 -- a measured cell has the width of its text
-pub width-is : (cell : LineCell) → IsMeasured cell → cell.width ≡ text_width cell.text.now
+pub width-is : (cell : LineCell) → KeepsWidth cell → cell.width ≡ text_width cell.text.now
 unfolding text_width
 width-is cell measured = measured.1 (pieces cell.text.now) (ArePiecesOf-pieces cell.text.now)
 

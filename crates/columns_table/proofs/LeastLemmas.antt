@@ -12,13 +12,13 @@ use Rattle.grid_config.specs.Compact.{Compact}
 use Rattle.grid_config_spans.specs.Spans.{extent_at}
 use Rattle.grid_records_estimate.specs.Estimates.{Axis, greatest, least_size, length_at, meet, need_at, needs_at, needs_of_length, spanning_needs, track_sizes}
 use Rattle.grid_records_estimate.specs.Sizes.{table_heights, table_widths}
-use Rattle.grid_records_estimate.specs.Sizing.{column_axis, compact_sizing, place, row_axis}
+use Rattle.grid_records_estimate.specs.Sizing.{column_axis, compact_sizing, position_at, row_axis}
 use Rattle.grid_records_measure.specs.TextLines.{text_height, text_width}
 use Rattle.grid_records_traits.specs.Rows.{fitted, fitted_row, text_at}
 use Rattle.columns_asked.specs.Layout.{column_count, heights_of, widths_of}
 use Rattle.columns_asked.proofs.NarrowLemmas.{map-below}
 use Rattle.columns_table.specs.Least.{padded, width_in}
-use Rattle.columns_table.specs.Records.{IsMeasured}
+use Rattle.columns_table.specs.Records.{KeepsWidth}
 use Rattle.columns_table.specs.Rows.{cell_texts, cut}
 use Rattle.columns_table.specs.declared.cells.LineCell.{LineCell}
 use Rattle.columns_table.proofs.KeptLemmas.{width-is}
@@ -101,7 +101,7 @@ none_at : (k : ℕ) → get_or {A = List ℕ} [] k [] ≡ []
 none_at zero = refl
 none_at (suc k) = refl
 
-height-is : (cell : LineCell) → IsMeasured cell → text_height cell.text.now ≡ 1
+height-is : (cell : LineCell) → KeepsWidth cell → text_height cell.text.now ≡ 1
 unfolding text_height
 height-is cell measured = sym (measured.0 (pieces cell.text.now) (ArePiecesOf-pieces cell.text.now))
 
@@ -113,21 +113,21 @@ no-width : 0 ≡ text_width []
 unfolding text_width
 no-width = empty_one_line.1 (pieces []) (ArePiecesOf-pieces [])
 
-height-in : (row : List LineCell) (k : ℕ) → All IsMeasured row → text_height (get_or (cell_texts row) k []) ≡ 1
+height-in : (row : List LineCell) (k : ℕ) → All KeepsWidth row → text_height (get_or (cell_texts row) k []) ≡ 1
 height-in [] k all = ap text_height (none_at k) ∙ no-height
 height-in (cell ∷ row) zero all = height-is cell (all 0 cell (omega arith))
 height-in (cell ∷ row) (suc k) all = height-in row k (λ i d below. all (suc i) d (omega (arith, below)))
 
-width-in : (row : List LineCell) (k : ℕ) → All IsMeasured row → width_in k row ≡ text_width (get_or (cell_texts row) k [])
+width-in : (row : List LineCell) (k : ℕ) → All KeepsWidth row → width_in k row ≡ text_width (get_or (cell_texts row) k [])
 width-in [] zero all = no-width
 width-in [] (suc k) all = no-width
 width-in (cell ∷ row) zero all = width-is cell (all 0 cell (omega arith))
 width-in (cell ∷ row) (suc k) all = width-in row k (λ i d below. all (suc i) d (omega (arith, below)))
 
-rows-measured : (counts : List ℕ) (cells : List LineCell) → All IsMeasured cells → (i : ℕ) (d : List LineCell) → i < length (cut counts cells) → All IsMeasured (get_or (cut counts cells) i d)
+rows-measured : (counts : List ℕ) (cells : List LineCell) → All KeepsWidth cells → (i : ℕ) (d : List LineCell) → i < length (cut counts cells) → All KeepsWidth (get_or (cut counts cells) i d)
 rows-measured [] cells all i d below = absurd (omega (arith, below))
-rows-measured (n ∷ ns) cells all zero d below = All-take IsMeasured n cells all
-rows-measured (n ∷ ns) cells all (suc i) d below = rows-measured ns (drop n cells) (All-drop IsMeasured n cells all) i d (omega (arith, below))
+rows-measured (n ∷ ns) cells all zero d below = All-take KeepsWidth n cells all
+rows-measured (n ∷ ns) cells all (suc i) d below = rows-measured ns (drop n cells) (All-drop KeepsWidth n cells all) i d (omega (arith, below))
 
 count-cut : {X : Type 0} (counts : List ℕ) (xs : List X) → length (cut counts xs) ≡ length counts
 count-cut [] xs = refl
@@ -135,15 +135,15 @@ count-cut (n ∷ ns) xs = ap suc (count-cut ns (drop n xs))
 
 -- ---- the sizes of a table of measured cells
 
-module _ (style : Compact) (counts : List ℕ) (cells : List LineCell) (measured : All IsMeasured cells) where
+module _ (style : Compact) (counts : List ℕ) (cells : List LineCell) (measured : All KeepsWidth cells) where
   abbrev pub texts : List (List (List ℕ))
   texts = map cell_texts (cut counts cells)
 
   abbrev columns : ℕ
   columns = column_count texts
 
-  -- the text at a place is that of its row
-  text-of-row : (i j : ℕ) → i < length (cut counts cells) → j < columns → text_at (fitted columns texts) (place i j) ≡ get_or (cell_texts (get_or (cut counts cells) i [])) j []
+  -- the text at a position_at is that of its row
+  text-of-row : (i j : ℕ) → i < length (cut counts cells) → j < columns → text_at (fitted columns texts) (position_at i j) ≡ get_or (cell_texts (get_or (cut counts cells) i [])) j []
   text-of-row i j inside below =
       let within : i < length texts = omega (arith, inside, length-map (cut counts cells) cell_texts) in
       ap (λ row. get_or row j []) (get_or-map (fitted_row columns) texts i [] [] within)

@@ -6,7 +6,7 @@ use Rattle.grid_config.specs.Settings.{Settings}
 use Rattle.grid_config_spans.specs.Spans.{AreGood}
 use Rattle.grid_config_values.specs.declared.position.Position.{Position}
 use Rattle.papergrid_fits.specs.Grids.{grid_text}
-use Rattle.papergrid_fits.specs.Tables.{Fits, sized}
+use Rattle.papergrid_fits.specs.Tables.{CanBeDrawn, sized}
 use Rattle.papergrid_picture.specs.Fitting.{InRange}
 use Rattle.papergrid_picture.specs.Frame.{Frame, frame_of}
 use Rattle.papergrid_picture.specs.Tables.{sizes_of, table_text}
@@ -31,13 +31,13 @@ module _ (settings : Settings) (columns : ℕ) (rows : List (List (List ℕ))) (
   listed-text colors =
       sym (ap (λ ws. table_text (look_of settings) rows colors ws (sizes_of height (length rows))) widths-are ∙ ap (λ hs. table_text (look_of settings) rows colors widths hs) heights-are)
 
-  pub listed-good : Fits settings width height columns rows → AreGood settings.spans (length heights) (length widths)
+  pub listed-good : CanBeDrawn settings width height columns rows → AreGood settings.spans (length heights) (length widths)
   listed-good fits =
       let many : length rows ≡ length heights = sym listed.1 ∙ ap (λ (xs : List ℕ). length xs) (sym high) in
       let across : columns ≡ length widths = sym listed.0 ∙ ap (λ (xs : List ℕ). length xs) (sym wide) in
       subst (AreGood settings.spans (length heights)) across (subst (λ (n : ℕ). AreGood settings.spans n columns) many fits.good)
 
-  pub listed-range : Fits settings width height columns rows → InRange (frame_of (look_of settings) widths heights)
+  pub listed-range : CanBeDrawn settings width height columns rows → InRange (frame_of (look_of settings) widths heights)
   listed-range fits =
       let same : sized settings width height columns (length rows) ≡ frame_of (look_of settings) widths heights =
       ap (λ ws. frame_of (look_of settings) ws (sizes_of height (length rows))) widths-are ∙ ap (frame_of (look_of settings) widths) heights-are in

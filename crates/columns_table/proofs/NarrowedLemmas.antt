@@ -28,7 +28,7 @@ use Rattle.grid_records_measure.specs.TextLines.{line_feed}
 use Rattle.papergrid_picture.specs.Fitting.{FitsAnswer, InRange, first_too_wide, table_width}
 use Rattle.papergrid_picture.specs.Frame.{Frame, frame_of, line_count, total_width}
 use Rattle.papergrid_picture.specs.Tables.{sizes_of, table_text}
-use Rattle.papergrid_fits.specs.Tables.{Fits, IsFitsAnswer, sized}
+use Rattle.papergrid_fits.specs.Tables.{CanBeDrawn, IsFitsAnswer, sized}
 use Rattle.papergrid_fits.proofs.Estimated.{text_at-fitted}
 use Rattle.papergrid_fits.specs.Grids.{grid_text}
 use Rattle.papergrid_fits.proofs.SameTexts.{answer-same, first_too_wide-same, table_text-same}
@@ -189,7 +189,7 @@ module _ (style : Compact) (asked : Asked) (texts : List (List (List ℕ))) (wid
           (answer-fitted settings (slice_index widths) (slice_index heights) n kept answer
           (subst (λ (found : List (List (List ℕ))). IsFitsAnswer settings (slice_index widths) (slice_index heights) n found answer) made-here is)))
 
-      pub fits-is : Fits settings (slice_index widths) (slice_index heights) n rows → FitsAnswer (asked_frame style asked texts) kept (Unit {0}) (Ok tt)
+      pub fits-is : CanBeDrawn settings (slice_index widths) (slice_index heights) n rows → FitsAnswer (asked_frame style asked texts) kept (Unit {0}) (Ok tt)
       fits-is fits = answer-is (Ok tt) (fits.good, fits.range, fits.room)
 
       grid-is : (colors : Position → Option Color) → grid_text (look_of settings) (slice_index widths) (slice_index heights) colors n rows ≡ table_text (compact_look style) kept colors (asked_widths style asked texts) (heights_of style kept)

@@ -16,7 +16,7 @@ use Rattle.grid_records_estimate.specs.Sizing.{sizing_of}
 use Rattle.grid_records_estimate.proofs.CompactLemmas.{compact-sizing}
 use Rattle.grid_records_measure.specs.TextLines.{line_feed}
 use Rattle.papergrid_fits.specs.Grids.{grid_text}
-use Rattle.papergrid_fits.specs.Tables.{Fits, sized}
+use Rattle.papergrid_fits.specs.Tables.{CanBeDrawn, sized}
 use Rattle.papergrid_fits.proofs.Estimated.{none-too_wide}
 use Rattle.papergrid_picture.specs.Fitting.{InRange, first_too_wide}
 use Rattle.papergrid_picture.specs.Frame.{Frame, frame_of, line_count}
@@ -94,13 +94,13 @@ module _ (style : Compact) (settings : Settings) (start : StartsWith (compact_st
     room-under = subst (λ (frame : Frame). first_too_wide frame texts ≡ None) (sized-is (length texts) refl) room-by_number
 
     module _ (range : InRange (frame_under style (cut_texts counts cells))) where
-      fits-texts : Fits settings (slice_index widths) (slice_index heights) (greatest counts) texts
+      fits-texts : CanBeDrawn settings (slice_index widths) (slice_index heights) (greatest counts) texts
       fits-texts = record { good = good-spans style settings start (length texts) (greatest counts); range = subst InRange (sym (sized-is (length texts) refl)) range; room = room-by_number }
 
-      pub fits : (columns : ℕ) → columns ≡ greatest counts → Fits settings (slice_index widths) (slice_index heights) columns records
+      pub fits : (columns : ℕ) → columns ≡ greatest counts → CanBeDrawn settings (slice_index widths) (slice_index heights) columns records
       fits columns counted =
-          subst (λ n. Fits settings (slice_index widths) (slice_index heights) n records) (sym counted)
-          (subst (Fits settings (slice_index widths) (slice_index heights) (greatest counts)) (sym (records-are counts cells whole)) fits-texts)
+          subst (λ n. CanBeDrawn settings (slice_index widths) (slice_index heights) n records) (sym counted)
+          (subst (CanBeDrawn settings (slice_index widths) (slice_index heights) (greatest counts)) (sym (records-are counts cells whole)) fits-texts)
 
     prints-some : (colors : Position → Option Color) (columns : ℕ) → columns ≡ greatest counts
         → grid_text (look_of settings) (slice_index widths) (slice_index heights) colors columns records ≡ table_text (compact_look style) texts colors (widths_of style texts) (heights_of style texts)

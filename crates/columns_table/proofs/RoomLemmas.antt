@@ -8,7 +8,7 @@ use Rattle.grid_config_values.specs.Glyphs.{boundary_count, has_column_boundary}
 use Rattle.grid_records_traits.specs.Rows.{fitted, text_at}
 use Rattle.grid_records_measure.specs.TextLines.{text_width}
 use Rattle.grid_records_estimate.specs.Room.{room}
-use Rattle.grid_records_estimate.specs.Sizing.{column_axis, compact_sizing, place}
+use Rattle.grid_records_estimate.specs.Sizing.{column_axis, compact_sizing, position_at}
 use Rattle.grid_records_estimate.specs.Totals.{total}
 use Rattle.grid_records_estimate.proofs.Lengths.{length-fitted}
 use Rattle.grid_records_estimate.proofs.RoomLemmas.{LeaveRoom-widths}
@@ -54,6 +54,6 @@ module _ (style : Compact) (texts : List (List (List ℕ))) (range : InRange (fr
       let high : 0 < length (heights_of style texts) = wide-high style texts wide in
       let some : 0 < column_count texts = omega (arith, width-each style texts high, wide) in
       let rows : 0 < length (fitted (column_count texts) texts) = omega (arith, length-fitted (column_count texts) texts, height-each style texts high, high) in
-      let left = LeaveRoom-widths (compact_sizing style) (column_count texts) texts 0 0 some rows refl (positive-none (place 0 0)).1 in
-      let needed : paddings style ≤ text_width (text_at (fitted (column_count texts) texts) (place 0 0)) + style.padding.left.size + style.padding.right.size = omega arith in
+      let left = LeaveRoom-widths (compact_sizing style) (column_count texts) texts 0 0 some rows refl (positive-none (position_at 0 0)).1 in
+      let needed : paddings style ≤ text_width (text_at (fitted (column_count texts) texts) (position_at 0 0)) + style.padding.left.size + style.padding.right.size = omega arith in
       omega (arith, needed, left, first-room some, sum-fits)

@@ -13,8 +13,8 @@ IsOnlyLine text = (pieces : List Piece) (lines : List (List ℕ)) → ArePiecesO
 abbrev pub IsOneLine : List ℕ → ℕ → Type 0
 IsOneLine text width = HasLineCount text 1 × HasWidth text width × IsOnlyLine text
 
-abbrev pub IsMeasured : LineCell → Type 0
-IsMeasured cell = IsOneLine cell.text.now cell.width
+abbrev pub KeepsWidth : LineCell → Type 0
+KeepsWidth cell = IsOneLine cell.text.now cell.width
 
 -- ---- rows by where they begin
 

@@ -5,7 +5,7 @@ ghost use Rattle.grid_records_traits.specs.Cells.{HasLineCount, HasWidth};
 ghost use Rattle.grid_records_rows.specs.Sources.{AreEquallyLong};
 ghost use Rattle.columns_table.specs.CellRows.{row_cells};
 ghost use Rattle.columns_table.specs.Kept.{first_kept, kept_row, resize_to};
-ghost use Rattle.columns_table.specs.Records.{IsMeasured};
+ghost use Rattle.columns_table.specs.Records.{KeepsWidth};
 ghost use Rattle.columns_table.specs.Rows.{cell_texts, row_texts_of};
 
 use crate::cell_row::CellRow;
@@ -77,7 +77,7 @@ pub fn kept_rows<'a>(
     widths: &[usize],
     beside: usize,
 ) -> Result<Vec<Vec<KeptCell<'a>>>, AllocError>
-    requires measured { All IsMeasured rows.now.cells }
+    requires measured { All KeepsWidth rows.now.cells }
     ensures texts { IfOk result (λ kept. map (λ row. map (λ cell. cow_str_bytes cell.text) row.items) kept.items ≡ map (kept_row asked.now beside widths.now) (row_texts_of rows.now)) }
     ensures long { IfOk result (λ kept. AreEquallyLong kept.items) }
 {
@@ -99,7 +99,7 @@ fn kept_cells<'a>(
     widths: &[usize],
     beside: usize,
 ) -> Result<Vec<KeptCell<'a>>, AllocError>
-    requires { All IsMeasured (row_cells row) }
+    requires { All KeepsWidth (row_cells row) }
     ensures texts { IfOk result (λ kept. map (λ cell. cow_str_bytes cell.text) kept.items ≡ kept_row asked.now beside widths.now (cell_texts (row_cells row.entry))) }
     ensures long { IfOk result (λ kept. vec_len kept ≡ length widths.now) }
 {
@@ -120,7 +120,7 @@ fn kept_cell<'a>(
     column: usize,
     room: usize,
 ) -> Result<KeptCell<'a>, AllocError>
-    requires { All IsMeasured (row_cells row) }
+    requires { All KeepsWidth (row_cells row) }
     ensures { IfOk result (λ kept. cow_str_bytes kept.text ≡ first_kept (resize_to asked.now room) (cell_texts (drop column (row_cells row.entry)))) }
 {
     let Some(cell) = row.get(column) else {

@@ -10,13 +10,13 @@ ghost use Rattle.papergrid_picture.specs.Fitting.{FitsAnswer, InRange, first_too
 ghost use Rattle.papergrid_picture.specs.Frame.{frame_of, line_count};
 ghost use Rattle.papergrid_picture.specs.Tables.{table_text};
 ghost use Rattle.papergrid_fits.specs.Grids.{grid_text};
-ghost use Rattle.papergrid_fits.specs.Tables.{Fits, IsFitsAnswer};
+ghost use Rattle.papergrid_fits.specs.Tables.{CanBeDrawn, IsFitsAnswer};
 ghost use Rattle.columns_asked.specs.Layout.{asked_frame, frame_under, heights_of, kept_texts, narrow, narrowed, paddings, too_wide, widths_of};
 ghost use Rattle.columns_colors.specs.ColoredTables.{colored_text};
 ghost use Rattle.columns_colors.specs.ColumnColors.{cell_color};
 ghost use Rattle.columns_table.specs.Answers.{HasTable, MayRefuse, natural_text};
 ghost use Rattle.columns_table.specs.Listed.{AreSizesOf};
-ghost use Rattle.columns_table.specs.Records.{IsMeasured};
+ghost use Rattle.columns_table.specs.Records.{KeepsWidth};
 ghost use Rattle.columns_table.specs.Rows.{row_texts_of};
 ghost use Rattle.tabled_output.specs.Pieces.{Passes};
 
@@ -54,7 +54,7 @@ pub fn write_rows<W: Write>(
     rows: Rows<'_>,
     writer: &mut Counted<W>,
 ) -> Result<Result<(), WriteFault>, Fault>
-    requires measured { All IsMeasured rows.cells }
+    requires measured { All KeepsWidth rows.cells }
     ensures table { Passes W.contents (colored_text (compact_of style.now) asked.now (cell_color colors.now) (row_texts_of rows.entry)) result [] writer.old writer.new }
     ensures alone { ¬ (HasTable (compact_of style.now) asked.now (row_texts_of rows.entry)) → writer.new ≡ writer.old }
     ensures fits { OnOk result (HasTable (compact_of style.now) asked.now (row_texts_of rows.entry)) }
@@ -103,7 +103,7 @@ fn write_natural<W: Write>(
     sizes: Sizes,
     writer: &mut Counted<W>,
 ) -> Result<Result<(), WriteFault>, Fault>
-    requires measured { All IsMeasured rows.cells }
+    requires measured { All KeepsWidth rows.cells }
     requires widths { sizes.widths.items ≡ widths_of (compact_of style.now) (row_texts_of rows) }
     requires heights { sizes.heights.items ≡ heights_of (compact_of style.now) (row_texts_of rows) }
     requires lines { sizes.lines ≡ line_count (frame_under (compact_of style.now) (row_texts_of rows)) }
@@ -131,7 +131,7 @@ fn write_narrowed<W: Write>(
     widths: Vec<usize>,
     writer: &mut Counted<W>,
 ) -> Result<Result<(), WriteFault>, Fault>
-    requires measured { All IsMeasured rows.cells }
+    requires measured { All KeepsWidth rows.cells }
     requires beside { paddings (compact_of style.now) < 2 ^ 64 }
     requires narrowed { narrowed (compact_of style.now) asked.now (row_texts_of rows) ≡ Some widths.items }
     ensures table { Passes W.contents (colored_text (compact_of style.now) asked.now (cell_color colors.now) (row_texts_of rows.entry)) result [] writer.old writer.new }
@@ -164,8 +164,8 @@ fn write_where_fits<R: ExactRecords + PeekableRecords, W: Write>(
 ) -> Result<Result<(), WriteFault>, Fault>
     requires { sizes.lines ≢ 0 → AreSizesOf sizes (R.columns records.now) (length (R.rows records.now)) }
     ensures text { Passes W.contents (if sizes.lines == 0 then [] else grid_text (look_of settings.now) (slice_index sizes.widths.items) (slice_index sizes.heights.items) (cell_color colors.now) (R.columns records.now) (R.rows records.now) ++ line_feed ∷ []) result [] writer.old writer.new }
-    ensures alone { ¬ (Fits settings.now (slice_index sizes.widths.items) (slice_index sizes.heights.items) (R.columns records.now) (R.rows records.now)) → writer.new ≡ writer.old }
-    ensures fits { OnOk result (Fits settings.now (slice_index sizes.widths.items) (slice_index sizes.heights.items) (R.columns records.now) (R.rows records.now)) }
+    ensures alone { ¬ (CanBeDrawn settings.now (slice_index sizes.widths.items) (slice_index sizes.heights.items) (R.columns records.now) (R.rows records.now)) → writer.new ≡ writer.old }
+    ensures fits { OnOk result (CanBeDrawn settings.now (slice_index sizes.widths.items) (slice_index sizes.heights.items) (R.columns records.now) (R.rows records.now)) }
     ensures refused { IfErr result (λ fault. (fault ≡ Memory)
         ⊎ IsFitsAnswer settings.now (slice_index sizes.widths.items) (slice_index sizes.heights.items) (R.columns records.now) (R.rows records.now) (Err fault)) }
 {
@@ -182,7 +182,7 @@ fn write_grid<R: ExactRecords + PeekableRecords, W: Write>(
     sizes: Sizes,
     writer: &mut Counted<W>,
 ) -> Result<Result<(), WriteFault>, Fault>
-    requires fits { sizes.lines ≢ 0 → Fits settings.now (slice_index sizes.widths.items) (slice_index sizes.heights.items) (R.columns records.now) (R.rows records.now) }
+    requires fits { sizes.lines ≢ 0 → CanBeDrawn settings.now (slice_index sizes.widths.items) (slice_index sizes.heights.items) (R.columns records.now) (R.rows records.now) }
     requires listed { sizes.lines ≢ 0 → AreSizesOf sizes (R.columns records.now) (length (R.rows records.now)) }
     ensures text { Passes W.contents (if sizes.lines == 0 then [] else grid_text (look_of settings.now) (slice_index sizes.widths.items) (slice_index sizes.heights.items) (cell_color colors.now) (R.columns records.now) (R.rows records.now) ++ line_feed ∷ []) result [] writer.old writer.new }
     ensures refused { IfErr result (λ fault. fault ≡ Memory) }

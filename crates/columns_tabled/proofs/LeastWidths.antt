@@ -8,7 +8,7 @@ use Rattle.grid_config_spans.specs.Spans.{extent_at}
 use Rattle.grid_records_estimate.proofs.Lengths.{length-fitted}
 use Rattle.grid_records_estimate.specs.Estimates.{Axis, greatest}
 use Rattle.grid_records_estimate.specs.Sizes.{table_widths}
-use Rattle.grid_records_estimate.specs.Sizing.{column_axis, compact_sizing, place}
+use Rattle.grid_records_estimate.specs.Sizing.{column_axis, compact_sizing, position_at}
 use Rattle.grid_records_measure.specs.TextLines.{text_width}
 use Rattle.grid_records_traits.specs.Rows.{fitted}
 use Rattle.tabled_width_tables.specs.Rooms.{least_widths}
@@ -56,7 +56,7 @@ module _ (style : Compact) (n m : ℕ) (some : 0 < m) where
 
   need-is : (column row : ℕ) → axis.need column row ≡ paddings style
   need-is column row =
-      let empty = ap text_width (texts-same n empties (few m n) (place row column) ∙ nothing-at m n row column) ∙ nothing-measures in
+      let empty = ap text_width (texts-same n empties (few m n) (position_at row column) ∙ nothing-at m n row column) ∙ nothing-measures in
       omega (arith, empty)
 
   column-is : (column : ℕ) → greatest (map (axis.need column) (range_with_len 0 (length (fitted n empties)))) ≡ paddings style

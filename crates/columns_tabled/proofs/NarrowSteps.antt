@@ -14,7 +14,7 @@ use Rattle.tabled_steps.specs.Sizes.{natural_heights, natural_widths}
 use Rattle.tabled_steps.specs.States.{Outcome, Settles, State, column_count, state_with}
 use Rattle.tabled_width_tables.specs.Rooms.{column_widths, least_widths}
 use Rattle.tabled_width_tables.specs.Steps.{Measured, Then}
-use Rattle.tabled_width_tables.specs.Tables.{Drawn, Narrows, NarrowsTable, Shrunk, Where, drawn, drawn_with, has_cells, keeping, narrowed}
+use Rattle.tabled_width_tables.specs.Tables.{Drawn, Narrows, NarrowsTable, Shrunk, Where, drawn, drawn_with, has_cells, keeping, narrowed_state}
 use Rattle.tabled_width_tables.specs.Widths.{table_width}
 use Rattle.tabled.specs.Narrowed.{GivesOnly}
 
@@ -96,7 +96,7 @@ module _ (rows : List (List (List ℕ))) (look : Look) (colors : Position → Op
       no_cells : has_cells fresh ≡ false → changed ≡ fresh → HasNarrowed changed
       stayed : has_cells fresh ≡ true → (it : Drawn) → AreEstimated it → it.whole ≤ asked → changed ≡ keeping it fresh → HasNarrowed changed
       gave : has_cells fresh ≡ true → (it : Drawn) → AreEstimated it → asked < it.whole → (left : List ℕ) → (after : P) → shrinks priority leasts (it.whole - asked) (column_widths count it.widths) after left
-          → changed ≡ narrowed change leasts left (keeping it fresh) → HasNarrowed changed
+          → changed ≡ narrowed_state change leasts left (keeping it fresh) → HasNarrowed changed
 
     abbrev shrunk_by : Drawn → State → Outcome → Type 0
     shrunk_by it = Shrunk shrinks priority change (column_widths count it.widths) (it.whole - asked)
@@ -104,14 +104,14 @@ module _ (rows : List (List (List ℕ))) (look : Look) (colors : Position → Op
     shrunk-is : has_cells fresh ≡ true → (it : Drawn) → AreEstimated it → asked < it.whole → (changed : State) → shrunk_by it (keeping it fresh) (Ok changed) → HasNarrowed changed
     shrunk-is some it are wider changed did =
         let next = λ (least : List ℕ) (outcome : Outcome).
-        ((left : List ℕ) × ((after : P) × shrinks priority least (it.whole - asked) (column_widths count it.widths) after left) × (Ok (narrowed change least left (keeping it fresh)) ≡ outcome)) in
+        ((left : List ℕ) × ((after : P) × shrinks priority least (it.whole - asked) (column_widths count it.widths) after left) × (Ok (narrowed_state change least left (keeping it fresh)) ≡ outcome)) in
         let found = then-ok (all_sized leasts) next changed did in
         let same : found.value ≡ leasts = if-ok (list_any passes leasts) Range leasts found.value found.is in
         let left : List ℕ = found.follows.0 in
         let after : P = found.follows.1.0 in
         gave some it are wider left after
         (subst (λ (least : List ℕ). shrinks priority least (it.whole - asked) (column_widths count it.widths) after left) same found.follows.1.1)
-        (back-ok (narrowed change found.value left (keeping it fresh)) changed found.follows.2 ∙ ap (λ (least : List ℕ). narrowed change least left (keeping it fresh)) same)
+        (back-ok (narrowed_state change found.value left (keeping it fresh)) changed found.follows.2 ∙ ap (λ (least : List ℕ). narrowed_state change least left (keeping it fresh)) same)
 
     narrows-is : has_cells fresh ≡ true → (changed : State) → Narrows shrinks priority change asked fresh (Ok changed) → HasNarrowed changed
     narrows-is some changed did =

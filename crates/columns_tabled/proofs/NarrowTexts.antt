@@ -12,7 +12,7 @@ use Rattle.grid_config_values.specs.declared.entity.Entity.TheVariants.{Global}
 use Rattle.grid_config_values.specs.declared.fault.Fault.{Fault}
 use Rattle.grid_config_values.specs.declared.position.Position.{Position}
 use Rattle.grid_records_estimate.proofs.Lengths.{length-table_heights}
-use Rattle.grid_records_estimate.specs.Sizing.{compact_sizing, place}
+use Rattle.grid_records_estimate.specs.Sizing.{compact_sizing, position_at}
 use Rattle.grid_records_measure.specs.TextLines.{line_feed}
 use Rattle.grid_records_traits.specs.Rows.{row_at}
 use Rattle.papergrid_picture.proofs.ByNumber.{by_number}
@@ -51,7 +51,7 @@ use Rattle.tabled_steps.specs.Sizes.{natural_heights, natural_widths}
 use Rattle.tabled_steps.specs.States.{Settles, State, column_count as first_count, state_with}
 use Rattle.tabled_stripping.specs.Printing.{drawn_frame, drawn_heights, drawn_widths, printed}
 use Rattle.tabled_width_tables.specs.Rooms.{boundaries_between, cell_width, column_widths, in_room, room}
-use Rattle.tabled_width_tables.specs.Tables.{Drawn, NarrowsTable, has_cells, keeping, narrowed as narrowed_table}
+use Rattle.tabled_width_tables.specs.Tables.{Drawn, NarrowsTable, has_cells, keeping, narrowed_state as narrowed_table}
 use Rattle.tabled_width_tables.specs.Widths.{table_width as columns_width}
 use Rattle.tabled.specs.Narrowed.{GivesOnly}
 use Rattle.columns_asked.proofs.NarrowLemmas.{narrowed-none, shrunk-length}
@@ -217,8 +217,8 @@ module _ (style : Compact) (asked : Asked) (n : ℕ) (rows : List (List (List �
           let within : j < count = omega (arith, below, row-long n rows long i inside, first-long n rows long some_rows) in
           let counted : length least ≡ count = length-map natural (λ _. paddings style) ∙ wide-each in
           let low : slice_index least j ≤ slice_index left j = omega (arith, least-at (paddings style) natural j (omega (arith, within, wide-each)), enough j within) in
-          text-at put rows (place i j) (inside, below) Global within
-          ∙ ap (λ (found : Option ℕ). unwrap_or (in_room change text found) text) (room-is style least left (place i j) (omega (arith, within, counted)) (omega (arith, within, many)) low)
+          text-at put rows (position_at i j) (inside, below) Global within
+          ∙ ap (λ (found : Option ℕ). unwrap_or (in_room change text found) text) (room-is style least left (position_at i j) (omega (arith, within, counted)) (omega (arith, within, many)) low)
           ∙ turned (slice_index left j - paddings style) text
 
       changed-is : changed ≡ kept

@@ -9,7 +9,7 @@ use Rattle.grid_config_values.specs.Order.{same_place}
 use Rattle.grid_config_values.specs.declared.position.Position.{Position}
 use Rattle.grid_records_estimate.specs.Estimates.{greatest, track_sizes}
 use Rattle.grid_records_estimate.specs.Sizes.{table_heights, table_widths}
-use Rattle.grid_records_estimate.specs.Sizing.{column_axis, compact_sizing, place, row_axis}
+use Rattle.grid_records_estimate.specs.Sizing.{column_axis, compact_sizing, position_at, row_axis}
 use Rattle.grid_records_traits.specs.Rows.{fitted, text_at}
 use Rattle.grid_records_traits.specs.TextLines.{text_height, text_width}
 use Rattle.tabled_steps.specs.Sizes.{column_axis as column_axis_of, is_seen, natural_heights, natural_widths, row_axis as row_axis_of}
@@ -40,9 +40,9 @@ module _ (style : Compact) (n : ℕ) (rows : List (List (List ℕ))) where
   columns-same = λ k. record {
     tracks = n;
     crossings = length rows;
-    is_visible = λ column row. seen style (place row column) k;
+    is_visible = λ column row. seen style (position_at row column) k;
     span = λ column row. 1;
-    need = λ column row. let padding = style.padding in text_width (text_at rows (place row column)) + padding.left.size + padding.right.size;
+    need = λ column row. let padding = style.padding in text_width (text_at rows (position_at row column)) + padding.left.size + padding.right.size;
     has_boundary = λ j. has_column_boundary style.borders (boundary_kind j n);
   }
 
@@ -51,9 +51,9 @@ module _ (style : Compact) (n : ℕ) (rows : List (List (List ℕ))) where
   rows-same = λ k. record {
     tracks = length rows;
     crossings = n;
-    is_visible = λ row column. seen style (place row column) k;
+    is_visible = λ row column. seen style (position_at row column) k;
     span = λ row column. 1;
-    need = λ row column. let padding = style.padding in text_height (text_at rows (place row column)) + padding.top.size + padding.bottom.size;
+    need = λ row column. let padding = style.padding in text_height (text_at rows (position_at row column)) + padding.top.size + padding.bottom.size;
     has_boundary = λ i. has_row_boundary style.borders (boundary_kind i (length rows));
   }
 

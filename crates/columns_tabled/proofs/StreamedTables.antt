@@ -13,7 +13,7 @@ use Rattle.grid_config_spans.specs.Spans.{extent_at}
 use Rattle.grid_records_estimate.proofs.Lengths.{length-fitted}
 use Rattle.grid_records_estimate.specs.Estimates.{Axis, greatest}
 use Rattle.grid_records_estimate.specs.Sizes.{table_heights, table_widths}
-use Rattle.grid_records_estimate.specs.Sizing.{column_axis, compact_sizing, place, row_axis}
+use Rattle.grid_records_estimate.specs.Sizing.{column_axis, compact_sizing, position_at, row_axis}
 use Rattle.grid_records_measure.specs.CutTexts.{cut_at, truncated_text}
 use Rattle.grid_records_measure.specs.TextLines.{is_line_feed, line_feed, text_height, text_width}
 use Rattle.grid_records_rows.specs.Truncating.{next_column, truncated_row, truncated_rows}
@@ -26,7 +26,7 @@ use Rattle.papergrid_picture.specs.Tables.{sizes_of, table_text}
 use Rattle.tabled_compact.specs.Columns.{column_width, text_in}
 use Rattle.tabled_iter.specs.Content.{row_height}
 use Rattle.tabled_iter.specs.Tables.{Streamed, column_count as stream_columns, content_widths, frame, height_at, printed, shown_rows, sniffed, width_at}
-use Rattle.tabled_size_dimension.specs.Sizes.{size_at}
+use Rattle.tabled_size_dimension.specs.Sizes.{given_size}
 use Rattle.columns_asked.proofs.NarrowLemmas.{map-below}
 use Rattle.columns_asked.specs.Layout.{column_count, ended, frame_under, heights_of, narrow, narrowed, widths_of}
 use Rattle.columns_colors.proofs.TableLemmas.{text-uncolored}
@@ -143,7 +143,7 @@ module _ (style : Compact) (sniff : ℕ) (rows : List (List (List ℕ))) (all : 
   abbrev around : ℕ
   around = style.padding.top.size + style.padding.bottom.size
 
-  content-is : (k : ℕ) → k < n → size_at (content_widths table) k ≡ column_width rows k
+  content-is : (k : ℕ) → k < n → given_size (content_widths table) k ≡ column_width rows k
   content-is k below =
       let none : 0 + k ≡ k = omega arith in
       ap (λ (m : ℕ). get_or (map (column_width (sniffed table)) (range_with_len 0 m)) k 0) columns-all
@@ -153,7 +153,7 @@ module _ (style : Compact) (sniff : ℕ) (rows : List (List (List ℕ))) (all : 
   rows-are : column_count rows ≤ 2 ^ 64 → shown_rows table ≡ fitted n rows
   rows-are low =
       ap (λ (found : List (List (List ℕ))). fitted (stream_columns table) found)
-      (rows-whole (size_at (content_widths table)) rows low (λ k below. let same = content-is k below in omega (arith, same)))
+      (rows-whole (given_size (content_widths table)) rows low (λ k below. let same = content-is k below in omega (arith, same)))
       ∙ ap (λ m. fitted m rows) columns-all
 
   module _ (some : 0 < n) where
@@ -174,7 +174,7 @@ module _ (style : Compact) (sniff : ℕ) (rows : List (List (List ℕ))) (all : 
     high = row_axis (compact_sizing style) n (fitted n rows)
 
     text-there : (i j : ℕ) → get_or (get_or (fitted n rows) i []) j [] ≡ get_or (get_or rows i []) j []
-    text-there i j = texts-same n rows (omega arith) (place i j)
+    text-there i j = texts-same n rows (omega arith) (position_at i j)
 
     wide-seen : (j i : ℕ) → wide.is_visible j i ≡ true
     wide-seen j i = refl

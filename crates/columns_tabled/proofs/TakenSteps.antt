@@ -25,7 +25,7 @@ use Rattle.tabled_steps.specs.States.{Outcome, Settles, State, column_count as f
 use Rattle.tabled_text.specs.Rows.{filled}
 use Rattle.tabled_width_tables.specs.Rooms.{column_widths, least_widths}
 use Rattle.tabled_width_tables.specs.Steps.{Measured, Then}
-use Rattle.tabled_width_tables.specs.Tables.{Drawn, Narrows, NarrowsTable, Shrunk, Where, drawn, drawn_with, has_cells, keeping, narrowed}
+use Rattle.tabled_width_tables.specs.Tables.{Drawn, Narrows, NarrowsTable, Shrunk, Where, drawn, drawn_with, has_cells, keeping, narrowed_state}
 use Rattle.tabled_width_tables.specs.Widths.{table_width as columns_width}
 use Rattle.tabled_width_texts.specs.Breaking.{breaking}
 use Rattle.tabled_width_texts.specs.Cutting.{truncating}
@@ -132,9 +132,9 @@ module _ (style : Compact) (asked : Asked) (n : ℕ) (rows : List (List (List �
     shrinks : (s : State) → s.look ≡ look style → first_count s.rows ≡ count → length s.rows ≡ length rows → (changed : State) × shrunk_by s (Ok changed)
     shrinks s same_look same_count same_rows =
         let left : List ℕ = shrunk_list asked.priority leasts (whole - width) (column_widths count wide) in
-        let changed : State = narrowed change leasts left s in
+        let changed : State = narrowed_state change leasts left s in
         let next = λ (least : List ℕ) (outcome : Outcome).
-        ((found : List ℕ) × ((after : Unit {0}) × IsShrunkByChoice asked.priority least (whole - width) (column_widths count wide) found) × (Ok (narrowed change least found s) ≡ outcome)) in
+        ((found : List ℕ) × ((after : Unit {0}) × IsShrunkByChoice asked.priority least (whole - width) (column_widths count wide) found) × (Ok (narrowed_state change least found s) ≡ outcome)) in
         let here : next leasts (Ok changed) = (left, (tt, shrunk_list-meets asked.priority leasts (whole - width) (column_widths count wide)), refl) in
         let same : least_widths s.look (first_count s.rows) (length s.rows) ≡ leasts =
         ap (λ found. least_widths found (first_count s.rows) (length s.rows)) same_look ∙ ap (λ m. least_widths (look style) m (length s.rows)) same_count ∙ ap (least_widths (look style) count) same_rows in

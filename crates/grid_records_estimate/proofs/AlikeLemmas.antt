@@ -14,7 +14,7 @@ use Rattle.grid_records_traits.specs.Rows.{fitted, text_at}
 use Rattle.grid_records_estimate.specs.Alike.{AreAlike, HaveSameSizes}
 use Rattle.grid_records_estimate.specs.Estimates.{track_sizes}
 use Rattle.grid_records_estimate.specs.Sizes.{table_heights, table_widths}
-use Rattle.grid_records_estimate.specs.Sizing.{Sizing, column_axis, compact_sizing, is_visible, place, row_axis, sizing_of}
+use Rattle.grid_records_estimate.specs.Sizing.{Sizing, column_axis, compact_sizing, is_visible, position_at, row_axis, sizing_of}
 use Rattle.grid_records_estimate.specs.Totals.{total}
 use Rattle.grid_records_estimate.proofs.Visibility.{is_visible-decides, is_visible-exact}
 
@@ -47,9 +47,9 @@ module _ (a b : Sizing) (alike : AreAlike a b) where
   same-column_axis columns rows = λ i. record {
     tracks = columns;
     crossings = length rows;
-    is_visible = λ column row. visible i (place row column);
-    span = λ column row. (extents i (place row column)).columns;
-    need = λ column row. let padding = paddings i (place row column) in text_width (text_at rows (place row column)) + padding.left.size + padding.right.size;
+    is_visible = λ column row. visible i (position_at row column);
+    span = λ column row. (extents i (position_at row column)).columns;
+    need = λ column row. let padding = paddings i (position_at row column) in text_width (text_at rows (position_at row column)) + padding.left.size + padding.right.size;
     has_boundary = λ j. has_column_boundary (alike.borders i) (boundary_kind j columns);
   }
 
@@ -57,9 +57,9 @@ module _ (a b : Sizing) (alike : AreAlike a b) where
   same-row_axis columns rows = λ i. record {
     tracks = length rows;
     crossings = columns;
-    is_visible = λ row column. visible i (place row column);
-    span = λ row column. (extents i (place row column)).rows;
-    need = λ row column. let padding = paddings i (place row column) in text_height (text_at rows (place row column)) + padding.top.size + padding.bottom.size;
+    is_visible = λ row column. visible i (position_at row column);
+    span = λ row column. (extents i (position_at row column)).rows;
+    need = λ row column. let padding = paddings i (position_at row column) in text_height (text_at rows (position_at row column)) + padding.top.size + padding.bottom.size;
     has_boundary = λ j. has_row_boundary (alike.borders i) (boundary_kind j (length rows));
   }
 

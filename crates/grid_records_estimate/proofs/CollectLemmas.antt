@@ -4,7 +4,7 @@ use Rattle.std.specs.List.{filter}
 use Rattle.std.proofs.lemmas.Bool.Decides.{nat_tests}
 use Rattle.grid_records_estimate.specs.declared.need.Need.{Need}
 use Rattle.grid_records_estimate.specs.Estimates.{greatest}
-use Rattle.grid_records_estimate.specs.Collecting.{Collected, HasCollected, is_plain, plain_size}
+use Rattle.grid_records_estimate.specs.Collecting.{Collected, HasCollected, is_of_one_track, plain_size}
 
 pub greatest-append : (xs ys : List ℕ) → greatest (xs ++ ys) ≡ max (greatest xs) (greatest ys)
 greatest-append [] ys = omega arith
@@ -30,7 +30,7 @@ filter-push_no p (y ∷ ys) x h = grind (arith, filter-push_no p ys x h)
 raised-asks : (first k old size : ℕ) → (if k == first then max old size else old) ≡ max old (if first == k then size else 0)
 raised-asks first k old size = grind (arith, nat_tests)
 
-pub HasCollected-plain : (old new : Collected) (needs : List Need) (need : Need) → is_plain need ≡ true
+pub HasCollected-plain : (old new : Collected) (needs : List Need) (need : Need) → is_of_one_track need ≡ true
     → new.others ≡ old.others
     → ((k : ℕ) → get_or new.sizes k 0 ≡ (if k == need.first then max (get_or old.sizes k 0) need.size else get_or old.sizes k 0))
     → HasCollected old needs → HasCollected new (needs ++ need ∷ [])
@@ -42,10 +42,10 @@ HasCollected-plain old new needs need plain same raised h = record {
       let asks : plain_size k need ≡ (if need.first == k then need.size else 0) = grind (arith, plain) in
       now ∙ raised-asks need.first k (get_or old.sizes k 0) need.size ∙ ap (λ n. max n (if need.first == k then need.size else 0)) before
       ∙ ap (λ n. max (greatest (map (plain_size k) needs)) n) (sym asks) ∙ sym all;
-  others = same ∙ h.others ∙ sym (filter-push_no (λ n. not (is_plain n)) needs need (ap not plain));
+  others = same ∙ h.others ∙ sym (filter-push_no (λ n. not (is_of_one_track n)) needs need (ap not plain));
 }
 
-pub HasCollected-other : (old new : Collected) (needs : List Need) (need : Need) → is_plain need ≡ false
+pub HasCollected-other : (old new : Collected) (needs : List Need) (need : Need) → is_of_one_track need ≡ false
     → new.sizes ≡ old.sizes → new.others ≡ old.others ++ need ∷ []
     → HasCollected old needs → HasCollected new (needs ++ need ∷ [])
 HasCollected-other old new needs need other same pushed h = record {
@@ -54,7 +54,7 @@ HasCollected-other old new needs need other same pushed h = record {
       let before = h.sizes k in
       let asks : plain_size k need ≡ 0 = grind (arith, other) in
       ap (λ xs. get_or xs k 0) same ∙ before ∙ omega (arith, all, asks);
-  others = pushed ∙ ap (λ xs. xs ++ need ∷ []) h.others ∙ sym (filter-push_yes (λ n. not (is_plain n)) needs need (ap not other));
+  others = pushed ∙ ap (λ xs. xs ++ need ∷ []) h.others ∙ sym (filter-push_yes (λ n. not (is_of_one_track n)) needs need (ap not other));
 }
 
 -- a list that was changed element by element

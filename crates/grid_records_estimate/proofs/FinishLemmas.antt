@@ -10,7 +10,7 @@ use Rattle.grid_records_estimate.specs.contracts.need.NeedOrd.TheImpl.{ghosts as
 use Rattle.std.proofs.lemmas.List.Sorted.{All-permutation}
 use Rattle.grid_records_estimate.specs.declared.need.Need.{Need}
 use Rattle.grid_records_estimate.specs.Estimates.{Axis, least_size, meet, needs_of_length, spanning_needs, track_sizes}
-use Rattle.grid_records_estimate.specs.Collecting.{AreFirstBelow, AreInside, AreSound, Collected, Describes, HasCollected, IsInside, all_needs, clipped, is_plain, plain_size}
+use Rattle.grid_records_estimate.specs.Collecting.{AreFirstBelow, AreInside, AreSound, Collected, Describes, HasCollected, IsInTracks, all_needs, clipped, is_of_one_track, plain_size}
 use Rattle.grid_records_estimate.proofs.Counting.{count, once, same, same-true, unique}
 use Rattle.grid_records_estimate.proofs.Each.{Each, Each-filter, Each-from_All, Each-map, All-from_Each}
 use Rattle.grid_records_estimate.proofs.Enumerated.{Sorted-spanning_needs, count-all_needs, count-spanning_needs, least-all_needs, single_size}
@@ -65,9 +65,9 @@ singles-inside n (x ∷ xs) h = step (is_single x) refl (singles-inside n xs h.1
 module _ (axis : Axis) (collected : Collected) (needs others : List Need) (kept : HasCollected collected needs) (all : IsPermutation needs (all_needs axis))
     (moved : IsPermutation (map (clipped axis.tracks) collected.others) others) where
   -- a plain need is none of several tracks
-  plain-once : (n x : Need) → is_several n ≡ true → (if not (is_plain x) then once n (clipped axis.tracks x) else 0) ≡ once n (clipped axis.tracks x)
-  plain-once n x h = step (is_plain x) refl where
-    step : (b : Bool) → is_plain x ≡ b → (if not b then once n (clipped axis.tracks x) else 0) ≡ once n (clipped axis.tracks x)
+  plain-once : (n x : Need) → is_several n ≡ true → (if not (is_of_one_track x) then once n (clipped axis.tracks x) else 0) ≡ once n (clipped axis.tracks x)
+  plain-once n x h = step (is_of_one_track x) refl where
+    step : (b : Bool) → is_of_one_track x ≡ b → (if not b then once n (clipped axis.tracks x) else 0) ≡ once n (clipped axis.tracks x)
     step true e =
         let one : x.length ≡ 1 = grind (arith, nat_tests) in
         let long : 2 ≤ n.length = grind (arith, nat_tests) in
@@ -80,8 +80,8 @@ module _ (axis : Axis) (collected : Collected) (needs others : List Need) (kept 
       total_by-IsPermutation (once n) (map (clipped axis.tracks) collected.others) others moved
       ∙ total_by-map (λ x y. x + y) sums (once n) (clipped axis.tracks) collected.others
       ∙ ap (total_by (λ x y. x + y) (λ x. once n (clipped axis.tracks x))) kept.others
-      ∙ total_by-filter (λ x y. x + y) sums (λ x. once n (clipped axis.tracks x)) (λ x. not (is_plain x)) needs
-      ∙ total_by-same (λ x y. x + y) sums (λ x. if not (is_plain x) then once n (clipped axis.tracks x) else 0) (λ x. once n (clipped axis.tracks x)) (λ x. plain-once n x h) needs
+      ∙ total_by-filter (λ x y. x + y) sums (λ x. once n (clipped axis.tracks x)) (λ x. not (is_of_one_track x)) needs
+      ∙ total_by-same (λ x y. x + y) sums (λ x. if not (is_of_one_track x) then once n (clipped axis.tracks x) else 0) (λ x. once n (clipped axis.tracks x)) (λ x. plain-once n x h) needs
       ∙ sym (total_by-IsPermutation (λ x. once n (clipped axis.tracks x)) needs (all_needs axis) all)
       ∙ count-all_needs axis n
 
@@ -98,9 +98,9 @@ module _ (axis : Axis) (collected : Collected) (needs others : List Need) (kept 
 
   -- what a need asks of a track: as a plain one, or as one that was clipped to one track
   asks : (track : ℕ) (x : Need) → track < axis.tracks
-      → max (plain_size track x) (if not (is_plain x) then single_size axis track (clipped axis.tracks x) else 0) ≡ single_size axis track (clipped axis.tracks x)
-  asks track x below = step (is_plain x) refl (x.first == track) refl where
-    step : (b : Bool) → is_plain x ≡ b → (here : Bool) → (x.first == track) ≡ here
+      → max (plain_size track x) (if not (is_of_one_track x) then single_size axis track (clipped axis.tracks x) else 0) ≡ single_size axis track (clipped axis.tracks x)
+  asks track x below = step (is_of_one_track x) refl (x.first == track) refl where
+    step : (b : Bool) → is_of_one_track x ≡ b → (here : Bool) → (x.first == track) ≡ here
         → max (if b && x.first == track then x.size else 0) (if not b then single_size axis track (clipped axis.tracks x) else 0) ≡ single_size axis track (clipped axis.tracks x)
     step true e true f =
         let one : x.length ≡ 1 = grind (arith, nat_tests) in
@@ -123,8 +123,8 @@ module _ (axis : Axis) (collected : Collected) (needs others : List Need) (kept 
       ∙ greatest-IsPermutation (single_size axis track) (map (clipped axis.tracks) collected.others) others moved
       ∙ total_by-map (λ x y. max x y) maxima (single_size axis track) (clipped axis.tracks) collected.others
       ∙ ap (total_by (λ x y. max x y) (λ x. single_size axis track (clipped axis.tracks x))) kept.others
-      ∙ total_by-filter (λ x y. max x y) maxima (λ x. single_size axis track (clipped axis.tracks x)) (λ x. not (is_plain x)) needs)
-      ∙ total_by-join (plain_size track) (λ x. if not (is_plain x) then single_size axis track (clipped axis.tracks x) else 0) needs
+      ∙ total_by-filter (λ x y. max x y) maxima (λ x. single_size axis track (clipped axis.tracks x)) (λ x. not (is_of_one_track x)) needs)
+      ∙ total_by-join (plain_size track) (λ x. if not (is_of_one_track x) then single_size axis track (clipped axis.tracks x) else 0) needs
       ∙ total_by-same (λ x y. max x y) maxima _ (λ x. single_size axis track (clipped axis.tracks x)) (λ x. asks track x below) needs
       ∙ sym (greatest-IsPermutation (λ x. single_size axis track (clipped axis.tracks x)) needs (all_needs axis) all)
       ∙ least-all_needs axis track below where
@@ -156,7 +156,7 @@ module _ (axis : Axis) (collected : Collected) (needs others : List Need) (kept 
 -- needs that are sound, clipped and in another order, can be met
 module _ (tracks : ℕ) where
   clipped-ready : (xs : List Need) → Each (λ need. (0 < need.length) × (need.size < 2 ^ 66)) xs → Each (λ need. need.first < tracks) xs
-      → Each (λ need. IsInside tracks need × (need.first < tracks)) (map (clipped tracks) xs)
+      → Each (λ need. IsInTracks tracks need × (need.first < tracks)) (map (clipped tracks) xs)
   clipped-ready [] h g = tt
   clipped-ready (x ∷ xs) h g =
       let some : 0 < x.length = h.0.0 in
@@ -165,9 +165,9 @@ module _ (tracks : ℕ) where
       ((record { some = omega arith; tracks_fit = omega arith; small = small }, below), clipped-ready xs h.1 g.1)
 
   pub ordered-ready : (xs ys : List Need) → AreSound xs → AreFirstBelow tracks xs → IsPermutation (map (clipped tracks) xs) ys
-      → Each (λ need. IsInside tracks need × (need.first < tracks)) ys
+      → Each (λ need. IsInTracks tracks need × (need.first < tracks)) ys
   ordered-ready xs ys sound below moved =
-      let P : Need → Type 0 = λ need. IsInside tracks need × (need.first < tracks) in
+      let P : Need → Type 0 = λ need. IsInTracks tracks need × (need.first < tracks) in
       Each-from_All P ys (All-permutation P (map (clipped tracks) xs) ys moved
       (All-from_Each P (map (clipped tracks) xs) (clipped-ready xs
       (Each-from_All (λ need. (0 < need.length) × (need.size < 2 ^ 66)) xs sound)
@@ -176,8 +176,8 @@ module _ (tracks : ℕ) where
   pub ordered-inside : (xs ys : List Need) (n : ℕ) → tracks ≡ n → AreSound xs → AreFirstBelow tracks xs → IsPermutation (map (clipped tracks) xs) ys → AreInside n ys
   ordered-inside xs ys n same sound below moved =
       let P : ℕ → Type 0 = λ k. AreInside k ys in
-      subst P same (All-from_Each (IsInside tracks) ys
-      (Each-map (λ need. IsInside tracks need × (need.first < tracks)) (IsInside tracks) (λ need p. p.0) ys (ordered-ready xs ys sound below moved)))
+      subst P same (All-from_Each (IsInTracks tracks) ys
+      (Each-map (λ need. IsInTracks tracks need × (need.first < tracks)) (IsInTracks tracks) (λ need p. p.0) ys (ordered-ready xs ys sound below moved)))
 
 -- sizes that were filled up with 0 are the same by number
 resized : (old new : List ℕ) (n track : ℕ) → length old ≡ n
@@ -201,7 +201,7 @@ finished-in axis between collected start others tracks crossings some same =
     subst P same (λ d sound below moved sorted long given.
     let crossed : 0 < axis.crossings = omega (arith, d.crossings_are) in
     finished axis collected d.needs others d.kept d.all moved start crossed long given (Sorted-from_sort others sorted)
-    (Each-map (λ need. IsInside axis.tracks need × (need.first < axis.tracks)) (λ need. (0 < need.length) × (need.first < axis.tracks))
+    (Each-map (λ need. IsInTracks axis.tracks need × (need.first < axis.tracks)) (λ need. (0 < need.length) × (need.first < axis.tracks))
     (λ need p. (p.0.some, p.1)) others (ordered-ready axis.tracks collected.others others sound below moved)))
 
 -- the sizes that are met, where what was collected describes a table

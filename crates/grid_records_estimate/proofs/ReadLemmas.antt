@@ -9,8 +9,8 @@ use Rattle.grid_config.specs.Spans.{extent_at}
 use Rattle.grid_config_values.specs.declared.position.Position.{Position}
 use Rattle.grid_records_traits.specs.TextLines.{shown_lines, text_height, text_width, widest}
 use Rattle.grid_records_estimate.specs.Collecting.{Collected, HasCollected}
-use Rattle.grid_records_estimate.specs.Reading.{HasRead, Placed, cell_heights, cell_widths, row_cells, table_cells}
-use Rattle.grid_records_estimate.specs.Sizing.{Sizing, is_visible, place}
+use Rattle.grid_records_estimate.specs.Reading.{HasRead, Placed, cell_heights, width_needs, row_cells, table_cells}
+use Rattle.grid_records_estimate.specs.Sizing.{Sizing, is_visible, position_at}
 use Rattle.grid_records_estimate.specs.declared.need.Need.{Need}
 
 append-nil : {X : Type 0} (xs : List X) → xs ++ [] ≡ xs
@@ -34,16 +34,16 @@ added ask kept cells cell need is h =
 pub HasRead-hidden : (sizing : Sizing) (widths heights : Collected) (before : List Placed) (cell : Placed) → is_visible sizing.spans cell.0 ≡ false
     → HasRead sizing widths heights before → HasRead sizing widths heights (before ++ cell ∷ [])
 HasRead-hidden sizing widths heights before cell off h = record {
-  widths_are = hidden (cell_widths sizing) widths before cell (rw off refl) h.widths_are;
+  widths_are = hidden (width_needs sizing) widths before cell (rw off refl) h.widths_are;
   heights_are = hidden (cell_heights sizing) heights before cell (rw off refl) h.heights_are;
 }
 
 pub HasRead-added : (sizing : Sizing) (widths heights : Collected) (before : List Placed) (cell : Placed) (width height : Need)
-    → cell_widths sizing cell ≡ width ∷ [] → cell_heights sizing cell ≡ height ∷ []
-    → HasCollected widths (flat_map (cell_widths sizing) before ++ width ∷ []) → HasCollected heights (flat_map (cell_heights sizing) before ++ height ∷ [])
+    → width_needs sizing cell ≡ width ∷ [] → cell_heights sizing cell ≡ height ∷ []
+    → HasCollected widths (flat_map (width_needs sizing) before ++ width ∷ []) → HasCollected heights (flat_map (cell_heights sizing) before ++ height ∷ [])
     → HasRead sizing widths heights (before ++ cell ∷ [])
 HasRead-added sizing widths heights before cell width height w h ws hs = record {
-  widths_are = added (cell_widths sizing) widths before cell width w ws;
+  widths_are = added (width_needs sizing) widths before cell width w ws;
   heights_are = added (cell_heights sizing) heights before cell height h hs;
 }
 
@@ -59,7 +59,7 @@ text_height-is text lines h = h (pieces text) (ArePiecesOf-pieces text)
 pub asks-width : (sizing : Sizing) (pos : Position) (shown text : List ℕ) (long width left right : ℕ) → is_visible sizing.spans pos ≡ true → shown ≡ text
     → long ≡ (extent_at sizing.spans pos).columns → ((ps : List Piece) → ArePiecesOf shown ps → width ≡ widest (shown_lines ps))
     → left ≡ (sizing.padding pos).left.size → right ≡ (sizing.padding pos).right.size
-    → cell_widths sizing (pos, text) ≡ record { length = long; first = pos.col; crossing = pos.row; size = width + left + right } ∷ []
+    → width_needs sizing (pos, text) ≡ record { length = long; first = pos.col; crossing = pos.row; size = width + left + right } ∷ []
 asks-width sizing pos shown text long width left right on same columns measures l r =
     let wide : width ≡ text_width text = text_width-is shown width measures ∙ ap text_width same in
     rw (on, columns, wide, l, r) refl
@@ -88,13 +88,13 @@ RowRead-none sizing widths heights before row texts h = record {
 
 pub RowRead-more : (sizing : Sizing) (old_widths old_heights widths heights : Collected) (before : List Placed) (row column next : ℕ) (text : List ℕ) (left others texts : List (List ℕ))
     → (old : RowRead sizing old_widths old_heights before row column left texts) → left ≡ text ∷ others → next ≡ column + 1
-    → HasRead sizing widths heights ((before ++ old.done) ++ (place row column, text) ∷ [])
+    → HasRead sizing widths heights ((before ++ old.done) ++ (position_at row column, text) ∷ [])
     → RowRead sizing widths heights before row next others texts
 RowRead-more sizing old_widths old_heights widths heights before row column next text left others texts old split step h = record {
-  done = old.done ++ (place row column, text) ∷ [];
-  read = let P : List Placed → Type 0 = λ cells. HasRead sizing widths heights cells in subst P (append_assoc before old.done ((place row column, text) ∷ [])) h;
-  rest = ap (λ n. (old.done ++ (place row column, text) ∷ []) ++ row_cells row n others) step
-      ∙ append_assoc old.done ((place row column, text) ∷ []) (row_cells row (column + 1) others)
+  done = old.done ++ (position_at row column, text) ∷ [];
+  read = let P : List Placed → Type 0 = λ cells. HasRead sizing widths heights cells in subst P (append_assoc before old.done ((position_at row column, text) ∷ [])) h;
+  rest = ap (λ n. (old.done ++ (position_at row column, text) ∷ []) ++ row_cells row n others) step
+      ∙ append_assoc old.done ((position_at row column, text) ∷ []) (row_cells row (column + 1) others)
       ∙ ap (λ texts. old.done ++ row_cells row column texts) (sym split) ∙ old.rest;
 }
 

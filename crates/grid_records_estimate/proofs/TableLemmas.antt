@@ -8,9 +8,9 @@ use Rattle.std.proofs.lemmas.List.Sorted.{IsPermutation-append_comm, IsPermutati
 use Rattle.grid_config.specs.Glyphs.{Between, boundary_kind, has_column_boundary, has_row_boundary}
 use Rattle.grid_records_traits.specs.Rows.{row_at, text_at}
 use Rattle.grid_records_estimate.specs.declared.need.Need.{Need}
-use Rattle.grid_records_estimate.specs.Collecting.{AreFirstBelow, Collected, Describes, HasBetween, all_needs, is_plain}
-use Rattle.grid_records_estimate.specs.Reading.{HasRead, Placed, cell_heights, cell_widths, row_cells, table_cells}
-use Rattle.grid_records_estimate.specs.Sizing.{Sizing, column_axis, is_visible, place, row_axis}
+use Rattle.grid_records_estimate.specs.Collecting.{AreFirstBelow, Collected, Describes, HasBetween, all_needs, is_of_one_track}
+use Rattle.grid_records_estimate.specs.Reading.{HasRead, Placed, cell_heights, width_needs, row_cells, table_cells}
+use Rattle.grid_records_estimate.specs.Sizing.{Sizing, column_axis, is_visible, position_at, row_axis}
 use Rattle.grid_records_estimate.proofs.Each.{All-from_Each, Each, Each-filter, Each-flat_map}
 
 -- ---- rows and columns exchanged
@@ -56,14 +56,14 @@ flat_map-range f g a (suc n) h =
     ∙ ap (λ xs. g a ++ xs) (flat_map-range f g (a + 1) n (λ k low high. h k (omega arith) (omega arith)))
 
 row-places : {X : Type 0} (f : Placed → List X) (row column : ℕ) (texts : List (List ℕ)) (text : ℕ → List ℕ) → ((k : ℕ) → k < length texts → text (column + k) ≡ get_or texts k [])
-    → flat_map f (row_cells row column texts) ≡ flat_map (λ j. f (place row j, text j)) (range_with_len column (length texts))
+    → flat_map f (row_cells row column texts) ≡ flat_map (λ j. f (position_at row j, text j)) (range_with_len column (length texts))
 row-places f row column [] text h = refl
 row-places f row column (t ∷ texts) text h =
     let first : text (column + 0) ≡ t = h 0 (omega arith) in
     let here : column + 0 ≡ column = omega arith in
     let is : text column ≡ t = ap text (sym here) ∙ first in
-    ap (λ s. f (place row column, s) ++ flat_map f (row_cells row (column + 1) texts)) (sym is)
-    ∙ ap (λ xs. f (place row column, text column) ++ xs)
+    ap (λ s. f (position_at row column, s) ++ flat_map f (row_cells row (column + 1) texts)) (sym is)
+    ∙ ap (λ xs. f (position_at row column, text column) ++ xs)
     (row-places f row (column + 1) texts text (λ k below. let step : column + 1 + k ≡ column + suc k = omega arith in ap text step ∙ h (suc k) (omega arith)))
 
 table-places : {X : Type 0} (f : Placed → List X) (row : ℕ) (rows : List (List (List ℕ))) (texts : ℕ → List (List ℕ)) → ((k : ℕ) → k < length rows → texts (row + k) ≡ get_or rows k [])
@@ -81,23 +81,23 @@ table-places f row (r ∷ rows) texts h =
 module _ (columns : ℕ) (rows : List (List (List ℕ))) (even : (i : ℕ) → i < length rows → length (row_at rows i) ≡ columns) where
   -- row by row, and in a row column by column
   in-order : {X : Type 0} (f : Placed → List X)
-      → flat_map f (table_cells 0 rows) ≡ flat_map (λ i. flat_map (λ j. f (place i j, text_at rows (place i j))) (range_with_len 0 columns)) (range_with_len 0 (length rows))
+      → flat_map f (table_cells 0 rows) ≡ flat_map (λ i. flat_map (λ j. f (position_at i j, text_at rows (position_at i j))) (range_with_len 0 columns)) (range_with_len 0 (length rows))
   in-order f =
       table-places f 0 rows (row_at rows) (λ k below. let step : 0 + k ≡ k = omega arith in ap (row_at rows) step)
-      ∙ flat_map-range (λ i. flat_map f (row_cells i 0 (row_at rows i))) (λ i. flat_map (λ j. f (place i j, text_at rows (place i j))) (range_with_len 0 columns)) 0 (length rows)
+      ∙ flat_map-range (λ i. flat_map f (row_cells i 0 (row_at rows i))) (λ i. flat_map (λ j. f (position_at i j, text_at rows (position_at i j))) (range_with_len 0 columns)) 0 (length rows)
       (λ i low high.
-      row-places f i 0 (row_at rows i) (λ j. text_at rows (place i j)) (λ k below. let step : 0 + k ≡ k = omega arith in ap (λ j. text_at rows (place i j)) step)
-      ∙ ap (λ n. flat_map (λ j. f (place i j, text_at rows (place i j))) (range_with_len 0 n)) (even i (omega arith)))
+      row-places f i 0 (row_at rows i) (λ j. text_at rows (position_at i j)) (λ k below. let step : 0 + k ≡ k = omega arith in ap (λ j. text_at rows (position_at i j)) step)
+      ∙ ap (λ n. flat_map (λ j. f (position_at i j, text_at rows (position_at i j))) (range_with_len 0 n)) (even i (omega arith)))
 
   module _ (sizing : Sizing) where
     heights-are : flat_map (cell_heights sizing) (table_cells 0 rows) ≡ all_needs (row_axis sizing columns rows)
     heights-are = in-order (cell_heights sizing)
 
-    widths-are : IsPermutation (flat_map (cell_widths sizing) (table_cells 0 rows)) (all_needs (column_axis sizing columns rows))
+    widths-are : IsPermutation (flat_map (width_needs sizing) (table_cells 0 rows)) (all_needs (column_axis sizing columns rows))
     widths-are =
-        let W : ℕ → ℕ → List Need = λ i j. cell_widths sizing (place i j, text_at rows (place i j)) in
+        let W : ℕ → ℕ → List Need = λ i j. width_needs sizing (position_at i j, text_at rows (position_at i j)) in
         let P : List Need → Type 0 = λ needs. IsPermutation needs (all_needs (column_axis sizing columns rows)) in
-        subst P (sym (in-order (cell_widths sizing))) (transposed W (range_with_len 0 (length rows)) (range_with_len 0 columns))
+        subst P (sym (in-order (width_needs sizing))) (transposed W (range_with_len 0 (length rows)) (range_with_len 0 columns))
 
     -- each boundary inside is one between
     between-columns : HasBetween (column_axis sizing columns rows).has_boundary columns (has_column_boundary sizing.borders Between)
@@ -120,7 +120,7 @@ module _ (columns : ℕ) (rows : List (List (List ℕ))) (even : (i : ℕ) → i
         tracks_are = refl;
         crossings_are = refl;
         boundaries = between-columns;
-        needs = flat_map (cell_widths sizing) (table_cells 0 rows);
+        needs = flat_map (width_needs sizing) (table_cells 0 rows);
         kept = read.widths_are;
         all = widths-are;
       }
@@ -143,18 +143,18 @@ module _ (columns : ℕ) (rows : List (List (List ℕ))) (even : (i : ℕ) → i
       columns-below =
           let B : Need → Type 0 = λ need. need.first < columns in
           let P : List Need → Type 0 = λ needs. Each B needs in
-          let all : Each B (flat_map (cell_widths sizing) (table_cells 0 rows)) = subst P (sym (in-order (cell_widths sizing)))
-          (Each-flat_map B (λ i. flat_map (λ j. cell_widths sizing (place i j, text_at rows (place i j))) (range_with_len 0 columns)) 0 (length rows)
-          (λ i low high. Each-flat_map B (λ j. cell_widths sizing (place i j, text_at rows (place i j))) 0 columns
-          (λ j from to. visible-only columns (is_visible sizing.spans (place i j)) _ (omega arith)))) in
-          All-from_Each B widths.others (subst P (sym read.widths_are.others) (Each-filter B (λ need. not (is_plain need)) (flat_map (cell_widths sizing) (table_cells 0 rows)) all))
+          let all : Each B (flat_map (width_needs sizing) (table_cells 0 rows)) = subst P (sym (in-order (width_needs sizing)))
+          (Each-flat_map B (λ i. flat_map (λ j. width_needs sizing (position_at i j, text_at rows (position_at i j))) (range_with_len 0 columns)) 0 (length rows)
+          (λ i low high. Each-flat_map B (λ j. width_needs sizing (position_at i j, text_at rows (position_at i j))) 0 columns
+          (λ j from to. visible-only columns (is_visible sizing.spans (position_at i j)) _ (omega arith)))) in
+          All-from_Each B widths.others (subst P (sym read.widths_are.others) (Each-filter B (λ need. not (is_of_one_track need)) (flat_map (width_needs sizing) (table_cells 0 rows)) all))
 
       pub rows-below : AreFirstBelow (length rows) heights.others
       rows-below =
           let B : Need → Type 0 = λ need. need.first < length rows in
           let P : List Need → Type 0 = λ needs. Each B needs in
           let all : Each B (flat_map (cell_heights sizing) (table_cells 0 rows)) = subst P (sym (in-order (cell_heights sizing)))
-          (Each-flat_map B (λ i. flat_map (λ j. cell_heights sizing (place i j, text_at rows (place i j))) (range_with_len 0 columns)) 0 (length rows)
-          (λ i low high. Each-flat_map B (λ j. cell_heights sizing (place i j, text_at rows (place i j))) 0 columns
-          (λ j from to. visible-only (length rows) (is_visible sizing.spans (place i j)) _ (omega arith)))) in
-          All-from_Each B heights.others (subst P (sym read.heights_are.others) (Each-filter B (λ need. not (is_plain need)) (flat_map (cell_heights sizing) (table_cells 0 rows)) all))
+          (Each-flat_map B (λ i. flat_map (λ j. cell_heights sizing (position_at i j, text_at rows (position_at i j))) (range_with_len 0 columns)) 0 (length rows)
+          (λ i low high. Each-flat_map B (λ j. cell_heights sizing (position_at i j, text_at rows (position_at i j))) 0 columns
+          (λ j from to. visible-only (length rows) (is_visible sizing.spans (position_at i j)) _ (omega arith)))) in
+          All-from_Each B heights.others (subst P (sym read.heights_are.others) (Each-filter B (λ need. not (is_of_one_track need)) (flat_map (cell_heights sizing) (table_cells 0 rows)) all))

@@ -18,13 +18,13 @@ HasBetween has_boundary tracks between = (j : ℕ) → 0 < j → j < tracks → 
 -- ---- needs
 
 -- the need is of at least one of `tracks` tracks, and of no more than four sizes together
-pub record IsInside (tracks : ℕ) (need : Need) : Type 0 where
+pub record IsInTracks (tracks : ℕ) (need : Need) : Type 0 where
   pub some : 0 < need.length
   pub tracks_fit : need.first + need.length ≤ tracks
   pub small : need.size < 2 ^ 66
 
 abbrev pub AreInside : ℕ → List Need → Type 0
-AreInside tracks needs = (k : ℕ) (d : Need) → k < length needs → IsInside tracks (slice_index_or needs k d)
+AreInside tracks needs = (k : ℕ) (d : Need) → k < length needs → IsInTracks tracks (slice_index_or needs k d)
 
 -- each need begins in a table of `tracks` tracks
 abbrev pub AreFirstBelow : ℕ → List Need → Type 0
@@ -55,17 +55,17 @@ pub record Collected : Type 0 where
   pub others : List Need
 
 -- the need is of one track, and a `usize` holds it
-abbrev pub is_plain : Need → Bool
-is_plain need = need.length == 1 && nat_lt need.size (2 ^ 64)
+abbrev pub is_of_one_track : Need → Bool
+is_of_one_track need = need.length == 1 && nat_lt need.size (2 ^ 64)
 
 -- how much a plain need asks of a track
 abbrev pub plain_size : ℕ → Need → ℕ
-plain_size track need = if is_plain need && need.first == track then need.size else 0
+plain_size track need = if is_of_one_track need && need.first == track then need.size else 0
 
 -- the plain needs are kept by their greatest, the others as they came
 pub record HasCollected (collected : Collected) (needs : List Need) : Type 0 where
   pub sizes : (track : ℕ) → slice_index collected.sizes track ≡ greatest (map (plain_size track) needs)
-  pub others : collected.others ≡ filter (λ need. not (is_plain need)) needs
+  pub others : collected.others ≡ filter (λ need. not (is_of_one_track need)) needs
 
 -- what is kept is of the needs of all visible cells, in whatever order they came
 pub record Describes (axis : Axis) (tracks crossings : ℕ) (between : Bool) (collected : Collected) : Type 0 where

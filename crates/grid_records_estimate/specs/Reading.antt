@@ -5,17 +5,17 @@ use Rattle.grid_config.specs.Spans.{extent_at}
 use Rattle.grid_config_values.specs.declared.position.Position.{Position}
 use Rattle.grid_records_traits.specs.Rows.{fitted}
 use Rattle.grid_records_estimate.specs.Collecting.{Collected, HasCollected}
-use Rattle.grid_records_estimate.specs.Sizing.{Sizing, height_need, is_visible, place, width_need}
+use Rattle.grid_records_estimate.specs.Sizing.{Sizing, height_need, is_visible, position_at, width_need}
 use Rattle.grid_records_estimate.specs.declared.need.Need.{Need}
 use Rattle.grid_records_estimate.specs.declared.reading.Reading.{Reading}
 
--- a cell: its place and its text
+-- a cell: its position_at and its text
 abbrev pub Placed : Type 0
 Placed = Position × List ℕ
 
 -- what a cell asks of columns, with its span as it was set: nothing where it is not visible
-abbrev pub cell_widths : Sizing → Placed → List Need
-cell_widths sizing cell =
+abbrev pub width_needs : Sizing → Placed → List Need
+width_needs sizing cell =
     if is_visible sizing.spans cell.0
     then record { length = (extent_at sizing.spans cell.0).columns; first = cell.0.col; crossing = cell.0.row; size = width_need sizing cell.0 cell.1 } ∷ []
     else []
@@ -30,7 +30,7 @@ cell_heights sizing cell =
 -- the cells of a row, from a column on
 abbrev pub row_cells : ℕ → ℕ → List (List ℕ) → List Placed
 row_cells row column [] = []
-row_cells row column (text ∷ texts) = (place row column, text) ∷ row_cells row (column + 1) texts
+row_cells row column (text ∷ texts) = (position_at row column, text) ∷ row_cells row (column + 1) texts
 
 -- the cells of rows, from a row on
 abbrev pub table_cells : ℕ → List (List (List ℕ)) → List Placed
@@ -39,7 +39,7 @@ table_cells row (texts ∷ rows) = row_cells row 0 texts ++ table_cells (row + 1
 
 -- these cells were read, and what they ask was collected
 pub record HasRead (sizing : Sizing) (widths heights : Collected) (cells : List Placed) : Type 0 where
-  pub widths_are : HasCollected widths (flat_map (cell_widths sizing) cells)
+  pub widths_are : HasCollected widths (flat_map (width_needs sizing) cells)
   pub heights_are : HasCollected heights (flat_map (cell_heights sizing) cells)
 
 -- these are how many columns and rows a table has, and what its cells ask

@@ -34,14 +34,14 @@ sizing_of settings = record { margin = settings.margin; borders = settings.borde
 abbrev pub compact_sizing : Compact → Sizing
 compact_sizing compact = record { margin = compact.margin; borders = compact.borders; padding = λ _. compact.padding; spans = [] }
 
--- whether the rectangle of no other cell holds the place: `IsVisible`, as a test
+-- whether the rectangle of no other cell holds the position_at: `IsVisible`, as a test
 abbrev pub is_visible : List (Position × Extent) → Position → Bool
 is_visible spans place = not (list_any (λ span. holds span.0 (extent_at spans span.0) place && not (same_place span.0 place)) spans)
 
 -- ---- the table of these texts, row by row, in `columns` columns
 
-abbrev pub place : ℕ → ℕ → Position
-place row column = record { row = row; col = column }
+abbrev pub position_at : ℕ → ℕ → Position
+position_at row column = record { row = row; col = column }
 
 -- a cell needs its text and the paddings at its left and right
 abbrev pub width_need : Sizing → Position → List ℕ → ℕ
@@ -56,9 +56,9 @@ abbrev pub column_axis : Sizing → ℕ → List (List (List ℕ)) → Axis
 column_axis sizing columns rows = record {
   tracks = columns;
   crossings = length rows;
-  is_visible = λ column row. is_visible sizing.spans (place row column);
-  span = λ column row. (extent_at sizing.spans (place row column)).columns;
-  need = λ column row. width_need sizing (place row column) (text_at rows (place row column));
+  is_visible = λ column row. is_visible sizing.spans (position_at row column);
+  span = λ column row. (extent_at sizing.spans (position_at row column)).columns;
+  need = λ column row. width_need sizing (position_at row column) (text_at rows (position_at row column));
   has_boundary = λ j. has_column_boundary sizing.borders (boundary_kind j columns);
 }
 
@@ -67,8 +67,8 @@ abbrev pub row_axis : Sizing → ℕ → List (List (List ℕ)) → Axis
 row_axis sizing columns rows = record {
   tracks = length rows;
   crossings = columns;
-  is_visible = λ row column. is_visible sizing.spans (place row column);
-  span = λ row column. (extent_at sizing.spans (place row column)).rows;
-  need = λ row column. height_need sizing (place row column) (text_at rows (place row column));
+  is_visible = λ row column. is_visible sizing.spans (position_at row column);
+  span = λ row column. (extent_at sizing.spans (position_at row column)).rows;
+  need = λ row column. height_need sizing (position_at row column) (text_at rows (position_at row column));
   has_boundary = λ i. has_row_boundary sizing.borders (boundary_kind i (length rows));
 }

@@ -2,7 +2,7 @@
 ghost use Rattle.std.specs.Prelude.{◌≡◌, ℕ, ◌+◌, ◌^◌, ◌<◌, ◌≤◌, ◌==◌, [], ◌∷◌, ◌++◌, IfErr, IfOk, List, OnErr, OnOk, None, Some, if◌then◌else◌, map, max, slice_index, vec_len};
 ghost use Rattle.std.specs.List.Sorted.{IsPermutation, IsSorted};
 ghost use Rattle.grid_records_estimate.specs.Estimates.{Axis, track_sizes};
-ghost use Rattle.grid_records_estimate.specs.Collecting.{AreFirstBelow, Describes, HasCollected, PassesMax, clipped, is_plain};
+ghost use Rattle.grid_records_estimate.specs.Collecting.{AreFirstBelow, Describes, HasCollected, PassesMax, clipped, is_of_one_track};
 ghost use Rattle.grid_records_estimate.specs.Sizes.{IsRefusal};
 
 use crate::need::Need;
@@ -83,7 +83,7 @@ impl Collector {
 
 // What the need asks of one column, where it is of one alone and fits.
 fn plain_size(need: Need) -> Option<usize>
-    ensures { result ≡ (if is_plain need then Some need.size else None) }
+    ensures { result ≡ (if is_of_one_track need then Some need.size else None) }
 {
     if need.length != 1 {
         return None;

@@ -3,7 +3,7 @@ ghost use Rattle.std.specs.Prelude.{◌≡◌, ℕ, ◌+◌, ◌-◌, ◌^◌, �
 ghost use Rattle.std.specs.List.{fold};
 ghost use Rattle.grid_config_values.specs.declared.fault.Fault.TheVariants.{Range};
 ghost use Rattle.grid_records_estimate.specs.Estimates.{meet, with_shares};
-ghost use Rattle.grid_records_estimate.specs.Collecting.{AreInside, HasBetween, IsInside, PassesMax};
+ghost use Rattle.grid_records_estimate.specs.Collecting.{AreInside, HasBetween, IsInTracks, PassesMax};
 
 use crate::need::Need;
 use grid_config_values::Fault;
@@ -25,7 +25,7 @@ pub(crate) fn meet_all(sizes: &mut [usize], needs: &[Need], between: bool) -> Re
 
 // Gives the columns of a need what they and the boundaries between them lack.
 fn meet(sizes: &mut [usize], need: Need, between: bool) -> Result<(), Fault>
-    requires { IsInside (length sizes.old) need }
+    requires { IsInTracks (length sizes.old) need }
     ensures ok { (has_boundary : ℕ → Bool) → HasBetween has_boundary (length sizes.old) between →
         OnOk result (sizes.new ≡ meet has_boundary sizes.old need) }
     ensures fault { IfErr result (λ fault. fault ≡ Range) }

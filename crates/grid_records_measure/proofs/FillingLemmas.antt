@@ -1,4 +1,4 @@
--- The characters that have room are the longest front that fits.
+-- The characters that have room are the longest fitting_front that fits.
 use Rattle.std.proofs.Common.{◌≡◌, ◌≤◌, ◌<◌, ℕ, suc, ◌+◌, ◌-◌, ◌&&◌, Bool, true, false, cond, nat_lt, nat_le, List, [], ◌∷◌, ◌++◌, length, take, refl, ap, sym, subst, ◌∙◌, arith}
 use Rattle.std.proofs.Math.Seq.{take-append_seam}
 use Rattle.std.specs.List.{onto_first}
@@ -8,7 +8,7 @@ use Rattle.std.proofs.lemmas.List.Splits.{length-slice_split}
 use Rattle.grid_records_measure.specs.Measures.{cost, columns}
 use Rattle.grid_records_measure.specs.TextLines.{is_line_feed}
 use Rattle.grid_records_measure.specs.Cutting.{lines_of, LinesFit, IsLongestFront, last_of, lacking}
-use Rattle.grid_records_measure.specs.Filling.{used_behind, has_room, front, front_columns, behind_front}
+use Rattle.grid_records_measure.specs.Filling.{used_behind, has_room, fitting_front, front_columns, behind_front}
 
 -- ---- lines of which the first stands behind so many columns
 
@@ -78,7 +78,7 @@ to-lines width used [] fits = subst (λ n. n ≤ width) (sym (columns-nil used))
 to-lines width used (c ∷ cs) fits =
     to-step width used c cs (is_line_feed c) (lines_of cs) (some-lines cs) (λ n. to-lines width n cs) fits
 
--- ---- the front fits
+-- ---- the fitting_front fits
 
 room-line : (width used : ℕ) → nat_lt used width && nat_le 0 width ≡ true → used < width
 room-line width used room = grind (arith, nat_tests)
@@ -97,23 +97,23 @@ some-cost c = omega arith
 
 fits-end : (width used c : ℕ) (cs : List ℕ) (is_end : Bool)
     → nat_lt used width && nat_le (cond is_end 0 (used + cost c)) width ≡ true
-    → ((n : ℕ) → n ≤ width → FitsFrom width n (front width n cs))
-    → Either is_end ((used < width) × FitsFrom width 0 (front width (cond is_end 0 (used + cost c)) cs)) (FitsFrom width (used + cost c) (front width (cond is_end 0 (used + cost c)) cs))
+    → ((n : ℕ) → n ≤ width → FitsFrom width n (fitting_front width n cs))
+    → Either is_end ((used < width) × FitsFrom width 0 (fitting_front width (cond is_end 0 (used + cost c)) cs)) (FitsFrom width (used + cost c) (fitting_front width (cond is_end 0 (used + cost c)) cs))
 fits-end width used c cs true room rest = (room-line width used room, rest 0 (omega arith))
 fits-end width used c cs false room rest = rest (used + cost c) (room-more width used (used + cost c) room)
 
 fits-step : (width used c : ℕ) (cs : List ℕ) (room : Bool) → used ≤ width → has_room width used c ≡ room
-    → ((n : ℕ) → n ≤ width → FitsFrom width n (front width n cs))
-    → FitsFrom width used (cond room (c ∷ front width (used_behind used c) cs) [])
+    → ((n : ℕ) → n ≤ width → FitsFrom width n (fitting_front width n cs))
+    → FitsFrom width used (cond room (c ∷ fitting_front width (used_behind used c) cs) [])
 fits-step width used c cs true fits room rest = fits-end width used c cs (is_line_feed c) room rest
 fits-step width used c cs false fits room rest = fits
 
-front-fits : (width used : ℕ) (cs : List ℕ) → used ≤ width → FitsFrom width used (front width used cs)
-front-fits width used [] fits = fits
-front-fits width used (c ∷ cs) fits =
-    fits-step width used c cs (has_room width used c) fits refl (λ n. front-fits width n cs)
+fitting_front-fits : (width used : ℕ) (cs : List ℕ) → used ≤ width → FitsFrom width used (fitting_front width used cs)
+fitting_front-fits width used [] fits = fits
+fitting_front-fits width used (c ∷ cs) fits =
+    fits-step width used c cs (has_room width used c) fits refl (λ n. fitting_front-fits width n cs)
 
--- ---- no longer front fits
+-- ---- no longer fitting_front fits
 
 used-step : (width used c : ℕ) (cs : List ℕ) (is_end : Bool) → (FitsFrom width (used + cost c) cs → used + cost c ≤ width)
     → Either is_end ((used < width) × FitsFrom width 0 cs) (FitsFrom width (used + cost c) cs) → used ≤ width
@@ -125,34 +125,34 @@ used-fits width used [] fits = fits
 used-fits width used (c ∷ cs) fits = used-step width used c cs (is_line_feed c) (used-fits width (used + cost c) cs) fits
 
 more-end : (width used c : ℕ) (other behind : List ℕ) (is_end : Bool)
-    → ((n : ℕ) → FitsFrom width n other → length other ≤ length (front width n (other ++ behind)))
+    → ((n : ℕ) → FitsFrom width n other → length other ≤ length (fitting_front width n (other ++ behind)))
     → Either is_end ((used < width) × FitsFrom width 0 other) (FitsFrom width (used + cost c) other)
-    → suc (length other) ≤ length (cond (nat_lt used width && nat_le (cond is_end 0 (used + cost c)) width) (c ∷ front width (cond is_end 0 (used + cost c)) (other ++ behind)) [])
+    → suc (length other) ≤ length (cond (nat_lt used width && nat_le (cond is_end 0 (used + cost c)) width) (c ∷ fitting_front width (cond is_end 0 (used + cost c)) (other ++ behind)) [])
 more-end width used c other behind true rest fits =
     let long = rest 0 fits.1 in
-    let longer : suc (length other) ≤ length (c ∷ front width 0 (other ++ behind)) = omega (arith, long) in
-    subst (λ room. suc (length other) ≤ length (cond room (c ∷ front width 0 (other ++ behind)) [])) (sym (has-room-line width used fits.0)) longer
+    let longer : suc (length other) ≤ length (c ∷ fitting_front width 0 (other ++ behind)) = omega (arith, long) in
+    subst (λ room. suc (length other) ≤ length (cond room (c ∷ fitting_front width 0 (other ++ behind)) [])) (sym (has-room-line width used fits.0)) longer
 more-end width used c other behind false rest fits =
     let long = rest (used + cost c) fits in
-    let longer : suc (length other) ≤ length (c ∷ front width (used + cost c) (other ++ behind)) = omega (arith, long) in
-    subst (λ room. suc (length other) ≤ length (cond room (c ∷ front width (used + cost c) (other ++ behind)) []))
+    let longer : suc (length other) ≤ length (c ∷ fitting_front width (used + cost c) (other ++ behind)) = omega (arith, long) in
+    subst (λ room. suc (length other) ≤ length (cond room (c ∷ fitting_front width (used + cost c) (other ++ behind)) []))
     (sym (has-room-more width used (cost c) (used-fits width (used + cost c) other fits) (some-cost c))) longer
 
-front-longest : (width used : ℕ) (other behind : List ℕ) → FitsFrom width used other → length other ≤ length (front width used (other ++ behind))
-front-longest width used [] behind fits = omega arith
-front-longest width used (c ∷ other) behind fits =
-    more-end width used c other behind (is_line_feed c) (λ n. front-longest width n other behind) fits
+fitting_front-longest : (width used : ℕ) (other behind : List ℕ) → FitsFrom width used other → length other ≤ length (fitting_front width used (other ++ behind))
+fitting_front-longest width used [] behind fits = omega arith
+fitting_front-longest width used (c ∷ other) behind fits =
+    more-end width used c other behind (is_line_feed c) (λ n. fitting_front-longest width n other behind) fits
 
 -- ---- what is left
 
-parted-step : (width used c : ℕ) (cs : List ℕ) (room : Bool) → cs ≡ front width (used_behind used c) cs ++ behind_front width (used_behind used c) cs
-    → c ∷ cs ≡ cond room (c ∷ front width (used_behind used c) cs) [] ++ cond room (behind_front width (used_behind used c) cs) (c ∷ cs)
+parted-step : (width used c : ℕ) (cs : List ℕ) (room : Bool) → cs ≡ fitting_front width (used_behind used c) cs ++ behind_front width (used_behind used c) cs
+    → c ∷ cs ≡ cond room (c ∷ fitting_front width (used_behind used c) cs) [] ++ cond room (behind_front width (used_behind used c) cs) (c ∷ cs)
 parted-step width used c cs true rest = ap (λ others. c ∷ others) rest
 parted-step width used c cs false rest = refl
 
-pub front-parted : (width used : ℕ) (cs : List ℕ) → cs ≡ front width used cs ++ behind_front width used cs
-front-parted width used [] = refl
-front-parted width used (c ∷ cs) = parted-step width used c cs (has_room width used c) (front-parted width (used_behind used c) cs)
+pub fitting_front-parted : (width used : ℕ) (cs : List ℕ) → cs ≡ fitting_front width used cs ++ behind_front width used cs
+fitting_front-parted width used [] = refl
+fitting_front-parted width used (c ∷ cs) = parted-step width used c cs (has_room width used c) (fitting_front-parted width (used_behind used c) cs)
 
 lines-fit : (width : ℕ) (lines : List (List ℕ)) → 0 < length lines → FitBehind width 0 lines → LinesFit width lines
 lines-fit width [] some fits = absurd (omega (arith, some))
@@ -162,15 +162,15 @@ fit-lines : (width : ℕ) (lines : List (List ℕ)) → 0 < length lines → Lin
 fit-lines width [] some fits = absurd (omega (arith, some))
 fit-lines width (line ∷ lines) some fits = fit-first width line lines fits
 
-pub IsLongestFront-front : (width : ℕ) (cs : List ℕ) → IsLongestFront width cs (front width 0 cs) (behind_front width 0 cs)
-IsLongestFront-front width cs = record {
-  parted = front-parted width 0 cs;
+pub IsLongestFront-fitting_front : (width : ℕ) (cs : List ℕ) → IsLongestFront width cs (fitting_front width 0 cs) (behind_front width 0 cs)
+IsLongestFront-fitting_front width cs = record {
+  parted = fitting_front-parted width 0 cs;
   fits =
-      let kept = front width 0 cs in
-      lines-fit width (lines_of kept) (some-lines kept) (to-lines width 0 kept (front-fits width 0 cs (omega arith)));
+      let kept = fitting_front width 0 cs in
+      lines-fit width (lines_of kept) (some-lines kept) (to-lines width 0 kept (fitting_front-fits width 0 cs (omega arith)));
   longest = λ other more parted fits.
-      subst (λ all. length other ≤ length (front width 0 all)) (sym parted)
-      (front-longest width 0 other more (from-lines width 0 other (fit-lines width (lines_of other) (some-lines other) fits)));
+      subst (λ all. length other ≤ length (fitting_front width 0 all)) (sym parted)
+      (fitting_front-longest width 0 other more (from-lines width 0 other (fit-lines width (lines_of other) (some-lines other) fits)));
 }
 
 pub IsLongestFront-unique : (width : ℕ) (cs kept left others more : List ℕ) → IsLongestFront width cs kept left → IsLongestFront width cs others more → kept ≡ others
@@ -201,36 +201,36 @@ last-line c used false (line ∷ []) some = sym (columns-cons used c line)
 last-line c used false (line ∷ next ∷ lines) some = refl
 
 columns-step : (width used c : ℕ) (cs : List ℕ) (room : Bool)
-    → front_columns width (used_behind used c) cs ≡ last_behind (used_behind used c) (lines_of (front width (used_behind used c) cs))
-    → cond room (front_columns width (used_behind used c) cs) used ≡ last_behind used (lines_of (cond room (c ∷ front width (used_behind used c) cs) []))
+    → front_columns width (used_behind used c) cs ≡ last_behind (used_behind used c) (lines_of (fitting_front width (used_behind used c) cs))
+    → cond room (front_columns width (used_behind used c) cs) used ≡ last_behind used (lines_of (cond room (c ∷ fitting_front width (used_behind used c) cs) []))
 unfolding last_behind
 columns-step width used c cs true rest =
-    let kept = front width (used_behind used c) cs in
+    let kept = fitting_front width (used_behind used c) cs in
     rest ∙ last-line c used (is_line_feed c) (lines_of kept) (some-lines kept)
 columns-step width used c cs false rest = sym (columns-nil used)
 
-front-columns : (width used : ℕ) (cs : List ℕ) → front_columns width used cs ≡ last_behind used (lines_of (front width used cs))
+fitting_front-columns : (width used : ℕ) (cs : List ℕ) → front_columns width used cs ≡ last_behind used (lines_of (fitting_front width used cs))
 unfolding last_behind
-front-columns width used [] = sym (columns-nil used)
-front-columns width used (c ∷ cs) = columns-step width used c cs (has_room width used c) (front-columns width (used_behind used c) cs)
+fitting_front-columns width used [] = sym (columns-nil used)
+fitting_front-columns width used (c ∷ cs) = columns-step width used c cs (has_room width used c) (fitting_front-columns width (used_behind used c) cs)
 
 columns-last : (lines : List (List ℕ)) → 0 < length lines → last_behind 0 lines ≡ columns (last_of lines)
 columns-last [] some = absurd (omega (arith, some))
 columns-last (line ∷ lines) some = last-first line lines
 
-pub lacking-left : (width c : ℕ) (cs left : List ℕ) → behind_front width 0 cs ≡ c ∷ left → lacking width (front width 0 cs) (behind_front width 0 cs) ≡ width - front_columns width 0 cs
+pub lacking-left : (width c : ℕ) (cs left : List ℕ) → behind_front width 0 cs ≡ c ∷ left → lacking width (fitting_front width 0 cs) (behind_front width 0 cs) ≡ width - front_columns width 0 cs
 lacking-left width c cs left behind =
-    let kept = front width 0 cs in
-    ap (lacking width kept) behind ∙ ap (λ n. width - n) (sym (front-columns width 0 cs ∙ columns-last (lines_of kept) (some-lines kept)))
+    let kept = fitting_front width 0 cs in
+    ap (lacking width kept) behind ∙ ap (λ n. width - n) (sym (fitting_front-columns width 0 cs ∙ columns-last (lines_of kept) (some-lines kept)))
 
-pub lacking-none : (width : ℕ) (cs : List ℕ) → behind_front width 0 cs ≡ [] → lacking width (front width 0 cs) (behind_front width 0 cs) ≡ 0
-lacking-none width cs behind = ap (lacking width (front width 0 cs)) behind
+pub lacking-none : (width : ℕ) (cs : List ℕ) → behind_front width 0 cs ≡ [] → lacking width (fitting_front width 0 cs) (behind_front width 0 cs) ≡ 0
+lacking-none width cs behind = ap (lacking width (fitting_front width 0 cs)) behind
 
 -- ---- characters behind others
 
 -- all of xs have room, and ys go on behind them
 pub record GoesOn (width used : ℕ) (xs ys : List ℕ) : Type 0 where
-  pub kept : front width used (xs ++ ys) ≡ xs ++ front width (front_columns width used xs) ys
+  pub kept : fitting_front width used (xs ++ ys) ≡ xs ++ fitting_front width (front_columns width used xs) ys
   pub columns : front_columns width used (xs ++ ys) ≡ front_columns width (front_columns width used xs) ys
   pub left : behind_front width used (xs ++ ys) ≡ behind_front width (front_columns width used xs) ys
 
@@ -242,9 +242,9 @@ goes-step width used c xs ys true room rest none =
     let n = front_columns width (used_behind used c) xs in
     record {
       kept =
-          ap (λ b. cond b (c ∷ front width (used_behind used c) (xs ++ ys)) []) room
+          ap (λ b. cond b (c ∷ fitting_front width (used_behind used c) (xs ++ ys)) []) room
           ∙ ap (λ cs. c ∷ cs) on.kept
-          ∙ ap (λ b. c ∷ xs ++ front width (cond b n used) ys) (sym room);
+          ∙ ap (λ b. c ∷ xs ++ fitting_front width (cond b n used) ys) (sym room);
       columns =
           ap (λ b. cond b (front_columns width (used_behind used c) (xs ++ ys)) used) room
           ∙ on.columns
@@ -263,7 +263,7 @@ goes-on width used (c ∷ xs) ys none =
 
 -- a character of xs has no room, so ys change nothing
 pub record Stops (width used : ℕ) (xs ys : List ℕ) : Type 0 where
-  pub kept : front width used (xs ++ ys) ≡ front width used xs
+  pub kept : fitting_front width used (xs ++ ys) ≡ fitting_front width used xs
   pub columns : front_columns width used (xs ++ ys) ≡ front_columns width used xs
   pub left : behind_front width used (xs ++ ys) ≡ behind_front width used xs ++ ys
 
@@ -274,9 +274,9 @@ stops-step width used c xs ys true room rest some =
     let stop = rest some in
     record {
       kept =
-          ap (λ b. cond b (c ∷ front width (used_behind used c) (xs ++ ys)) []) room
+          ap (λ b. cond b (c ∷ fitting_front width (used_behind used c) (xs ++ ys)) []) room
           ∙ ap (λ cs. c ∷ cs) stop.kept
-          ∙ ap (λ b. cond b (c ∷ front width (used_behind used c) xs) []) (sym room);
+          ∙ ap (λ b. cond b (c ∷ fitting_front width (used_behind used c) xs) []) (sym room);
       columns =
           ap (λ b. cond b (front_columns width (used_behind used c) (xs ++ ys)) used) room
           ∙ stop.columns
@@ -288,8 +288,8 @@ stops-step width used c xs ys true room rest some =
     }
 stops-step width used c xs ys false room rest some = record {
   kept =
-      ap (λ b. cond b (c ∷ front width (used_behind used c) (xs ++ ys)) []) room
-      ∙ ap (λ b. cond b (c ∷ front width (used_behind used c) xs) []) (sym room);
+      ap (λ b. cond b (c ∷ fitting_front width (used_behind used c) (xs ++ ys)) []) room
+      ∙ ap (λ b. cond b (c ∷ fitting_front width (used_behind used c) xs) []) (sym room);
   columns =
       ap (λ b. cond b (front_columns width (used_behind used c) (xs ++ ys)) used) room
       ∙ ap (λ b. cond b (front_columns width (used_behind used c) xs) used) (sym room);

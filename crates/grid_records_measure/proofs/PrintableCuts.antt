@@ -12,7 +12,7 @@ use Rattle.ansi_scan.proofs.Uniqueness.{pieces-joined}
 use Rattle.ansi_str_search.proofs.SearchLemmas.{strip-byte}
 use Rattle.ansi_str_text.specs.StyledText.{strip}
 use Rattle.grid_records_measure.specs.Cutting.{lacking}
-use Rattle.grid_records_measure.specs.Filling.{behind_front, front, front_columns, has_room, used_behind}
+use Rattle.grid_records_measure.specs.Filling.{behind_front, fitting_front, front_columns, has_room, used_behind}
 use Rattle.grid_records_measure.specs.Measures.{are_printable, cost}
 use Rattle.grid_records_measure.specs.TextLines.{is_line_feed}
 use Rattle.grid_records_measure.proofs.CutLemmas.{FitsOn, fits-on, lacking-some}
@@ -51,25 +51,25 @@ module _ (width : ℕ) where
 
   -- all of them fit
   all-fill : (used : ℕ) (bs : List ℕ) → are_printable bs ≡ true → used + length bs ≤ width
-      → (front width used bs ≡ bs) × (behind_front width used bs ≡ []) × (front_columns width used bs ≡ used + length bs)
+      → (fitting_front width used bs ≡ bs) × (behind_front width used bs ≡ []) × (front_columns width used bs ≡ used + length bs)
   all-fill used [] h fits = (refl, refl, omega arith)
   all-fill used (c ∷ cs) h fits =
       let here = room-one used c (both c cs h).0 (omega (arith, fits)) in
       let on = behind-one used c (both c cs h).0 in
       let rest = all-fill (used + 1) cs (both c cs h).1 (omega (arith, fits)) in
       let sum : used + 1 + length cs ≡ used + length (c ∷ cs) = omega arith in (
-        ap (λ t. cond t (c ∷ front width (used_behind used c) cs) []) here ∙ ap (λ n. c ∷ front width n cs) on ∙ ap (λ (bytes : List ℕ). c ∷ bytes) rest.0,
+        ap (λ t. cond t (c ∷ fitting_front width (used_behind used c) cs) []) here ∙ ap (λ n. c ∷ fitting_front width n cs) on ∙ ap (λ (bytes : List ℕ). c ∷ bytes) rest.0,
         ap (λ t. cond t (behind_front width (used_behind used c) cs) (c ∷ cs)) here ∙ ap (λ n. behind_front width n cs) on ∙ rest.1,
         ap (λ t. cond t (front_columns width (used_behind used c) cs) used) here ∙ ap (λ n. front_columns width n cs) on ∙ rest.2 ∙ sum,
       )
 
   -- nothing fits into a full line
-  full : (cs : List ℕ) → (front width width cs ≡ []) × (front_columns width width cs ≡ width)
+  full : (cs : List ℕ) → (fitting_front width width cs ≡ []) × (front_columns width width cs ≡ width)
   full [] = (refl, refl)
   full (c ∷ cs) =
       let less : nat_lt width width ≡ false = grind (arith, nat_tests) in
       let none : has_room width width c ≡ false = ap (λ t. t && nat_le (used_behind width c) width) less in (
-        ap (λ t. cond t (c ∷ front width (used_behind width c) cs) []) none,
+        ap (λ t. cond t (c ∷ fitting_front width (used_behind width c) cs) []) none,
         ap (λ t. cond t (front_columns width (used_behind width c) cs) width) none,
       )
 
@@ -80,7 +80,7 @@ module _ (width : ℕ) where
     own : chars bs ≡ bs
     own = chars-IsAscii bs (printable-ascii bs printable)
 
-    filled : (front width 0 bs ≡ bs) × (behind_front width 0 bs ≡ []) × (front_columns width 0 bs ≡ 0 + length bs)
+    filled : (fitting_front width 0 bs ≡ bs) × (behind_front width 0 bs ≡ []) × (front_columns width 0 bs ≡ 0 + length bs)
     filled = all-fill 0 bs printable (omega (arith, fits))
 
     columns : front_columns width 0 (chars bs) ≡ length bs
@@ -90,27 +90,27 @@ module _ (width : ℕ) where
     on = fits-on width 0 bs (strip (pieces rest)) utf8 (ap (behind_front width 0) own ∙ filled.1)
 
     -- what stands behind them
-    behind : (end : (length bs ≡ width) ⊎ (rest ≡ [])) → (length (encode_utf8_all (front width (length bs) (chars (strip (pieces rest))))) ≡ 0)
+    behind : (end : (length bs ≡ width) ⊎ (rest ≡ [])) → (length (encode_utf8_all (fitting_front width (length bs) (chars (strip (pieces rest))))) ≡ 0)
         × ((behind_front width (length bs) (chars (strip (pieces rest))) ≡ []) ⊎ (front_columns width (length bs) (chars (strip (pieces rest))) ≡ width))
     behind (inl all) =
         let none = full (chars (strip (pieces rest))) in (
-          ap (λ n. length (encode_utf8_all (front width n (chars (strip (pieces rest)))))) all ∙ ap (λ cs. length (encode_utf8_all cs)) none.0,
+          ap (λ n. length (encode_utf8_all (fitting_front width n (chars (strip (pieces rest)))))) all ∙ ap (λ cs. length (encode_utf8_all cs)) none.0,
           inr (ap (λ n. front_columns width n (chars (strip (pieces rest)))) all ∙ none.1),
         )
     behind (inr nothing) =
         let none : chars (strip (pieces rest)) ≡ [] = ap (λ bytes. chars (strip (pieces bytes))) nothing ∙ ap (λ ps. chars (strip ps)) (pieces-joined [] tt) ∙ chars-nil in (
-          ap (λ cs. length (encode_utf8_all (front width (length bs) cs))) none,
+          ap (λ cs. length (encode_utf8_all (fitting_front width (length bs) cs))) none,
           inl (ap (behind_front width (length bs)) none),
         )
 
-    pub printable-place : length bs ≡ length (encode_utf8_all (front width 0 (chars shown)))
+    pub printable-place : length bs ≡ length (encode_utf8_all (fitting_front width 0 (chars shown)))
     printable-place =
-        let first : length (encode_utf8_all (front width 0 (chars bs))) ≡ length bs =
-        ap (λ cs. length (encode_utf8_all (front width 0 cs))) own ∙ ap (λ cs. length (encode_utf8_all cs)) (filled.0 ∙ sym own) ∙ ap length (encodes-chars bs utf8) in
-        let last = ap (λ n. length (encode_utf8_all (front width n (chars (strip (pieces rest)))))) columns ∙ (behind ends).0 in
-        omega (arith, first, last, on.len, ap (λ bytes. length (encode_utf8_all (front width 0 (chars bytes)))) (shown-behind bs rest printable))
+        let first : length (encode_utf8_all (fitting_front width 0 (chars bs))) ≡ length bs =
+        ap (λ cs. length (encode_utf8_all (fitting_front width 0 cs))) own ∙ ap (λ cs. length (encode_utf8_all cs)) (filled.0 ∙ sym own) ∙ ap length (encodes-chars bs utf8) in
+        let last = ap (λ n. length (encode_utf8_all (fitting_front width n (chars (strip (pieces rest)))))) columns ∙ (behind ends).0 in
+        omega (arith, first, last, on.len, ap (λ bytes. length (encode_utf8_all (fitting_front width 0 (chars bytes)))) (shown-behind bs rest printable))
 
-    pub printable-lacks : 0 ≡ lacking width (front width 0 (chars shown)) (behind_front width 0 (chars shown))
+    pub printable-lacks : 0 ≡ lacking width (fitting_front width 0 (chars shown)) (behind_front width 0 (chars shown))
     printable-lacks = by (behind_front width 0 (chars shown)) refl
       where
         left : behind_front width 0 (chars shown) ≡ behind_front width (length bs) (chars (strip (pieces rest)))
@@ -119,7 +119,7 @@ module _ (width : ℕ) where
         used : front_columns width 0 (chars shown) ≡ front_columns width (length bs) (chars (strip (pieces rest)))
         used = ap (λ bytes. front_columns width 0 (chars bytes)) (shown-behind bs rest printable) ∙ on.columns ∙ ap (λ n. front_columns width n (chars (strip (pieces rest)))) columns
 
-        by : (others : List ℕ) → behind_front width 0 (chars shown) ≡ others → 0 ≡ lacking width (front width 0 (chars shown)) (behind_front width 0 (chars shown))
+        by : (others : List ℕ) → behind_front width 0 (chars shown) ≡ others → 0 ≡ lacking width (fitting_front width 0 (chars shown)) (behind_front width 0 (chars shown))
         by [] is = sym (lacking-none width (chars shown) is)
         by (c ∷ cs) is =
             let some : 0 < length (behind_front width 0 (chars shown)) = omega (arith, ap length is) in
@@ -128,11 +128,11 @@ module _ (width : ℕ) where
               | inr all ↦ let none : 0 ≡ width - front_columns width 0 (chars shown) = omega (arith, used, all) in none ∙ sym (lacking-some width (chars shown) some)
             ]
 
--- so many bytes at the front of a text, as many as the width or all
-pub printable-front : (width room : ℕ) (text : List ℕ) → room ≡ min width (length text) → are_printable (take room text) ≡ true
-    → (room ≡ length (encode_utf8_all (front width 0 (chars (strip (pieces text))))))
-    × (0 ≡ lacking width (front width 0 (chars (strip (pieces text)))) (behind_front width 0 (chars (strip (pieces text)))))
-printable-front width room text is printable =
+-- so many bytes at the fitting_front of a text, as many as the width or all
+pub printable-fitting_front : (width room : ℕ) (text : List ℕ) → room ≡ min width (length text) → are_printable (take room text) ≡ true
+    → (room ≡ length (encode_utf8_all (fitting_front width 0 (chars (strip (pieces text))))))
+    × (0 ≡ lacking width (fitting_front width 0 (chars (strip (pieces text)))) (behind_front width 0 (chars (strip (pieces text)))))
+printable-fitting_front width room text is printable =
     let bs = take room text in
     let rest = drop room text in
     let whole : bs ++ rest ≡ text = take-append-drop room text in
@@ -144,7 +144,7 @@ printable-front width room text is printable =
       | inl less ↦ inr (drop_all room text (omega (arith, is, less)))
       | inr more ↦ inl (omega (arith, is, size, more))
     ] in (
-      sym size ∙ printable-place width bs rest printable utf8 fits ends ∙ ap (λ bytes. length (encode_utf8_all (front width 0 (chars (strip (pieces bytes)))))) whole,
+      sym size ∙ printable-place width bs rest printable utf8 fits ends ∙ ap (λ bytes. length (encode_utf8_all (fitting_front width 0 (chars (strip (pieces bytes)))))) whole,
       printable-lacks width bs rest printable utf8 fits ends
-          ∙ ap (λ bytes. lacking width (front width 0 (chars (strip (pieces bytes)))) (behind_front width 0 (chars (strip (pieces bytes))))) whole,
+          ∙ ap (λ bytes. lacking width (fitting_front width 0 (chars (strip (pieces bytes)))) (behind_front width 0 (chars (strip (pieces bytes))))) whole,
     )

@@ -8,7 +8,7 @@ use Rattle.std.proofs.lemmas.Bool.{and_parts}
 use Rattle.std.proofs.lemmas.List.{map-append}
 use Rattle.std.proofs.lemmas.Str.{chars-append, chars-encodes, encodes-append, encodes-chars, scalars-chars, IsCharBoundary-start, IsCharBoundary-at_seam, chars-nil, length-le-encodes}
 use Rattle.ansi_scan.specs.declared.items.Kind.TheVariants.{Text}
-use Rattle.ansi_scan.specs.Sequences.{Piece, ArePiecesOf, NoneBroken, is_plain}
+use Rattle.ansi_scan.specs.Sequences.{Piece, ArePiecesOf, NoneBroken, is_not_escape}
 use Rattle.ansi_scan.specs.Joining.{is_text_kind, put_before, put_all_before}
 use Rattle.ansi_scan.specs.Pieces.{pieces}
 use Rattle.ansi_scan.specs.Attributes.{Attributes, plain_attributes}
@@ -79,7 +79,7 @@ unfoldable pub fill_pieces : ℕ → List Piece
 fill_pieces zero = []
 fill_pieces (suc n) = record { kind = Text; bytes = encode_utf8_all (replicate (suc n) replacement) } ∷ []
 
-filled-plain : (n : ℕ) → list_all is_plain (encode_utf8_all (replicate n replacement)) ≡ true
+filled-plain : (n : ℕ) → list_all is_not_escape (encode_utf8_all (replicate n replacement)) ≡ true
 unfolding encode
 filled-plain zero = refl
 filled-plain (suc n) = filled-plain n

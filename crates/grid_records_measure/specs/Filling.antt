@@ -16,9 +16,9 @@ abbrev pub columns_with : ℕ → ℕ → ℕ → Option ℕ
 columns_with width used c = if has_room width used c then Some (used_behind used c) else None
 
 -- the characters that have room
-abbrev pub front : ℕ → ℕ → List ℕ → List ℕ
-front width used [] = []
-front width used (c ∷ cs) = if has_room width used c then c ∷ front width (used_behind used c) cs else []
+abbrev pub fitting_front : ℕ → ℕ → List ℕ → List ℕ
+fitting_front width used [] = []
+fitting_front width used (c ∷ cs) = if has_room width used c then c ∷ fitting_front width (used_behind used c) cs else []
 
 -- the columns of the line after them
 abbrev pub front_columns : ℕ → ℕ → List ℕ → ℕ

@@ -6,7 +6,7 @@ ghost use Rattle.ansi_scan.specs.Pieces.{pieces as pieces_of};
 ghost use Rattle.ansi_str.specs.StyledText.{strip};
 ghost use Rattle.grid_records_measure.specs.Cutting.{IsCutAt, IsPlainCut, lacking, replacement};
 ghost use Rattle.grid_records_measure.specs.CutTexts.{cut_at};
-ghost use Rattle.grid_records_measure.specs.Filling.{behind_front, columns_with, front, front_columns};
+ghost use Rattle.grid_records_measure.specs.Filling.{behind_front, columns_with, fitting_front, front_columns};
 
 use crate::characters::cost;
 use crate::printable::is_printable;
@@ -36,8 +36,8 @@ pub fn cut_width<'a>(alloc: Global, text: &'a str, width: usize) -> Result<CowSt
 
 /// How many bytes of the text that is shown fit, and how many columns the last line then lacks where text is left.
 fn place_and_lacking(text: &str, width: usize) -> (usize, usize)
-    ensures place { result.0 ≡ length (encode_utf8_all (front width 0 (chars (strip (pieces_of text.now))))) }
-    ensures left { result.1 ≡ lacking width (front width 0 (chars (strip (pieces_of text.now)))) (behind_front width 0 (chars (strip (pieces_of text.now)))) }
+    ensures place { result.0 ≡ length (encode_utf8_all (fitting_front width 0 (chars (strip (pieces_of text.now))))) }
+    ensures left { result.1 ≡ lacking width (fitting_front width 0 (chars (strip (pieces_of text.now)))) (behind_front width 0 (chars (strip (pieces_of text.now)))) }
 {
     if let Some(place) = printable_front(text, width) {
         return (place, 0);
@@ -59,8 +59,8 @@ fn place_and_lacking(text: &str, width: usize) -> (usize, usize)
 /// How many bytes fit of a text whose first bytes are printable ASCII, as many as the width or all: just these, and
 /// no column is lacking. None of any other text.
 fn printable_front(text: &str, width: usize) -> Option<usize>
-    ensures place { IfSome result (λ place. place ≡ length (encode_utf8_all (front width 0 (chars (strip (pieces_of text.now)))))) }
-    ensures left { IfSome result (λ _. 0 ≡ lacking width (front width 0 (chars (strip (pieces_of text.now)))) (behind_front width 0 (chars (strip (pieces_of text.now))))) }
+    ensures place { IfSome result (λ place. place ≡ length (encode_utf8_all (fitting_front width 0 (chars (strip (pieces_of text.now)))))) }
+    ensures left { IfSome result (λ _. 0 ≡ lacking width (fitting_front width 0 (chars (strip (pieces_of text.now)))) (behind_front width 0 (chars (strip (pieces_of text.now))))) }
 {
     let room = width.min(text.len());
     let (front, _) = text.split_at_checked(room)?;
@@ -75,7 +75,7 @@ fn printable_front(text: &str, width: usize) -> Option<usize>
 /// line after them.
 fn fill(text: &str, width: usize, before: usize) -> (usize, usize)
     requires { before ≤ width }
-    ensures len { result.0 ≡ length (encode_utf8_all (front width before (chars text.now))) }
+    ensures len { result.0 ≡ length (encode_utf8_all (fitting_front width before (chars text.now))) }
     ensures columns { result.1 ≡ front_columns width before (chars text.now) }
     ensures fits { result.1 ≤ width }
 {

@@ -5,7 +5,7 @@ use Rattle.std.proofs.lemmas.List.Elements.{All-map}
 use Rattle.std.specs.Vec.{with_item}
 use Rattle.grid_config_values.specs.declared.Position.{Position}
 use Rattle.grid_records_traits.proofs.FittedRows.{fitted-same}
-use Rattle.grid_records_traits.specs.Rows.{IsInside, fitted, row_at, with_text}
+use Rattle.grid_records_traits.specs.Rows.{HasCell, fitted, row_at, with_text}
 use Rattle.grid_records_traits.specs.Sources.{texts_of_rows}
 use Rattle.grid_records_rows.specs.Sources.{AreEquallyLong, columns_of}
 
@@ -19,7 +19,7 @@ fitted_table {T} {Z} text rows long =
 
 -- one cell that is set is one text that is set
 pub set_text : {T Z : Type 0} (text : T → List ℕ) (rows : List (Vec T Z)) (pos : Position) (row : Vec T Z) (cell : T) →
-    row ≡ get_or rows pos.row row → IsInside (texts_of_rows text rows) pos →
+    row ≡ get_or rows pos.row row → HasCell (texts_of_rows text rows) pos →
     texts_of_rows text (slice_set rows pos.row (with_item row pos.col cell)) ≡ with_text (texts_of_rows text rows) pos (text cell)
 set_text {T} {Z} text rows pos row cell is inside =
     let texts = λ (row : Vec T Z). map text (vec_items row) in

@@ -13,12 +13,12 @@ of_rest f none None = none
 of_rest f none (Some rest) = f rest
 
 -- the kept rows, and the rest of the source where there is one
-pub record Parts (K R : Type 0) : Type 0 where
+pub record BufferedParts (K R : Type 0) : Type 0 where
   pub kept : K
   pub rest : Option R
 
 -- a call gives the next kept row, and after the last of them the next row of the rest
-abbrev pub GivesBuffered : {K R Kept Rest : Type 0} → (K → Option Kept → K → Type 0) → (R → Option Rest → R → Type 0) → Parts K R → Option (Either Kept Rest) → Parts K R → Type 0
+abbrev pub GivesBuffered : {K R Kept Rest : Type 0} → (K → Option Kept → K → Type 0) → (R → Option Rest → R → Type 0) → BufferedParts K R → Option (Either Kept Rest) → BufferedParts K R → Type 0
 GivesBuffered {R = R} kept_steps rest_steps before found after =
     MatchOption found
     (kept_steps before.kept None after.kept

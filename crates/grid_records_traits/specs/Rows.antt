@@ -19,8 +19,8 @@ abbrev pub text_at : List (List (List ℕ)) → Position → List ℕ
 text_at rows pos = slice_index_or (row_at rows pos.row) pos.col []
 
 -- there is a cell at this place
-abbrev pub IsInside : List (List (List ℕ)) → Position → Type 0
-IsInside rows pos = (pos.row < length rows) × (pos.col < length (row_at rows pos.row))
+abbrev pub HasCell : List (List (List ℕ)) → Position → Type 0
+HasCell rows pos = (pos.row < length rows) × (pos.col < length (row_at rows pos.row))
 
 -- the rows with this text at this place
 abbrev pub with_text : List (List (List ℕ)) → Position → List ℕ → List (List (List ℕ))

@@ -57,7 +57,7 @@ impl<'a, R: ExactRecords + PeekableRecords, D: Dimension, C: Colors> PeekableGri
     ghost use Rattle.grid_config_values.specs.declared.fault.Fault.TheVariants.{Memory};
     ghost use Rattle.grid_config.specs.Looks.{look_of};
     ghost use Rattle.papergrid_picture.specs.Frame.{line_count};
-    ghost use Rattle.papergrid_fits.specs.Tables.{Fits, table_frame};
+    ghost use Rattle.papergrid_fits.specs.Tables.{CanBeDrawn, table_frame};
     ghost use Rattle.papergrid.specs.GridParts.{line_text, wanted_text};
     ghost use Rattle.papergrid_fits.specs.Grids.{grid_text};
     ghost use Rattle.tabled_output.specs.Pieces.{Passes};
@@ -65,7 +65,7 @@ impl<'a, R: ExactRecords + PeekableRecords, D: Dimension, C: Colors> PeekableGri
     /// How many lines `build` appends, on its condition: those of the margins too, and none where there
     /// are no rows or no columns. Does not allocate.
     pub fn lines(&self) -> usize
-        requires { Fits self.now.settings.now (D.width self.now.sizes) (D.height self.now.sizes) (R.columns self.now.records) (R.rows self.now.records) }
+        requires { CanBeDrawn self.now.settings.now (D.width self.now.sizes) (D.height self.now.sizes) (R.columns self.now.records) (R.rows self.now.records) }
         ensures { result ≡ line_count (table_frame self.now.settings.now (D.width self.now.sizes) (D.height self.now.sizes) (R.columns self.now.records) (R.rows self.now.records)) }
     {
         count_sized_lines(
@@ -80,7 +80,7 @@ impl<'a, R: ExactRecords + PeekableRecords, D: Dimension, C: Colors> PeekableGri
     /// lines, a line feed between each two. Without rows or columns it appends nothing, and never fails. Else
     /// it fails only where allocation fails, and then the text is as it was.
     pub fn build(&self, alloc: Global, out: &mut String) -> Result<(), Fault>
-        requires { Fits self.now.settings.now (D.width self.now.sizes) (D.height self.now.sizes) (R.columns self.now.records) (R.rows self.now.records) }
+        requires { CanBeDrawn self.now.settings.now (D.width self.now.sizes) (D.height self.now.sizes) (R.columns self.now.records) (R.rows self.now.records) }
         ensures text { OnOk result (string_bytes out.new ≡ string_bytes out.old
             ++ grid_text (look_of self.now.settings.now) (D.width self.now.sizes) (D.height self.now.sizes) (C.color self.now.colors) (R.columns self.now.records) (R.rows self.now.records)) }
         ensures refused { OnErr result (string_bytes out.new ≡ string_bytes out.old) }
@@ -106,7 +106,7 @@ impl<'a, R: ExactRecords + PeekableRecords, D: Dimension, C: Colors> PeekableGri
     /// The text that `build` appends to an empty one, on its condition. Without rows or columns it never fails,
     /// and else only where allocation fails.
     pub fn to_string(&self, alloc: Global) -> Result<String, Fault>
-        requires { Fits self.now.settings.now (D.width self.now.sizes) (D.height self.now.sizes) (R.columns self.now.records) (R.rows self.now.records) }
+        requires { CanBeDrawn self.now.settings.now (D.width self.now.sizes) (D.height self.now.sizes) (R.columns self.now.records) (R.rows self.now.records) }
         ensures text { IfOk result (λ text. string_bytes text
             ≡ grid_text (look_of self.now.settings.now) (D.width self.now.sizes) (D.height self.now.sizes) (C.color self.now.colors) (R.columns self.now.records) (R.rows self.now.records)) }
         ensures fault { IfErr result (λ fault. fault ≡ Memory) }
@@ -122,7 +122,7 @@ impl<'a, R: ExactRecords + PeekableRecords, D: Dimension, C: Colors> PeekableGri
     /// is below `lines`. It fails only where allocation fails, and then the text is as it was. Each call walks
     /// the heights of the rows above: for all lines in turn `build` and `write` are there.
     pub fn build_line(&self, alloc: Global, y: usize, out: &mut String) -> Result<(), Fault>
-        requires fits { Fits self.now.settings.now (D.width self.now.sizes) (D.height self.now.sizes) (R.columns self.now.records) (R.rows self.now.records) }
+        requires fits { CanBeDrawn self.now.settings.now (D.width self.now.sizes) (D.height self.now.sizes) (R.columns self.now.records) (R.rows self.now.records) }
         requires line { y < line_count (table_frame self.now.settings.now (D.width self.now.sizes) (D.height self.now.sizes) (R.columns self.now.records) (R.rows self.now.records)) }
         ensures text { OnOk result (string_bytes out.new ≡ string_bytes out.old
             ++ line_text (look_of self.now.settings.now) (D.width self.now.sizes) (D.height self.now.sizes) (C.color self.now.colors) (R.columns self.now.records) (R.rows self.now.records) y) }
@@ -154,7 +154,7 @@ impl<'a, R: ExactRecords + PeekableRecords, D: Dimension, C: Colors> PeekableGri
         alloc: Global,
         writer: &mut Counted<W>,
     ) -> Result<Result<(), WriteFault>, AllocError>
-        requires fits { Fits self.now.settings.now (D.width self.now.sizes) (D.height self.now.sizes) (R.columns self.now.records) (R.rows self.now.records) }
+        requires fits { CanBeDrawn self.now.settings.now (D.width self.now.sizes) (D.height self.now.sizes) (R.columns self.now.records) (R.rows self.now.records) }
         ensures { Passes W.contents (grid_text (look_of self.now.settings.now) (D.width self.now.sizes) (D.height self.now.sizes) (C.color self.now.colors) (R.columns self.now.records) (R.rows self.now.records)) result [] writer.old writer.new }
     {
         let rows = self.records.count_rows();
@@ -180,7 +180,7 @@ impl<'a, R: ExactRecords + PeekableRecords, D: Dimension, C: Colors> PeekableGri
         writer: &mut Counted<W>,
         wanted: &K,
     ) -> Result<Result<(), WriteFault>, AllocError>
-        requires fits { Fits self.now.settings.now (D.width self.now.sizes) (D.height self.now.sizes) (R.columns self.now.records) (R.rows self.now.records) }
+        requires fits { CanBeDrawn self.now.settings.now (D.width self.now.sizes) (D.height self.now.sizes) (R.columns self.now.records) (R.rows self.now.records) }
         ensures { Passes W.contents (wanted_text (look_of self.now.settings.now) (D.width self.now.sizes) (D.height self.now.sizes) (C.color self.now.colors) (R.columns self.now.records) (R.rows self.now.records) (K.wants wanted.now)) result [] writer.old writer.new }
     {
         let rows = self.records.count_rows();

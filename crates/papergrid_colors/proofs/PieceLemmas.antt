@@ -6,7 +6,7 @@ use Rattle.grid_config_values.specs.declared.position.Position.{Position}
 use Rattle.grid_config.specs.Colors.{Color}
 use Rattle.grid_config.specs.Looks.{Look}
 use Rattle.papergrid_picture.specs.Blocks.{Grid}
-use Rattle.papergrid_picture.specs.Picture.{Piece, parts_of, picture_line}
+use Rattle.papergrid_picture.specs.Picture.{PlacedPart, parts_of, picture_line}
 use Rattle.papergrid_picture.specs.Reading.{Reading, painted, part_items}
 use Rattle.papergrid_picture.specs.Shown.{IsBare, IsShown, WritesNothing}
 use Rattle.papergrid_picture.specs.Tables.{in_bytes, table_grid, table_line}
@@ -30,7 +30,7 @@ module _ (look : Look) (rows : List (List (List ℕ))) (colors : Position → Op
   stays (Some color) (b ∷ bs) = refl
 
   pub line-pieces : (y : ℕ) → table_line look rows colors widths heights y
-      ≡ flat_map (λ (piece : Piece). part_items reading piece.part) (picture_line (table_grid look rows (λ _. None) widths heights) y)
+      ≡ flat_map (λ (piece : PlacedPart). part_items reading piece.part) (picture_line (table_grid look rows (λ _. None) widths heights) y)
   line-pieces y =
       let grid : Grid = table_grid look rows (λ _. None) widths heights in
       grid_line-same (in_bytes look rows) (table_grid look rows colors widths heights) y
@@ -38,4 +38,4 @@ module _ (look : Look) (rows : List (List (List ℕ))) (colors : Position → Op
       reading unpainted WritesNothing (λ color a b nothing is. bytes-left look rows colors color a nothing ∙ is ∙ sym (stays color b))
       IsShown (λ c shown. refl) IsShown-space grid (λ cell k. refl) (λ _. tt) bare.shown bare.no_colors y
       ∙ line_items-plain unpainted stays (parts_of (picture_line grid y))
-      ∙ flat_map-map (part_items unpainted) (λ (piece : Piece). piece.part) (picture_line grid y)
+      ∙ flat_map-map (part_items unpainted) (λ (piece : PlacedPart). piece.part) (picture_line grid y)

@@ -9,7 +9,7 @@ use Rattle.grid_config_values.specs.Glyphs.{boundary_kind, crossing, in_row}
 use Rattle.grid_config.specs.Colors.{Color}
 use Rattle.papergrid_picture.specs.Frame.{Place, Boundary, Row, Outside, block_height, block_width, boundary_at, column_count, place, row_count, track_at}
 use Rattle.papergrid_picture.specs.Blocks.{Content, Fill, Glyph, TextLine, Grid, Part, block, fill, free_above, text_line}
-use Rattle.papergrid_picture.specs.Picture.{Piece, across, along, block_pieces, boundary_part, corner, laid, margin_line, parts_of, picture_line, pieces_at, row_part, seen, upright, blank}
+use Rattle.papergrid_picture.specs.Picture.{PlacedPart, across, along, block_pieces, boundary_part, corner, laid, margin_line, parts_of, picture_line, pieces_at, row_part, seen, upright, blank}
 use Rattle.papergrid_picture.proofs.ItemLemmas.{Anything, colored-anyhow, shows-anything}
 use Rattle.papergrid_picture.proofs.RelatedLemmas.{parts-hold}
 use Rattle.papergrid_picture.proofs.ShownLemmas.{get_or-map}
@@ -25,10 +25,10 @@ kept_color (TextLine cell k) color = None
 abbrev pub uncolored : Part → Part
 uncolored part = record part { color = kept_color part.content part.color }
 
-abbrev pub uncolored_piece : Piece → Piece
+abbrev pub uncolored_piece : PlacedPart → PlacedPart
 uncolored_piece piece = record piece { part = uncolored piece.part }
 
-abbrev pub uncolored_pieces : List Piece → List Piece
+abbrev pub uncolored_pieces : List PlacedPart → List PlacedPart
 uncolored_pieces pieces = map uncolored_piece pieces
 
 map-replicate : {A B : Type 0} (f : A → B) (n : ℕ) (x : A) → map f (replicate n x) ≡ replicate n (f x)
@@ -49,7 +49,7 @@ laid-uncolored : (left : ℕ) (parts : List Part) → uncolored_pieces (laid lef
 laid-uncolored left [] = refl
 laid-uncolored left (part ∷ parts) = ap (λ pieces. record { left = left; part = uncolored part } ∷ pieces) (laid-uncolored (left + part.width) parts)
 
-if-uncolored : (b : Bool) (pieces : List Piece) (others : List Piece) → uncolored_pieces pieces ≡ others → uncolored_pieces (cond b pieces []) ≡ cond b others []
+if-uncolored : (b : Bool) (pieces : List PlacedPart) (others : List PlacedPart) → uncolored_pieces pieces ≡ others → uncolored_pieces (cond b pieces []) ≡ cond b others []
 if-uncolored true pieces others same = same
 if-uncolored false pieces others same = refl
 
@@ -118,7 +118,7 @@ module _ (grid : Grid) where
           (map-both uncolored_piece (corner grid i j) (block_pieces grid cell y) (corner bare_grid i j) (block_pieces bare_grid cell y) (corner-uncolored i j) (block_pieces-uncolored cell y))
       by false = map-both uncolored_piece (corner grid i j) (along grid i j) (corner bare_grid i j) (along bare_grid i j) (corner-uncolored i j) refl
 
-  across-uncolored : (part bare : ℕ → List Piece) (last behind : List Piece) → ((j : ℕ) → uncolored_pieces (part j) ≡ bare j) → uncolored_pieces last ≡ behind
+  across-uncolored : (part bare : ℕ → List PlacedPart) (last behind : List PlacedPart) → ((j : ℕ) → uncolored_pieces (part j) ≡ bare j) → uncolored_pieces last ≡ behind
       → uncolored_pieces (across grid part last) ≡ across bare_grid bare behind
   across-uncolored part bare last behind each end =
       let margin = grid.frame.look.margin in
@@ -149,8 +149,8 @@ module _ (grid : Grid) where
   pub parts-uncolored : (y : ℕ) → parts_of (picture_line bare_grid y) ≡ map uncolored (parts_of (picture_line grid y))
   parts-uncolored y =
       ap parts_of (sym (pieces-uncolored (place grid.frame.rows y) y))
-      ∙ map-map (λ (piece : Piece). piece.part) uncolored_piece (picture_line grid y)
-      ∙ sym (map-map uncolored (λ (piece : Piece). piece.part) (picture_line grid y))
+      ∙ map-map (λ (piece : PlacedPart). piece.part) uncolored_piece (picture_line grid y)
+      ∙ sym (map-map uncolored (λ (piece : PlacedPart). piece.part) (picture_line grid y))
 
   -- ---- the colours of texts
 

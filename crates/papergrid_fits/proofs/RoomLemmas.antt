@@ -28,7 +28,7 @@ use Rattle.papergrid_picture.specs.Picture.{at, seen}
 use Rattle.papergrid_picture.specs.Shown.{KeepsLineEnds}
 use Rattle.papergrid_picture.specs.Tables.{sizes_of, table_grid}
 use Rattle.papergrid_picture.specs.Tiling.{HasGoodSpans, HasRoom}
-use Rattle.papergrid_fits.specs.Tables.{Fits}
+use Rattle.papergrid_fits.specs.Tables.{CanBeDrawn}
 use Rattle.papergrid_fits.proofs.First.{range-at}
 
 -- ---- none is found: each fails the test
@@ -79,7 +79,7 @@ kept-within trim_vertical text =
 -- ---- the table
 
 module _ (settings : Settings) (width height : ℕ → ℕ) (columns : ℕ) (rows : List (List (List ℕ))) (colors : Position → Option Color)
-    (positive : ArePositive settings.spans) (fits : Fits settings width height columns rows) where
+    (positive : ArePositive settings.spans) (fits : CanBeDrawn settings width height columns rows) where
   abbrev grid : Grid
   grid = table_grid (look_of settings) rows colors (sizes_of width columns) (sizes_of height (length rows))
 

@@ -24,7 +24,7 @@ use Rattle.papergrid_picture.specs.Blocks.{Content, Fill, Glyph, TextLine, Grid,
 use Rattle.papergrid_picture.specs.CellLines.{cell_lines, cell_measures}
 use Rattle.papergrid_picture.specs.Fitting.{FitsAnswer, first_too_wide, is_too_wide}
 use Rattle.papergrid_picture.specs.Frame.{Boundary, Frame, Outside, Place, Row, block_height, block_width, boundary_at, frame_of, line_count, place, place_from, thickness, total_width, track_at}
-use Rattle.papergrid_picture.specs.Picture.{Piece, across, along, at, blank, block_pieces, boundary_part, corner, edge, laid, margin_line, parts_of, pieces_at, picture_line, row_part, seen, upright}
+use Rattle.papergrid_picture.specs.Picture.{PlacedPart, across, along, at, blank, block_pieces, boundary_part, corner, edge, laid, margin_line, parts_of, pieces_at, picture_line, row_part, seen, upright}
 use Rattle.papergrid_picture.specs.Reading.{Reading, is_shown, continues, content_items, grid_line, line_items, onto_runs, painted, part_items, run_items, runs_of}
 use Rattle.papergrid_picture.specs.Tables.{in_bytes, table_grid, table_text}
 
@@ -192,7 +192,7 @@ module _ (settings : Settings) (widths heights : List ℕ) (a b : List (List (Li
     abbrev Same : Part → Type 0
     Same = SamePart (in_bytes look a) (in_bytes look b).line
 
-    abbrev SamePiece : Piece → Type 0
+    abbrev SamePiece : PlacedPart → Type 0
     SamePiece piece = Same piece.part
 
     laid-same : (left : ℕ) (parts : List Part) → All Same parts → All SamePiece (laid left parts)
@@ -292,10 +292,10 @@ module _ (settings : Settings) (widths heights : List ℕ) (a b : List (List (Li
         cell : Position
         cell = seen first_grid i j
 
-        other : List Piece
+        other : List PlacedPart
         other = corner first_grid i j ++ along first_grid i j
 
-        shown : Grid → List Piece
+        shown : Grid → List PlacedPart
         shown grid = cond (cell.col == j) (corner first_grid i j ++ block_pieces grid cell y) []
 
         by : (b : Bool) → nat_lt cell.row i ≡ b → cond b (shown first_grid) other ≡ cond b (shown second_grid) other
@@ -317,7 +317,7 @@ module _ (settings : Settings) (widths heights : List ℕ) (a b : List (List (Li
         by true above false = All-nil SamePiece
         by false from c = All-append SamePiece (corner first_grid i j) (along first_grid i j) (corner-same i j) (along-same i j)
 
-    across-equal : (first second : ℕ → List Piece) (last : List Piece) → ((j : ℕ) → j < length widths → first j ≡ second j) → across first_grid first last ≡ across first_grid second last
+    across-equal : (first second : ℕ → List PlacedPart) (last : List PlacedPart) → ((j : ℕ) → j < length widths → first j ≡ second j) → across first_grid first last ≡ across first_grid second last
     across-equal first second last equal =
         let margin = look.margin in
         let color = look.margin_color in
@@ -325,7 +325,7 @@ module _ (settings : Settings) (widths heights : List ℕ) (a b : List (List (Li
         ++ (body ++ (last ++ laid (track_at frame.columns (length widths)) (fill margin.right.size margin.right.fill color.right ∷ []))))
         (flat_map-same first second (range_with_len 0 (length widths)) (all_below (λ j. first j ≡ second j) (length widths) equal))
 
-    across-same : (part : ℕ → List Piece) (last : List Piece) → ((j : ℕ) → j < length widths → All SamePiece (part j)) → All SamePiece last → All SamePiece (across first_grid part last)
+    across-same : (part : ℕ → List PlacedPart) (last : List PlacedPart) → ((j : ℕ) → j < length widths → All SamePiece (part j)) → All SamePiece last → All SamePiece (across first_grid part last)
     across-same part last parts at_last =
         let margin = look.margin in
         let color = look.margin_color in
@@ -368,7 +368,7 @@ module _ (settings : Settings) (widths heights : List ℕ) (a b : List (List (Li
     grid_line-same y =
         let pieces = picture_line first_grid y in
         line_items-same (in_bytes look a) (in_bytes look b).line (parts_of pieces)
-        (All-map Same (λ (piece : Piece). piece.part) pieces (pieces_at-same (place frame.rows y) y (place-in y)))
+        (All-map Same (λ (piece : PlacedPart). piece.part) pieces (pieces_at-same (place frame.rows y) y (place-in y)))
         ∙ ap (λ shown. line_items (in_bytes look b) (parts_of shown)) (pieces_at-equal (place frame.rows y) y (place-in y))
 
     pub table_text-same : table_text look a colors widths heights ≡ table_text look b colors widths heights

@@ -39,7 +39,7 @@ module _ (settings : Settings) (width height : ℕ → ℕ) (columns : ℕ) (row
 
   -- it returns that the table fits: its spans are good, both totals are in range, and no visible cell needs more
   -- columns than it has
-  pub record Fits : Type 0 where
+  pub record CanBeDrawn : Type 0 where
     pub good : AreGood settings.spans (length rows) columns
     pub range : InRange table_frame
     pub room : first_too_wide table_frame rows ≡ None

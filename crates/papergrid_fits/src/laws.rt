@@ -14,7 +14,7 @@ ghost use Rattle.papergrid_picture.specs.Frame.{frame_of, line_count};
 ghost use Rattle.papergrid_picture.specs.Shown.{KeepsLineEnds};
 ghost use Rattle.papergrid_picture.specs.Tables.{sizes_of, table_grid};
 ghost use Rattle.papergrid_picture.specs.Tiling.{HasGoodSpans, HasRoom};
-ghost use Rattle.papergrid_fits.specs.Tables.{Fits, sized};
+ghost use Rattle.papergrid_fits.specs.Tables.{CanBeDrawn, sized};
 
 /// The least widths of a table, as an estimate keeps them, leave room for each of its visible cells,
 /// whatever its heights: `fits` never returns `Room` for them.
@@ -46,9 +46,9 @@ pub fn totals()
 /// trimmed at its ends: so the pieces of its lines tile them.
 pub fn fitting_tables_have_room()
     ensures spans { (settings : Settings) (width height : ℕ → ℕ) (columns : ℕ) (rows : List (List (List ℕ))) (colors : Cell → Option Color) →
-        ArePositive settings.spans → Fits settings width height columns rows →
+        ArePositive settings.spans → CanBeDrawn settings width height columns rows →
         HasGoodSpans (table_grid (look_of settings) rows colors (sizes_of width columns) (sizes_of height (length rows))) settings.spans }
     ensures room { (settings : Settings) (width height : ℕ → ℕ) (columns : ℕ) (rows : List (List (List ℕ))) (colors : Cell → Option Color) →
-        ArePositive settings.spans → Fits settings width height columns rows → KeepsLineEnds (look_of settings) →
+        ArePositive settings.spans → CanBeDrawn settings width height columns rows → KeepsLineEnds (look_of settings) →
         HasRoom (table_grid (look_of settings) rows colors (sizes_of width columns) (sizes_of height (length rows))) }
 {}

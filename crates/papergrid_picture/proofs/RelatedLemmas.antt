@@ -8,7 +8,7 @@ use Rattle.grid_config_values.specs.Glyphs.{along_column, boundary_kind, crossin
 use Rattle.grid_config.specs.Colors.{Color}
 use Rattle.papergrid_picture.specs.Frame.{Place, Boundary, Row, Outside, block_height, block_width, boundary_at, column_count, line_count, place, row_count, track_at}
 use Rattle.papergrid_picture.specs.Blocks.{Fill, Glyph, TextLine, Grid, Part, block, fill, free_above, free_left, greatest, text_line}
-use Rattle.papergrid_picture.specs.Picture.{Piece, across, along, block_pieces, boundary_part, corner, laid, margin_line, parts_of, picture_line, pieces_at, row_part, seen, upright, blank}
+use Rattle.papergrid_picture.specs.Picture.{PlacedPart, across, along, block_pieces, boundary_part, corner, laid, margin_line, parts_of, picture_line, pieces_at, row_part, seen, upright, blank}
 use Rattle.papergrid_picture.specs.Reading.{Reading, continues, grid_items, is_shown, line_items, onto_runs, painted, part_items, run_items, runs_of}
 use Rattle.papergrid_picture.specs.Shown.{IsColoredBy, ShowsOnly}
 
@@ -79,7 +79,7 @@ module _ (P : Part → Type 0) (C : ℕ → Type 0) (Q : Option Color → Type 0
   abbrev Holds : List Part → Type 0
   Holds parts = AllByRecursion P parts
 
-  abbrev InPieces : List Piece → Type 0
+  abbrev InPieces : List PlacedPart → Type 0
   InPieces pieces = AllByRecursion (λ piece. P piece.part) pieces
 
   laid-holds : (left : ℕ) (parts : List Part) → Holds parts → InPieces (laid left parts)
@@ -130,7 +130,7 @@ module _ (P : Part → Type 0) (C : ℕ → Type 0) (Q : Option Color → Type 0
   glyph-shown None set = space
   glyph-shown (Some c) set = set
 
-  if-there : (b : Bool) (pieces : List Piece) → InPieces pieces → InPieces (cond b pieces [])
+  if-there : (b : Bool) (pieces : List PlacedPart) → InPieces pieces → InPieces (cond b pieces [])
   if-there b pieces all = either InPieces b pieces [] all tt
 
   upright-holds : (j : ℕ) → InPieces (upright grid j)
@@ -176,7 +176,7 @@ module _ (P : Part → Type 0) (C : ℕ → Type 0) (Q : Option Color → Type 0
       (All-append (λ piece. P piece.part) (corner grid i j) (block_pieces grid cell y) (corner-holds i j) (block_pieces-hold cell y)))
       (All-append (λ piece. P piece.part) (corner grid i j) (along grid i j) (corner-holds i j) (along-holds i j))
 
-  across-holds : (part : ℕ → List Piece) (last : List Piece) → ((j : ℕ) → InPieces (part j)) → InPieces last → InPieces (across grid part last)
+  across-holds : (part : ℕ → List PlacedPart) (last : List PlacedPart) → ((j : ℕ) → InPieces (part j)) → InPieces last → InPieces (across grid part last)
   across-holds part last each end =
       let margin = grid.frame.look.margin in
       let color = grid.frame.look.margin_color in

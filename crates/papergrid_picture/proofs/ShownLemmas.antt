@@ -8,7 +8,7 @@ use Rattle.std.proofs.lemmas.List.Elements.{All-head, All-tail}
 use Rattle.std.proofs.lemmas.Simd.{map-map}
 use Rattle.std.proofs.lemmas.Str.{chars-encodes, chars-nil, encodes-chars, inside_one, IsUtf8-append, IsUtf8-encode, IsUtf8-nil}
 use Rattle.ansi_scan.specs.declared.items.Kind.TheVariants.{Text}
-use Rattle.ansi_scan.specs.Sequences.{NoneBroken, escape, is_plain}
+use Rattle.ansi_scan.specs.Sequences.{NoneBroken, escape, is_not_escape}
 use Rattle.ansi_scan.specs.Joining.{put_all_before}
 use Rattle.ansi_scan.specs.Pieces.{pieces}
 use Rattle.ansi_scan.specs.Attributes.{plain_attributes}
@@ -116,13 +116,13 @@ ShowsHere-append a c b d first second =
 -- ---- one character
 
 -- no byte of a character that isn't ESC is ESC
-plain-bytes : (bytes : List ℕ) → ((k : ℕ) → k < length bytes → get_or bytes k 0 ≢ escape) → list_all is_plain bytes ≡ true
+plain-bytes : (bytes : List ℕ) → ((k : ℕ) → k < length bytes → get_or bytes k 0 ≢ escape) → list_all is_not_escape bytes ≡ true
 plain-bytes [] none = refl
 plain-bytes (b ∷ bs) none =
-    ap (λ t. not t && list_all is_plain bs) (ne_eqb b escape (none 0 (omega arith)))
+    ap (λ t. not t && list_all is_not_escape bs) (ne_eqb b escape (none 0 (omega arith)))
     ∙ plain-bytes bs (λ k inside. none (suc k) (omega (arith, inside)))
 
-plain-encode : (c : ℕ) → c ≢ escape → list_all is_plain (encode_utf8 c) ≡ true
+plain-encode : (c : ℕ) → c ≢ escape → list_all is_not_escape (encode_utf8 c) ≡ true
 plain-encode c other = plain-bytes (encode_utf8 c) (λ k inside same.
     let low : get_or (encode_utf8 c) k 0 < 128 = omega (arith, same) in
     other (inside_one c [] (encode_utf8 c) k (sym (append-nil (encode_utf8 c))) inside low ∙ same))

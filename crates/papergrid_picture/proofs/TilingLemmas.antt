@@ -19,7 +19,7 @@ use Rattle.grid_config_spans.specs.Spans.{IsInTable}
 use Rattle.grid_config.specs.Colors.{Color}
 use Rattle.papergrid_picture.specs.Frame.{Tracks, thickness, boundary_at, track_at, stretch, Place, Boundary, Row, Outside, block_height, block_width, column_count, place, row_count, total_width}
 use Rattle.papergrid_picture.specs.Blocks.{Content, Fill, Glyph, Part, Grid, block, fill, free_above, free_left, greatest, text_line}
-use Rattle.papergrid_picture.specs.Picture.{Piece, across, along, at, blank, block_pieces, boundary_part, corner, edge, laid, margin_line, picture_line, pieces_at, row_part, seen, upright}
+use Rattle.papergrid_picture.specs.Picture.{PlacedPart, across, along, at, blank, block_pieces, boundary_part, corner, edge, laid, margin_line, picture_line, pieces_at, row_part, seen, upright}
 use Rattle.papergrid_picture.specs.Tiling.{BeginsBehindMargin, HasGoodSpans, HasRoom, IsLineOf, ShowsBlock, ShowsPlace, Tiles}
 use Rattle.papergrid_picture.proofs.FrameLemmas.{boundary-behind, boundary-first, boundary-next, boundary-order, range-at, range_with_len-more}
 use Rattle.papergrid_picture.proofs.PlaceLemmas.{place-shown}
@@ -36,7 +36,7 @@ pub Tiles-laid : (a : ℕ) (parts : List Part) (b : ℕ) → a + widths_of parts
 Tiles-laid a [] b is = omega (arith, is)
 Tiles-laid a (part ∷ parts) b is = (refl, Tiles-laid (a + part.width) parts b (omega (arith, is)))
 
-pub Tiles-append : (a b c : ℕ) (xs ys : List Piece) → Tiles a xs b → Tiles b ys c → Tiles a (xs ++ ys) c
+pub Tiles-append : (a b c : ℕ) (xs ys : List PlacedPart) → Tiles a xs b → Tiles b ys c → Tiles a (xs ++ ys) c
 Tiles-append a b c [] ys first second = subst (λ n. Tiles n ys c) (sym first) second
 Tiles-append a b c (x ∷ xs) ys first second = (first.0, Tiles-append (a + x.part.width) b c xs ys first.1 second)
 
@@ -134,7 +134,7 @@ module _ (grid : Grid) (cell : Position) where
 
 -- ---- a line of columns
 
-flat_map-more : (part : ℕ → List Piece) (n : ℕ) → flat_map part (range_with_len 0 (suc n)) ≡ flat_map part (range_with_len 0 n) ++ part n
+flat_map-more : (part : ℕ → List PlacedPart) (n : ℕ) → flat_map part (range_with_len 0 (suc n)) ≡ flat_map part (range_with_len 0 n) ++ part n
 flat_map-more part n =
     let same : 0 + n ≡ n = omega arith in
     ap (λ k. flat_map part (range_with_len 0 k)) (sym (add-one n))
@@ -145,10 +145,10 @@ flat_map-more part n =
 -- columns by the cells that are seen in them: a cell that is shown goes from its first column on to its last, and where none is
 -- shown the boundary is
 -- `Goes a pieces b` says how pieces go from a to b
-module _ (Goes : ℕ → List Piece → ℕ → Type 0) (nowhere : (a b : ℕ) → a ≡ b → Goes a [] b)
-    (both : (a b c : ℕ) (xs ys : List Piece) → Goes a xs b → Goes b ys c → Goes a (xs ++ ys) c) (count : ℕ) (boundary track : ℕ → ℕ)
-    (cell : ℕ → Position) (span : Position → ℕ) (is_shown : Position → Bool) (edge along : ℕ → List Piece) (block : Position → List Piece) where
-  abbrev pub part : ℕ → List Piece
+module _ (Goes : ℕ → List PlacedPart → ℕ → Type 0) (nowhere : (a b : ℕ) → a ≡ b → Goes a [] b)
+    (both : (a b c : ℕ) (xs ys : List PlacedPart) → Goes a xs b → Goes b ys c → Goes a (xs ++ ys) c) (count : ℕ) (boundary track : ℕ → ℕ)
+    (cell : ℕ → Position) (span : Position → ℕ) (is_shown : Position → Bool) (edge along : ℕ → List PlacedPart) (block : Position → List PlacedPart) where
+  abbrev pub part : ℕ → List PlacedPart
   part j = cond (is_shown (cell j)) (cond ((cell j).col == j) (edge j ++ block (cell j)) []) (edge j ++ along j)
 
   pub record IsLine : Type 0 where
@@ -231,7 +231,7 @@ module _ (Goes : ℕ → List Piece → ℕ → Type 0) (nowhere : (a b : ℕ) �
     Goes-parts zero within = nowhere (boundary 0) (boundary 0) refl
     Goes-parts (suc n) within =
         let inside : n < count = omega (arith, within) in
-        subst (λ (pieces : List Piece). Goes (boundary 0) pieces (boundary (end_of n))) (sym (flat_map-more part n))
+        subst (λ (pieces : List PlacedPart). Goes (boundary 0) pieces (boundary (end_of n))) (sym (flat_map-more part n))
         (both (boundary 0) (boundary (end n)) (boundary (end_of n)) (flat_map part (range_with_len 0 n)) (part n) (Goes-parts n (omega (arith, within))) (Goes-part n inside))
 
     -- all columns end at the last boundary
@@ -474,7 +474,7 @@ module _ (grid : Grid) (spans : List (Position × Extent)) (good : HasGoodSpans 
       right-margin : Tiles (track_at columns (column_count grid.frame)) (laid (track_at columns (column_count grid.frame)) (fill grid.frame.look.margin.right.size grid.frame.look.margin.right.fill grid.frame.look.margin_color.right ∷ [])) (total_width grid.frame)
       right-margin = (refl, refl)
 
-      Tiles-across : (part : ℕ → List Piece) (last : List Piece) → Tiles (boundary_at columns 0) (flat_map part (range_with_len 0 (column_count grid.frame))) (boundary_at columns (column_count grid.frame))
+      Tiles-across : (part : ℕ → List PlacedPart) (last : List PlacedPart) → Tiles (boundary_at columns 0) (flat_map part (range_with_len 0 (column_count grid.frame))) (boundary_at columns (column_count grid.frame))
           → Tiles (boundary_at columns (column_count grid.frame)) last (track_at columns (column_count grid.frame)) → Tiles 0 (across grid part last) (total_width grid.frame)
       Tiles-across part last inner end =
           let count = column_count grid.frame in
@@ -512,19 +512,19 @@ module _ (grid : Grid) (spans : List (Position × Extent)) (good : HasGoodSpans 
 
       -- ---- rectangles
 
-      Tiles-behind : (a b c : ℕ) (xs ys : List Piece) → Tiles a xs b → Tiles a (xs ++ ys) c → Tiles b ys c
+      Tiles-behind : (a b c : ℕ) (xs ys : List PlacedPart) → Tiles a xs b → Tiles a (xs ++ ys) c → Tiles b ys c
       Tiles-behind a b c [] ys first both = subst (λ n. Tiles n ys c) first both
       Tiles-behind a b c (x ∷ xs) ys first both = Tiles-behind (a + x.part.width) b c xs ys first.1 both.1
 
       -- a line whose columns are such pieces shows the block
-      shows-block : (cell : Position) (y : ℕ) (part : ℕ → List Piece) (last before behind : List Piece) → picture_line grid y ≡ across grid part last
+      shows-block : (cell : Position) (y : ℕ) (part : ℕ → List PlacedPart) (last before behind : List PlacedPart) → picture_line grid y ≡ across grid part last
           → flat_map part (range_with_len 0 (column_count grid.frame)) ≡ before ++ (block_pieces grid cell y ++ behind)
           → Tiles (boundary_at columns 0) before (track_at columns cell.col)
           → Tiles (track_at columns cell.col) (block_pieces grid cell y) (track_at columns cell.col + block_width grid.frame cell)
           → ShowsBlock grid cell y
       shows-block cell y part last before behind is inner left inside =
           let look = grid.frame.look in
-          let margin : Piece = record { left = 0; part = fill look.margin.left.size look.margin.left.fill look.margin_color.left } in
+          let margin : PlacedPart = record { left = 0; part = fill look.margin.left.size look.margin.left.fill look.margin_color.left } in
           let right = laid (track_at columns (column_count grid.frame)) (fill look.margin.right.size look.margin.right.fill look.margin_color.right ∷ []) in
           let start : boundary_at columns 0 ≡ 0 + look.margin.left.size = omega (arith, boundary-first columns, margins) in
           let block = block_pieces grid cell y in
@@ -532,7 +532,7 @@ module _ (grid : Grid) (spans : List (Position × Extent)) (good : HasGoodSpans 
           is ∙ ap (λ pieces. margin ∷ (pieces ++ (last ++ right))) inner
           ∙ ap (λ pieces. margin ∷ pieces) (append_assoc before (block ++ behind) (last ++ right) ∙ ap (λ pieces. before ++ pieces) (append_assoc block behind (last ++ right))) in
           let up_to : Tiles 0 (margin ∷ before) (track_at columns cell.col) = (refl, subst (λ a. Tiles a before (track_at columns cell.col)) start left) in
-          let whole : Tiles 0 ((margin ∷ before) ++ (block ++ (behind ++ (last ++ right)))) (total_width grid.frame) = subst (λ (pieces : List Piece). Tiles 0 pieces (total_width grid.frame)) parted (Tiles-picture y) in
+          let whole : Tiles 0 ((margin ∷ before) ++ (block ++ (behind ++ (last ++ right)))) (total_width grid.frame) = subst (λ (pieces : List PlacedPart). Tiles 0 pieces (total_width grid.frame)) parted (Tiles-picture y) in
           record {
             before = margin ∷ before;
             behind = behind ++ (last ++ right);

@@ -13,7 +13,7 @@ use Rattle.grid_config_spans.specs.Rectangles.{IsInside}
 use Rattle.grid_config_spans.specs.Spans.{IsInTable}
 use Rattle.papergrid_picture.specs.Frame.{Boundary, Outside, Place, Row, Tracks, block_height, block_width, boundary_at, column_count, line_count, place, row_count, thickness, total_width, track_at}
 use Rattle.papergrid_picture.specs.Blocks.{Fill, Glyph, Grid, block, fill, free_above, greatest, text_line}
-use Rattle.papergrid_picture.specs.Picture.{Piece, across, along, block_pieces, boundary_part, corner, laid, parts_of, picture_line, pieces_at, row_part, seen, upright}
+use Rattle.papergrid_picture.specs.Picture.{PlacedPart, across, along, block_pieces, boundary_part, corner, laid, parts_of, picture_line, pieces_at, row_part, seen, upright}
 use Rattle.papergrid_picture.specs.Tiling.{BeginsBehindMargin, HasGoodSpans, HasRoom, IsLineOf, ShowsAllLines, ShowsPlace, Tiles}
 use Rattle.papergrid_picture.proofs.FrameLemmas.{boundary-first, boundary-next}
 use Rattle.papergrid_picture.proofs.PlaceLemmas.{place-shown}
@@ -22,25 +22,25 @@ use Rattle.papergrid_picture.proofs.RelatedLemmas.{block-all}
 use Rattle.papergrid_picture.proofs.TilingLemmas.{All-inside, Goes-columns, IsLine, Tiles-laid, along-tiles, block-ends, block-ends_below, block-high, edge-tiles, free_above-within, located, order, track-before, track-before_line, widths_of, within}
 
 -- the pieces reach at least from a to b, side by side
-abbrev pub Reaches : ℕ → List Piece → ℕ → Type 0
+abbrev pub Reaches : ℕ → List PlacedPart → ℕ → Type 0
 Reaches a pieces b = b ≤ a + widths_of (parts_of pieces)
 
-pub Tiles-widths : (a b : ℕ) (pieces : List Piece) → Tiles a pieces b → a + widths_of (parts_of pieces) ≡ b
+pub Tiles-widths : (a b : ℕ) (pieces : List PlacedPart) → Tiles a pieces b → a + widths_of (parts_of pieces) ≡ b
 Tiles-widths a b [] tiles = omega (arith, tiles)
 Tiles-widths a b (piece ∷ pieces) tiles = omega (arith, Tiles-widths (a + piece.part.width) b pieces tiles.1)
 
-widths-append : (xs ys : List Piece) → widths_of (parts_of (xs ++ ys)) ≡ widths_of (parts_of xs) + widths_of (parts_of ys)
+widths-append : (xs ys : List PlacedPart) → widths_of (parts_of (xs ++ ys)) ≡ widths_of (parts_of xs) + widths_of (parts_of ys)
 widths-append [] ys = omega arith
 widths-append (x ∷ xs) ys = omega (arith, widths-append xs ys)
 
 Reaches-nowhere : (a b : ℕ) → a ≡ b → Reaches a [] b
 Reaches-nowhere a b same = omega (arith, same)
 
-Reaches-both : (a b c : ℕ) (xs ys : List Piece) → Reaches a xs b → Reaches b ys c → Reaches a (xs ++ ys) c
+Reaches-both : (a b c : ℕ) (xs ys : List PlacedPart) → Reaches a xs b → Reaches b ys c → Reaches a (xs ++ ys) c
 Reaches-both a b c xs ys first second = omega (arith, widths-append xs ys, first, second)
 
 -- pieces that tile reach as far, and no further
-reach-of : (a b more : ℕ) (pieces : List Piece) → Tiles a pieces b → Reaches (a + more) pieces (b + more)
+reach-of : (a b more : ℕ) (pieces : List PlacedPart) → Tiles a pieces b → Reaches (a + more) pieces (b + more)
 reach-of a b more pieces tiles = omega (arith, Tiles-widths a b pieces tiles)
 
 -- ---- blocks
@@ -126,7 +126,7 @@ module _ (grid : Grid) (spans : List (Position × Extent)) (good : HasGoodSpans 
   span_of cell = (grid.frame.look.extent cell).columns
 
   -- row r in line y, or the boundary before it: the cells that show there
-  module _ (r y : ℕ) (is_there : Position → Bool) (edge : ℕ → List Piece)
+  module _ (r y : ℕ) (is_there : Position → Bool) (edge : ℕ → List PlacedPart)
       (in_row : (j : ℕ) → j < columns_in → is_there (seen grid r j) ≡ true → r < row_count grid.frame)
       (edges : (j : ℕ) → Tiles (boundary_at columns j) (edge j) (track_at columns j))
       (in_line : (j : ℕ) → j < columns_in → is_there (seen grid r j) ≡ true → y - track_at rows (seen grid r j).row < block_height grid.frame (seen grid r j))
@@ -151,7 +151,7 @@ module _ (grid : Grid) (spans : List (Position × Extent)) (good : HasGoodSpans 
     abbrev track : ℕ → ℕ
     track j = track_at columns j + more j
 
-    abbrev pieces_of : Position → List Piece
+    abbrev pieces_of : Position → List PlacedPart
     pieces_of cell = block_pieces grid cell y
 
     block-reaches : (j : ℕ) → j < columns_in → is_there (seen grid r j) ≡ true → block_width grid.frame (seen grid r j) ≤ widths_of (parts_of (pieces_of (seen grid r j)))
@@ -226,14 +226,14 @@ module _ (grid : Grid) (spans : List (Position × Extent)) (good : HasGoodSpans 
             ]
 
     -- the whole line is wider than the table
-    pub too-wide : (part : ℕ → List Piece) → part ≡ (λ j. cond (is_there (seen grid r j)) (cond ((seen grid r j).col == j) (edge j ++ pieces_of (seen grid r j)) []) (edge j ++ along grid r j))
+    pub too-wide : (part : ℕ → List PlacedPart) → part ≡ (λ j. cond (is_there (seen grid r j)) (cond ((seen grid r j).col == j) (edge j ++ pieces_of (seen grid r j)) []) (edge j ++ along grid r j))
         → Tiles 0 (across grid part (edge columns_in)) (total_width grid.frame) → ⊥
     too-wide part is tiles =
         let look = grid.frame.look in
         let inner = flat_map part (range_with_len 0 columns_in) in
         let right = laid (track_at columns columns_in) (fill look.margin.right.size look.margin.right.fill look.margin_color.right ∷ []) in
         let reached : Reaches (boundary 0) inner (boundary columns_in) =
-        subst (λ (p : ℕ → List Piece). Reaches (boundary 0) (flat_map p (range_with_len 0 columns_in)) (boundary columns_in)) (sym is)
+        subst (λ (p : ℕ → List PlacedPart). Reaches (boundary 0) (flat_map p (range_with_len 0 columns_in)) (boundary columns_in)) (sym is)
         (Goes-columns Reaches Reaches-nowhere Reaches-both columns_in boundary track (seen grid r) span_of is_there edge (along grid r) pieces_of wide-line) in
         let all = Tiles-widths 0 (total_width grid.frame) (across grid part (edge columns_in)) tiles in
         let last = Tiles-widths (boundary_at columns columns_in) (track_at columns columns_in) (edge columns_in) (edges columns_in) in

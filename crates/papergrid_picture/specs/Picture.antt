@@ -10,17 +10,17 @@ use Rattle.papergrid_picture.specs.Frame.{boundary_at, track_at, Place, Boundary
 use Rattle.papergrid_picture.specs.Blocks.{Content, Fill, Glyph, Part, fill, Grid, block}
 
 -- a part and the column in which it begins
-pub record Piece : Type 0 where
+pub record PlacedPart : Type 0 where
   pub left : ℕ
   pub part : Part
 
 -- parts side by side, from a column on
-abbrev pub laid : ℕ → List Part → List Piece
+abbrev pub laid : ℕ → List Part → List PlacedPart
 laid left [] = []
 laid left (part ∷ parts) = record { left = left; part = part } ∷ laid (left + part.width) parts
 
 -- the parts, without where they stand
-abbrev pub parts_of : List Piece → List Part
+abbrev pub parts_of : List PlacedPart → List Part
 parts_of pieces = map (λ piece. piece.part) pieces
 
 -- a place by its row and column
@@ -37,32 +37,32 @@ module _ (grid : Grid) where
   seen row column = owner grid.frame.look.extent (at row column)
 
   -- what a cell shows in line y of the picture
-  abbrev pub block_pieces : Position → ℕ → List Piece
+  abbrev pub block_pieces : Position → ℕ → List PlacedPart
   block_pieces cell y =
       laid (track_at grid.frame.columns cell.col)
       (slice_index_or (block grid cell (block_width grid.frame cell) (block_height grid.frame cell)) (y - track_at grid.frame.rows cell.row) [])
 
   -- column boundary j, where it is there
-  abbrev pub edge : (ℕ → Content) → Option ℕ → Option Color → ℕ → List Piece
+  abbrev pub edge : (ℕ → Content) → Option ℕ → Option Color → ℕ → List PlacedPart
   edge content glyph color j =
       if grid.frame.columns.has_boundary j
       then laid (boundary_at grid.frame.columns j) (record { width = 1; content = content (unwrap_or glyph blank); color = color } ∷ [])
       else []
 
   -- boundary j in a row, and where row boundary i meets it
-  abbrev pub upright : ℕ → List Piece
+  abbrev pub upright : ℕ → List PlacedPart
   upright j =
       let kind = boundary_kind j (column_count grid.frame) in
       edge Fill (in_row grid.frame.look.borders kind) (in_row grid.frame.look.borders_color kind) j
 
-  abbrev pub corner : ℕ → ℕ → List Piece
+  abbrev pub corner : ℕ → ℕ → List PlacedPart
   corner i j =
       let row = boundary_kind i (row_count grid.frame) in
       let column = boundary_kind j (column_count grid.frame) in
       edge Glyph (crossing grid.frame.look.borders row column) (crossing grid.frame.look.borders_color row column) j
 
   -- row boundary i along column j
-  abbrev pub along : ℕ → ℕ → List Piece
+  abbrev pub along : ℕ → ℕ → List PlacedPart
   along i j =
       let kind = boundary_kind i (row_count grid.frame) in
       laid (track_at grid.frame.columns j)
@@ -73,13 +73,13 @@ module _ (grid : Grid) where
       } ∷ [])
 
   -- boundary j and column j in line y, which shows row i: a cell is seen from its first column on, after its left boundary
-  abbrev pub row_part : ℕ → ℕ → ℕ → List Piece
+  abbrev pub row_part : ℕ → ℕ → ℕ → List PlacedPart
   row_part i y j =
       let cell = seen i j in
       if cell.col == j then upright j ++ block_pieces cell y else []
 
   -- the same where line y shows row boundary i: a cell that begins above it goes on, else the boundary is seen
-  abbrev pub boundary_part : ℕ → ℕ → ℕ → List Piece
+  abbrev pub boundary_part : ℕ → ℕ → ℕ → List PlacedPart
   boundary_part i y j =
       let cell = seen i j in
       if nat_lt cell.row i
@@ -87,7 +87,7 @@ module _ (grid : Grid) where
       else corner i j ++ along i j
 
   -- the margins, and between them all columns and the last boundary
-  abbrev pub across : (ℕ → List Piece) → List Piece → List Piece
+  abbrev pub across : (ℕ → List PlacedPart) → List PlacedPart → List PlacedPart
   across part last =
       let margin = grid.frame.look.margin in
       let color = grid.frame.look.margin_color in
@@ -97,11 +97,11 @@ module _ (grid : Grid) where
       ++ laid (track_at grid.frame.columns (column_count grid.frame)) (fill margin.right.size margin.right.fill color.right ∷ [])))
 
   -- a line of the top or the bottom margin
-  abbrev pub margin_line : Indent → Option Color → List Piece
+  abbrev pub margin_line : Indent → Option Color → List PlacedPart
   margin_line margin color = laid 0 (fill (total_width grid.frame) margin.fill color ∷ [])
 
   -- line y, which shows this
-  abbrev pub pieces_at : Place → ℕ → List Piece
+  abbrev pub pieces_at : Place → ℕ → List PlacedPart
   pieces_at (Boundary i) y = across (boundary_part i y) (corner i (column_count grid.frame))
   pieces_at (Row i) y = across (row_part i y) (upright (column_count grid.frame))
   pieces_at Outside y =
@@ -110,5 +110,5 @@ module _ (grid : Grid) where
       if nat_lt y grid.frame.rows.margin then margin_line margin.top color.top else margin_line margin.bottom color.bottom
 
   -- line y of the picture
-  abbrev pub picture_line : ℕ → List Piece
+  abbrev pub picture_line : ℕ → List PlacedPart
   picture_line y = pieces_at (place grid.frame.rows y) y

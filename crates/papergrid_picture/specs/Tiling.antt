@@ -5,10 +5,10 @@ use Rattle.grid_config_spans.specs.declared.extent.Extent.{Extent}
 use Rattle.grid_config_spans.specs.Spans.{AreGood, ArePositive, extent_at}
 use Rattle.papergrid_picture.specs.Frame.{Boundary, Frame, Outside, Place, Row, Tracks, block_height, block_width, boundary_at, column_count, row_count, total_width, track_at}
 use Rattle.papergrid_picture.specs.Blocks.{Grid, greatest}
-use Rattle.papergrid_picture.specs.Picture.{Piece, block_pieces, picture_line, seen}
+use Rattle.papergrid_picture.specs.Picture.{PlacedPart, block_pieces, picture_line, seen}
 
 -- from column a to column b, with no gap and no overlap
-abbrev pub Tiles : ℕ → List Piece → ℕ → Type 0
+abbrev pub Tiles : ℕ → List PlacedPart → ℕ → Type 0
 Tiles a [] b = a ≡ b
 Tiles a (piece ∷ pieces) b = (piece.left ≡ a) × Tiles (a + piece.part.width) pieces b
 
@@ -39,8 +39,8 @@ BeginsBehindMargin frame = frame.columns.margin ≡ frame.look.margin.left.size
 -- line y shows a line of the cell's block between the columns of its rectangle, and other pieces tile what is left of it and
 -- what is right of it
 pub record ShowsBlock (grid : Grid) (cell : Position) (y : ℕ) : Type 0 where
-  pub before : List Piece
-  pub behind : List Piece
+  pub before : List PlacedPart
+  pub behind : List PlacedPart
   pub parted : picture_line grid y ≡ before ++ (block_pieces grid cell y ++ behind)
   pub left : Tiles 0 before (track_at grid.frame.columns cell.col)
   pub inside : Tiles (track_at grid.frame.columns cell.col) (block_pieces grid cell y) (track_at grid.frame.columns cell.col + block_width grid.frame cell)

@@ -26,7 +26,7 @@ use Rattle.grid_config.specs.Looks.{Look, look_of}
 use Rattle.papergrid_picture.specs.Blocks.{Glyph, Part, free_above, free_left, greatest}
 use Rattle.papergrid_picture.specs.CellLines.{cell_lines, cell_measures}
 use Rattle.papergrid_picture.specs.Frame.{Boundary, Row, Tracks, block_height, block_width, stretch, track_at}
-use Rattle.papergrid_picture.specs.Picture.{Piece, across, along, at, blank, block_pieces, boundary_part, corner, edge, laid, parts_of, row_part, seen, upright}
+use Rattle.papergrid_picture.specs.Picture.{PlacedPart, across, along, at, blank, block_pieces, boundary_part, corner, edge, laid, parts_of, row_part, seen, upright}
 use Rattle.papergrid_picture.specs.Reading.{line_items, painted, part_items}
 use Rattle.papergrid_picture.proofs.FrameLemmas.{boundary-behind, boundary-next}
 use Rattle.papergrid_cells.specs.BlockLines.{kind_at, line_kind, line_parts}
@@ -142,13 +142,13 @@ module _ (sheet : Sheet) (single_cells : sheet.settings.spans ≡ []) where
 
 module _ (sheet : Sheet) (single_cells : sheet.settings.spans ≡ []) where
   -- a row boundary between two rows, by its kind alone
-  abbrev corner_by : BoundaryKind → ℕ → List Piece
+  abbrev corner_by : BoundaryKind → ℕ → List PlacedPart
   corner_by kind j =
       let borders = (look_of sheet.settings).borders in
       let colors = (look_of sheet.settings).borders_color in
       edge (grid_of sheet) Glyph (crossing borders kind (boundary_kind j (length sheet.widths))) (crossing colors kind (boundary_kind j (length sheet.widths))) j
 
-  abbrev along_by : BoundaryKind → ℕ → List Piece
+  abbrev along_by : BoundaryKind → ℕ → List PlacedPart
   along_by kind j =
       laid (track_at (grid_of sheet).frame.columns j)
       (record {

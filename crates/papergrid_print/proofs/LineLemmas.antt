@@ -13,7 +13,7 @@ use Rattle.grid_config.specs.Colors.{Color, color_of}
 use Rattle.grid_config.specs.Looks.{look_of}
 use Rattle.papergrid_picture.specs.Frame.{Row, block_height, block_width, boundary_at, column_count, frame_of, track_at}
 use Rattle.papergrid_picture.specs.Blocks.{TextLine, Part, Grid, block, fill, free_above, free_left, greatest, text_line}
-use Rattle.papergrid_picture.specs.Picture.{Piece, across, blank, block_pieces, laid, parts_of, row_part, upright, seen}
+use Rattle.papergrid_picture.specs.Picture.{PlacedPart, across, blank, block_pieces, laid, parts_of, row_part, upright, seen}
 use Rattle.papergrid_picture.specs.Reading.{line_items, painted, part_items}
 use Rattle.papergrid_picture.proofs.FrameLemmas.{range_with_len-more}
 use Rattle.papergrid_picture.proofs.ReadingLemmas.{all_plain, all_plain-append, line_items_plain}
@@ -32,7 +32,7 @@ pub parts_of-laid : (left : ℕ) (parts : List Part) → parts_of (laid left par
 parts_of-laid left [] = refl
 parts_of-laid left (part ∷ parts) = ap (λ l. part ∷ l) (parts_of-laid (left + part.width) parts)
 
-pub parts_of-append : (xs ys : List Piece) → parts_of (xs ++ ys) ≡ parts_of xs ++ parts_of ys
+pub parts_of-append : (xs ys : List PlacedPart) → parts_of (xs ++ ys) ≡ parts_of xs ++ parts_of ys
 parts_of-append [] ys = refl
 parts_of-append (x ∷ xs) ys = ap (λ l. x.part ∷ l) (parts_of-append xs ys)
 
@@ -285,7 +285,7 @@ plain-parts grid i y (j ∷ js) =
     ∙ all_plain-append (parts_of (row_part grid i y j)) (parts_of (flat_map (row_part grid i y) js)) (plain-part grid i y j) (plain-parts grid i y js)
 
 -- the parts of a line across the table
-pub across-parts : (grid : Grid) (part : ℕ → List Piece) (last : List Piece)
+pub across-parts : (grid : Grid) (part : ℕ → List PlacedPart) (last : List PlacedPart)
     → parts_of (across grid part last)
     ≡ fill grid.frame.look.margin.left.size grid.frame.look.margin.left.fill grid.frame.look.margin_color.left
     ∷ (parts_of (flat_map part (range_with_len 0 (column_count grid.frame))) ++ (parts_of last ++ fill grid.frame.look.margin.right.size grid.frame.look.margin.right.fill grid.frame.look.margin_color.right ∷ []))

@@ -19,11 +19,11 @@ use Rattle.papergrid.specs.Grids.{grid_text}
 use Rattle.papergrid.specs.GridParts.{wanted_text}
 use Rattle.papergrid.specs.Place.{Place}
 use Rattle.papergrid_fits.proofs.Ranges.{line_count-is, table_width-is}
-use Rattle.papergrid_fits.specs.Tables.{Fits, IsFitsAnswer, column_tracks, row_tracks, sized}
+use Rattle.papergrid_fits.specs.Tables.{CanBeDrawn, IsFitsAnswer, column_tracks, row_tracks, sized}
 use Rattle.papergrid_picture.proofs.FrameLemmas.{boundary-bounded, boundary-next}
 use Rattle.papergrid_picture.specs.Fitting.{FitsAnswer, InRange, table_width}
 use Rattle.papergrid_picture.specs.Frame.{Frame, Tracks, line_count, track_at}
-use Rattle.tabled_size_dimension.specs.Sizes.{size_at}
+use Rattle.tabled_size_dimension.specs.Sizes.{given_size}
 use Rattle.tabled_size_dimension.specs.Stored.{FilledPass, Stored, filled, stored_sizes}
 use Rattle.tabled_steps.proofs.Estimating.{heights_by_look, widths_by_look}
 use Rattle.tabled_steps.specs.Sizes.{natural_heights, natural_widths}
@@ -81,10 +81,10 @@ module _ (settings : Settings) (rows : List (List (List ℕ))) (colors : Positio
   columns = column_count rows
 
   abbrev width : ℕ → ℕ
-  width = size_at (stored_sizes (drawn_sizes state).widths)
+  width = given_size (stored_sizes (drawn_sizes state).widths)
 
   abbrev height : ℕ → ℕ
-  height = size_at (stored_sizes (drawn_sizes state).heights)
+  height = given_size (stored_sizes (drawn_sizes state).heights)
 
   pub drawn_by_settings : filled (least_sizes (sizing_of settings) columns rows) stored ≡ drawn_sizes state
   drawn_by_settings =
@@ -180,7 +180,7 @@ module _ (settings : Settings) (rows : List (List (List ℕ))) (colors : Positio
 
   module _ (given : Settings) (sizes : Stored) (n : ℕ) (same : given ≡ settings) (is : sizes ≡ drawn_sizes state) (counted : n ≡ columns) where
     abbrev answers : Settings → Stored → ℕ → Result (Unit {0}) Fault → Type 0
-    answers given sizes n answer = IsFitsAnswer given (size_at (stored_sizes sizes.widths)) (size_at (stored_sizes sizes.heights)) n rows answer
+    answers given sizes n answer = IsFitsAnswer given (given_size (stored_sizes sizes.widths)) (given_size (stored_sizes sizes.heights)) n rows answer
 
     pub is_fit : (answer : Result (Unit {0}) Fault) → answers given sizes n answer → IsFit state answer
     is_fit answer fit =
@@ -190,7 +190,7 @@ module _ (settings : Settings) (rows : List (List (List ℕ))) (colors : Positio
         (subst (λ (sizes : Stored). answers settings sizes n answer) is (subst (λ (given : Settings). answers given sizes n answer) same fit)))
 
     abbrev fits_in : Settings → Stored → ℕ → Type 0
-    fits_in given sizes n = Fits given (size_at (stored_sizes sizes.widths)) (size_at (stored_sizes sizes.heights)) n rows
+    fits_in given sizes n = CanBeDrawn given (given_size (stored_sizes sizes.widths)) (given_size (stored_sizes sizes.heights)) n rows
 
     pub fits_given : IsFit state (Ok tt) → fits_in given sizes n
     fits_given fit =
@@ -199,13 +199,13 @@ module _ (settings : Settings) (rows : List (List (List ℕ))) (colors : Positio
         (subst (λ (n : ℕ). fits_in settings (drawn_sizes state) n) (sym counted) (record { good = by_spans settings.spans (length rows) columns fit.0; range = fit.1; room = fit.2 })))
 
     abbrev text_in : Settings → Stored → ℕ → List ℕ
-    text_in given sizes n = grid_text (look_of given) (size_at (stored_sizes sizes.widths)) (size_at (stored_sizes sizes.heights)) colors n rows
+    text_in given sizes n = grid_text (look_of given) (given_size (stored_sizes sizes.widths)) (given_size (stored_sizes sizes.heights)) colors n rows
 
     pub is_printed : text_in given sizes n ≡ printed state
     is_printed = ap (λ given. text_in given sizes n) same ∙ ap (λ sizes. text_in settings sizes n) is ∙ ap (λ n. text_in settings (drawn_sizes state) n) counted
 
     abbrev wanted_in : Settings → Stored → ℕ → (Place → Bool) → List ℕ
-    wanted_in given sizes n wants = wanted_text (look_of given) (size_at (stored_sizes sizes.widths)) (size_at (stored_sizes sizes.heights)) colors n rows wants
+    wanted_in given sizes n wants = wanted_text (look_of given) (given_size (stored_sizes sizes.widths)) (given_size (stored_sizes sizes.heights)) colors n rows wants
 
     pub are_wanted : (wants : Place → Bool) → wanted_in given sizes n wants ≡ wanted_lines wants state
     are_wanted wants = ap (λ given. wanted_in given sizes n wants) same ∙ ap (λ sizes. wanted_in settings sizes n wants) is ∙ ap (λ n. wanted_in settings (drawn_sizes state) n wants) counted

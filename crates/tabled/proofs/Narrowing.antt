@@ -17,7 +17,7 @@ use Rattle.grid_records_estimate.proofs.Lengths.{length-table_widths}
 use Rattle.grid_records_estimate.specs.Sizing.{sizing_of}
 use Rattle.grid_records_traits.specs.Rows.{row_at, with_text}
 use Rattle.papergrid_fits.proofs.TotalLemmas.{columns-total}
-use Rattle.tabled_size_dimension.specs.Sizes.{size_at}
+use Rattle.tabled_size_dimension.specs.Sizes.{given_size}
 use Rattle.tabled_size_dimension.specs.Stored.{Stored, kept_after, stored_sizes}
 use Rattle.tabled_size_levels.specs.Lists.{map-le, sum-cons}
 use Rattle.tabled_list.specs.Priorities.{shrinks_so}
@@ -32,7 +32,7 @@ use Rattle.tabled_steps.specs.Sizes.{heights_or, natural_widths, widths_or}
 use Rattle.tabled_steps.specs.States.{Outcome, Settles, State, column_count, settled}
 use Rattle.tabled_width.specs.Rooms.{column_widths, in_room, least_widths, room}
 use Rattle.tabled_width.specs.Steps.{Measured, Then}
-use Rattle.tabled_width.specs.Tables.{Drawn, Narrows, NarrowsTable, Shrunk, Where, drawn, drawn_with, has_cells, keeping, narrowed}
+use Rattle.tabled_width.specs.Tables.{Drawn, Narrows, NarrowsTable, Shrunk, Where, drawn, drawn_with, has_cells, keeping, narrowed_state}
 use Rattle.tabled_width.specs.Widths.{table_width}
 use Rattle.tabled.specs.Narrowed.{GivesOnly, IsPlainlyPrinted, TakesAll, least_total, line_columns}
 use Rattle.tabled.specs.Printing.{drawn_heights, drawn_sizes, drawn_widths}
@@ -202,7 +202,7 @@ module _ (settings : Settings) (s : State) (asked : ℕ) (some_rows : 0 < length
     step_of it = Shrunk shrinks priority change (column_widths count it.widths) (it.whole - asked)
 
     left-keeps : (it : Drawn) → it.whole ≡ table_width s.look (column_widths count it.widths) → asked < it.whole → (new : State) (least left : List ℕ) (after : P) → least ≡ leasts →
-        shrinks priority least (it.whole - asked) (column_widths count it.widths) after left → narrowed change least left (keeping it s) ≡ new → KeepsTo settings asked s.look count new
+        shrinks priority least (it.whole - asked) (column_widths count it.widths) after left → narrowed_state change least left (keeping it s) ≡ new → KeepsTo settings asked s.look count new
     left-keeps it whole wider new least left after are shrunk same = record {
       widths = left;
       kept = ap (λ (t : State). t.sizes.widths) (sym same);
@@ -221,12 +221,12 @@ module _ (settings : Settings) (s : State) (asked : ℕ) (some_rows : 0 < length
     shrunk-keeps : (it : Drawn) → it.whole ≡ table_width s.look (column_widths count it.widths) → asked < it.whole → (new : State) → step_of it (keeping it s) (Ok new) → KeepsTo settings asked s.look count new
     shrunk-keeps it whole wider new done =
         let next = λ (least : List ℕ) (outcome : Outcome).
-        ((left : List ℕ) × ((after : P) × shrinks priority least (it.whole - asked) (column_widths count it.widths) after left) × (Ok (narrowed change least left (keeping it s)) ≡ outcome)) in
+        ((left : List ℕ) × ((after : P) × shrinks priority least (it.whole - asked) (column_widths count it.widths) after left) × (Ok (narrowed_state change least left (keeping it s)) ≡ outcome)) in
         let found = then-ok (all_sized leasts) next new done in
         let least = found.value in
         let are : least ≡ leasts = if-ok (list_any passes leasts) Range leasts least found.is in
         let left = found.follows.0 in
-        left-keeps it whole wider new least left found.follows.1.0 are found.follows.1.1 (same-ok (narrowed change least left (keeping it s)) new found.follows.2)
+        left-keeps it whole wider new least left found.follows.1.0 are found.follows.1.1 (same-ok (narrowed_state change least left (keeping it s)) new found.follows.2)
 
     narrows-keeps : (new : State) → Narrows shrinks priority change asked s (Ok new) → KeepsTo settings asked s.look count new
     narrows-keeps new done =
@@ -252,7 +252,7 @@ module _ (settings : Settings) (s : State) (asked : ℕ) (some_rows : 0 < length
 -- a table that keeps such widths draws lines of no more columns
 drawn-within : (settings : Settings) (s : State) (asked : ℕ) (look : Look) (columns : ℕ) → KeepsTo settings asked look columns s → look ≡ look_of settings → 0 < length s.rows → drawn_width s ≤ asked
 drawn-within settings s asked look columns keeps is some =
-    let many : length (drawn_heights s) ≡ length s.rows = length-map-range_with_len (size_at (stored_sizes (drawn_sizes s).heights)) 0 (length s.rows) in
+    let many : length (drawn_heights s) ≡ length s.rows = length-map-range_with_len (given_size (stored_sizes (drawn_sizes s).heights)) 0 (length s.rows) in
     let widths : drawn_widths s ≡ column_widths columns keeps.widths =
     ap (λ (kept : Option (List ℕ)). column_widths (column_count s.rows) (unwrap_or kept (natural_widths s.look (column_count s.rows) s.rows))) keeps.kept
     ∙ ap (λ n. column_widths n keeps.widths) keeps.columns_are in

@@ -8,7 +8,7 @@ use Rattle.grid_config.specs.Settings.{Settings}
 use Rattle.papergrid_fits.proofs.RoomLemmas.{good-spans}
 use Rattle.papergrid_picture.proofs.WidthLemmas.{line-columns}
 use Rattle.papergrid_picture.specs.Shown.{ArePlainlyShown, CostsOne, IsBare, ShowsOnly}
-use Rattle.tabled_size_dimension.specs.Sizes.{size_at}
+use Rattle.tabled_size_dimension.specs.Sizes.{given_size}
 use Rattle.tabled_size_dimension.specs.Stored.{Stored, stored_sizes}
 use Rattle.tabled_steps.specs.States.{State, column_count, state_with}
 use Rattle.tabled.specs.Narrowed.{IsPlainlyPrinted, line_columns}
@@ -24,8 +24,8 @@ whole-line : (settings : Settings) (rows : List (List (List ℕ))) (stored : Sto
 whole-line settings rows stored y positive some_rows some_columns texts fit bare ones =
     let s = state_with rows (look_of settings) (λ _. None) stored in
     let sizes = drawn_sizes s in
-    let width = size_at (stored_sizes sizes.widths) in
-    let height = size_at (stored_sizes sizes.heights) in
+    let width = given_size (stored_sizes sizes.widths) in
+    let height = given_size (stored_sizes sizes.heights) in
     let fits = fits_given settings rows (λ _. None) stored settings sizes (column_count rows) refl refl refl fit in
     line-columns (look_of settings) rows (drawn_widths s) (drawn_heights s) bare ones texts settings.spans y
     (good-spans settings width height (column_count rows) rows (λ _. None) positive fits) (plain-room settings width height (column_count rows) rows (λ _. None) positive fits texts)

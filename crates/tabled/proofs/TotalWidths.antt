@@ -15,7 +15,7 @@ use Rattle.grid_records_estimate.specs.Sizing.{sizing_of}
 use Rattle.papergrid_fits.proofs.Ranges.{line_count-is, table_width-is}
 use Rattle.papergrid_fits.specs.Tables.{column_tracks, row_tracks}
 use Rattle.papergrid_picture.specs.Frame.{column_count as columns_of_frame, row_count, total_width, track_at}
-use Rattle.tabled_size_dimension.specs.Sizes.{size_at}
+use Rattle.tabled_size_dimension.specs.Sizes.{given_size}
 use Rattle.tabled_size_dimension.specs.Stored.{FilledPass, Stored, filled, stored_sizes}
 use Rattle.tabled_steps.proofs.Estimating.{heights_by_look, widths_by_look}
 use Rattle.tabled_steps.specs.States.{State, column_count, state_with}
@@ -59,10 +59,10 @@ module _ (settings : Settings) (rows : List (List (List ℕ))) (colors : Positio
   columns = column_count rows
 
   abbrev width : ℕ → ℕ
-  width = size_at (stored_sizes (drawn_sizes state).widths)
+  width = given_size (stored_sizes (drawn_sizes state).widths)
 
   abbrev height : ℕ → ℕ
-  height = size_at (stored_sizes (drawn_sizes state).heights)
+  height = given_size (stored_sizes (drawn_sizes state).heights)
 
   rows-are : row_count (drawn_frame state) ≡ length rows
   rows-are = length-map-range_with_len height 0 (length rows)
@@ -98,18 +98,18 @@ module _ (settings : Settings) (rows : List (List (List ℕ))) (colors : Positio
 
   module _ (given : Settings) (n : ℕ) (same : given ≡ settings) (counted : n ≡ columns) where
     pub width_here : (kept : Option (List ℕ)) → kept ≡ (drawn_sizes state).widths → 0 < length rows → 0 < n →
-        track_at (column_tracks given (size_at (stored_sizes kept)) n) n + given.margin.right.size ≡ drawn_width state
+        track_at (column_tracks given (given_size (stored_sizes kept)) n) n + given.margin.right.size ≡ drawn_width state
     width_here kept is some_rows some_columns =
-        ap (λ (given : Settings). track_at (column_tracks given (size_at (stored_sizes kept)) n) n + given.margin.right.size) same
-        ∙ ap (λ (kept : Option (List ℕ)). track_at (column_tracks settings (size_at (stored_sizes kept)) n) n + settings.margin.right.size) is
+        ap (λ (given : Settings). track_at (column_tracks given (given_size (stored_sizes kept)) n) n + given.margin.right.size) same
+        ∙ ap (λ (kept : Option (List ℕ)). track_at (column_tracks settings (given_size (stored_sizes kept)) n) n + settings.margin.right.size) is
         ∙ ap (λ n. track_at (column_tracks settings width n) n + settings.margin.right.size) counted
         ∙ sym (table_width-is settings width height columns (length rows) some_rows (omega (arith, some_columns, counted)))
 
     pub height_here : (m : ℕ) (kept : Option (List ℕ)) → kept ≡ (drawn_sizes state).heights → m ≡ length rows → 0 < length rows → 0 < n →
-        track_at (row_tracks given (size_at (stored_sizes kept)) m) m + given.margin.bottom.size ≡ drawn_height state
+        track_at (row_tracks given (given_size (stored_sizes kept)) m) m + given.margin.bottom.size ≡ drawn_height state
     height_here m kept is many some_rows some_columns =
-        ap (λ (given : Settings). track_at (row_tracks given (size_at (stored_sizes kept)) m) m + given.margin.bottom.size) same
-        ∙ ap (λ (kept : Option (List ℕ)). track_at (row_tracks settings (size_at (stored_sizes kept)) m) m + settings.margin.bottom.size) is
+        ap (λ (given : Settings). track_at (row_tracks given (given_size (stored_sizes kept)) m) m + given.margin.bottom.size) same
+        ∙ ap (λ (kept : Option (List ℕ)). track_at (row_tracks settings (given_size (stored_sizes kept)) m) m + settings.margin.bottom.size) is
         ∙ ap (λ m. track_at (row_tracks settings height m) m + settings.margin.bottom.size) many
         ∙ sym (line_count-is settings width height columns (length rows) some_rows (omega (arith, some_columns, counted)))
 

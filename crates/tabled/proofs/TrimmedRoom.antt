@@ -39,7 +39,7 @@ use Rattle.papergrid_picture.specs.Tiling.{HasRoom}
 use Rattle.papergrid_picture.proofs.RelatedLemmas.{All-get_or}
 use Rattle.papergrid_picture.proofs.ShownLemmas.{All-drop, All-take, IsClosedPart, lines-closed_parts, pieces-nothing}
 use Rattle.papergrid_picture.proofs.WidthLemmas.{ArePlain, chars-trim, drop-plain, is_plain_or_feed, plain-parts, skip-plain}
-use Rattle.papergrid_fits.specs.Tables.{Fits}
+use Rattle.papergrid_fits.specs.Tables.{CanBeDrawn}
 use Rattle.papergrid_fits.proofs.RoomLemmas.{among-drop, none-passes}
 
 -- ---- white space that is taken away
@@ -131,7 +131,7 @@ within text trim_horizontal trim_vertical is =
 -- ---- the table
 
 module _ (settings : Settings) (width height : ℕ → ℕ) (columns : ℕ) (rows : List (List (List ℕ))) (colors : Position → Option Color)
-    (positive : ArePositive settings.spans) (fits : Fits settings width height columns rows) (texts : ArePlainlyShown rows) where
+    (positive : ArePositive settings.spans) (fits : CanBeDrawn settings width height columns rows) (texts : ArePlainlyShown rows) where
   abbrev grid : Grid
   grid = table_grid (look_of settings) rows colors (sizes_of width columns) (sizes_of height (length rows))
 

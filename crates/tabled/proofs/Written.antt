@@ -19,7 +19,7 @@ use Rattle.grid_config_values.specs.declared.position.Position.{Position}
 use Rattle.grid_records_measure.specs.TextLines.{line_feed}
 use Rattle.papergrid_fits.specs.Tables.{table_frame}
 use Rattle.papergrid_picture.specs.Frame.{line_count}
-use Rattle.tabled_size_dimension.specs.Sizes.{size_at}
+use Rattle.tabled_size_dimension.specs.Sizes.{given_size}
 use Rattle.tabled_size_dimension.specs.Stored.{Stored, stored_sizes}
 use Rattle.tabled_steps.specs.States.{State, column_count, state_with}
 use Rattle.tabled.specs.Printing.{drawn_sizes}
@@ -142,7 +142,7 @@ module _ (settings : Settings) (rows : List (List (List ℕ))) (colors : Positio
   state = state_with rows (look_of settings) colors stored
 
   abbrev lines_in : Stored → ℕ → ℕ
-  lines_in sizes n = line_count (table_frame settings (size_at (stored_sizes sizes.widths)) (size_at (stored_sizes sizes.heights)) n rows)
+  lines_in sizes n = line_count (table_frame settings (given_size (stored_sizes sizes.widths)) (given_size (stored_sizes sizes.heights)) n rows)
 
   -- the lines of the grid are those that are drawn
   pub lines_drawn : (sizes : Stored) (n : ℕ) → sizes ≡ drawn_sizes state → n ≡ column_count rows → lines_in sizes n ≡ drawn_height state

@@ -12,7 +12,7 @@ ghost use Rattle.grid_config_values.specs.declared.position.Position.{Position a
 ghost use Rattle.grid_records_measure.specs.Cutting.{ShowsCut};
 ghost use Rattle.grid_records_measure.specs.Measures.{measure};
 ghost use Rattle.grid_records_measure.specs.TextLines.{line_feed};
-ghost use Rattle.grid_records_traits.specs.Rows.{IsInside, text_at};
+ghost use Rattle.grid_records_traits.specs.Rows.{HasCell, text_at};
 ghost use Rattle.papergrid_picture.specs.Shown.{IsWholeText};
 ghost use Rattle.tabled.specs.Layout.{batches, begun_batches, multiples, values_left};
 ghost use Rattle.tabled.specs.Narrowed.{GivesOnly, IsPlainlyPrinted, TakesAll, least_total, line_columns};
@@ -35,7 +35,7 @@ ghost use Rattle.tabled_width.specs.Breaking.{breaking, cutting_wider};
 ghost use Rattle.tabled_width.specs.Cutting.{Cutting, cut_line, suffix_behind};
 ghost use Rattle.tabled_width.specs.Options.{truncation, wrapping};
 ghost use Rattle.tabled_width.specs.Rooms.{in_room, room};
-ghost use Rattle.tabled_width.specs.Tables.{narrowed};
+ghost use Rattle.tabled_width.specs.Tables.{narrowed_state};
 ghost use Rattle.tabled_width.specs.declared.truncate.Truncate.{Truncate as OneTruncate};
 ghost use Rattle.tabled_width.specs.declared.wrap.Wrap.{Wrap as OneWrap};
 
@@ -93,9 +93,9 @@ pub fn totals_count_lines_and_columns()
 /// and a cut one the longest front of its characters that fits; each character in the style that it has in the
 /// text, and U+FFFD in the plain style. Before a suffix stands such a front at the columns that it leaves.
 pub fn narrowed_texts_show_their_breaks()
-    ensures texts { (change : ℕ → List ℕ → Option (List ℕ)) (least widths : List ℕ) (s : State) (place : Place) → IsInside s.rows place → place.col < column_count s.rows →
+    ensures texts { (change : ℕ → List ℕ → Option (List ℕ)) (least widths : List ℕ) (s : State) (place : Place) → HasCell s.rows place → place.col < column_count s.rows →
         let text = text_at s.rows place in
-        text_at (narrowed change least widths s).rows place ≡ unwrap_or (in_room change text (room s.look least widths place)) text }
+        text_at (narrowed_state change least widths s).rows place ≡ unwrap_or (in_room change text (room s.look least widths place)) text }
     ensures broken { (width : ℕ) (keep_words : Bool) (text : List ℕ) → 0 < width → IsWholeText text →
         IfSome (breaking keep_words width text) (λ bytes. ShowsWrapped width keep_words (styled (pieces text)) (styled (pieces bytes))) }
     ensures cut { (width : ℕ) (text : List ℕ) → IsWholeText text →

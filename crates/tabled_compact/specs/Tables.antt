@@ -82,5 +82,5 @@ printed table = compact_text table.settings table.width table.columns (shown_row
 abbrev pub IsFit : Compacted → Result (Unit {0}) Fault → Type 0
 IsFit table answer = IsCompactAnswer table.settings table.width table.columns (shown_rows table) answer
 
-abbrev pub Fits : Compacted → Type 0
-Fits table = FitsCompact table.settings table.width table.columns (shown_rows table)
+abbrev pub CanBeDrawnCompact : Compacted → Type 0
+CanBeDrawnCompact table = FitsCompact table.settings table.width table.columns (shown_rows table)

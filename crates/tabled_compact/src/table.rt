@@ -8,13 +8,13 @@ ghost use Rattle.grid_records_traits.specs.Rows.{fitted};
 ghost use Rattle.papergrid.specs.Compact.{FitsCompact, IsCompactAnswer, compact_text};
 ghost use Rattle.tabled_steps.specs.Outcomes.{MayRefuse};
 ghost use Rattle.tabled_steps.specs.States.{Steps};
-ghost use Rattle.tabled_size_dimension.specs.Sizes.{size_at};
+ghost use Rattle.tabled_size_dimension.specs.Sizes.{given_size};
 ghost use Rattle.tabled_size_dimension.specs.Values.{const_sizes};
 ghost use Rattle.tabled_output.specs.Counts.{FailsIff, OnlyWrites, TakesNothingIff, inner_of};
 ghost use Rattle.tabled_output.specs.Streams.{AppendsFront};
 ghost use Rattle.tabled_compact.specs.Building.{BuildRefusal, NoTable};
 ghost use Rattle.tabled_compact.specs.Lending.{LendsConfig};
-ghost use Rattle.tabled_compact.specs.Tables.{Fits, IsFit, KeepsShape, begun, begun_settings, compacted, no_colors, printed, seen};
+ghost use Rattle.tabled_compact.specs.Tables.{CanBeDrawnCompact, IsFit, KeepsShape, begun, begun_settings, compacted, no_colors, printed, seen};
 
 use crate::fault::BuildFault;
 use grid_config::{CompactConfig, Fault, Indent, Sides};
@@ -138,7 +138,7 @@ where
         self,
         size: S,
     ) -> CompactTable<I, ConstDimension<N, ROWS>>
-        ensures { (widths : ConstSize N) × S.converts size widths × (compacted I.rows ⟦<ConstDimension<N, ROWS> as Dimension>⟧.width result ≡ record (compacted I.rows ⟦<ConstDimension<COLUMNS, ROWS> as Dimension>⟧.width self) { width = size_at (const_sizes widths) }) }
+        ensures { (widths : ConstSize N) × S.converts size widths × (compacted I.rows ⟦<ConstDimension<N, ROWS> as Dimension>⟧.width result ≡ record (compacted I.rows ⟦<ConstDimension<COLUMNS, ROWS> as Dimension>⟧.width self) { width = given_size (const_sizes widths) }) }
     {
         let (_, heights) = self.dimension.into();
         CompactTable {
@@ -211,7 +211,7 @@ impl<I: IntoRecords, D: Dimension + Drop> CompactTable<I, D> {
     /// leaves the text as it was.
     pub fn fmt(self, alloc: Global, out: &mut String) -> Result<(), Fault>
         ensures text { OnOk result (string_bytes out.new ≡ string_bytes out.old ++ printed (compacted I.RecordTexts.rows D.width self)) }
-        ensures fits { IfOk result (λ _. Fits (compacted I.RecordTexts.rows D.width self)) }
+        ensures fits { IfOk result (λ _. CanBeDrawnCompact (compacted I.RecordTexts.rows D.width self)) }
         ensures refused { OnErr result (string_bytes out.new ≡ string_bytes out.old) }
         ensures fault { IfErr result (λ fault. (fault ≡ Memory) ⊎ IsFit (compacted I.RecordTexts.rows D.width self) (Err fault)) }
     {
@@ -236,7 +236,7 @@ impl<I: IntoRecords, D: Dimension + Drop> CompactTable<I, D> {
     /// The text that `fmt` appends to an empty one, in the same time, or its refusal.
     pub fn to_string(self, alloc: Global) -> Result<String, Fault>
         ensures text { IfOk result (λ text. string_bytes text ≡ printed (compacted I.RecordTexts.rows D.width self)) }
-        ensures fits { IfOk result (λ _. Fits (compacted I.RecordTexts.rows D.width self)) }
+        ensures fits { IfOk result (λ _. CanBeDrawnCompact (compacted I.RecordTexts.rows D.width self)) }
         ensures fault { IfErr result (λ fault. (fault ≡ Memory) ⊎ IsFit (compacted I.RecordTexts.rows D.width self) (Err fault)) }
     {
         let mut text = String::new(alloc);
@@ -253,8 +253,8 @@ impl<I: IntoRecords, D: Dimension + Drop> CompactTable<I, D> {
         ensures front { IfErr result (λ fault. ¬ (NoTable fault) → AppendsFront (W.contents (inner_of writer.old)) (W.contents (inner_of writer.new)) (printed (compacted I.RecordTexts.rows D.width self))) }
         ensures untouched { IfErr result (λ fault. NoTable fault → writer.new ≡ writer.old) }
         ensures nothing { printed (compacted I.RecordTexts.rows D.width self) ≡ [] → writer.new ≡ writer.old }
-        ensures fits { IfOk result (λ _. Fits (compacted I.RecordTexts.rows D.width self)) }
-        ensures table { IfErr result (BuildRefusal (Fits (compacted I.RecordTexts.rows D.width self)) (IsFit (compacted I.RecordTexts.rows D.width self))) }
+        ensures fits { IfOk result (λ _. CanBeDrawnCompact (compacted I.RecordTexts.rows D.width self)) }
+        ensures table { IfErr result (BuildRefusal (CanBeDrawnCompact (compacted I.RecordTexts.rows D.width self)) (IsFit (compacted I.RecordTexts.rows D.width self))) }
         ensures write { FailsIff (IsErrOf result BuildFault.Write) writer.old writer.new }
         ensures write_zero { TakesNothingIff (IsErrOf result BuildFault.WriteZero) writer.old writer.new }
         ensures only_writes { OnlyWrites writer.old writer.new }

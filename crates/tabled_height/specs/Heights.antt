@@ -5,7 +5,7 @@ use Rattle.grid_config_values.specs.Glyphs.{boundary_count, has_row_boundary}
 use Rattle.grid_config_values.specs.declared.fault.Fault.{Fault}
 use Rattle.grid_config.specs.Looks.{Look}
 use Rattle.grid_records_estimate.specs.Estimates.{greatest}
-use Rattle.grid_records_estimate.specs.Sizing.{place}
+use Rattle.grid_records_estimate.specs.Sizing.{position_at}
 use Rattle.grid_records_estimate.specs.Totals.{total}
 use Rattle.grid_records_measure.specs.TextLines.{text_height}
 use Rattle.grid_records_traits.specs.Rows.{text_at}
@@ -45,7 +45,7 @@ percent_of_height percent columns rows look = estimated look columns rows ≫= �
 
 -- the greatest count of lines of a cell of a row
 abbrev pub row_lines : ℕ → List (List (List ℕ)) → ℕ → ℕ
-row_lines columns rows row = greatest (map (λ column. text_height (text_at rows (place row column))) (range_with_len 0 columns))
+row_lines columns rows row = greatest (map (λ column. text_height (text_at rows (position_at row column))) (range_with_len 0 columns))
 
 -- the greatest of a cell
 abbrev pub most_lines : ℕ → List (List (List ℕ)) → ℕ

@@ -8,7 +8,7 @@ ghost use Rattle.grid_config_values.specs.Glyphs.{no_borders};
 ghost use Rattle.grid_config_values.specs.declared.fault.Fault.{Fault as Refusal};
 ghost use Rattle.grid_config_values.specs.declared.fault.Fault.TheVariants.{Range as PassesMax};
 ghost use Rattle.grid_config.specs.Looks.{Look};
-ghost use Rattle.grid_records_estimate.specs.Sizing.{place};
+ghost use Rattle.grid_records_estimate.specs.Sizing.{position_at};
 ghost use Rattle.tabled_steps.specs.States.{Outcome, State};
 ghost use Rattle.tabled_steps.specs.declared.measurement.Max.{Max as Greatest};
 ghost use Rattle.tabled_steps.specs.declared.measurement.Min.{Min as Least};
@@ -40,11 +40,11 @@ pub fn worked_texts()
     ensures fewest { fewest_lines 2 uneven ≡ 2 }
     ensures no_rows { fewest_lines 2 [] ≡ 0 }
     ensures no_columns { fewest_lines 0 ([] ∷ [] ∷ []) ≡ 0 }
-    ensures raised { raised 3 (place 0 0) (codes "a") ≡ Some (codes "a\n\n") }
-    ensures stays_raised { raised 1 (place 0 0) (codes "a") ≡ None }
-    ensures limited { limited 2 (place 0 0) (codes "a\nb\nc") ≡ Some (codes "a\nb") }
-    ensures nothing_left { limited 0 (place 0 0) (codes "a") ≡ Some [] }
-    ensures stays_limited { limited 1 (place 0 0) (codes "a") ≡ None }
+    ensures raised { raised 3 (position_at 0 0) (codes "a") ≡ Some (codes "a\n\n") }
+    ensures stays_raised { raised 1 (position_at 0 0) (codes "a") ≡ None }
+    ensures limited { limited 2 (position_at 0 0) (codes "a\nb\nc") ≡ Some (codes "a\nb") }
+    ensures nothing_left { limited 0 (position_at 0 0) (codes "a") ≡ Some [] }
+    ensures stays_limited { limited 1 (position_at 0 0) (codes "a") ≡ None }
 {}
 
 /// How many lines a table has with its margins, hundredths of them, and given heights, by hand.

@@ -19,7 +19,7 @@ use Rattle.papergrid_picture.specs.Fitting.{FitsAnswer, InRange, is_too_wide, ta
 use Rattle.papergrid_picture.specs.Frame.{Frame, frame_of, line_count, row_count, track_at}
 use Rattle.papergrid_picture.specs.Tables.{sizes_of, table_lines, table_text}
 use Rattle.tabled_compact.specs.Tables.{kept_of, no_colors}
-use Rattle.tabled_size_dimension.specs.Sizes.{Sizes, size_at}
+use Rattle.tabled_size_dimension.specs.Sizes.{GivenSizes, given_size}
 use Rattle.tabled_compact.specs.Columns.{column_width}
 use Rattle.tabled_iter.specs.Content.{heights_or, row_height, widths_or}
 use Rattle.tabled_iter.specs.Drawing.{IsDrawn}
@@ -89,22 +89,22 @@ widths_listed : (width : Option ℕ) (columns : ℕ) (texts : List (List (List �
 widths_listed (Some width) columns texts = omega arith
 widths_listed None columns texts = omega (arith, length-map-range_with_len (column_width texts) 0 columns)
 
-widths_least : (width : Option ℕ) (columns : ℕ) (texts : List (List (List ℕ))) → size_at (widths_or width columns texts) columns ≤ size_at (widths_or width columns texts) 0
+widths_least : (width : Option ℕ) (columns : ℕ) (texts : List (List (List ℕ))) → given_size (widths_or width columns texts) columns ≤ given_size (widths_or width columns texts) 0
 widths_least (Some width) columns texts = omega arith
 widths_least None columns texts =
-    let none : size_at (widths_or None columns texts) columns ≡ 0 = behind (map (column_width texts) (range_with_len 0 columns)) columns 0 (omega (arith, length-map-range_with_len (column_width texts) 0 columns)) in omega (arith, none)
+    let none : given_size (widths_or None columns texts) columns ≡ 0 = behind (map (column_width texts) (range_with_len 0 columns)) columns 0 (omega (arith, length-map-range_with_len (column_width texts) 0 columns)) in omega (arith, none)
 
 heights_listed : (height width : Option ℕ) (columns count : ℕ) (texts : List (List (List ℕ))) → length texts ≤ count → listed (heights_or height width columns texts) ≤ count
 heights_listed (Some height) width columns count texts few = omega arith
 heights_listed None (Some width) columns count texts few = omega arith
 heights_listed None None columns count texts few = omega (arith, few, length-map texts (row_height columns))
 
-heights_least : (height width : Option ℕ) (columns count : ℕ) (texts : List (List (List ℕ))) → length texts ≤ count → size_at (heights_or height width columns texts) count ≤ size_at (heights_or height width columns texts) 0
+heights_least : (height width : Option ℕ) (columns count : ℕ) (texts : List (List (List ℕ))) → length texts ≤ count → given_size (heights_or height width columns texts) count ≤ given_size (heights_or height width columns texts) 0
 heights_least (Some height) width columns count texts few = omega arith
 heights_least None (Some width) columns count texts few = omega arith
-heights_least None None columns count [] few = let one : size_at (heights_or None None columns []) count ≡ 1 = behind [] count 1 few in omega (arith, one)
+heights_least None None columns count [] few = let one : given_size (heights_or None None columns []) count ≡ 1 = behind [] count 1 few in omega (arith, one)
 heights_least None None columns count (text ∷ texts) few =
-    let one : size_at (heights_or None None columns (text ∷ texts)) count ≡ 1 = behind (map (row_height columns) (text ∷ texts)) count 1 (omega (arith, few, length-map (text ∷ texts) (row_height columns))) in omega (arith, one)
+    let one : given_size (heights_or None None columns (text ∷ texts)) count ≡ 1 = behind (map (row_height columns) (text ∷ texts)) count 1 (omega (arith, few, length-map (text ∷ texts) (row_height columns))) in omega (arith, one)
 
 -- ---- nothing is printed without columns or rows
 
@@ -143,14 +143,14 @@ pub nothing_printed : (table : Streamed) → (column_count table ≡ 0) ⊎ (kep
 nothing_printed table (inl none) = without_columns (compact_look table.settings) (width_at table) (height_at table) no_colors (shown_rows table) (column_count table) none
 nothing_printed table (inr none) =
     without_rows (compact_look table.settings) (width_at table) (height_at table) no_colors (shown_rows table) (column_count table)
-    (ap (λ (rows : List (List (List ℕ))). fitted (column_count table) (truncated_rows (size_at (content_widths table)) rows)) none)
+    (ap (λ (rows : List (List (List ℕ))). fitted (column_count table) (truncated_rows (given_size (content_widths table)) rows)) none)
 
 -- ---- a size that passes the range
 
 rows-counted : (table : Streamed) → length (shown_rows table) ≡ length (kept_of table.kept table.rows)
 rows-counted table =
-    length-map (truncated_rows (size_at (content_widths table)) (kept_of table.kept table.rows)) (fitted_row (column_count table))
-    ∙ length-map (kept_of table.kept table.rows) (truncated_row (size_at (content_widths table)) 0)
+    length-map (truncated_rows (given_size (content_widths table)) (kept_of table.kept table.rows)) (fitted_row (column_count table))
+    ∙ length-map (kept_of table.kept table.rows) (truncated_row (given_size (content_widths table)) 0)
 
 pub refused_unfit : (table : Streamed) (fault : Fault) → 0 < column_count table → 0 < length (kept_of table.kept table.rows) →
     (fault ≡ Memory) ⊎ ((fault ≡ PassesMax) × (Passes (table.settings.padding.left.size + table.settings.padding.right.size) (content_widths table)
@@ -174,29 +174,29 @@ refused_unfit table fault some_columns some_kept (inr range) =
 
 -- ---- what is drawn, by other names of the same
 
-module _ (table : Streamed) (columns : ℕ) (content wide high : Sizes) (source : List (List (List ℕ))) (same_columns : columns ≡ column_count table) (same_content : content ≡ content_widths table) (same_source : source ≡ table.rows)
+module _ (table : Streamed) (columns : ℕ) (content wide high : GivenSizes) (source : List (List (List ℕ))) (same_columns : columns ≡ column_count table) (same_content : content ≡ content_widths table) (same_source : source ≡ table.rows)
     (wide_is : AreGreater (table.settings.padding.left.size + table.settings.padding.right.size) (content_widths table) wide)
     (high_is : AreGreater (table.settings.padding.top.size + table.settings.padding.bottom.size) (content_heights table) high) where
-  widths-are : size_at wide ≡ width_at table
+  widths-are : given_size wide ≡ width_at table
   widths-are = fun_ext wide_is
 
-  heights-are : size_at high ≡ height_at table
+  heights-are : given_size high ≡ height_at table
   heights-are = fun_ext high_is
 
-  abbrev shown_by : ℕ → Sizes → List (List (List ℕ)) → List (List (List ℕ))
-  shown_by n sizes rows = fitted n (truncated_rows (size_at sizes) (kept_of table.kept rows))
+  abbrev shown_by : ℕ → GivenSizes → List (List (List ℕ)) → List (List (List ℕ))
+  shown_by n sizes rows = fitted n (truncated_rows (given_size sizes) (kept_of table.kept rows))
 
   shown-are : shown_by columns content source ≡ shown_rows table
   shown-are =
-      ap (λ (n : ℕ). shown_by n content source) same_columns ∙ ap (λ (sizes : Sizes). shown_by (column_count table) sizes source) same_content
+      ap (λ (n : ℕ). shown_by n content source) same_columns ∙ ap (λ (sizes : GivenSizes). shown_by (column_count table) sizes source) same_content
       ∙ ap (λ (rows : List (List (List ℕ))). shown_by (column_count table) (content_widths table) rows) same_source
 
   abbrev text_by : (ℕ → ℕ) → (ℕ → ℕ) → ℕ → List (List (List ℕ)) → List ℕ
   text_by width height n rows = grid_text (compact_look table.settings) width height no_colors n rows
 
-  pub text-is : text_by (size_at wide) (size_at high) columns (shown_by columns content source) ≡ printed table
+  pub text-is : text_by (given_size wide) (given_size high) columns (shown_by columns content source) ≡ printed table
   text-is =
-      ap (λ (width : ℕ → ℕ). text_by width (size_at high) columns (shown_by columns content source)) widths-are
+      ap (λ (width : ℕ → ℕ). text_by width (given_size high) columns (shown_by columns content source)) widths-are
       ∙ ap (λ (height : ℕ → ℕ). text_by (width_at table) height columns (shown_by columns content source)) heights-are
       ∙ ap (λ (n : ℕ). text_by (width_at table) (height_at table) n (shown_by columns content source)) same_columns
       ∙ ap (λ (rows : List (List (List ℕ))). text_by (width_at table) (height_at table) (column_count table) rows) shown-are
@@ -209,7 +209,7 @@ module _ (table : Streamed) (columns : ℕ) (content wide high : Sizes) (source 
       subst (λ (rows : List (List (List ℕ))). answer_by (width_at table) (height_at table) (column_count table) rows answer) shown-are
       (subst (λ (n : ℕ). answer_by (width_at table) (height_at table) n (shown_by columns content source) answer) same_columns
       (subst (λ (height : ℕ → ℕ). answer_by (width_at table) height columns (shown_by columns content source) answer) heights-are
-      (subst (λ (width : ℕ → ℕ). answer_by width (size_at high) columns (shown_by columns content source) answer) widths-are drawn)))
+      (subst (λ (width : ℕ → ℕ). answer_by width (given_size high) columns (shown_by columns content source) answer) widths-are drawn)))
 
 -- ---- what a call knows, by its own names
 
@@ -222,7 +222,7 @@ module _ (table : Streamed) (padding : Sides Indent) (columns : ℕ) (texts : Li
       ap (λ (n : ℕ). heights_or table.height table.width n (kept_of table.kept texts)) same_columns
       ∙ ap (λ (texts : List (List (List ℕ))). heights_or table.height table.width (column_count table) (kept_of table.kept texts)) same_texts
 
-  abbrev Told : Fault → Sides Indent → Sizes → Sizes → Type 0
+  abbrev Told : Fault → Sides Indent → GivenSizes → GivenSizes → Type 0
   Told fault padding widths heights = (fault ≡ Memory) ⊎ ((fault ≡ PassesMax) × (Passes (padding.left.size + padding.right.size) widths ⊎ Passes (padding.top.size + padding.bottom.size) heights))
 
   pub refused_here : (fault : Fault) → 0 < columns → 0 < length (kept_of table.kept table.rows) →
@@ -230,26 +230,26 @@ module _ (table : Streamed) (padding : Sides Indent) (columns : ℕ) (texts : Li
   refused_here fault some_columns some_rows told =
       refused_unfit table fault (subst (λ (n : ℕ). 0 < n) same_columns some_columns) some_rows
       (subst (λ (padding : Sides Indent). Told fault padding (content_widths table) (content_heights table)) same_padding
-      (subst (λ (heights : Sizes). Told fault padding (content_widths table) heights) heights-same
-      (subst (λ (widths : Sizes). Told fault padding widths (heights_or table.height table.width columns (kept_of table.kept texts))) widths-same told)))
+      (subst (λ (heights : GivenSizes). Told fault padding (content_widths table) heights) heights-same
+      (subst (λ (widths : GivenSizes). Told fault padding widths (heights_or table.height table.width columns (kept_of table.kept texts))) widths-same told)))
 
-  module _ (content wide high : Sizes) (source : List (List (List ℕ))) (same_source : source ≡ table.rows) (content_is : content ≡ widths_or table.width columns texts)
+  module _ (content wide high : GivenSizes) (source : List (List (List ℕ))) (same_source : source ≡ table.rows) (content_is : content ≡ widths_or table.width columns texts)
       (wide_is : AreGreater (padding.left.size + padding.right.size) (widths_or table.width columns texts) wide)
       (high_is : AreGreater (padding.top.size + padding.bottom.size) (heights_or table.height table.width columns (kept_of table.kept texts)) high) where
     wide_here : AreGreater (table.settings.padding.left.size + table.settings.padding.right.size) (content_widths table) wide
     wide_here =
         subst (λ (padding : Sides Indent). AreGreater (padding.left.size + padding.right.size) (content_widths table) wide) same_padding
-        (subst (λ (widths : Sizes). AreGreater (padding.left.size + padding.right.size) widths wide) widths-same wide_is)
+        (subst (λ (widths : GivenSizes). AreGreater (padding.left.size + padding.right.size) widths wide) widths-same wide_is)
 
     high_here : AreGreater (table.settings.padding.top.size + table.settings.padding.bottom.size) (content_heights table) high
     high_here =
         subst (λ (padding : Sides Indent). AreGreater (padding.top.size + padding.bottom.size) (content_heights table) high) same_padding
-        (subst (λ (heights : Sizes). AreGreater (padding.top.size + padding.bottom.size) heights high) heights-same high_is)
+        (subst (λ (heights : GivenSizes). AreGreater (padding.top.size + padding.bottom.size) heights high) heights-same high_is)
 
     abbrev shown_here : List (List (List ℕ))
-    shown_here = fitted columns (truncated_rows (size_at content) (kept_of table.kept source))
+    shown_here = fitted columns (truncated_rows (given_size content) (kept_of table.kept source))
 
-    pub text_here : grid_text (compact_look table.settings) (size_at wide) (size_at high) no_colors columns shown_here ≡ printed table
+    pub text_here : grid_text (compact_look table.settings) (given_size wide) (given_size high) no_colors columns shown_here ≡ printed table
     text_here = text-is table columns content wide high source same_columns (content_is ∙ widths-same) same_source wide_here high_here
 
     answer_here : (answer : Result (Unit {0}) Fault) → IsDrawn (compact_look table.settings) (wide, high) columns shown_here answer → IsFit table answer

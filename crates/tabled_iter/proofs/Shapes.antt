@@ -10,7 +10,7 @@ use Rattle.papergrid_picture.specs.Frame.{Frame, Tracks, column_count as columns
 use Rattle.papergrid_picture.specs.Tables.{sizes_of}
 use Rattle.tabled_compact.specs.Tables.{kept_of}
 use Rattle.tabled_iter.specs.Padded.{Passes, listed}
-use Rattle.tabled_size_dimension.specs.Sizes.{Sizes, size_at}
+use Rattle.tabled_size_dimension.specs.Sizes.{GivenSizes, given_size}
 
 pub kept-map : {X Y : Type 0} (f : X → Y) (kept : Option ℕ) (xs : List X) → kept_of kept (map f xs) ≡ map f (kept_of kept xs)
 kept-map f None xs = refl
@@ -21,16 +21,16 @@ track_passes : (tracks : Tracks) (t : ℕ) → t < length tracks.sizes → 2 ^ 6
 track_passes tracks t inside passes = omega (arith, boundary-next tracks t inside, boundary-bounded tracks (t + 1) (omega arith))
 
 -- one of the sizes of a table passes, where it has some, and the one behind its list is not greater than the first
-pub one_passes : (sizes : Sizes) (more count : ℕ) → 0 < count → listed sizes ≤ count → size_at sizes count ≤ size_at sizes 0 → Passes more sizes → (t : ℕ) × (t < count) × (2 ^ 64 ≤ size_at sizes t + more)
+pub one_passes : (sizes : GivenSizes) (more count : ℕ) → 0 < count → listed sizes ≤ count → given_size sizes count ≤ given_size sizes 0 → Passes more sizes → (t : ℕ) × (t < count) × (2 ^ 64 ≤ given_size sizes t + more)
 one_passes sizes more count some few least passes =
     let k : ℕ = passes.0 in
     let below : k ≤ count = omega (arith, passes.1, few) in
-    elim (le-split k count below) as (λ _. (t : ℕ) × (t < count) × (2 ^ 64 ≤ size_at sizes t + more)) [
+    elim (le-split k count below) as (λ _. (t : ℕ) × (t < count) × (2 ^ 64 ≤ given_size sizes t + more)) [
       | inl less ↦ (k, less, passes.2)
       | inr same ↦ (
         0,
         some,
-        let at : 2 ^ 64 ≤ size_at sizes count + more = subst (λ n. 2 ^ 64 ≤ size_at sizes n + more) same passes.2 in omega (arith, at, least),
+        let at : 2 ^ 64 ≤ given_size sizes count + more = subst (λ n. 2 ^ 64 ≤ given_size sizes n + more) same passes.2 in omega (arith, at, least),
       )
     ]
   where

@@ -1,17 +1,17 @@
--- Sizes to which the same is added.
+-- GivenSizes to which the same is added.
 use Rattle.std.specs.Prelude.{◌≡◌, ◌≤◌, ◌+◌, ◌^◌, ℕ, length}
-use Rattle.tabled_size_dimension.specs.Sizes.{Sizes, Alike, Listed, ListedBefore, size_at}
+use Rattle.tabled_size_dimension.specs.Sizes.{GivenSizes, Alike, Listed, ListedBefore, given_size}
 
 -- each is by so much greater
-abbrev pub AreGreater : ℕ → Sizes → Sizes → Type 0
-AreGreater more sizes sums = (k : ℕ) → size_at sums k ≡ size_at sizes k + more
+abbrev pub AreGreater : ℕ → GivenSizes → GivenSizes → Type 0
+AreGreater more sizes sums = (k : ℕ) → given_size sums k ≡ given_size sizes k + more
 
 -- how many stand in a list; the number after them is the one of all others
-abbrev pub listed : Sizes → ℕ
+abbrev pub listed : GivenSizes → ℕ
 listed (Alike size) = 0
 listed (Listed sizes) = length sizes
 listed (ListedBefore sizes size) = length sizes
 
 -- one of the list, or that of all others, passes the greatest `usize`
-abbrev pub Passes : ℕ → Sizes → Type 0
-Passes more sizes = (k : ℕ) × (k ≤ listed sizes) × (2 ^ 64 ≤ size_at sizes k + more)
+abbrev pub Passes : ℕ → GivenSizes → Type 0
+Passes more sizes = (k : ℕ) × (k ≤ listed sizes) × (2 ^ 64 ≤ given_size sizes k + more)

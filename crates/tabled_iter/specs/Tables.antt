@@ -9,7 +9,7 @@ use Rattle.papergrid_picture.specs.Fitting.{FitsAnswer}
 use Rattle.papergrid_picture.specs.Frame.{Frame, frame_of}
 use Rattle.papergrid_picture.specs.Tables.{sizes_of, table_text}
 use Rattle.tabled_compact.specs.Tables.{begun_settings, kept_of, no_colors}
-use Rattle.tabled_size_dimension.specs.Sizes.{Sizes, size_at}
+use Rattle.tabled_size_dimension.specs.Sizes.{GivenSizes, given_size}
 use Rattle.tabled_size_dimension.specs.Stored.{none_stored}
 use Rattle.tabled_steps.specs.States.{State, state_with}
 use Rattle.tabled_iter.specs.Content.{columns_or, heights_or, widths_or}
@@ -66,23 +66,23 @@ module _ (table : Streamed) where
   column_count = columns_or table.columns sniffed
 
   -- without paddings
-  abbrev pub content_widths : Sizes
+  abbrev pub content_widths : GivenSizes
   content_widths = widths_or table.width column_count sniffed
 
-  abbrev pub content_heights : Sizes
+  abbrev pub content_heights : GivenSizes
   content_heights = heights_or table.height table.width column_count (kept_of table.kept sniffed)
 
   -- the rows that are kept, each cell cut that is wider than the content of its column, and each row of as many cells as there
   -- are columns
   abbrev pub shown_rows : List (List (List ℕ))
-  shown_rows = fitted column_count (truncated_rows (size_at content_widths) (kept_of table.kept table.rows))
+  shown_rows = fitted column_count (truncated_rows (given_size content_widths) (kept_of table.kept table.rows))
 
   -- with the paddings at the sides, and those above and below
   abbrev pub width_at : ℕ → ℕ
-  width_at column = size_at content_widths column + (table.settings.padding.left.size + table.settings.padding.right.size)
+  width_at column = given_size content_widths column + (table.settings.padding.left.size + table.settings.padding.right.size)
 
   abbrev pub height_at : ℕ → ℕ
-  height_at row = size_at content_heights row + (table.settings.padding.top.size + table.settings.padding.bottom.size)
+  height_at row = given_size content_heights row + (table.settings.padding.top.size + table.settings.padding.bottom.size)
 
   abbrev pub widths : List ℕ
   widths = sizes_of width_at column_count

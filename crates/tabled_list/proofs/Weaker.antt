@@ -11,7 +11,7 @@ use Rattle.tabled_steps.specs.Outcomes.{MayRefuse, all_sized}
 use Rattle.tabled_steps.specs.States.{Outcome, Settles, State, Steps, column_count}
 use Rattle.tabled_width.specs.Steps.{Measured, Then}
 use Rattle.tabled_width.specs.Rooms.{column_widths, least_widths}
-use Rattle.tabled_width.specs.Tables.{Drawn, Grown, Narrows, NarrowsTable, Shrunk, Where, Widens, WidensTable, drawn, has_cells, keeping, narrowed}
+use Rattle.tabled_width.specs.Tables.{Drawn, Grown, Narrows, NarrowsTable, Shrunk, Where, Widens, WidensTable, drawn, has_cells, keeping, narrowed_state}
 
 -- ---- steps
 
@@ -45,8 +45,8 @@ module _ {P Q : Type 0} (shrinks : P → List ℕ → ℕ → List ℕ → P →
   shrunk_as : (widths : List ℕ) (by : ℕ) (s : State) (outcome : Outcome) → Shrunk shrinks p change widths by s outcome → Shrunk others q change widths by s outcome
   shrunk_as widths by s outcome =
       then_by (all_sized (least_widths s.look (column_count s.rows) (length s.rows)))
-      (λ least outcome. (left : List ℕ) × ((after : P) × shrinks p least by widths after left) × (Ok (narrowed change least left s) ≡ outcome))
-      (λ least outcome. (left : List ℕ) × ((after : Q) × others q least by widths after left) × (Ok (narrowed change least left s) ≡ outcome))
+      (λ least outcome. (left : List ℕ) × ((after : P) × shrinks p least by widths after left) × (Ok (narrowed_state change least left s) ≡ outcome))
+      (λ least outcome. (left : List ℕ) × ((after : Q) × others q least by widths after left) × (Ok (narrowed_state change least left s) ≡ outcome))
       outcome (λ least it. (it.0, follows least by widths it.0 it.1, it.2))
 
   narrows_one : (asked : ℕ) (s : State) (outcome : Outcome) → Narrows shrinks p change asked s outcome → Narrows others q change asked s outcome

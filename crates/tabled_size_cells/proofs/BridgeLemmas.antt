@@ -20,11 +20,11 @@ use Rattle.ansi_str_text.proofs.Utf8Pieces.{IsUtf8-shown_text}
 use Rattle.ansi_str.proofs.CutParts.{first_part-slice}
 use Rattle.grid_records_estimate.specs.Estimates.{greatest}
 use Rattle.grid_records_measure.specs.Cutting.{lacking, replacement}
-use Rattle.grid_records_measure.specs.Filling.{behind_front, front}
+use Rattle.grid_records_measure.specs.Filling.{behind_front, fitting_front}
 use Rattle.grid_records_measure.specs.Measures.{measure}
 use Rattle.grid_records_measure.specs.TextLines.{line_measure, text_lines, text_width, widest}
-use Rattle.grid_records_measure.proofs.CutLemmas.{front-boundary}
-use Rattle.grid_records_measure.proofs.FillingLemmas.{IsLongestFront-front, IsLongestFront-unique}
+use Rattle.grid_records_measure.proofs.CutLemmas.{fitting_front-boundary}
+use Rattle.grid_records_measure.proofs.FillingLemmas.{IsLongestFront-fitting_front, IsLongestFront-unique}
 use Rattle.grid_records_measure.proofs.ShownCuts.{cut-shows}
 use Rattle.grid_records_measure.proofs.TextLineLemmas.{text_lines-shown}
 use Rattle.papergrid_picture.specs.Shown.{IsWholeText, Styled, character_of, in_plain}
@@ -125,7 +125,7 @@ module _ (text : List ℕ) (whole : IsWholeText text) (width : ℕ) where
   characters = chars (strip ps)
 
   abbrev kept : List ℕ
-  kept = front width 0 characters
+  kept = fitting_front width 0 characters
 
   abbrev behind : List ℕ
   behind = behind_front width 0 characters
@@ -149,7 +149,7 @@ module _ (text : List ℕ) (whole : IsWholeText text) (width : ℕ) where
       let low : 0 ≤ at = omega arith in
       let shown = IsUtf8-shown_text text whole.utf8 in
       IsUtf8-append (cut_part 0 at ps) (encode_utf8_all (replicate (lacking width kept behind) replacement))
-      (subst IsUtf8 (cut-split at) (IsUtf8-split_part text ps 0 at low whole.utf8 (ArePiecesOf-pieces text) (IsCharBoundary-start (strip ps) shown) (front-boundary width (strip ps) shown)))
+      (subst IsUtf8 (cut-split at) (IsUtf8-split_part text ps 0 at low whole.utf8 (ArePiecesOf-pieces text) (IsCharBoundary-start (strip ps) shown) (fitting_front-boundary width (strip ps) shown)))
       (marks-text (lacking width kept behind))
 
   pub cut-shows_whole : ShowsWhole (cut_at width text) (cut character_of in_plain width (styled_of text))
@@ -157,7 +157,7 @@ module _ (text : List ℕ) (whole : IsWholeText text) (width : ℕ) where
       let of_text = ArePiecesOf-pieces text in
       let bytes = cut_at width text in
       let shows = cut-shows width text bytes ps (pieces bytes) whole.utf8 of_text whole.whole (cut_at-meets width text ps of_text) (ArePiecesOf-pieces bytes) in
-      let longest = IsLongestFront-front width characters in
+      let longest = IsLongestFront-fitting_front width characters in
       let same : shows.kept ≡ kept = IsLongestFront-unique width characters shows.kept shows.left kept behind shows.longest longest in
       let left : shows.left ≡ behind = append_cancel_left kept shows.left behind (sym (shows.longest.parted ∙ ap (λ (xs : List ℕ). xs ++ shows.left) same) ∙ longest.parted) in
       let shown : List ℕ → List ℕ → List Styled = λ xs ys. take (length xs) (styled_of text) ++ map in_plain (replicate (lacking width xs ys) replacement) in
@@ -167,7 +167,7 @@ module _ (text : List ℕ) (whole : IsWholeText text) (width : ℕ) where
             shows.shown
             ∙ ap (λ (xs : List ℕ). shown xs shows.left) same
             ∙ ap (shown kept) left
-            ∙ ap (λ (cs : List ℕ). shown (front width 0 cs) (behind_front width 0 cs)) (sym (characters-styled text whole.utf8));
+            ∙ ap (λ (cs : List ℕ). shown (fitting_front width 0 cs) (behind_front width 0 cs)) (sym (characters-styled text whole.utf8));
       }
 
 -- ---- resized

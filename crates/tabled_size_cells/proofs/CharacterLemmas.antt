@@ -5,7 +5,7 @@ use Rattle.std.proofs.lemmas.List.{map-append}
 use Rattle.std.proofs.lemmas.Simd.{map-map}
 use Rattle.grid_records_estimate.specs.Estimates.{greatest}
 use Rattle.grid_records_measure.specs.Cutting.{lacking, replacement}
-use Rattle.grid_records_measure.specs.Filling.{behind_front, front}
+use Rattle.grid_records_measure.specs.Filling.{behind_front, fitting_front}
 use Rattle.grid_records_measure.specs.Measures.{measure}
 use Rattle.grid_records_measure.specs.TextLines.{is_line_feed, line_feed}
 use Rattle.papergrid_picture.proofs.ItemLemmas.{slice_split-map}
@@ -96,9 +96,9 @@ module _ {X Y : Type 0} (f : X → Y) (character : Y → ℕ) (bare : ℕ → X)
   cut-natural : (width : ℕ) (cell : List X) → map f (cut character_in bare width cell) ≡ cut character bare_in width (map f cell)
   cut-natural width cell =
       let cs = map character_in cell in
-      let kept = front width 0 cs in
+      let kept = fitting_front width 0 cs in
       let marks = replicate (lacking width kept (behind_front width 0 cs)) replacement in
-      let cut_by : List ℕ → List Y = λ found. take (length (front width 0 found)) (map f cell) ++ map bare_in (replicate (lacking width (front width 0 found) (behind_front width 0 found)) replacement) in
+      let cut_by : List ℕ → List Y = λ found. take (length (fitting_front width 0 found)) (map f cell) ++ map bare_in (replicate (lacking width (fitting_front width 0 found) (behind_front width 0 found)) replacement) in
       map-append f (take (length kept) cell) (map bare marks)
       ∙ ap (λ first. first ++ map f (map bare marks)) (sym (take-map f (length kept) cell))
       ∙ ap (λ rest. take (length kept) (map f cell) ++ rest) (map-map f bare marks)

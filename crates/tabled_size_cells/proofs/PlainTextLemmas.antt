@@ -21,7 +21,7 @@ use Rattle.ansi_str.specs.StyledText.{has_escape, strip, style_after, text_of}
 use Rattle.ansi_str_search.proofs.PartLemmas.{style_by-text}
 use Rattle.ansi_str_text.proofs.Stripping.{escaped}
 use Rattle.grid_records_measure.specs.Cutting.{lacking, replacement}
-use Rattle.grid_records_measure.specs.Filling.{behind_front, front}
+use Rattle.grid_records_measure.specs.Filling.{behind_front, fitting_front}
 use Rattle.grid_records_measure.specs.TextLines.{line_feed, line_feed_places, text_lines, text_width}
 use Rattle.papergrid_picture.specs.Shown.{IsPlainText, IsWholeText}
 use Rattle.papergrid_picture.proofs.RelatedLemmas.{All-append}
@@ -176,7 +176,7 @@ pub free-cut : (width : ℕ) (text : List ℕ) → IsFree text → IsFree (cut_a
 unfolding cut_at
 free-cut width text free =
     let characters = chars (strip (pieces text)) in
-    let kept = front width 0 characters in
+    let kept = fitting_front width 0 characters in
     free-both (cut_part 0 (length (encode_utf8_all kept)) (pieces text)) (encode_utf8_all (replicate (lacking width kept (behind_front width 0 characters)) replacement))
     (free-part (λ place. false) (λ place. nat_le place (length (encode_utf8_all kept))) 0 (length (encode_utf8_all kept)) (pieces text) (pieces-free text free))
     (free-marks (lacking width kept (behind_front width 0 characters)))

@@ -14,7 +14,7 @@ use Rattle.tabled_size_wrap.specs.Runs.{runs_of}
 use Rattle.tabled_size_wrap.specs.Showing.{unit_size}
 use Rattle.tabled_size_wrap.specs.Units.{line_units}
 use Rattle.tabled_size_wrap.specs.Wrapping.{shown_lines}
-use Rattle.tabled_size_wrap.proofs.FrontLemmas.{front-meets, front-one, kept-characters, kept_of, left-characters, left-one, left_of}
+use Rattle.tabled_size_wrap.proofs.FrontLemmas.{fitting_front-meets, fitting_front-one, kept-characters, kept_of, left-characters, left-one, left_of}
 use Rattle.tabled_size_wrap.proofs.LongestLemmas.{runs-are, runs-one}
 use Rattle.tabled_size_cells.specs.Resized.{AreLinesOfLine, IsBrokenCell, IsCutCell, IsResizedCell}
 use Rattle.tabled_size_cells.specs.Resizing.{Break, Cut, Keep, Resize, broken, broken_line, cell_width, cut, lines_in, resized, resized_text}
@@ -36,7 +36,7 @@ module _ {X : Type 0} (character : X → ℕ) (bare : ℕ → X) where
     cut-meets = record {
       kept = kept_of character width cell;
       left = left_of character width cell;
-      front = front-meets character width cell;
+      front = fitting_front-meets character width cell;
       marked =
           ap (λ (xs : List ℕ). with_marks (kept_of character width cell) xs (behind_front width 0 characters)) (sym (kept-characters character width cell))
           ∙ ap (with_marks (kept_of character width cell) (map character (kept_of character width cell))) (sym (left-characters character width cell));
@@ -45,7 +45,7 @@ module _ {X : Type 0} (character : X → ℕ) (bare : ℕ → X) where
     cut-one : (made : List X) → IsCutCell character bare width cell made → made ≡ cut character bare width cell
     unfolding cut-meets
     cut-one made is =
-        let kept : is.kept ≡ kept_of character width cell = front-one character width cell is.kept is.left is.front in
+        let kept : is.kept ≡ kept_of character width cell = fitting_front-one character width cell is.kept is.left is.front in
         let left : is.left ≡ left_of character width cell = left-one character width cell is.kept is.left is.front in
         is.marked
         ∙ ap (λ (xs : List X). with_marks xs (map character xs) (map character is.left)) kept

@@ -3,7 +3,7 @@ use Rattle.std.specs.Prelude.{ℕ, zero, suc, nat_le, Bool, List, [], ◌∷◌,
 use Rattle.std.specs.List.{flat_map, join_by, slice_split}
 use Rattle.grid_records_estimate.specs.Estimates.{greatest}
 use Rattle.grid_records_measure.specs.Cutting.{lacking, replacement}
-use Rattle.grid_records_measure.specs.Filling.{behind_front, front}
+use Rattle.grid_records_measure.specs.Filling.{behind_front, fitting_front}
 use Rattle.grid_records_measure.specs.Measures.{measure}
 use Rattle.grid_records_measure.specs.TextLines.{is_line_feed, line_feed}
 use Rattle.tabled_size_wrap.specs.Bytes.{truncated_text, wrapped_text}
@@ -45,7 +45,7 @@ module _ {X : Type 0} (character : X → ℕ) (bare : ℕ → X) where
   abbrev pub cut : ℕ → List X → List X
   cut width cell =
       let characters = map character cell in
-      let kept = front width 0 characters in
+      let kept = fitting_front width 0 characters in
       take (length kept) cell ++ map bare (replicate (lacking width kept (behind_front width 0 characters)) replacement)
 
   -- a cell that is cut measures more than the width

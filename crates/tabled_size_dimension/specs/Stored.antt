@@ -4,7 +4,7 @@ use Rattle.grid_config_values.specs.declared.entity.Entity.{Entity}
 use Rattle.grid_config_values.specs.declared.entity.Entity.TheVariants.{Global, Column, Row, Cell}
 use Rattle.grid_records_estimate.specs.Collecting.{PassesMax}
 use Rattle.grid_records_estimate.specs.Kept.{Kept}
-use Rattle.tabled_size_dimension.specs.Sizes.{Sizes, Listed}
+use Rattle.tabled_size_dimension.specs.Sizes.{GivenSizes, Listed}
 
 -- widths and heights, each perhaps not kept
 pub record Stored : Type 0 where
@@ -15,7 +15,7 @@ abbrev pub none_stored : Stored
 none_stored = record { widths = None; heights = None }
 
 -- what is not kept counts as an empty list
-abbrev pub stored_sizes : Option (List ℕ) → Sizes
+abbrev pub stored_sizes : Option (List ℕ) → GivenSizes
 stored_sizes sizes = Listed (unwrap_or sizes [])
 
 -- what is kept after a change of these cells: of one column no widths, of one row no heights, of any other cells neither

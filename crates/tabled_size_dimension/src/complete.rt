@@ -1,7 +1,7 @@
 //! Sizes that a table keeps.
 ghost use Rattle.std.specs.Prelude.{◌≡◌, ◌↔◌, None, IfOk, IsOk, IsTrue};
 ghost use Rattle.std.specs.Option.{option_copied, option_map};
-ghost use Rattle.tabled_size_dimension.specs.Sizes.{CoversFirst, size_at};
+ghost use Rattle.tabled_size_dimension.specs.Sizes.{CoversFirst, given_size};
 ghost use Rattle.tabled_size_dimension.specs.Stored.{stored_sizes};
 
 use crate::lists::{covers_first, size_or};
@@ -180,7 +180,7 @@ fn as_slice(sizes: &Option<Vec<usize>>) -> Option<&[usize]>
 
 // The size at this number.
 fn size_at(sizes: Option<&[usize]>, number: usize) -> usize
-    ensures { result ≡ size_at (stored_sizes (option_copied sizes.entry)) number }
+    ensures { result ≡ given_size (stored_sizes (option_copied sizes.entry)) number }
 {
     match sizes {
         Some(sizes) => size_or(sizes, number, 0),
@@ -225,12 +225,12 @@ impl Default for CompleteDimension {
 }
 
 impl Dimension for CompleteDimension {
-    ghost use Rattle.tabled_size_dimension.specs.Sizes.{size_at};
+    ghost use Rattle.tabled_size_dimension.specs.Sizes.{given_size};
     ghost use Rattle.tabled_size_dimension.specs.Stored.{stored_sizes};
 
-    ghost width = { λ sizes. size_at (stored_sizes sizes.widths) };
+    ghost width = { λ sizes. given_size (stored_sizes sizes.widths) };
 
-    ghost height = { λ sizes. size_at (stored_sizes sizes.heights) };
+    ghost height = { λ sizes. given_size (stored_sizes sizes.heights) };
 
     fn get_width(&self, column: usize) -> usize {
         size_at(self.get_widths(), column)

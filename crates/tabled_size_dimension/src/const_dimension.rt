@@ -47,12 +47,12 @@ impl<const COLUMNS: usize, const ROWS: usize> ConstDimension<COLUMNS, ROWS> {
 }
 
 impl<const COLUMNS: usize, const ROWS: usize> Dimension for ConstDimension<COLUMNS, ROWS> {
-    ghost use Rattle.tabled_size_dimension.specs.Sizes.{size_at};
+    ghost use Rattle.tabled_size_dimension.specs.Sizes.{given_size};
     ghost use Rattle.tabled_size_dimension.specs.Values.{const_sizes};
 
-    ghost width = { λ dimension. size_at (const_sizes dimension.0) };
+    ghost width = { λ dimension. given_size (const_sizes dimension.0) };
 
-    ghost height = { λ dimension. size_at (const_sizes dimension.1) };
+    ghost height = { λ dimension. given_size (const_sizes dimension.1) };
 
     fn get_width(&self, column: usize) -> usize {
         self.width.get(column)

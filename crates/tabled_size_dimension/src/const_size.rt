@@ -12,12 +12,12 @@ pub enum ConstSize<const N: usize> {
 
 impl<const N: usize> ConstSize<N> {
     ghost use Rattle.std.specs.Prelude.{◌≡◌, ◌↔◌, IsTrue};
-    ghost use Rattle.tabled_size_dimension.specs.Sizes.{CoversFirst, size_at};
+    ghost use Rattle.tabled_size_dimension.specs.Sizes.{CoversFirst, given_size};
     ghost use Rattle.tabled_size_dimension.specs.Values.{const_sizes};
 
     // The size of the column, or row, of this number.
     pub(crate) fn get(&self, index: usize) -> usize
-        ensures { result ≡ size_at (const_sizes self.now) index }
+        ensures { result ≡ given_size (const_sizes self.now) index }
     {
         match self {
             ConstSize::List(sizes) => size_or(sizes, index, 0),

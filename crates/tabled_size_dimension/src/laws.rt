@@ -6,7 +6,7 @@ ghost use Rattle.grid_config.specs.Coloring.{Coloring as ColoredSettings};
 ghost use Rattle.grid_config.specs.Settings.{Settings as TableSettings};
 ghost use Rattle.grid_records_estimate.specs.Kept.{Kept as LeastSizes, least_sizes};
 ghost use Rattle.grid_records_estimate.specs.Sizing.{sizing_of};
-ghost use Rattle.tabled_size_dimension.specs.Sizes.{Alike, Listed, ListedBefore, size_at};
+ghost use Rattle.tabled_size_dimension.specs.Sizes.{Alike, Listed, ListedBefore, given_size};
 ghost use Rattle.tabled_size_dimension.specs.Stored.{FilledPass, Stored as StoredSizes, filled, kept_after, none_stored, stored_sizes};
 ghost use Rattle.tabled_size_dimension.specs.Values.{BothSizes, ValuePair, const_sizes, value_sizes};
 ghost use Rattle.tabled_size_dimension.specs.Takers.{Takers as Both};
@@ -40,25 +40,25 @@ pub fn changes_clear_sizes()
 /// Sizes worked out by hand: past a list a size is 0, and past a list with a size for the others it is
 /// that one; what is set stays, and what is not is filled.
 pub fn worked_sizes()
-    ensures alike { size_at (Alike 3) 9 ≡ 3 }
-    ensures listed { size_at (Listed (4 ∷ 5 ∷ [])) 1 ≡ 5 }
-    ensures past { size_at (Listed (4 ∷ 5 ∷ [])) 2 ≡ 0 }
-    ensures before { size_at (ListedBefore (4 ∷ []) 7) 0 ≡ 4 }
-    ensures behind { size_at (ListedBefore (4 ∷ []) 7) 1 ≡ 7 }
+    ensures alike { given_size (Alike 3) 9 ≡ 3 }
+    ensures listed { given_size (Listed (4 ∷ 5 ∷ [])) 1 ≡ 5 }
+    ensures past { given_size (Listed (4 ∷ 5 ∷ [])) 2 ≡ 0 }
+    ensures before { given_size (ListedBefore (4 ∷ []) 7) 0 ≡ 4 }
+    ensures behind { given_size (ListedBefore (4 ∷ []) 7) 1 ≡ 7 }
     ensures filled { filled (record { widths = 1 ∷ []; heights = 2 ∷ [] }) (record { widths = Some (9 ∷ []); heights = None }) ≡
         record { widths = Some (9 ∷ []); heights = Some (2 ∷ []) } }
 {}
 
 /// The sizes of each kind, by their numbers.
 pub fn sizes_by_number<const COLUMNS: usize, const ROWS: usize>()
-    ensures kept_widths { (sizes : StoredSizes) (column : ℕ) → ⟦<CompleteDimension as Dimension>⟧.width sizes column ≡ size_at (stored_sizes sizes.widths) column }
-    ensures kept_heights { (sizes : StoredSizes) (row : ℕ) → ⟦<CompleteDimension as Dimension>⟧.height sizes row ≡ size_at (stored_sizes sizes.heights) row }
-    ensures given_widths { (sizes : BothSizes) (column : ℕ) → ⟦<StaticDimension as Dimension>⟧.width sizes column ≡ size_at sizes.0 column }
-    ensures given_heights { (sizes : BothSizes) (row : ℕ) → ⟦<StaticDimension as Dimension>⟧.height sizes row ≡ size_at sizes.1 row }
+    ensures kept_widths { (sizes : StoredSizes) (column : ℕ) → ⟦<CompleteDimension as Dimension>⟧.width sizes column ≡ given_size (stored_sizes sizes.widths) column }
+    ensures kept_heights { (sizes : StoredSizes) (row : ℕ) → ⟦<CompleteDimension as Dimension>⟧.height sizes row ≡ given_size (stored_sizes sizes.heights) row }
+    ensures given_widths { (sizes : BothSizes) (column : ℕ) → ⟦<StaticDimension as Dimension>⟧.width sizes column ≡ given_size sizes.0 column }
+    ensures given_heights { (sizes : BothSizes) (row : ℕ) → ⟦<StaticDimension as Dimension>⟧.height sizes row ≡ given_size sizes.1 row }
     ensures constant_widths { (sizes : ConstWidth COLUMNS × ConstWidth ROWS) (column : ℕ) →
-        ⟦<ConstDimension<COLUMNS, ROWS> as Dimension>⟧.width sizes column ≡ size_at (const_sizes sizes.0) column }
+        ⟦<ConstDimension<COLUMNS, ROWS> as Dimension>⟧.width sizes column ≡ given_size (const_sizes sizes.0) column }
     ensures constant_heights { (sizes : ConstWidth COLUMNS × ConstWidth ROWS) (row : ℕ) →
-        ⟦<ConstDimension<COLUMNS, ROWS> as Dimension>⟧.height sizes row ≡ size_at (const_sizes sizes.1) row }
+        ⟦<ConstDimension<COLUMNS, ROWS> as Dimension>⟧.height sizes row ≡ given_size (const_sizes sizes.1) row }
     ensures zero_widths { (zero : Zero) (column : ℕ) → ⟦<ZeroDimension as Dimension>⟧.width zero column ≡ 0 }
     ensures zero_heights { (zero : Zero) (row : ℕ) → ⟦<ZeroDimension as Dimension>⟧.height zero row ≡ 0 }
 {}

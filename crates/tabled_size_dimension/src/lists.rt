@@ -1,10 +1,10 @@
 //! Sizes of a list, by their numbers.
 ghost use Rattle.std.specs.Prelude.{◌≡◌, ◌↔◌, IsTrue};
-ghost use Rattle.tabled_size_dimension.specs.Sizes.{CoversFirst, Listed, ListedBefore, size_at};
+ghost use Rattle.tabled_size_dimension.specs.Sizes.{CoversFirst, Listed, ListedBefore, given_size};
 
 // The size of this number, and past the list this one.
 pub(crate) fn size_or(sizes: &[usize], number: usize, other: usize) -> usize
-    ensures { result ≡ size_at (ListedBefore sizes.now other) number }
+    ensures { result ≡ given_size (ListedBefore sizes.now other) number }
 {
     sizes.get(number).copied().unwrap_or(other)
 }

@@ -14,10 +14,10 @@ pub struct StaticDimension {
 }
 
 impl Model for StaticDimension {
-    ghost use Rattle.tabled_size_dimension.specs.Sizes.{Sizes};
+    ghost use Rattle.tabled_size_dimension.specs.Sizes.{GivenSizes};
     ghost use Rattle.tabled_size_dimension.specs.Values.{value_sizes};
 
-    ghost Value = { Sizes × Sizes };
+    ghost Value = { GivenSizes × GivenSizes };
 
     ghost view = { λ dimension. (value_sizes dimension.width, value_sizes dimension.height) };
 }
@@ -55,11 +55,11 @@ impl StaticDimension {
 }
 
 impl Dimension for StaticDimension {
-    ghost use Rattle.tabled_size_dimension.specs.Sizes.{size_at};
+    ghost use Rattle.tabled_size_dimension.specs.Sizes.{given_size};
 
-    ghost width = { λ dimension. size_at dimension.0 };
+    ghost width = { λ dimension. given_size dimension.0 };
 
-    ghost height = { λ dimension. size_at dimension.1 };
+    ghost height = { λ dimension. given_size dimension.1 };
 
     fn get_width(&self, column: usize) -> usize {
         self.width.get(column)

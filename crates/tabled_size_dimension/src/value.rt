@@ -15,12 +15,12 @@ pub enum DimensionValue {
 
 impl DimensionValue {
     ghost use Rattle.std.specs.Prelude.{◌≡◌, ◌↔◌, IfOk, IsOk, IsTrue};
-    ghost use Rattle.tabled_size_dimension.specs.Sizes.{Alike, CoversFirst, size_at};
+    ghost use Rattle.tabled_size_dimension.specs.Sizes.{Alike, CoversFirst, given_size};
     ghost use Rattle.tabled_size_dimension.specs.Values.{value_sizes};
 
     /// The size of the column, or row, of this number. Numbers count from 0.
     pub fn get(&self, index: usize) -> usize
-        ensures { result ≡ size_at (value_sizes self.now) index }
+        ensures { result ≡ given_size (value_sizes self.now) index }
     {
         match self {
             DimensionValue::Exact(size) => *size,

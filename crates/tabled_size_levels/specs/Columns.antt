@@ -3,8 +3,8 @@ use Rattle.std.specs.Prelude.{ℕ, ◌+◌, ◌-◌, ◌==◌, ◌&&◌, ◌||�
 use Rattle.std.specs.List.{range_with_len, count_by}
 
 -- the columns of a list of sizes
-abbrev pub columns_of : List ℕ → List ℕ
-columns_of sizes = range_with_len 0 (length sizes)
+abbrev pub column_numbers : List ℕ → List ℕ
+column_numbers sizes = range_with_len 0 (length sizes)
 
 -- the place of a column, of `count` columns: how many come before it, from the right or from the left
 abbrev pub from_side : Bool → ℕ → ℕ → ℕ
@@ -22,4 +22,4 @@ is_narrower right widths other column =
 
 -- in order of width, equal widths by the side
 abbrev pub by_width : Bool → List ℕ → ℕ → ℕ
-by_width right widths column = count_by (λ other. is_narrower right widths other column) (columns_of widths)
+by_width right widths column = count_by (λ other. is_narrower right widths other column) (column_numbers widths)

@@ -4,7 +4,7 @@ use Rattle.tabled_size_levels.specs.declared.rule.Rule.{Rule}
 use Rattle.tabled_size_levels.specs.declared.rule.Rule.TheVariants.{Turns, Widest, Narrowest, Raised, Shared}
 use Rattle.tabled_size_levels.specs.declared.order.Order.{Order}
 use Rattle.tabled_size_levels.specs.declared.order.Order.TheVariants.{FromSide, FromColumn}
-use Rattle.tabled_size_levels.specs.Columns.{columns_of, from_column, from_side}
+use Rattle.tabled_size_levels.specs.Columns.{column_numbers, from_column, from_side}
 
 -- what a column of a width and a least gives or gets at a number
 abbrev pub moved : Rule → ℕ → ℕ → ℕ → ℕ
@@ -16,7 +16,7 @@ moved Shared number width least = if width == 0 then 0 else number
 
 -- all columns together
 abbrev pub moved_sum : Rule → ℕ → List ℕ → List ℕ → ℕ
-moved_sum rule number least widths = sum (map (λ column. moved rule number (slice_index widths column) (slice_index least column)) (columns_of widths))
+moved_sum rule number least widths = sum (map (λ column. moved rule number (slice_index widths column) (slice_index least column)) (column_numbers widths))
 
 -- a turn more is a turn of what is left; else what is left is moved at the number that follows
 abbrev pub next_of : Rule → ℕ → ℕ

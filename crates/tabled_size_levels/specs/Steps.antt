@@ -10,7 +10,7 @@ use Rattle.tabled_size_levels.specs.declared.rule.Rule.{Rule}
 use Rattle.tabled_size_levels.specs.declared.rule.Rule.TheVariants.{Turns, Widest, Narrowest, Raised, Shared}
 use Rattle.tabled_size_levels.specs.declared.order.Order.{Order}
 use Rattle.tabled_size_levels.specs.declared.order.Order.TheVariants.{FromSide, FromColumn}
-use Rattle.tabled_size_levels.specs.Columns.{columns_of, from_column, from_side}
+use Rattle.tabled_size_levels.specs.Columns.{column_numbers, from_column, from_side}
 use Rattle.tabled_size_levels.specs.Lists.{set_cases, sum-added, from_columns, at_column}
 use Rattle.tabled_size_levels.specs.Moving.{moved, next_of, Takes, Gives, place_of, BeginsWithin}
 
@@ -169,7 +169,7 @@ one-done place from to count now sizes column v placing inside below at is done 
 
 -- where all columns are done, all is taken
 pub all-taken : (place amount : ℕ → ℕ) (widths sizes : List ℕ) (now : ℕ) → length sizes ≡ length widths → ((i : ℕ) → i < length widths → place i < now) → ((i : ℕ) → amount i ≤ get_or widths i 0)
-    → AreDone place (λ i. get_or widths i 0) (λ i. get_or widths i 0 - amount i) (length widths) now sizes → sum sizes + sum (map amount (columns_of widths)) ≡ sum widths
+    → AreDone place (λ i. get_or widths i 0) (λ i. get_or widths i 0 - amount i) (length widths) now sizes → sum sizes + sum (map amount (column_numbers widths)) ≡ sum widths
 all-taken place amount widths sizes now size inside most done =
     let n : ℕ = length widths in
     let to : ℕ → ℕ = λ (i : ℕ). get_or widths i 0 - amount i in
@@ -185,7 +185,7 @@ all-taken place amount widths sizes now size inside most done =
 
 -- and all is given
 pub all-given : (place amount : ℕ → ℕ) (widths sizes : List ℕ) (now : ℕ) → length sizes ≡ length widths → ((i : ℕ) → i < length widths → place i < now)
-    → AreDone place (λ i. get_or widths i 0) (λ i. get_or widths i 0 + amount i) (length widths) now sizes → sum sizes ≡ sum widths + sum (map amount (columns_of widths))
+    → AreDone place (λ i. get_or widths i 0) (λ i. get_or widths i 0 + amount i) (length widths) now sizes → sum sizes ≡ sum widths + sum (map amount (column_numbers widths))
 all-given place amount widths sizes now size inside done =
     let n : ℕ = length widths in
     let to : ℕ → ℕ = λ (i : ℕ). get_or widths i 0 + amount i in
@@ -200,7 +200,7 @@ all-given place amount widths sizes now size inside done =
     omega arith
 
 -- no column moves more than all together
-pub one-of-all : (amount : ℕ → ℕ) (widths : List ℕ) (column : ℕ) → column < length widths → amount column ≤ sum (map amount (columns_of widths))
+pub one-of-all : (amount : ℕ → ℕ) (widths : List ℕ) (column : ℕ) → column < length widths → amount column ≤ sum (map amount (column_numbers widths))
 one-of-all amount widths column inside =
     let at : get_or (map amount (range_with_len 0 (length widths))) column 0 ≡ amount column = at_column amount (length widths) column inside in
     let size : length (map amount (range_with_len 0 (length widths))) ≡ length widths = length-map-range_with_len amount 0 (length widths) in

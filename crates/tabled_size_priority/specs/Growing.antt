@@ -1,6 +1,6 @@
 -- Lists of widths that are grown.
 use Rattle.std.specs.Prelude.{◌≡◌, ◌<◌, ◌≤◌, ℕ, ◌+◌, ◌==◌, nat_lt, Bool, List, [], length, map, max, sum, slice_index, slice_set, EachIndex, SomeIndex, if◌then◌else◌}
-use Rattle.tabled_size_priority.specs.Columns.{columns_of, from_side, from_column}
+use Rattle.tabled_size_priority.specs.Columns.{column_numbers, from_side, from_column}
 use Rattle.tabled_size_priority.specs.Peaking.{HasNothing, InPlace, IsFirstAbove, NoneAbove, Widest}
 use Rattle.tabled_size_priority.specs.Shrinking.{IsOfForm}
 
@@ -11,7 +11,7 @@ abbrev pub raised_to_level : ℕ → ℕ → ℕ → ℕ → ℕ
 raised_to_level level c place width = max width (if nat_lt place c then level + 1 else level)
 
 abbrev pub grown_to_level : (ℕ → ℕ) → List ℕ → ℕ → ℕ → List ℕ
-grown_to_level place widths level c = map (λ column. raised_to_level level c (place column) (slice_index widths column)) (columns_of widths)
+grown_to_level place widths level c = map (λ column. raised_to_level level c (place column) (slice_index widths column)) (column_numbers widths)
 
 -- ---- the columns that are not 0 get in turns
 
@@ -20,7 +20,7 @@ abbrev pub got_in_turns : ℕ → ℕ → ℕ → ℕ → ℕ
 got_in_turns turns c place width = if width == 0 then 0 else width + (if nat_lt place c then turns + 1 else turns)
 
 abbrev pub grown_in_turns : (ℕ → ℕ) → List ℕ → ℕ → ℕ → List ℕ
-grown_in_turns place widths turns c = map (λ column. got_in_turns turns c (place column) (slice_index widths column)) (columns_of widths)
+grown_in_turns place widths turns c = map (λ column. got_in_turns turns c (place column) (slice_index widths column)) (column_numbers widths)
 
 -- ---- one column gets all
 

@@ -1,6 +1,6 @@
 -- A priority that has leasts of its own: widths shrink to them first, and then on.
 use Rattle.std.specs.Prelude.{◌≡◌, ◌<◌, ℕ, List, length, map, max, slice_index, Option}
-use Rattle.tabled_size_priority.specs.Columns.{columns_of}
+use Rattle.tabled_size_priority.specs.Columns.{column_numbers}
 use Rattle.tabled_size_priority.specs.Peaking.{NoneAbove}
 
 -- the priority that names the columns, and the leasts
@@ -10,7 +10,7 @@ pub record OwnLeasts (P : Type 0) : Type 0 where
 
 -- of each column the greater one of two leasts
 abbrev pub greater : List ℕ → List ℕ → List ℕ
-greater own least = map (λ column. max (slice_index own column) (slice_index least column)) (columns_of own)
+greater own least = map (λ column. max (slice_index own column) (slice_index least column)) (column_numbers own)
 
 -- its own leasts count where a column is to shrink, and there is one for each column
 abbrev pub AreCounted : List ℕ → List ℕ → List ℕ → Type 0

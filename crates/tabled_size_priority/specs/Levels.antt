@@ -1,12 +1,12 @@
 -- The level that widths are cut or raised to, and how narrow the widest stays, and how wide the narrowest gets.
 use Rattle.std.specs.Prelude.{◌≡◌, ◌≤◌, ℕ, List, length, map, max, min, sum, slice_index, EachIndex}
-use Rattle.tabled_size_priority.specs.Columns.{columns_of}
+use Rattle.tabled_size_priority.specs.Columns.{column_numbers}
 use Rattle.tabled_size_priority.specs.Growing.{NeverFalls}
 use Rattle.tabled_size_priority.specs.Shrinking.{floor_of, StaysBetween}
 
 -- each width cut to a level, but not below its floor
 abbrev pub all_cut : List ℕ → List ℕ → ℕ → List ℕ
-all_cut least widths level = map (λ column. max (floor_of least widths column) (min (slice_index widths column) level)) (columns_of widths)
+all_cut least widths level = map (λ column. max (floor_of least widths column) (min (slice_index widths column) level)) (column_numbers widths)
 
 -- the least level at which so much is left
 pub record IsLeastLevel (least widths : List ℕ) (total level : ℕ) : Type 0 where
@@ -15,7 +15,7 @@ pub record IsLeastLevel (least widths : List ℕ) (total level : ℕ) : Type 0 w
 
 -- each lower width raised to a level
 abbrev pub all_raised : List ℕ → ℕ → List ℕ
-all_raised widths level = map (λ column. max (slice_index widths column) level) (columns_of widths)
+all_raised widths level = map (λ column. max (slice_index widths column) level) (column_numbers widths)
 
 -- the greatest level at which no more than so much is needed
 pub record IsGreatestLevel (widths : List ℕ) (total level : ℕ) : Type 0 where

@@ -1,6 +1,6 @@
 -- Lists of widths that are shrunk.
 use Rattle.std.specs.Prelude.{◌≡◌, ◌≤◌, ℕ, ◌+◌, ◌-◌, ◌==◌, nat_lt, Bool, List, length, map, max, min, sum, slice_index, if◌then◌else◌, EachIndex}
-use Rattle.tabled_size_priority.specs.Columns.{columns_of, from_side, from_column, by_width}
+use Rattle.tabled_size_priority.specs.Columns.{column_numbers, from_side, from_column, by_width}
 
 -- the floor of a column: the smaller of its width and its least; a missing least is 0
 abbrev pub floor_of : List ℕ → List ℕ → ℕ → ℕ
@@ -11,11 +11,11 @@ abbrev pub gap_of : List ℕ → List ℕ → ℕ → ℕ
 gap_of least widths column = slice_index widths column - slice_index least column
 
 abbrev pub floors : List ℕ → List ℕ → List ℕ
-floors least widths = map (floor_of least widths) (columns_of widths)
+floors least widths = map (floor_of least widths) (column_numbers widths)
 
 -- all that can be taken
 abbrev pub room_of : List ℕ → List ℕ → ℕ
-room_of least widths = sum (map (gap_of least widths) (columns_of widths))
+room_of least widths = sum (map (gap_of least widths) (column_numbers widths))
 
 -- the sum that is left of widths: less what is asked, and not below the floors
 abbrev pub shrunk_sum : List ℕ → List ℕ → ℕ → ℕ
@@ -39,7 +39,7 @@ given_in_order given c place width least =
 
 abbrev pub shrunk_in_order : (ℕ → ℕ) → List ℕ → List ℕ → ℕ → ℕ → List ℕ
 shrunk_in_order place least widths given c =
-    map (λ column. given_in_order given c (place column) (slice_index widths column) (slice_index least column)) (columns_of widths)
+    map (λ column. given_in_order given c (place column) (slice_index widths column) (slice_index least column)) (column_numbers widths)
 
 -- ---- each width is cut to a level
 
@@ -49,7 +49,7 @@ cut_to_level level c place width least = max (min width least) (min width (if na
 
 abbrev pub shrunk_to_level : (ℕ → ℕ) → List ℕ → List ℕ → ℕ → ℕ → List ℕ
 shrunk_to_level place least widths level c =
-    map (λ column. cut_to_level level c (place column) (slice_index widths column) (slice_index least column)) (columns_of widths)
+    map (λ column. cut_to_level level c (place column) (slice_index widths column) (slice_index least column)) (column_numbers widths)
 
 -- ---- the columns give in turns
 
@@ -59,7 +59,7 @@ given_in_turns turns c place width least = width - min (width - least) (if nat_l
 
 abbrev pub shrunk_in_turns : (ℕ → ℕ) → List ℕ → List ℕ → ℕ → ℕ → List ℕ
 shrunk_in_turns place least widths turns c =
-    map (λ column. given_in_turns turns c (place column) (slice_index widths column) (slice_index least column)) (columns_of widths)
+    map (λ column. given_in_turns turns c (place column) (slice_index widths column) (slice_index least column)) (column_numbers widths)
 
 -- ---- the five priorities; a side is right or left
 

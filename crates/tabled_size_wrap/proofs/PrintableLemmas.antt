@@ -11,7 +11,7 @@ use Rattle.std.proofs.lemmas.List.Folds.{list_all-append}
 use Rattle.std.proofs.lemmas.List.Splits.{slice_split_none}
 use Rattle.ansi_scan.specs.Attributes.{plain_attributes}
 use Rattle.ansi_scan.specs.Pieces.{pieces, text_len}
-use Rattle.ansi_scan.specs.Sequences.{Piece, ArePiecesOf, escape, is_plain}
+use Rattle.ansi_scan.specs.Sequences.{Piece, ArePiecesOf, escape, is_not_escape}
 use Rattle.ansi_scan.proofs.Existence.{ArePiecesOf-pieces}
 use Rattle.ansi_scan.proofs.Runs.{prefix_len-pass}
 use Rattle.ansi_scan.proofs.Uniqueness.{pieces-ArePiecesOf}
@@ -52,7 +52,7 @@ printable-no_escape (b ∷ bs) h = ap (λ t. t || has_escape bs) (printable-othe
 
 printable-text_len : (bytes : List ℕ) → are_printable bytes ≡ true → text_len bytes ≡ length bytes
 printable-text_len [] h = refl
-printable-text_len (b ∷ bs) h = prefix_len-pass is_plain b bs (ap not (printable-other b (both b bs h).0)) ∙ ap suc (printable-text_len bs (both b bs h).1)
+printable-text_len (b ∷ bs) h = prefix_len-pass is_not_escape b bs (ap not (printable-other b (both b bs h).0)) ∙ ap suc (printable-text_len bs (both b bs h).1)
 
 printable-begins : (bytes : List ℕ) → are_printable bytes ≡ true → begins_with_escape bytes ≡ false
 printable-begins [] h = refl

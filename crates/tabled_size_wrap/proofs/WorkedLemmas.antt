@@ -12,10 +12,10 @@ use Rattle.ansi_str.specs.StyledText.{strip}
 use Rattle.ansi_str.specs.Matches.{split_bounds, styled_parts}
 use Rattle.ansi_str_search.proofs.MatchLists.{matches_from, AreMatches-worked}
 use Rattle.grid_records_measure.specs.Cutting.{IsCutAt, cut_bytes}
-use Rattle.grid_records_measure.specs.Filling.{front, behind_front, has_room, used_behind}
+use Rattle.grid_records_measure.specs.Filling.{fitting_front, behind_front, has_room, used_behind}
 use Rattle.grid_records_measure.specs.Measures.{cost, columns}
 use Rattle.grid_records_measure.specs.TextLines.{line_feed}
-use Rattle.grid_records_measure.proofs.FillingLemmas.{IsLongestFront-front}
+use Rattle.grid_records_measure.proofs.FillingLemmas.{IsLongestFront-fitting_front}
 use Rattle.grid_records_measure.proofs.PlainLemmas.{two-columns}
 use Rattle.tabled_size_wrap.specs.Units.{LineUnit, character_unit, line_units, unit_len}
 use Rattle.tabled_size_wrap.specs.Wrapping.{IsWrapped, line_part, replacement_bytes, shown_lines}
@@ -45,10 +45,10 @@ first-room = ap (λ n. nat_le (0 + n) 3) wide-cost
 second-room : has_room 3 (used_behind 0 wide) wide ≡ false
 second-room = ap (λ n. nat_lt (0 + n) 3 && nat_le (0 + n + n) 3) wide-cost
 
-pub wide-front : (cs : List ℕ) → front 3 0 (wide ∷ wide ∷ cs) ≡ wide ∷ []
-wide-front cs =
-    ap (λ (t : Bool). if t then wide ∷ front 3 (used_behind 0 wide) (wide ∷ cs) else []) first-room
-    ∙ ap (λ (t : Bool). wide ∷ (if t then wide ∷ front 3 (used_behind (used_behind 0 wide) wide) cs else [])) second-room
+pub wide-fitting_front : (cs : List ℕ) → fitting_front 3 0 (wide ∷ wide ∷ cs) ≡ wide ∷ []
+wide-fitting_front cs =
+    ap (λ (t : Bool). if t then wide ∷ fitting_front 3 (used_behind 0 wide) (wide ∷ cs) else []) first-room
+    ∙ ap (λ (t : Bool). wide ∷ (if t then wide ∷ fitting_front 3 (used_behind (used_behind 0 wide) wide) cs else [])) second-room
 
 pub wide-behind : (cs : List ℕ) → behind_front 3 0 (wide ∷ wide ∷ cs) ≡ wide ∷ cs
 wide-behind cs =
@@ -76,16 +76,16 @@ wraps-worked width keep_words text line wrapped ps lines some are found parts br
 
 -- a cut behind these characters
 pub cuts-worked : (width : ℕ) (text cut : List ℕ) (ps : List Piece) (cs kept left : List ℕ) → pieces text ≡ ps → strip ps ≡ encode_utf8_all cs → scalars cs ≡ true
-    → front width 0 cs ≡ kept → behind_front width 0 cs ≡ left → cut_bytes width ps kept left ≡ cut → CutsTo width text cut
+    → fitting_front width 0 cs ≡ kept → behind_front width 0 cs ≡ left → cut_bytes width ps kept left ≡ cut → CutsTo width text cut
 cuts-worked width text cut ps cs kept left are spelled good kept_are left_are cut_is =
     let found : chars (strip ps) ≡ cs = ap chars spelled ∙ chars-encodes cs good in
-    let longest = IsLongestFront-front width (chars (strip ps)) in
+    let longest = IsLongestFront-fitting_front width (chars (strip ps)) in
     let of_text : ArePiecesOf text ps = subst (ArePiecesOf text) are (ArePiecesOf-pieces text) in
     let is : IsCutAt width ps cut = (
-      front width 0 (chars (strip ps)),
+      fitting_front width 0 (chars (strip ps)),
       behind_front width 0 (chars (strip ps)),
       longest,
-      sym (ap (λ (xs : List ℕ). cut_bytes width ps xs (behind_front width 0 (chars (strip ps)))) (ap (front width 0) found ∙ kept_are)
+      sym (ap (λ (xs : List ℕ). cut_bytes width ps xs (behind_front width 0 (chars (strip ps)))) (ap (fitting_front width 0) found ∙ kept_are)
           ∙ ap (λ (xs : List ℕ). cut_bytes width ps kept xs) (ap (behind_front width 0) found ∙ left_are) ∙ cut_is),
     ) in
     record { pieces = ps; of_text = of_text; is_cut = is; is_function = sym (cut_at-one width text cut ps of_text is) }

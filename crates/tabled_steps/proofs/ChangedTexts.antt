@@ -9,7 +9,7 @@ use Rattle.grid_config_values.specs.declared.entity.Entity.{Entity}
 use Rattle.grid_config_values.specs.declared.position.Position.{Position}
 use Rattle.grid_config_values.specs.Order.{same_place}
 use Rattle.grid_config_spans.proofs.Order.{same_position}
-use Rattle.grid_records_traits.specs.Rows.{IsInside, row_at, text_at, with_text}
+use Rattle.grid_records_traits.specs.Rows.{HasCell, row_at, text_at, with_text}
 use Rattle.tabled_steps.specs.Changes.{changed_rows, changes, with_all}
 use Rattle.tabled_steps.specs.States.{column_count}
 use Rattle.tabled_steps.proofs.Places.{among_covered, is_among}
@@ -26,7 +26,7 @@ module _ (rows : List (List (List ℕ))) (p : Position) (text : List ℕ) where
   row-there : p.row < length rows → row_at (with_text rows p text) p.row ≡ new_row
   row-there inside = get_or-set_same rows p.row new_row [] inside
 
-  text-there : IsInside rows p → text_at (with_text rows p text) p ≡ text
+  text-there : HasCell rows p → text_at (with_text rows p text) p ≡ text
   text-there inside = ap (λ row. get_or row p.col []) (row-there inside.0) ∙ get_or-set_same (row_at rows p.row) p.col text [] inside.1
 
   row-length : (row : ℕ) → row < length rows → length (row_at (with_text rows p text) row) ≡ length (row_at rows row)
@@ -37,8 +37,8 @@ module _ (rows : List (List (List ℕ))) (p : Position) (text : List ℕ) where
     | inr other ↦ ap length (get_or-set_other rows p.row row new_row [] other)
   ]
 
-  module _ (q : Position) (inside : IsInside rows q) where
-    still-inside : IsInside (with_text rows p text) q
+  module _ (q : Position) (inside : HasCell rows q) where
+    still-inside : HasCell (with_text rows p text) q
     still-inside = (omega (arith, inside.0, same-rows), omega (arith, inside.1, row-length q.row inside.0))
 
     text-other : same_place q p ≡ false → text_at (with_text rows p text) q ≡ text_at rows q
@@ -54,7 +54,7 @@ module _ (rows : List (List (List ℕ))) (p : Position) (text : List ℕ) where
 
 -- ---- many
 
-module _ (change : Position → List ℕ → Option (List ℕ)) (rows : List (List (List ℕ))) (q : Position) (inside : IsInside rows q) where
+module _ (change : Position → List ℕ → Option (List ℕ)) (rows : List (List (List ℕ))) (q : Position) (inside : HasCell rows q) where
   -- what becomes of the text at this place
   abbrev value : List ℕ
   value = unwrap_or (change q (text_at rows q)) (text_at rows q)
@@ -65,11 +65,11 @@ module _ (change : Position → List ℕ → Option (List ℕ)) (rows : List (Li
   abbrev after_first : Position → Option (List ℕ) → List Position → List (List (List ℕ))
   after_first p found places = with_all (cons_option (option_map (λ text. (p, text)) found) (changes change rows places)) rows
 
-  first-inside : (p : Position) (found : Option (List ℕ)) (places : List Position) → IsInside (after places) q → IsInside (after_first p found places) q
+  first-inside : (p : Position) (found : Option (List ℕ)) (places : List Position) → HasCell (after places) q → HasCell (after_first p found places) q
   first-inside p None places is = is
   first-inside p (Some text) places is = still-inside (after places) p text q is
 
-  after-inside : (places : List Position) → IsInside (after places) q
+  after-inside : (places : List Position) → HasCell (after places) q
   after-inside [] = inside
   after-inside (p ∷ places) = first-inside p (change p (text_at rows p)) places (after-inside places)
 

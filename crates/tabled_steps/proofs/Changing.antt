@@ -8,7 +8,7 @@ use Rattle.grid_config_values.specs.Entities.{covered_positions, covers, table_p
 use Rattle.grid_config_values.specs.declared.entity.Entity.{Entity}
 use Rattle.grid_config_values.specs.declared.position.Position.{Position}
 use Rattle.grid_records_rows.specs.Sources.{AreEquallyLong, columns_of}
-use Rattle.grid_records_traits.specs.Rows.{IsInside, row_at, text_at, with_text}
+use Rattle.grid_records_traits.specs.Rows.{HasCell, row_at, text_at, with_text}
 use Rattle.grid_records_traits.specs.Sources.{texts_of_rows}
 use Rattle.tabled_steps.specs.Changes.{AreInside, Change, changes, with_all}
 use Rattle.tabled_steps.specs.States.{column_count}
@@ -50,24 +50,24 @@ length_of_row text (row ∷ rows) columns (suc i) long below = length_of_row tex
 
 -- each place of the table has a text
 covered_inside : {T Z : Type 0} (text : T → List ℕ) (rows : List (Vec T Z)) (entity : Entity) → AreEquallyLong rows →
-    let texts = texts_of_rows text rows in All (IsInside texts) (covered_positions entity (length texts) (column_count texts))
+    let texts = texts_of_rows text rows in All (HasCell texts) (covered_positions entity (length texts) (column_count texts))
 covered_inside {T} {Z} text rows entity long =
     let texts : List (List (List ℕ)) = texts_of_rows text rows in
     let texts_of : Vec T Z → List (List ℕ) = λ row. map text (vec_items row) in
-    all_covered (IsInside texts) entity (length texts) (column_count texts)
+    all_covered (HasCell texts) entity (length texts) (column_count texts)
     (λ row column below less.
     let of_row : length (row_at texts row) ≡ columns_of rows = length_of_row text rows (columns_of rows) row long (omega (arith, below, length-map rows texts_of)) in
     (below, omega (arith, less, of_row, count_texts text rows)))
 
 -- ---- changes
 
-changed_inside : (change : Position → List ℕ → Option (List ℕ)) (rows : List (List (List ℕ))) (places : List Position) → All (IsInside rows) places → AreInside rows (changes change rows places)
-changed_inside change rows [] all = All-nil (λ (it : Change). IsInside rows it.0)
+changed_inside : (change : Position → List ℕ → Option (List ℕ)) (rows : List (List (List ℕ))) (places : List Position) → All (HasCell rows) places → AreInside rows (changes change rows places)
+changed_inside change rows [] all = All-nil (λ (it : Change). HasCell rows it.0)
 changed_inside change rows (place ∷ places) all =
-    let later = changed_inside change rows places (All-tail (IsInside rows) place places all) in
+    let later = changed_inside change rows places (All-tail (HasCell rows) place places all) in
     elim (change place (text_at rows place)) as (λ text. AreInside rows (cons_option (option_map (λ text. (place, text)) text) (changes change rows places))) [
       | None ↦ later
-      | Some text ↦ All-cons (λ (it : Change). IsInside rows it.0) (place, text) (changes change rows places) (All-head (IsInside rows) place places all) later
+      | Some text ↦ All-cons (λ (it : Change). HasCell rows it.0) (place, text) (changes change rows places) (All-head (HasCell rows) place places all) later
     ]
 
 -- the changes of a table are of texts that are there
@@ -85,7 +85,7 @@ lengths_kept (first ∷ rows) (suc i) zero row same = refl
 lengths_kept (first ∷ rows) (suc i) (suc j) row same = lengths_kept rows i j row same
 
 -- a text that is set takes no other away
-kept_inside : (rows : List (List (List ℕ))) (pos : Position) (text : List ℕ) (place : Position) → IsInside rows place → IsInside (with_text rows pos text) place
+kept_inside : (rows : List (List (List ℕ))) (pos : Position) (text : List ℕ) (place : Position) → HasCell rows place → HasCell (with_text rows pos text) place
 kept_inside rows pos text place inside =
     let row = slice_set (row_at rows pos.row) pos.col text in
     let same : length row ≡ length (row_at rows pos.row) = length-set (row_at rows pos.row) pos.col text in
@@ -99,11 +99,11 @@ last_set (first ∷ changes) change rows = ap (λ rows. with_text rows first.0 f
 module _ (before after : List Change) (change : Change) (rows : List (List (List ℕ))) (split : before ≡ after ++ change ∷ []) where
   pub last_inside : AreInside rows before → AreInside (with_text rows change.0 change.1) after
   last_inside inside =
-      All-weaker (λ (it : Change). IsInside rows it.0) (λ it. IsInside (with_text rows change.0 change.1) it.0) (λ it. kept_inside rows change.0 change.1 it.0) after
-      (All-pop (λ (it : Change). IsInside rows it.0) before after (Some change) split inside).0
+      All-weaker (λ (it : Change). HasCell rows it.0) (λ it. HasCell (with_text rows change.0 change.1) it.0) (λ it. kept_inside rows change.0 change.1 it.0) after
+      (All-pop (λ (it : Change). HasCell rows it.0) before after (Some change) split inside).0
 
-  pub last_is_inside : AreInside rows before → IsInside rows change.0
-  last_is_inside inside = (All-pop (λ (it : Change). IsInside rows it.0) before after (Some change) split inside).1
+  pub last_is_inside : AreInside rows before → HasCell rows change.0
+  last_is_inside inside = (All-pop (λ (it : Change). HasCell rows it.0) before after (Some change) split inside).1
 
   pub last_rows : (wanted : List (List (List ℕ))) → with_all before rows ≡ wanted → with_all after (with_text rows change.0 change.1) ≡ wanted
   last_rows wanted whole = sym (last_set after change rows) ∙ ap (λ changes. with_all changes rows) (sym split) ∙ whole

@@ -5,7 +5,7 @@ use Rattle.std.specs.Option.{option_map}
 use Rattle.grid_config_values.specs.Entities.{covered_positions}
 use Rattle.grid_config_values.specs.declared.entity.Entity.{Entity}
 use Rattle.grid_config_values.specs.declared.position.Position.{Position}
-use Rattle.grid_records_traits.specs.Rows.{IsInside, text_at, with_text}
+use Rattle.grid_records_traits.specs.Rows.{HasCell, text_at, with_text}
 use Rattle.tabled_steps.specs.States.{Outcome, State, column_count}
 
 -- the place of a text that changes, and what it becomes
@@ -27,7 +27,7 @@ changed_rows change entity columns rows = with_all (changes change rows (covered
 
 -- each of these texts is there
 abbrev pub AreInside : List (List (List ℕ)) → List Change → Type 0
-AreInside rows changes = All (λ change. IsInside rows change.0) changes
+AreInside rows changes = All (λ change. HasCell rows change.0) changes
 
 -- a step on the texts of an entity's cells
 abbrev pub changing : (Position → List ℕ → Option (List ℕ)) → Entity → State → Outcome

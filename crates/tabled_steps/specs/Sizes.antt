@@ -1,4 +1,4 @@
--- The sizes of a table by its look: those that it keeps, and in place of each that it doesn't the least that hold its texts.
+-- The sizes of a table by its look: those that it keeps, and in position_at of each that it doesn't the least that hold its texts.
 use Rattle.std.specs.Prelude.{ℕ, ◌+◌, Bool, List, Option, None, Some, Result, Ok, length}
 use Rattle.grid_config_values.specs.Glyphs.{boundary_kind, has_column_boundary, has_row_boundary}
 use Rattle.grid_config_values.specs.Order.{same_place}
@@ -8,14 +8,14 @@ use Rattle.grid_config_spans.specs.Owners.{owner}
 use Rattle.grid_config_spans.specs.declared.extent.Extent.{Extent}
 use Rattle.grid_config.specs.Looks.{Look}
 use Rattle.grid_records_estimate.specs.Estimates.{Axis, track_sizes}
-use Rattle.grid_records_estimate.specs.Sizing.{place}
+use Rattle.grid_records_estimate.specs.Sizing.{position_at}
 use Rattle.grid_records_traits.specs.TextLines.{text_height, text_width}
 use Rattle.grid_records_traits.specs.Rows.{fitted, text_at}
 use Rattle.tabled_steps.specs.Outcomes.{all_sized}
 
 -- ---- estimates
 
--- the cell of the place itself is seen there
+-- the cell of the position_at itself is seen there
 abbrev pub is_seen : (Position → Extent) → Position → Bool
 is_seen extent place = same_place (owner extent place) place
 
@@ -24,9 +24,9 @@ abbrev pub column_axis : Look → ℕ → List (List (List ℕ)) → Axis
 column_axis look columns rows = record {
   tracks = columns;
   crossings = length rows;
-  is_visible = λ column row. is_seen look.extent (place row column);
-  span = λ column row. (look.extent (place row column)).columns;
-  need = λ column row. let padding = look.padding (place row column) in text_width (text_at rows (place row column)) + padding.left.size + padding.right.size;
+  is_visible = λ column row. is_seen look.extent (position_at row column);
+  span = λ column row. (look.extent (position_at row column)).columns;
+  need = λ column row. let padding = look.padding (position_at row column) in text_width (text_at rows (position_at row column)) + padding.left.size + padding.right.size;
   has_boundary = λ j. has_column_boundary look.borders (boundary_kind j columns);
 }
 
@@ -34,9 +34,9 @@ abbrev pub row_axis : Look → ℕ → List (List (List ℕ)) → Axis
 row_axis look columns rows = record {
   tracks = length rows;
   crossings = columns;
-  is_visible = λ row column. is_seen look.extent (place row column);
-  span = λ row column. (look.extent (place row column)).rows;
-  need = λ row column. let padding = look.padding (place row column) in text_height (text_at rows (place row column)) + padding.top.size + padding.bottom.size;
+  is_visible = λ row column. is_seen look.extent (position_at row column);
+  span = λ row column. (look.extent (position_at row column)).rows;
+  need = λ row column. let padding = look.padding (position_at row column) in text_height (text_at rows (position_at row column)) + padding.top.size + padding.bottom.size;
   has_boundary = λ i. has_row_boundary look.borders (boundary_kind i (length rows));
 }
 

@@ -14,7 +14,7 @@ ghost use Rattle.grid_config_values.specs.declared.entity.Entity.{Entity as Cell
 ghost use Rattle.grid_config_values.specs.declared.entity.Entity.TheVariants.{Cell as OneCell, Column, Global as EveryCell, Row};
 ghost use Rattle.grid_config_values.specs.declared.fault.Fault.TheVariants.{Range as Passed, Spans as BadSpan};
 ghost use Rattle.grid_config_values.specs.Entities.{covers};
-ghost use Rattle.grid_records_traits.specs.Rows.{IsInside, row_at, text_at};
+ghost use Rattle.grid_records_traits.specs.Rows.{HasCell, row_at, text_at};
 ghost use Rattle.tabled_steps.specs.Changes.{changed_rows};
 ghost use Rattle.tabled_steps.specs.Looks.{changing_inside, covering, placing, with_column_span, with_columns, with_extents, with_row_span, with_rows};
 ghost use Rattle.tabled_steps.specs.Outcomes.{◌≫=◌, all_sized, sized};
@@ -45,7 +45,7 @@ pub fn worked_changes()
 /// Where the entity covers a place of the table, its text becomes what the change answers for it, if it answers;
 /// elsewhere it stays, and there are as many rows, each of as many texts.
 pub fn texts_change_where_the_entity_covers()
-    ensures texts { (change : Place → List ℕ → Option (List ℕ)) (at : Cells) (rows : List (List (List ℕ))) (p : Place) → IsInside rows p → p.col < column_count rows →
+    ensures texts { (change : Place → List ℕ → Option (List ℕ)) (at : Cells) (rows : List (List (List ℕ))) (p : Place) → HasCell rows p → p.col < column_count rows →
         text_at (changed_rows change at (column_count rows) rows) p ≡ (if covers at p then unwrap_or (change p (text_at rows p)) (text_at rows p) else text_at rows p) }
     ensures rows { (change : Place → List ℕ → Option (List ℕ)) (at : Cells) (columns : ℕ) (rows : List (List (List ℕ))) → length (changed_rows change at columns rows) ≡ length rows }
     ensures row { (change : Place → List ℕ → Option (List ℕ)) (at : Cells) (columns : ℕ) (rows : List (List (List ℕ))) (i : ℕ) → i < length rows →

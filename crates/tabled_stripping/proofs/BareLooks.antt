@@ -36,7 +36,7 @@ use Rattle.tabled_width.specs.Filling.{filling}
 use Rattle.tabled_width.specs.Lists.{with_width_list}
 use Rattle.tabled_width_tables.specs.Rooms.{column_widths, least_widths}
 use Rattle.tabled_width_tables.specs.Steps.{Measured, Then}
-use Rattle.tabled_width_tables.specs.Tables.{Grown, Narrows, NarrowsTable, Shrunk, Where, Widens, WidensTable, drawn, has_cells, keeping, narrowed}
+use Rattle.tabled_width_tables.specs.Tables.{Grown, Narrows, NarrowsTable, Shrunk, Where, Widens, WidensTable, drawn, has_cells, keeping, narrowed_state}
 use Rattle.tabled_stripping.specs.Stripping.{AreClear, AreShown, IsClear, colored_by, colors_after}
 
 -- the look is bare, and cells have these colours
@@ -93,7 +93,7 @@ module _ (s : State) where
         (λ n. then-bare (drawn s.look (column_count s.rows) s.rows s.sizes) (λ it. Where (nat_lt n it.whole) (by (column_widths (column_count s.rows) it.widths) (it.whole - n)) (keeping it s))
         (λ it. where-bare (nat_lt n it.whole) (by (column_widths (column_count s.rows) it.widths) (it.whole - n)) (keeping it s) same
         (then-bare (all_sized (least_widths s.look (column_count s.rows) (length s.rows)))
-        (λ least outcome. (left : List ℕ) × ((after : Unit {0}) × shrinks_so shrinks tt least (it.whole - n) (column_widths (column_count s.rows) it.widths) after left) × (Ok (narrowed change least left (keeping it s)) ≡ outcome))
+        (λ least outcome. (left : List ℕ) × ((after : Unit {0}) × shrinks_so shrinks tt least (it.whole - n) (column_widths (column_count s.rows) it.widths) after left) × (Ok (narrowed_state change least left (keeping it s)) ≡ outcome))
         (λ least outcome is. subst Bare is.2 same)))))
 
     widens-bare : (grows : ℕ → List ℕ → List ℕ → Type 0) (measures : ℕ → List (List (List ℕ)) → Look → Result ℕ Fault → Type 0)

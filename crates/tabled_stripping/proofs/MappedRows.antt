@@ -1,4 +1,4 @@
--- The texts of a table, each changed by its place: what stays.
+-- The texts of a table, each changed by its position_at: what stays.
 use Rattle.std.proofs.Common.{◌≡◌, ◌+◌, ◌-◌, ℕ, zero, suc, List, [], ◌∷◌, ◌++◌, Option, None, Some, map, length, take, get_or, replicate, slice_set, refl, ap, sym, ◌∙◌, arith}
 use Rattle.std.specs.List.{AllByRecursion, cons_option}
 use Rattle.std.specs.Option.{option_map}
@@ -9,7 +9,7 @@ use Rattle.grid_config_values.specs.Glyphs.{boundary_kind, has_row_boundary}
 use Rattle.grid_config_values.specs.declared.entity.Entity.{Entity}
 use Rattle.grid_config_values.specs.declared.position.Position.{Position}
 use Rattle.grid_records_estimate.specs.Estimates.{track_sizes}
-use Rattle.grid_records_estimate.specs.Sizing.{place}
+use Rattle.grid_records_estimate.specs.Sizing.{position_at}
 use Rattle.grid_records_traits.specs.Rows.{fitted, fitted_row, row_at, text_at, with_text}
 use Rattle.grid_records_traits.specs.TextLines.{text_height, text_width}
 use Rattle.papergrid_picture.specs.Shown.{AreWholeTexts, IsWholeText}
@@ -31,12 +31,12 @@ module _ (f : Position → List ℕ → List ℕ) where
   columns-same r [] = refl
   columns-same r (row ∷ rows) = length-row r 0 row
 
-  set-row : (r c k : ℕ) (texts : List (List ℕ)) (text : List ℕ) → row_by f r c (slice_set texts k text) ≡ slice_set (row_by f r c texts) k (f (place r (c + k)) text)
+  set-row : (r c k : ℕ) (texts : List (List ℕ)) (text : List ℕ) → row_by f r c (slice_set texts k text) ≡ slice_set (row_by f r c texts) k (f (position_at r (c + k)) text)
   set-row r c k [] text = refl
-  set-row r c zero (first ∷ texts) text = let same : c ≡ c + zero = omega arith in ap (λ n. f (place r n) text ∷ row_by f r (c + 1) texts) same
+  set-row r c zero (first ∷ texts) text = let same : c ≡ c + zero = omega arith in ap (λ n. f (position_at r n) text ∷ row_by f r (c + 1) texts) same
   set-row r c (suc k) (first ∷ texts) text =
       let same : c + 1 + k ≡ c + suc k = omega arith in
-      ap (λ rest. f (place r c) first ∷ rest) (set-row r (c + 1) k texts text ∙ ap (λ n. slice_set (row_by f r (c + 1) texts) k (f (place r n) text)) same)
+      ap (λ rest. f (position_at r c) first ∷ rest) (set-row r (c + 1) k texts text ∙ ap (λ n. slice_set (row_by f r (c + 1) texts) k (f (position_at r n) text)) same)
 
   set-rows : (r k : ℕ) (rows : List (List (List ℕ))) (row : List (List ℕ)) → rows_from f r (slice_set rows k row) ≡ slice_set (rows_from f r rows) k (row_by f (r + k) 0 row)
   set-rows r k [] row = refl
@@ -50,11 +50,11 @@ module _ (f : Position → List ℕ → List ℕ) where
   row-there r zero (row ∷ rows) = let same : r ≡ r + zero = omega arith in ap (λ n. row_by f n 0 row) same
   row-there r (suc k) (row ∷ rows) = let same : r + 1 + k ≡ r + suc k = omega arith in row-there (r + 1) k rows ∙ ap (λ n. row_by f n 0 (get_or rows k [])) same
 
-  from-first : (row column : ℕ) (text : List ℕ) → f (place (0 + row) (0 + column)) text ≡ f (place row column) text
+  from-first : (row column : ℕ) (text : List ℕ) → f (position_at (0 + row) (0 + column)) text ≡ f (position_at row column) text
   from-first row column text =
       let down : 0 + row ≡ row = omega arith in
       let over : 0 + column ≡ column = omega arith in
-      ap (λ n. f (place n (0 + column)) text) down ∙ ap (λ n. f (place row n) text) over
+      ap (λ n. f (position_at n (0 + column)) text) down ∙ ap (λ n. f (position_at row n) text) over
 
   with-text : (rows : List (List (List ℕ))) (p : Position) (text : List ℕ) → rows_from f 0 (with_text rows p text) ≡ with_text (rows_from f 0 rows) p (f p text)
   with-text rows p text =
@@ -65,10 +65,10 @@ module _ (f : Position → List ℕ → List ℕ) where
       ∙ ap (λ row. slice_set row p.col (f p text)) (sym (row-there 0 p.row rows)))
 
   module _ (none : (p : Position) → f p [] ≡ []) where
-    text-in_row : (r c k : ℕ) (texts : List (List ℕ)) → get_or (row_by f r c texts) k [] ≡ f (place r (c + k)) (get_or texts k [])
-    text-in_row r c k [] = sym (none (place r (c + k)))
-    text-in_row r c zero (text ∷ texts) = let same : c ≡ c + zero = omega arith in ap (λ n. f (place r n) text) same
-    text-in_row r c (suc k) (text ∷ texts) = let same : c + 1 + k ≡ c + suc k = omega arith in text-in_row r (c + 1) k texts ∙ ap (λ n. f (place r n) (get_or texts k [])) same
+    text-in_row : (r c k : ℕ) (texts : List (List ℕ)) → get_or (row_by f r c texts) k [] ≡ f (position_at r (c + k)) (get_or texts k [])
+    text-in_row r c k [] = sym (none (position_at r (c + k)))
+    text-in_row r c zero (text ∷ texts) = let same : c ≡ c + zero = omega arith in ap (λ n. f (position_at r n) text) same
+    text-in_row r c (suc k) (text ∷ texts) = let same : c + 1 + k ≡ c + suc k = omega arith in text-in_row r (c + 1) k texts ∙ ap (λ n. f (position_at r n) (get_or texts k [])) same
 
     pub text-same : (rows : List (List (List ℕ))) (p : Position) → text_at (rows_from f 0 rows) p ≡ f p (text_at rows p)
     text-same rows p =
@@ -80,16 +80,16 @@ module _ (f : Position → List ℕ → List ℕ) where
     row-append r c [] ys = let same : c ≡ c + zero = omega arith in ap (λ n. row_by f r n ys) same
     row-append r c (x ∷ xs) ys =
         let same : c + 1 + length xs ≡ c + suc (length xs) = omega arith in
-        ap (λ rest. f (place r c) x ∷ rest) (row-append r (c + 1) xs ys ∙ ap (λ n. row_by f r (c + 1) xs ++ row_by f r n ys) same)
+        ap (λ rest. f (position_at r c) x ∷ rest) (row-append r (c + 1) xs ys ∙ ap (λ n. row_by f r (c + 1) xs ++ row_by f r n ys) same)
 
     row-empty : (r c n : ℕ) → row_by f r c (replicate n []) ≡ replicate n []
     row-empty r c zero = refl
-    row-empty r c (suc n) = ap (λ first. first ∷ row_by f r (c + 1) (replicate n [])) (none (place r c)) ∙ ap (λ rest. [] ∷ rest) (row-empty r (c + 1) n)
+    row-empty r c (suc n) = ap (λ first. first ∷ row_by f r (c + 1) (replicate n [])) (none (position_at r c)) ∙ ap (λ rest. [] ∷ rest) (row-empty r (c + 1) n)
 
     row-take : (r c n : ℕ) (xs : List (List ℕ)) → row_by f r c (take n xs) ≡ take n (row_by f r c xs)
     row-take r c zero xs = refl
     row-take r c (suc n) [] = refl
-    row-take r c (suc n) (x ∷ xs) = ap (λ rest. f (place r c) x ∷ rest) (row-take r (c + 1) n xs)
+    row-take r c (suc n) (x ∷ xs) = ap (λ rest. f (position_at r c) x ∷ rest) (row-take r (c + 1) n xs)
 
     row-fitted : (r n : ℕ) (row : List (List ℕ)) → row_by f r 0 (fitted_row n row) ≡ fitted_row n (row_by f r 0 row)
     row-fitted r n row =
@@ -112,14 +112,14 @@ module _ (f : Position → List ℕ → List ℕ) where
       widths-same wide =
           ap (λ found. track_sizes (column_axis look n found)) (rows-fitted 0 n rows)
           ∙ ap (λ crossings. track_sizes (record (column_axis look n (rows_from f 0 all)) { crossings = crossings })) (length-rows 0 all)
-          ∙ (λ k. track_sizes (record (column_axis look n all) { need = λ column row. let padding = look.padding (place row column) in (ap text_width (text-same all (place row column)) ∙ wide (place row column) (text_at all (place row column))) k + padding.left.size + padding.right.size }))
+          ∙ (λ k. track_sizes (record (column_axis look n all) { need = λ column row. let padding = look.padding (position_at row column) in (ap text_width (text-same all (position_at row column)) ∙ wide (position_at row column) (text_at all (position_at row column))) k + padding.left.size + padding.right.size }))
 
       pub heights-same : ((p : Position) (text : List ℕ) → text_height (f p text) ≡ text_height text) → natural_heights look n (rows_from f 0 rows) ≡ natural_heights look n rows
       unfolding natural_heights
       heights-same high =
           ap (λ found. track_sizes (row_axis look n found)) (rows-fitted 0 n rows)
           ∙ ap (λ m. track_sizes (record (row_axis look n (rows_from f 0 all)) { tracks = m; has_boundary = λ i. has_row_boundary look.borders (boundary_kind i m) })) (length-rows 0 all)
-          ∙ (λ k. track_sizes (record (row_axis look n all) { need = λ row column. let padding = look.padding (place row column) in (ap text_height (text-same all (place row column)) ∙ high (place row column) (text_at all (place row column))) k + padding.top.size + padding.bottom.size }))
+          ∙ (λ k. track_sizes (record (row_axis look n all) { need = λ row column. let padding = look.padding (position_at row column) in (ap text_height (text-same all (position_at row column)) ∙ high (position_at row column) (text_at all (position_at row column))) k + padding.top.size + padding.bottom.size }))
 
     -- ---- texts that change
 

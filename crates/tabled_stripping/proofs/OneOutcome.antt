@@ -38,7 +38,7 @@ use Rattle.tabled_width.specs.Lists.{with_width_list}
 use Rattle.tabled_stripping.specs.Stripping.{IsNamed}
 use Rattle.tabled_width_tables.specs.Rooms.{column_widths, least_widths}
 use Rattle.tabled_width_tables.specs.Steps.{Measured, Then}
-use Rattle.tabled_width_tables.specs.Tables.{Drawn, Grown, Narrows, NarrowsTable, Shrunk, Where, Widens, WidensTable, drawn, has_cells, keeping, narrowed}
+use Rattle.tabled_width_tables.specs.Tables.{Drawn, Grown, Narrows, NarrowsTable, Shrunk, Where, Widens, WidensTable, drawn, has_cells, keeping, narrowed_state}
 
 abbrev pub One : (Outcome → Type 0) → Type 0
 One step = (a b : Outcome) → step a → step b → a ≡ b
@@ -81,8 +81,8 @@ module _ (shrinks : List ℕ → ℕ → List ℕ → List ℕ → Type 0) (one 
     one-shrunk : (widths : List ℕ) (by : ℕ) (s : State) → One (Shrunk (shrinks_so shrinks) tt change widths by s)
     one-shrunk widths by s =
         one-then (all_sized (least_widths s.look (column_count s.rows) (length s.rows)))
-        (λ least outcome. (left : List ℕ) × ((after : Unit {0}) × shrinks_so shrinks tt least by widths after left) × (Ok (narrowed change least left s) ≡ outcome))
-        (λ least a b is bs. sym is.2 ∙ ap (λ (left : List ℕ). Ok (narrowed change least left s)) (one least by widths is.0 bs.0 is.1.1 bs.1.1) ∙ bs.2)
+        (λ least outcome. (left : List ℕ) × ((after : Unit {0}) × shrinks_so shrinks tt least by widths after left) × (Ok (narrowed_state change least left s) ≡ outcome))
+        (λ least a b is bs. sym is.2 ∙ ap (λ (left : List ℕ). Ok (narrowed_state change least left s)) (one least by widths is.0 bs.0 is.1.1 bs.1.1) ∙ bs.2)
 
     one-narrows : (asked : ℕ) (s : State) → One (Narrows (shrinks_so shrinks) tt change asked s)
     one-narrows asked s =

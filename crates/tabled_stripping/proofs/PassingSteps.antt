@@ -10,7 +10,7 @@ use Rattle.grid_config_values.specs.declared.fault.Fault.{Fault}
 use Rattle.grid_config_values.specs.declared.fault.Fault.TheVariants.{Spans}
 use Rattle.grid_config_values.specs.declared.position.Position.{Position}
 use Rattle.grid_records_estimate.specs.Estimates.{greatest}
-use Rattle.grid_records_estimate.specs.Sizing.{place}
+use Rattle.grid_records_estimate.specs.Sizing.{position_at}
 use Rattle.grid_records_traits.specs.Rows.{text_at}
 use Rattle.grid_records_traits.specs.TextLines.{text_height, text_width}
 use Rattle.papergrid_picture.specs.Shown.{AreWholeTexts, IsWholeText}
@@ -30,7 +30,7 @@ use Rattle.tabled_width.specs.Lists.{with_width_list}
 use Rattle.tabled_width.specs.Measures.{greatest_least_width, greatest_width, least, row_widths}
 use Rattle.tabled_width_tables.specs.Rooms.{column_widths, in_room, least_widths, room}
 use Rattle.tabled_width_tables.specs.Steps.{Measured, Then}
-use Rattle.tabled_width_tables.specs.Tables.{Compared, Drawn, Grown, Narrows, NarrowsTable, Shrunk, Where, Widens, WidensTable, drawn, drawn_with, has_cells, keeping, narrowed}
+use Rattle.tabled_width_tables.specs.Tables.{Compared, Drawn, Grown, Narrows, NarrowsTable, Shrunk, Where, Widens, WidensTable, drawn, drawn_with, has_cells, keeping, narrowed_state}
 use Rattle.tabled_width_tables.specs.Widths.{table_width}
 use Rattle.tabled_stripping.proofs.TextsByPlace.{outcome_by, rows_from, state_by}
 use Rattle.tabled_stripping.proofs.MappedRows.{changed-same, changed-whole, columns-same, heights-same, length-rows, text-same, widths-same}
@@ -118,11 +118,11 @@ module _ (f : Position → List ℕ → List ℕ) (blind : IsBlind f) where
     abbrev other : List (List (List ℕ))
     other = rows_from f 0 rows
 
-    width-at : (row column : ℕ) → text_width (text_at other (place row column)) ≡ text_width (text_at rows (place row column))
-    width-at row column = ap text_width (text-same f blind.none rows (place row column)) ∙ blind.wide (place row column) (text_at rows (place row column))
+    width-at : (row column : ℕ) → text_width (text_at other (position_at row column)) ≡ text_width (text_at rows (position_at row column))
+    width-at row column = ap text_width (text-same f blind.none rows (position_at row column)) ∙ blind.wide (position_at row column) (text_at rows (position_at row column))
 
-    height-at : (row column : ℕ) → text_height (text_at other (place row column)) ≡ text_height (text_at rows (place row column))
-    height-at row column = ap text_height (text-same f blind.none rows (place row column)) ∙ blind.high (place row column) (text_at rows (place row column))
+    height-at : (row column : ℕ) → text_height (text_at other (position_at row column)) ≡ text_height (text_at rows (position_at row column))
+    height-at row column = ap text_height (text-same f blind.none rows (position_at row column)) ∙ blind.high (position_at row column) (text_at rows (position_at row column))
 
     widest-same : greatest_width columns other ≡ greatest_width columns rows
     widest-same =
@@ -263,21 +263,21 @@ module _ (f : Position → List ℕ → List ℕ) (blind : IsBlind f) where
         kept p text whole None = tt
         kept p text whole (Some n) = (commutes n).stays p text whole
 
-    narrowed-same : (least widths : List ℕ) (s : State) → AreWholeTexts s.rows → narrowed change least widths (state_by f s) ≡ state_by f (narrowed change least widths s)
-    narrowed-same least widths s whole =
+    narrowed_state-same : (least widths : List ℕ) (s : State) → AreWholeTexts s.rows → narrowed_state change least widths (state_by f s) ≡ state_by f (narrowed_state change least widths s)
+    narrowed_state-same least widths s whole =
         ap (λ (rows : List (List (List ℕ))). record s { rows = rows; sizes = record { widths = Some widths; heights = None } })
         (rows-same (λ p text. in_room change text (room s.look least widths p)) (in_room-commutes s.look least widths) Global s whole)
 
     shrunk : (widths : List ℕ) (by : ℕ) → Passes (Shrunk shrinks priority change widths by)
     shrunk widths by s outcome whole is =
         let other = rows_from f 0 s.rows in
-        let Gives : State → List ℕ → Outcome → Type 0 = λ s least outcome. (left : List ℕ) × ((after : P) × shrinks priority least by widths after left) × (Ok (narrowed change least left s) ≡ outcome) in
+        let Gives : State → List ℕ → Outcome → Type 0 = λ s least outcome. (left : List ℕ) × ((after : P) × shrinks priority least by widths after left) × (Ok (narrowed_state change least left s) ≡ outcome) in
         let least-are : all_sized (least_widths s.look (column_count other) (length other)) ≡ all_sized (least_widths s.look (column_count s.rows) (length s.rows)) =
         ap (λ n. all_sized (least_widths s.look n (length other))) (columns-same f 0 s.rows) ∙ ap (λ n. all_sized (least_widths s.look (column_count s.rows) n)) (length-rows f 0 s.rows) in
         subst (λ (worked : Result (List ℕ) Fault). Goes (Then worked (Gives (state_by f s))) outcome) (sym least-are)
         (follows (all_sized (least_widths s.look (column_count s.rows) (length s.rows))) (Gives s) (Gives (state_by f s))
         (λ least outcome done. (
-          (done.0, done.1, ap Ok (narrowed-same least done.0 s whole) ∙ ap (outcome_by f) done.2),
+          (done.0, done.1, ap Ok (narrowed_state-same least done.0 s whole) ∙ ap (outcome_by f) done.2),
           subst IsWholeOutcome done.2 (rows-whole (λ p text. in_room change text (room s.look least done.0 p)) (in_room-commutes s.look least done.0) Global s whole),
         ))
         outcome is)

@@ -5,7 +5,7 @@ use Rattle.grid_config_spans.proofs.Order.{same_itself, same_position}
 use Rattle.grid_config_values.specs.Order.{same_place}
 use Rattle.grid_config_values.specs.declared.fault.Fault.{Fault}
 use Rattle.grid_config_values.specs.declared.position.Position.{Position}
-use Rattle.grid_records_estimate.specs.Sizing.{place}
+use Rattle.grid_records_estimate.specs.Sizing.{position_at}
 use Rattle.grid_records_traits.specs.Rows.{text_at}
 use Rattle.papergrid_picture.specs.Shown.{AreWholeTexts, stripped_texts}
 use Rattle.papergrid_picture.proofs.StrippedLemmas.{stripped}
@@ -64,7 +64,7 @@ module _ (keep : Position → Bool) where
   all-pass [] all = tt
   all-pass (setting ∷ settings) all = (clear-passes setting all.0, all-pass settings all.1)
 
--- ---- no place is kept
+-- ---- no position_at is kept
 
 abbrev pub nowhere : Position → Bool
 nowhere p = false
@@ -93,18 +93,18 @@ refused-stripped settings old new index fault clear whole is =
     (subst (λ (old : State). RefusedAt settings old (state_by (stripped_but nowhere) new) index fault) (state-stripped old)
     (refused-pass (stripped_but nowhere) (blind-stripped nowhere) settings (all-pass nowhere settings clear) old new index fault whole is))
 
--- ---- one place is kept
+-- ---- one position_at is kept
 
 module _ (p : Position) where
   abbrev g : Position → List ℕ → List ℕ
   g = stripped_but (same_place p)
 
-  one-text : (r c : ℕ) (x y : List ℕ) → stripped x ≡ stripped y → (p.row ≡ r → p.col ≡ c → x ≡ y) → g (place r c) x ≡ g (place r c) y
-  one-text r c x y bare same = by (same_place p (place r c)) refl
+  one-text : (r c : ℕ) (x y : List ℕ) → stripped x ≡ stripped y → (p.row ≡ r → p.col ≡ c → x ≡ y) → g (position_at r c) x ≡ g (position_at r c) y
+  one-text r c x y bare same = by (same_place p (position_at r c)) refl
     where
-      by : (b : Bool) → same_place p (place r c) ≡ b → (if b then x else stripped x) ≡ (if b then y else stripped y)
+      by : (b : Bool) → same_place p (position_at r c) ≡ b → (if b then x else stripped x) ≡ (if b then y else stripped y)
       by true e =
-          let there = same_position p (place r c) e in
+          let there = same_position p (position_at r c) e in
           same (ap (λ (q : Position). q.row) there) (ap (λ (q : Position). q.col) there)
       by false e = bare
 
@@ -116,7 +116,7 @@ module _ (p : Position) where
       let first : stripped x ≡ stripped y = cc bare in
       let others : map stripped xs ≡ map stripped ys = cc bare in
       ap (λ (t : List ℕ). t ∷ row_by g r (c + 1) xs) (one-text r c x y first (λ down over. same down 0 (let e : p.col ≡ c + 0 = omega (arith, over) in e)))
-      ∙ ap (λ (rest : List (List ℕ)). g (place r c) y ∷ rest) (one-row r (c + 1) xs ys others (λ down k over. same down (suc k) (let e : p.col ≡ c + suc k = omega (arith, over) in e)))
+      ∙ ap (λ (rest : List (List ℕ)). g (position_at r c) y ∷ rest) (one-row r (c + 1) xs ys others (λ down k over. same down (suc k) (let e : p.col ≡ c + suc k = omega (arith, over) in e)))
 
   all-rows : (r : ℕ) (a b : List (List (List ℕ))) → stripped_texts a ≡ stripped_texts b → ((i : ℕ) → p.row ≡ r + i → get_or (get_or a i []) p.col [] ≡ get_or (get_or b i []) p.col []) → rows_from g r a ≡ rows_from g r b
   all-rows r [] [] bare same = refl
@@ -140,7 +140,7 @@ module _ (p : Position) where
         (λ i down. let e : p.row ≡ i = omega (arith, down) in subst (λ (i : ℕ). get_or (get_or a.rows i []) p.col [] ≡ get_or (get_or b.rows i []) p.col []) e same) in
         ap (λ (rows : List (List (List ℕ))). record (stripped_state a) { rows = rows }) rows ∙ ap (λ (s : State). record s { rows = rows_from g 0 b.rows }) alike
 
-    -- a text that both tables have at this place stays the same in both
+    -- a text that both tables have at this position_at stays the same in both
     pub same-end : text_at a.rows p ≡ text_at b.rows p → text_at m.rows p ≡ text_at n.rows p
     same-end same =
         let of_a = runs-pass g (blind-stripped (same_place p)) settings (all-pass (same_place p) settings clear) a m whole_a to_m in

@@ -26,7 +26,7 @@ use Rattle.papergrid_picture.proofs.StrippedLemmas.{stripped}
 use Rattle.papergrid_colors.specs.ClosingColors.{ShowNothing}
 use Rattle.papergrid_colors.proofs.StrippedLemmas.{colors-stripped}
 use Rattle.tabled_size_cells.proofs.CellStripping.{stripped-none, stripped-twice, stripped-width, text-map, texts-twice, texts-whole}
-use Rattle.tabled_size_dimension.specs.Sizes.{size_at}
+use Rattle.tabled_size_dimension.specs.Sizes.{given_size}
 use Rattle.tabled_size_dimension.specs.Stored.{Stored, filled, stored_sizes}
 use Rattle.tabled_steps.specs.Sizes.{natural_heights, natural_widths}
 use Rattle.tabled_steps.specs.States.{State, column_count}
@@ -51,10 +51,10 @@ module _ (f : Position → List ℕ → List ℕ) (blind : IsBlind f) (s : State
       ∙ ap (λ (heights : List ℕ). with (natural_widths s.look (column_count s.rows) s.rows) heights) (heights-same f blind.none s.look (column_count s.rows) s.rows blind.high)
 
   widths-by : drawn_widths (state_by f s) ≡ drawn_widths s
-  widths-by = ap (λ (found : Stored). sizes_of (size_at (stored_sizes found.widths)) (column_count (rows_from f 0 s.rows))) drawn-by ∙ ap (sizes_of (size_at (stored_sizes (drawn_sizes s).widths))) (columns-same f 0 s.rows)
+  widths-by = ap (λ (found : Stored). sizes_of (given_size (stored_sizes found.widths)) (column_count (rows_from f 0 s.rows))) drawn-by ∙ ap (sizes_of (given_size (stored_sizes (drawn_sizes s).widths))) (columns-same f 0 s.rows)
 
   heights-by : drawn_heights (state_by f s) ≡ drawn_heights s
-  heights-by = ap (λ (found : Stored). sizes_of (size_at (stored_sizes found.heights)) (length (rows_from f 0 s.rows))) drawn-by ∙ ap (sizes_of (size_at (stored_sizes (drawn_sizes s).heights))) (length-rows f 0 s.rows)
+  heights-by = ap (λ (found : Stored). sizes_of (given_size (stored_sizes found.heights)) (length (rows_from f 0 s.rows))) drawn-by ∙ ap (sizes_of (given_size (stored_sizes (drawn_sizes s).heights))) (length-rows f 0 s.rows)
 
 module _ (s : State) where
   pub widths-stripped : drawn_widths (stripped_state s) ≡ drawn_widths s

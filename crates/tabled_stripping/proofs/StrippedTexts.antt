@@ -26,7 +26,7 @@ use Rattle.ansi_str_text.proofs.Stripping.{strip-without_escape}
 use Rattle.ansi_str_text.proofs.Utf8Pieces.{IsUtf8-shown_text}
 use Rattle.grid_config_values.specs.declared.position.Position.{Position}
 use Rattle.grid_records_measure.specs.Cutting.{lacking, replacement}
-use Rattle.grid_records_measure.specs.Filling.{behind_front, front}
+use Rattle.grid_records_measure.specs.Filling.{behind_front, fitting_front}
 use Rattle.grid_records_measure.specs.Measures.{cost, measure}
 use Rattle.grid_records_measure.specs.TextLines.{is_line_feed, line_feed, line_feed_places, shown_lines, text_height, text_lines, text_width}
 use Rattle.grid_records_measure.proofs.TextLineLemmas.{line_feeds_match, text_lines-shown}
@@ -159,9 +159,9 @@ Alike-wrapped width keep_words text whole =
 cut-natural : (width : ℕ) (cell : List Styled) → map character_of (cut character_of in_plain width cell) ≡ cut same same width (map character_of cell)
 cut-natural width cell =
     let cs = map character_of cell in
-    let kept = front width 0 cs in
+    let kept = fitting_front width 0 cs in
     let marks = replicate (lacking width kept (behind_front width 0 cs)) replacement in
-    let cut_by : List ℕ → List ℕ = λ found. take (length (front width 0 found)) (map character_of cell) ++ map same (replicate (lacking width (front width 0 found) (behind_front width 0 found)) replacement) in
+    let cut_by : List ℕ → List ℕ = λ found. take (length (fitting_front width 0 found)) (map character_of cell) ++ map same (replicate (lacking width (fitting_front width 0 found) (behind_front width 0 found)) replacement) in
     map-append character_of (take (length kept) cell) (map in_plain marks)
     ∙ ap (λ (first : List ℕ). first ++ map character_of (map in_plain marks)) (sym (take-map character_of (length kept) cell))
     ∙ ap (λ (rest : List ℕ). take (length kept) (map character_of cell) ++ rest) (map-map character_of in_plain marks)
@@ -243,12 +243,12 @@ last-style P style (x ∷ xs) is all = last-style P x.1 xs all.0 all.1
 
 kept-rendition : (width : ℕ) (text : List ℕ) → IsRendition (last_style plain_attributes (kept width text))
 kept-rendition width text =
-    let n = length (front width 0 (map (λ x. x.0) (styled (pieces text)))) in
+    let n = length (fitting_front width 0 (map (λ x. x.0) (styled (pieces text)))) in
     last-style IsRendition plain_attributes (kept width text) IsRendition-plain (All-take HasRendition n (styled (pieces text)) (styled-renditions plain_attributes (pieces text) IsRendition-plain))
 
 kept-plain : (width : ℕ) (text : List ℕ) → has_escape text ≡ false → last_style plain_attributes (kept width text) ≡ plain_attributes
 kept-plain width text gone =
-    let n = length (front width 0 (map (λ x. x.0) (styled (pieces text)))) in
+    let n = length (fitting_front width 0 (map (λ x. x.0) (styled (pieces text)))) in
     last-style (λ s. s ≡ plain_attributes) plain_attributes (kept width text) refl
     (All-take HasPlain n (styled (pieces text)) (styled-plain plain_attributes (pieces text) (pieces-free text (free-from text gone)) refl))
 

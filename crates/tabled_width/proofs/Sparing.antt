@@ -17,7 +17,7 @@ use Rattle.tabled_width_texts.specs.Breaking.{breaking, breaking_others}
 use Rattle.tabled_width_tables.specs.Rooms.{column_widths, in_room, least_widths, room}
 use Rattle.tabled_size_wrap.specs.Staying.{stays}
 use Rattle.tabled_width_tables.specs.Steps.{Measured, Then}
-use Rattle.tabled_width_tables.specs.Tables.{Narrows, NarrowsTable, Shrunk, Where, drawn, has_cells, keeping, narrowed}
+use Rattle.tabled_width_tables.specs.Tables.{Narrows, NarrowsTable, Shrunk, Where, drawn, has_cells, keeping, narrowed_state}
 use Rattle.tabled_width.proofs.Stepping.{may_be}
 use Rattle.tabled_size_wrap.proofs.Unbroken.{stays-is}
 
@@ -120,7 +120,7 @@ module _ {P : Type 0} (shrinks : P → List ℕ → ℕ → List ℕ → P → L
   in_rooms None text = inl refl
   in_rooms (Some width) text = spares width text
 
-  narrowed_too : (least widths : List ℕ) (s : State) → narrowed first least widths s ≡ narrowed second least widths s
+  narrowed_too : (least widths : List ℕ) (s : State) → narrowed_state first least widths s ≡ narrowed_state second least widths s
   narrowed_too least widths s =
       ap (λ (rows : List (List (List ℕ))). record s { rows = rows; sizes = record { widths = Some widths; heights = None } })
       (same_after (λ place text. in_room first text (room s.look least widths place)) (λ place text. in_room second text (room s.look least widths place))
@@ -129,8 +129,8 @@ module _ {P : Type 0} (shrinks : P → List ℕ → ℕ → List ℕ → P → L
   shrunk_too : (widths : List ℕ) (by : ℕ) (s : State) (outcome : Outcome) → Shrunk shrinks priority first widths by s outcome → Shrunk shrinks priority second widths by s outcome
   shrunk_too widths by s outcome is =
       then_too (all_sized (least_widths s.look (column_count s.rows) (length s.rows)))
-      (λ least outcome. (left : List ℕ) × ((after : P) × shrinks priority least by widths after left) × (Ok (narrowed first least left s) ≡ outcome))
-      (λ least outcome. (left : List ℕ) × ((after : P) × shrinks priority least by widths after left) × (Ok (narrowed second least left s) ≡ outcome))
+      (λ least outcome. (left : List ℕ) × ((after : P) × shrinks priority least by widths after left) × (Ok (narrowed_state first least left s) ≡ outcome))
+      (λ least outcome. (left : List ℕ) × ((after : P) × shrinks priority least by widths after left) × (Ok (narrowed_state second least left s) ≡ outcome))
       outcome (λ least it. (it.0, it.1, ap Ok (sym (narrowed_too least it.0 s)) ∙ it.2)) is
 
   narrows_too : (asked : ℕ) (s : State) (outcome : Outcome) → Narrows shrinks priority first asked s outcome → Narrows shrinks priority second asked s outcome

@@ -4,7 +4,7 @@ use Rattle.std.specs.List.{range_with_len}
 use Rattle.grid_config_values.specs.declared.fault.Fault.{Fault}
 use Rattle.grid_config.specs.Looks.{Look}
 use Rattle.grid_records_estimate.specs.Estimates.{greatest}
-use Rattle.grid_records_estimate.specs.Sizing.{place}
+use Rattle.grid_records_estimate.specs.Sizing.{position_at}
 use Rattle.grid_records_measure.specs.TextLines.{text_width}
 use Rattle.grid_records_traits.specs.Rows.{text_at}
 use Rattle.tabled_steps.specs.Outcomes.{◌≫=◌, all_sized, sized}
@@ -20,7 +20,7 @@ least (n ∷ m ∷ ns) = min n (least (m ∷ ns))
 module _ (columns : ℕ) (rows : List (List (List ℕ))) where
   -- what the texts of a row measure; one that the row lacks is empty
   abbrev pub row_widths : ℕ → List ℕ
-  row_widths row = map (λ column. text_width (text_at rows (place row column))) (range_with_len 0 columns)
+  row_widths row = map (λ column. text_width (text_at rows (position_at row column))) (range_with_len 0 columns)
 
   -- the greatest measure of a cell
   abbrev pub greatest_width : ℕ

@@ -49,8 +49,8 @@ Compared step s =
 -- ---- narrower
 
 -- these widths are kept, and the texts of the cells change in their rooms
-abbrev pub narrowed : (ℕ → List ℕ → Option (List ℕ)) → List ℕ → List ℕ → State → State
-narrowed change least widths s =
+abbrev pub narrowed_state : (ℕ → List ℕ → Option (List ℕ)) → List ℕ → List ℕ → State → State
+narrowed_state change least widths s =
     record s {
       rows = changed_rows (λ place text. in_room change text (room s.look least widths place)) Global (column_count s.rows) s.rows;
       sizes = record { widths = Some widths; heights = None };
@@ -61,7 +61,7 @@ module _ {P : Type 0} (shrinks : P → List ℕ → ℕ → List ℕ → P → L
   abbrev pub Shrunk : List ℕ → ℕ → State → Outcome → Type 0
   Shrunk widths by s =
       Then (all_sized (least_widths s.look (column_count s.rows) (length s.rows))) (λ least outcome.
-      (left : List ℕ) × ((after : P) × shrinks priority least by widths after left) × (Ok (narrowed change least left s) ≡ outcome))
+      (left : List ℕ) × ((after : P) × shrinks priority least by widths after left) × (Ok (narrowed_state change least left s) ≡ outcome))
 
   -- a table that takes more than asked loses the excess
   abbrev pub Narrows : ℕ → State → Outcome → Type 0

@@ -14,7 +14,7 @@ use Rattle.grid_records_measure.proofs.FillingLemmas.{IsLongestFront-unique}
 use Rattle.grid_records_measure.proofs.ShownCuts.{cut-shows}
 use Rattle.tabled_size_wrap.specs.Bytes.{cut_at}
 use Rattle.tabled_size_wrap.specs.Fronts.{IsFrontOf}
-use Rattle.tabled_size_wrap.proofs.FrontLemmas.{front-meets, front-one, kept_of, left_of}
+use Rattle.tabled_size_wrap.proofs.FrontLemmas.{fitting_front-meets, fitting_front-one, kept_of, left_of}
 use Rattle.tabled_width_texts.specs.Cutting.{kept}
 
 abbrev character_of : ℕ × Attributes → ℕ
@@ -26,11 +26,11 @@ kept-by width text ps of_text = ap (λ (found : List Piece). kept_of character_o
 pub kept-meets : (width : ℕ) (text : List ℕ) (ps : List Piece) → ArePiecesOf text ps → (left : List (ℕ × Attributes)) × IsFrontOf character_of width (styled ps) (kept width text) left
 kept-meets width text ps of_text = (
   left_of character_of width (styled ps),
-  subst (λ found. IsFrontOf character_of width (styled ps) found (left_of character_of width (styled ps))) (kept-by width text ps of_text) (front-meets character_of width (styled ps)),
+  subst (λ found. IsFrontOf character_of width (styled ps) found (left_of character_of width (styled ps))) (kept-by width text ps of_text) (fitting_front-meets character_of width (styled ps)),
 )
 
 pub kept-one : (width : ℕ) (text : List ℕ) (ps : List Piece) (found left : List (ℕ × Attributes)) → ArePiecesOf text ps → IsFrontOf character_of width (styled ps) found left → found ≡ kept width text
-kept-one width text ps found left of_text is = front-one character_of width (styled ps) found left is ∙ kept-by width text ps of_text
+kept-one width text ps found left of_text is = fitting_front-one character_of width (styled ps) found left is ∙ kept-by width text ps of_text
 
 pub kept-shown : (width : ℕ) (text : List ℕ) (ps qs : List Piece) (left : List (ℕ × Attributes)) → IsUtf8 text → ArePiecesOf text ps → NoneBroken ps
     → ArePiecesOf (cut_at width text) qs → IsFrontOf character_of width (styled ps) (kept width text) left

@@ -10,11 +10,11 @@ use Rattle.ansi_scan.proofs.Existence.{ArePiecesOf-pieces}
 use Rattle.ansi_str_text.specs.Blocks.{Block, blocks_from, styled_of_block}
 use Rattle.ansi_str_text.specs.StyledText.{styled}
 use Rattle.ansi_str_text.proofs.Shown.{styled_of_block-blocks_from}
-use Rattle.grid_records_measure.specs.Filling.{columns_with, front, has_room, used_behind}
+use Rattle.grid_records_measure.specs.Filling.{columns_with, fitting_front, has_room, used_behind}
 use Rattle.tabled_width_texts.specs.Cutting.{kept, last_style}
 use Rattle.tabled_width_texts.specs.Keeping.{last_kept}
 
--- ---- the walk finds the last of the front
+-- ---- the walk finds the last of the fitting_front
 
 one_more : (width : ℕ) (b : Bool) (style : Attributes) (x : ℕ × Attributes) (xs : List (ℕ × Attributes)) (fs : List ℕ) (walked : Attributes) →
     last_style x.1 (take (length fs) xs) ≡ walked →
@@ -22,10 +22,10 @@ one_more : (width : ℕ) (b : Bool) (style : Attributes) (x : ℕ × Attributes)
 one_more width true style x xs fs walked is = is
 one_more width false style x xs fs walked is = refl
 
-walk_finds : (width used : ℕ) (style : Attributes) (xs : List (ℕ × Attributes)) → last_style style (take (length (front width used (map (λ x. x.0) xs))) xs) ≡ last_kept width used style xs
+walk_finds : (width used : ℕ) (style : Attributes) (xs : List (ℕ × Attributes)) → last_style style (take (length (fitting_front width used (map (λ x. x.0) xs))) xs) ≡ last_kept width used style xs
 walk_finds width used style [] = refl
 walk_finds width used style (x ∷ xs) =
-    one_more width (has_room width used x.0) style x xs (front width (used_behind used x.0) (map (λ x. x.0) xs)) (last_kept width (used_behind used x.0) x.1 xs)
+    one_more width (has_room width used x.0) style x xs (fitting_front width (used_behind used x.0) (map (λ x. x.0) xs)) (last_kept width (used_behind used x.0) x.1 xs)
     (walk_finds width (used_behind used x.0) x.1 xs)
 
 pub found : (width : ℕ) (text : List ℕ) → last_style plain_attributes (kept width text) ≡ last_kept width 0 plain_attributes (styled (pieces text))

@@ -6,7 +6,7 @@ use Rattle.ansi_scan.specs.Pieces.{pieces}
 use Rattle.ansi_scan.specs.StartsAndEnds.{end_bytes, start_bytes}
 use Rattle.ansi_str.specs.StyledText.{strip, styled}
 use Rattle.grid_records_measure.specs.Cutting.{replacement}
-use Rattle.grid_records_measure.specs.Filling.{front}
+use Rattle.grid_records_measure.specs.Filling.{fitting_front}
 use Rattle.grid_records_measure.specs.Measures.{cost, measure}
 use Rattle.grid_records_measure.specs.TextLines.{line_feed, text_lines, text_width}
 use Rattle.tabled_size_dimension.specs.declared.suffix.SuffixLimit.{SuffixLimit}
@@ -19,7 +19,7 @@ use Rattle.tabled_size_wrap.specs.Bytes.{cut_at}
 abbrev pub kept : ℕ → List ℕ → List (ℕ × Attributes)
 kept width text =
     let all : List (ℕ × Attributes) = styled (pieces text) in
-    take (length (front width 0 (map (λ x. x.0) all))) all
+    take (length (fitting_front width 0 (map (λ x. x.0) all))) all
 
 -- the style of the last character, and where there is none this one
 abbrev pub last_style : Attributes → List (ℕ × Attributes) → Attributes

@@ -1,6 +1,6 @@
 //! Records whose texts can be set.
 ghost use Rattle.std.specs.Prelude.{◌≡◌};
-ghost use Rattle.grid_records_traits.specs.Rows.{IsInside, with_text};
+ghost use Rattle.grid_records_traits.specs.Rows.{HasCell, with_text};
 
 use crate::records::RecordColumns;
 use crate::records::vec_records::Text;
@@ -10,7 +10,7 @@ use grid_config_values::Position;
 pub trait RecordsMut: RecordColumns {
     /// Sets the text of the cell at this place, and no other. The columns stay as many. Does not allocate.
     fn set(&mut self, pos: Position, text: Text)
-        requires { IsInside (Self.rows self.old) pos }
+        requires { HasCell (Self.rows self.old) pos }
         ensures text { Self.rows self.new ≡ with_text (Self.rows self.old) pos text }
         ensures columns { Self.columns self.new ≡ Self.columns self.old };
 }

@@ -6,7 +6,7 @@ ghost use Rattle.papergrid_picture.specs.Tables.{sizes_of};
 ghost use Rattle.tabled.specs.Printing.{drawn_heights, drawn_sizes, drawn_widths};
 ghost use Rattle.tabled.specs.Tables.{state_of};
 ghost use Rattle.tabled.specs.Totals.{drawn_height, drawn_width};
-ghost use Rattle.tabled_size_dimension.specs.Sizes.{size_at};
+ghost use Rattle.tabled_size_dimension.specs.Sizes.{given_size};
 ghost use Rattle.tabled_size_dimension.specs.Stored.{stored_sizes};
 ghost use Rattle.tabled_steps.specs.States.{column_count};
 ghost use Rattle.tabled_stripping.specs.Stripping.{stripped_state};
@@ -112,7 +112,7 @@ fn first_widths(
     sizes: &CompleteDimension,
     columns: usize,
 ) -> Result<Vec<usize>, AllocError>
-    ensures { IfOk result (λ widths. widths.items ≡ sizes_of (size_at (stored_sizes sizes.now.widths)) columns) }
+    ensures { IfOk result (λ widths. widths.items ≡ sizes_of (given_size (stored_sizes sizes.now.widths)) columns) }
 {
     let mut widths = Vec::new(alloc);
     for column in 0..columns {
@@ -127,7 +127,7 @@ fn first_heights(
     sizes: &CompleteDimension,
     rows: usize,
 ) -> Result<Vec<usize>, AllocError>
-    ensures { IfOk result (λ heights. heights.items ≡ sizes_of (size_at (stored_sizes sizes.now.heights)) rows) }
+    ensures { IfOk result (λ heights. heights.items ≡ sizes_of (given_size (stored_sizes sizes.now.heights)) rows) }
 {
     let mut heights = Vec::new(alloc);
     for row in 0..rows {

@@ -3,7 +3,7 @@ use Rattle.std.proofs.Common.{◌≡◌, ℕ, zero, suc, ◌+◌, ◌-◌, ◌<�
 use Rattle.std.specs.Prelude.{Option, Some, nat_lt}
 use Rattle.std.proofs.lemmas.Bool.{cases_lt}
 use Rattle.std.proofs.lemmas.List.FromFn.{length-map-range_with_len}
-use Rattle.tabled_size_priority.specs.Columns.{columns_of}
+use Rattle.tabled_size_priority.specs.Columns.{column_numbers}
 use Rattle.tabled_size_priority.specs.Shrinking.{floor_of, gap_of, floors, room_of, shrunk_sum, StaysBetween}
 use Rattle.tabled_size_priority.specs.Peaking.{NoneAbove}
 use Rattle.tabled_size_priority.specs.Running.{Stand, answered, Leads, Ends, IsNowhere, IsShrunkBy}
@@ -15,7 +15,7 @@ use Rattle.tabled_size_priority.specs.Laws.Lists.{sum-le, sum-added, from_column
 -- the floors and the room together are the widths
 pub floors-room : (least widths : List ℕ) → sum (floors least widths) + room_of least widths ≡ sum widths
 floors-room least widths =
-    sum-added (floor_of least widths) (gap_of least widths) (λ (i : ℕ). get_or widths i 0) (columns_of widths) (λ i. omega arith)
+    sum-added (floor_of least widths) (gap_of least widths) (λ (i : ℕ). get_or widths i 0) (column_numbers widths) (λ i. omega arith)
     ∙ ap sum (sym (from_columns (λ (i : ℕ). get_or widths i 0) (length widths) widths refl (λ i below. refl)))
 
 -- ---- shrinking

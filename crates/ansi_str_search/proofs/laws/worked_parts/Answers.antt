@@ -2,7 +2,7 @@
 use Rattle.std.specs.Fmt.{digits}
 use Rattle.std.specs.Prelude.{codes}
 use Rattle.std.proofs.Common.{[], ◌∷◌, refl}
-use Rattle.ansi_scan.specs.Pieces.{pieces, first_pieces, front, at_escape, sequence_front, opened, control_from, string_from, escape_from}
+use Rattle.ansi_scan.specs.Pieces.{pieces, first_pieces, leading_piece, at_escape, sequence_front, opened, control_from, string_from, escape_from}
 use Rattle.ansi_scan.specs.Attributes.{plain_attributes}
 use Rattle.ansi_scan.specs.Rendition.{applied, after_parameters}
 use Rattle.ansi_scan.specs.StartsAndEnds.{start_bytes, start_sequences, end_bytes, end_sequences}
@@ -14,7 +14,7 @@ use Rattle.ansi_str_search.proofs.WorkedLemmas.{ArePiecesOf-worked}
 use Rattle.ansi_str_search.proofs.laws.worked_parts.Goals as goal
 
 pub returns-clause-black : goal.returns-clause-black
-unfolding pieces first_pieces front at_escape sequence_front opened control_from string_from escape_from
+unfolding pieces first_pieces leading_piece at_escape sequence_front opened control_from string_from escape_from
 returns-clause-black c = ArePiecesOf-worked (codes "\u{1b}[30m123:456\u{1b}[39m") black_text refl
 
 pub returns-clause-black_match : goal.returns-clause-black_match
@@ -30,7 +30,7 @@ unfolding applied after_parameters plain_attributes start_bytes start_sequences 
 returns-clause-behind c = refl
 
 pub returns-clause-lines : goal.returns-clause-lines
-unfolding pieces first_pieces front at_escape sequence_front opened control_from string_from escape_from
+unfolding pieces first_pieces leading_piece at_escape sequence_front opened control_from string_from escape_from
 returns-clause-lines c = ArePiecesOf-worked (codes "\u{1b}[2;48;5;10m\u{1b}[38;5;20mDar\nren\u{1b}[0m") two_lines refl
 
 pub returns-clause-line_match : goal.returns-clause-line_match

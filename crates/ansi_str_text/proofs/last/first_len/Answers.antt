@@ -1,12 +1,12 @@
 -- The first item, as the scan gives it.
 use Rattle.ansi_scan.specs.Scan.{items_left}
 use Rattle.ansi_str_text.proofs.FirstItem.{IsFirstItem-items, pieces-nothing}
-use Rattle.ansi_str_text.proofs.LastLemmas.{front-IsFirstItem, nothing-short}
+use Rattle.ansi_str_text.proofs.LastLemmas.{leading_piece-IsFirstItem, nothing-short}
 use Rattle.ansi_str_text.proofs.last.first_len.Goals as goal
 
 pub returns-in-Some-clause-value : goal.returns-in-Some-clause-value
 returns-in-Some-clause-value c =
-    front-IsFirstItem c.args.text.now c.in-Some.item c.requires
+    leading_piece-IsFirstItem c.args.text.now c.in-Some.item c.requires
     (IsFirstItem-items c.args.text.now (items_left c.scan.result) (items_left c.next.new.self) c.in-Some.item c.scan.ensures.items c.in-Some.ensures.steps)
 
 pub returns-in-None-clause-value : goal.returns-in-None-clause-value

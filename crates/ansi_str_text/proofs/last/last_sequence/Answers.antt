@@ -1,6 +1,6 @@
 -- The last ESC begins the last sequence, or ends the string that the ESC before it opens.
 use Rattle.std.proofs.Common.{rules, ◌≡◌, ◌+◌, ◌-◌, ℕ, List, take, drop, ap, sym, ◌∙◌, subst, arith}
-use Rattle.ansi_scan.specs.Pieces.{front}
+use Rattle.ansi_scan.specs.Pieces.{leading_piece}
 use Rattle.ansi_str_text.specs.StyledText.{has_escape}
 use Rattle.ansi_str_text.specs.Last.{IsLastEscape}
 use Rattle.ansi_str_text.proofs.LastLemmas.{NoneReaches-byte, NoneReaches-none, NoneReaches-short, IsLastSequence-last, IsLastSequence-opened}
@@ -22,7 +22,7 @@ returns-in-Some c =
     let at : ℕ = c.in-Some.opened in
     let whole : last - 0 ≡ last = omega arith in
     let before : c.range.result.now ≡ take last text = c.range.ensures.value ∙ ap (λ n. take n text) whole in
-    let len : c.first_len.result ≡ (front (drop at text)).1 = c.first_len.ensures.value ∙ ap (λ (bs : List ℕ). (front bs).1) c.range_from.ensures.value in
+    let len : c.first_len.result ≡ (leading_piece (drop at text)).1 = c.first_len.ensures.value ∙ ap (λ (bs : List ℕ). (leading_piece bs).1) c.range_from.ensures.value in
     IsLastSequence-opened text last at c.in_ok-last.ensures.found (subst (λ (bs : List ℕ). IsLastEscape bs at) before c.in-Some.ensures.found)
     (omega (arith, len, c.if-opened-first_len.true))
 
@@ -33,7 +33,7 @@ returns-in_default c =
     let at : ℕ = c.in-Some.opened in
     let whole : last - 0 ≡ last = omega arith in
     let before : c.range.result.now ≡ take last text = c.range.ensures.value ∙ ap (λ n. take n text) whole in
-    let len : c.first_len.result ≡ (front (drop at text)).1 = c.first_len.ensures.value ∙ ap (λ (bs : List ℕ). (front bs).1) c.range_from.ensures.value in
+    let len : c.first_len.result ≡ (leading_piece (drop at text)).1 = c.first_len.ensures.value ∙ ap (λ (bs : List ℕ). (leading_piece bs).1) c.range_from.ensures.value in
     IsLastSequence-last text last c.in_ok-last.ensures.found
     (NoneReaches-short text last at c.in_ok-last.ensures.found (subst (λ (bs : List ℕ). IsLastEscape bs at) before c.in-Some.ensures.found)
     (omega (arith, len, c.if-opened-first_len.false)))

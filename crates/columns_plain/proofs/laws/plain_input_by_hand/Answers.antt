@@ -6,7 +6,7 @@ use Rattle.std.specs.Str.{chars}
 use Rattle.std.proofs.Math.Utf8.{encode}
 use Rattle.std.proofs.lemmas.List.Elements.{All-nil}
 use Rattle.ansi_scan.specs.Attributes.{plain_attributes}
-use Rattle.ansi_scan.specs.Pieces.{pieces, first_pieces, front, at_escape, sequence_front, opened, control_from, string_from, escape_from}
+use Rattle.ansi_scan.specs.Pieces.{pieces, first_pieces, leading_piece, at_escape, sequence_front, opened, control_from, string_from, escape_from}
 use Rattle.ansi_scan.specs.Sequences.{NoneBroken}
 use Rattle.ansi_scan.proofs.Existence.{ArePiecesOf-pieces}
 use Rattle.ansi_scan.specs.Rendition.{applied, after_parameters}
@@ -33,11 +33,11 @@ unfolding encode
 is-text = (red_letters, (refl, refl))
 
 no-broken : NoneBroken (pieces red_letters)
-unfolding pieces first_pieces front at_escape sequence_front opened control_from string_from escape_from
+unfolding pieces first_pieces leading_piece at_escape sequence_front opened control_from string_from escape_from
 no-broken = (λ e. absurd (cc e), (λ e. absurd (cc e), (λ e. absurd (cc e), (λ e. absurd (cc e), tt))))
 
 is-plain : IsPlainInput red_letters
-unfolding pieces first_pieces front at_escape sequence_front opened control_from string_from escape_from chars
+unfolding pieces first_pieces leading_piece at_escape sequence_front opened control_from string_from escape_from chars
 is-plain = record {
   utf8 = is-text;
   whole = record { pieces = pieces red_letters; of_text = ArePiecesOf-pieces red_letters; none_broken = no-broken };
@@ -48,11 +48,11 @@ pub returns-clause-plain : goal.returns-clause-plain
 returns-clause-plain c = is-plain
 
 pub returns-clause-output : goal.returns-clause-output
-unfolding output_of kept_of colored_text kept_texts asked_widths shrunk_list wrapped_text cut_at table_widths table_heights track_sizes text_width text_height extent_at str_width char_width alone step past_emoji pieces first_pieces front at_escape sequence_front opened control_from string_from escape_from text_lines applied after_parameters plain_attributes start_bytes start_sequences end_bytes end_sequences digits chars encode
+unfolding output_of kept_of colored_text kept_texts asked_widths shrunk_list wrapped_text cut_at table_widths table_heights track_sizes text_width text_height extent_at str_width char_width alone step past_emoji pieces first_pieces leading_piece at_escape sequence_front opened control_from string_from escape_from text_lines applied after_parameters plain_attributes start_bytes start_sequences end_bytes end_sequences digits chars encode
 returns-clause-output c = refl
 
 taken : taken_columns in_nine_columns red_letters ≡ 9
-unfolding grid_of kept_of colored_text kept_texts asked_widths shrunk_list wrapped_text cut_at table_widths table_heights track_sizes text_width text_height extent_at str_width char_width alone step past_emoji pieces first_pieces front at_escape sequence_front opened control_from string_from escape_from text_lines applied after_parameters plain_attributes start_bytes start_sequences end_bytes end_sequences digits chars encode
+unfolding grid_of kept_of colored_text kept_texts asked_widths shrunk_list wrapped_text cut_at table_widths table_heights track_sizes text_width text_height extent_at str_width char_width alone step past_emoji pieces first_pieces leading_piece at_escape sequence_front opened control_from string_from escape_from text_lines applied after_parameters plain_attributes start_bytes start_sequences end_bytes end_sequences digits chars encode
 taken = refl
 
 none-given : AllClose in_nine_columns.colors

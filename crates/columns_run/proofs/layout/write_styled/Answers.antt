@@ -8,7 +8,7 @@ use Rattle.columns_table.specs.declared.cells.LineCell.{LineCell}
 use Rattle.columns_table.specs.Rows.{row_texts_of}
 use Rattle.columns_table.specs.declared.rows.Rows.{Rows}
 use Rattle.columns_run.specs.Cells.{line_rows, rows_shown, shown}
-use Rattle.columns_run.specs.Styled.{cell_lines}
+use Rattle.columns_run.specs.Styled.{styled_cell_lines}
 use Rattle.columns_run.specs.Wanted.{wanted_of}
 use Rattle.columns_run.specs.declared.styled_rows.StyledCells.{StyledCells}
 use Rattle.columns_run.proofs.CellLemmas.{whole_text}
@@ -31,12 +31,12 @@ record AreOf (text : List ℕ) (rows : Rows) : Type 0 where
   are : rows_shown rows ≡ line_rows text
 
 are_of : (text own : List ℕ) (found : Option StyledCells) (styled : StyledCells) (rows : Rows) → found ≡ Some styled → own ≡ string_bytes styled.text → rows.cells ≡ cells_in own styled.rows.ends → rows.counts.items ≡ styled.rows.counts
-    → (IsSome found ↔ IsWhole text) → IfSome found (λ styled. cut styled.rows.counts (cell_lines styled) ≡ line_rows text) → AreOf text rows
+    → (IsSome found ↔ IsWhole text) → IfSome found (λ styled. cut styled.rows.counts (styled_cell_lines styled) ≡ line_rows text) → AreOf text rows
 are_of text own found styled rows is own_is cells_are counts_are whole same = record {
   whole = (subst (λ found. IsSome found ↔ IsWhole text) is whole).0 refl;
   are = ap (λ (counts : List ℕ). cut counts (map shown rows.cells)) counts_are
       ∙ ap (λ (cells : List LineCell). cut styled.rows.counts (map shown cells)) (cells_are ∙ ap (λ bytes. cells_in bytes styled.rows.ends) own_is)
-      ∙ subst (λ found. IfSome found (λ styled. cut styled.rows.counts (cell_lines styled) ≡ line_rows text)) is same;
+      ∙ subst (λ found. IfSome found (λ styled. cut styled.rows.counts (styled_cell_lines styled) ≡ line_rows text)) is same;
 }
 
 known : (g : Over) (c : After-of-rows g) → AreOf c.args.text.now c.of-rows.result

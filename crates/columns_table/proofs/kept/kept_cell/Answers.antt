@@ -5,7 +5,7 @@ use Rattle.std.specs.Option.{option_map, unwrap_or}
 use Rattle.columns_table.specs.Cells.{anywhere}
 use Rattle.columns_table.specs.CellRows.{row_cells}
 use Rattle.columns_table.specs.Kept.{resize_to}
-use Rattle.columns_table.specs.Records.{IsMeasured}
+use Rattle.columns_table.specs.Records.{KeepsWidth}
 use Rattle.columns_table.proofs.CellLemmas.{each-some}
 use Rattle.columns_table.proofs.KeptLemmas.{first-none, first-some, width-is}
 use Rattle.columns_table.proofs.kept.kept_cell.Goals as goal
@@ -13,17 +13,17 @@ use Rattle.columns_table.proofs.kept.kept_cell.Goals as goal
 pub resized_cell-requires : goal.resized_cell-requires
 resized_cell-requires c =
     let cell = c.in-Some.cell in
-    width-is cell (each-some IsMeasured (row_cells c.args.row) c.args.column (anywhere cell) (sym c.get.ensures ∙ ap (option_map anywhere) c.in-Some.is) c.requires)
+    width-is cell (each-some KeepsWidth (row_cells c.args.row) c.args.column (anywhere cell) (sym c.get.ensures ∙ ap (option_map anywhere) c.in-Some.is) c.requires)
 
 pub of_line-requires-clause-one : goal.of_line-requires-clause-one
 of_line-requires-clause-one c =
     let cell = c.in-Some.cell in
-    (each-some IsMeasured (row_cells c.args.row) c.args.column (anywhere cell) (sym c.get.ensures ∙ ap (option_map anywhere) c.in-Some.is) c.requires).0
+    (each-some KeepsWidth (row_cells c.args.row) c.args.column (anywhere cell) (sym c.get.ensures ∙ ap (option_map anywhere) c.in-Some.is) c.requires).0
 
 pub of_line-requires-clause-width : goal.of_line-requires-clause-width
 of_line-requires-clause-width c =
     let cell = c.in-Some.cell in
-    (each-some IsMeasured (row_cells c.args.row) c.args.column (anywhere cell) (sym c.get.ensures ∙ ap (option_map anywhere) c.in-Some.is) c.requires).1
+    (each-some KeepsWidth (row_cells c.args.row) c.args.column (anywhere cell) (sym c.get.ensures ∙ ap (option_map anywhere) c.in-Some.is) c.requires).1
 
 pub returns-in_default : goal.returns-in_default
 returns-in_default c =

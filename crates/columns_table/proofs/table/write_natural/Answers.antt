@@ -5,7 +5,7 @@ use Rattle.grid_config.specs.Looks.{look_of}
 use Rattle.grid_records_estimate.specs.Estimates.{greatest}
 use Rattle.grid_records_measure.specs.TextLines.{line_feed}
 use Rattle.papergrid_fits.specs.Grids.{grid_text}
-use Rattle.papergrid_fits.specs.Tables.{Fits}
+use Rattle.papergrid_fits.specs.Tables.{CanBeDrawn}
 use Rattle.tabled_output.specs.Pieces.{Passes}
 use Rattle.tabled_output.proofs.PieceLemmas.{passes-none}
 use Rattle.columns_table.specs.Answers.{natural_text}
@@ -21,7 +21,7 @@ write_grid-written-requires-clause-fits g c = λ some.
     let widths = c.args.sizes.widths.items in
     let heights = c.args.sizes.heights.items in
     let columns = c.new-records.ensures.columns ∙ c.greatest-columns.ensures ∙ ap greatest c.deref.ensures.value in
-    subst (λ texts. Fits c.in_ok-settings.settings (slice_index widths) (slice_index heights) c.new-records.result.columns texts) (sym c.new-records.ensures.rows)
+    subst (λ texts. CanBeDrawn c.in_ok-settings.settings (slice_index widths) (slice_index heights) c.new-records.result.columns texts) (sym c.new-records.ensures.rows)
     (fits style c.in_ok-settings.settings c.in_ok-settings.ensures.settings rows.counts.items rows.cells rows.whole widths heights
     c.requires.widths c.requires.heights (some-heights style _ (λ none. some (c.requires.lines ∙ none))) c.requires.fits c.new-records.result.columns columns)
 

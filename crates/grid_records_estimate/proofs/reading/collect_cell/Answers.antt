@@ -1,7 +1,7 @@
 use Rattle.std.proofs.Common.{◌≡◌, ◌+◌, [], ◌∷◌, ◌++◌, true, refl, ap, sym, ◌∙◌}
 use Rattle.std.specs.List.{flat_map}
 use Rattle.grid_records_estimate.specs.Collecting.{HasCollected}
-use Rattle.grid_records_estimate.specs.Reading.{cell_heights, cell_widths}
+use Rattle.grid_records_estimate.specs.Reading.{cell_heights, width_needs}
 use Rattle.grid_records_estimate.specs.Sizing.{is_visible}
 use Rattle.grid_records_estimate.specs.declared.need.Need.{Need}
 use Rattle.grid_records_estimate.proofs.MeetLemmas.{OnOk-implies}
@@ -21,7 +21,7 @@ returns g c = λ before h.
     c.columns.ensures.value c.dimension-lines.ensures.width (ap (λ sides. sides.left.size) c.padding-padding.ensures) (ap (λ sides. sides.right.size) c.padding-padding.ensures) in
     let high = asks-height sizing pos text text c.rows.result c.dimension-lines.result.0 padding.top.size padding.bottom.size on refl
     c.rows.ensures.value c.dimension-lines.ensures.lines (ap (λ sides. sides.top.size) c.padding-padding.ensures) (ap (λ sides. sides.bottom.size) c.padding-padding.ensures) in
-    let first : HasCollected c.add.new.self (flat_map (cell_widths sizing) before ++ width ∷ []) = c.in_ok-add.ensures.ok (flat_map (cell_widths sizing) before) h.widths_are in
+    let first : HasCollected c.add.new.self (flat_map (width_needs sizing) before ++ width ∷ []) = c.in_ok-add.ensures.ok (flat_map (width_needs sizing) before) h.widths_are in
     OnOk-implies c.add-2.result
     (λ (second : HasCollected c.add-2.new.self (flat_map (cell_heights sizing) before ++ height ∷ [])).
     HasRead-added sizing c.add.new.self c.add-2.new.self before (pos, text) width height wide high first second)

@@ -2,7 +2,7 @@
 use Rattle.std.proofs.Common.{rules, ◌≤◌, ◌+◌, ◌∙◌, length, encode_utf8_all, ap, sym, arith}
 use Rattle.std.specs.Str.Iter.{chars_rest}
 use Rattle.std.proofs.lemmas.Str.{IsUtf8-past_char}
-use Rattle.grid_records_measure.proofs.CutLemmas.{takes, takes-len, refuses, ends, front-fits}
+use Rattle.grid_records_measure.proofs.CutLemmas.{takes, takes-len, refuses, ends, fitting_front-fits}
 use Rattle.grid_records_measure.proofs.cut.fill.Goals as goal
 
 pub returns-in_default-clause-len : goal.returns-in_default-clause-len
@@ -25,7 +25,7 @@ overflow_add-len c =
     let behind = chars_rest c.next.new.self in
     let taken = takes c.args.width c.loop-c.used c.in-Some.c c.in-Some-columns_with.columns rest behind c.loop-c.invariant.text c.in-Some.ensures.steps.0 (sym c.columns_with.ensures.columns ∙ c.in-Some-columns_with.is) in
     let sum = takes-len c.args.width c.loop-c.used c.in-Some.c c.in-Some-columns_with.columns rest behind taken in
-    let all = front-fits c.args.width c.args.before text c.utf8.text in
+    let all = fitting_front-fits c.args.width c.args.before text c.utf8.text in
     let fits : c.loop-c.len + c.len_utf8-len.result ≤ length text = omega (arith, sum, all, c.loop-c.invariant.len, c.len_utf8-len.ensures.len) in
     search (rules, fits)
 

@@ -2,7 +2,7 @@
 use Rattle.std.proofs.Common.{◌≡◌, ◌≤◌, ◌+◌, length, chars, encode_utf8_all}
 use Rattle.std.specs.Str.{IsUtf8}
 use Rattle.std.specs.Str.Iter.{chars_rest}
-use Rattle.grid_records_measure.specs.Filling.{front, front_columns}
+use Rattle.grid_records_measure.specs.Filling.{fitting_front, front_columns}
 use Rattle.grid_records_measure.proofs.cut.fill.Given as goal
 
 abbrev pub invariant-loop-c : goal.invariant-loop-c
@@ -11,6 +11,6 @@ invariant-loop-c l =
       goes : (goal.iterator-loop-c).can_next l.c-iterator × (goal.iterator-loop-c).is_finite l.c-iterator;
       text : IsUtf8 (chars_rest l.c-iterator);
       fits : l.used ≤ l.width;
-      len : l.len + length (encode_utf8_all (front l.width l.used (chars (chars_rest l.c-iterator)))) ≡ length (encode_utf8_all (front l.width l.before (chars l.text)));
+      len : l.len + length (encode_utf8_all (fitting_front l.width l.used (chars (chars_rest l.c-iterator)))) ≡ length (encode_utf8_all (fitting_front l.width l.before (chars l.text)));
       columns : front_columns l.width l.used (chars (chars_rest l.c-iterator)) ≡ front_columns l.width l.before (chars l.text);
     }

@@ -6,10 +6,10 @@ use Rattle.ansi_str.specs.StyledText.{strip}
 use Rattle.ansi_str.specs.Blocks.{Block, text_of_block}
 use Rattle.ansi_str_text.proofs.Utf8Pieces.{IsUtf8-shown_text}
 use Rattle.ansi_str_search.proofs.RestLemmas.{strip-fits}
-use Rattle.grid_records_measure.specs.Filling.{front, front_columns, behind_front}
+use Rattle.grid_records_measure.specs.Filling.{fitting_front, front_columns, behind_front}
 use Rattle.grid_records_measure.proofs.FillingLemmas.{lacking-none}
 use Rattle.grid_records_measure.proofs.LineLemmas.{shown-blocks}
-use Rattle.grid_records_measure.proofs.CutLemmas.{all-fit, some-left, fits-on, stops-in, lacking-some, front-fits, front-longer}
+use Rattle.grid_records_measure.proofs.CutLemmas.{all-fit, some-left, fits-on, stops-in, lacking-some, fitting_front-fits, fitting_front-longer}
 use Rattle.grid_records_measure.proofs.cut.place_and_lacking.Goals as goal
 
 pub loop-block-init : goal.loop-block-init
@@ -17,7 +17,7 @@ loop-block-init c =
     let width = c.args.width in
     let same : c.into_iter-block-iterator.result ≡ c.get_blocks-block-items.result = cc in
     let all = ap chars (ap (flat_map text_of_block) same ∙ shown-blocks c.args.text.now c.get_blocks-block-items.result c.get_blocks-block-items.ensures.blocks) in
-    let place = ap (λ cs. length (encode_utf8_all (front width 0 cs))) all in
+    let place = ap (λ cs. length (encode_utf8_all (fitting_front width 0 cs))) all in
     record {
       goes = search rules;
       fits = omega arith;
@@ -34,9 +34,9 @@ overflow_add-place c =
     let shown = c.text-shown.result.now in
     let rest = flat_map text_of_block c.next.new.self in
     let step = ap chars (ap (flat_map text_of_block) c.in-Some-block.ensures.steps ∙ ap (λ bytes. bytes ++ rest) (sym c.text-shown.ensures)) in
-    let here = front-longer width used shown rest c.text-shown.utf8 in
-    let left = ap (λ cs. length (encode_utf8_all (front width used cs))) step in
-    let all = front-fits width 0 (strip (pieces text)) (IsUtf8-shown_text text c.utf8.text) in
+    let here = fitting_front-longer width used shown rest c.text-shown.utf8 in
+    let left = ap (λ cs. length (encode_utf8_all (fitting_front width used cs))) step in
+    let all = fitting_front-fits width 0 (strip (pieces text)) (IsUtf8-shown_text text c.utf8.text) in
     let fits : c.loop-block.place + c.fill-len.result.0 ≤ length text = omega (arith, here, left, all, strip-fits text, c.loop-block.invariant.place, c.fill-len.ensures.len) in
     search (rules, fits)
 
@@ -48,9 +48,9 @@ returns-then-len-shown-clause-place c =
     let shown = c.text-shown.result.now in
     let rest = flat_map text_of_block c.next.new.self in
     let step = ap chars (ap (flat_map text_of_block) c.in-Some-block.ensures.steps ∙ ap (λ bytes. bytes ++ rest) (sym c.text-shown.ensures)) in
-    let short : length (encode_utf8_all (front width used (chars shown))) < length shown = omega (arith, c.if-len-shown.true, c.fill-len.ensures.len) in
+    let short : length (encode_utf8_all (fitting_front width used (chars shown))) < length shown = omega (arith, c.if-len-shown.true, c.fill-len.ensures.len) in
     let stop = stops-in width used shown rest c.text-shown.utf8 (some-left width used shown c.text-shown.utf8 short) in
-    let kept = ap (λ cs. length (encode_utf8_all (front width used cs))) step ∙ ap (λ cs. length (encode_utf8_all cs)) stop.kept in
+    let kept = ap (λ cs. length (encode_utf8_all (fitting_front width used cs))) step ∙ ap (λ cs. length (encode_utf8_all cs)) stop.kept in
     omega (arith, kept, c.loop-block.invariant.place, c.fill-len.ensures.len)
 
 pub returns-then-len-shown-clause-left : goal.returns-then-len-shown-clause-left
@@ -61,7 +61,7 @@ returns-then-len-shown-clause-left c =
     let shown = c.text-shown.result.now in
     let rest = flat_map text_of_block c.next.new.self in
     let step = ap chars (ap (flat_map text_of_block) c.in-Some-block.ensures.steps ∙ ap (λ bytes. bytes ++ rest) (sym c.text-shown.ensures)) in
-    let short : length (encode_utf8_all (front width used (chars shown))) < length shown = omega (arith, c.if-len-shown.true, c.fill-len.ensures.len) in
+    let short : length (encode_utf8_all (fitting_front width used (chars shown))) < length shown = omega (arith, c.if-len-shown.true, c.fill-len.ensures.len) in
     let stop = stops-in width used shown rest c.text-shown.utf8 (some-left width used shown c.text-shown.utf8 short) in
     let columns = c.fill-len.ensures.columns ∙ sym stop.columns ∙ sym (ap (front_columns width used) step) ∙ c.loop-block.invariant.columns in
     let some = subst (λ left. 0 < length left) (sym (ap (behind_front width used) step) ∙ c.loop-block.invariant.left) stop.some in
@@ -74,10 +74,10 @@ loop-block-preserved c =
     let shown = c.text-shown.result.now in
     let rest = flat_map text_of_block c.next.new.self in
     let step = ap chars (ap (flat_map text_of_block) c.in-Some-block.ensures.steps ∙ ap (λ bytes. bytes ++ rest) (sym c.text-shown.ensures)) in
-    let long : length shown ≤ length (encode_utf8_all (front width used (chars shown))) = omega (arith, c.if-len-shown.false, c.fill-len.ensures.len) in
+    let long : length shown ≤ length (encode_utf8_all (fitting_front width used (chars shown))) = omega (arith, c.if-len-shown.false, c.fill-len.ensures.len) in
     let on = fits-on width used shown rest c.text-shown.utf8 (all-fit width used shown c.text-shown.utf8 long) in
     let columns = sym c.fill-len.ensures.columns in
-    let len = ap (λ cs. length (encode_utf8_all (front width used cs))) step ∙ on.len ∙ ap (λ n. length (encode_utf8_all (front width used (chars shown))) + length (encode_utf8_all (front width n (chars rest)))) columns in
+    let len = ap (λ cs. length (encode_utf8_all (fitting_front width used cs))) step ∙ on.len ∙ ap (λ n. length (encode_utf8_all (fitting_front width used (chars shown))) + length (encode_utf8_all (fitting_front width n (chars rest)))) columns in
     record {
       goes = search rules;
       fits = c.fill-len.ensures.fits;
@@ -88,7 +88,7 @@ loop-block-preserved c =
 
 pub returns-clause-place : goal.returns-clause-place
 returns-clause-place c =
-    let none = ap (λ (blocks : List Block). length (encode_utf8_all (front c.args.width c.loop-block.used (chars (flat_map text_of_block blocks))))) c.in-None.ensures.steps.0 ∙ ap (λ cs. length (encode_utf8_all (front c.args.width c.loop-block.used cs))) chars-nil in
+    let none = ap (λ (blocks : List Block). length (encode_utf8_all (fitting_front c.args.width c.loop-block.used (chars (flat_map text_of_block blocks))))) c.in-None.ensures.steps.0 ∙ ap (λ cs. length (encode_utf8_all (fitting_front c.args.width c.loop-block.used cs))) chars-nil in
     omega (arith, none, c.loop-block.invariant.place)
 
 pub returns-clause-left : goal.returns-clause-left

@@ -6,22 +6,22 @@ use Rattle.grid_records_traits.specs.Sources.{texts_of_rows}
 use Rattle.tabled_compact.specs.Tables.{kept_of}
 use Rattle.tabled_iter.specs.Content.{heights_or, widths_or}
 use Rattle.tabled_iter.specs.Padded.{Passes}
-use Rattle.tabled_size_dimension.specs.Sizes.{Sizes, size_at}
+use Rattle.tabled_size_dimension.specs.Sizes.{GivenSizes, given_size}
 use Rattle.tabled_iter.proofs.Shapes.{kept-map}
 use Rattle.tabled_iter.proofs.layout.layout_of.Goals as goal
 
 -- the heights of the texts that are kept
-kept_heights : (height width : Option ℕ) (columns : ℕ) (kept : Option ℕ) (all few : List (List (List ℕ))) (heights : Sizes) →
+kept_heights : (height width : Option ℕ) (columns : ℕ) (kept : Option ℕ) (all few : List (List (List ℕ))) (heights : GivenSizes) →
     heights ≡ heights_or height width columns few → few ≡ kept_of kept all → heights ≡ heights_or height width columns (kept_of kept all)
 kept_heights height width columns kept all few heights is same = is ∙ ap (heights_or height width columns) same
 
 -- a refusal by sizes that have other names
-wide_refused : (fault : Fault) (more other : ℕ) (found widths heights : Sizes) → found ≡ widths → (fault ≡ Memory) ⊎ ((fault ≡ PassesMax) × Passes more found) →
+wide_refused : (fault : Fault) (more other : ℕ) (found widths heights : GivenSizes) → found ≡ widths → (fault ≡ Memory) ⊎ ((fault ≡ PassesMax) × Passes more found) →
     (fault ≡ Memory) ⊎ ((fault ≡ PassesMax) × (Passes more widths ⊎ Passes other heights))
 wide_refused fault more other found widths heights same (inl memory) = inl memory
 wide_refused fault more other found widths heights same (inr range) = inr (range.0, inl (subst (Passes more) same range.1))
 
-high_refused : (fault : Fault) (more other : ℕ) (found widths heights : Sizes) → found ≡ heights → (fault ≡ Memory) ⊎ ((fault ≡ PassesMax) × Passes other found) →
+high_refused : (fault : Fault) (more other : ℕ) (found widths heights : GivenSizes) → found ≡ heights → (fault ≡ Memory) ⊎ ((fault ≡ PassesMax) × Passes other found) →
     (fault ≡ Memory) ⊎ ((fault ≡ PassesMax) × (Passes more widths ⊎ Passes other heights))
 high_refused fault more other found widths heights same (inl memory) = inl memory
 high_refused fault more other found widths heights same (inr range) = inr (range.0, inr (subst (Passes other) same range.1))
@@ -49,7 +49,7 @@ pub returns-clause-high : goal.returns-clause-high
 returns-clause-high g c =
     let texts = texts_of_rows g.C.Cell.text c.args.sniffed.now in
     let more : ℕ = c.args.padding.top.size + c.args.padding.bottom.size in
-    λ k. ap (λ (pair : Sizes × Sizes). size_at pair.1 k) c.new-2.ensures ∙ c.in_ok-high.ensures.sums k
-    ∙ ap (λ (sizes : Sizes). size_at sizes k + more)
+    λ k. ap (λ (pair : GivenSizes × GivenSizes). given_size pair.1 k) c.new-2.ensures ∙ c.in_ok-high.ensures.sums k
+    ∙ ap (λ (sizes : GivenSizes). given_size sizes k + more)
     (kept_heights c.args.shape.height c.args.shape.width c.args.columns c.args.shape.kept texts _ _ c.in_ok-heights.ensures
     (ap (texts_of_rows g.C.Cell.text) c.first_kept-kept.ensures ∙ sym (kept-map _ c.args.shape.kept c.args.sniffed.now)))

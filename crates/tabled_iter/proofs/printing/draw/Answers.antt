@@ -11,15 +11,15 @@ use Rattle.grid_records_rows.specs.Truncating.{truncated_rows}
 use Rattle.grid_records_traits.specs.Rows.{fitted}
 use Rattle.papergrid.specs.Grids.{grid_text}
 use Rattle.papergrid.proofs.Flat.{answer-good, none_good}
-use Rattle.papergrid.specs.Tables.{Fits, IsFitsAnswer, table_frame}
+use Rattle.papergrid.specs.Tables.{CanBeDrawn, IsFitsAnswer, table_frame}
 use Rattle.tabled_compact.specs.Tables.{kept_of, no_colors}
 use Rattle.tabled_iter.specs.Drawing.{IsDrawn}
-use Rattle.tabled_size_dimension.specs.Sizes.{Sizes, size_at}
+use Rattle.tabled_size_dimension.specs.Sizes.{GivenSizes, given_size}
 use Rattle.tabled_iter.proofs.printing.draw.Goals as goal
 
 -- a grid that fits is drawn
-drawn_ok : (settings : Settings) (sizes : Sizes × Sizes) (columns : ℕ) (rows : List (List (List ℕ))) (result : Result (Unit {0}) Fault) →
-    OnOk result (Fits settings (size_at sizes.0) (size_at sizes.1) columns rows) → IfOk result (λ done. IsDrawn (look_of settings) sizes columns rows (Ok done))
+drawn_ok : (settings : Settings) (sizes : GivenSizes × GivenSizes) (columns : ℕ) (rows : List (List (List ℕ))) (result : Result (Unit {0}) Fault) →
+    OnOk result (CanBeDrawn settings (given_size sizes.0) (given_size sizes.1) columns rows) → IfOk result (λ done. IsDrawn (look_of settings) sizes columns rows (Ok done))
 drawn_ok settings sizes columns rows (Ok done) fits = (tt, fits.range, fits.room)
 drawn_ok settings sizes columns rows (Err _) _ = tt
 
@@ -27,9 +27,9 @@ pub returns-clause-text : goal.returns-clause-text
 returns-clause-text g c =
     let compact : Compact = compact_of c.args.config.now in
     let same : look_of c.in_ok-settings.settings ≡ compact_look compact = same_look compact c.in_ok-settings.settings c.in_ok-settings.ensures.settings in
-    let shown = fitted c.args.columns (truncated_rows (size_at c.args.layout.content.0) (kept_of c.args.kept (g.I.RecordTexts.rows c.args.rows))) in
+    let shown = fitted c.args.columns (truncated_rows (given_size c.args.layout.content.0) (kept_of c.args.kept (g.I.RecordTexts.rows c.args.rows))) in
     subst (λ (look : Look). OnOk c.draw_kept-outcome.result (string_bytes c.draw_kept-outcome.new.out ≡ string_bytes c.args.out.now
-    ++ grid_text look (size_at c.args.layout.sizes.0) (size_at c.args.layout.sizes.1) no_colors c.args.columns shown))
+    ++ grid_text look (given_size c.args.layout.sizes.0) (given_size c.args.layout.sizes.1) no_colors c.args.columns shown))
     same c.draw_kept-outcome.ensures.text
 
 pub returns-clause-fits : goal.returns-clause-fits
@@ -37,7 +37,7 @@ returns-clause-fits g c =
     let compact : Compact = compact_of c.args.config.now in
     let settings : Settings = c.in_ok-settings.settings in
     let same : look_of settings ≡ compact_look compact = same_look compact settings c.in_ok-settings.ensures.settings in
-    let shown = fitted c.args.columns (truncated_rows (size_at c.args.layout.content.0) (kept_of c.args.kept (g.I.RecordTexts.rows c.args.rows))) in
+    let shown = fitted c.args.columns (truncated_rows (given_size c.args.layout.content.0) (kept_of c.args.kept (g.I.RecordTexts.rows c.args.rows))) in
     subst (λ (look : Look). IfOk c.draw_kept-outcome.result (λ done. IsDrawn look c.args.layout.sizes c.args.columns shown (Ok done))) same
     (drawn_ok settings c.args.layout.sizes c.args.columns shown c.draw_kept-outcome.result c.draw_kept-outcome.ensures.fits)
 
@@ -46,12 +46,12 @@ returns-clause-fault g c =
     let compact : Compact = compact_of c.args.config.now in
     let settings : Settings = c.in_ok-settings.settings in
     let same : look_of settings ≡ compact_look compact = same_look compact settings c.in_ok-settings.ensures.settings in
-    let shown = fitted c.args.columns (truncated_rows (size_at c.args.layout.content.0) (kept_of c.args.kept (g.I.RecordTexts.rows c.args.rows))) in
+    let shown = fitted c.args.columns (truncated_rows (given_size c.args.layout.content.0) (kept_of c.args.kept (g.I.RecordTexts.rows c.args.rows))) in
     let Good = AreGood settings.spans (length shown) c.args.columns in
     let good : Good = subst (λ spans. AreGood spans (length shown) c.args.columns) (sym c.in_ok-settings.ensures.settings.spans) (none_good (length shown) c.args.columns) in
-    let frame = table_frame settings (size_at c.args.layout.sizes.0) (size_at c.args.layout.sizes.1) c.args.columns shown in
+    let frame = table_frame settings (given_size c.args.layout.sizes.0) (given_size c.args.layout.sizes.1) c.args.columns shown in
     subst (λ (look : Look). IfErr c.draw_kept-outcome.result (λ fault. (fault ≡ Memory) ⊎ IsDrawn look c.args.layout.sizes c.args.columns shown (Err fault))) same
-    (IfErr-weaker c.draw_kept-outcome.result (λ fault. (fault ≡ Memory) ⊎ IsFitsAnswer settings (size_at c.args.layout.sizes.0) (size_at c.args.layout.sizes.1) c.args.columns shown (Err fault))
+    (IfErr-weaker c.draw_kept-outcome.result (λ fault. (fault ≡ Memory) ⊎ IsFitsAnswer settings (given_size c.args.layout.sizes.0) (given_size c.args.layout.sizes.1) c.args.columns shown (Err fault))
     (λ fault. (fault ≡ Memory) ⊎ IsDrawn (look_of settings) c.args.layout.sizes c.args.columns shown (Err fault))
     (λ fault told. elim told [
       | inl memory ↦ inl memory

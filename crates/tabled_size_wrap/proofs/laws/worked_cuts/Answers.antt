@@ -7,7 +7,7 @@ use Rattle.ucd_table.specs.Rows.{value_in}
 use Rattle.unicode_width.specs.Kind.{kind as width_kind, named_kind, named_rows}
 use Rattle.unicode_width.specs.Width.{alone, char_width, past_emoji, step, str_width}
 use Rattle.ansi_scan.specs.declared.items.Kind.TheVariants.{Text, Sgr}
-use Rattle.ansi_scan.specs.Pieces.{pieces, first_pieces, front as pieces_front, at_escape, sequence_front, opened, control_from, string_from, escape_from}
+use Rattle.ansi_scan.specs.Pieces.{pieces, first_pieces, leading_piece as pieces_front, at_escape, sequence_front, opened, control_from, string_from, escape_from}
 use Rattle.ansi_scan.specs.Attributes.{plain_attributes}
 use Rattle.ansi_scan.specs.Rendition.{applied, after_parameters}
 use Rattle.ansi_scan.specs.StartsAndEnds.{start_bytes, start_sequences, end_bytes, end_sequences}
@@ -15,7 +15,7 @@ use Rattle.ansi_str_search.specs.PartsLeft.{first_match}
 use Rattle.ansi_str_search.proofs.MatchLists.{matches_from}
 use Rattle.ansi_str.specs.Cuts.{cut_part}
 use Rattle.grid_records_measure.specs.Cutting.{replacement}
-use Rattle.tabled_size_wrap.proofs.WorkedLemmas.{cuts-worked, wide-behind, wide-columns, wide-front}
+use Rattle.tabled_size_wrap.proofs.WorkedLemmas.{cuts-worked, wide-behind, wide-columns, wide-fitting_front}
 use Rattle.tabled_size_wrap.proofs.laws.worked_cuts.Goals as goal
 
 pub returns-clause-all_sequences : goal.returns-clause-all_sequences
@@ -72,5 +72,5 @@ returns-clause-mark c =
     let text = encode_utf8_all cs in
     let ps = record { kind = Text; bytes = text } ∷ [] in
     let others = codes "😳😳😳😳" in
-    cuts-worked 3 text (encode_utf8_all (codes "😳�")) ps cs (codes "😳") others refl refl refl (wide-front (codes "😳😳😳")) (wide-behind (codes "😳😳😳"))
+    cuts-worked 3 text (encode_utf8_all (codes "😳�")) ps cs (codes "😳") others refl refl refl (wide-fitting_front (codes "😳😳😳")) (wide-behind (codes "😳😳😳"))
     (ap (λ n. cut_part 0 4 ps ++ encode_utf8_all (replicate (3 - n) replacement)) wide-columns)

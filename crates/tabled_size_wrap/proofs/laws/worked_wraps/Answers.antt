@@ -7,7 +7,7 @@ use Rattle.ucd_table.specs.Rows.{value_in}
 use Rattle.unicode_width.specs.Kind.{kind as width_kind, named_kind, named_rows}
 use Rattle.unicode_width.specs.Width.{alone, char_width, past_emoji, step, str_width}
 use Rattle.ansi_scan.specs.declared.items.Kind.TheVariants.{Text, Sgr}
-use Rattle.ansi_scan.specs.Pieces.{pieces, first_pieces, front as pieces_front, at_escape, sequence_front, opened, control_from, string_from, escape_from}
+use Rattle.ansi_scan.specs.Pieces.{pieces, first_pieces, leading_piece as pieces_front, at_escape, sequence_front, opened, control_from, string_from, escape_from}
 use Rattle.ansi_scan.specs.Attributes.{plain_attributes}
 use Rattle.ansi_scan.specs.Rendition.{applied, after_parameters}
 use Rattle.ansi_scan.specs.StartsAndEnds.{start_bytes, start_sequences, end_bytes, end_sequences}

@@ -1,7 +1,7 @@
 use Rattle.std.proofs.lemmas.List.Elements.{All-same}
 use Rattle.grid_config_values.specs.Entities.{covered_positions}
 use Rattle.std.proofs.Common.{length}
-use Rattle.grid_records_traits.specs.Rows.{IsInside}
+use Rattle.grid_records_traits.specs.Rows.{HasCell}
 use Rattle.grid_records_traits.specs.Sources.{texts_of_rows}
 use Rattle.tabled_steps.specs.Changes.{Change, changes}
 use Rattle.tabled_steps.specs.States.{column_count}
@@ -13,5 +13,5 @@ set_all-requires g c =
     let text = g.T.Cell.text in
     let changed = g.X.TextChange.changed c.args.change.now in
     let rows = texts_of_rows text c.args.records.now.rows.items in
-    All-same (λ (it : Change). IsInside rows it.0) c.in_ok-found.found.items (changes changed rows (covered_positions c.args.entity (length rows) (column_count rows))) c.in_ok-found.ensures
+    All-same (λ (it : Change). HasCell rows it.0) c.in_ok-found.found.items (changes changed rows (covered_positions c.args.entity (length rows) (column_count rows))) c.in_ok-found.ensures
     (changes_inside text changed c.args.records.now.rows.items c.args.entity c.args.records.now.equally_long)

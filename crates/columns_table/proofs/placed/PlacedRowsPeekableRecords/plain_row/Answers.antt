@@ -1,7 +1,7 @@
 use Rattle.std.proofs.Common.{◌≤◌, All, length, map, ap, sym, subst, ◌∙◌, arith}
 use Rattle.grid_records_traits.specs.PlainRows.{texts_at}
 use Rattle.grid_records_traits.proofs.StartLemmas.{length-texts_at}
-use Rattle.columns_table.specs.Records.{IsMeasured}
+use Rattle.columns_table.specs.Records.{KeepsWidth}
 use Rattle.columns_table.proofs.CellLemmas.{plain-cells, texts-cells}
 use Rattle.columns_table.proofs.PlacedLemmas.{row-keeps, row-texts}
 use Rattle.columns_table.proofs.placed.PlacedRowsPeekableRecords.plain_row.Goals as goal
@@ -13,7 +13,7 @@ new-requires-clause-plain c =
     let texts = texts_at cells.text.now cells.starts.now in
     let within : length cells.widths.now ≤ length texts = omega (arith, cells.within, length-texts_at cells.text.now cells.starts.now) in
     plain-cells cells.widths.now texts within
-    (subst (All IsMeasured) (sym c.row-cells.ensures) (row-keeps IsMeasured rows.starts.items rows.cells c.args.row rows.measured))
+    (subst (All KeepsWidth) (sym c.row-cells.ensures) (row-keeps KeepsWidth rows.starts.items rows.cells c.args.row rows.measured))
 
 pub returns : goal.returns
 returns c =

@@ -5,7 +5,7 @@ use Rattle.grid_config.specs.Looks.{look_of}
 use Rattle.grid_records_rows.specs.Sources.{columns_of}
 use Rattle.grid_records_traits.specs.Sources.{texts_of_rows}
 use Rattle.papergrid.specs.Grids.{grid_text}
-use Rattle.tabled_size_dimension.specs.Sizes.{size_at}
+use Rattle.tabled_size_dimension.specs.Sizes.{given_size}
 use Rattle.tabled_size_dimension.specs.Stored.{stored_sizes}
 use Rattle.tabled_steps.proofs.Changing.{count_texts}
 use Rattle.tabled.specs.Printing.{printed}
@@ -27,7 +27,7 @@ returns-clause-text g c =
     let table = c.args.self.now in
     let config = c.args.config.now in
     let rows = table.records.rows.items in
-    let same : grid_text (look_of c.new.result.settings.now) (size_at (stored_sizes c.new.result.sizes.widths)) (size_at (stored_sizes c.new.result.sizes.heights)) (value_at c.new.result.colors.now)
+    let same : grid_text (look_of c.new.result.settings.now) (given_size (stored_sizes c.new.result.sizes.widths)) (given_size (stored_sizes c.new.result.sizes.heights)) (value_at c.new.result.colors.now)
     (columns_of c.new.result.records.now.rows.items) (texts_of_rows g.T.Cell.text c.new.result.records.now.rows.items) ≡ printed (state_under g.T.Cell.text table config) =
     rw (c.new.ensures, c.get_colors.ensures)
     (is_printed config (texts_of_rows g.T.Cell.text rows) (value_at table.config.colors) table.dimension config c.in_ok-sizes.sizes (columns_of rows)

@@ -11,7 +11,7 @@ use Rattle.papergrid_fits.specs.Tables.{table_frame}
 use Rattle.papergrid_picture.specs.Frame.{line_count}
 use Rattle.tabled_output.specs.Pieces.{HasBegun, HasPassed, HasStopped}
 use Rattle.tabled_output.proofs.PieceLemmas.{begun-front, passed-front, passes-err, passes-last, passes-none, passes-ok, passes-refused, stopped-front}
-use Rattle.tabled_size_dimension.specs.Sizes.{size_at}
+use Rattle.tabled_size_dimension.specs.Sizes.{given_size}
 use Rattle.tabled_size_dimension.specs.Stored.{stored_sizes}
 use Rattle.tabled_steps.proofs.Changing.{count_texts}
 use Rattle.tabled.specs.Printing.{printed}
@@ -54,7 +54,7 @@ returns-in_err-fault-clause-text g c =
     let drawn = state_under g.T.Cell.text table config in
     let whole = ended_text drawn in
     let end = (if drawn_height drawn == 0 then [] else line_feed ∷ []) in
-    let grid = (grid_text (look_of c.new-grid.result.settings.now) (size_at (stored_sizes c.new-grid.result.sizes.widths)) (size_at (stored_sizes c.new-grid.result.sizes.heights)) (value_at c.new-grid.result.colors.now) (columns_of c.new-grid.result.records.now.rows.items) (texts_of_rows g.T.Cell.text c.new-grid.result.records.now.rows.items)) in
+    let grid = (grid_text (look_of c.new-grid.result.settings.now) (given_size (stored_sizes c.new-grid.result.sizes.widths)) (given_size (stored_sizes c.new-grid.result.sizes.heights)) (value_at c.new-grid.result.colors.now) (columns_of c.new-grid.result.records.now.rows.items) (texts_of_rows g.T.Cell.text c.new-grid.result.records.now.rows.items)) in
     let same : grid ≡ printed drawn =
     rw (c.new-grid.ensures, c.get_colors.ensures)
     (is_printed config (texts_of_rows g.T.Cell.text rows) (value_at table.config.colors) table.dimension config c.in_ok-sizes.sizes (columns_of rows)
@@ -73,7 +73,7 @@ returns-in-Err-clause-text g c =
     let drawn = state_under g.T.Cell.text table config in
     let whole = ended_text drawn in
     let end = (if drawn_height drawn == 0 then [] else line_feed ∷ []) in
-    let grid = (grid_text (look_of c.new-grid.result.settings.now) (size_at (stored_sizes c.new-grid.result.sizes.widths)) (size_at (stored_sizes c.new-grid.result.sizes.heights)) (value_at c.new-grid.result.colors.now) (columns_of c.new-grid.result.records.now.rows.items) (texts_of_rows g.T.Cell.text c.new-grid.result.records.now.rows.items)) in
+    let grid = (grid_text (look_of c.new-grid.result.settings.now) (given_size (stored_sizes c.new-grid.result.sizes.widths)) (given_size (stored_sizes c.new-grid.result.sizes.heights)) (value_at c.new-grid.result.colors.now) (columns_of c.new-grid.result.records.now.rows.items) (texts_of_rows g.T.Cell.text c.new-grid.result.records.now.rows.items)) in
     let same : grid ≡ printed drawn =
     rw (c.new-grid.ensures, c.get_colors.ensures)
     (is_printed config (texts_of_rows g.T.Cell.text rows) (value_at table.config.colors) table.dimension config c.in_ok-sizes.sizes (columns_of rows)
@@ -92,14 +92,14 @@ returns-then-lines-eq0-clause-text g c =
     let drawn = state_under g.T.Cell.text table config in
     let whole = ended_text drawn in
     let end = (if drawn_height drawn == 0 then [] else line_feed ∷ []) in
-    let grid = (grid_text (look_of c.new-grid.result.settings.now) (size_at (stored_sizes c.new-grid.result.sizes.widths)) (size_at (stored_sizes c.new-grid.result.sizes.heights)) (value_at c.new-grid.result.colors.now) (columns_of c.new-grid.result.records.now.rows.items) (texts_of_rows g.T.Cell.text c.new-grid.result.records.now.rows.items)) in
+    let grid = (grid_text (look_of c.new-grid.result.settings.now) (given_size (stored_sizes c.new-grid.result.sizes.widths)) (given_size (stored_sizes c.new-grid.result.sizes.heights)) (value_at c.new-grid.result.colors.now) (columns_of c.new-grid.result.records.now.rows.items) (texts_of_rows g.T.Cell.text c.new-grid.result.records.now.rows.items)) in
     let same : grid ≡ printed drawn =
     rw (c.new-grid.ensures, c.get_colors.ensures)
     (is_printed config (texts_of_rows g.T.Cell.text rows) (value_at table.config.colors) table.dimension config c.in_ok-sizes.sizes (columns_of rows)
     refl c.in_ok-sizes.ensures.sizes (sym (count_texts g.T.Cell.text rows))) in
     let passed = passed-front K (printed drawn) [] end whole a b refl
     (subst (λ text. HasPassed K text [] a b) same (passes-ok K AllocError grid [] c.in_ok-fault.field-0 c.in_default.field-0 a b c.in_default.is c.in_ok-fault.ensures)) in
-    let counted : line_count (table_frame c.new-grid.result.settings.now (size_at (stored_sizes c.new-grid.result.sizes.widths)) (size_at (stored_sizes c.new-grid.result.sizes.heights)) (columns_of c.new-grid.result.records.now.rows.items) (texts_of_rows g.T.Cell.text c.new-grid.result.records.now.rows.items)) ≡ drawn_height drawn =
+    let counted : line_count (table_frame c.new-grid.result.settings.now (given_size (stored_sizes c.new-grid.result.sizes.widths)) (given_size (stored_sizes c.new-grid.result.sizes.heights)) (columns_of c.new-grid.result.records.now.rows.items) (texts_of_rows g.T.Cell.text c.new-grid.result.records.now.rows.items)) ≡ drawn_height drawn =
     rw c.new-grid.ensures (lines_drawn config (texts_of_rows g.T.Cell.text rows) (value_at table.config.colors) table.dimension c.in_ok-sizes.sizes (columns_of rows) c.in_ok-sizes.ensures.sizes (sym (count_texts g.T.Cell.text rows))) in
     let lines : c.lines.result ≡ drawn_height drawn = c.lines.ensures ∙ counted in
     let none : drawn_height drawn ≡ 0 = omega (arith, lines, c.if-lines-eq0.true) in
@@ -116,14 +116,14 @@ returns-clause-text g c =
     let drawn = state_under g.T.Cell.text table config in
     let whole = ended_text drawn in
     let end = (if drawn_height drawn == 0 then [] else line_feed ∷ []) in
-    let grid = (grid_text (look_of c.new-grid.result.settings.now) (size_at (stored_sizes c.new-grid.result.sizes.widths)) (size_at (stored_sizes c.new-grid.result.sizes.heights)) (value_at c.new-grid.result.colors.now) (columns_of c.new-grid.result.records.now.rows.items) (texts_of_rows g.T.Cell.text c.new-grid.result.records.now.rows.items)) in
+    let grid = (grid_text (look_of c.new-grid.result.settings.now) (given_size (stored_sizes c.new-grid.result.sizes.widths)) (given_size (stored_sizes c.new-grid.result.sizes.heights)) (value_at c.new-grid.result.colors.now) (columns_of c.new-grid.result.records.now.rows.items) (texts_of_rows g.T.Cell.text c.new-grid.result.records.now.rows.items)) in
     let same : grid ≡ printed drawn =
     rw (c.new-grid.ensures, c.get_colors.ensures)
     (is_printed config (texts_of_rows g.T.Cell.text rows) (value_at table.config.colors) table.dimension config c.in_ok-sizes.sizes (columns_of rows)
     refl c.in_ok-sizes.ensures.sizes (sym (count_texts g.T.Cell.text rows))) in
     let passed = passed-front K (printed drawn) [] end whole a b refl
     (subst (λ text. HasPassed K text [] a b) same (passes-ok K AllocError grid [] c.in_ok-fault.field-0 c.in_default.field-0 a b c.in_default.is c.in_ok-fault.ensures)) in
-    let counted : line_count (table_frame c.new-grid.result.settings.now (size_at (stored_sizes c.new-grid.result.sizes.widths)) (size_at (stored_sizes c.new-grid.result.sizes.heights)) (columns_of c.new-grid.result.records.now.rows.items) (texts_of_rows g.T.Cell.text c.new-grid.result.records.now.rows.items)) ≡ drawn_height drawn =
+    let counted : line_count (table_frame c.new-grid.result.settings.now (given_size (stored_sizes c.new-grid.result.sizes.widths)) (given_size (stored_sizes c.new-grid.result.sizes.heights)) (columns_of c.new-grid.result.records.now.rows.items) (texts_of_rows g.T.Cell.text c.new-grid.result.records.now.rows.items)) ≡ drawn_height drawn =
     rw c.new-grid.ensures (lines_drawn config (texts_of_rows g.T.Cell.text rows) (value_at table.config.colors) table.dimension c.in_ok-sizes.sizes (columns_of rows) c.in_ok-sizes.ensures.sizes (sym (count_texts g.T.Cell.text rows))) in
     let lines : c.lines.result ≡ drawn_height drawn = c.lines.ensures ∙ counted in
     let some : drawn_height drawn ≢ 0 = λ none. omega (arith, lines, none, c.if-lines-eq0.false) in

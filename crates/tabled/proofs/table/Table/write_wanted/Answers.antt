@@ -8,7 +8,7 @@ use Rattle.grid_records_traits.specs.Sources.{texts_of_rows}
 use Rattle.papergrid.specs.GridParts.{wanted_text}
 use Rattle.tabled_output.specs.Pieces.{HasBegun, Passes}
 use Rattle.tabled_output.proofs.PieceLemmas.{passes-answered, passes-none, passes-refused}
-use Rattle.tabled_size_dimension.specs.Sizes.{size_at}
+use Rattle.tabled_size_dimension.specs.Sizes.{given_size}
 use Rattle.tabled_size_dimension.specs.Stored.{stored_sizes}
 use Rattle.tabled_steps.proofs.Changing.{count_texts}
 use Rattle.tabled.specs.Tables.{state_under}
@@ -36,7 +36,7 @@ returns-in_err-write_lines-clause-text g c =
     let config = c.args.config.now in
     let rows = table.records.rows.items in
     let wants = g.K.Wanted.wants c.args.wanted.now in
-    let same : wanted_text (look_of c.new-grid.result.settings.now) (size_at (stored_sizes c.new-grid.result.sizes.widths)) (size_at (stored_sizes c.new-grid.result.sizes.heights)) (value_at c.new-grid.result.colors.now)
+    let same : wanted_text (look_of c.new-grid.result.settings.now) (given_size (stored_sizes c.new-grid.result.sizes.widths)) (given_size (stored_sizes c.new-grid.result.sizes.heights)) (value_at c.new-grid.result.colors.now)
     (columns_of c.new-grid.result.records.now.rows.items) (texts_of_rows g.T.Cell.text c.new-grid.result.records.now.rows.items) wants ≡ wanted_lines wants (state_under g.T.Cell.text table config) =
     rw (c.new-grid.ensures, c.get_colors.ensures)
     (are_wanted config (texts_of_rows g.T.Cell.text rows) (value_at table.config.colors) table.dimension config c.in_ok-sizes.sizes (columns_of rows)
@@ -50,7 +50,7 @@ returns-clause-text g c =
     let config = c.args.config.now in
     let rows = table.records.rows.items in
     let wants = g.K.Wanted.wants c.args.wanted.now in
-    let same : wanted_text (look_of c.new-grid.result.settings.now) (size_at (stored_sizes c.new-grid.result.sizes.widths)) (size_at (stored_sizes c.new-grid.result.sizes.heights)) (value_at c.new-grid.result.colors.now)
+    let same : wanted_text (look_of c.new-grid.result.settings.now) (given_size (stored_sizes c.new-grid.result.sizes.widths)) (given_size (stored_sizes c.new-grid.result.sizes.heights)) (value_at c.new-grid.result.colors.now)
     (columns_of c.new-grid.result.records.now.rows.items) (texts_of_rows g.T.Cell.text c.new-grid.result.records.now.rows.items) wants ≡ wanted_lines wants (state_under g.T.Cell.text table config) =
     rw (c.new-grid.ensures, c.get_colors.ensures)
     (are_wanted config (texts_of_rows g.T.Cell.text rows) (value_at table.config.colors) table.dimension config c.in_ok-sizes.sizes (columns_of rows)

@@ -1,13 +1,13 @@
 use Rattle.std.proofs.Common.{◌≡◌, ◌+◌, ℕ, ◌++◌, [], ◌∷◌, ap, sym, ◌∙◌, arith}
 use Rattle.std.proofs.lemmas.List.FromFn.{map-range_with_len_more}
 use Rattle.papergrid_picture.specs.Tables.{sizes_of}
-use Rattle.tabled_size_dimension.specs.Sizes.{size_at}
+use Rattle.tabled_size_dimension.specs.Sizes.{given_size}
 use Rattle.tabled_size_dimension.specs.Stored.{stored_sizes}
 use Rattle.tabled.proofs.table.totals.first_heights.Goals as goal
 
 pub loop-row-preserved : goal.loop-row-preserved
 loop-row-preserved c =
-    let size : ℕ → ℕ = size_at (stored_sizes c.args.sizes.now.heights) in
+    let size : ℕ → ℕ = given_size (stored_sizes c.args.sizes.now.heights) in
     let place : 0 + c.loop-row.row ≡ c.loop-row.row = omega arith in
     c.in_ok-push.ensures.items ∙ ap (λ xs. xs ++ c.get_height.result ∷ []) c.loop-row.invariant
     ∙ ap (λ n. sizes_of size c.loop-row.row ++ n ∷ []) c.get_height.ensures ∙ sym (map-range_with_len_more size 0 c.loop-row.row c.loop-row.row place)

@@ -1,13 +1,13 @@
 use Rattle.std.proofs.Common.{◌≡◌, ◌+◌, ℕ, ◌++◌, [], ◌∷◌, ap, sym, ◌∙◌, arith}
 use Rattle.std.proofs.lemmas.List.FromFn.{map-range_with_len_more}
 use Rattle.papergrid_picture.specs.Tables.{sizes_of}
-use Rattle.tabled_size_dimension.specs.Sizes.{size_at}
+use Rattle.tabled_size_dimension.specs.Sizes.{given_size}
 use Rattle.tabled_size_dimension.specs.Stored.{stored_sizes}
 use Rattle.tabled.proofs.table.totals.first_widths.Goals as goal
 
 pub loop-column-preserved : goal.loop-column-preserved
 loop-column-preserved c =
-    let size : ℕ → ℕ = size_at (stored_sizes c.args.sizes.now.widths) in
+    let size : ℕ → ℕ = given_size (stored_sizes c.args.sizes.now.widths) in
     let place : 0 + c.loop-column.column ≡ c.loop-column.column = omega arith in
     c.in_ok-push.ensures.items ∙ ap (λ xs. xs ++ c.get_width.result ∷ []) c.loop-column.invariant
     ∙ ap (λ n. sizes_of size c.loop-column.column ++ n ∷ []) c.get_width.ensures ∙ sym (map-range_with_len_more size 0 c.loop-column.column c.loop-column.column place)

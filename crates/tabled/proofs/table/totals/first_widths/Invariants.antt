@@ -1,8 +1,8 @@
 use Rattle.std.proofs.Common.{◌≡◌}
 use Rattle.papergrid_picture.specs.Tables.{sizes_of}
-use Rattle.tabled_size_dimension.specs.Sizes.{size_at}
+use Rattle.tabled_size_dimension.specs.Sizes.{given_size}
 use Rattle.tabled_size_dimension.specs.Stored.{stored_sizes}
 use Rattle.tabled.proofs.table.totals.first_widths.Given as goal
 
 abbrev pub invariant-loop-column : goal.invariant-loop-column
-invariant-loop-column l = l.widths.items ≡ sizes_of (size_at (stored_sizes l.sizes.widths)) l.column
+invariant-loop-column l = l.widths.items ≡ sizes_of (given_size (stored_sizes l.sizes.widths)) l.column

@@ -1,6 +1,6 @@
 -- The widths are a list, whose sizes are read by their number.
 use Rattle.std.proofs.Common.{List, ap, slice_index, ◌∙◌, ℕ}
-use Rattle.tabled_size_dimension.specs.Sizes.{size_at}
+use Rattle.tabled_size_dimension.specs.Sizes.{given_size}
 use Rattle.tabled_size_dimension.specs.Values.{const_sizes}
 use Rattle.tabled_size_dimension.specs.declared.const_size.ConstSize.{ConstSize}
 use Rattle.tabled_compact.specs.Tables.{Compacted, begun}
@@ -12,5 +12,5 @@ returns g c =
     c.columns.ensures
     ∙ ap (λ (table : Compacted). record table { columns = g.row.COLUMNS }) (
     c.with_dimension.ensures
-    ∙ ap (λ (sizes : ConstSize _ × ConstSize _). begun rows (size_at (const_sizes sizes.0))) c.new-dimension.ensures
+    ∙ ap (λ (sizes : ConstSize _ × ConstSize _). begun rows (given_size (const_sizes sizes.0))) c.new-dimension.ensures
     ∙ ap (λ (widths : List ℕ). begun rows (slice_index widths)) c.spaced_widths.ensures)
