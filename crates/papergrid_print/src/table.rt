@@ -19,7 +19,7 @@ ghost use Rattle.papergrid_cells.specs.Flat.{AreFlat, AreFlatRows, AreMadeFor, H
 ghost use Rattle.papergrid_print.specs.FlatSheets.{IsBetween, first_placed};
 ghost use Rattle.papergrid_cells.specs.Painting.{colored, fill_bytes, glyph_part};
 ghost use Rattle.papergrid_print.specs.Seen.{AreSeen, AreSeenAbove, AreSeenOn};
-ghost use Rattle.papergrid_print.specs.Sheets.{GoesOn, IsOpen, IsPrintable, ShowsCell, bytes_of, grid_of, feed_before, line_at, lines_of, place_line, plain_bytes, row_tracks, sheet_of};
+ghost use Rattle.papergrid_print.specs.Sheets.{GoesOn, IsOpen, IsPrintable, ShowsCell, bytes_of, grid_of, feed_before, line_at, lines_of, place_line, plain_bytes, row_tracks, table_sheet};
 
 use crate::colors::Colors;
 use crate::extents::{Axis, stretch, thickness};
@@ -60,10 +60,10 @@ impl<'a, R: PeekableRecords, C: Colors> Table<'a, R, C> {
         y: usize,
     ) -> Result<(), AllocError>
         requires seen { AreSeen self.now.cfg.now.spans (length self.now.widths.now) i owners.now }
-        requires is_open { IsOpen (sheet_of self.now.cfg.now (R.rows self.now.records.now) (C.color self.now.colors.now) self.now.widths.now self.now.heights.now) i cells.now }
+        requires is_open { IsOpen (table_sheet R.rows C.color self.now) i cells.now }
         requires wide { length cells.now ≡ length self.now.widths.now }
         requires column { j < length self.now.widths.now }
-        ensures { OnOk result (string_bytes out.new ≡ string_bytes out.old ++ (let sheet = sheet_of self.now.cfg.now (R.rows self.now.records.now) (C.color self.now.colors.now) self.now.widths.now self.now.heights.now in plain_bytes sheet (parts_of (row_part (grid_of sheet) i y j)))) }
+        ensures { OnOk result (string_bytes out.new ≡ string_bytes out.old ++ (let sheet = table_sheet R.rows C.color self.now in plain_bytes sheet (parts_of (row_part (grid_of sheet) i y j)))) }
     {
         if kept_at(owners, i, j).col != j {
             return Ok(());
@@ -88,9 +88,9 @@ impl<'a, R: PeekableRecords, C: Colors> Table<'a, R, C> {
         y: usize,
     ) -> Result<(), AllocError>
         requires seen { AreSeen self.now.cfg.now.spans (length self.now.widths.now) i owners.now }
-        requires is_open { IsOpen (sheet_of self.now.cfg.now (R.rows self.now.records.now) (C.color self.now.colors.now) self.now.widths.now self.now.heights.now) i cells.now }
+        requires is_open { IsOpen (table_sheet R.rows C.color self.now) i cells.now }
         requires wide { length cells.now ≡ length self.now.widths.now }
-        ensures { OnOk result (string_bytes out.new ≡ string_bytes out.old ++ line_at (sheet_of self.now.cfg.now (R.rows self.now.records.now) (C.color self.now.colors.now) self.now.widths.now self.now.heights.now) (Row i) y) }
+        ensures { OnOk result (string_bytes out.new ≡ string_bytes out.old ++ line_at (table_sheet R.rows C.color self.now) (Row i) y) }
     {
         let columns = self.widths.len();
         let margin = self.cfg.get_margin();
@@ -116,10 +116,10 @@ impl<'a, R: PeekableRecords, C: Colors> Table<'a, R, C> {
         y: usize,
     ) -> Result<(), AllocError>
         requires seen { AreSeenOn self.now.cfg.now.spans (length self.now.widths.now) i owners.now }
-        requires goes_on { GoesOn (sheet_of self.now.cfg.now (R.rows self.now.records.now) (C.color self.now.colors.now) self.now.widths.now self.now.heights.now) i cells.now }
+        requires goes_on { GoesOn (table_sheet R.rows C.color self.now) i cells.now }
         requires wide { length cells.now ≡ length self.now.widths.now }
         requires column { j < length self.now.widths.now }
-        ensures { OnOk result (let sheet = sheet_of self.now.cfg.now (R.rows self.now.records.now) (C.color self.now.colors.now) self.now.widths.now self.now.heights.now in (rest : List Part) →
+        ensures { OnOk result (let sheet = table_sheet R.rows C.color self.now in (rest : List Part) →
             string_bytes out.new ++ line_items (bytes_of sheet) (map glyph_part runs.new.items ++ rest)
             ≡ string_bytes out.old ++ line_items (bytes_of sheet) (map glyph_part runs.old.items ++ (parts_of (boundary_part (grid_of sheet) i y j) ++ rest))) }
     {
@@ -153,9 +153,9 @@ impl<'a, R: PeekableRecords, C: Colors> Table<'a, R, C> {
         y: usize,
     ) -> Result<(), AllocError>
         requires seen { AreSeenOn self.now.cfg.now.spans (length self.now.widths.now) i owners.now }
-        requires goes_on { GoesOn (sheet_of self.now.cfg.now (R.rows self.now.records.now) (C.color self.now.colors.now) self.now.widths.now self.now.heights.now) i cells.now }
+        requires goes_on { GoesOn (table_sheet R.rows C.color self.now) i cells.now }
         requires wide { length cells.now ≡ length self.now.widths.now }
-        ensures { OnOk result (string_bytes out.new ≡ string_bytes out.old ++ line_at (sheet_of self.now.cfg.now (R.rows self.now.records.now) (C.color self.now.colors.now) self.now.widths.now self.now.heights.now) (Boundary i) y) }
+        ensures { OnOk result (string_bytes out.new ≡ string_bytes out.old ++ line_at (table_sheet R.rows C.color self.now) (Boundary i) y) }
     {
         let columns = self.widths.len();
         let margin = self.cfg.get_margin();
@@ -182,10 +182,10 @@ impl<'a, R: PeekableRecords, C: Colors> Table<'a, R, C> {
         y: usize,
     ) -> Result<(), AllocError>
         requires seen { AreSeenOn self.now.cfg.now.spans (length self.now.widths.now) i owners.now }
-        requires between { MatchOption between.now ⊤ (λ text. IsBetween (sheet_of self.now.cfg.now (R.rows self.now.records.now) (C.color self.now.colors.now) self.now.widths.now self.now.heights.now) (string_bytes text)) }
-        requires goes_on { GoesOn (sheet_of self.now.cfg.now (R.rows self.now.records.now) (C.color self.now.colors.now) self.now.widths.now self.now.heights.now) i cells.now }
+        requires between { MatchOption between.now ⊤ (λ text. IsBetween (table_sheet R.rows C.color self.now) (string_bytes text)) }
+        requires goes_on { GoesOn (table_sheet R.rows C.color self.now) i cells.now }
         requires wide { length cells.now ≡ length self.now.widths.now }
-        ensures { OnOk result (string_bytes out.new ≡ string_bytes out.old ++ line_at (sheet_of self.now.cfg.now (R.rows self.now.records.now) (C.color self.now.colors.now) self.now.widths.now self.now.heights.now) (Boundary i) y) }
+        ensures { OnOk result (string_bytes out.new ≡ string_bytes out.old ++ line_at (table_sheet R.rows C.color self.now) (Boundary i) y) }
     {
         if i > 0 && i < self.heights.len() {
             if let Some(text) = between {
@@ -205,14 +205,14 @@ impl<'a, R: PeekableRecords, C: Colors> Table<'a, R, C> {
         y: usize,
     ) -> Result<usize, AllocError>
         requires seen { AreSeen self.now.cfg.now.spans (length self.now.widths.now) i owners.now }
-        requires is_open { IsOpen (sheet_of self.now.cfg.now (R.rows self.now.records.now) (C.color self.now.colors.now) self.now.widths.now self.now.heights.now) i cells.now }
+        requires is_open { IsOpen (table_sheet R.rows C.color self.now) i cells.now }
         requires wide { length cells.now ≡ length self.now.widths.now }
         requires row { i < length self.now.heights.now }
-        requires top { y ≡ track_at (row_tracks (sheet_of self.now.cfg.now (R.rows self.now.records.now) (C.color self.now.colors.now) self.now.widths.now self.now.heights.now)) i }
-        requires range { boundary_at (row_tracks (sheet_of self.now.cfg.now (R.rows self.now.records.now) (C.color self.now.colors.now) self.now.widths.now self.now.heights.now)) (length self.now.heights.now) < 2 ^ 64 }
-        requires lines { string_bytes out.old ≡ lines_of (sheet_of self.now.cfg.now (R.rows self.now.records.now) (C.color self.now.colors.now) self.now.widths.now self.now.heights.now) y }
-        ensures lines { OnOk result (string_bytes out.new ≡ lines_of (sheet_of self.now.cfg.now (R.rows self.now.records.now) (C.color self.now.colors.now) self.now.widths.now self.now.heights.now) (boundary_at (row_tracks (sheet_of self.now.cfg.now (R.rows self.now.records.now) (C.color self.now.colors.now) self.now.widths.now self.now.heights.now)) (i + 1))) }
-        ensures end { IfOk result (λ end. end ≡ boundary_at (row_tracks (sheet_of self.now.cfg.now (R.rows self.now.records.now) (C.color self.now.colors.now) self.now.widths.now self.now.heights.now)) (i + 1)) }
+        requires top { y ≡ track_at (row_tracks (table_sheet R.rows C.color self.now)) i }
+        requires range { boundary_at (row_tracks (table_sheet R.rows C.color self.now)) (length self.now.heights.now) < 2 ^ 64 }
+        requires lines { string_bytes out.old ≡ lines_of (table_sheet R.rows C.color self.now) y }
+        ensures lines { OnOk result (string_bytes out.new ≡ lines_of (table_sheet R.rows C.color self.now) (boundary_at (row_tracks (table_sheet R.rows C.color self.now)) (i + 1))) }
+        ensures end { IfOk result (λ end. end ≡ boundary_at (row_tracks (table_sheet R.rows C.color self.now)) (i + 1)) }
     {
         let end = y + self.heights[i];
         for line in y..end {
@@ -235,15 +235,15 @@ impl<'a, R: PeekableRecords, C: Colors> Table<'a, R, C> {
         y: usize,
     ) -> Result<usize, AllocError>
         requires seen { AreSeenOn self.now.cfg.now.spans (length self.now.widths.now) i owners.now }
-        requires between { MatchOption between.now ⊤ (λ text. IsBetween (sheet_of self.now.cfg.now (R.rows self.now.records.now) (C.color self.now.colors.now) self.now.widths.now self.now.heights.now) (string_bytes text)) }
-        requires goes_on { GoesOn (sheet_of self.now.cfg.now (R.rows self.now.records.now) (C.color self.now.colors.now) self.now.widths.now self.now.heights.now) i cells.now }
+        requires between { MatchOption between.now ⊤ (λ text. IsBetween (table_sheet R.rows C.color self.now) (string_bytes text)) }
+        requires goes_on { GoesOn (table_sheet R.rows C.color self.now) i cells.now }
         requires wide { length cells.now ≡ length self.now.widths.now }
         requires boundary { i ≤ length self.now.heights.now }
-        requires top { y ≡ boundary_at (row_tracks (sheet_of self.now.cfg.now (R.rows self.now.records.now) (C.color self.now.colors.now) self.now.widths.now self.now.heights.now)) i }
-        requires range { track_at (row_tracks (sheet_of self.now.cfg.now (R.rows self.now.records.now) (C.color self.now.colors.now) self.now.widths.now self.now.heights.now)) i < 2 ^ 64 }
-        ensures lines { OnOk result (let sheet = sheet_of self.now.cfg.now (R.rows self.now.records.now) (C.color self.now.colors.now) self.now.widths.now self.now.heights.now in (front : List ℕ) →
+        requires top { y ≡ boundary_at (row_tracks (table_sheet R.rows C.color self.now)) i }
+        requires range { track_at (row_tracks (table_sheet R.rows C.color self.now)) i < 2 ^ 64 }
+        ensures lines { OnOk result (let sheet = table_sheet R.rows C.color self.now in (front : List ℕ) →
             front ++ string_bytes out.old ≡ lines_of sheet y → front ++ string_bytes out.new ≡ lines_of sheet (track_at (row_tracks sheet) i)) }
-        ensures end { IfOk result (λ end. end ≡ track_at (row_tracks (sheet_of self.now.cfg.now (R.rows self.now.records.now) (C.color self.now.colors.now) self.now.widths.now self.now.heights.now)) i) }
+        ensures end { IfOk result (λ end. end ≡ track_at (row_tracks (table_sheet R.rows C.color self.now)) i) }
     {
         if !self.cfg.has_horizontal(i, self.heights.len()) {
             return Ok(y);
@@ -258,10 +258,10 @@ impl<'a, R: PeekableRecords, C: Colors> Table<'a, R, C> {
         requires row { pos.row < length self.now.heights.now }
         requires column { pos.col < length self.now.widths.now }
         requires good { AreGood self.now.cfg.now.spans (length self.now.heights.now) (length self.now.widths.now) }
-        requires lines { boundary_at (row_tracks (sheet_of self.now.cfg.now (R.rows self.now.records.now) (C.color self.now.colors.now) self.now.widths.now self.now.heights.now)) (length self.now.heights.now) < 2 ^ 64 }
-        requires columns { boundary_at (grid_of (sheet_of self.now.cfg.now (R.rows self.now.records.now) (C.color self.now.colors.now) self.now.widths.now self.now.heights.now)).frame.columns (length self.now.widths.now) < 2 ^ 64 }
-        requires top { y ≡ track_at (row_tracks (sheet_of self.now.cfg.now (R.rows self.now.records.now) (C.color self.now.colors.now) self.now.widths.now self.now.heights.now)) pos.row }
-        ensures { IfOk result (λ cell. ShowsCell (sheet_of self.now.cfg.now (R.rows self.now.records.now) (C.color self.now.colors.now) self.now.widths.now self.now.heights.now) pos cell) }
+        requires lines { boundary_at (row_tracks (table_sheet R.rows C.color self.now)) (length self.now.heights.now) < 2 ^ 64 }
+        requires columns { boundary_at (grid_of (table_sheet R.rows C.color self.now)).frame.columns (length self.now.widths.now) < 2 ^ 64 }
+        requires top { y ≡ track_at (row_tracks (table_sheet R.rows C.color self.now)) pos.row }
+        ensures { IfOk result (λ cell. ShowsCell (table_sheet R.rows C.color self.now) pos cell) }
     {
         let cfg = self.cfg;
         let trim_horizontal = cfg.get_trim_horizontal(pos);
@@ -291,15 +291,15 @@ impl<'a, R: PeekableRecords, C: Colors> Table<'a, R, C> {
     ) -> Result<(), AllocError>
         requires seen { AreSeen self.now.cfg.now.spans (length self.now.widths.now) i owners.now }
         requires positive { ArePositive self.now.cfg.now.spans }
-        requires goes_on { GoesOn (sheet_of self.now.cfg.now (R.rows self.now.records.now) (C.color self.now.colors.now) self.now.widths.now self.now.heights.now) i cells.old }
+        requires goes_on { GoesOn (table_sheet R.rows C.color self.now) i cells.old }
         requires wide { length cells.old ≡ length self.now.widths.now }
         requires row { i < length self.now.heights.now }
         requires good { AreGood self.now.cfg.now.spans (length self.now.heights.now) (length self.now.widths.now) }
-        requires lines { boundary_at (row_tracks (sheet_of self.now.cfg.now (R.rows self.now.records.now) (C.color self.now.colors.now) self.now.widths.now self.now.heights.now)) (length self.now.heights.now) < 2 ^ 64 }
-        requires columns { boundary_at (grid_of (sheet_of self.now.cfg.now (R.rows self.now.records.now) (C.color self.now.colors.now) self.now.widths.now self.now.heights.now)).frame.columns (length self.now.widths.now) < 2 ^ 64 }
-        requires top { y ≡ track_at (row_tracks (sheet_of self.now.cfg.now (R.rows self.now.records.now) (C.color self.now.colors.now) self.now.widths.now self.now.heights.now)) i }
-        ensures is_open { OnOk result (IsOpen (sheet_of self.now.cfg.now (R.rows self.now.records.now) (C.color self.now.colors.now) self.now.widths.now self.now.heights.now) i cells.new) }
-        ensures goes_on { OnOk result (GoesOn (sheet_of self.now.cfg.now (R.rows self.now.records.now) (C.color self.now.colors.now) self.now.widths.now self.now.heights.now) (i + 1) cells.new) }
+        requires lines { boundary_at (row_tracks (table_sheet R.rows C.color self.now)) (length self.now.heights.now) < 2 ^ 64 }
+        requires columns { boundary_at (grid_of (table_sheet R.rows C.color self.now)).frame.columns (length self.now.widths.now) < 2 ^ 64 }
+        requires top { y ≡ track_at (row_tracks (table_sheet R.rows C.color self.now)) i }
+        ensures is_open { OnOk result (IsOpen (table_sheet R.rows C.color self.now) i cells.new) }
+        ensures goes_on { OnOk result (GoesOn (table_sheet R.rows C.color self.now) (i + 1) cells.new) }
         ensures wide { length cells.new ≡ length cells.old }
     {
         for j in 0..self.widths.len() {
@@ -336,7 +336,7 @@ impl<'a, R: PeekableRecords, C: Colors> Table<'a, R, C> {
     ) -> Result<(), AllocError>
         requires flat { AreFlat self.now.cfg.now }
         requires column { pos.col < length self.now.widths.now }
-        ensures { OnOk result (string_bytes out.new ≡ string_bytes out.old ++ (first_placed (sheet_of self.now.cfg.now (R.rows self.now.records.now) (C.color self.now.colors.now) self.now.widths.now self.now.heights.now) (standing_of flat.now) pos ++ behind_text flat.now pos.col (length self.now.widths.now))) }
+        ensures { OnOk result (string_bytes out.new ≡ string_bytes out.old ++ (first_placed (table_sheet R.rows C.color self.now) (standing_of flat.now) pos ++ behind_text flat.now pos.col (length self.now.widths.now))) }
     {
         let (records, j, columns) = (self.records, pos.col, self.widths.len());
         let width = self.widths[j];
@@ -364,7 +364,7 @@ impl<'a, R: PeekableRecords, C: Colors> Table<'a, R, C> {
         requires row { i < length self.now.heights.now }
         requires high { slice_index self.now.heights.now i ≡ 1 }
         requires columns { 0 < length self.now.widths.now }
-        ensures { OnOk result (string_bytes out.new ≡ string_bytes out.old ++ line_at (sheet_of self.now.cfg.now (R.rows self.now.records.now) (C.color self.now.colors.now) self.now.widths.now self.now.heights.now) (Row i) (track_at (row_tracks (sheet_of self.now.cfg.now (R.rows self.now.records.now) (C.color self.now.colors.now) self.now.widths.now self.now.heights.now)) i)) }
+        ensures { OnOk result (string_bytes out.new ≡ string_bytes out.old ++ line_at (table_sheet R.rows C.color self.now) (Row i) (track_at (row_tracks (table_sheet R.rows C.color self.now)) i)) }
     {
         if let Some(cells) = self.records.plain_row(i) {
             return self.push_plain_line(out, flat, cells, i);
@@ -385,7 +385,7 @@ impl<'a, R: PeekableRecords, C: Colors> Table<'a, R, C> {
         cells: &[Option<OpenCell<'a>>],
     ) -> Result<Option<String>, AllocError>
         requires wide { length cells.now ≡ length self.now.widths.now }
-        ensures { IfOk result (λ line. MatchOption line ⊤ (λ text. IsBetween (sheet_of self.now.cfg.now (R.rows self.now.records.now) (C.color self.now.colors.now) self.now.widths.now self.now.heights.now) (string_bytes text))) }
+        ensures { IfOk result (λ line. MatchOption line ⊤ (λ text. IsBetween (table_sheet R.rows C.color self.now) (string_bytes text))) }
     {
         if self.heights.len() < 2 || !self.cfg.has_no_spans() {
             return Ok(None);
@@ -409,18 +409,18 @@ impl<'a, R: PeekableRecords, C: Colors> Table<'a, R, C> {
         requires seen { AreSeen self.now.cfg.now.spans (length self.now.widths.now) i owners.now }
         requires positive { ArePositive self.now.cfg.now.spans }
         requires made { AreMadeFor self.now.cfg.now self.now.widths.now flat.now }
-        requires goes_on { GoesOn (sheet_of self.now.cfg.now (R.rows self.now.records.now) (C.color self.now.colors.now) self.now.widths.now self.now.heights.now) i cells.old }
+        requires goes_on { GoesOn (table_sheet R.rows C.color self.now) i cells.old }
         requires wide { length cells.old ≡ length self.now.widths.now }
         requires row { i < length self.now.heights.now }
         requires some { 0 < length self.now.widths.now }
         requires good { AreGood self.now.cfg.now.spans (length self.now.heights.now) (length self.now.widths.now) }
-        requires range { boundary_at (row_tracks (sheet_of self.now.cfg.now (R.rows self.now.records.now) (C.color self.now.colors.now) self.now.widths.now self.now.heights.now)) (length self.now.heights.now) < 2 ^ 64 }
-        requires columns { boundary_at (grid_of (sheet_of self.now.cfg.now (R.rows self.now.records.now) (C.color self.now.colors.now) self.now.widths.now self.now.heights.now)).frame.columns (length self.now.widths.now) < 2 ^ 64 }
-        requires top { y ≡ track_at (row_tracks (sheet_of self.now.cfg.now (R.rows self.now.records.now) (C.color self.now.colors.now) self.now.widths.now self.now.heights.now)) i }
-        requires lines { string_bytes out.old ≡ lines_of (sheet_of self.now.cfg.now (R.rows self.now.records.now) (C.color self.now.colors.now) self.now.widths.now self.now.heights.now) y }
-        ensures lines { OnOk result (string_bytes out.new ≡ lines_of (sheet_of self.now.cfg.now (R.rows self.now.records.now) (C.color self.now.colors.now) self.now.widths.now self.now.heights.now) (boundary_at (row_tracks (sheet_of self.now.cfg.now (R.rows self.now.records.now) (C.color self.now.colors.now) self.now.widths.now self.now.heights.now)) (i + 1))) }
-        ensures end { IfOk result (λ end. end ≡ boundary_at (row_tracks (sheet_of self.now.cfg.now (R.rows self.now.records.now) (C.color self.now.colors.now) self.now.widths.now self.now.heights.now)) (i + 1)) }
-        ensures goes_on { OnOk result (GoesOn (sheet_of self.now.cfg.now (R.rows self.now.records.now) (C.color self.now.colors.now) self.now.widths.now self.now.heights.now) (i + 1) cells.new) }
+        requires range { boundary_at (row_tracks (table_sheet R.rows C.color self.now)) (length self.now.heights.now) < 2 ^ 64 }
+        requires columns { boundary_at (grid_of (table_sheet R.rows C.color self.now)).frame.columns (length self.now.widths.now) < 2 ^ 64 }
+        requires top { y ≡ track_at (row_tracks (table_sheet R.rows C.color self.now)) i }
+        requires lines { string_bytes out.old ≡ lines_of (table_sheet R.rows C.color self.now) y }
+        ensures lines { OnOk result (string_bytes out.new ≡ lines_of (table_sheet R.rows C.color self.now) (boundary_at (row_tracks (table_sheet R.rows C.color self.now)) (i + 1))) }
+        ensures end { IfOk result (λ end. end ≡ boundary_at (row_tracks (table_sheet R.rows C.color self.now)) (i + 1)) }
+        ensures goes_on { OnOk result (GoesOn (table_sheet R.rows C.color self.now) (i + 1) cells.new) }
         ensures wide { length cells.new ≡ length cells.old }
     {
         if self.heights[i] == 1 {
@@ -444,9 +444,9 @@ impl<'a, R: PeekableRecords, C: Colors> Table<'a, R, C> {
         width: usize,
     ) -> Result<(), AllocError>
         requires range { y + margin.size < 2 ^ 64 }
-        requires shown { (k : ℕ) → y ≤ k → k < y + margin.size → place_line (sheet_of self.now.cfg.now (R.rows self.now.records.now) (C.color self.now.colors.now) self.now.widths.now self.now.heights.now) k ≡ colored color.now (fill_bytes margin.fill width) }
-        requires lines { string_bytes out.old ≡ lines_of (sheet_of self.now.cfg.now (R.rows self.now.records.now) (C.color self.now.colors.now) self.now.widths.now self.now.heights.now) y }
-        ensures { OnOk result (string_bytes out.new ≡ lines_of (sheet_of self.now.cfg.now (R.rows self.now.records.now) (C.color self.now.colors.now) self.now.widths.now self.now.heights.now) (y + margin.size)) }
+        requires shown { (k : ℕ) → y ≤ k → k < y + margin.size → place_line (table_sheet R.rows C.color self.now) k ≡ colored color.now (fill_bytes margin.fill width) }
+        requires lines { string_bytes out.old ≡ lines_of (table_sheet R.rows C.color self.now) y }
+        ensures { OnOk result (string_bytes out.new ≡ lines_of (table_sheet R.rows C.color self.now) (y + margin.size)) }
     {
         for line in y..y + margin.size {
             push_feed(out, line)?;
@@ -458,8 +458,8 @@ impl<'a, R: PeekableRecords, C: Colors> Table<'a, R, C> {
     // How many columns each line takes, margins too.
     fn total_width(&self) -> usize
         requires some { 0 < length self.now.widths.now }
-        requires range { total_width (grid_of (sheet_of self.now.cfg.now (R.rows self.now.records.now) (C.color self.now.colors.now) self.now.widths.now self.now.heights.now)).frame < 2 ^ 64 }
-        ensures { result ≡ total_width (grid_of (sheet_of self.now.cfg.now (R.rows self.now.records.now) (C.color self.now.colors.now) self.now.widths.now self.now.heights.now)).frame }
+        requires range { total_width (grid_of (table_sheet R.rows C.color self.now)).frame < 2 ^ 64 }
+        ensures { result ≡ total_width (grid_of (table_sheet R.rows C.color self.now)).frame }
     {
         let margin = self.cfg.get_margin();
         let columns = self.widths.len();
@@ -486,14 +486,14 @@ impl<'a, R: PeekableRecords, C: Colors> Table<'a, R, C> {
         requires seen { AreSeenAbove self.now.cfg.now.spans (length self.now.widths.now) 0 owners.old }
         requires some { 0 < length self.now.widths.now }
         requires good { AreGood self.now.cfg.now.spans (length self.now.heights.now) (length self.now.widths.now) }
-        requires lines { track_at (row_tracks (sheet_of self.now.cfg.now (R.rows self.now.records.now) (C.color self.now.colors.now) self.now.widths.now self.now.heights.now)) (length self.now.heights.now) < 2 ^ 64 }
-        requires columns { boundary_at (grid_of (sheet_of self.now.cfg.now (R.rows self.now.records.now) (C.color self.now.colors.now) self.now.widths.now self.now.heights.now)).frame.columns (length self.now.widths.now) < 2 ^ 64 }
+        requires lines { track_at (row_tracks (table_sheet R.rows C.color self.now)) (length self.now.heights.now) < 2 ^ 64 }
+        requires columns { boundary_at (grid_of (table_sheet R.rows C.color self.now)).frame.columns (length self.now.widths.now) < 2 ^ 64 }
         requires made { AreMadeFor self.now.cfg.now self.now.widths.now flat.now }
-        requires between { MatchOption between.now ⊤ (λ text. IsBetween (sheet_of self.now.cfg.now (R.rows self.now.records.now) (C.color self.now.colors.now) self.now.widths.now self.now.heights.now) (string_bytes text)) }
+        requires between { MatchOption between.now ⊤ (λ text. IsBetween (table_sheet R.rows C.color self.now) (string_bytes text)) }
         requires wide { length cells.old ≡ length self.now.widths.now }
-        requires above { string_bytes out.old ≡ lines_of (sheet_of self.now.cfg.now (R.rows self.now.records.now) (C.color self.now.colors.now) self.now.widths.now self.now.heights.now) (boundary_at (row_tracks (sheet_of self.now.cfg.now (R.rows self.now.records.now) (C.color self.now.colors.now) self.now.widths.now self.now.heights.now)) 0) }
-        ensures lines { OnOk result (string_bytes out.new ≡ lines_of (sheet_of self.now.cfg.now (R.rows self.now.records.now) (C.color self.now.colors.now) self.now.widths.now self.now.heights.now) (track_at (row_tracks (sheet_of self.now.cfg.now (R.rows self.now.records.now) (C.color self.now.colors.now) self.now.widths.now self.now.heights.now)) (length self.now.heights.now))) }
-        ensures end { IfOk result (λ end. end ≡ track_at (row_tracks (sheet_of self.now.cfg.now (R.rows self.now.records.now) (C.color self.now.colors.now) self.now.widths.now self.now.heights.now)) (length self.now.heights.now)) }
+        requires above { string_bytes out.old ≡ lines_of (table_sheet R.rows C.color self.now) (boundary_at (row_tracks (table_sheet R.rows C.color self.now)) 0) }
+        ensures lines { OnOk result (string_bytes out.new ≡ lines_of (table_sheet R.rows C.color self.now) (track_at (row_tracks (table_sheet R.rows C.color self.now)) (length self.now.heights.now))) }
+        ensures end { IfOk result (λ end. end ≡ track_at (row_tracks (table_sheet R.rows C.color self.now)) (length self.now.heights.now)) }
     {
         let mut y = self.cfg.get_margin().top.size;
         for i in 0..self.heights.len() {
@@ -508,11 +508,11 @@ impl<'a, R: PeekableRecords, C: Colors> Table<'a, R, C> {
     fn push_rows(&self, alloc: Global, out: &mut String) -> Result<usize, AllocError>
         requires some { 0 < length self.now.widths.now }
         requires good { AreGood self.now.cfg.now.spans (length self.now.heights.now) (length self.now.widths.now) }
-        requires lines { track_at (row_tracks (sheet_of self.now.cfg.now (R.rows self.now.records.now) (C.color self.now.colors.now) self.now.widths.now self.now.heights.now)) (length self.now.heights.now) < 2 ^ 64 }
-        requires columns { boundary_at (grid_of (sheet_of self.now.cfg.now (R.rows self.now.records.now) (C.color self.now.colors.now) self.now.widths.now self.now.heights.now)).frame.columns (length self.now.widths.now) < 2 ^ 64 }
-        requires above { string_bytes out.old ≡ lines_of (sheet_of self.now.cfg.now (R.rows self.now.records.now) (C.color self.now.colors.now) self.now.widths.now self.now.heights.now) (boundary_at (row_tracks (sheet_of self.now.cfg.now (R.rows self.now.records.now) (C.color self.now.colors.now) self.now.widths.now self.now.heights.now)) 0) }
-        ensures lines { OnOk result (string_bytes out.new ≡ lines_of (sheet_of self.now.cfg.now (R.rows self.now.records.now) (C.color self.now.colors.now) self.now.widths.now self.now.heights.now) (track_at (row_tracks (sheet_of self.now.cfg.now (R.rows self.now.records.now) (C.color self.now.colors.now) self.now.widths.now self.now.heights.now)) (length self.now.heights.now))) }
-        ensures end { IfOk result (λ end. end ≡ track_at (row_tracks (sheet_of self.now.cfg.now (R.rows self.now.records.now) (C.color self.now.colors.now) self.now.widths.now self.now.heights.now)) (length self.now.heights.now)) }
+        requires lines { track_at (row_tracks (table_sheet R.rows C.color self.now)) (length self.now.heights.now) < 2 ^ 64 }
+        requires columns { boundary_at (grid_of (table_sheet R.rows C.color self.now)).frame.columns (length self.now.widths.now) < 2 ^ 64 }
+        requires above { string_bytes out.old ≡ lines_of (table_sheet R.rows C.color self.now) (boundary_at (row_tracks (table_sheet R.rows C.color self.now)) 0) }
+        ensures lines { OnOk result (string_bytes out.new ≡ lines_of (table_sheet R.rows C.color self.now) (track_at (row_tracks (table_sheet R.rows C.color self.now)) (length self.now.heights.now))) }
+        ensures end { IfOk result (λ end. end ≡ track_at (row_tracks (table_sheet R.rows C.color self.now)) (length self.now.heights.now)) }
     {
         let flat = self.flat_rows(alloc)?;
         let mut runs = Vec::new(alloc);
@@ -533,10 +533,10 @@ impl<'a, R: PeekableRecords, C: Colors> Table<'a, R, C> {
     // How many bytes the lines take at least, each of `width` columns: what no memory holds is refused
     // before anything is written.
     fn room(&self, width: usize) -> usize
-        requires printable { IsPrintable (sheet_of self.now.cfg.now (R.rows self.now.records.now) (C.color self.now.colors.now) self.now.widths.now self.now.heights.now) }
+        requires printable { IsPrintable (table_sheet R.rows C.color self.now) }
         requires rows { 0 < length self.now.heights.now }
         requires columns { 0 < length self.now.widths.now }
-        ensures { result ≤ line_count (grid_of (sheet_of self.now.cfg.now (R.rows self.now.records.now) (C.color self.now.colors.now) self.now.widths.now self.now.heights.now)).frame * (width + 1) - 1 }
+        ensures { result ≤ line_count (grid_of (table_sheet R.rows C.color self.now)).frame * (width + 1) - 1 }
     {
         let margin = self.cfg.get_margin();
         let mut lines = margin.top.size.saturating_add(margin.bottom.size);
@@ -550,7 +550,7 @@ impl<'a, R: PeekableRecords, C: Colors> Table<'a, R, C> {
 
     // Makes room for so many bytes, which are no more than the lines take.
     fn reserve(&self, out: &mut String, size: usize) -> Result<(), AllocError>
-        requires { size ≤ line_count (grid_of (sheet_of self.now.cfg.now (R.rows self.now.records.now) (C.color self.now.colors.now) self.now.widths.now self.now.heights.now)).frame * (total_width (grid_of (sheet_of self.now.cfg.now (R.rows self.now.records.now) (C.color self.now.colors.now) self.now.widths.now self.now.heights.now)).frame + 1) - 1 }
+        requires { size ≤ line_count (grid_of (table_sheet R.rows C.color self.now)).frame * (total_width (grid_of (table_sheet R.rows C.color self.now)).frame + 1) - 1 }
         ensures { string_bytes out.new ≡ string_bytes out.old }
     {
         out.reserve(size)
@@ -558,11 +558,11 @@ impl<'a, R: PeekableRecords, C: Colors> Table<'a, R, C> {
 
     // Appends all lines of a table with rows and columns to an empty text.
     pub(crate) fn push_lines(&self, alloc: Global, out: &mut String) -> Result<(), AllocError>
-        requires printable { IsPrintable (sheet_of self.now.cfg.now (R.rows self.now.records.now) (C.color self.now.colors.now) self.now.widths.now self.now.heights.now) }
+        requires printable { IsPrintable (table_sheet R.rows C.color self.now) }
         requires rows { 0 < length self.now.heights.now }
         requires columns { 0 < length self.now.widths.now }
         requires empty { string_bytes out.old ≡ [] }
-        ensures { OnOk result (string_bytes out.new ≡ lines_of (sheet_of self.now.cfg.now (R.rows self.now.records.now) (C.color self.now.colors.now) self.now.widths.now self.now.heights.now) (line_count (grid_of (sheet_of self.now.cfg.now (R.rows self.now.records.now) (C.color self.now.colors.now) self.now.widths.now self.now.heights.now)).frame)) }
+        ensures { OnOk result (string_bytes out.new ≡ lines_of (table_sheet R.rows C.color self.now) (line_count (grid_of (table_sheet R.rows C.color self.now)).frame)) }
     {
         let margin = self.cfg.get_margin();
         let colors = self.cfg.get_margin_color();

@@ -10,7 +10,7 @@ ghost use Rattle.papergrid_cells.specs.Painting.{colored, fill_bytes};
 ghost use Rattle.papergrid_print.specs.Chosen.{Chooses, chosen_lines};
 ghost use Rattle.papergrid_print.specs.FlatSheets.{IsBetween};
 ghost use Rattle.papergrid_print.specs.Seen.{AreSeen, AreSeenAbove, AreSeenOn};
-ghost use Rattle.papergrid_print.specs.Sheets.{GoesOn, IsOpen, IsPrintable, grid_of, place_line, row_tracks, sheet_of};
+ghost use Rattle.papergrid_print.specs.Sheets.{GoesOn, IsOpen, IsPrintable, grid_of, place_line, row_tracks, table_sheet};
 
 use super::{Table, closed_cells};
 use crate::colors::Colors;
@@ -51,15 +51,15 @@ impl<'a, R: PeekableRecords, C: Colors> Table<'a, R, C> {
         y: usize,
     ) -> Result<usize, Stop>
         requires seen { AreSeenOn self.now.cfg.now.spans (length self.now.widths.now) i owners.now }
-        requires between { MatchOption between.now ⊤ (λ text. IsBetween (sheet_of self.now.cfg.now (R.rows self.now.records.now) (C.color self.now.colors.now) self.now.widths.now self.now.heights.now) (string_bytes text)) }
-        requires goes_on { GoesOn (sheet_of self.now.cfg.now (R.rows self.now.records.now) (C.color self.now.colors.now) self.now.widths.now self.now.heights.now) i cells.now }
+        requires between { MatchOption between.now ⊤ (λ text. IsBetween (table_sheet R.rows C.color self.now) (string_bytes text)) }
+        requires goes_on { GoesOn (table_sheet R.rows C.color self.now) i cells.now }
         requires wide { length cells.now ≡ length self.now.widths.now }
         requires boundary { i ≤ length self.now.heights.now }
-        requires top { y ≡ boundary_at (row_tracks (sheet_of self.now.cfg.now (R.rows self.now.records.now) (C.color self.now.colors.now) self.now.widths.now self.now.heights.now)) i }
-        requires range { track_at (row_tracks (sheet_of self.now.cfg.now (R.rows self.now.records.now) (C.color self.now.colors.now) self.now.widths.now self.now.heights.now)) i < 2 ^ 64 }
+        requires top { y ≡ boundary_at (row_tracks (table_sheet R.rows C.color self.now)) i }
+        requires range { track_at (row_tracks (table_sheet R.rows C.color self.now)) i < 2 ^ 64 }
         requires empty { string_bytes line.old ≡ [] }
-        ensures lines { Chooses W.contents (chosen_lines (sheet_of self.now.cfg.now (R.rows self.now.records.now) (C.color self.now.colors.now) self.now.widths.now self.now.heights.now) (K.wants wanted.now) y (track_at (row_tracks (sheet_of self.now.cfg.now (R.rows self.now.records.now) (C.color self.now.colors.now) self.now.widths.now self.now.heights.now)) i)) result writer.old writer.new }
-        ensures end { IfOk result (λ end. end ≡ track_at (row_tracks (sheet_of self.now.cfg.now (R.rows self.now.records.now) (C.color self.now.colors.now) self.now.widths.now self.now.heights.now)) i) }
+        ensures lines { Chooses W.contents (chosen_lines (table_sheet R.rows C.color self.now) (K.wants wanted.now) y (track_at (row_tracks (table_sheet R.rows C.color self.now)) i)) result writer.old writer.new }
+        ensures end { IfOk result (λ end. end ≡ track_at (row_tracks (table_sheet R.rows C.color self.now)) i) }
         ensures empty { OnOk result (string_bytes line.new ≡ []) }
     {
         if !self.cfg.has_horizontal(i, self.heights.len()) {
@@ -86,14 +86,14 @@ impl<'a, R: PeekableRecords, C: Colors> Table<'a, R, C> {
         y: usize,
     ) -> Result<usize, Stop>
         requires seen { AreSeen self.now.cfg.now.spans (length self.now.widths.now) i owners.now }
-        requires is_open { IsOpen (sheet_of self.now.cfg.now (R.rows self.now.records.now) (C.color self.now.colors.now) self.now.widths.now self.now.heights.now) i cells.now }
+        requires is_open { IsOpen (table_sheet R.rows C.color self.now) i cells.now }
         requires wide { length cells.now ≡ length self.now.widths.now }
         requires row { i < length self.now.heights.now }
-        requires top { y ≡ track_at (row_tracks (sheet_of self.now.cfg.now (R.rows self.now.records.now) (C.color self.now.colors.now) self.now.widths.now self.now.heights.now)) i }
-        requires range { boundary_at (row_tracks (sheet_of self.now.cfg.now (R.rows self.now.records.now) (C.color self.now.colors.now) self.now.widths.now self.now.heights.now)) (length self.now.heights.now) < 2 ^ 64 }
+        requires top { y ≡ track_at (row_tracks (table_sheet R.rows C.color self.now)) i }
+        requires range { boundary_at (row_tracks (table_sheet R.rows C.color self.now)) (length self.now.heights.now) < 2 ^ 64 }
         requires empty { string_bytes line.old ≡ [] }
-        ensures lines { Chooses W.contents (chosen_lines (sheet_of self.now.cfg.now (R.rows self.now.records.now) (C.color self.now.colors.now) self.now.widths.now self.now.heights.now) (K.wants wanted.now) y (boundary_at (row_tracks (sheet_of self.now.cfg.now (R.rows self.now.records.now) (C.color self.now.colors.now) self.now.widths.now self.now.heights.now)) (i + 1))) result writer.old writer.new }
-        ensures end { IfOk result (λ end. end ≡ boundary_at (row_tracks (sheet_of self.now.cfg.now (R.rows self.now.records.now) (C.color self.now.colors.now) self.now.widths.now self.now.heights.now)) (i + 1)) }
+        ensures lines { Chooses W.contents (chosen_lines (table_sheet R.rows C.color self.now) (K.wants wanted.now) y (boundary_at (row_tracks (table_sheet R.rows C.color self.now)) (i + 1))) result writer.old writer.new }
+        ensures end { IfOk result (λ end. end ≡ boundary_at (row_tracks (table_sheet R.rows C.color self.now)) (i + 1)) }
         ensures empty { OnOk result (string_bytes line.new ≡ []) }
     {
         let end = y + self.heights[i];
@@ -125,11 +125,11 @@ impl<'a, R: PeekableRecords, C: Colors> Table<'a, R, C> {
         requires row { i < length self.now.heights.now }
         requires high { slice_index self.now.heights.now i ≡ 1 }
         requires columns { 0 < length self.now.widths.now }
-        requires top { y ≡ track_at (row_tracks (sheet_of self.now.cfg.now (R.rows self.now.records.now) (C.color self.now.colors.now) self.now.widths.now self.now.heights.now)) i }
-        requires range { boundary_at (row_tracks (sheet_of self.now.cfg.now (R.rows self.now.records.now) (C.color self.now.colors.now) self.now.widths.now self.now.heights.now)) (length self.now.heights.now) < 2 ^ 64 }
+        requires top { y ≡ track_at (row_tracks (table_sheet R.rows C.color self.now)) i }
+        requires range { boundary_at (row_tracks (table_sheet R.rows C.color self.now)) (length self.now.heights.now) < 2 ^ 64 }
         requires empty { string_bytes line.old ≡ [] }
-        ensures lines { Chooses W.contents (chosen_lines (sheet_of self.now.cfg.now (R.rows self.now.records.now) (C.color self.now.colors.now) self.now.widths.now self.now.heights.now) (K.wants wanted.now) y (boundary_at (row_tracks (sheet_of self.now.cfg.now (R.rows self.now.records.now) (C.color self.now.colors.now) self.now.widths.now self.now.heights.now)) (i + 1))) result writer.old writer.new }
-        ensures end { IfOk result (λ end. end ≡ boundary_at (row_tracks (sheet_of self.now.cfg.now (R.rows self.now.records.now) (C.color self.now.colors.now) self.now.widths.now self.now.heights.now)) (i + 1)) }
+        ensures lines { Chooses W.contents (chosen_lines (table_sheet R.rows C.color self.now) (K.wants wanted.now) y (boundary_at (row_tracks (table_sheet R.rows C.color self.now)) (i + 1))) result writer.old writer.new }
+        ensures end { IfOk result (λ end. end ≡ boundary_at (row_tracks (table_sheet R.rows C.color self.now)) (i + 1)) }
         ensures empty { OnOk result (string_bytes line.new ≡ []) }
     {
         if !wanted.is_wanted(Place::Row(i)) {
@@ -156,18 +156,18 @@ impl<'a, R: PeekableRecords, C: Colors> Table<'a, R, C> {
         requires seen { AreSeen self.now.cfg.now.spans (length self.now.widths.now) i owners.now }
         requires positive { ArePositive self.now.cfg.now.spans }
         requires made { AreMadeFor self.now.cfg.now self.now.widths.now flat.now }
-        requires goes_on { GoesOn (sheet_of self.now.cfg.now (R.rows self.now.records.now) (C.color self.now.colors.now) self.now.widths.now self.now.heights.now) i cells.old }
+        requires goes_on { GoesOn (table_sheet R.rows C.color self.now) i cells.old }
         requires wide { length cells.old ≡ length self.now.widths.now }
         requires row { i < length self.now.heights.now }
         requires some { 0 < length self.now.widths.now }
         requires good { AreGood self.now.cfg.now.spans (length self.now.heights.now) (length self.now.widths.now) }
-        requires range { boundary_at (row_tracks (sheet_of self.now.cfg.now (R.rows self.now.records.now) (C.color self.now.colors.now) self.now.widths.now self.now.heights.now)) (length self.now.heights.now) < 2 ^ 64 }
-        requires columns { boundary_at (grid_of (sheet_of self.now.cfg.now (R.rows self.now.records.now) (C.color self.now.colors.now) self.now.widths.now self.now.heights.now)).frame.columns (length self.now.widths.now) < 2 ^ 64 }
-        requires top { y ≡ track_at (row_tracks (sheet_of self.now.cfg.now (R.rows self.now.records.now) (C.color self.now.colors.now) self.now.widths.now self.now.heights.now)) i }
+        requires range { boundary_at (row_tracks (table_sheet R.rows C.color self.now)) (length self.now.heights.now) < 2 ^ 64 }
+        requires columns { boundary_at (grid_of (table_sheet R.rows C.color self.now)).frame.columns (length self.now.widths.now) < 2 ^ 64 }
+        requires top { y ≡ track_at (row_tracks (table_sheet R.rows C.color self.now)) i }
         requires empty { string_bytes line.old ≡ [] }
-        ensures lines { Chooses W.contents (chosen_lines (sheet_of self.now.cfg.now (R.rows self.now.records.now) (C.color self.now.colors.now) self.now.widths.now self.now.heights.now) (K.wants wanted.now) y (boundary_at (row_tracks (sheet_of self.now.cfg.now (R.rows self.now.records.now) (C.color self.now.colors.now) self.now.widths.now self.now.heights.now)) (i + 1))) result writer.old writer.new }
-        ensures end { IfOk result (λ end. end ≡ boundary_at (row_tracks (sheet_of self.now.cfg.now (R.rows self.now.records.now) (C.color self.now.colors.now) self.now.widths.now self.now.heights.now)) (i + 1)) }
-        ensures goes_on { OnOk result (GoesOn (sheet_of self.now.cfg.now (R.rows self.now.records.now) (C.color self.now.colors.now) self.now.widths.now self.now.heights.now) (i + 1) cells.new) }
+        ensures lines { Chooses W.contents (chosen_lines (table_sheet R.rows C.color self.now) (K.wants wanted.now) y (boundary_at (row_tracks (table_sheet R.rows C.color self.now)) (i + 1))) result writer.old writer.new }
+        ensures end { IfOk result (λ end. end ≡ boundary_at (row_tracks (table_sheet R.rows C.color self.now)) (i + 1)) }
+        ensures goes_on { OnOk result (GoesOn (table_sheet R.rows C.color self.now) (i + 1) cells.new) }
         ensures wide { length cells.new ≡ length cells.old }
         ensures empty { OnOk result (string_bytes line.new ≡ []) }
     {
@@ -193,10 +193,10 @@ impl<'a, R: PeekableRecords, C: Colors> Table<'a, R, C> {
         width: usize,
     ) -> Result<(), Stop>
         requires range { y + margin.size < 2 ^ 64 }
-        requires shown { (k : ℕ) → y ≤ k → k < y + margin.size → place_line (sheet_of self.now.cfg.now (R.rows self.now.records.now) (C.color self.now.colors.now) self.now.widths.now self.now.heights.now) k ≡ colored color.now (fill_bytes margin.fill width) }
-        requires outside { (k : ℕ) → y ≤ k → k < y + margin.size → place (row_tracks (sheet_of self.now.cfg.now (R.rows self.now.records.now) (C.color self.now.colors.now) self.now.widths.now self.now.heights.now)) k ≡ Outside }
+        requires shown { (k : ℕ) → y ≤ k → k < y + margin.size → place_line (table_sheet R.rows C.color self.now) k ≡ colored color.now (fill_bytes margin.fill width) }
+        requires outside { (k : ℕ) → y ≤ k → k < y + margin.size → place (row_tracks (table_sheet R.rows C.color self.now)) k ≡ Outside }
         requires empty { string_bytes line.old ≡ [] }
-        ensures lines { Chooses W.contents (chosen_lines (sheet_of self.now.cfg.now (R.rows self.now.records.now) (C.color self.now.colors.now) self.now.widths.now self.now.heights.now) (K.wants wanted.now) y (y + margin.size)) result writer.old writer.new }
+        ensures lines { Chooses W.contents (chosen_lines (table_sheet R.rows C.color self.now) (K.wants wanted.now) y (y + margin.size)) result writer.old writer.new }
         ensures empty { OnOk result (string_bytes line.new ≡ []) }
     {
         if !wanted.is_wanted(Place::Outside) {
@@ -227,14 +227,14 @@ impl<'a, R: PeekableRecords, C: Colors> Table<'a, R, C> {
         requires seen { AreSeenAbove self.now.cfg.now.spans (length self.now.widths.now) 0 owners.old }
         requires some { 0 < length self.now.widths.now }
         requires good { AreGood self.now.cfg.now.spans (length self.now.heights.now) (length self.now.widths.now) }
-        requires lines { track_at (row_tracks (sheet_of self.now.cfg.now (R.rows self.now.records.now) (C.color self.now.colors.now) self.now.widths.now self.now.heights.now)) (length self.now.heights.now) < 2 ^ 64 }
-        requires columns { boundary_at (grid_of (sheet_of self.now.cfg.now (R.rows self.now.records.now) (C.color self.now.colors.now) self.now.widths.now self.now.heights.now)).frame.columns (length self.now.widths.now) < 2 ^ 64 }
+        requires lines { track_at (row_tracks (table_sheet R.rows C.color self.now)) (length self.now.heights.now) < 2 ^ 64 }
+        requires columns { boundary_at (grid_of (table_sheet R.rows C.color self.now)).frame.columns (length self.now.widths.now) < 2 ^ 64 }
         requires made { AreMadeFor self.now.cfg.now self.now.widths.now flat.now }
-        requires between { MatchOption between.now ⊤ (λ text. IsBetween (sheet_of self.now.cfg.now (R.rows self.now.records.now) (C.color self.now.colors.now) self.now.widths.now self.now.heights.now) (string_bytes text)) }
+        requires between { MatchOption between.now ⊤ (λ text. IsBetween (table_sheet R.rows C.color self.now) (string_bytes text)) }
         requires wide { length cells.old ≡ length self.now.widths.now }
         requires empty { string_bytes line.old ≡ [] }
-        ensures lines { Chooses W.contents (chosen_lines (sheet_of self.now.cfg.now (R.rows self.now.records.now) (C.color self.now.colors.now) self.now.widths.now self.now.heights.now) (K.wants wanted.now) (boundary_at (row_tracks (sheet_of self.now.cfg.now (R.rows self.now.records.now) (C.color self.now.colors.now) self.now.widths.now self.now.heights.now)) 0) (track_at (row_tracks (sheet_of self.now.cfg.now (R.rows self.now.records.now) (C.color self.now.colors.now) self.now.widths.now self.now.heights.now)) (length self.now.heights.now))) result writer.old writer.new }
-        ensures end { IfOk result (λ end. end ≡ track_at (row_tracks (sheet_of self.now.cfg.now (R.rows self.now.records.now) (C.color self.now.colors.now) self.now.widths.now self.now.heights.now)) (length self.now.heights.now)) }
+        ensures lines { Chooses W.contents (chosen_lines (table_sheet R.rows C.color self.now) (K.wants wanted.now) (boundary_at (row_tracks (table_sheet R.rows C.color self.now)) 0) (track_at (row_tracks (table_sheet R.rows C.color self.now)) (length self.now.heights.now))) result writer.old writer.new }
+        ensures end { IfOk result (λ end. end ≡ track_at (row_tracks (table_sheet R.rows C.color self.now)) (length self.now.heights.now)) }
         ensures empty { OnOk result (string_bytes line.new ≡ []) }
     {
         let mut y = self.cfg.get_margin().top.size;
@@ -257,11 +257,11 @@ impl<'a, R: PeekableRecords, C: Colors> Table<'a, R, C> {
     ) -> Result<usize, Stop>
         requires some { 0 < length self.now.widths.now }
         requires good { AreGood self.now.cfg.now.spans (length self.now.heights.now) (length self.now.widths.now) }
-        requires lines { track_at (row_tracks (sheet_of self.now.cfg.now (R.rows self.now.records.now) (C.color self.now.colors.now) self.now.widths.now self.now.heights.now)) (length self.now.heights.now) < 2 ^ 64 }
-        requires columns { boundary_at (grid_of (sheet_of self.now.cfg.now (R.rows self.now.records.now) (C.color self.now.colors.now) self.now.widths.now self.now.heights.now)).frame.columns (length self.now.widths.now) < 2 ^ 64 }
+        requires lines { track_at (row_tracks (table_sheet R.rows C.color self.now)) (length self.now.heights.now) < 2 ^ 64 }
+        requires columns { boundary_at (grid_of (table_sheet R.rows C.color self.now)).frame.columns (length self.now.widths.now) < 2 ^ 64 }
         requires empty { string_bytes line.old ≡ [] }
-        ensures lines { Chooses W.contents (chosen_lines (sheet_of self.now.cfg.now (R.rows self.now.records.now) (C.color self.now.colors.now) self.now.widths.now self.now.heights.now) (K.wants wanted.now) (boundary_at (row_tracks (sheet_of self.now.cfg.now (R.rows self.now.records.now) (C.color self.now.colors.now) self.now.widths.now self.now.heights.now)) 0) (track_at (row_tracks (sheet_of self.now.cfg.now (R.rows self.now.records.now) (C.color self.now.colors.now) self.now.widths.now self.now.heights.now)) (length self.now.heights.now))) result writer.old writer.new }
-        ensures end { IfOk result (λ end. end ≡ track_at (row_tracks (sheet_of self.now.cfg.now (R.rows self.now.records.now) (C.color self.now.colors.now) self.now.widths.now self.now.heights.now)) (length self.now.heights.now)) }
+        ensures lines { Chooses W.contents (chosen_lines (table_sheet R.rows C.color self.now) (K.wants wanted.now) (boundary_at (row_tracks (table_sheet R.rows C.color self.now)) 0) (track_at (row_tracks (table_sheet R.rows C.color self.now)) (length self.now.heights.now))) result writer.old writer.new }
+        ensures end { IfOk result (λ end. end ≡ track_at (row_tracks (table_sheet R.rows C.color self.now)) (length self.now.heights.now)) }
         ensures empty { OnOk result (string_bytes line.new ≡ []) }
     {
         let flat = self.flat_rows(alloc)?;
@@ -290,11 +290,11 @@ impl<'a, R: PeekableRecords, C: Colors> Table<'a, R, C> {
         line: &mut String,
         wanted: &K,
     ) -> Result<(), Stop>
-        requires printable { IsPrintable (sheet_of self.now.cfg.now (R.rows self.now.records.now) (C.color self.now.colors.now) self.now.widths.now self.now.heights.now) }
+        requires printable { IsPrintable (table_sheet R.rows C.color self.now) }
         requires rows { 0 < length self.now.heights.now }
         requires columns { 0 < length self.now.widths.now }
         requires empty { string_bytes line.old ≡ [] }
-        ensures { Chooses W.contents (chosen_lines (sheet_of self.now.cfg.now (R.rows self.now.records.now) (C.color self.now.colors.now) self.now.widths.now self.now.heights.now) (K.wants wanted.now) 0 (line_count (grid_of (sheet_of self.now.cfg.now (R.rows self.now.records.now) (C.color self.now.colors.now) self.now.widths.now self.now.heights.now)).frame)) result writer.old writer.new }
+        ensures { Chooses W.contents (chosen_lines (table_sheet R.rows C.color self.now) (K.wants wanted.now) 0 (line_count (grid_of (table_sheet R.rows C.color self.now)).frame)) result writer.old writer.new }
     {
         let margin = self.cfg.get_margin();
         let colors = self.cfg.get_margin_color();

@@ -4,7 +4,7 @@ ghost use Rattle.grid_config_spans.specs.Spans.{AreGood, ArePositive};
 ghost use Rattle.papergrid_picture.specs.Frame.{Boundary, boundary_at, track_at};
 ghost use Rattle.papergrid_picture.specs.Picture.{seen};
 ghost use Rattle.papergrid_print.specs.Seen.{AreSeen};
-ghost use Rattle.papergrid_print.specs.Sheets.{IsPrintable, ShowsAt, grid_of, line_at, place_line, row_tracks, sheet_of};
+ghost use Rattle.papergrid_print.specs.Sheets.{IsPrintable, ShowsAt, grid_of, line_at, place_line, row_tracks, table_sheet};
 ghost use Rattle.papergrid_print.specs.Single.{IsOpenAbove};
 
 use super::Table;
@@ -22,9 +22,9 @@ impl<'a, R: PeekableRecords, C: Colors> Table<'a, R, C> {
         requires above { row ≤ i }
         requires row { row < length self.now.heights.now }
         requires boundary { i ≤ length self.now.heights.now }
-        requires start { start ≡ boundary_at (row_tracks (sheet_of self.now.cfg.now (R.rows self.now.records.now) (C.color self.now.colors.now) self.now.widths.now self.now.heights.now)) i }
-        requires lines { boundary_at (row_tracks (sheet_of self.now.cfg.now (R.rows self.now.records.now) (C.color self.now.colors.now) self.now.widths.now self.now.heights.now)) (length self.now.heights.now) < 2 ^ 64 }
-        ensures { result ≡ track_at (row_tracks (sheet_of self.now.cfg.now (R.rows self.now.records.now) (C.color self.now.colors.now) self.now.widths.now self.now.heights.now)) row }
+        requires start { start ≡ boundary_at (row_tracks (table_sheet R.rows C.color self.now)) i }
+        requires lines { boundary_at (row_tracks (table_sheet R.rows C.color self.now)) (length self.now.heights.now) < 2 ^ 64 }
+        ensures { result ≡ track_at (row_tracks (table_sheet R.rows C.color self.now)) row }
     {
         if row == i {
             return start + thickness(self.cfg, Axis::Rows, self.heights, i);
@@ -48,12 +48,12 @@ impl<'a, R: PeekableRecords, C: Colors> Table<'a, R, C> {
         requires rows { before ≤ length self.now.heights.now }
         requires boundary { i ≤ length self.now.heights.now }
         requires column { j < length self.now.widths.now }
-        requires start { start ≡ boundary_at (row_tracks (sheet_of self.now.cfg.now (R.rows self.now.records.now) (C.color self.now.colors.now) self.now.widths.now self.now.heights.now)) i }
+        requires start { start ≡ boundary_at (row_tracks (table_sheet R.rows C.color self.now)) i }
         requires good { AreGood self.now.cfg.now.spans (length self.now.heights.now) (length self.now.widths.now) }
-        requires lines { boundary_at (row_tracks (sheet_of self.now.cfg.now (R.rows self.now.records.now) (C.color self.now.colors.now) self.now.widths.now self.now.heights.now)) (length self.now.heights.now) < 2 ^ 64 }
-        requires columns { boundary_at (grid_of (sheet_of self.now.cfg.now (R.rows self.now.records.now) (C.color self.now.colors.now) self.now.widths.now self.now.heights.now)).frame.columns (length self.now.widths.now) < 2 ^ 64 }
-        ensures above { IfOk result (λ _. (seen (grid_of (sheet_of self.now.cfg.now (R.rows self.now.records.now) (C.color self.now.colors.now) self.now.widths.now self.now.heights.now)) i j).row ≤ i) }
-        ensures open { IfOk result (λ kept. let sheet = sheet_of self.now.cfg.now (R.rows self.now.records.now) (C.color self.now.colors.now) self.now.widths.now self.now.heights.now in
+        requires lines { boundary_at (row_tracks (table_sheet R.rows C.color self.now)) (length self.now.heights.now) < 2 ^ 64 }
+        requires columns { boundary_at (grid_of (table_sheet R.rows C.color self.now)).frame.columns (length self.now.widths.now) < 2 ^ 64 }
+        ensures above { IfOk result (λ _. (seen (grid_of (table_sheet R.rows C.color self.now)) i j).row ≤ i) }
+        ensures open { IfOk result (λ kept. let sheet = table_sheet R.rows C.color self.now in
             (seen (grid_of sheet) i j).row < before → (seen (grid_of sheet) i j).col ≡ j → ShowsAt sheet (seen (grid_of sheet) i j) kept) }
     {
         let pos = kept_at(owners, i, j);
@@ -81,13 +81,13 @@ impl<'a, R: PeekableRecords, C: Colors> Table<'a, R, C> {
         requires positive { 0 < length self.now.widths.now → ArePositive self.now.cfg.now.spans }
         requires rows { before ≤ length self.now.heights.now }
         requires boundary { i ≤ length self.now.heights.now }
-        requires start { start ≡ boundary_at (row_tracks (sheet_of self.now.cfg.now (R.rows self.now.records.now) (C.color self.now.colors.now) self.now.widths.now self.now.heights.now)) i }
+        requires start { start ≡ boundary_at (row_tracks (table_sheet R.rows C.color self.now)) i }
         requires good { AreGood self.now.cfg.now.spans (length self.now.heights.now) (length self.now.widths.now) }
-        requires lines { boundary_at (row_tracks (sheet_of self.now.cfg.now (R.rows self.now.records.now) (C.color self.now.colors.now) self.now.widths.now self.now.heights.now)) (length self.now.heights.now) < 2 ^ 64 }
-        requires columns { boundary_at (grid_of (sheet_of self.now.cfg.now (R.rows self.now.records.now) (C.color self.now.colors.now) self.now.widths.now self.now.heights.now)).frame.columns (length self.now.widths.now) < 2 ^ 64 }
+        requires lines { boundary_at (row_tracks (table_sheet R.rows C.color self.now)) (length self.now.heights.now) < 2 ^ 64 }
+        requires columns { boundary_at (grid_of (table_sheet R.rows C.color self.now)).frame.columns (length self.now.widths.now) < 2 ^ 64 }
         ensures wide { IfOk result (λ cells. length cells.items ≡ length self.now.widths.now) }
-        ensures above { IfOk result (λ _. (j : ℕ) → j < length self.now.widths.now → (seen (grid_of (sheet_of self.now.cfg.now (R.rows self.now.records.now) (C.color self.now.colors.now) self.now.widths.now self.now.heights.now)) i j).row ≤ i) }
-        ensures open { IfOk result (λ cells. IsOpenAbove (sheet_of self.now.cfg.now (R.rows self.now.records.now) (C.color self.now.colors.now) self.now.widths.now self.now.heights.now) before i cells.items) }
+        ensures above { IfOk result (λ _. (j : ℕ) → j < length self.now.widths.now → (seen (grid_of (table_sheet R.rows C.color self.now)) i j).row ≤ i) }
+        ensures open { IfOk result (λ cells. IsOpenAbove (table_sheet R.rows C.color self.now) before i cells.items) }
     {
         let mut cells = Vec::new(alloc);
         for j in 0..self.widths.len() {
@@ -105,11 +105,11 @@ impl<'a, R: PeekableRecords, C: Colors> Table<'a, R, C> {
         y: usize,
     ) -> Result<(), AllocError>
         requires boundary { i ≤ length self.now.heights.now }
-        requires start { y ≡ boundary_at (row_tracks (sheet_of self.now.cfg.now (R.rows self.now.records.now) (C.color self.now.colors.now) self.now.widths.now self.now.heights.now)) i }
+        requires start { y ≡ boundary_at (row_tracks (table_sheet R.rows C.color self.now)) i }
         requires good { AreGood self.now.cfg.now.spans (length self.now.heights.now) (length self.now.widths.now) }
-        requires lines { boundary_at (row_tracks (sheet_of self.now.cfg.now (R.rows self.now.records.now) (C.color self.now.colors.now) self.now.widths.now self.now.heights.now)) (length self.now.heights.now) < 2 ^ 64 }
-        requires columns { boundary_at (grid_of (sheet_of self.now.cfg.now (R.rows self.now.records.now) (C.color self.now.colors.now) self.now.widths.now self.now.heights.now)).frame.columns (length self.now.widths.now) < 2 ^ 64 }
-        ensures { OnOk result (string_bytes out.new ≡ string_bytes out.old ++ line_at (sheet_of self.now.cfg.now (R.rows self.now.records.now) (C.color self.now.colors.now) self.now.widths.now self.now.heights.now) (Boundary i) y) }
+        requires lines { boundary_at (row_tracks (table_sheet R.rows C.color self.now)) (length self.now.heights.now) < 2 ^ 64 }
+        requires columns { boundary_at (grid_of (table_sheet R.rows C.color self.now)).frame.columns (length self.now.widths.now) < 2 ^ 64 }
+        ensures { OnOk result (string_bytes out.new ≡ string_bytes out.old ++ line_at (table_sheet R.rows C.color self.now) (Boundary i) y) }
     {
         let owners = self.seen_in_row(alloc, i)?;
         let cells = self.cells_at(alloc, &owners, i, y, i)?;
@@ -128,13 +128,13 @@ impl<'a, R: PeekableRecords, C: Colors> Table<'a, R, C> {
         y: usize,
     ) -> Result<(), AllocError>
         requires row { i < length self.now.heights.now }
-        requires start { start ≡ boundary_at (row_tracks (sheet_of self.now.cfg.now (R.rows self.now.records.now) (C.color self.now.colors.now) self.now.widths.now self.now.heights.now)) i }
+        requires start { start ≡ boundary_at (row_tracks (table_sheet R.rows C.color self.now)) i }
         requires from { start ≤ y }
-        requires before { y < boundary_at (row_tracks (sheet_of self.now.cfg.now (R.rows self.now.records.now) (C.color self.now.colors.now) self.now.widths.now self.now.heights.now)) (i + 1) }
+        requires before { y < boundary_at (row_tracks (table_sheet R.rows C.color self.now)) (i + 1) }
         requires good { AreGood self.now.cfg.now.spans (length self.now.heights.now) (length self.now.widths.now) }
-        requires lines { boundary_at (row_tracks (sheet_of self.now.cfg.now (R.rows self.now.records.now) (C.color self.now.colors.now) self.now.widths.now self.now.heights.now)) (length self.now.heights.now) < 2 ^ 64 }
-        requires columns { boundary_at (grid_of (sheet_of self.now.cfg.now (R.rows self.now.records.now) (C.color self.now.colors.now) self.now.widths.now self.now.heights.now)).frame.columns (length self.now.widths.now) < 2 ^ 64 }
-        ensures { OnOk result (string_bytes out.new ≡ string_bytes out.old ++ place_line (sheet_of self.now.cfg.now (R.rows self.now.records.now) (C.color self.now.colors.now) self.now.widths.now self.now.heights.now) y) }
+        requires lines { boundary_at (row_tracks (table_sheet R.rows C.color self.now)) (length self.now.heights.now) < 2 ^ 64 }
+        requires columns { boundary_at (grid_of (table_sheet R.rows C.color self.now)).frame.columns (length self.now.widths.now) < 2 ^ 64 }
+        ensures { OnOk result (string_bytes out.new ≡ string_bytes out.old ++ place_line (table_sheet R.rows C.color self.now) y) }
     {
         if y < self.top_of(i, i, start) {
             return self.push_boundary_at(alloc, out, i, y);
@@ -153,12 +153,12 @@ impl<'a, R: PeekableRecords, C: Colors> Table<'a, R, C> {
         start: usize,
         y: usize,
     ) -> Result<(), AllocError>
-        requires printable { IsPrintable (sheet_of self.now.cfg.now (R.rows self.now.records.now) (C.color self.now.colors.now) self.now.widths.now self.now.heights.now) }
+        requires printable { IsPrintable (table_sheet R.rows C.color self.now) }
         requires rows { 0 < length self.now.heights.now }
         requires columns { 0 < length self.now.widths.now }
-        requires start { start ≡ boundary_at (row_tracks (sheet_of self.now.cfg.now (R.rows self.now.records.now) (C.color self.now.colors.now) self.now.widths.now self.now.heights.now)) (length self.now.heights.now) }
+        requires start { start ≡ boundary_at (row_tracks (table_sheet R.rows C.color self.now)) (length self.now.heights.now) }
         requires from { start ≤ y }
-        ensures { OnOk result (string_bytes out.new ≡ string_bytes out.old ++ place_line (sheet_of self.now.cfg.now (R.rows self.now.records.now) (C.color self.now.colors.now) self.now.widths.now self.now.heights.now) y) }
+        ensures { OnOk result (string_bytes out.new ≡ string_bytes out.old ++ place_line (table_sheet R.rows C.color self.now) y) }
     {
         let rows = self.heights.len();
         if y < start + thickness(self.cfg, Axis::Rows, self.heights, rows) {
@@ -176,10 +176,10 @@ impl<'a, R: PeekableRecords, C: Colors> Table<'a, R, C> {
         out: &mut String,
         y: usize,
     ) -> Result<(), AllocError>
-        requires printable { IsPrintable (sheet_of self.now.cfg.now (R.rows self.now.records.now) (C.color self.now.colors.now) self.now.widths.now self.now.heights.now) }
+        requires printable { IsPrintable (table_sheet R.rows C.color self.now) }
         requires rows { 0 < length self.now.heights.now }
         requires columns { 0 < length self.now.widths.now }
-        ensures { OnOk result (string_bytes out.new ≡ string_bytes out.old ++ place_line (sheet_of self.now.cfg.now (R.rows self.now.records.now) (C.color self.now.colors.now) self.now.widths.now self.now.heights.now) y) }
+        ensures { OnOk result (string_bytes out.new ≡ string_bytes out.old ++ place_line (table_sheet R.rows C.color self.now) y) }
     {
         let margin = self.cfg.get_margin();
         let colors = self.cfg.get_margin_color();

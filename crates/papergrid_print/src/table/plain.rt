@@ -6,7 +6,7 @@ ghost use Rattle.grid_records_traits.specs.Rows.{row_at};
 ghost use Rattle.papergrid_picture.specs.Frame.{Row, track_at};
 ghost use Rattle.papergrid_cells.specs.Flat.{AreFlat, AreFlatRows, HasEmptyRow, IsEmptyRow};
 ghost use Rattle.papergrid_print.specs.FlatSheets.{row_front};
-ghost use Rattle.papergrid_print.specs.Sheets.{line_at, row_tracks, sheet_of};
+ghost use Rattle.papergrid_print.specs.Sheets.{line_at, row_tracks, table_sheet};
 
 use super::Table;
 use crate::colors::Colors;
@@ -36,7 +36,7 @@ impl<'a, R: PeekableRecords, C: Colors> Table<'a, R, C> {
         requires high { slice_index self.now.heights.now i ≡ 1 }
         requires columns { 0 < length self.now.widths.now }
         requires cells { plain_texts cells ≡ row_at (R.rows self.now.records.now) i }
-        ensures { OnOk result (string_bytes out.new ≡ string_bytes out.old ++ line_at (sheet_of self.now.cfg.now (R.rows self.now.records.now) (C.color self.now.colors.now) self.now.widths.now self.now.heights.now) (Row i) (track_at (row_tracks (sheet_of self.now.cfg.now (R.rows self.now.records.now) (C.color self.now.colors.now) self.now.widths.now self.now.heights.now)) i)) }
+        ensures { OnOk result (string_bytes out.new ≡ string_bytes out.old ++ line_at (table_sheet R.rows C.color self.now) (Row i) (track_at (row_tracks (table_sheet R.rows C.color self.now)) i)) }
     {
         let columns = self.widths.len();
         let first = self.push_front(out, flat, cells, i)?;
@@ -66,7 +66,7 @@ impl<'a, R: PeekableRecords, C: Colors> Table<'a, R, C> {
         requires columns { 0 < length self.now.widths.now }
         requires cells { plain_texts cells ≡ row_at (R.rows self.now.records.now) i }
         requires empty { HasEmptyRow self.now.widths.now flat.now }
-        ensures front { IfOk result (λ column. string_bytes out.new ≡ string_bytes out.old ++ row_front (sheet_of self.now.cfg.now (R.rows self.now.records.now) (C.color self.now.colors.now) self.now.widths.now self.now.heights.now) i column) }
+        ensures front { IfOk result (λ column. string_bytes out.new ≡ string_bytes out.old ++ row_front (table_sheet R.rows C.color self.now) i column) }
         ensures inside { IfOk result (λ column. column ≤ length self.now.widths.now) }
     {
         match flat.empty() {
@@ -97,7 +97,7 @@ impl<'a, R: PeekableRecords, C: Colors> Table<'a, R, C> {
         requires columns { 0 < length self.now.widths.now }
         requires cells { plain_texts cells ≡ row_at (R.rows self.now.records.now) i }
         requires empty { IsEmptyRow flat.now self.now.widths.now empty.now }
-        ensures front { IfOk result (λ column. string_bytes out.new ≡ string_bytes out.old ++ row_front (sheet_of self.now.cfg.now (R.rows self.now.records.now) (C.color self.now.colors.now) self.now.widths.now self.now.heights.now) i column) }
+        ensures front { IfOk result (λ column. string_bytes out.new ≡ string_bytes out.old ++ row_front (table_sheet R.rows C.color self.now) i column) }
         ensures inside { IfOk result (λ column. column ≤ length self.now.widths.now) }
     {
         out.push_str(&empty.line)?;

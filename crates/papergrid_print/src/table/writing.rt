@@ -7,7 +7,7 @@ ghost use Rattle.papergrid_cells.specs.Flat.{AreMadeFor};
 ghost use Rattle.papergrid_cells.specs.Painting.{colored, fill_bytes};
 ghost use Rattle.papergrid_print.specs.FlatSheets.{IsBetween};
 ghost use Rattle.papergrid_print.specs.Seen.{AreSeen, AreSeenAbove, AreSeenOn};
-ghost use Rattle.papergrid_print.specs.Sheets.{GoesOn, IsOpen, IsPrintable, grid_of, lines_of, place_line, row_tracks, sheet_of};
+ghost use Rattle.papergrid_print.specs.Sheets.{GoesOn, IsOpen, IsPrintable, grid_of, lines_of, place_line, row_tracks, table_sheet};
 ghost use Rattle.tabled_output.specs.Pieces.{Continues, Passes};
 
 use super::{Table, closed_cells, push_feed};
@@ -37,14 +37,14 @@ impl<'a, R: PeekableRecords, C: Colors> Table<'a, R, C> {
         y: usize,
     ) -> Result<Result<usize, WriteFault>, AllocError>
         requires seen { AreSeenOn self.now.cfg.now.spans (length self.now.widths.now) i owners.now }
-        requires between { MatchOption between.now ⊤ (λ text. IsBetween (sheet_of self.now.cfg.now (R.rows self.now.records.now) (C.color self.now.colors.now) self.now.widths.now self.now.heights.now) (string_bytes text)) }
-        requires goes_on { GoesOn (sheet_of self.now.cfg.now (R.rows self.now.records.now) (C.color self.now.colors.now) self.now.widths.now self.now.heights.now) i cells.now }
+        requires between { MatchOption between.now ⊤ (λ text. IsBetween (table_sheet R.rows C.color self.now) (string_bytes text)) }
+        requires goes_on { GoesOn (table_sheet R.rows C.color self.now) i cells.now }
         requires wide { length cells.now ≡ length self.now.widths.now }
         requires boundary { i ≤ length self.now.heights.now }
-        requires top { y ≡ boundary_at (row_tracks (sheet_of self.now.cfg.now (R.rows self.now.records.now) (C.color self.now.colors.now) self.now.widths.now self.now.heights.now)) i }
-        requires range { track_at (row_tracks (sheet_of self.now.cfg.now (R.rows self.now.records.now) (C.color self.now.colors.now) self.now.widths.now self.now.heights.now)) i < 2 ^ 64 }
-        ensures lines { Continues W.contents (lines_of (sheet_of self.now.cfg.now (R.rows self.now.records.now) (C.color self.now.colors.now) self.now.widths.now self.now.heights.now) y) (lines_of (sheet_of self.now.cfg.now (R.rows self.now.records.now) (C.color self.now.colors.now) self.now.widths.now self.now.heights.now) (track_at (row_tracks (sheet_of self.now.cfg.now (R.rows self.now.records.now) (C.color self.now.colors.now) self.now.widths.now self.now.heights.now)) i)) result (string_bytes buffer.old) (string_bytes buffer.new) writer.old writer.new }
-        ensures end { IfOk result (λ written. IfOk written (λ end. end ≡ track_at (row_tracks (sheet_of self.now.cfg.now (R.rows self.now.records.now) (C.color self.now.colors.now) self.now.widths.now self.now.heights.now)) i)) }
+        requires top { y ≡ boundary_at (row_tracks (table_sheet R.rows C.color self.now)) i }
+        requires range { track_at (row_tracks (table_sheet R.rows C.color self.now)) i < 2 ^ 64 }
+        ensures lines { Continues W.contents (lines_of (table_sheet R.rows C.color self.now) y) (lines_of (table_sheet R.rows C.color self.now) (track_at (row_tracks (table_sheet R.rows C.color self.now)) i)) result (string_bytes buffer.old) (string_bytes buffer.new) writer.old writer.new }
+        ensures end { IfOk result (λ written. IfOk written (λ end. end ≡ track_at (row_tracks (table_sheet R.rows C.color self.now)) i)) }
     {
         let end = self.push_boundary(buffer, runs, between, owners, cells, i, y)?;
         if let Err(fault) = pass_line(writer, buffer) {
@@ -64,13 +64,13 @@ impl<'a, R: PeekableRecords, C: Colors> Table<'a, R, C> {
         y: usize,
     ) -> Result<Result<usize, WriteFault>, AllocError>
         requires seen { AreSeen self.now.cfg.now.spans (length self.now.widths.now) i owners.now }
-        requires is_open { IsOpen (sheet_of self.now.cfg.now (R.rows self.now.records.now) (C.color self.now.colors.now) self.now.widths.now self.now.heights.now) i cells.now }
+        requires is_open { IsOpen (table_sheet R.rows C.color self.now) i cells.now }
         requires wide { length cells.now ≡ length self.now.widths.now }
         requires row { i < length self.now.heights.now }
-        requires top { y ≡ track_at (row_tracks (sheet_of self.now.cfg.now (R.rows self.now.records.now) (C.color self.now.colors.now) self.now.widths.now self.now.heights.now)) i }
-        requires range { boundary_at (row_tracks (sheet_of self.now.cfg.now (R.rows self.now.records.now) (C.color self.now.colors.now) self.now.widths.now self.now.heights.now)) (length self.now.heights.now) < 2 ^ 64 }
-        ensures lines { Continues W.contents (lines_of (sheet_of self.now.cfg.now (R.rows self.now.records.now) (C.color self.now.colors.now) self.now.widths.now self.now.heights.now) y) (lines_of (sheet_of self.now.cfg.now (R.rows self.now.records.now) (C.color self.now.colors.now) self.now.widths.now self.now.heights.now) (boundary_at (row_tracks (sheet_of self.now.cfg.now (R.rows self.now.records.now) (C.color self.now.colors.now) self.now.widths.now self.now.heights.now)) (i + 1))) result (string_bytes buffer.old) (string_bytes buffer.new) writer.old writer.new }
-        ensures end { IfOk result (λ written. IfOk written (λ end. end ≡ boundary_at (row_tracks (sheet_of self.now.cfg.now (R.rows self.now.records.now) (C.color self.now.colors.now) self.now.widths.now self.now.heights.now)) (i + 1))) }
+        requires top { y ≡ track_at (row_tracks (table_sheet R.rows C.color self.now)) i }
+        requires range { boundary_at (row_tracks (table_sheet R.rows C.color self.now)) (length self.now.heights.now) < 2 ^ 64 }
+        ensures lines { Continues W.contents (lines_of (table_sheet R.rows C.color self.now) y) (lines_of (table_sheet R.rows C.color self.now) (boundary_at (row_tracks (table_sheet R.rows C.color self.now)) (i + 1))) result (string_bytes buffer.old) (string_bytes buffer.new) writer.old writer.new }
+        ensures end { IfOk result (λ written. IfOk written (λ end. end ≡ boundary_at (row_tracks (table_sheet R.rows C.color self.now)) (i + 1))) }
     {
         let end = y + self.heights[i];
         for line in y..end {
@@ -98,17 +98,17 @@ impl<'a, R: PeekableRecords, C: Colors> Table<'a, R, C> {
         requires seen { AreSeen self.now.cfg.now.spans (length self.now.widths.now) i owners.now }
         requires positive { ArePositive self.now.cfg.now.spans }
         requires made { AreMadeFor self.now.cfg.now self.now.widths.now flat.now }
-        requires goes_on { GoesOn (sheet_of self.now.cfg.now (R.rows self.now.records.now) (C.color self.now.colors.now) self.now.widths.now self.now.heights.now) i cells.old }
+        requires goes_on { GoesOn (table_sheet R.rows C.color self.now) i cells.old }
         requires wide { length cells.old ≡ length self.now.widths.now }
         requires row { i < length self.now.heights.now }
         requires some { 0 < length self.now.widths.now }
         requires good { AreGood self.now.cfg.now.spans (length self.now.heights.now) (length self.now.widths.now) }
-        requires range { boundary_at (row_tracks (sheet_of self.now.cfg.now (R.rows self.now.records.now) (C.color self.now.colors.now) self.now.widths.now self.now.heights.now)) (length self.now.heights.now) < 2 ^ 64 }
-        requires columns { boundary_at (grid_of (sheet_of self.now.cfg.now (R.rows self.now.records.now) (C.color self.now.colors.now) self.now.widths.now self.now.heights.now)).frame.columns (length self.now.widths.now) < 2 ^ 64 }
-        requires top { y ≡ track_at (row_tracks (sheet_of self.now.cfg.now (R.rows self.now.records.now) (C.color self.now.colors.now) self.now.widths.now self.now.heights.now)) i }
-        ensures lines { Continues W.contents (lines_of (sheet_of self.now.cfg.now (R.rows self.now.records.now) (C.color self.now.colors.now) self.now.widths.now self.now.heights.now) y) (lines_of (sheet_of self.now.cfg.now (R.rows self.now.records.now) (C.color self.now.colors.now) self.now.widths.now self.now.heights.now) (boundary_at (row_tracks (sheet_of self.now.cfg.now (R.rows self.now.records.now) (C.color self.now.colors.now) self.now.widths.now self.now.heights.now)) (i + 1))) result (string_bytes buffer.old) (string_bytes buffer.new) writer.old writer.new }
-        ensures end { IfOk result (λ written. IfOk written (λ end. end ≡ boundary_at (row_tracks (sheet_of self.now.cfg.now (R.rows self.now.records.now) (C.color self.now.colors.now) self.now.widths.now self.now.heights.now)) (i + 1))) }
-        ensures goes_on { IfOk result (λ written. IfOk written (λ _. GoesOn (sheet_of self.now.cfg.now (R.rows self.now.records.now) (C.color self.now.colors.now) self.now.widths.now self.now.heights.now) (i + 1) cells.new)) }
+        requires range { boundary_at (row_tracks (table_sheet R.rows C.color self.now)) (length self.now.heights.now) < 2 ^ 64 }
+        requires columns { boundary_at (grid_of (table_sheet R.rows C.color self.now)).frame.columns (length self.now.widths.now) < 2 ^ 64 }
+        requires top { y ≡ track_at (row_tracks (table_sheet R.rows C.color self.now)) i }
+        ensures lines { Continues W.contents (lines_of (table_sheet R.rows C.color self.now) y) (lines_of (table_sheet R.rows C.color self.now) (boundary_at (row_tracks (table_sheet R.rows C.color self.now)) (i + 1))) result (string_bytes buffer.old) (string_bytes buffer.new) writer.old writer.new }
+        ensures end { IfOk result (λ written. IfOk written (λ end. end ≡ boundary_at (row_tracks (table_sheet R.rows C.color self.now)) (i + 1))) }
+        ensures goes_on { IfOk result (λ written. IfOk written (λ _. GoesOn (table_sheet R.rows C.color self.now) (i + 1) cells.new)) }
         ensures wide { length cells.new ≡ length cells.old }
     {
         if self.heights[i] == 1 {
@@ -136,8 +136,8 @@ impl<'a, R: PeekableRecords, C: Colors> Table<'a, R, C> {
         width: usize,
     ) -> Result<Result<(), WriteFault>, AllocError>
         requires range { y + margin.size < 2 ^ 64 }
-        requires shown { (k : ℕ) → y ≤ k → k < y + margin.size → place_line (sheet_of self.now.cfg.now (R.rows self.now.records.now) (C.color self.now.colors.now) self.now.widths.now self.now.heights.now) k ≡ colored color.now (fill_bytes margin.fill width) }
-        ensures { Continues W.contents (lines_of (sheet_of self.now.cfg.now (R.rows self.now.records.now) (C.color self.now.colors.now) self.now.widths.now self.now.heights.now) y) (lines_of (sheet_of self.now.cfg.now (R.rows self.now.records.now) (C.color self.now.colors.now) self.now.widths.now self.now.heights.now) (y + margin.size)) result (string_bytes buffer.old) (string_bytes buffer.new) writer.old writer.new }
+        requires shown { (k : ℕ) → y ≤ k → k < y + margin.size → place_line (table_sheet R.rows C.color self.now) k ≡ colored color.now (fill_bytes margin.fill width) }
+        ensures { Continues W.contents (lines_of (table_sheet R.rows C.color self.now) y) (lines_of (table_sheet R.rows C.color self.now) (y + margin.size)) result (string_bytes buffer.old) (string_bytes buffer.new) writer.old writer.new }
     {
         for line in y..y + margin.size {
             push_feed(buffer, line)?;
@@ -166,13 +166,13 @@ impl<'a, R: PeekableRecords, C: Colors> Table<'a, R, C> {
         requires seen { AreSeenAbove self.now.cfg.now.spans (length self.now.widths.now) 0 owners.old }
         requires some { 0 < length self.now.widths.now }
         requires good { AreGood self.now.cfg.now.spans (length self.now.heights.now) (length self.now.widths.now) }
-        requires lines { track_at (row_tracks (sheet_of self.now.cfg.now (R.rows self.now.records.now) (C.color self.now.colors.now) self.now.widths.now self.now.heights.now)) (length self.now.heights.now) < 2 ^ 64 }
-        requires columns { boundary_at (grid_of (sheet_of self.now.cfg.now (R.rows self.now.records.now) (C.color self.now.colors.now) self.now.widths.now self.now.heights.now)).frame.columns (length self.now.widths.now) < 2 ^ 64 }
+        requires lines { track_at (row_tracks (table_sheet R.rows C.color self.now)) (length self.now.heights.now) < 2 ^ 64 }
+        requires columns { boundary_at (grid_of (table_sheet R.rows C.color self.now)).frame.columns (length self.now.widths.now) < 2 ^ 64 }
         requires made { AreMadeFor self.now.cfg.now self.now.widths.now flat.now }
-        requires between { MatchOption between.now ⊤ (λ text. IsBetween (sheet_of self.now.cfg.now (R.rows self.now.records.now) (C.color self.now.colors.now) self.now.widths.now self.now.heights.now) (string_bytes text)) }
+        requires between { MatchOption between.now ⊤ (λ text. IsBetween (table_sheet R.rows C.color self.now) (string_bytes text)) }
         requires wide { length cells.old ≡ length self.now.widths.now }
-        ensures lines { Continues W.contents (lines_of (sheet_of self.now.cfg.now (R.rows self.now.records.now) (C.color self.now.colors.now) self.now.widths.now self.now.heights.now) (boundary_at (row_tracks (sheet_of self.now.cfg.now (R.rows self.now.records.now) (C.color self.now.colors.now) self.now.widths.now self.now.heights.now)) 0)) (lines_of (sheet_of self.now.cfg.now (R.rows self.now.records.now) (C.color self.now.colors.now) self.now.widths.now self.now.heights.now) (track_at (row_tracks (sheet_of self.now.cfg.now (R.rows self.now.records.now) (C.color self.now.colors.now) self.now.widths.now self.now.heights.now)) (length self.now.heights.now))) result (string_bytes buffer.old) (string_bytes buffer.new) writer.old writer.new }
-        ensures end { IfOk result (λ written. IfOk written (λ end. end ≡ track_at (row_tracks (sheet_of self.now.cfg.now (R.rows self.now.records.now) (C.color self.now.colors.now) self.now.widths.now self.now.heights.now)) (length self.now.heights.now))) }
+        ensures lines { Continues W.contents (lines_of (table_sheet R.rows C.color self.now) (boundary_at (row_tracks (table_sheet R.rows C.color self.now)) 0)) (lines_of (table_sheet R.rows C.color self.now) (track_at (row_tracks (table_sheet R.rows C.color self.now)) (length self.now.heights.now))) result (string_bytes buffer.old) (string_bytes buffer.new) writer.old writer.new }
+        ensures end { IfOk result (λ written. IfOk written (λ end. end ≡ track_at (row_tracks (table_sheet R.rows C.color self.now)) (length self.now.heights.now))) }
     {
         let mut y = self.cfg.get_margin().top.size;
         for i in 0..self.heights.len() {
@@ -207,10 +207,10 @@ impl<'a, R: PeekableRecords, C: Colors> Table<'a, R, C> {
     ) -> Result<Result<usize, WriteFault>, AllocError>
         requires some { 0 < length self.now.widths.now }
         requires good { AreGood self.now.cfg.now.spans (length self.now.heights.now) (length self.now.widths.now) }
-        requires lines { track_at (row_tracks (sheet_of self.now.cfg.now (R.rows self.now.records.now) (C.color self.now.colors.now) self.now.widths.now self.now.heights.now)) (length self.now.heights.now) < 2 ^ 64 }
-        requires columns { boundary_at (grid_of (sheet_of self.now.cfg.now (R.rows self.now.records.now) (C.color self.now.colors.now) self.now.widths.now self.now.heights.now)).frame.columns (length self.now.widths.now) < 2 ^ 64 }
-        ensures lines { Continues W.contents (lines_of (sheet_of self.now.cfg.now (R.rows self.now.records.now) (C.color self.now.colors.now) self.now.widths.now self.now.heights.now) (boundary_at (row_tracks (sheet_of self.now.cfg.now (R.rows self.now.records.now) (C.color self.now.colors.now) self.now.widths.now self.now.heights.now)) 0)) (lines_of (sheet_of self.now.cfg.now (R.rows self.now.records.now) (C.color self.now.colors.now) self.now.widths.now self.now.heights.now) (track_at (row_tracks (sheet_of self.now.cfg.now (R.rows self.now.records.now) (C.color self.now.colors.now) self.now.widths.now self.now.heights.now)) (length self.now.heights.now))) result (string_bytes buffer.old) (string_bytes buffer.new) writer.old writer.new }
-        ensures end { IfOk result (λ written. IfOk written (λ end. end ≡ track_at (row_tracks (sheet_of self.now.cfg.now (R.rows self.now.records.now) (C.color self.now.colors.now) self.now.widths.now self.now.heights.now)) (length self.now.heights.now))) }
+        requires lines { track_at (row_tracks (table_sheet R.rows C.color self.now)) (length self.now.heights.now) < 2 ^ 64 }
+        requires columns { boundary_at (grid_of (table_sheet R.rows C.color self.now)).frame.columns (length self.now.widths.now) < 2 ^ 64 }
+        ensures lines { Continues W.contents (lines_of (table_sheet R.rows C.color self.now) (boundary_at (row_tracks (table_sheet R.rows C.color self.now)) 0)) (lines_of (table_sheet R.rows C.color self.now) (track_at (row_tracks (table_sheet R.rows C.color self.now)) (length self.now.heights.now))) result (string_bytes buffer.old) (string_bytes buffer.new) writer.old writer.new }
+        ensures end { IfOk result (λ written. IfOk written (λ end. end ≡ track_at (row_tracks (table_sheet R.rows C.color self.now)) (length self.now.heights.now))) }
     {
         let flat = self.flat_rows(alloc)?;
         let mut runs = Vec::new(alloc);
@@ -232,7 +232,7 @@ impl<'a, R: PeekableRecords, C: Colors> Table<'a, R, C> {
     /// An empty text with room for a line: each of its columns takes a byte at least. A line that no memory
     /// holds is refused here, before anything is written.
     pub(crate) fn line_buffer(&self, alloc: Global) -> Result<String, AllocError>
-        requires printable { IsPrintable (sheet_of self.now.cfg.now (R.rows self.now.records.now) (C.color self.now.colors.now) self.now.widths.now self.now.heights.now) }
+        requires printable { IsPrintable (table_sheet R.rows C.color self.now) }
         requires rows { 0 < length self.now.heights.now }
         requires columns { 0 < length self.now.widths.now }
         ensures { IfOk result (λ line. string_bytes line ≡ []) }
@@ -250,11 +250,11 @@ impl<'a, R: PeekableRecords, C: Colors> Table<'a, R, C> {
         writer: &mut Counted<W>,
         buffer: &mut String,
     ) -> Result<Result<(), WriteFault>, AllocError>
-        requires printable { IsPrintable (sheet_of self.now.cfg.now (R.rows self.now.records.now) (C.color self.now.colors.now) self.now.widths.now self.now.heights.now) }
+        requires printable { IsPrintable (table_sheet R.rows C.color self.now) }
         requires rows { 0 < length self.now.heights.now }
         requires columns { 0 < length self.now.widths.now }
         requires empty { string_bytes buffer.old ≡ [] }
-        ensures { Passes W.contents (lines_of (sheet_of self.now.cfg.now (R.rows self.now.records.now) (C.color self.now.colors.now) self.now.widths.now self.now.heights.now) (line_count (grid_of (sheet_of self.now.cfg.now (R.rows self.now.records.now) (C.color self.now.colors.now) self.now.widths.now self.now.heights.now)).frame)) result (string_bytes buffer.new) writer.old writer.new }
+        ensures { Passes W.contents (lines_of (table_sheet R.rows C.color self.now) (line_count (grid_of (table_sheet R.rows C.color self.now)).frame)) result (string_bytes buffer.new) writer.old writer.new }
     {
         let margin = self.cfg.get_margin();
         let colors = self.cfg.get_margin_color();

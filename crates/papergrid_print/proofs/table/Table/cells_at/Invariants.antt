@@ -1,7 +1,7 @@
-use Rattle.papergrid_print.specs.Sheets.{sheet_of}
+use Rattle.papergrid_print.specs.Sheets.{table_sheet}
 use Rattle.papergrid_print.proofs.SingleLemmas.{AreKept}
 use Rattle.papergrid_print.proofs.table.Table.cells_at.Given as goal
 
 abbrev pub invariant-loop-j : goal.invariant-loop-j
 invariant-loop-j g l =
-    AreKept (sheet_of l.self.cfg.now (g.R.RecordTexts.rows l.self.records.now) (g.C.Colors.color l.self.colors.now) l.self.widths.now l.self.heights.now) l.before l.i l.j l.cells.items
+    AreKept (table_sheet g.R.RecordTexts.rows g.C.Colors.color l.self) l.before l.i l.j l.cells.items

@@ -2,7 +2,7 @@ use Rattle.std.proofs.Common.{◌≡◌, ◌+◌, ◌≤◌, ◌∙◌, ℕ, [],
 use Rattle.papergrid_picture.specs.Frame.{boundary_at, track_at}
 use Rattle.papergrid_picture.proofs.FrameLemmas.{boundary-first}
 use Rattle.papergrid_print.specs.Chosen.{Chooses, chosen_lines}
-use Rattle.papergrid_print.specs.Sheets.{row_tracks, sheet_of}
+use Rattle.papergrid_print.specs.Sheets.{row_tracks, table_sheet}
 use Rattle.tabled_output.specs.Pieces.{HasPassed}
 use Rattle.papergrid_print.proofs.ChoosingLemmas.{chosen-then, none-yet, passed-then, stopped-then}
 use Rattle.papergrid_print.proofs.PlaceLemmas.{row-end}
@@ -13,7 +13,7 @@ use Rattle.papergrid_print.proofs.table.Table.choose_all_rows.Goals as goal
 
 pub choose_boundary-requires-clause-range : goal.choose_boundary-requires-clause-range
 choose_boundary-requires-clause-range g c =
-    let S = sheet_of c.args.self.now.cfg.now (g.R.RecordTexts.rows c.args.self.now.records.now) (g.C.Colors.color c.args.self.now.colors.now) c.args.self.now.widths.now c.args.self.now.heights.now in
+    let S = table_sheet g.R.RecordTexts.rows g.C.Colors.color c.args.self.now in
     let wants = g.K.Wanted.wants c.args.wanted.now in
     let K = g.W.Write.contents in
     omega (arith, row-within S c.loop-i.i c.loop-i-test.true, c.requires.lines)
@@ -24,7 +24,7 @@ choose_boundary-requires-2-clause-seen g c =
 
 pub loop-i-init : goal.loop-i-init
 loop-i-init g c =
-    let S = sheet_of c.args.self.now.cfg.now (g.R.RecordTexts.rows c.args.self.now.records.now) (g.C.Colors.color c.args.self.now.colors.now) c.args.self.now.widths.now c.args.self.now.heights.now in
+    let S = table_sheet g.R.RecordTexts.rows g.C.Colors.color c.args.self.now in
     let wants = g.K.Wanted.wants c.args.wanted.now in
     let K = g.W.Write.contents in
     let top = ap (λ m. m.top.size) c.get_margin.ensures in
@@ -39,7 +39,7 @@ loop-i-init g c =
 
 pub loop-i-preserved : goal.loop-i-preserved
 loop-i-preserved g c =
-    let S = sheet_of c.args.self.now.cfg.now (g.R.RecordTexts.rows c.args.self.now.records.now) (g.C.Colors.color c.args.self.now.colors.now) c.args.self.now.widths.now c.args.self.now.heights.now in
+    let S = table_sheet g.R.RecordTexts.rows g.C.Colors.color c.args.self.now in
     let wants = g.K.Wanted.wants c.args.wanted.now in
     let K = g.W.Write.contents in
     let b0 = boundary_at (row_tracks S) 0 in
@@ -62,7 +62,7 @@ loop-i-preserved g c =
 
 pub returns-in_err-y-clause-lines : goal.returns-in_err-y-clause-lines
 returns-in_err-y-clause-lines g c =
-    let S = sheet_of c.args.self.now.cfg.now (g.R.RecordTexts.rows c.args.self.now.records.now) (g.C.Colors.color c.args.self.now.colors.now) c.args.self.now.widths.now c.args.self.now.heights.now in
+    let S = table_sheet g.R.RecordTexts.rows g.C.Colors.color c.args.self.now in
     let wants = g.K.Wanted.wants c.args.wanted.now in
     let K = g.W.Write.contents in
     let b0 = boundary_at (row_tracks S) 0 in
@@ -77,7 +77,7 @@ returns-in_err-y-clause-lines g c =
 
 pub returns-in_err-y-2-clause-lines : goal.returns-in_err-y-2-clause-lines
 returns-in_err-y-2-clause-lines g c =
-    let S = sheet_of c.args.self.now.cfg.now (g.R.RecordTexts.rows c.args.self.now.records.now) (g.C.Colors.color c.args.self.now.colors.now) c.args.self.now.widths.now c.args.self.now.heights.now in
+    let S = table_sheet g.R.RecordTexts.rows g.C.Colors.color c.args.self.now in
     let wants = g.K.Wanted.wants c.args.wanted.now in
     let K = g.W.Write.contents in
     let b0 = boundary_at (row_tracks S) 0 in
@@ -96,7 +96,7 @@ returns-in_err-y-2-clause-lines g c =
 
 pub returns-clause-lines : goal.returns-clause-lines
 returns-clause-lines g c =
-    let S = sheet_of c.args.self.now.cfg.now (g.R.RecordTexts.rows c.args.self.now.records.now) (g.C.Colors.color c.args.self.now.colors.now) c.args.self.now.widths.now c.args.self.now.heights.now in
+    let S = table_sheet g.R.RecordTexts.rows g.C.Colors.color c.args.self.now in
     let wants = g.K.Wanted.wants c.args.wanted.now in
     let K = g.W.Write.contents in
     let b0 = boundary_at (row_tracks S) 0 in

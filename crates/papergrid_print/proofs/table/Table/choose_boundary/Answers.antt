@@ -2,7 +2,7 @@ use Rattle.std.proofs.Common.{◌≡◌, ◌+◌, ◌<◌, ◌≤◌, [], true, 
 use Rattle.papergrid_picture.specs.Frame.{Boundary, boundary_at, place, track_at}
 use Rattle.papergrid_picture.proofs.FrameLemmas.{place-boundary}
 use Rattle.papergrid_print.specs.Chosen.{chosen_lines}
-use Rattle.papergrid_print.specs.Sheets.{line_at, row_tracks, sheet_of}
+use Rattle.papergrid_print.specs.Sheets.{line_at, row_tracks, table_sheet}
 use Rattle.tabled_output.specs.Pieces.{HasPassed}
 use Rattle.papergrid_print.proofs.ChoosingLemmas.{no-memory, no-writer, none-wanted, none-yet, one-more, printed-alone}
 use Rattle.papergrid_print.proofs.PlaceLemmas.{boundary-there}
@@ -10,7 +10,7 @@ use Rattle.papergrid_print.proofs.table.Table.choose_boundary.Goals as goal
 
 pub returns-then-not-is_wanted-clause-lines : goal.returns-then-not-is_wanted-clause-lines
 returns-then-not-is_wanted-clause-lines g c =
-    let S = sheet_of c.args.self.now.cfg.now (g.R.RecordTexts.rows c.args.self.now.records.now) (g.C.Colors.color c.args.self.now.colors.now) c.args.self.now.widths.now c.args.self.now.heights.now in
+    let S = table_sheet g.R.RecordTexts.rows g.C.Colors.color c.args.self.now in
     let wants = g.K.Wanted.wants c.args.wanted.now in
     let K = g.W.Write.contents in
     let there : (row_tracks S).has_boundary c.args.i ≡ true = sym c.has_horizontal.ensures ∙ c.if-not-has_horizontal.false in
@@ -22,7 +22,7 @@ returns-then-not-is_wanted-clause-lines g c =
 
 pub returns-in_err-push_boundary_again-clause-lines : goal.returns-in_err-push_boundary_again-clause-lines
 returns-in_err-push_boundary_again-clause-lines g c =
-    let S = sheet_of c.args.self.now.cfg.now (g.R.RecordTexts.rows c.args.self.now.records.now) (g.C.Colors.color c.args.self.now.colors.now) c.args.self.now.widths.now c.args.self.now.heights.now in
+    let S = table_sheet g.R.RecordTexts.rows g.C.Colors.color c.args.self.now in
     let wants = g.K.Wanted.wants c.args.wanted.now in
     let K = g.W.Write.contents in
     let within : c.args.y ≤ track_at (row_tracks S) c.args.i = omega (arith, c.requires.top) in
@@ -32,7 +32,7 @@ returns-in_err-push_boundary_again-clause-lines g c =
 
 pub returns-in_err-pass_ended-clause-lines : goal.returns-in_err-pass_ended-clause-lines
 returns-in_err-pass_ended-clause-lines g c =
-    let S = sheet_of c.args.self.now.cfg.now (g.R.RecordTexts.rows c.args.self.now.records.now) (g.C.Colors.color c.args.self.now.colors.now) c.args.self.now.widths.now c.args.self.now.heights.now in
+    let S = table_sheet g.R.RecordTexts.rows g.C.Colors.color c.args.self.now in
     let wants = g.K.Wanted.wants c.args.wanted.now in
     let K = g.W.Write.contents in
     let there : (row_tracks S).has_boundary c.args.i ≡ true = sym c.has_horizontal.ensures ∙ c.if-not-has_horizontal.false in
@@ -46,7 +46,7 @@ returns-in_err-pass_ended-clause-lines g c =
 
 pub returns-clause-lines : goal.returns-clause-lines
 returns-clause-lines g c =
-    let S = sheet_of c.args.self.now.cfg.now (g.R.RecordTexts.rows c.args.self.now.records.now) (g.C.Colors.color c.args.self.now.colors.now) c.args.self.now.widths.now c.args.self.now.heights.now in
+    let S = table_sheet g.R.RecordTexts.rows g.C.Colors.color c.args.self.now in
     let wants = g.K.Wanted.wants c.args.wanted.now in
     let K = g.W.Write.contents in
     let there : (row_tracks S).has_boundary c.args.i ≡ true = sym c.has_horizontal.ensures ∙ c.if-not-has_horizontal.false in

@@ -2,7 +2,7 @@ use Rattle.std.proofs.Common.{◌≡◌, ◌+◌, ◌<◌, ◌≤◌, ◌++◌, 
 use Rattle.papergrid_picture.specs.Frame.{Row, boundary_at}
 use Rattle.papergrid_picture.proofs.FrameLemmas.{place-row}
 use Rattle.papergrid_print.specs.Chosen.{chosen_lines}
-use Rattle.papergrid_print.specs.Sheets.{line_at, row_tracks, sheet_of}
+use Rattle.papergrid_print.specs.Sheets.{line_at, row_tracks, table_sheet}
 use Rattle.tabled_output.specs.Pieces.{HasPassed}
 use Rattle.papergrid_print.proofs.ChoosingLemmas.{no-memory, no-writer, none-wanted, none-yet, one-more, printed-alone}
 use Rattle.papergrid_print.proofs.PlaceLemmas.{row-end, row-fits}
@@ -10,21 +10,21 @@ use Rattle.papergrid_print.proofs.table.Table.choose_flat_row.Goals as goal
 
 pub overflow_add-result : goal.overflow_add-result
 overflow_add-result g c =
-    let S = sheet_of c.args.self.now.cfg.now (g.R.RecordTexts.rows c.args.self.now.records.now) (g.C.Colors.color c.args.self.now.colors.now) c.args.self.now.widths.now c.args.self.now.heights.now in
+    let S = table_sheet g.R.RecordTexts.rows g.C.Colors.color c.args.self.now in
     let wants = g.K.Wanted.wants c.args.wanted.now in
     let K = g.W.Write.contents in
     omega (arith, row-fits S c.args.i c.requires.row, c.requires.range, c.requires.top, c.requires.high)
 
 pub overflow_add-result-2 : goal.overflow_add-result-2
 overflow_add-result-2 g c =
-    let S = sheet_of c.args.self.now.cfg.now (g.R.RecordTexts.rows c.args.self.now.records.now) (g.C.Colors.color c.args.self.now.colors.now) c.args.self.now.widths.now c.args.self.now.heights.now in
+    let S = table_sheet g.R.RecordTexts.rows g.C.Colors.color c.args.self.now in
     let wants = g.K.Wanted.wants c.args.wanted.now in
     let K = g.W.Write.contents in
     omega (arith, row-fits S c.args.i c.requires.row, c.requires.range, c.requires.top, c.requires.high)
 
 pub returns-then-not-is_wanted-clause-lines : goal.returns-then-not-is_wanted-clause-lines
 returns-then-not-is_wanted-clause-lines g c =
-    let S = sheet_of c.args.self.now.cfg.now (g.R.RecordTexts.rows c.args.self.now.records.now) (g.C.Colors.color c.args.self.now.colors.now) c.args.self.now.widths.now c.args.self.now.heights.now in
+    let S = table_sheet g.R.RecordTexts.rows g.C.Colors.color c.args.self.now in
     let wants = g.K.Wanted.wants c.args.wanted.now in
     let K = g.W.Write.contents in
     none-wanted S wants K (Row c.args.i) c.args.y (boundary_at (row_tracks S) (c.args.i + 1)) c.args.writer.now (sym c.is_wanted.ensures ∙ c.if-not-is_wanted.true)
@@ -32,14 +32,14 @@ returns-then-not-is_wanted-clause-lines g c =
 
 pub returns-then-not-is_wanted-clause-end : goal.returns-then-not-is_wanted-clause-end
 returns-then-not-is_wanted-clause-end g c =
-    let S = sheet_of c.args.self.now.cfg.now (g.R.RecordTexts.rows c.args.self.now.records.now) (g.C.Colors.color c.args.self.now.colors.now) c.args.self.now.widths.now c.args.self.now.heights.now in
+    let S = table_sheet g.R.RecordTexts.rows g.C.Colors.color c.args.self.now in
     let wants = g.K.Wanted.wants c.args.wanted.now in
     let K = g.W.Write.contents in
     omega (arith, row-end S c.args.i c.requires.row, c.requires.top, c.requires.high)
 
 pub returns-in_err-push_flat_line-clause-lines : goal.returns-in_err-push_flat_line-clause-lines
 returns-in_err-push_flat_line-clause-lines g c =
-    let S = sheet_of c.args.self.now.cfg.now (g.R.RecordTexts.rows c.args.self.now.records.now) (g.C.Colors.color c.args.self.now.colors.now) c.args.self.now.widths.now c.args.self.now.heights.now in
+    let S = table_sheet g.R.RecordTexts.rows g.C.Colors.color c.args.self.now in
     let wants = g.K.Wanted.wants c.args.wanted.now in
     let K = g.W.Write.contents in
     let here : c.args.y ≤ c.args.y = omega arith in
@@ -49,7 +49,7 @@ returns-in_err-push_flat_line-clause-lines g c =
 
 pub returns-in_err-pass_ended-clause-lines : goal.returns-in_err-pass_ended-clause-lines
 returns-in_err-pass_ended-clause-lines g c =
-    let S = sheet_of c.args.self.now.cfg.now (g.R.RecordTexts.rows c.args.self.now.records.now) (g.C.Colors.color c.args.self.now.colors.now) c.args.self.now.widths.now c.args.self.now.heights.now in
+    let S = table_sheet g.R.RecordTexts.rows g.C.Colors.color c.args.self.now in
     let wants = g.K.Wanted.wants c.args.wanted.now in
     let K = g.W.Write.contents in
     let here : c.args.y ≤ c.args.y = omega arith in
@@ -63,7 +63,7 @@ returns-in_err-pass_ended-clause-lines g c =
 
 pub returns-clause-lines : goal.returns-clause-lines
 returns-clause-lines g c =
-    let S = sheet_of c.args.self.now.cfg.now (g.R.RecordTexts.rows c.args.self.now.records.now) (g.C.Colors.color c.args.self.now.colors.now) c.args.self.now.widths.now c.args.self.now.heights.now in
+    let S = table_sheet g.R.RecordTexts.rows g.C.Colors.color c.args.self.now in
     let wants = g.K.Wanted.wants c.args.wanted.now in
     let K = g.W.Write.contents in
     let here : c.args.y ≤ c.args.y = omega arith in
@@ -77,7 +77,7 @@ returns-clause-lines g c =
 
 pub returns-clause-end : goal.returns-clause-end
 returns-clause-end g c =
-    let S = sheet_of c.args.self.now.cfg.now (g.R.RecordTexts.rows c.args.self.now.records.now) (g.C.Colors.color c.args.self.now.colors.now) c.args.self.now.widths.now c.args.self.now.heights.now in
+    let S = table_sheet g.R.RecordTexts.rows g.C.Colors.color c.args.self.now in
     let wants = g.K.Wanted.wants c.args.wanted.now in
     let K = g.W.Write.contents in
     omega (arith, row-end S c.args.i c.requires.row, c.requires.top, c.requires.high)

@@ -3,7 +3,7 @@ use Rattle.papergrid_picture.specs.Frame.{boundary_at, line_count, track_at}
 use Rattle.papergrid_picture.proofs.FrameLemmas.{boundary-first, place-above, place-below}
 use Rattle.papergrid_cells.specs.Painting.{colored, fill_bytes}
 use Rattle.papergrid_print.specs.Chosen.{Chooses, chosen_lines}
-use Rattle.papergrid_print.specs.Sheets.{grid_of, row_tracks, sheet_of}
+use Rattle.papergrid_print.specs.Sheets.{grid_of, row_tracks, table_sheet}
 use Rattle.tabled_output.specs.Pieces.{HasPassed}
 use Rattle.papergrid_print.proofs.ChoosingLemmas.{chosen-then, none-yet, passed-then, stopped-then}
 use Rattle.papergrid_print.proofs.TableLemmas.{below-shows, lines-fit, top-within}
@@ -11,14 +11,14 @@ use Rattle.papergrid_print.proofs.table.Table.choose_lines.Goals as goal
 
 pub choose_margin-requires-clause-outside : goal.choose_margin-requires-clause-outside
 choose_margin-requires-clause-outside g c = λ k from below.
-    let S = sheet_of c.args.self.now.cfg.now (g.R.RecordTexts.rows c.args.self.now.records.now) (g.C.Colors.color c.args.self.now.colors.now) c.args.self.now.widths.now c.args.self.now.heights.now in
+    let S = table_sheet g.R.RecordTexts.rows g.C.Colors.color c.args.self.now in
     let wants = g.K.Wanted.wants c.args.wanted.now in
     let K = g.W.Write.contents in
     place-above (row_tracks S) k (omega (arith, below, ap (λ m. m.top.size) c.get_margin-margin.ensures))
 
 pub choose_margin-requires-2-clause-shown : goal.choose_margin-requires-2-clause-shown
 choose_margin-requires-2-clause-shown g c = λ k from below.
-    let S = sheet_of c.args.self.now.cfg.now (g.R.RecordTexts.rows c.args.self.now.records.now) (g.C.Colors.color c.args.self.now.colors.now) c.args.self.now.widths.now c.args.self.now.heights.now in
+    let S = table_sheet g.R.RecordTexts.rows g.C.Colors.color c.args.self.now in
     let wants = g.K.Wanted.wants c.args.wanted.now in
     let K = g.W.Write.contents in
     let cfg = c.args.self.now.cfg.now in
@@ -30,14 +30,14 @@ choose_margin-requires-2-clause-shown g c = λ k from below.
 
 pub choose_margin-requires-2-clause-outside : goal.choose_margin-requires-2-clause-outside
 choose_margin-requires-2-clause-outside g c = λ k from below.
-    let S = sheet_of c.args.self.now.cfg.now (g.R.RecordTexts.rows c.args.self.now.records.now) (g.C.Colors.color c.args.self.now.colors.now) c.args.self.now.widths.now c.args.self.now.heights.now in
+    let S = table_sheet g.R.RecordTexts.rows g.C.Colors.color c.args.self.now in
     let wants = g.K.Wanted.wants c.args.wanted.now in
     let K = g.W.Write.contents in
     place-below (row_tracks S) k (omega (arith, from, c.in_ok-y.ensures.end))
 
 pub returns-in_err-choose_margin : goal.returns-in_err-choose_margin
 returns-in_err-choose_margin g c =
-    let S = sheet_of c.args.self.now.cfg.now (g.R.RecordTexts.rows c.args.self.now.records.now) (g.C.Colors.color c.args.self.now.colors.now) c.args.self.now.widths.now c.args.self.now.heights.now in
+    let S = table_sheet g.R.RecordTexts.rows g.C.Colors.color c.args.self.now in
     let wants = g.K.Wanted.wants c.args.wanted.now in
     let K = g.W.Write.contents in
     let fit = lines-fit S c.requires.printable c.requires.rows c.requires.columns in
@@ -51,7 +51,7 @@ returns-in_err-choose_margin g c =
 
 pub returns-in_err-y : goal.returns-in_err-y
 returns-in_err-y g c =
-    let S = sheet_of c.args.self.now.cfg.now (g.R.RecordTexts.rows c.args.self.now.records.now) (g.C.Colors.color c.args.self.now.colors.now) c.args.self.now.widths.now c.args.self.now.heights.now in
+    let S = table_sheet g.R.RecordTexts.rows g.C.Colors.color c.args.self.now in
     let wants = g.K.Wanted.wants c.args.wanted.now in
     let K = g.W.Write.contents in
     let fit = lines-fit S c.requires.printable c.requires.rows c.requires.columns in
@@ -68,7 +68,7 @@ returns-in_err-y g c =
 
 pub returns : goal.returns
 returns g c =
-    let S = sheet_of c.args.self.now.cfg.now (g.R.RecordTexts.rows c.args.self.now.records.now) (g.C.Colors.color c.args.self.now.colors.now) c.args.self.now.widths.now c.args.self.now.heights.now in
+    let S = table_sheet g.R.RecordTexts.rows g.C.Colors.color c.args.self.now in
     let wants = g.K.Wanted.wants c.args.wanted.now in
     let K = g.W.Write.contents in
     let fit = lines-fit S c.requires.printable c.requires.rows c.requires.columns in

@@ -1,21 +1,21 @@
 use Rattle.std.proofs.Common.{◌≡◌, ◌+◌, ◌<◌, ◌≤◌, [], sym, ◌∙◌, string_bytes, subst, arith}
 use Rattle.papergrid_picture.specs.Frame.{Outside}
 use Rattle.papergrid_print.specs.Chosen.{chosen_lines}
-use Rattle.papergrid_print.specs.Sheets.{sheet_of}
+use Rattle.papergrid_print.specs.Sheets.{table_sheet}
 use Rattle.tabled_output.specs.Pieces.{HasPassed}
 use Rattle.papergrid_print.proofs.ChoosingLemmas.{at-place, no-memory, no-writer, none-wanted, none-yet, one-more, printed-alone}
 use Rattle.papergrid_print.proofs.table.Table.choose_margin.Goals as goal
 
 pub returns-then-not-is_wanted-clause-lines : goal.returns-then-not-is_wanted-clause-lines
 returns-then-not-is_wanted-clause-lines g c =
-    let S = sheet_of c.args.self.now.cfg.now (g.R.RecordTexts.rows c.args.self.now.records.now) (g.C.Colors.color c.args.self.now.colors.now) c.args.self.now.widths.now c.args.self.now.heights.now in
+    let S = table_sheet g.R.RecordTexts.rows g.C.Colors.color c.args.self.now in
     let wants = g.K.Wanted.wants c.args.wanted.now in
     let K = g.W.Write.contents in
     none-wanted S wants K Outside c.args.y (c.args.y + c.args.margin.size) c.args.writer.now (sym c.is_wanted.ensures ∙ c.if-not-is_wanted.true) c.requires.outside
 
 pub returns-in_err-push_blank-clause-lines : goal.returns-in_err-push_blank-clause-lines
 returns-in_err-push_blank-clause-lines g c =
-    let S = sheet_of c.args.self.now.cfg.now (g.R.RecordTexts.rows c.args.self.now.records.now) (g.C.Colors.color c.args.self.now.colors.now) c.args.self.now.widths.now c.args.self.now.heights.now in
+    let S = table_sheet g.R.RecordTexts.rows g.C.Colors.color c.args.self.now in
     let wants = g.K.Wanted.wants c.args.wanted.now in
     let K = g.W.Write.contents in
     let from : c.args.y ≤ c.loop-k.k = c.loop-k.auto.k in
@@ -24,7 +24,7 @@ returns-in_err-push_blank-clause-lines g c =
 
 pub returns-in_err-pass_ended-clause-lines : goal.returns-in_err-pass_ended-clause-lines
 returns-in_err-pass_ended-clause-lines g c =
-    let S = sheet_of c.args.self.now.cfg.now (g.R.RecordTexts.rows c.args.self.now.records.now) (g.C.Colors.color c.args.self.now.colors.now) c.args.self.now.widths.now c.args.self.now.heights.now in
+    let S = table_sheet g.R.RecordTexts.rows g.C.Colors.color c.args.self.now in
     let wants = g.K.Wanted.wants c.args.wanted.now in
     let K = g.W.Write.contents in
     let from : c.args.y ≤ c.loop-k.k = c.loop-k.auto.k in
@@ -37,14 +37,14 @@ returns-in_err-pass_ended-clause-lines g c =
 
 pub loop-k-init : goal.loop-k-init
 loop-k-init g c =
-    let S = sheet_of c.args.self.now.cfg.now (g.R.RecordTexts.rows c.args.self.now.records.now) (g.C.Colors.color c.args.self.now.colors.now) c.args.self.now.widths.now c.args.self.now.heights.now in
+    let S = table_sheet g.R.RecordTexts.rows g.C.Colors.color c.args.self.now in
     let wants = g.K.Wanted.wants c.args.wanted.now in
     let K = g.W.Write.contents in
     record { passed = none-yet S wants K c.args.y c.args.writer.now; empty = c.requires.empty }
 
 pub loop-k-preserved : goal.loop-k-preserved
 loop-k-preserved g c =
-    let S = sheet_of c.args.self.now.cfg.now (g.R.RecordTexts.rows c.args.self.now.records.now) (g.C.Colors.color c.args.self.now.colors.now) c.args.self.now.widths.now c.args.self.now.heights.now in
+    let S = table_sheet g.R.RecordTexts.rows g.C.Colors.color c.args.self.now in
     let wants = g.K.Wanted.wants c.args.wanted.now in
     let K = g.W.Write.contents in
     let from : c.args.y ≤ c.loop-k.k = c.loop-k.auto.k in
@@ -59,7 +59,7 @@ loop-k-preserved g c =
 
 pub returns-clause-lines : goal.returns-clause-lines
 returns-clause-lines g c =
-    let S = sheet_of c.args.self.now.cfg.now (g.R.RecordTexts.rows c.args.self.now.records.now) (g.C.Colors.color c.args.self.now.colors.now) c.args.self.now.widths.now c.args.self.now.heights.now in
+    let S = table_sheet g.R.RecordTexts.rows g.C.Colors.color c.args.self.now in
     let wants = g.K.Wanted.wants c.args.wanted.now in
     let K = g.W.Write.contents in
     let end : c.loop-k.k ≡ c.args.y + c.args.margin.size = omega (arith, c.loop-k-test.false, c.loop-k.auto.k-end, c.loop-k.auto.k) in

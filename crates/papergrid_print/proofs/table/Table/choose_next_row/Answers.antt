@@ -2,7 +2,7 @@ use Rattle.std.proofs.Common.{◌+◌, ◌≤◌, Option, Some, subst, arith}
 use Rattle.papergrid_picture.specs.Frame.{boundary_at}
 use Rattle.papergrid_cells.specs.Flat.{AreMadeFor}
 use Rattle.papergrid_cells.specs.declared.flat.FlatRows.{FlatRows}
-use Rattle.papergrid_print.specs.Sheets.{row_tracks, sheet_of}
+use Rattle.papergrid_print.specs.Sheets.{row_tracks, table_sheet}
 use Rattle.papergrid_print.proofs.ChoosingLemmas.{no-memory, none-yet, on-ok}
 use Rattle.papergrid_print.proofs.FlatLemmas.{none-goes-on}
 use Rattle.papergrid_print.proofs.PlaceLemmas.{row-end}
@@ -10,7 +10,7 @@ use Rattle.papergrid_print.proofs.table.Table.choose_next_row.Goals as goal
 
 pub returns-in-Some-clause-goes_on : goal.returns-in-Some-clause-goes_on
 returns-in-Some-clause-goes_on g c =
-    let S = sheet_of c.args.self.now.cfg.now (g.R.RecordTexts.rows c.args.self.now.records.now) (g.C.Colors.color c.args.self.now.colors.now) c.args.self.now.widths.now c.args.self.now.heights.now in
+    let S = table_sheet g.R.RecordTexts.rows g.C.Colors.color c.args.self.now in
     let wants = g.K.Wanted.wants c.args.wanted.now in
     let K = g.W.Write.contents in
     let made : AreMadeFor c.args.self.now.cfg.now c.args.self.now.widths.now (Some c.in-Some.flat) = subst (λ (kept : Option FlatRows). AreMadeFor c.args.self.now.cfg.now c.args.self.now.widths.now kept) c.in-Some.is c.requires.made in
@@ -18,7 +18,7 @@ returns-in-Some-clause-goes_on g c =
 
 pub returns-in_err-open_row-clause-lines : goal.returns-in_err-open_row-clause-lines
 returns-in_err-open_row-clause-lines g c =
-    let S = sheet_of c.args.self.now.cfg.now (g.R.RecordTexts.rows c.args.self.now.records.now) (g.C.Colors.color c.args.self.now.colors.now) c.args.self.now.widths.now c.args.self.now.heights.now in
+    let S = table_sheet g.R.RecordTexts.rows g.C.Colors.color c.args.self.now in
     let wants = g.K.Wanted.wants c.args.wanted.now in
     let K = g.W.Write.contents in
     let here : c.args.y ≤ c.args.y = omega arith in

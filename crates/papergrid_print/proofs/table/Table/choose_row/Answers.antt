@@ -2,7 +2,7 @@ use Rattle.std.proofs.Common.{◌≡◌, ◌+◌, ◌<◌, ◌≤◌, [], sym, �
 use Rattle.papergrid_picture.specs.Frame.{Row, boundary_at}
 use Rattle.papergrid_picture.proofs.FrameLemmas.{place-row}
 use Rattle.papergrid_print.specs.Chosen.{chosen_lines}
-use Rattle.papergrid_print.specs.Sheets.{line_at, row_tracks, sheet_of}
+use Rattle.papergrid_print.specs.Sheets.{line_at, row_tracks, table_sheet}
 use Rattle.tabled_output.specs.Pieces.{HasPassed}
 use Rattle.papergrid_print.proofs.ChoosingLemmas.{no-memory, no-writer, none-wanted, none-yet, one-more, printed-alone}
 use Rattle.papergrid_print.proofs.PlaceLemmas.{row-end, row-fits}
@@ -10,14 +10,14 @@ use Rattle.papergrid_print.proofs.table.Table.choose_row.Goals as goal
 
 pub overflow_add-end : goal.overflow_add-end
 overflow_add-end g c =
-    let S = sheet_of c.args.self.now.cfg.now (g.R.RecordTexts.rows c.args.self.now.records.now) (g.C.Colors.color c.args.self.now.colors.now) c.args.self.now.widths.now c.args.self.now.heights.now in
+    let S = table_sheet g.R.RecordTexts.rows g.C.Colors.color c.args.self.now in
     let wants = g.K.Wanted.wants c.args.wanted.now in
     let K = g.W.Write.contents in
     omega (arith, row-fits S c.args.i c.requires.row, c.requires.range, c.requires.top)
 
 pub returns-then-not-is_wanted-clause-lines : goal.returns-then-not-is_wanted-clause-lines
 returns-then-not-is_wanted-clause-lines g c =
-    let S = sheet_of c.args.self.now.cfg.now (g.R.RecordTexts.rows c.args.self.now.records.now) (g.C.Colors.color c.args.self.now.colors.now) c.args.self.now.widths.now c.args.self.now.heights.now in
+    let S = table_sheet g.R.RecordTexts.rows g.C.Colors.color c.args.self.now in
     let wants = g.K.Wanted.wants c.args.wanted.now in
     let K = g.W.Write.contents in
     none-wanted S wants K (Row c.args.i) c.args.y (boundary_at (row_tracks S) (c.args.i + 1)) c.args.writer.now (sym c.is_wanted.ensures ∙ c.if-not-is_wanted.true)
@@ -25,14 +25,14 @@ returns-then-not-is_wanted-clause-lines g c =
 
 pub returns-then-not-is_wanted-clause-end : goal.returns-then-not-is_wanted-clause-end
 returns-then-not-is_wanted-clause-end g c =
-    let S = sheet_of c.args.self.now.cfg.now (g.R.RecordTexts.rows c.args.self.now.records.now) (g.C.Colors.color c.args.self.now.colors.now) c.args.self.now.widths.now c.args.self.now.heights.now in
+    let S = table_sheet g.R.RecordTexts.rows g.C.Colors.color c.args.self.now in
     let wants = g.K.Wanted.wants c.args.wanted.now in
     let K = g.W.Write.contents in
     omega (arith, row-end S c.args.i c.requires.row, c.requires.top)
 
 pub returns-in_err-push_row_line-clause-lines : goal.returns-in_err-push_row_line-clause-lines
 returns-in_err-push_row_line-clause-lines g c =
-    let S = sheet_of c.args.self.now.cfg.now (g.R.RecordTexts.rows c.args.self.now.records.now) (g.C.Colors.color c.args.self.now.colors.now) c.args.self.now.widths.now c.args.self.now.heights.now in
+    let S = table_sheet g.R.RecordTexts.rows g.C.Colors.color c.args.self.now in
     let wants = g.K.Wanted.wants c.args.wanted.now in
     let K = g.W.Write.contents in
     let from : c.args.y ≤ c.loop-k.k = c.loop-k.auto.k in
@@ -41,7 +41,7 @@ returns-in_err-push_row_line-clause-lines g c =
 
 pub returns-in_err-pass_ended-clause-lines : goal.returns-in_err-pass_ended-clause-lines
 returns-in_err-pass_ended-clause-lines g c =
-    let S = sheet_of c.args.self.now.cfg.now (g.R.RecordTexts.rows c.args.self.now.records.now) (g.C.Colors.color c.args.self.now.colors.now) c.args.self.now.widths.now c.args.self.now.heights.now in
+    let S = table_sheet g.R.RecordTexts.rows g.C.Colors.color c.args.self.now in
     let wants = g.K.Wanted.wants c.args.wanted.now in
     let K = g.W.Write.contents in
     let from : c.args.y ≤ c.loop-k.k = c.loop-k.auto.k in
@@ -54,14 +54,14 @@ returns-in_err-pass_ended-clause-lines g c =
 
 pub loop-k-init : goal.loop-k-init
 loop-k-init g c =
-    let S = sheet_of c.args.self.now.cfg.now (g.R.RecordTexts.rows c.args.self.now.records.now) (g.C.Colors.color c.args.self.now.colors.now) c.args.self.now.widths.now c.args.self.now.heights.now in
+    let S = table_sheet g.R.RecordTexts.rows g.C.Colors.color c.args.self.now in
     let wants = g.K.Wanted.wants c.args.wanted.now in
     let K = g.W.Write.contents in
     record { passed = none-yet S wants K c.args.y c.args.writer.now; empty = c.requires.empty }
 
 pub loop-k-preserved : goal.loop-k-preserved
 loop-k-preserved g c =
-    let S = sheet_of c.args.self.now.cfg.now (g.R.RecordTexts.rows c.args.self.now.records.now) (g.C.Colors.color c.args.self.now.colors.now) c.args.self.now.widths.now c.args.self.now.heights.now in
+    let S = table_sheet g.R.RecordTexts.rows g.C.Colors.color c.args.self.now in
     let wants = g.K.Wanted.wants c.args.wanted.now in
     let K = g.W.Write.contents in
     let from : c.args.y ≤ c.loop-k.k = c.loop-k.auto.k in
@@ -75,7 +75,7 @@ loop-k-preserved g c =
 
 pub returns-clause-lines : goal.returns-clause-lines
 returns-clause-lines g c =
-    let S = sheet_of c.args.self.now.cfg.now (g.R.RecordTexts.rows c.args.self.now.records.now) (g.C.Colors.color c.args.self.now.colors.now) c.args.self.now.widths.now c.args.self.now.heights.now in
+    let S = table_sheet g.R.RecordTexts.rows g.C.Colors.color c.args.self.now in
     let wants = g.K.Wanted.wants c.args.wanted.now in
     let K = g.W.Write.contents in
     let end : c.loop-k.k ≡ boundary_at (row_tracks S) (c.args.i + 1) = omega (arith, row-end S c.args.i c.requires.row, c.loop-k-test.false, c.loop-k.auto.k-end, c.loop-k.auto.k, c.requires.top) in
@@ -83,7 +83,7 @@ returns-clause-lines g c =
 
 pub returns-clause-end : goal.returns-clause-end
 returns-clause-end g c =
-    let S = sheet_of c.args.self.now.cfg.now (g.R.RecordTexts.rows c.args.self.now.records.now) (g.C.Colors.color c.args.self.now.colors.now) c.args.self.now.widths.now c.args.self.now.heights.now in
+    let S = table_sheet g.R.RecordTexts.rows g.C.Colors.color c.args.self.now in
     let wants = g.K.Wanted.wants c.args.wanted.now in
     let K = g.W.Write.contents in
     omega (arith, row-end S c.args.i c.requires.row, c.requires.top)

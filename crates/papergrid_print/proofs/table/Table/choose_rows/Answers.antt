@@ -1,13 +1,13 @@
 use Rattle.std.proofs.Common.{◌≤◌, length, arith}
 use Rattle.papergrid_picture.specs.Frame.{boundary_at, track_at}
-use Rattle.papergrid_print.specs.Sheets.{row_tracks, sheet_of}
+use Rattle.papergrid_print.specs.Sheets.{row_tracks, table_sheet}
 use Rattle.papergrid_print.proofs.ChoosingLemmas.{no-memory, none-yet}
 use Rattle.papergrid_print.proofs.WriteLemmas.{boundary-within}
 use Rattle.papergrid_print.proofs.table.Table.choose_rows.Goals as goal
 
 pub returns-in_err-flat-clause-lines : goal.returns-in_err-flat-clause-lines
 returns-in_err-flat-clause-lines g c =
-    let S = sheet_of c.args.self.now.cfg.now (g.R.RecordTexts.rows c.args.self.now.records.now) (g.C.Colors.color c.args.self.now.colors.now) c.args.self.now.widths.now c.args.self.now.heights.now in
+    let S = table_sheet g.R.RecordTexts.rows g.C.Colors.color c.args.self.now in
     let wants = g.K.Wanted.wants c.args.wanted.now in
     let K = g.W.Write.contents in
     let here : boundary_at (row_tracks S) 0 ≤ boundary_at (row_tracks S) 0 = omega arith in
@@ -17,7 +17,7 @@ returns-in_err-flat-clause-lines g c =
 
 pub returns-in_err-cells-clause-lines : goal.returns-in_err-cells-clause-lines
 returns-in_err-cells-clause-lines g c =
-    let S = sheet_of c.args.self.now.cfg.now (g.R.RecordTexts.rows c.args.self.now.records.now) (g.C.Colors.color c.args.self.now.colors.now) c.args.self.now.widths.now c.args.self.now.heights.now in
+    let S = table_sheet g.R.RecordTexts.rows g.C.Colors.color c.args.self.now in
     let wants = g.K.Wanted.wants c.args.wanted.now in
     let K = g.W.Write.contents in
     let here : boundary_at (row_tracks S) 0 ≤ boundary_at (row_tracks S) 0 = omega arith in
@@ -27,7 +27,7 @@ returns-in_err-cells-clause-lines g c =
 
 pub returns-in_err-owners-clause-lines : goal.returns-in_err-owners-clause-lines
 returns-in_err-owners-clause-lines g c =
-    let S = sheet_of c.args.self.now.cfg.now (g.R.RecordTexts.rows c.args.self.now.records.now) (g.C.Colors.color c.args.self.now.colors.now) c.args.self.now.widths.now c.args.self.now.heights.now in
+    let S = table_sheet g.R.RecordTexts.rows g.C.Colors.color c.args.self.now in
     let wants = g.K.Wanted.wants c.args.wanted.now in
     let K = g.W.Write.contents in
     let here : boundary_at (row_tracks S) 0 ≤ boundary_at (row_tracks S) 0 = omega arith in
@@ -37,7 +37,7 @@ returns-in_err-owners-clause-lines g c =
 
 pub returns-in_err-between-clause-lines : goal.returns-in_err-between-clause-lines
 returns-in_err-between-clause-lines g c =
-    let S = sheet_of c.args.self.now.cfg.now (g.R.RecordTexts.rows c.args.self.now.records.now) (g.C.Colors.color c.args.self.now.colors.now) c.args.self.now.widths.now c.args.self.now.heights.now in
+    let S = table_sheet g.R.RecordTexts.rows g.C.Colors.color c.args.self.now in
     let wants = g.K.Wanted.wants c.args.wanted.now in
     let K = g.W.Write.contents in
     let here : boundary_at (row_tracks S) 0 ≤ boundary_at (row_tracks S) 0 = omega arith in

@@ -1,7 +1,7 @@
 use Rattle.std.proofs.Common.{◌≡◌, ◌<◌, length, refl, ap, sym, ◌∙◌, arith}
 use Rattle.grid_config_spans.specs.Owners.{owner}
 use Rattle.grid_config_spans.specs.Spans.{extent_at}
-use Rattle.papergrid_print.specs.Sheets.{IsOpen, sheet_of}
+use Rattle.papergrid_print.specs.Sheets.{IsOpen, table_sheet}
 use Rattle.papergrid_print.proofs.OpenLemmas.{open-goes-on, opens, stays}
 use Rattle.papergrid_print.proofs.table.Table.open_row.Goals.{then-eq+in_ok-open_cell+in-Some-1, then-eq+in_ok-open_cell+in-None-1, else-eq}
 use Rattle.papergrid_print.proofs.table.Table.open_row.Goals as goal
@@ -14,11 +14,11 @@ loop-j-preserved g c =
     let below : c.loop-j.j < length c.loop-j.cells = omega (arith, c.loop-j-test.true, c.loop-j.invariant.wide, c.requires.wide) in
     let owned : c.kept_at.result ≡ owner (extent_at c.args.self.now.cfg.now.spans) c.new-pos.result = c.kept_at.ensures ∙ (c.requires.seen c.loop-j.j (omega (arith, c.loop-j-test.true)) ∙ ap (owner (extent_at c.args.self.now.cfg.now.spans)) (sym c.new-pos.ensures)) in
     elim c.if-eq.branch [
-      | then-eq+in_ok-open_cell+in-Some-1 w ↦ opens (sheet_of c.args.self.now.cfg.now (g.R.RecordTexts.rows c.args.self.now.records.now) (g.C.Colors.color c.args.self.now.colors.now) c.args.self.now.widths.now c.args.self.now.heights.now) c.args.i c.loop-j.j c.args.cells.now c.loop-j.cells c.if-eq.cells w.in_ok-open_cell.field-0 c.new-pos.result c.kept_at.result
+      | then-eq+in_ok-open_cell+in-Some-1 w ↦ opens (table_sheet g.R.RecordTexts.rows g.C.Colors.color c.args.self.now) c.args.i c.loop-j.j c.args.cells.now c.loop-j.cells c.if-eq.cells w.in_ok-open_cell.field-0 c.new-pos.result c.kept_at.result
           c.loop-j.invariant c.requires.positive below c.new-pos.ensures owned (sym c.eq.ensures ∙ w.if-eq.true) w.in_ok-open_cell.ensures w.cells-is
-      | then-eq+in_ok-open_cell+in-None-1 w ↦ opens (sheet_of c.args.self.now.cfg.now (g.R.RecordTexts.rows c.args.self.now.records.now) (g.C.Colors.color c.args.self.now.colors.now) c.args.self.now.widths.now c.args.self.now.heights.now) c.args.i c.loop-j.j c.args.cells.now c.loop-j.cells c.if-eq.cells w.in_ok-open_cell.field-0 c.new-pos.result c.kept_at.result
+      | then-eq+in_ok-open_cell+in-None-1 w ↦ opens (table_sheet g.R.RecordTexts.rows g.C.Colors.color c.args.self.now) c.args.i c.loop-j.j c.args.cells.now c.loop-j.cells c.if-eq.cells w.in_ok-open_cell.field-0 c.new-pos.result c.kept_at.result
           c.loop-j.invariant c.requires.positive below c.new-pos.ensures owned (sym c.eq.ensures ∙ w.if-eq.true) w.in_ok-open_cell.ensures w.cells-is
-      | else-eq w ↦ stays (sheet_of c.args.self.now.cfg.now (g.R.RecordTexts.rows c.args.self.now.records.now) (g.C.Colors.color c.args.self.now.colors.now) c.args.self.now.widths.now c.args.self.now.heights.now) c.args.i c.loop-j.j c.args.cells.now c.loop-j.cells c.if-eq.cells c.new-pos.result c.kept_at.result
+      | else-eq w ↦ stays (table_sheet g.R.RecordTexts.rows g.C.Colors.color c.args.self.now) c.args.i c.loop-j.j c.args.cells.now c.loop-j.cells c.if-eq.cells c.new-pos.result c.kept_at.result
           c.loop-j.invariant c.requires.positive c.requires.goes_on c.new-pos.ensures owned (sym c.eq.ensures ∙ w.if-eq.false) w.cells-is
     ]
 
@@ -31,5 +31,5 @@ returns-clause-wide g c = c.loop-j.invariant.wide
 pub returns-clause-goes_on : goal.returns-clause-goes_on
 returns-clause-goes_on g c = λ j below above first.
     let some : 0 < c.loop-j.j = omega (arith, c.loop-j-test.false, below) in
-    let open_there : IsOpen (sheet_of c.args.self.now.cfg.now (g.R.RecordTexts.rows c.args.self.now.records.now) (g.C.Colors.color c.args.self.now.colors.now) c.args.self.now.widths.now c.args.self.now.heights.now) c.args.i c.loop-j.cells = λ k inside seen_first. c.loop-j.invariant.before k (omega (arith, c.loop-j-test.false, inside)) inside seen_first in
-    open-goes-on (sheet_of c.args.self.now.cfg.now (g.R.RecordTexts.rows c.args.self.now.records.now) (g.C.Colors.color c.args.self.now.colors.now) c.args.self.now.widths.now c.args.self.now.heights.now) c.args.i c.loop-j.cells (c.loop-j.invariant.positive some) c.requires.good c.requires.row open_there j below above first
+    let open_there : IsOpen (table_sheet g.R.RecordTexts.rows g.C.Colors.color c.args.self.now) c.args.i c.loop-j.cells = λ k inside seen_first. c.loop-j.invariant.before k (omega (arith, c.loop-j-test.false, inside)) inside seen_first in
+    open-goes-on (table_sheet g.R.RecordTexts.rows g.C.Colors.color c.args.self.now) c.args.i c.loop-j.cells (c.loop-j.invariant.positive some) c.requires.good c.requires.row open_there j below above first

@@ -1,7 +1,7 @@
-use Rattle.papergrid_print.specs.Sheets.{sheet_of}
+use Rattle.papergrid_print.specs.Sheets.{table_sheet}
 use Rattle.papergrid_print.proofs.OpenLemmas.{IsOpening}
 use Rattle.papergrid_print.proofs.table.Table.open_row.Given as goal
 
 abbrev pub invariant-loop-j : goal.invariant-loop-j
 invariant-loop-j g l =
-    IsOpening (sheet_of l.self.cfg.now (g.R.RecordTexts.rows l.self.records.now) (g.C.Colors.color l.self.colors.now) l.self.widths.now l.self.heights.now) l.i l.j l.initial.cells l.cells
+    IsOpening (table_sheet g.R.RecordTexts.rows g.C.Colors.color l.self) l.i l.j l.initial.cells l.cells

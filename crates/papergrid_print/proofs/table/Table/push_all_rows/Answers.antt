@@ -1,5 +1,5 @@
 use Rattle.std.proofs.Common.{length, [], ap, sym, ◌∙◌, arith}
-use Rattle.papergrid_print.specs.Sheets.{lines_of, sheet_of}
+use Rattle.papergrid_print.specs.Sheets.{lines_of, table_sheet}
 use Rattle.papergrid_print.proofs.BoundaryLemmas.{on_ok_both}
 use Rattle.papergrid_print.proofs.SeenLemmas.{none-seen-below}
 use Rattle.papergrid_print.proofs.TableLemmas.{row-within}
@@ -7,7 +7,7 @@ use Rattle.papergrid_print.proofs.table.Table.push_all_rows.Goals as goal
 
 pub push_boundary-requires-clause-range : goal.push_boundary-requires-clause-range
 push_boundary-requires-clause-range g c =
-    let sheet = (sheet_of c.args.self.now.cfg.now (g.R.RecordTexts.rows c.args.self.now.records.now) (g.C.Colors.color c.args.self.now.colors.now) c.args.self.now.widths.now c.args.self.now.heights.now) in
+    let sheet = (table_sheet g.R.RecordTexts.rows g.C.Colors.color c.args.self.now) in
     omega (arith, row-within sheet c.loop-i.i c.loop-i-test.true, c.requires.lines)
 
 pub loop-i-preserved : goal.loop-i-preserved
@@ -26,10 +26,10 @@ push_boundary-requires-2-clause-seen g c =
 
 pub push_next_row-requires-clause-lines : goal.push_next_row-requires-clause-lines
 push_next_row-requires-clause-lines g c =
-    let sheet = (sheet_of c.args.self.now.cfg.now (g.R.RecordTexts.rows c.args.self.now.records.now) (g.C.Colors.color c.args.self.now.colors.now) c.args.self.now.widths.now c.args.self.now.heights.now) in
+    let sheet = (table_sheet g.R.RecordTexts.rows g.C.Colors.color c.args.self.now) in
     c.in_ok-y.ensures.lines [] (c.loop-i.invariant.lines ∙ ap (lines_of sheet) (sym c.loop-i.invariant.line)) ∙ ap (lines_of sheet) (sym c.in_ok-y.ensures.end)
 
 pub returns-clause-lines : goal.returns-clause-lines
 returns-clause-lines g c =
-    let sheet = (sheet_of c.args.self.now.cfg.now (g.R.RecordTexts.rows c.args.self.now.records.now) (g.C.Colors.color c.args.self.now.colors.now) c.args.self.now.widths.now c.args.self.now.heights.now) in
+    let sheet = (table_sheet g.R.RecordTexts.rows g.C.Colors.color c.args.self.now) in
     on_ok_both c.push_boundary-2.result (λ step _. step [] (c.loop-i.invariant.lines ∙ ap (lines_of sheet) (sym c.loop-i.invariant.line))) c.push_boundary-2.ensures.lines c.push_boundary-2.ensures.lines

@@ -1,12 +1,12 @@
 use Rattle.std.proofs.Common.{◌≡◌, length, string_bytes}
 use Rattle.papergrid_picture.specs.Frame.{boundary_at}
 use Rattle.papergrid_print.specs.Seen.{AreSeenAbove}
-use Rattle.papergrid_print.specs.Sheets.{GoesOn, lines_of, row_tracks, sheet_of}
+use Rattle.papergrid_print.specs.Sheets.{GoesOn, lines_of, row_tracks, table_sheet}
 use Rattle.papergrid_print.proofs.table.Table.push_all_rows.Given as goal
 
 abbrev pub invariant-loop-i : goal.invariant-loop-i
 invariant-loop-i g l =
-    let sheet = sheet_of l.self.cfg.now (g.R.RecordTexts.rows l.self.records.now) (g.C.Colors.color l.self.colors.now) l.self.widths.now l.self.heights.now in
+    let sheet = table_sheet g.R.RecordTexts.rows g.C.Colors.color l.self in
     record {
       line : l.y ≡ boundary_at (row_tracks sheet) l.i;
       lines : string_bytes l.out ≡ lines_of sheet (boundary_at (row_tracks sheet) l.i);

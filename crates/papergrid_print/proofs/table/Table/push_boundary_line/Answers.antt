@@ -7,20 +7,20 @@ use Rattle.papergrid_picture.specs.Picture.{boundary_part, parts_of}
 use Rattle.papergrid_picture.specs.Reading.{line_items}
 use Rattle.papergrid_cells.specs.Painting.{bare, colored, fill_bytes, glyph_part}
 use Rattle.papergrid_cells.specs.declared.painting.GlyphRun.{GlyphRun}
-use Rattle.papergrid_print.specs.Sheets.{bytes_of, grid_of, sheet_of}
+use Rattle.papergrid_print.specs.Sheets.{bytes_of, grid_of, table_sheet}
 use Rattle.papergrid_print.proofs.BoundaryLemmas.{boundary-line, boundary_start, boundary_start-more}
 use Rattle.papergrid_print.proofs.table.Table.push_boundary_line.Goals as goal
 
 pub loop-j-preserved : goal.loop-j-preserved
 loop-j-preserved g c =
-    let sheet = sheet_of c.args.self.now.cfg.now (g.R.RecordTexts.rows c.args.self.now.records.now) (g.C.Colors.color c.args.self.now.colors.now) c.args.self.now.widths.now c.args.self.now.heights.now in
+    let sheet = table_sheet g.R.RecordTexts.rows g.C.Colors.color c.args.self.now in
     λ rest. c.in_ok-push_boundary_part.ensures rest
     ∙ (c.loop-j.invariant (parts_of (boundary_part (grid_of sheet) c.args.i c.args.y c.loop-j.j) ++ rest)
     ∙ ap (λ l. string_bytes c.push_indent.new.out ++ line_items (bytes_of sheet) l) (boundary_start-more sheet c.args.i c.args.y c.loop-j.j rest))
 
 pub returns : goal.returns
 returns g c =
-    let sheet = sheet_of c.args.self.now.cfg.now (g.R.RecordTexts.rows c.args.self.now.records.now) (g.C.Colors.color c.args.self.now.colors.now) c.args.self.now.widths.now c.args.self.now.heights.now in
+    let sheet = table_sheet g.R.RecordTexts.rows g.C.Colors.color c.args.self.now in
     let out = string_bytes c.args.out.now in
     let margin = c.get_margin-margin.ensures in
     let colors = c.get_margin_color-colors.ensures in

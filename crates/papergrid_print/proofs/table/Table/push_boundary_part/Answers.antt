@@ -6,7 +6,7 @@ use Rattle.papergrid_picture.specs.Picture.{seen}
 use Rattle.papergrid_cells.specs.BlockLines.{line_kind}
 use Rattle.papergrid_cells.specs.Shown.{measures_of}
 use Rattle.papergrid_print.specs.Seen.{IsSameAbove}
-use Rattle.papergrid_print.specs.Sheets.{ShowsCell, grid_of, sheet_of}
+use Rattle.papergrid_print.specs.Sheets.{ShowsCell, grid_of, table_sheet}
 use Rattle.papergrid_print.proofs.LineLemmas.{kept-shows}
 use Rattle.papergrid_print.proofs.BoundaryLemmas.{closed-part, on_ok_both, open-part}
 use Rattle.papergrid_print.proofs.SeenLemmas.{same-above, same-below}
@@ -14,7 +14,7 @@ use Rattle.papergrid_print.proofs.table.Table.push_boundary_part.Goals as goal
 
 pub returns-then-owner-i : goal.returns-then-owner-i
 returns-then-owner-i g c =
-    let sheet = sheet_of c.args.self.now.cfg.now (g.R.RecordTexts.rows c.args.self.now.records.now) (g.C.Colors.color c.args.self.now.colors.now) c.args.self.now.widths.now c.args.self.now.heights.now in
+    let sheet = table_sheet g.R.RecordTexts.rows g.C.Colors.color c.args.self.now in
     let pos = seen (grid_of sheet) c.args.i c.args.j in
     let kept : IsSameAbove c.args.i c.kept_at-owner.result pos = subst (λ (p : Position). IsSameAbove c.args.i p pos) (sym c.kept_at-owner.ensures) (c.requires.seen c.args.j c.requires.column) in
     let from : c.args.i ≤ pos.row = same-below c.args.i c.kept_at-owner.result pos kept (omega (arith, c.if-owner-i.true)) in
@@ -24,7 +24,7 @@ returns-then-owner-i g c =
 
 pub returns-in-Some : goal.returns-in-Some
 returns-in-Some g c =
-    let sheet = sheet_of c.args.self.now.cfg.now (g.R.RecordTexts.rows c.args.self.now.records.now) (g.C.Colors.color c.args.self.now.colors.now) c.args.self.now.widths.now c.args.self.now.heights.now in
+    let sheet = table_sheet g.R.RecordTexts.rows g.C.Colors.color c.args.self.now in
     let cell = c.in-Some.cell in
     let pos = seen (grid_of sheet) c.args.i c.args.j in
     let kept : IsSameAbove c.args.i c.kept_at-owner.result pos = subst (λ (p : Position). IsSameAbove c.args.i p pos) (sym c.kept_at-owner.ensures) (c.requires.seen c.args.j c.requires.column) in

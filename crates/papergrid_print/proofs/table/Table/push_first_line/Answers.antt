@@ -7,7 +7,7 @@ use Rattle.grid_records_traits.specs.Cells.{HasLineCount, HasWidth}
 use Rattle.grid_records_traits.specs.Rows.{text_at}
 use Rattle.papergrid_picture.specs.Blocks.{greatest}
 use Rattle.papergrid_cells.specs.Flat.{behind_text, placed, standing_of}
-use Rattle.papergrid_print.specs.Sheets.{bytes_of, grid_of, sheet_of}
+use Rattle.papergrid_print.specs.Sheets.{bytes_of, grid_of, table_sheet}
 use Rattle.std.specs.Prelude.{slice_index}
 use Rattle.papergrid_print.proofs.FlatLemmas.{line-is, measured, widest-is}
 use Rattle.papergrid_cells.proofs.PlainLineLemmas.{plain-line}
@@ -16,7 +16,7 @@ use Rattle.papergrid_print.proofs.table.Table.push_first_line.Goals as goal
 
 pub returns : goal.returns
 returns g c =
-    let sheet = (sheet_of c.args.self.now.cfg.now (g.R.RecordTexts.rows c.args.self.now.records.now) (g.C.Colors.color c.args.self.now.colors.now) c.args.self.now.widths.now c.args.self.now.heights.now) in
+    let sheet = (table_sheet g.R.RecordTexts.rows g.C.Colors.color c.args.self.now) in
     let pos = c.args.pos in
     let out = string_bytes c.args.out.now in
     let stands = standing_of c.args.flat.now in
@@ -33,7 +33,7 @@ returns g c =
 
 pub returns-in-Some : goal.returns-in-Some
 returns-in-Some g c =
-    let sheet = (sheet_of c.args.self.now.cfg.now (g.R.RecordTexts.rows c.args.self.now.records.now) (g.C.Colors.color c.args.self.now.colors.now) c.args.self.now.widths.now c.args.self.now.heights.now) in
+    let sheet = (table_sheet g.R.RecordTexts.rows g.C.Colors.color c.args.self.now) in
     let pos = c.args.pos in
     let out = string_bytes c.args.out.now in
     let behind = behind_text c.args.flat.now pos.col (length c.args.self.now.widths.now) in

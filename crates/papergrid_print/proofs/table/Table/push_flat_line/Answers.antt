@@ -2,18 +2,18 @@ use Rattle.std.proofs.Common.{◌≡◌, ◌++◌, length, string_bytes, ap, ref
 use Rattle.papergrid_cells.specs.Flat.{behind_text, standing_of}
 use Rattle.papergrid_print.specs.FlatSheets.{first_placed}
 use Rattle.papergrid_picture.specs.Picture.{at}
-use Rattle.papergrid_print.specs.Sheets.{sheet_of}
+use Rattle.papergrid_print.specs.Sheets.{table_sheet}
 use Rattle.papergrid_print.proofs.FlatLemmas.{flat-begins, flat-ends, flat-more}
 use Rattle.papergrid_print.proofs.table.Table.push_flat_line.Goals as goal
 
 pub loop-j-init : goal.loop-j-init
 loop-j-init g c =
-    let sheet = (sheet_of c.args.self.now.cfg.now (g.R.RecordTexts.rows c.args.self.now.records.now) (g.C.Colors.color c.args.self.now.colors.now) c.args.self.now.widths.now c.args.self.now.heights.now) in
+    let sheet = (table_sheet g.R.RecordTexts.rows g.C.Colors.color c.args.self.now) in
     c.in_ok-push_str.ensures.bytes ∙ ap (λ l. string_bytes c.args.out.now ++ l) (c.front.ensures ∙ flat-begins sheet c.args.i c.args.flat.now c.requires.columns c.requires.made)
 
 pub loop-j-preserved : goal.loop-j-preserved
 loop-j-preserved g c =
-    let sheet = (sheet_of c.args.self.now.cfg.now (g.R.RecordTexts.rows c.args.self.now.records.now) (g.C.Colors.color c.args.self.now.colors.now) c.args.self.now.widths.now c.args.self.now.heights.now) in
+    let sheet = (table_sheet g.R.RecordTexts.rows g.C.Colors.color c.args.self.now) in
     let pos = at c.args.i c.loop-j.j in
     flat-more sheet c.requires.flat c.args.i c.loop-j.j c.args.flat.now (string_bytes c.args.out.now) c.requires.row c.loop-j-test.true c.requires.high c.requires.made
     c.loop-j.invariant refl
@@ -23,6 +23,6 @@ loop-j-preserved g c =
 
 pub returns : goal.returns
 returns g c =
-    let sheet = (sheet_of c.args.self.now.cfg.now (g.R.RecordTexts.rows c.args.self.now.records.now) (g.C.Colors.color c.args.self.now.colors.now) c.args.self.now.widths.now c.args.self.now.heights.now) in
+    let sheet = (table_sheet g.R.RecordTexts.rows g.C.Colors.color c.args.self.now) in
     let end : c.loop-j.j ≡ length c.args.self.now.widths.now = omega (arith, c.loop-j-test.false, c.loop-j.auto.j-end) in
     c.loop-j.invariant ∙ ap (λ l. string_bytes c.args.out.now ++ l) (flat-ends sheet c.args.i c.loop-j.j end)

@@ -1,11 +1,11 @@
 use Rattle.std.proofs.Common.{◌≡◌, ◌≤◌, string_bytes}
 use Rattle.papergrid_picture.specs.Frame.{boundary_at}
-use Rattle.papergrid_print.specs.Sheets.{row_tracks, sheet_of}
+use Rattle.papergrid_print.specs.Sheets.{row_tracks, table_sheet}
 use Rattle.papergrid_print.proofs.table.Table.push_line.Given as goal
 
 abbrev pub invariant-loop-i : goal.invariant-loop-i
 invariant-loop-i g l =
-    let sheet = sheet_of l.self.cfg.now (g.R.RecordTexts.rows l.self.records.now) (g.C.Colors.color l.self.colors.now) l.self.widths.now l.self.heights.now in
+    let sheet = table_sheet g.R.RecordTexts.rows g.C.Colors.color l.self in
     record {
       start : l.start ≡ boundary_at (row_tracks sheet) l.i;
       from : l.start ≤ l.y;

@@ -2,14 +2,14 @@ use Rattle.std.proofs.Common.{◌≤◌, ◌++◌, ◌∙◌, ap, sym, length, s
 use Rattle.std.proofs.lemmas.Result.{on_ok_weaker}
 use Rattle.papergrid_picture.specs.Frame.{Boundary, track_at}
 use Rattle.papergrid_cells.specs.Painting.{colored, fill_bytes}
-use Rattle.papergrid_print.specs.Sheets.{row_tracks, sheet_of}
+use Rattle.papergrid_print.specs.Sheets.{row_tracks, table_sheet}
 use Rattle.papergrid_print.proofs.SingleLemmas.{boundary-shown, line-shown}
 use Rattle.papergrid_print.proofs.TableLemmas.{below-shows, top-within}
 use Rattle.papergrid_print.proofs.table.Table.push_line_behind.Goals as goal
 
 pub returns-then-y-start : goal.returns-then-y-start
 returns-then-y-start g c =
-    let sheet = sheet_of c.args.self.now.cfg.now (g.R.RecordTexts.rows c.args.self.now.records.now) (g.C.Colors.color c.args.self.now.colors.now) c.args.self.now.widths.now c.args.self.now.heights.now in
+    let sheet = table_sheet g.R.RecordTexts.rows g.C.Colors.color c.args.self.now in
     let rows = length c.args.self.now.heights.now in
     let inside : rows ≤ rows = omega arith in
     let shown = boundary-shown sheet rows c.args.y inside (omega (arith, c.requires.start, c.requires.from)) (omega (arith, c.requires.start, c.thickness.ensures, c.if-y-start.true)) in
@@ -19,7 +19,7 @@ returns-then-y-start g c =
 
 pub returns : goal.returns
 returns g c =
-    let sheet = sheet_of c.args.self.now.cfg.now (g.R.RecordTexts.rows c.args.self.now.records.now) (g.C.Colors.color c.args.self.now.colors.now) c.args.self.now.widths.now c.args.self.now.heights.now in
+    let sheet = table_sheet g.R.RecordTexts.rows g.C.Colors.color c.args.self.now in
     let cfg = c.args.self.now.cfg.now in
     let past : track_at (row_tracks sheet) (length c.args.self.now.heights.now) ≤ c.args.y = omega (arith, c.requires.start, c.thickness.ensures, c.if-y-start.false) in
     on_ok_weaker c.push_blank.result

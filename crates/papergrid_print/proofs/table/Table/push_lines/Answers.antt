@@ -1,18 +1,18 @@
 use Rattle.std.proofs.Common.{◌≤◌, ◌+◌, ◌-◌, ◌*◌, length, ap, subst, sym, ◌∙◌, arith}
 use Rattle.papergrid_picture.specs.Frame.{line_count, track_at}
 use Rattle.papergrid_cells.specs.Painting.{colored, fill_bytes}
-use Rattle.papergrid_print.specs.Sheets.{grid_of, row_tracks, sheet_of}
+use Rattle.papergrid_print.specs.Sheets.{grid_of, row_tracks, table_sheet}
 use Rattle.papergrid_print.proofs.TableLemmas.{below-shows, top-within}
 use Rattle.papergrid_print.proofs.table.Table.push_lines.Goals as goal
 
 pub reserve-requires : goal.reserve-requires
 reserve-requires g c =
-    let sheet = (sheet_of c.args.self.now.cfg.now (g.R.RecordTexts.rows c.args.self.now.records.now) (g.C.Colors.color c.args.self.now.colors.now) c.args.self.now.widths.now c.args.self.now.heights.now) in
+    let sheet = (table_sheet g.R.RecordTexts.rows g.C.Colors.color c.args.self.now) in
     subst (λ w. c.room.result ≤ line_count (grid_of sheet).frame * (w + 1) - 1) c.total_width-width.ensures c.room.ensures
 
 pub push_margin-requires-2-clause-shown : goal.push_margin-requires-2-clause-shown
 push_margin-requires-2-clause-shown g c = λ k from below.
-    let sheet = (sheet_of c.args.self.now.cfg.now (g.R.RecordTexts.rows c.args.self.now.records.now) (g.C.Colors.color c.args.self.now.colors.now) c.args.self.now.widths.now c.args.self.now.heights.now) in
+    let sheet = (table_sheet g.R.RecordTexts.rows g.C.Colors.color c.args.self.now) in
     let cfg = c.args.self.now.cfg.now in
     let past : track_at (row_tracks sheet) (length c.args.self.now.heights.now) ≤ k = omega (arith, from, c.in_ok-y.ensures.end) in
     below-shows sheet k (top-within sheet) past

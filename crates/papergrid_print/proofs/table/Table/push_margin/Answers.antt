@@ -1,12 +1,12 @@
 use Rattle.std.proofs.Common.{◌≡◌, ◌+◌, ◌∙◌, ◌++◌, ap, sym, string_bytes, arith, refl}
 use Rattle.papergrid_picture.specs.Frame.{place}
-use Rattle.papergrid_print.specs.Sheets.{lines_of, row_tracks, sheet_of}
+use Rattle.papergrid_print.specs.Sheets.{lines_of, row_tracks, table_sheet}
 use Rattle.papergrid_print.proofs.PlaceLemmas.{line-more}
 use Rattle.papergrid_print.proofs.table.Table.push_margin.Goals as goal
 
 pub loop-line-preserved : goal.loop-line-preserved
 loop-line-preserved g c =
-    let sheet = sheet_of c.args.self.now.cfg.now (g.R.RecordTexts.rows c.args.self.now.records.now) (g.C.Colors.color c.args.self.now.colors.now) c.args.self.now.widths.now c.args.self.now.heights.now in
+    let sheet = table_sheet g.R.RecordTexts.rows g.C.Colors.color c.args.self.now in
     let y = c.loop-line.line in
     line-more sheet (place (row_tracks sheet) y) y (string_bytes c.loop-line.out) (string_bytes c.push_feed.new.out) (string_bytes c.push_blank.new.out) refl
     c.loop-line.invariant c.in_ok-push_feed.ensures
@@ -14,6 +14,6 @@ loop-line-preserved g c =
 
 pub returns : goal.returns
 returns g c =
-    let sheet = sheet_of c.args.self.now.cfg.now (g.R.RecordTexts.rows c.args.self.now.records.now) (g.C.Colors.color c.args.self.now.colors.now) c.args.self.now.widths.now c.args.self.now.heights.now in
+    let sheet = table_sheet g.R.RecordTexts.rows g.C.Colors.color c.args.self.now in
     let end : c.loop-line.line ≡ c.args.y + c.args.margin.size = omega (arith, c.loop-line-test.false, c.loop-line.auto.line-end, c.loop-line.auto.line) in
     c.loop-line.invariant ∙ ap (lines_of sheet) end

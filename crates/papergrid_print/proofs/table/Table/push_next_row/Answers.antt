@@ -1,7 +1,7 @@
 use Rattle.std.proofs.Common.{◌≡◌, ◌≤◌, ◌<◌, ◌+◌, ◌++◌, Option, Some, get_or, string_bytes, ap, sym, subst, ◌∙◌, arith}
 use Rattle.papergrid_picture.specs.Frame.{Row, boundary_at, track_at}
 use Rattle.papergrid_cells.specs.Flat.{AreMadeFor}
-use Rattle.papergrid_print.specs.Sheets.{line_at, lines_of, row_tracks, sheet_of}
+use Rattle.papergrid_print.specs.Sheets.{line_at, lines_of, row_tracks, table_sheet}
 use Rattle.papergrid_cells.specs.declared.flat.FlatRows.{FlatRows}
 use Rattle.papergrid_print.proofs.FlatLemmas.{none-goes-on}
 use Rattle.papergrid_print.proofs.PlaceLemmas.{row-end, row-fits, row-more}
@@ -9,11 +9,11 @@ use Rattle.papergrid_print.proofs.table.Table.push_next_row.Goals as goal
 
 pub overflow_add-result : goal.overflow_add-result
 overflow_add-result g c =
-    omega (arith, row-fits (sheet_of c.args.self.now.cfg.now (g.R.RecordTexts.rows c.args.self.now.records.now) (g.C.Colors.color c.args.self.now.colors.now) c.args.self.now.widths.now c.args.self.now.heights.now) c.args.i c.requires.row, c.requires.range, c.requires.top, c.if-self-i-eq1.true)
+    omega (arith, row-fits (table_sheet g.R.RecordTexts.rows g.C.Colors.color c.args.self.now) c.args.i c.requires.row, c.requires.range, c.requires.top, c.if-self-i-eq1.true)
 
 pub returns-in-Some-clause-lines : goal.returns-in-Some-clause-lines
 returns-in-Some-clause-lines g c =
-    let sheet = (sheet_of c.args.self.now.cfg.now (g.R.RecordTexts.rows c.args.self.now.records.now) (g.C.Colors.color c.args.self.now.colors.now) c.args.self.now.widths.now c.args.self.now.heights.now) in
+    let sheet = (table_sheet g.R.RecordTexts.rows g.C.Colors.color c.args.self.now) in
     let i = c.args.i in
     let y = c.args.y in
     let from : track_at (row_tracks sheet) i ≤ y = omega (arith, c.requires.top) in
@@ -26,9 +26,9 @@ returns-in-Some-clause-lines g c =
 
 pub returns-in-Some-clause-end : goal.returns-in-Some-clause-end
 returns-in-Some-clause-end g c =
-    omega (arith, row-end (sheet_of c.args.self.now.cfg.now (g.R.RecordTexts.rows c.args.self.now.records.now) (g.C.Colors.color c.args.self.now.colors.now) c.args.self.now.widths.now c.args.self.now.heights.now) c.args.i c.requires.row, c.requires.top, c.if-self-i-eq1.true)
+    omega (arith, row-end (table_sheet g.R.RecordTexts.rows g.C.Colors.color c.args.self.now) c.args.i c.requires.row, c.requires.top, c.if-self-i-eq1.true)
 
 pub returns-in-Some-clause-goes_on : goal.returns-in-Some-clause-goes_on
 returns-in-Some-clause-goes_on g c =
     let made : AreMadeFor c.args.self.now.cfg.now c.args.self.now.widths.now (Some c.in-Some.flat) = subst (λ (kept : Option FlatRows). AreMadeFor c.args.self.now.cfg.now c.args.self.now.widths.now kept) c.in-Some.is c.requires.made in
-    none-goes-on (sheet_of c.args.self.now.cfg.now (g.R.RecordTexts.rows c.args.self.now.records.now) (g.C.Colors.color c.args.self.now.colors.now) c.args.self.now.widths.now c.args.self.now.heights.now) made.0.single (c.args.i + 1) c.args.cells.now
+    none-goes-on (table_sheet g.R.RecordTexts.rows g.C.Colors.color c.args.self.now) made.0.single (c.args.i + 1) c.args.cells.now

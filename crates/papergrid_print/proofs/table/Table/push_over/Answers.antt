@@ -9,7 +9,7 @@ use Rattle.papergrid_picture.specs.Picture.{at}
 use Rattle.papergrid_cells.specs.Flat.{joints_of, room_in, standing_of}
 use Rattle.papergrid_print.specs.FlatSheets.{first_placed}
 use Rattle.papergrid_cells.specs.Painting.{colored, fill_bytes}
-use Rattle.papergrid_print.specs.Sheets.{sheet_of}
+use Rattle.papergrid_print.specs.Sheets.{table_sheet}
 use Rattle.papergrid_cells.proofs.EmptyRowLemmas.{end-inside, front-inside, length-rooms, none-of, placed-colored, placed-plain, rest-inside, room-inside, room-wide, split-begin, split-behind, split-front, split-line, split-text, taken, text-inside, text-over, text-put}
 use Rattle.papergrid_print.proofs.PlacedLemmas.{plain-placed, written-more}
 use Rattle.papergrid_print.proofs.table.Table.push_over.Goals as goal
@@ -66,7 +66,7 @@ loop-j-preserved-then-is_some g c =
     let i = c.args.i in
     let j = c.loop-j.j in
     let room = c.index.result.now in
-    let sheet = sheet_of c.args.self.now.cfg.now (g.R.RecordTexts.rows c.args.self.now.records.now) (g.C.Colors.color c.args.self.now.colors.now) c.args.self.now.widths.now c.args.self.now.heights.now in
+    let sheet = table_sheet g.R.RecordTexts.rows g.C.Colors.color c.args.self.now in
     let cell = c.cell-cell.result in
     let pos = at i j in
     let text = cell.text.now in
@@ -130,7 +130,7 @@ loop-j-preserved g c =
     let i = c.args.i in
     let j = c.loop-j.j in
     let room = c.index.result.now in
-    let sheet = sheet_of c.args.self.now.cfg.now (g.R.RecordTexts.rows c.args.self.now.records.now) (g.C.Colors.color c.args.self.now.colors.now) c.args.self.now.widths.now c.args.self.now.heights.now in
+    let sheet = table_sheet g.R.RecordTexts.rows g.C.Colors.color c.args.self.now in
     let cell = c.cell-cell.result in
     let indent = c.indent-indent.result in
     let pos = at i j in

@@ -6,7 +6,7 @@ use Rattle.grid_records_traits.specs.Rows.{text_at}
 use Rattle.papergrid_cells.specs.Flat.{behind_text, standing_of}
 use Rattle.papergrid_print.specs.FlatSheets.{first_placed}
 use Rattle.papergrid_picture.specs.Picture.{at}
-use Rattle.papergrid_print.specs.Sheets.{sheet_of}
+use Rattle.papergrid_print.specs.Sheets.{table_sheet}
 use Rattle.papergrid_print.proofs.FlatLemmas.{flat-ends, flat-more}
 use Rattle.papergrid_print.proofs.PlacedLemmas.{plain-placed}
 use Rattle.papergrid_print.proofs.table.Table.push_plain_line.Goals as goal
@@ -16,7 +16,7 @@ loop-j-init g c = c.in_ok-first.ensures.front
 
 pub loop-j-preserved : goal.loop-j-preserved
 loop-j-preserved g c =
-    let sheet = (sheet_of c.args.self.now.cfg.now (g.R.RecordTexts.rows c.args.self.now.records.now) (g.C.Colors.color c.args.self.now.colors.now) c.args.self.now.widths.now c.args.self.now.heights.now) in
+    let sheet = (table_sheet g.R.RecordTexts.rows g.C.Colors.color c.args.self.now) in
     let i = c.args.i in
     let j = c.loop-j.j in
     let out = string_bytes c.loop-j.out in
@@ -33,6 +33,6 @@ loop-j-preserved g c =
 
 pub returns : goal.returns
 returns g c =
-    let sheet = (sheet_of c.args.self.now.cfg.now (g.R.RecordTexts.rows c.args.self.now.records.now) (g.C.Colors.color c.args.self.now.colors.now) c.args.self.now.widths.now c.args.self.now.heights.now) in
+    let sheet = (table_sheet g.R.RecordTexts.rows g.C.Colors.color c.args.self.now) in
     let end : c.loop-j.j ≡ length c.args.self.now.widths.now = omega (arith, c.loop-j-test.false, c.loop-j.auto.j-end, c.in_ok-first.ensures.inside) in
     c.loop-j.invariant ∙ ap (λ l. string_bytes c.args.out.now ++ l) (flat-ends sheet c.args.i c.loop-j.j end)

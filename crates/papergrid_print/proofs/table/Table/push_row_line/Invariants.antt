@@ -1,7 +1,7 @@
 use Rattle.std.proofs.Common.{◌≡◌, ◌++◌, string_bytes}
-use Rattle.papergrid_print.specs.Sheets.{sheet_of}
+use Rattle.papergrid_print.specs.Sheets.{table_sheet}
 use Rattle.papergrid_print.proofs.LineLemmas.{row_start}
 use Rattle.papergrid_print.proofs.table.Table.push_row_line.Given as goal
 
 abbrev pub invariant-loop-j : goal.invariant-loop-j
-invariant-loop-j g l = string_bytes l.out ≡ string_bytes l.initial.out ++ row_start (sheet_of l.self.cfg.now (g.R.RecordTexts.rows l.self.records.now) (g.C.Colors.color l.self.colors.now) l.self.widths.now l.self.heights.now) l.i l.y l.j
+invariant-loop-j g l = string_bytes l.out ≡ string_bytes l.initial.out ++ row_start (table_sheet g.R.RecordTexts.rows g.C.Colors.color l.self) l.i l.y l.j

@@ -5,13 +5,13 @@ use Rattle.grid_config_values.specs.declared.position.Position.{Position}
 use Rattle.papergrid_picture.specs.Picture.{seen}
 use Rattle.papergrid_cells.specs.BlockLines.{alone_bytes, line_kind}
 use Rattle.papergrid_cells.specs.Shown.{measures_of}
-use Rattle.papergrid_print.specs.Sheets.{ShowsCell, grid_of, sheet_of}
+use Rattle.papergrid_print.specs.Sheets.{ShowsCell, grid_of, table_sheet}
 use Rattle.papergrid_print.proofs.LineLemmas.{appended2, kept-shows, row-part}
 use Rattle.papergrid_print.proofs.table.Table.push_row_part.Goals as goal
 
 pub returns-in-Some : goal.returns-in-Some
 returns-in-Some g c =
-    let sheet = sheet_of c.args.self.now.cfg.now (g.R.RecordTexts.rows c.args.self.now.records.now) (g.C.Colors.color c.args.self.now.colors.now) c.args.self.now.widths.now c.args.self.now.heights.now in
+    let sheet = table_sheet g.R.RecordTexts.rows g.C.Colors.color c.args.self.now in
     let cell = c.in-Some.cell in
     let pos = seen (grid_of sheet) c.args.i c.args.j in
     let is_seen : c.kept_at.result ≡ pos = c.kept_at.ensures ∙ c.requires.seen c.args.j c.requires.column in

@@ -2,24 +2,24 @@ use Rattle.std.proofs.Common.{◌≡◌, ◌≤◌, ◌<◌, ◌+◌, length, ap
 use Rattle.std.proofs.lemmas.Nat.{mul-le}
 use Rattle.papergrid_picture.specs.Frame.{boundary_at, line_count}
 use Rattle.papergrid_picture.proofs.FrameLemmas.{boundary-first, boundary-next}
-use Rattle.papergrid_print.specs.Sheets.{grid_of, row_tracks, sheet_of}
+use Rattle.papergrid_print.specs.Sheets.{grid_of, row_tracks, table_sheet}
 use Rattle.papergrid_print.proofs.TableLemmas.{lines-fit}
 use Rattle.papergrid_print.proofs.table.Table.room.Goals as goal
 
 pub loop-height-init : goal.loop-height-init
 loop-height-init g c =
-    let sheet = sheet_of c.args.self.now.cfg.now (g.R.RecordTexts.rows c.args.self.now.records.now) (g.C.Colors.color c.args.self.now.colors.now) c.args.self.now.widths.now c.args.self.now.heights.now in
+    let sheet = table_sheet g.R.RecordTexts.rows g.C.Colors.color c.args.self.now in
     omega (arith, ap (λ m. m.top.size) c.get_margin-margin.ensures, ap (λ m. m.bottom.size) c.get_margin-margin.ensures, c.saturating_add-lines.ensures, boundary-first (row_tracks sheet))
 
 pub loop-height-preserved : goal.loop-height-preserved
 loop-height-preserved g c =
-    let sheet = sheet_of c.args.self.now.cfg.now (g.R.RecordTexts.rows c.args.self.now.records.now) (g.C.Colors.color c.args.self.now.colors.now) c.args.self.now.widths.now c.args.self.now.heights.now in
+    let sheet = table_sheet g.R.RecordTexts.rows g.C.Colors.color c.args.self.now in
     let below : c.loop-height.height-index < length c.args.self.now.heights.now = omega arith in
     omega (arith, c.loop-height.invariant, c.saturating_add-lines-in-loop-height.ensures, boundary-next (row_tracks sheet) c.loop-height.height-index below)
 
 pub returns : goal.returns
 returns g c =
-    let sheet = sheet_of c.args.self.now.cfg.now (g.R.RecordTexts.rows c.args.self.now.records.now) (g.C.Colors.color c.args.self.now.colors.now) c.args.self.now.widths.now c.args.self.now.heights.now in
+    let sheet = table_sheet g.R.RecordTexts.rows g.C.Colors.color c.args.self.now in
     let lines = c.loop-height.lines in
     let count = line_count (grid_of sheet).frame in
     let end : c.loop-height.height-index ≡ length c.args.self.now.heights.now = omega arith in

@@ -1,7 +1,7 @@
 use Rattle.std.proofs.Common.{◌≡◌, ℕ, ◌+◌, ◌≤◌, ◌∙◌, Result, length, subst, sym, string_bytes, arith}
 use Rattle.std.specs.Prelude.{IfOk}
 use Rattle.papergrid_picture.specs.Frame.{boundary_at, track_at}
-use Rattle.papergrid_print.specs.Sheets.{GoesOn, lines_of, row_tracks, sheet_of}
+use Rattle.papergrid_print.specs.Sheets.{GoesOn, lines_of, row_tracks, table_sheet}
 use Rattle.tabled_output.specs.Pieces.{HasPassed}
 use Rattle.tabled_output.specs.declared.writing.WriteFault.{WriteFault}
 use Rattle.papergrid_print.proofs.SeenLemmas.{none-seen-below}
@@ -11,7 +11,7 @@ use Rattle.papergrid_print.proofs.table.Table.write_all_rows.Goals as goal
 
 pub write_boundary-requires-clause-range : goal.write_boundary-requires-clause-range
 write_boundary-requires-clause-range g c =
-    let S = sheet_of c.args.self.now.cfg.now (g.R.RecordTexts.rows c.args.self.now.records.now) (g.C.Colors.color c.args.self.now.colors.now) c.args.self.now.widths.now c.args.self.now.heights.now in
+    let S = table_sheet g.R.RecordTexts.rows g.C.Colors.color c.args.self.now in
     omega (arith, row-within S c.loop-i.i c.loop-i-test.true, c.requires.lines)
 
 pub write_boundary-requires-2-clause-seen : goal.write_boundary-requires-2-clause-seen
@@ -20,12 +20,12 @@ write_boundary-requires-2-clause-seen g c =
 
 pub write_next_row-requires-clause-top : goal.write_next_row-requires-clause-top
 write_next_row-requires-clause-top g c =
-    let S = sheet_of c.args.self.now.cfg.now (g.R.RecordTexts.rows c.args.self.now.records.now) (g.C.Colors.color c.args.self.now.colors.now) c.args.self.now.widths.now c.args.self.now.heights.now in
+    let S = table_sheet g.R.RecordTexts.rows g.C.Colors.color c.args.self.now in
     subst (λ (r : Result ℕ WriteFault). IfOk r (λ end. end ≡ track_at (row_tracks S) c.loop-i.i)) c.in-Ok.is c.in_ok-top.ensures.end
 
 pub loop-i-preserved : goal.loop-i-preserved
 loop-i-preserved g c =
-    let S = sheet_of c.args.self.now.cfg.now (g.R.RecordTexts.rows c.args.self.now.records.now) (g.C.Colors.color c.args.self.now.colors.now) c.args.self.now.widths.now c.args.self.now.heights.now in
+    let S = table_sheet g.R.RecordTexts.rows g.C.Colors.color c.args.self.now in
     let K = g.W.Write.contents in
     let shown = subst (λ (r : Result ℕ WriteFault). IfOk r (λ end. end ≡ track_at (row_tracks S) c.loop-i.i)) c.in-Ok.is c.in_ok-top.ensures.end in
     record {
@@ -41,7 +41,7 @@ loop-i-preserved g c =
 
 pub returns-in_err-top-clause-lines : goal.returns-in_err-top-clause-lines
 returns-in_err-top-clause-lines g c =
-    let S = sheet_of c.args.self.now.cfg.now (g.R.RecordTexts.rows c.args.self.now.records.now) (g.C.Colors.color c.args.self.now.colors.now) c.args.self.now.widths.now c.args.self.now.heights.now in
+    let S = table_sheet g.R.RecordTexts.rows g.C.Colors.color c.args.self.now in
     let K = g.W.Write.contents in
     let within : track_at (row_tracks S) c.loop-i.i ≤ track_at (row_tracks S) (length c.args.self.now.heights.now) = omega (arith, row-within S c.loop-i.i c.loop-i-test.true) in
     continues-refused K (lines_of S (boundary_at (row_tracks S) 0)) (lines_of S (track_at (row_tracks S) (length c.args.self.now.heights.now))) (string_bytes c.args.buffer.now) (string_bytes c.write_boundary.new.buffer) c.args.writer.now c.write_boundary.new.writer c.from_residual.result c.from_residual.ensures.0
@@ -51,7 +51,7 @@ returns-in_err-top-clause-lines g c =
 
 pub returns-in-Err-clause-lines : goal.returns-in-Err-clause-lines
 returns-in-Err-clause-lines g c = λ start before.
-    let S = sheet_of c.args.self.now.cfg.now (g.R.RecordTexts.rows c.args.self.now.records.now) (g.C.Colors.color c.args.self.now.colors.now) c.args.self.now.widths.now c.args.self.now.heights.now in
+    let S = table_sheet g.R.RecordTexts.rows g.C.Colors.color c.args.self.now in
     let K = g.W.Write.contents in
     let within : track_at (row_tracks S) c.loop-i.i ≤ track_at (row_tracks S) (length c.args.self.now.heights.now) = omega (arith, row-within S c.loop-i.i c.loop-i-test.true) in
     let p = subst (λ k. HasPassed K (lines_of S k) (string_bytes c.loop-i.buffer) start c.loop-i.writer) (sym c.loop-i.invariant.line) (c.loop-i.invariant.passed start before) in
@@ -60,7 +60,7 @@ returns-in-Err-clause-lines g c = λ start before.
 
 pub returns-in_err-end-clause-lines : goal.returns-in_err-end-clause-lines
 returns-in_err-end-clause-lines g c =
-    let S = sheet_of c.args.self.now.cfg.now (g.R.RecordTexts.rows c.args.self.now.records.now) (g.C.Colors.color c.args.self.now.colors.now) c.args.self.now.widths.now c.args.self.now.heights.now in
+    let S = table_sheet g.R.RecordTexts.rows g.C.Colors.color c.args.self.now in
     let K = g.W.Write.contents in
     let inside : c.loop-i.i + 1 ≤ length c.args.self.now.heights.now = omega (arith, c.loop-i-test.true) in
     let within = boundary-within S (c.loop-i.i + 1) inside in
@@ -73,7 +73,7 @@ returns-in_err-end-clause-lines g c =
 
 pub returns-in-Err-2-clause-lines : goal.returns-in-Err-2-clause-lines
 returns-in-Err-2-clause-lines g c = λ start before.
-    let S = sheet_of c.args.self.now.cfg.now (g.R.RecordTexts.rows c.args.self.now.records.now) (g.C.Colors.color c.args.self.now.colors.now) c.args.self.now.widths.now c.args.self.now.heights.now in
+    let S = table_sheet g.R.RecordTexts.rows g.C.Colors.color c.args.self.now in
     let K = g.W.Write.contents in
     let inside : c.loop-i.i + 1 ≤ length c.args.self.now.heights.now = omega (arith, c.loop-i-test.true) in
     let within = boundary-within S (c.loop-i.i + 1) inside in
@@ -85,7 +85,7 @@ returns-in-Err-2-clause-lines g c = λ start before.
 
 pub returns-clause-lines : goal.returns-clause-lines
 returns-clause-lines g c =
-    let S = sheet_of c.args.self.now.cfg.now (g.R.RecordTexts.rows c.args.self.now.records.now) (g.C.Colors.color c.args.self.now.colors.now) c.args.self.now.widths.now c.args.self.now.heights.now in
+    let S = table_sheet g.R.RecordTexts.rows g.C.Colors.color c.args.self.now in
     let K = g.W.Write.contents in
     continues-after K (lines_of S (boundary_at (row_tracks S) 0)) (lines_of S c.loop-i.y) (lines_of S (track_at (row_tracks S) (length c.args.self.now.heights.now))) (string_bytes c.args.buffer.now) (string_bytes c.loop-i.buffer) (string_bytes c.write_boundary-2.new.buffer) c.args.writer.now c.loop-i.writer c.write_boundary-2.new.writer c.write_boundary-2.result
     (λ start before. subst (λ k. HasPassed K (lines_of S k) (string_bytes c.loop-i.buffer) start c.loop-i.writer) (sym c.loop-i.invariant.line) (c.loop-i.invariant.passed start before))

@@ -3,7 +3,7 @@ use Rattle.std.specs.Prelude.{IfOk}
 use Rattle.papergrid_picture.specs.Frame.{boundary_at, line_count, track_at}
 use Rattle.papergrid_picture.proofs.FrameLemmas.{boundary-first}
 use Rattle.papergrid_cells.specs.Painting.{colored, fill_bytes}
-use Rattle.papergrid_print.specs.Sheets.{grid_of, lines_of, row_tracks, sheet_of}
+use Rattle.papergrid_print.specs.Sheets.{grid_of, lines_of, row_tracks, table_sheet}
 use Rattle.tabled_output.specs.Pieces.{HasPassed, Passes}
 use Rattle.tabled_output.specs.declared.writing.WriteFault.{WriteFault}
 use Rattle.tabled_output.proofs.PieceLemmas.{passed-none, passes-refused}
@@ -13,7 +13,7 @@ use Rattle.papergrid_print.proofs.table.Table.write_lines.Goals as goal
 
 pub returns-in_err-fault : goal.returns-in_err-fault
 returns-in_err-fault g c =
-    let S = sheet_of c.args.self.now.cfg.now (g.R.RecordTexts.rows c.args.self.now.records.now) (g.C.Colors.color c.args.self.now.colors.now) c.args.self.now.widths.now c.args.self.now.heights.now in
+    let S = table_sheet g.R.RecordTexts.rows g.C.Colors.color c.args.self.now in
     let K = g.W.Write.contents in
     let w = c.args.writer.now in
     let cfg = c.args.self.now.cfg.now in
@@ -26,7 +26,7 @@ returns-in_err-fault g c =
 
 pub returns-in-Err : goal.returns-in-Err
 returns-in-Err g c =
-    let S = sheet_of c.args.self.now.cfg.now (g.R.RecordTexts.rows c.args.self.now.records.now) (g.C.Colors.color c.args.self.now.colors.now) c.args.self.now.widths.now c.args.self.now.heights.now in
+    let S = table_sheet g.R.RecordTexts.rows g.C.Colors.color c.args.self.now in
     let K = g.W.Write.contents in
     let w = c.args.writer.now in
     let cfg = c.args.self.now.cfg.now in
@@ -38,7 +38,7 @@ returns-in-Err g c =
 
 pub returns-in_err-y : goal.returns-in_err-y
 returns-in_err-y g c =
-    let S = sheet_of c.args.self.now.cfg.now (g.R.RecordTexts.rows c.args.self.now.records.now) (g.C.Colors.color c.args.self.now.colors.now) c.args.self.now.widths.now c.args.self.now.heights.now in
+    let S = table_sheet g.R.RecordTexts.rows g.C.Colors.color c.args.self.now in
     let K = g.W.Write.contents in
     let w = c.args.writer.now in
     let cfg = c.args.self.now.cfg.now in
@@ -54,7 +54,7 @@ returns-in_err-y g c =
 
 pub returns-in-Err-2 : goal.returns-in-Err-2
 returns-in-Err-2 g c =
-    let S = sheet_of c.args.self.now.cfg.now (g.R.RecordTexts.rows c.args.self.now.records.now) (g.C.Colors.color c.args.self.now.colors.now) c.args.self.now.widths.now c.args.self.now.heights.now in
+    let S = table_sheet g.R.RecordTexts.rows g.C.Colors.color c.args.self.now in
     let K = g.W.Write.contents in
     let w = c.args.writer.now in
     let cfg = c.args.self.now.cfg.now in
@@ -69,7 +69,7 @@ returns-in-Err-2 g c =
 
 pub write_margin-requires-in-Ok-clause-shown : goal.write_margin-requires-in-Ok-clause-shown
 write_margin-requires-in-Ok-clause-shown g c = λ k from below.
-    let S = sheet_of c.args.self.now.cfg.now (g.R.RecordTexts.rows c.args.self.now.records.now) (g.C.Colors.color c.args.self.now.colors.now) c.args.self.now.widths.now c.args.self.now.heights.now in
+    let S = table_sheet g.R.RecordTexts.rows g.C.Colors.color c.args.self.now in
     let cfg = c.args.self.now.cfg.now in
     let end : c.in-Ok.y ≡ track_at (row_tracks S) (length c.args.self.now.heights.now) = subst (λ (r : Result ℕ WriteFault). IfOk r (λ y. y ≡ track_at (row_tracks S) (length c.args.self.now.heights.now))) c.in-Ok.is c.in_ok-y.ensures.end in
     let past : track_at (row_tracks S) (length c.args.self.now.heights.now) ≤ k = omega (arith, from, end) in
@@ -80,7 +80,7 @@ write_margin-requires-in-Ok-clause-shown g c = λ k from below.
 
 pub returns-in-Ok : goal.returns-in-Ok
 returns-in-Ok g c =
-    let S = sheet_of c.args.self.now.cfg.now (g.R.RecordTexts.rows c.args.self.now.records.now) (g.C.Colors.color c.args.self.now.colors.now) c.args.self.now.widths.now c.args.self.now.heights.now in
+    let S = table_sheet g.R.RecordTexts.rows g.C.Colors.color c.args.self.now in
     let K = g.W.Write.contents in
     let w = c.args.writer.now in
     let cfg = c.args.self.now.cfg.now in

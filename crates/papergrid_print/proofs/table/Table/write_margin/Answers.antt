@@ -1,6 +1,6 @@
 use Rattle.std.proofs.Common.{◌≡◌, ◌+◌, ◌≤◌, ◌++◌, ◌∙◌, ap, refl, subst, sym, string_bytes, arith}
 use Rattle.papergrid_picture.specs.Frame.{place}
-use Rattle.papergrid_print.specs.Sheets.{lines_of, row_tracks, sheet_of}
+use Rattle.papergrid_print.specs.Sheets.{lines_of, row_tracks, table_sheet}
 use Rattle.tabled_output.specs.Pieces.{HasPassed}
 use Rattle.tabled_output.proofs.PieceLemmas.{passed-on}
 use Rattle.papergrid_print.proofs.WriteLemmas.{begun, continues-refused, passed-line, stopped}
@@ -8,7 +8,7 @@ use Rattle.papergrid_print.proofs.table.Table.write_margin.Goals as goal
 
 pub returns-in_err-push_feed : goal.returns-in_err-push_feed
 returns-in_err-push_feed g c =
-    let S = sheet_of c.args.self.now.cfg.now (g.R.RecordTexts.rows c.args.self.now.records.now) (g.C.Colors.color c.args.self.now.colors.now) c.args.self.now.widths.now c.args.self.now.heights.now in
+    let S = table_sheet g.R.RecordTexts.rows g.C.Colors.color c.args.self.now in
     let K = g.W.Write.contents in
     let within : c.loop-line.line ≤ c.args.y + c.args.margin.size = omega (arith, c.loop-line-test.true) in
     let next : c.loop-line.line + 1 ≤ c.args.y + c.args.margin.size = omega (arith, c.loop-line-test.true) in
@@ -17,7 +17,7 @@ returns-in_err-push_feed g c =
 
 pub returns-in_err-push_blank : goal.returns-in_err-push_blank
 returns-in_err-push_blank g c =
-    let S = sheet_of c.args.self.now.cfg.now (g.R.RecordTexts.rows c.args.self.now.records.now) (g.C.Colors.color c.args.self.now.colors.now) c.args.self.now.widths.now c.args.self.now.heights.now in
+    let S = table_sheet g.R.RecordTexts.rows g.C.Colors.color c.args.self.now in
     let K = g.W.Write.contents in
     let within : c.loop-line.line ≤ c.args.y + c.args.margin.size = omega (arith, c.loop-line-test.true) in
     let next : c.loop-line.line + 1 ≤ c.args.y + c.args.margin.size = omega (arith, c.loop-line-test.true) in
@@ -26,7 +26,7 @@ returns-in_err-push_blank g c =
 
 pub returns-in-Err : goal.returns-in-Err
 returns-in-Err g c = λ start before.
-    let S = sheet_of c.args.self.now.cfg.now (g.R.RecordTexts.rows c.args.self.now.records.now) (g.C.Colors.color c.args.self.now.colors.now) c.args.self.now.widths.now c.args.self.now.heights.now in
+    let S = table_sheet g.R.RecordTexts.rows g.C.Colors.color c.args.self.now in
     let K = g.W.Write.contents in
     let within : c.loop-line.line ≤ c.args.y + c.args.margin.size = omega (arith, c.loop-line-test.true) in
     let next : c.loop-line.line + 1 ≤ c.args.y + c.args.margin.size = omega (arith, c.loop-line-test.true) in
@@ -38,7 +38,7 @@ returns-in-Err g c = λ start before.
 
 pub loop-line-preserved : goal.loop-line-preserved
 loop-line-preserved g c = λ start before.
-    let S = sheet_of c.args.self.now.cfg.now (g.R.RecordTexts.rows c.args.self.now.records.now) (g.C.Colors.color c.args.self.now.colors.now) c.args.self.now.widths.now c.args.self.now.heights.now in
+    let S = table_sheet g.R.RecordTexts.rows g.C.Colors.color c.args.self.now in
     let K = g.W.Write.contents in
     passed-on K (lines_of S (c.loop-line.line + 1)) (string_bytes c.push_blank.new.out) (string_bytes c.pass_line.new.buffer) start c.loop-line.writer c.pass_line.new.writer
     (let shown = c.in_ok-push_blank.ensures ∙ ap (λ l. string_bytes c.push_feed.new.out ++ l) (sym (c.requires.shown c.loop-line.line c.loop-line.auto.line c.loop-line-test.true)) in
@@ -48,7 +48,7 @@ loop-line-preserved g c = λ start before.
 
 pub returns : goal.returns
 returns g c = λ start before.
-    let S = sheet_of c.args.self.now.cfg.now (g.R.RecordTexts.rows c.args.self.now.records.now) (g.C.Colors.color c.args.self.now.colors.now) c.args.self.now.widths.now c.args.self.now.heights.now in
+    let S = table_sheet g.R.RecordTexts.rows g.C.Colors.color c.args.self.now in
     let K = g.W.Write.contents in
     let end : c.loop-line.line ≡ c.args.y + c.args.margin.size = omega (arith, c.loop-line-test.false, c.loop-line.auto.line-end, c.loop-line.auto.line) in
     subst (λ k. HasPassed K (lines_of S k) (string_bytes c.loop-line.buffer) start c.loop-line.writer) end (c.loop-line.invariant start before)

@@ -2,7 +2,7 @@ use Rattle.std.proofs.Common.{◌≡◌, ◌+◌, ◌<◌, ◌≤◌, ◌++◌, 
 use Rattle.papergrid_picture.specs.Frame.{Row, boundary_at, track_at}
 use Rattle.papergrid_cells.specs.Flat.{AreMadeFor}
 use Rattle.papergrid_cells.specs.declared.flat.FlatRows.{FlatRows}
-use Rattle.papergrid_print.specs.Sheets.{line_at, lines_of, row_tracks, sheet_of}
+use Rattle.papergrid_print.specs.Sheets.{line_at, lines_of, row_tracks, table_sheet}
 use Rattle.tabled_output.specs.Pieces.{HasPassed}
 use Rattle.tabled_output.proofs.PieceLemmas.{passed-on}
 use Rattle.papergrid_print.proofs.FlatLemmas.{none-goes-on}
@@ -12,12 +12,12 @@ use Rattle.papergrid_print.proofs.table.Table.write_next_row.Goals as goal
 
 pub overflow_add-result : goal.overflow_add-result
 overflow_add-result g c =
-    let S = sheet_of c.args.self.now.cfg.now (g.R.RecordTexts.rows c.args.self.now.records.now) (g.C.Colors.color c.args.self.now.colors.now) c.args.self.now.widths.now c.args.self.now.heights.now in
+    let S = table_sheet g.R.RecordTexts.rows g.C.Colors.color c.args.self.now in
     omega (arith, row-fits S c.args.i c.requires.row, c.requires.range, c.requires.top, c.if-self-i-eq1.true)
 
 pub returns-in_err-push_feed-clause-lines : goal.returns-in_err-push_feed-clause-lines
 returns-in_err-push_feed-clause-lines g c =
-    let S = sheet_of c.args.self.now.cfg.now (g.R.RecordTexts.rows c.args.self.now.records.now) (g.C.Colors.color c.args.self.now.colors.now) c.args.self.now.widths.now c.args.self.now.heights.now in
+    let S = table_sheet g.R.RecordTexts.rows g.C.Colors.color c.args.self.now in
     let K = g.W.Write.contents in
     let end = row-end S c.args.i c.requires.row in
     let within : c.args.y ≤ boundary_at (row_tracks S) (c.args.i + 1) = omega (arith, end, c.requires.top) in
@@ -26,7 +26,7 @@ returns-in_err-push_feed-clause-lines g c =
 
 pub returns-in_err-push_flat_line-clause-lines : goal.returns-in_err-push_flat_line-clause-lines
 returns-in_err-push_flat_line-clause-lines g c =
-    let S = sheet_of c.args.self.now.cfg.now (g.R.RecordTexts.rows c.args.self.now.records.now) (g.C.Colors.color c.args.self.now.colors.now) c.args.self.now.widths.now c.args.self.now.heights.now in
+    let S = table_sheet g.R.RecordTexts.rows g.C.Colors.color c.args.self.now in
     let K = g.W.Write.contents in
     let end = row-end S c.args.i c.requires.row in
     let within : c.args.y ≤ boundary_at (row_tracks S) (c.args.i + 1) = omega (arith, end, c.requires.top) in
@@ -35,7 +35,7 @@ returns-in_err-push_flat_line-clause-lines g c =
 
 pub returns-in_err-open_row-clause-lines : goal.returns-in_err-open_row-clause-lines
 returns-in_err-open_row-clause-lines g c =
-    let S = sheet_of c.args.self.now.cfg.now (g.R.RecordTexts.rows c.args.self.now.records.now) (g.C.Colors.color c.args.self.now.colors.now) c.args.self.now.widths.now c.args.self.now.heights.now in
+    let S = table_sheet g.R.RecordTexts.rows g.C.Colors.color c.args.self.now in
     let K = g.W.Write.contents in
     let end = row-end S c.args.i c.requires.row in
     let within : c.args.y ≤ boundary_at (row_tracks S) (c.args.i + 1) = omega (arith, end, c.requires.top) in
@@ -44,7 +44,7 @@ returns-in_err-open_row-clause-lines g c =
 
 pub returns-in-Err-clause-lines : goal.returns-in-Err-clause-lines
 returns-in-Err-clause-lines g c = λ start before.
-    let S = sheet_of c.args.self.now.cfg.now (g.R.RecordTexts.rows c.args.self.now.records.now) (g.C.Colors.color c.args.self.now.colors.now) c.args.self.now.widths.now c.args.self.now.heights.now in
+    let S = table_sheet g.R.RecordTexts.rows g.C.Colors.color c.args.self.now in
     let K = g.W.Write.contents in
     let next : c.args.y + 1 ≤ boundary_at (row_tracks S) (c.args.i + 1) = omega (arith, row-end S c.args.i c.requires.row, c.requires.top, c.if-self-i-eq1.true) in
     stopped S K (c.args.y + 1) (boundary_at (row_tracks S) (c.args.i + 1)) (string_bytes c.push_flat_line.new.out) c.in-Err.fault start c.args.writer.now c.pass_line.new.writer next
@@ -57,7 +57,7 @@ returns-in-Err-clause-lines g c = λ start before.
 
 pub returns-in-Some-clause-lines : goal.returns-in-Some-clause-lines
 returns-in-Some-clause-lines g c = λ start before.
-    let S = sheet_of c.args.self.now.cfg.now (g.R.RecordTexts.rows c.args.self.now.records.now) (g.C.Colors.color c.args.self.now.colors.now) c.args.self.now.widths.now c.args.self.now.heights.now in
+    let S = table_sheet g.R.RecordTexts.rows g.C.Colors.color c.args.self.now in
     let K = g.W.Write.contents in
     let end : c.args.y + 1 ≡ boundary_at (row_tracks S) (c.args.i + 1) = omega (arith, row-end S c.args.i c.requires.row, c.requires.top, c.if-self-i-eq1.true) in
     subst (λ k. HasPassed K (lines_of S k) (string_bytes c.pass_line.new.buffer) start c.pass_line.new.writer) end
@@ -71,11 +71,11 @@ returns-in-Some-clause-lines g c = λ start before.
 
 pub returns-in-Some-clause-end : goal.returns-in-Some-clause-end
 returns-in-Some-clause-end g c =
-    let S = sheet_of c.args.self.now.cfg.now (g.R.RecordTexts.rows c.args.self.now.records.now) (g.C.Colors.color c.args.self.now.colors.now) c.args.self.now.widths.now c.args.self.now.heights.now in
+    let S = table_sheet g.R.RecordTexts.rows g.C.Colors.color c.args.self.now in
     omega (arith, row-end S c.args.i c.requires.row, c.requires.top, c.if-self-i-eq1.true)
 
 pub returns-in-Some-clause-goes_on : goal.returns-in-Some-clause-goes_on
 returns-in-Some-clause-goes_on g c =
-    let S = sheet_of c.args.self.now.cfg.now (g.R.RecordTexts.rows c.args.self.now.records.now) (g.C.Colors.color c.args.self.now.colors.now) c.args.self.now.widths.now c.args.self.now.heights.now in
+    let S = table_sheet g.R.RecordTexts.rows g.C.Colors.color c.args.self.now in
     let made : AreMadeFor c.args.self.now.cfg.now c.args.self.now.widths.now (Some c.in-Some.flat) = subst (λ (kept : Option FlatRows). AreMadeFor c.args.self.now.cfg.now c.args.self.now.widths.now kept) c.in-Some.is c.requires.made in
     none-goes-on S made.0.single (c.args.i + 1) c.args.cells.now

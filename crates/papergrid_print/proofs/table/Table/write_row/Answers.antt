@@ -1,6 +1,6 @@
 use Rattle.std.proofs.Common.{◌≡◌, ◌+◌, ◌<◌, ◌≤◌, subst, get_or, string_bytes, arith}
 use Rattle.papergrid_picture.specs.Frame.{boundary_at, track_at}
-use Rattle.papergrid_print.specs.Sheets.{lines_of, row_tracks, sheet_of}
+use Rattle.papergrid_print.specs.Sheets.{lines_of, row_tracks, table_sheet}
 use Rattle.tabled_output.specs.Pieces.{HasPassed}
 use Rattle.tabled_output.proofs.PieceLemmas.{passed-on}
 use Rattle.papergrid_print.proofs.PlaceLemmas.{row-end, row-fits}
@@ -9,12 +9,12 @@ use Rattle.papergrid_print.proofs.table.Table.write_row.Goals as goal
 
 pub overflow_add-end : goal.overflow_add-end
 overflow_add-end g c =
-    let S = sheet_of c.args.self.now.cfg.now (g.R.RecordTexts.rows c.args.self.now.records.now) (g.C.Colors.color c.args.self.now.colors.now) c.args.self.now.widths.now c.args.self.now.heights.now in
+    let S = table_sheet g.R.RecordTexts.rows g.C.Colors.color c.args.self.now in
     omega (arith, row-fits S c.args.i c.requires.row, c.requires.range, c.requires.top)
 
 pub returns-in_err-push_feed-clause-lines : goal.returns-in_err-push_feed-clause-lines
 returns-in_err-push_feed-clause-lines g c =
-    let S = sheet_of c.args.self.now.cfg.now (g.R.RecordTexts.rows c.args.self.now.records.now) (g.C.Colors.color c.args.self.now.colors.now) c.args.self.now.widths.now c.args.self.now.heights.now in
+    let S = table_sheet g.R.RecordTexts.rows g.C.Colors.color c.args.self.now in
     let K = g.W.Write.contents in
     let end = row-end S c.args.i c.requires.row in
     let within : c.loop-line.line ≤ boundary_at (row_tracks S) (c.args.i + 1) = omega (arith, end, c.loop-line-test.true, c.requires.top) in
@@ -24,7 +24,7 @@ returns-in_err-push_feed-clause-lines g c =
 
 pub returns-in_err-push_row_line-clause-lines : goal.returns-in_err-push_row_line-clause-lines
 returns-in_err-push_row_line-clause-lines g c =
-    let S = sheet_of c.args.self.now.cfg.now (g.R.RecordTexts.rows c.args.self.now.records.now) (g.C.Colors.color c.args.self.now.colors.now) c.args.self.now.widths.now c.args.self.now.heights.now in
+    let S = table_sheet g.R.RecordTexts.rows g.C.Colors.color c.args.self.now in
     let K = g.W.Write.contents in
     let end = row-end S c.args.i c.requires.row in
     let within : c.loop-line.line ≤ boundary_at (row_tracks S) (c.args.i + 1) = omega (arith, end, c.loop-line-test.true, c.requires.top) in
@@ -34,7 +34,7 @@ returns-in_err-push_row_line-clause-lines g c =
 
 pub returns-in-Err-clause-lines : goal.returns-in-Err-clause-lines
 returns-in-Err-clause-lines g c = λ start before.
-    let S = sheet_of c.args.self.now.cfg.now (g.R.RecordTexts.rows c.args.self.now.records.now) (g.C.Colors.color c.args.self.now.colors.now) c.args.self.now.widths.now c.args.self.now.heights.now in
+    let S = table_sheet g.R.RecordTexts.rows g.C.Colors.color c.args.self.now in
     let K = g.W.Write.contents in
     let end = row-end S c.args.i c.requires.row in
     let within : c.loop-line.line ≤ boundary_at (row_tracks S) (c.args.i + 1) = omega (arith, end, c.loop-line-test.true, c.requires.top) in
@@ -48,7 +48,7 @@ returns-in-Err-clause-lines g c = λ start before.
 
 pub loop-line-preserved : goal.loop-line-preserved
 loop-line-preserved g c = λ start before.
-    let S = sheet_of c.args.self.now.cfg.now (g.R.RecordTexts.rows c.args.self.now.records.now) (g.C.Colors.color c.args.self.now.colors.now) c.args.self.now.widths.now c.args.self.now.heights.now in
+    let S = table_sheet g.R.RecordTexts.rows g.C.Colors.color c.args.self.now in
     let K = g.W.Write.contents in
     passed-on K (lines_of S (c.loop-line.line + 1)) (string_bytes c.push_row_line.new.out) (string_bytes c.pass_line.new.buffer) start c.loop-line.writer c.pass_line.new.writer
     (let from : track_at (row_tracks S) c.args.i ≤ c.loop-line.line = omega (arith, c.loop-line.auto.line, c.requires.top) in
@@ -59,12 +59,12 @@ loop-line-preserved g c = λ start before.
 
 pub returns-clause-lines : goal.returns-clause-lines
 returns-clause-lines g c = λ start before.
-    let S = sheet_of c.args.self.now.cfg.now (g.R.RecordTexts.rows c.args.self.now.records.now) (g.C.Colors.color c.args.self.now.colors.now) c.args.self.now.widths.now c.args.self.now.heights.now in
+    let S = table_sheet g.R.RecordTexts.rows g.C.Colors.color c.args.self.now in
     let K = g.W.Write.contents in
     let end : c.loop-line.line ≡ boundary_at (row_tracks S) (c.args.i + 1) = omega (arith, row-end S c.args.i c.requires.row, c.loop-line-test.false, c.loop-line.auto.line-end, c.loop-line.auto.line, c.requires.top) in
     subst (λ k. HasPassed K (lines_of S k) (string_bytes c.loop-line.buffer) start c.loop-line.writer) end (c.loop-line.invariant start before)
 
 pub returns-clause-end : goal.returns-clause-end
 returns-clause-end g c =
-    let S = sheet_of c.args.self.now.cfg.now (g.R.RecordTexts.rows c.args.self.now.records.now) (g.C.Colors.color c.args.self.now.colors.now) c.args.self.now.widths.now c.args.self.now.heights.now in
+    let S = table_sheet g.R.RecordTexts.rows g.C.Colors.color c.args.self.now in
     omega (arith, row-end S c.args.i c.requires.row, c.requires.top)
