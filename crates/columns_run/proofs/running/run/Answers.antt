@@ -39,7 +39,7 @@ returns g c =
     let after = g.R.Read.remaining (inner_of c.read_all.new.reader) in
     let Answered : List ℕ → Type 0 = λ input. MayAnswer wanted input result × Writes (output_of wanted input) result old new × LeavesAlone wanted input c.args.writer.now c.write_table.new.writer in
     let answered : Answered bytes = subst Answered c.deref.ensures.value
-        (c.write_table.ensures.answers, c.write_table.ensures.written.writes, c.write_table.ensures.alone) in
+    (c.write_table.ensures.answers, c.write_table.ensures.written.writes, c.write_table.ensures.alone) in
     let never_read = no-read result c.write_table.ensures.faults in
     let never_long = no-long-read result c.write_table.ensures.faults in
     record {
