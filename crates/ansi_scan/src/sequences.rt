@@ -33,7 +33,7 @@ pub(crate) struct FirstItem {
 }
 
 /// The first item.
-#[tactic(auto, unfolding(crate::specs::Pieces::front, crate::specs::Pieces::at_escape))]
+#[tactic(auto, unfolding(crate::specs::Pieces::leading_piece, crate::specs::Pieces::at_escape))]
 pub(crate) fn front(bytes: &[u8]) -> FirstItem
     requires { 0 < length bytes.now }
     ensures kind { (result.kind, result.len) ≡ leading_piece bytes.now }
