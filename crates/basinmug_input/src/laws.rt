@@ -8,6 +8,7 @@ ghost use Rattle.basinmug_input.specs.Faults.{IsFaultOf, IsNotUtf8, IsReadable};
 ghost use Rattle.basinmug_input.specs.Files.{ending};
 ghost use Rattle.basinmug_input.specs.Places.{EndsInQuotes, field_at, line_at};
 ghost use Rattle.basinmug_input.specs.Reading.{all_read, read_of, settings};
+ghost use Rattle.basinmug_input.specs.Rows.{rows_in};
 ghost use Rattle.basinmug_input.specs.declared.fault.InputFault.{InputFault as Fault};
 ghost use Rattle.basinmug_input.specs.declared.fault.InputFault.TheVariants.{Memory, NotText};
 
@@ -65,6 +66,12 @@ pub fn cleaned_by_hand()
 pub fn sequences_stay()
     ensures colored { cleaned (0x1b ∷ 0x5b ∷ 0x31 ∷ 0x6d ∷ 0x09 ∷ []) ≡ 0x1b ∷ 0x5b ∷ 0x31 ∷ 0x6d ∷ 0x20 ∷ 0x20 ∷ 0x20 ∷ 0x20 ∷ [] }
     ensures ended_by_bell { cleaned (0x1b ∷ 0x5d ∷ 0x30 ∷ 0x07 ∷ []) ≡ 0x1b ∷ 0x5d ∷ 0x30 ∷ 0x07 ∷ [] }
+{}
+
+/// Bytes and their rows.
+pub fn rows_by_hand()
+    ensures cleaned { rows_in 44 (0xef ∷ 0xbb ∷ 0xbf ∷ codes "a\tb,\"c\r\nd\"\r\n,\n") ≡ (codes "a    b" ∷ codes "c\nd" ∷ []) ∷ ([] ∷ [] ∷ []) ∷ [] }
+    ensures colored { rows_in 9 (0x1b ∷ 0x5b ∷ 0x31 ∷ 0x6d ∷ 0x61 ∷ 0x09 ∷ 0x62 ∷ []) ≡ ((0x1b ∷ 0x5b ∷ 0x31 ∷ 0x6d ∷ 0x61 ∷ []) ∷ (0x62 ∷ []) ∷ []) ∷ [] }
 {}
 
 /// The places of bytes, and texts that end in quotes.
