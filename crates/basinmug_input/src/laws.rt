@@ -24,19 +24,21 @@ pub fn readable_texts_have_no_fault()
 
 /// A text has one fault besides `Memory`, in one place.
 pub fn texts_have_one_fault()
-    ensures { (delimiter : ℕ) (text : List ℕ) (one other : Fault) → IsFaultOf (settings delimiter) text one → IsFaultOf (settings delimiter) text other → one ≢ Memory → other ≢ Memory → one ≡ other }
+    ensures { (delimiter : ℕ) (text : List ℕ) (one other : Fault) → IsFaultOf (settings delimiter) text one → IsFaultOf (settings delimiter) text other →
+        one ≢ Memory → other ≢ Memory → one ≡ other }
 {}
 
 /// Where the delimiter is ASCII, the fields of a text are texts: `NotText` then tells of bytes that are no text, and
 /// of nothing else.
 pub fn fields_of_texts_are_texts()
     ensures fields { (delimiter : ℕ) (text : List ℕ) → delimiter < 128 → IsUtf8 text → AllByRecursion (AllByRecursion IsUtf8) (records (settings delimiter) text) }
-    ensures faults { (delimiter : ℕ) (text : List ℕ) (line field : ℕ) → delimiter < 128 → IsFaultOf (settings delimiter) text (NotText line field) → IsNotUtf8 (settings delimiter) text line field }
+    ensures faults { (delimiter : ℕ) (text : List ℕ) (line field : ℕ) → delimiter < 128 →
+        IsFaultOf (settings delimiter) text (NotText line field) → IsNotUtf8 (settings delimiter) text line field }
 {}
 
 /// Texts and their records: the rules of RFC 4180, section 2, by their numbers there, and what else is read.
 pub fn records_by_hand()
-    ensures one_each_line { records (settings 44) (codes "aaa,bbb,ccc\r\nzzz,yyy,xxx\r\n") ≡ (codes "aaa" ∷ codes "bbb" ∷ codes "ccc" ∷ []) ∷ (codes "zzz" ∷ codes "yyy" ∷ codes "xxx" ∷ []) ∷ [] }
+    ensures one_each_line { records (settings 44) (codes "aaa,bbb\r\nzzz,yyy\r\n") ≡ (codes "aaa" ∷ codes "bbb" ∷ []) ∷ (codes "zzz" ∷ codes "yyy" ∷ []) ∷ [] }
     ensures two_last_line { records (settings 44) (codes "aaa,bbb\r\nzzz,yyy") ≡ (codes "aaa" ∷ codes "bbb" ∷ []) ∷ (codes "zzz" ∷ codes "yyy" ∷ []) ∷ [] }
     ensures four_spaces_are_part { records (settings 44) (codes " a , b ") ≡ (codes " a " ∷ codes " b " ∷ []) ∷ [] }
     ensures five_quotes_are_no_part { records (settings 44) (codes "\"aaa\",\"bbb\"\r\nzzz,yyy") ≡ (codes "aaa" ∷ codes "bbb" ∷ []) ∷ (codes "zzz" ∷ codes "yyy" ∷ []) ∷ [] }
