@@ -11,7 +11,7 @@ use Rattle.csv.specs.declared.parser.State.{State}
 use Rattle.basinmug_input.specs.Reading.{HasByte, SoFar, field_in, read_of, with_byte}
 use Rattle.basinmug_input.proofs.RecordLemmas.{records-read}
 
-other-push : {X : Type 0} (xs : List X) (y d : X) (i : ℕ) → (i ≡ length xs → ⊥) → get_or (xs ++ y ∷ []) i d ≡ get_or xs i d
+pub other-push : {X : Type 0} (xs : List X) (y d : X) (i : ℕ) → (i ≡ length xs → ⊥) → get_or (xs ++ y ∷ []) i d ≡ get_or xs i d
 other-push xs y d i other =
     elim (cases_lt i (length xs)) [
       | inl below ↦ get_or_append_left xs (y ∷ []) d i below
@@ -21,7 +21,7 @@ other-push xs y d i other =
     ]
 
 -- a default that is put to a list can't be told from none
-default-push : {X : Type 0} (xs : List X) (d : X) (i : ℕ) → get_or (xs ++ d ∷ []) i d ≡ get_or xs i d
+pub default-push : {X : Type 0} (xs : List X) (d : X) (i : ℕ) → get_or (xs ++ d ∷ []) i d ≡ get_or xs i d
 default-push xs d i =
     elim (cases_eq i (length xs)) [
       | inl same ↦ get_or_push xs d d i (sym same) ∙ sym (get_or_past xs i d (omega (arith, same)))
@@ -42,7 +42,7 @@ no-bytes zero (suc field) byte = omega arith
 no-bytes (suc row) field byte = let none = ap length (get_or_past {X = List ℕ} [] field [] (omega arith)) in omega (arith, none)
 
 -- two records in the same place
-both-push : (rows : List (List (List ℕ))) (x y : List (List ℕ)) (row field : ℕ) → get_or x field [] ≡ get_or y field []
+pub both-push : (rows : List (List (List ℕ))) (x y : List (List ℕ)) (row field : ℕ) → get_or x field [] ≡ get_or y field []
     → field_in (rows ++ x ∷ []) row field ≡ field_in (rows ++ y ∷ []) row field
 both-push rows x y row field same =
     elim (cases_eq row (length rows)) [

@@ -1,5 +1,7 @@
 pub mod ByteLemmas
 pub mod CleanLemmas
+pub mod OneFault
 pub mod QuoteLemmas
 pub mod RecordLemmas
 pub mod RowLemmas
+pub mod TextLemmas

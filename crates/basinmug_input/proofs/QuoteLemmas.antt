@@ -2,7 +2,7 @@
 use Rattle.std.proofs.Common.{◌≡◌, ◌∙◌, ◌+◌, ◌<◌, ℕ, Bool, true, false, List, ◌⊎◌, inl, inr, length, get_or, refl, sym, ap, subst, arith, [], ◌∷◌}
 use Rattle.std.proofs.lemmas.Bool.{cases_eq}
 use Rattle.std.proofs.lemmas.List.Sums.{fold_more}
-use Rattle.std.specs.Prelude.{⊤, ◌==◌, ◌&&◌, if◌then◌else◌, ◌||◌, fold}
+use Rattle.std.specs.Prelude.{⊤, ◌==◌, ◌&&◌, if◌then◌else◌, fold}
 use Rattle.std.specs.List.{list_any}
 use Rattle.csv.specs.Machine.{after_end, carriage_return, ends_with, in_field, line_feed, start_field, start_record, step}
 use Rattle.csv.specs.declared.parser.Action.{Action}
@@ -17,8 +17,9 @@ use Rattle.basinmug_input.specs.Walking.{csv_action, csv_state}
 use Rattle.basinmug_input.specs.declared.progress.Action.{Action as OwnAction}
 use Rattle.basinmug_input.specs.declared.progress.State.{State as OwnState}
 use Rattle.basinmug_input.specs.declared.progress.State.TheVariants as own_st
+use Rattle.basinmug_input.proofs.CleanLemmas.{neither}
 
-state-with : (a : Action) (s : State) (r : SoFar) (b : ℕ) → (with_byte a s r b).state ≡ s
+pub state-with : (a : Action) (s : State) (r : SoFar) (b : ℕ) → (with_byte a s r b).state ≡ s
 state-with act.Skip s r b = refl
 state-with act.Copy s r b = refl
 state-with act.EndField s r b = refl
@@ -47,7 +48,7 @@ IsInQuotes st.AfterCr = ⊥
 abbrev Enters : State × Action → Type 0
 Enters r = IsInQuotes r.0 → r ≡ (st.InQuoted, act.Skip)
 
-either : {X : Type 0} (P : X → Type 0) (b : Bool) (x y : X) → P x → P y → P (if b then x else y)
+pub either : {X : Type 0} (P : X → Type 0) (b : Bool) (x y : X) → P x → P y → P (if b then x else y)
 either P true x y p q = p
 either P false x y p q = q
 
@@ -172,17 +173,13 @@ plain-step d st.AfterQuote c plain no_quote = absurd plain
 plain-step d st.InEscape c plain no_quote = absurd plain
 plain-step d st.InComment c plain no_quote = absurd plain
 
-neither : (p q : Bool) → (p || q) ≡ false → (p ≡ false) × (q ≡ false)
-neither true q h = cc h
-neither false q h = (refl, h)
-
 plain-text : (d : ℕ) (r : SoFar) (text : List ℕ) → IsPlain r.state → list_any (λ b. b == 34) text ≡ false → IsPlain (fold (read_on (settings d)) r text).state
 plain-text d r [] plain none = plain
 plain-text d r (c ∷ rest) plain none =
-    let both = neither (c == 34) (list_any (λ b. b == 34) rest) none in
+    let parts = neither (c == 34) (list_any (λ b. b == 34) rest) none in
     let cfg = settings d in
     let next = step cfg r.state c in
-    plain-text d (with_byte next.1 next.0 r c) rest (subst IsPlain (sym (state-with next.1 next.0 r c)) (plain-step d r.state c plain both.0)) both.1
+    plain-text d (with_byte next.1 next.0 r c) rest (subst IsPlain (sym (state-with next.1 next.0 r c)) (plain-step d r.state c plain parts.0)) parts.1
 
 pub never-quoted : (d : ℕ) (text : List ℕ) → list_any (λ b. b == 34) text ≡ false → (read_of (settings d) text).state ≡ st.InQuoted → ⊥
 never-quoted d text none ends = subst IsPlain ends (plain-text d nothing text tt none)

@@ -1,13 +1,22 @@
--- Rows as the code holds them, and what is wrong with the first field that has a flaw.
+-- The rows of bytes, as they are meant and as the code holds them, and what is wrong with the first field that has a flaw.
 use Rattle.std.specs.Prelude.{◌≡◌, ℕ, List, ◌∷◌, ◌++◌, Vec, length, map, string_bytes, vec_items}
 use Rattle.std.specs.List.{AllByRecursion}
 use Rattle.std.specs.declared.string.String.{String}
-use Rattle.csv.specs.Reading.{records}
+use Rattle.csv.specs.Reading.{records, strip_bom}
 use Rattle.csv.specs.declared.parser.Config.{Config}
 use Rattle.basinmug_input.specs.Cleaning.{cleaned}
 use Rattle.basinmug_input.specs.Faults.{IsText}
 use Rattle.basinmug_input.specs.Flaws.{HasFlaw, IsSound}
+use Rattle.basinmug_input.specs.Reading.{settings}
 use Rattle.basinmug_input.specs.declared.records.Flawed.{Flawed}
+
+-- the text of bytes: what is behind a byte order mark, if they begin with one
+abbrev pub text_in : List ℕ → List ℕ
+text_in bytes = strip_bom bytes
+
+-- the rows of bytes, in which this byte parts fields: the records of their text, each field cleaned
+abbrev pub rows_in : ℕ → List ℕ → List (List (List ℕ))
+rows_in delimiter bytes = map (map cleaned) (records (settings delimiter) (text_in bytes))
 
 -- the bytes of the texts of rows
 abbrev pub text_rows : {Z : Type 0} → List (Vec (String Z) Z) → List (List (List ℕ))

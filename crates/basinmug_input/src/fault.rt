@@ -3,15 +3,16 @@ use std::alloc::{AllocError, AllocFailed};
 use std::error::Error;
 use std::fmt;
 
-/// Why a text has no rows. Where several hold, the answer is the first in this order, of several flawed
-/// fields the first, except that `Memory` may come at any step. Lines and fields count from 1.
+/// Why a text has no rows. Bytes that are in no character come before a quote, and a quote before the first field with a
+/// flaw; `Memory` may come at any step. A line is one more than the line feeds before the place, and a field one more
+/// than those of its record that have ended before it.
 #[derive(Clone, Copy, Debug, PartialEq, Eq)]
 pub enum InputFault {
-    /// A byte that is in no character of UTF-8.
+    /// A byte that is in no character of UTF-8, in the text or, where the delimiter parts a character, in a field.
     NotText { line: usize, field: usize },
-    /// A quote that opens a field and isn't closed.
+    /// A quote that opens a field and isn't closed before the end: the last one that opens a field.
     Quote { line: usize },
-    /// An escape that begins no whole sequence.
+    /// An escape that begins no whole sequence: the first one of the first field that has one.
     Escape { line: usize, field: usize },
     /// Allocation failed.
     Memory,

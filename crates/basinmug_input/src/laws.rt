@@ -1,14 +1,16 @@
 //! Laws of the definitions, and texts worked by hand. The functions do nothing.
-ghost use Rattle.std.specs.Prelude.{◌≡◌, ℕ, List, [], ◌∷◌, ◌++◌, codes};
+ghost use Rattle.std.specs.Prelude.{◌≡◌, ◌≢◌, ◌<◌, ℕ, List, [], ◌∷◌, ◌++◌, IsUtf8, codes};
+ghost use Rattle.std.specs.List.{AllByRecursion};
 ghost use Rattle.csv.specs.Reading.{records, strip_bom};
 ghost use Rattle.csv.specs.declared.parser.State.TheVariants as st;
 ghost use Rattle.basinmug_input.specs.Cleaning.{cleaned, cleaned_text};
-ghost use Rattle.basinmug_input.specs.Faults.{IsFaultOf, IsReadable};
+ghost use Rattle.basinmug_input.specs.Faults.{IsFaultOf, IsNotUtf8, IsReadable};
 ghost use Rattle.basinmug_input.specs.Files.{ending};
 ghost use Rattle.basinmug_input.specs.Places.{EndsInQuotes, field_at, line_at};
 ghost use Rattle.basinmug_input.specs.Reading.{all_read, read_of, settings};
+ghost use Rattle.basinmug_input.specs.Rows.{rows_in};
 ghost use Rattle.basinmug_input.specs.declared.fault.InputFault.{InputFault as Fault};
-ghost use Rattle.basinmug_input.specs.declared.fault.InputFault.TheVariants.{Memory};
+ghost use Rattle.basinmug_input.specs.declared.fault.InputFault.TheVariants.{Memory, NotText};
 
 /// The records of a text are what is read of it byte by byte, which tells where each byte stands.
 pub fn records_are_what_is_read()
@@ -20,9 +22,23 @@ pub fn readable_texts_have_no_fault()
     ensures { (delimiter : ℕ) (text : List ℕ) (fault : Fault) → IsReadable (settings delimiter) text → IsFaultOf (settings delimiter) text fault → fault ≡ Memory }
 {}
 
+/// A text has one fault besides `Memory`, in one place.
+pub fn texts_have_one_fault()
+    ensures { (delimiter : ℕ) (text : List ℕ) (one other : Fault) → IsFaultOf (settings delimiter) text one → IsFaultOf (settings delimiter) text other →
+        one ≢ Memory → other ≢ Memory → one ≡ other }
+{}
+
+/// Where the delimiter is ASCII, the fields of a text are texts: `NotText` then tells of bytes that are no text, and
+/// of nothing else.
+pub fn fields_of_texts_are_texts()
+    ensures fields { (delimiter : ℕ) (text : List ℕ) → delimiter < 128 → IsUtf8 text → AllByRecursion (AllByRecursion IsUtf8) (records (settings delimiter) text) }
+    ensures faults { (delimiter : ℕ) (text : List ℕ) (line field : ℕ) → delimiter < 128 →
+        IsFaultOf (settings delimiter) text (NotText line field) → IsNotUtf8 (settings delimiter) text line field }
+{}
+
 /// Texts and their records: the rules of RFC 4180, section 2, by their numbers there, and what else is read.
 pub fn records_by_hand()
-    ensures one_each_line { records (settings 44) (codes "aaa,bbb,ccc\r\nzzz,yyy,xxx\r\n") ≡ (codes "aaa" ∷ codes "bbb" ∷ codes "ccc" ∷ []) ∷ (codes "zzz" ∷ codes "yyy" ∷ codes "xxx" ∷ []) ∷ [] }
+    ensures one_each_line { records (settings 44) (codes "aaa,bbb\r\nzzz,yyy\r\n") ≡ (codes "aaa" ∷ codes "bbb" ∷ []) ∷ (codes "zzz" ∷ codes "yyy" ∷ []) ∷ [] }
     ensures two_last_line { records (settings 44) (codes "aaa,bbb\r\nzzz,yyy") ≡ (codes "aaa" ∷ codes "bbb" ∷ []) ∷ (codes "zzz" ∷ codes "yyy" ∷ []) ∷ [] }
     ensures four_spaces_are_part { records (settings 44) (codes " a , b ") ≡ (codes " a " ∷ codes " b " ∷ []) ∷ [] }
     ensures five_quotes_are_no_part { records (settings 44) (codes "\"aaa\",\"bbb\"\r\nzzz,yyy") ≡ (codes "aaa" ∷ codes "bbb" ∷ []) ∷ (codes "zzz" ∷ codes "yyy" ∷ []) ∷ [] }
@@ -52,6 +68,12 @@ pub fn cleaned_by_hand()
 pub fn sequences_stay()
     ensures colored { cleaned (0x1b ∷ 0x5b ∷ 0x31 ∷ 0x6d ∷ 0x09 ∷ []) ≡ 0x1b ∷ 0x5b ∷ 0x31 ∷ 0x6d ∷ 0x20 ∷ 0x20 ∷ 0x20 ∷ 0x20 ∷ [] }
     ensures ended_by_bell { cleaned (0x1b ∷ 0x5d ∷ 0x30 ∷ 0x07 ∷ []) ≡ 0x1b ∷ 0x5d ∷ 0x30 ∷ 0x07 ∷ [] }
+{}
+
+/// Bytes and their rows.
+pub fn rows_by_hand()
+    ensures cleaned { rows_in 44 (0xef ∷ 0xbb ∷ 0xbf ∷ codes "a\tb,\"c\r\nd\"\r\n,\n") ≡ (codes "a    b" ∷ codes "c\nd" ∷ []) ∷ ([] ∷ [] ∷ []) ∷ [] }
+    ensures colored { rows_in 9 (0x1b ∷ 0x5b ∷ 0x31 ∷ 0x6d ∷ 0x61 ∷ 0x09 ∷ 0x62 ∷ []) ≡ ((0x1b ∷ 0x5b ∷ 0x31 ∷ 0x6d ∷ 0x61 ∷ []) ∷ (0x62 ∷ []) ∷ []) ∷ [] }
 {}
 
 /// The places of bytes, and texts that end in quotes.

@@ -1,4 +1,5 @@
-//! How far a text of records is read: the state machine of CSV (RFC 4180, section 2).
+//! How far a text of records is read, by the machine of `csv` (RFC 4180, section 2). Its reader tells neither where a
+//! field stands nor that a quote isn't closed, so that the machine is walked again where one of these is asked.
 ghost use Rattle.std.specs.Prelude.{◌≡◌, ◌+◌, ℕ, List, [], ◌∷◌, ◌++◌};
 ghost use Rattle.csv.specs.Machine as Machine;
 ghost use Rattle.csv.specs.declared.parser.State.TheVariants as st;

@@ -1,13 +1,11 @@
 //! From bytes to rows of texts.
-ghost use Rattle.std.specs.Prelude.{◌≡◌, ◌+◌, ◌<◌, ◌^◌, ℕ, List, [], ◌∷◌, ◌++◌, Err, IfErr, IfOk, IsUtf8, MatchResult, OnOk, length, map, string_bytes};
-ghost use Rattle.csv.specs.Reading.{error_kind, is_bom, records, strip_bom};
+ghost use Rattle.std.specs.Prelude.{◌≡◌, IfErr, IfOk, IsUtf8, MatchResult, OnOk};
+ghost use Rattle.csv.specs.Reading.{error_kind, is_bom};
 ghost use Rattle.csv.specs.Records.{fields_of};
-ghost use Rattle.basinmug_input.specs.Cleaning.{cleaned};
-ghost use Rattle.basinmug_input.specs.Faults.{HasOpenQuote, IsFaultOf, IsNotUtf8, IsReadable, IsText};
+ghost use Rattle.basinmug_input.specs.Faults.{IsFaultOf, IsReadable, IsText};
 ghost use Rattle.basinmug_input.specs.Places.{EndsInQuotes};
-ghost use Rattle.basinmug_input.specs.Reading.{HasByte, settings};
-ghost use Rattle.basinmug_input.specs.Reading.{IsOfMemory};
-ghost use Rattle.basinmug_input.specs.Rows.{HasFlawed, IsFirstFlawed, IsRowOf, text_rows};
+ghost use Rattle.basinmug_input.specs.Reading.{IsOfMemory, settings};
+ghost use Rattle.basinmug_input.specs.Rows.{HasFlawed, IsFirstFlawed, IsRowOf, rows_in, text_in, text_rows};
 
 use crate::cells::{Flaw, cell_of};
 use crate::fault::InputFault;
@@ -16,11 +14,13 @@ use csv::{ByteRecord, Error, ReaderBuilder};
 use simdutf8::compat;
 use std::alloc::{AllocError, Global};
 
-/// The records of a text, in which this byte parts fields. A byte order mark at the front isn't read.
+/// The rows of a text in which the byte `delimiter` parts fields, or why it has none: its records (RFC 4180, section 2, as
+/// `csv` reads it; of any lengths), each field with its control characters made visible. A byte order mark at the front
+/// isn't read. Faults come in the order of `InputFault`, and tell where they stand.
 pub fn rows_of(alloc: Global, bytes: &[u8], delimiter: u8) -> Result<Vec<Vec<String>>, InputFault>
-    ensures rows { IfOk result (λ rows. text_rows rows.items ≡ map (map cleaned) (records (settings delimiter) (strip_bom bytes.now))) }
-    ensures readable { OnOk result (IsReadable (settings delimiter) (strip_bom bytes.now)) }
-    ensures fault { IfErr result (IsFaultOf (settings delimiter) (strip_bom bytes.now)) }
+    ensures rows { IfOk result (λ rows. text_rows rows.items ≡ rows_in delimiter bytes.now) }
+    ensures readable { OnOk result (IsReadable (settings delimiter) (text_in bytes.now)) }
+    ensures fault { IfErr result (IsFaultOf (settings delimiter) (text_in bytes.now)) }
 {
     let text = without_mark(bytes);
     check_text(text, delimiter)?;
@@ -30,7 +30,7 @@ pub fn rows_of(alloc: Global, bytes: &[u8], delimiter: u8) -> Result<Vec<Vec<Str
 
 // The bytes without a byte order mark at the front.
 fn without_mark(bytes: &[u8]) -> &[u8]
-    ensures { result.now ≡ strip_bom bytes.now }
+    ensures { result.now ≡ text_in bytes.now }
 {
     match bytes {
         [a, b, c, rest @ ..] if is_mark(*a, *b, *c) => rest,
@@ -78,10 +78,10 @@ fn check_quotes(text: &[u8], delimiter: u8) -> Result<(), InputFault>
 
 // The records of bytes that are text, with each quote closed.
 fn read_rows(alloc: Global, bytes: &[u8], delimiter: u8) -> Result<Vec<Vec<String>>, InputFault>
-    requires { IsText (settings delimiter) (strip_bom bytes.now) }
-    ensures rows { IfOk result (λ rows. text_rows rows.items ≡ map (map cleaned) (records (settings delimiter) (strip_bom bytes.now))) }
-    ensures readable { OnOk result (IsReadable (settings delimiter) (strip_bom bytes.now)) }
-    ensures fault { IfErr result (IsFaultOf (settings delimiter) (strip_bom bytes.now)) }
+    requires { IsText (settings delimiter) (text_in bytes.now) }
+    ensures rows { IfOk result (λ rows. text_rows rows.items ≡ rows_in delimiter bytes.now) }
+    ensures readable { OnOk result (IsReadable (settings delimiter) (text_in bytes.now)) }
+    ensures fault { IfErr result (IsFaultOf (settings delimiter) (text_in bytes.now)) }
 {
     let mut reader = ReaderBuilder::new()
         .delimiter(delimiter)

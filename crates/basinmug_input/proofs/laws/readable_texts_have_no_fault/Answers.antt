@@ -1,5 +1,5 @@
 -- A field with a flaw isn't sound.
-use Rattle.std.proofs.Common.{◌≡◌, ◌∷◌, ◌++◌, ℕ, List, [], inl, inr, subst, refl}
+use Rattle.std.proofs.Common.{◌≡◌, ◌∷◌, ◌++◌, ℕ, List, inl, inr, subst, refl}
 use Rattle.std.specs.List.{AllByRecursion}
 use Rattle.ansi_scan.proofs.FirstBroken.{IsWhole-IsFirstBroken}
 use Rattle.csv.specs.declared.parser.Config.{Config}
@@ -8,11 +8,8 @@ use Rattle.basinmug_input.specs.Flaws.{IsBroken, IsNoText, IsSound}
 use Rattle.basinmug_input.specs.Reading.{settings}
 use Rattle.basinmug_input.specs.declared.fault.InputFault.{InputFault}
 use Rattle.basinmug_input.specs.declared.fault.InputFault.TheVariants.{NotText, Quote, Escape, Memory}
+use Rattle.basinmug_input.proofs.OneFault.{one-of}
 use Rattle.basinmug_input.proofs.laws.readable_texts_have_no_fault.Goals as goal
-
-one-of : {A : Type 0} (P : A → Type 0) (before : List A) (x : A) (behind : List A) → AllByRecursion P (before ++ x ∷ behind) → P x
-one-of P [] x behind all = all.0
-one-of P (y ∷ before) x behind all = one-of P before x behind all.1
 
 sound-here : (Flaw : List ℕ → ℕ → Type 0) (cfg : Config) (text : List ℕ) (line field : ℕ) (flaw : HasFirstFlaw Flaw cfg text line field) → IsReadable cfg text → IsSound flaw.here
 sound-here Flaw cfg text line field flaw readable =

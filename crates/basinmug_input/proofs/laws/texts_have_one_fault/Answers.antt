@@ -1,0 +1,6 @@
+use Rattle.basinmug_input.specs.Reading.{settings}
+use Rattle.basinmug_input.proofs.OneFault.{one-fault}
+use Rattle.basinmug_input.proofs.laws.texts_have_one_fault.Goals as goal
+
+pub returns : goal.returns
+returns c = λ delimiter text one other. one-fault (settings delimiter) text one other
