@@ -1,8 +1,9 @@
 -- The states of the machine, byte by byte, and the last quote that opens a field.
-use Rattle.std.proofs.Common.{◌≡◌, ◌∙◌, ◌+◌, ◌<◌, ℕ, Bool, true, false, List, ◌⊎◌, inl, inr, length, get_or, refl, sym, ap, subst, arith}
+use Rattle.std.proofs.Common.{◌≡◌, ◌∙◌, ◌+◌, ◌<◌, ℕ, Bool, true, false, List, ◌⊎◌, inl, inr, length, get_or, refl, sym, ap, subst, arith, [], ◌∷◌}
 use Rattle.std.proofs.lemmas.Bool.{cases_eq}
 use Rattle.std.proofs.lemmas.List.Sums.{fold_more}
-use Rattle.std.specs.Prelude.{⊤, ◌==◌, ◌&&◌, if◌then◌else◌}
+use Rattle.std.specs.Prelude.{⊤, ◌==◌, ◌&&◌, if◌then◌else◌, ◌||◌, fold}
+use Rattle.std.specs.List.{list_any}
 use Rattle.csv.specs.Machine.{after_end, carriage_return, ends_with, in_field, line_feed, start_field, start_record, step}
 use Rattle.csv.specs.declared.parser.Action.{Action}
 use Rattle.csv.specs.declared.parser.Action.TheVariants as act
@@ -11,7 +12,7 @@ use Rattle.csv.specs.declared.parser.State.{State}
 use Rattle.csv.specs.declared.parser.State.TheVariants as st
 use Rattle.csv.specs.declared.parser.Terminator.TheVariants as term
 use Rattle.basinmug_input.specs.Places.{Opens, read_before}
-use Rattle.basinmug_input.specs.Reading.{SoFar, nothing, read_on, settings, with_byte}
+use Rattle.basinmug_input.specs.Reading.{SoFar, nothing, read_of, read_on, settings, with_byte}
 use Rattle.basinmug_input.specs.Walking.{csv_action, csv_state}
 use Rattle.basinmug_input.specs.declared.progress.Action.{Action as OwnAction}
 use Rattle.basinmug_input.specs.declared.progress.State.{State as OwnState}
@@ -129,3 +130,59 @@ only-quoted own_st.Unquoted e = cc e
 only-quoted own_st.Quoted e = refl
 only-quoted own_st.QuoteBehind e = cc e
 only-quoted own_st.ReturnBehind e = cc e
+
+-- ---- a text without quotes
+
+-- neither in quotes nor behind one, and in no state that these settings never reach
+abbrev IsPlain : State → Type 0
+IsPlain st.StartRecord = ⊤
+IsPlain st.StartField = ⊤
+IsPlain st.InField = ⊤
+IsPlain st.AfterCr = ⊤
+IsPlain st.InQuoted = ⊥
+IsPlain st.AfterQuote = ⊥
+IsPlain st.InEscape = ⊥
+IsPlain st.InComment = ⊥
+
+abbrev LeadsOn : State × Action → Type 0
+LeadsOn r = IsPlain r.0
+
+plain-end : (b : Bool) → LeadsOn (if b then st.AfterCr else st.StartRecord, act.EndRecord)
+plain-end true = tt
+plain-end false = tt
+
+plain-in_field : (d c : ℕ) → LeadsOn (in_field (settings d) c)
+plain-in_field d c =
+    either LeadsOn (c == d) (st.StartField, act.EndField) (if ends_with term.CRLF c then (after_end term.CRLF c, act.EndRecord) else (st.InField, act.Copy)) tt
+    (either LeadsOn (ends_with term.CRLF c) (after_end term.CRLF c, act.EndRecord) (st.InField, act.Copy) (plain-end (c == carriage_return)) tt)
+
+plain-start_field : (d c : ℕ) → (c == 34) ≡ false → LeadsOn (start_field (settings d) c)
+plain-start_field d c no_quote = subst (λ (b : Bool). LeadsOn (if true && b then (st.InQuoted, act.Skip) else in_field (settings d) c)) (sym no_quote) (plain-in_field d c)
+
+plain-start_record : (d c : ℕ) → (c == 34) ≡ false → LeadsOn (start_record (settings d) c)
+plain-start_record d c no_quote = either LeadsOn (ends_with term.CRLF c) (st.StartRecord, act.Skip) (start_field (settings d) c) tt (plain-start_field d c no_quote)
+
+plain-step : (d : ℕ) (s : State) (c : ℕ) → IsPlain s → (c == 34) ≡ false → LeadsOn (step (settings d) s c)
+plain-step d st.StartRecord c plain no_quote = plain-start_record d c no_quote
+plain-step d st.StartField c plain no_quote = plain-start_field d c no_quote
+plain-step d st.InField c plain no_quote = plain-in_field d c
+plain-step d st.AfterCr c plain no_quote = either LeadsOn (c == line_feed) (st.StartRecord, act.Skip) (start_record (settings d) c) tt (plain-start_record d c no_quote)
+plain-step d st.InQuoted c plain no_quote = absurd plain
+plain-step d st.AfterQuote c plain no_quote = absurd plain
+plain-step d st.InEscape c plain no_quote = absurd plain
+plain-step d st.InComment c plain no_quote = absurd plain
+
+neither : (p q : Bool) → (p || q) ≡ false → (p ≡ false) × (q ≡ false)
+neither true q h = cc h
+neither false q h = (refl, h)
+
+plain-text : (d : ℕ) (r : SoFar) (text : List ℕ) → IsPlain r.state → list_any (λ b. b == 34) text ≡ false → IsPlain (fold (read_on (settings d)) r text).state
+plain-text d r [] plain none = plain
+plain-text d r (c ∷ rest) plain none =
+    let both = neither (c == 34) (list_any (λ b. b == 34) rest) none in
+    let cfg = settings d in
+    let next = step cfg r.state c in
+    plain-text d (with_byte next.1 next.0 r c) rest (subst IsPlain (sym (state-with next.1 next.0 r c)) (plain-step d r.state c plain both.0)) both.1
+
+pub never-quoted : (d : ℕ) (text : List ℕ) → list_any (λ b. b == 34) text ≡ false → (read_of (settings d) text).state ≡ st.InQuoted → ⊥
+never-quoted d text none ends = subst IsPlain ends (plain-text d nothing text tt none)

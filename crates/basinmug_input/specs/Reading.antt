@@ -1,8 +1,10 @@
 -- How a text of records is read: by the machine of the crate `csv`, byte by byte (RFC 4180, section 2).
-use Rattle.std.specs.Prelude.{◌<◌, ℕ, List, [], ◌∷◌, ◌++◌, fold, length, if◌then◌else◌}
+use Rattle.std.specs.Prelude.{⊤, ◌<◌, ℕ, List, [], ◌∷◌, ◌++◌, fold, length, if◌then◌else◌}
 use Rattle.std.specs.Prelude.{slice_index_or}
 use Rattle.csv.specs.Machine.{ends_at_end, step}
 use Rattle.csv.specs.Reading.{default_config, records}
+use Rattle.csv.specs.declared.error.ErrorKind.{ErrorKind}
+use Rattle.csv.specs.declared.error.ErrorKind.TheVariants as kind
 use Rattle.csv.specs.declared.parser.Action.{Action}
 use Rattle.csv.specs.declared.parser.Action.TheVariants as act
 use Rattle.csv.specs.declared.parser.Config.{Config}
@@ -42,6 +44,15 @@ read_of cfg text = fold (read_on cfg) nothing text
 -- the records of what is read, where the text ends there
 abbrev pub all_read : SoFar → List (List (List ℕ))
 all_read read = if ends_at_end read.state then read.ended ++ (read.fields ++ read.field ∷ []) ∷ [] else read.ended
+
+-- a reader of bytes in memory fails for memory. That reading them fails is not ruled out by a contract of std, though none does
+abbrev pub IsOfMemory : ErrorKind → Type 0
+IsOfMemory (kind.Io error) = ⊤
+IsOfMemory kind.OutOfMemory = ⊤
+IsOfMemory (kind.UnequalLengths place expected found) = ⊥
+IsOfMemory (kind.Utf8 place error) = ⊥
+IsOfMemory (kind.Serialize reason) = ⊥
+IsOfMemory (kind.Deserialize place error) = ⊥
 
 -- a field of records, by the places of the record and of the field in it; empty where there is none
 abbrev pub field_in : List (List (List ℕ)) → ℕ → ℕ → List ℕ

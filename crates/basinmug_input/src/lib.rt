@@ -4,6 +4,7 @@
 mod cells;
 mod fault;
 mod files;
+pub mod laws;
 mod places;
 mod progress;
 mod records;

@@ -6,7 +6,7 @@ ghost use Rattle.basinmug_input.specs.Reading.{HasByte, settings};
 ghost use Rattle.basinmug_input.specs.Places.{EndsInQuotes, IsOpenQuote, IsReadAs, field_at, line_at};
 ghost use Rattle.basinmug_input.specs.Walking.{csv_action, csv_state};
 
-use crate::progress::{Action, Progress, State, step};
+use crate::progress::{Action, Progress, QUOTE, State, step};
 
 /// The line of a byte: one more than the line feeds before it.
 pub(crate) fn line_of(text: &[u8], at: usize) -> usize
@@ -34,11 +34,15 @@ pub(crate) fn field_of(text: &[u8], delimiter: u8, at: usize) -> usize
     read.fields + 1
 }
 
-/// Where the quote stands that opens the last field and isn't closed, if the text ends in a quoted field.
+/// Where the quote stands that opens the last field and isn't closed, if the text ends in a quoted field. A text
+/// without quotes is not walked through.
 pub(crate) fn open_quote(text: &[u8], delimiter: u8) -> Option<usize>
     ensures open { IfSome result (IsOpenQuote (settings delimiter) text.now) }
     ensures closed { IsSome result ↔ EndsInQuotes (settings delimiter) text.now }
 {
+    if !text.contains(&QUOTE) {
+        return None;
+    }
     let mut state = State::RecordStart;
     let mut opened = 0;
     for i in 0..text.len() {

@@ -6,7 +6,7 @@ ghost use Rattle.basinmug_input.specs.Reading.{settings};
 ghost use Rattle.basinmug_input.specs.Walking.{csv_action, csv_state, HasAtMost, HasRoom, IsReadOf};
 
 /// What a quoted field stands in.
-const QUOTE: u8 = b'"';
+pub(crate) const QUOTE: u8 = b'"';
 
 /// Where in a record the machine stands.
 #[derive(Clone, Copy)]

@@ -1,17 +1,18 @@
 //! From bytes to rows of texts.
 ghost use Rattle.std.specs.Prelude.{◌≡◌, ◌+◌, ◌<◌, ◌^◌, ℕ, List, [], ◌∷◌, ◌++◌, Err, IfErr, IfOk, IsUtf8, MatchResult, OnOk, length, map, string_bytes};
-ghost use Rattle.csv.specs.Reading.{is_bom, records, strip_bom};
+ghost use Rattle.csv.specs.Reading.{error_kind, is_bom, records, strip_bom};
 ghost use Rattle.csv.specs.Records.{fields_of};
 ghost use Rattle.basinmug_input.specs.Cleaning.{cleaned};
 ghost use Rattle.basinmug_input.specs.Faults.{HasOpenQuote, IsFaultOf, IsNotUtf8, IsReadable, IsText};
 ghost use Rattle.basinmug_input.specs.Places.{EndsInQuotes};
 ghost use Rattle.basinmug_input.specs.Reading.{HasByte, settings};
+ghost use Rattle.basinmug_input.specs.Reading.{IsOfMemory};
 ghost use Rattle.basinmug_input.specs.Rows.{HasFlawed, IsFirstFlawed, IsRowOf, text_rows};
 
 use crate::cells::{Flaw, cell_of};
 use crate::fault::InputFault;
 use crate::places::{field_of, line_of, open_quote, place_of};
-use csv::{ByteRecord, ReaderBuilder};
+use csv::{ByteRecord, Error, ReaderBuilder};
 use simdutf8::compat;
 use std::alloc::{AllocError, Global};
 
@@ -90,8 +91,9 @@ fn read_rows(alloc: Global, bytes: &[u8], delimiter: u8) -> Result<Vec<Vec<Strin
     let mut record = ByteRecord::new(alloc);
     let mut rows = Vec::new(alloc);
     for _ in 0..u64::MAX {
-        let Ok(found) = reader.read_byte_record(&mut record) else {
-            return Err(InputFault::Memory);
+        let found = match reader.read_byte_record(&mut record) {
+            Ok(found) => found,
+            Err(error) => return Err(refused(&error)),
         };
         if !found {
             return Ok(rows);
@@ -104,6 +106,15 @@ fn read_rows(alloc: Global, bytes: &[u8], delimiter: u8) -> Result<Vec<Vec<Strin
         }
     }
     Err(InputFault::Memory)
+}
+
+// The fault where the reader fails. It does so for memory alone: bytes in memory are always there.
+fn refused(error: &Error) -> InputFault
+    requires { IsOfMemory (error_kind error.now) }
+    ensures { result ≡ InputFault.Memory }
+{
+    let _kind = error.kind();
+    InputFault::Memory
 }
 
 /// A field that can't be shown: its number in its record, from 0, and what is wrong with it.

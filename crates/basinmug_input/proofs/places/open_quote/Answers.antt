@@ -5,7 +5,7 @@ use Rattle.std.proofs.lemmas.List.{take_all}
 use Rattle.csv.specs.Machine.{step}
 use Rattle.basinmug_input.specs.Reading.{read_of, settings}
 use Rattle.basinmug_input.specs.Walking.{csv_state}
-use Rattle.basinmug_input.proofs.QuoteLemmas.{IsInQuotes, LastOpening, only-quoted, opened-before, opening-here, opens-at, state-next}
+use Rattle.basinmug_input.proofs.QuoteLemmas.{IsInQuotes, LastOpening, never-quoted, only-quoted, opened-before, opening-here, opens-at, state-next}
 use Rattle.basinmug_input.proofs.places.open_quote.Goals as goal
 use Rattle.basinmug_input.proofs.places.open_quote.Goals.{then-opens, else-opens}
 
@@ -67,3 +67,7 @@ returns-in_default-clause-closed c =
           absurd (c.in_default.not-Quoted (only-quoted c.loop-i.state
           (c.loop-i.invariant.state ∙ ap (λ (front : List ℕ). (read_of cfg front).state) (take_all c.loop-i.i text all) ∙ ends))),
     )
+
+pub returns-then-not-contains-clause-closed : goal.returns-then-not-contains-clause-closed
+returns-then-not-contains-clause-closed c =
+    (λ none. absurd (false≢true none), λ ends. absurd (never-quoted c.args.delimiter c.args.text.now (sym c.contains.ensures.value ∙ c.if-not-contains.true) ends))

@@ -1,9 +1,14 @@
 -- One record more is read, as the reader's contract says.
-use Rattle.std.proofs.Common.{Bor, List, ℕ, ◌∙◌, ◌∷◌, ◌++◌, [], Some, sym, refl, ap, subst, inl, inr, length, map, vec_items, string_bytes}
+use Rattle.std.proofs.Common.{◌≡◌, Bor, List, ℕ, ◌∙◌, ◌∷◌, ◌++◌, [], Some, sym, refl, ap, subst, inl, inr, length, map, vec_items, string_bytes, Option, false, true}
 use Rattle.std.proofs.lemmas.List.{length-map, map_push}
 use Rattle.std.specs.List.{AllByRecursion}
-use Rattle.csv.specs.Reading.{Reached, strip_bom}
+use Rattle.csv.specs.Reading.{ExplainsRead, is_flexible, Reached, strip_bom}
 use Rattle.csv.specs.Records.{fields_of}
+use Rattle.csv.specs.declared.error.ErrorKind.{ErrorKind}
+use Rattle.csv.specs.declared.error.ErrorKind.TheVariants as kind
+use Rattle.csv.specs.declared.reader.Reader.{Reader}
+use Rattle.std.proofs.lemmas.Bool.{false≢true}
+use Rattle.basinmug_input.specs.Reading.{IsOfMemory}
 use Rattle.csv.specs.declared.parser.Config.{Config}
 use Rattle.csv.specs.declared.parser.State.TheVariants as st
 use Rattle.csv.proofs.ReadFacts.{rows-end, rows-more}
@@ -22,6 +27,7 @@ loop-init c =
     record {
       trim = rw (c.flexible.ensures, c.has_headers.ensures, c.delimiter.ensures) at made.trim ∙ c.new.ensures.trim;
       ready = inr (inr (rw (c.flexible.ensures, c.has_headers.ensures) at made.has_headers, made.headers));
+      flexible = rw c.flexible.ensures at made.flexible;
       config = rw (c.flexible.ensures, c.has_headers.ensures, c.delimiter.ensures) at made.config ∙ ap (λ (cfg : Config). record cfg { delimiter = c.args.delimiter }) c.new.ensures.config;
       left = strip_bom c.args.bytes.now;
       raw = [];
@@ -61,7 +67,7 @@ fault_of-requires c =
     let read = rw c.if-not-found.false at (c.in-Ok.ensures.reads known.trim known.ready) in
     let (left, source, reached) = rows-more (λ (s : Bor (List ℕ)). Some s.now) c.loop.reader c.read_byte_record.new.self here cfg st.StartRecord text known.left known.raw known.config known.source known.reached read in
     let (after, of_text) = records-go_on cfg text known.raw here c.read_byte_record.new.self.state left reached in
-    let first : IsFirstFlawed cfg text c.len.result c.in-Err.flawed = record {
+    let first : IsFirstFlawed cfg text c.len.result c.in-Err-2.flawed = record {
       is_text = c.requires;
       before = known.raw;
       here = here;
@@ -69,9 +75,9 @@ fault_of-requires c =
       of_text = of_text;
       sound = known.sound;
       place = c.len.ensures ∙ c.loop.rows.ok.0 ∙ sym (length-map c.loop.rows.items (λ row. map string_bytes (vec_items row))) ∙ ap length known.texts ∙ length-map known.raw (map cleaned);
-      flaw = rw c.in-Err.is at c.in_ok-row.ensures;
+      flaw = rw c.in-Err-2.is at c.in_ok-row.ensures;
     } in
-    subst (λ (of : List ℕ). IsFirstFlawed cfg of c.len.result c.in-Err.flawed) (sym c.without_mark.ensures) first
+    subst (λ (of : List ℕ). IsFirstFlawed cfg of c.len.result c.in-Err-2.flawed) (sym c.without_mark.ensures) first
 
 pub loop-preserved : goal.loop-preserved
 loop-preserved c =
@@ -85,6 +91,7 @@ loop-preserved c =
     record {
       trim = read.3 ∙ known.trim;
       ready = inl (c.in-Ok.ensures.ready known.trim);
+      flexible = c.in-Ok.ensures.flexible ∙ known.flexible;
       config = read.2 ∙ known.config;
       left = left;
       raw = known.raw ++ here ∷ [];
@@ -97,3 +104,17 @@ loop-preserved c =
           ∙ sym (map_push (map cleaned) known.raw here);
       sound = all-push (AllByRecursion IsSound) known.raw here known.sound row.sound;
     }
+
+-- records may differ in length, and bytes are read, so that the reader has no other fault
+of-memory : {R : Type 0} (rem : R → Option (List ℕ)) (old new : Reader R) (why : ErrorKind) → is_flexible old ≡ true → ExplainsRead rem old new false why → IsOfMemory why
+of-memory rem old new (kind.Io error) flexible explains = tt
+of-memory rem old new kind.OutOfMemory flexible explains = tt
+of-memory rem old new (kind.UnequalLengths place expected found) flexible explains = false≢true (sym explains.0 ∙ flexible)
+of-memory rem old new (kind.Utf8 place error) flexible explains = false≢true explains.0
+of-memory rem old new (kind.Serialize reason) flexible explains = explains
+of-memory rem old new (kind.Deserialize place error) flexible explains = explains
+
+pub refused-requires : goal.refused-requires
+refused-requires c =
+    let known = c.loop.invariant in
+    of-memory (λ (s : Bor (List ℕ)). Some s.now) c.loop.reader c.read_byte_record.new.self c.in-Err.error.kind known.flexible (c.in-Err.ensures.why known.ready)

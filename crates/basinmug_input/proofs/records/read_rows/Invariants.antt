@@ -1,7 +1,7 @@
 -- The records so far are the first of the text, sound, and the rows have them.
-use Rattle.std.proofs.Common.{◌≡◌, ℕ, List, Some, map}
+use Rattle.std.proofs.Common.{◌≡◌, ℕ, List, Some, map, true}
 use Rattle.std.specs.List.{AllByRecursion}
-use Rattle.csv.specs.Reading.{Reached, Ready, reader_config, reader_state, reader_trim, source_of, strip_bom}
+use Rattle.csv.specs.Reading.{Reached, Ready, is_flexible, reader_config, reader_state, reader_trim, source_of, strip_bom}
 use Rattle.csv.specs.declared.parser.State.TheVariants as st
 use Rattle.csv.specs.declared.reader.Trim.TheVariants as trim
 use Rattle.basinmug_input.specs.Cleaning.{cleaned}
@@ -14,6 +14,7 @@ abbrev pub invariant-loop : goal.invariant-loop
 invariant-loop l = record {
   trim : reader_trim l.reader ≡ trim.None;
   ready : Ready l.reader;
+  flexible : is_flexible l.reader ≡ true;
   config : reader_config l.reader ≡ settings l.delimiter;
   left : List ℕ;
   raw : List (List (List ℕ));

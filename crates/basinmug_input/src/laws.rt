@@ -1,0 +1,77 @@
+//! Laws of the definitions, and texts worked by hand. The functions do nothing.
+ghost use Rattle.std.specs.Prelude.{◌≡◌, ℕ, List, [], ◌∷◌, ◌++◌, codes};
+ghost use Rattle.csv.specs.Reading.{records, strip_bom};
+ghost use Rattle.csv.specs.declared.parser.State.TheVariants as st;
+ghost use Rattle.basinmug_input.specs.Cleaning.{cleaned, cleaned_text};
+ghost use Rattle.basinmug_input.specs.Faults.{IsFaultOf, IsReadable};
+ghost use Rattle.basinmug_input.specs.Files.{ending};
+ghost use Rattle.basinmug_input.specs.Places.{EndsInQuotes, field_at, line_at};
+ghost use Rattle.basinmug_input.specs.Reading.{all_read, read_of, settings};
+ghost use Rattle.basinmug_input.specs.declared.fault.InputFault.{InputFault as Fault};
+ghost use Rattle.basinmug_input.specs.declared.fault.InputFault.TheVariants.{Memory};
+
+/// The records of a text are what is read of it byte by byte, which tells where each byte stands.
+pub fn records_are_what_is_read()
+    ensures { (delimiter : ℕ) (text : List ℕ) → records (settings delimiter) text ≡ all_read (read_of (settings delimiter) text) }
+{}
+
+/// A text that has rows has no fault, so that its rows are refused only where memory is.
+pub fn readable_texts_have_no_fault()
+    ensures { (delimiter : ℕ) (text : List ℕ) (fault : Fault) → IsReadable (settings delimiter) text → IsFaultOf (settings delimiter) text fault → fault ≡ Memory }
+{}
+
+/// Texts and their records: the rules of RFC 4180, section 2, by their numbers there, and what else is read.
+pub fn records_by_hand()
+    ensures one_each_line { records (settings 44) (codes "aaa,bbb,ccc\r\nzzz,yyy,xxx\r\n") ≡ (codes "aaa" ∷ codes "bbb" ∷ codes "ccc" ∷ []) ∷ (codes "zzz" ∷ codes "yyy" ∷ codes "xxx" ∷ []) ∷ [] }
+    ensures two_last_line { records (settings 44) (codes "aaa,bbb\r\nzzz,yyy") ≡ (codes "aaa" ∷ codes "bbb" ∷ []) ∷ (codes "zzz" ∷ codes "yyy" ∷ []) ∷ [] }
+    ensures four_spaces_are_part { records (settings 44) (codes " a , b ") ≡ (codes " a " ∷ codes " b " ∷ []) ∷ [] }
+    ensures five_quotes_are_no_part { records (settings 44) (codes "\"aaa\",\"bbb\"\r\nzzz,yyy") ≡ (codes "aaa" ∷ codes "bbb" ∷ []) ∷ (codes "zzz" ∷ codes "yyy" ∷ []) ∷ [] }
+    ensures six_breaks_and_commas { records (settings 44) (codes "\"aaa\",\"b\r\nbb\",\"c,c\"") ≡ (codes "aaa" ∷ codes "b\r\nbb" ∷ codes "c,c" ∷ []) ∷ [] }
+    ensures seven_doubled_quotes { records (settings 44) (codes "\"aaa\",\"b\"\"bb\"") ≡ (codes "aaa" ∷ codes "b\"bb" ∷ []) ∷ [] }
+    ensures another_delimiter { records (settings 59) (codes "a;b,c\n") ≡ (codes "a" ∷ codes "b,c" ∷ []) ∷ [] }
+    ensures of_any_length { records (settings 9) (codes "a\tb\nc\n\n\td") ≡ (codes "a" ∷ codes "b" ∷ []) ∷ (codes "c" ∷ []) ∷ ([] ∷ codes "d" ∷ []) ∷ [] }
+    ensures behind_a_quote { records (settings 44) (codes "\"a\"b,c\"d\"") ≡ (codes "ab" ∷ codes "c\"d\"" ∷ []) ∷ [] }
+    ensures no_records { records (settings 44) (codes "\r\n\n") ≡ [] }
+    ensures a_mark_goes { strip_bom (0xef ∷ 0xbb ∷ 0xbf ∷ codes "a") ≡ codes "a" }
+{}
+
+/// Texts outside sequences, and what they become: a tab, line ends, controls with and without a picture.
+pub fn cleaned_by_hand()
+    ensures tab { cleaned_text (codes "a\tb") ≡ codes "a    b" }
+    ensures line_feed { cleaned_text (codes "a\nb") ≡ codes "a\nb" }
+    ensures both_ends { cleaned_text (codes "a\r\nb") ≡ codes "a\nb" }
+    ensures one_return { cleaned_text (codes "a\rb") ≡ 0x61 ∷ 0xe2 ∷ 0x90 ∷ 0x8d ∷ 0x62 ∷ [] }
+    ensures two_returns { cleaned_text (codes "\r\r\n") ≡ 0xe2 ∷ 0x90 ∷ 0x8d ∷ 0x0a ∷ [] }
+    ensures bell { cleaned_text (0x07 ∷ []) ≡ 0xe2 ∷ 0x90 ∷ 0x87 ∷ [] }
+    ensures delete { cleaned_text (0x7f ∷ []) ≡ 0xe2 ∷ 0x90 ∷ 0xa1 ∷ [] }
+    ensures of_c1 { cleaned_text (0x9b ∷ []) ≡ 0xef ∷ 0xbf ∷ 0xbd ∷ [] }
+    ensures other { cleaned_text (0xa0 ∷ []) ≡ 0xc2 ∷ 0xa0 ∷ [] }
+{}
+
+/// Sequences stay as they are, with the BEL that ends one.
+pub fn sequences_stay()
+    ensures colored { cleaned (0x1b ∷ 0x5b ∷ 0x31 ∷ 0x6d ∷ 0x09 ∷ []) ≡ 0x1b ∷ 0x5b ∷ 0x31 ∷ 0x6d ∷ 0x20 ∷ 0x20 ∷ 0x20 ∷ 0x20 ∷ [] }
+    ensures ended_by_bell { cleaned (0x1b ∷ 0x5d ∷ 0x30 ∷ 0x07 ∷ []) ≡ 0x1b ∷ 0x5d ∷ 0x30 ∷ 0x07 ∷ [] }
+{}
+
+/// The places of bytes, and texts that end in quotes.
+pub fn places_by_hand()
+    ensures first { line_at (codes "a,b") 0 ≡ 1 }
+    ensures first_field { field_at (settings 44) (codes "a,b") 0 ≡ 1 }
+    ensures second_field { field_at (settings 44) (codes "a,b") 2 ≡ 2 }
+    ensures line_in_quotes { line_at (codes "a,\"b\nc\",d") 8 ≡ 2 }
+    ensures field_in_quotes { field_at (settings 44) (codes "a,\"b,\nc\",d") 9 ≡ 3 }
+    ensures next_record { field_at (settings 44) (codes "a,b\r\nc") 5 ≡ 1 }
+    ensures open { EndsInQuotes (settings 44) (codes "a,\"b\nc,d\n") }
+    ensures open_behind_two { EndsInQuotes (settings 44) (codes "\"a\"\"") }
+    ensures closed { (read_of (settings 44) (codes "a,\"b\nc\"")).state ≡ st.AfterQuote }
+    ensures inside_a_field { (read_of (settings 44) (codes "a \"b")).state ≡ st.InField }
+{}
+
+/// Names of files and their endings.
+pub fn endings_by_hand()
+    ensures small { ending (codes "a.csv") ≡ codes ".csv" }
+    ensures capitals { ending (codes "A.Csv") ≡ codes ".csv" }
+    ensures other { ending (codes "a.tsv") ≡ codes ".tsv" }
+    ensures short { ending (codes "csv") ≡ codes "csv" }
+{}
