@@ -2,10 +2,10 @@
 use Rattle.std.proofs.Common.{refl}
 use Rattle.std.proofs.Math.Utf8.{encode}
 use Rattle.std.specs.Str.{chars}
-use Rattle.ansi_scan.specs.Pieces.{at_escape, control_from, escape_from, first_pieces, front, opened, pieces, sequence_front, string_from}
+use Rattle.ansi_scan.specs.Pieces.{at_escape, control_from, escape_from, first_pieces, leading_piece, opened, pieces, sequence_front, string_from}
 use Rattle.csv.proofs.OnLiterals.{csv_on_literals}
 use Rattle.basinmug_input.proofs.laws.rows_by_hand.Goals as goal
 
 pub returns : goal.returns
-unfolding csv_on_literals chars encode at_escape control_from escape_from first_pieces front opened pieces sequence_front string_from
+unfolding csv_on_literals chars encode at_escape control_from escape_from first_pieces leading_piece opened pieces sequence_front string_from
 returns c = record { cleaned = refl; colored = refl }
