@@ -1,0 +1,7 @@
+//! Records one below the other, with a line for each field.
+#![tactic(auto)]
+
+mod names;
+mod records;
+
+pub use records::records_text;

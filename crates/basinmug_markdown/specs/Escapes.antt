@@ -1,0 +1,15 @@
+-- A text as a cell of a table of Markdown (GitHub Flavored Markdown, "Tables"): a bar would end the cell and a line feed
+-- the table, and a backslash before a bar takes the bar's meaning. A text is the list of its bytes.
+use Rattle.std.specs.Prelude.{ℕ, ◌==◌, List, chars, codes, encode_utf8, flat_map, if◌then◌else◌}
+
+-- a character, or what stands for it
+abbrev pub escaped_char : ℕ → List ℕ
+escaped_char c =
+    if c == 0x7c then codes "\\|"
+    else if c == 0x5c then codes "\\\\"
+    else if c == 0x0a then codes "<br>"
+    else encode_utf8 c
+
+-- a text, each of its characters escaped
+abbrev pub escaped : List ℕ → List ℕ
+escaped text = flat_map escaped_char (chars text)

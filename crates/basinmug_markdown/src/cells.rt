@@ -1,0 +1,52 @@
+//! Texts whose bars, backslashes and line feeds are escaped.
+ghost use Rattle.std.specs.Prelude.{◌≡◌, ◌++◌, IfOk, OnOk, map, string_bytes};
+ghost use Rattle.tabled_text.specs.Rows.{text_rows};
+ghost use Rattle.basinmug_markdown.specs.Escapes.{escaped, escaped_char};
+
+use std::alloc::{AllocError, Global};
+
+/// The rows, with each text as a cell of a table of Markdown: a backslash before each bar and each backslash, and
+/// `<br>` for each line feed. Fails only where allocation fails.
+pub fn markdown_cells(alloc: Global, rows: Vec<Vec<String>>) -> Result<Vec<Vec<String>>, AllocError>
+    ensures { IfOk result (λ cells. text_rows cells.items ≡ map (map escaped) (text_rows rows.items)) }
+{
+    let mut cells = Vec::with_capacity(alloc, rows.len())?;
+    for row in rows {
+        cells.push(escaped_row(alloc, row)?)?;
+    }
+    Ok(cells)
+}
+
+// The texts of a row, each escaped.
+fn escaped_row(alloc: Global, row: Vec<String>) -> Result<Vec<String>, AllocError>
+    ensures { IfOk result (λ out. map string_bytes out.items ≡ map escaped (map string_bytes row.items)) }
+{
+    let mut out = Vec::with_capacity(alloc, row.len())?;
+    for text in row {
+        out.push(escaped_text(alloc, text.as_str())?)?;
+    }
+    Ok(out)
+}
+
+// A text, each of its characters escaped.
+fn escaped_text(alloc: Global, text: &str) -> Result<String, AllocError>
+    ensures { IfOk result (λ out. string_bytes out ≡ escaped text.now) }
+{
+    let mut out = String::with_capacity(alloc, text.len())?;
+    for c in text.chars() {
+        push_escaped(&mut out, c)?;
+    }
+    Ok(out)
+}
+
+// Appends a character, or its escape.
+fn push_escaped(out: &mut String, c: char) -> Result<(), AllocError>
+    ensures { OnOk result (string_bytes out.new ≡ string_bytes out.old ++ escaped_char c) }
+{
+    match c {
+        '|' => out.push_str("\\|"),
+        '\\' => out.push_str("\\\\"),
+        '\n' => out.push_str("<br>"),
+        other => out.push(other),
+    }
+}
