@@ -1,0 +1,9 @@
+mod Mapped
+mod Missing
+mod Widths
+mod Behind
+mod Faults
+mod Tables
+mod Narrowed
+mod ShownRows
+mod Printed

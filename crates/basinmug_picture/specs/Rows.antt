@@ -1,0 +1,21 @@
+-- The rows of a picture: a header, and records.
+use Rattle.std.specs.Prelude.{ℕ, ◌+◌, min, Bool, true, false, List, [], ◌∷◌, Option, None, Some, drop, if◌then◌else◌}
+
+-- how many rows the header takes
+abbrev pub header_rows : Bool → ℕ
+header_rows header = if header then 1 else 0
+
+-- how many of so many rows are shown, where at most so many records are
+abbrev pub shown_count : Bool → Option ℕ → ℕ → ℕ
+shown_count header None rows = rows
+shown_count header (Some most) rows = min rows (most + header_rows header)
+
+-- the texts of the header
+abbrev pub header_of : Bool → List (List (List ℕ)) → List (List ℕ)
+header_of false rows = []
+header_of true [] = []
+header_of true (row ∷ rows) = row
+
+-- the rows below it
+abbrev pub records_of : Bool → List (List (List ℕ)) → List (List (List ℕ))
+records_of header rows = drop (header_rows header) rows

@@ -1,0 +1,13 @@
+//! Records as a picture: a table with a header, in a width.
+#![tactic(auto)]
+
+mod fault;
+mod glyphs;
+mod lines;
+mod looks;
+mod narrowing;
+mod printing;
+mod rows;
+
+pub use fault::PrintFault;
+pub use printing::{Shown, print};

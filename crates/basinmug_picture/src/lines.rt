@@ -1,0 +1,54 @@
+//! Which lines of a picture are printed, and what stands below them.
+ghost use Rattle.std.specs.Prelude.{◌≡◌, IfOk, string_bytes};
+ghost use Rattle.basinmug_picture.specs.Lines.{is_inner_wanted, more_line};
+
+use basinmug_options::Rules;
+use std::alloc::{AllocError, Global};
+use tabled::{Place, Wanted};
+
+/// The lines that rules want of a table of so many rows, with a header or without.
+#[derive(Clone, Copy)]
+pub(crate) struct RuledLines {
+    pub rules: Rules,
+    pub header: bool,
+    pub rows: usize,
+}
+
+impl Wanted for RuledLines {
+    ghost use Rattle.basinmug_picture.specs.Lines.{is_wanted};
+
+    ghost wants = { λ lines. is_wanted lines.rules lines.header lines.rows };
+
+    fn is_wanted(&self, place: Place) -> bool {
+        match place {
+            Place::Boundary(boundary) => {
+                boundary == 0
+                    || boundary == self.rows
+                    || is_inner_wanted(self.rules, self.header, boundary)
+            }
+            Place::Row(_) | Place::Outside => true,
+        }
+    }
+}
+
+// Whether the line between rows of this number is printed.
+fn is_inner_wanted(rules: Rules, header: bool, boundary: usize) -> bool
+    ensures { result ≡ is_inner_wanted rules header boundary }
+{
+    match rules {
+        Rules::Header => header && boundary == 1,
+        Rules::All => true,
+        Rules::None => false,
+    }
+}
+
+/// The line that says how many rows are left out, where some are. Fails only where allocation fails.
+pub(crate) fn more_line(alloc: Global, count: usize) -> Result<String, AllocError>
+    ensures { IfOk result (λ line. string_bytes line ≡ more_line count) }
+{
+    match count {
+        0 => Ok(String::new(alloc)),
+        1 => String::from_str(alloc, "(1 more row)\n"),
+        _ => format!(in alloc; "({count} more rows)\n"),
+    }
+}

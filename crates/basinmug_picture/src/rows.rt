@@ -1,0 +1,59 @@
+//! The rows of a picture: a header, and records.
+ghost use Rattle.std.specs.Prelude.{◌≡◌, map, string_bytes};
+ghost use Rattle.tabled_text.specs.Rows.{longest, text_rows};
+ghost use Rattle.basinmug_picture.specs.Rows.{header_of, header_rows, records_of, shown_count};
+
+/// How many of so many rows are shown, where at most so many records are.
+pub(crate) fn shown_count(header: bool, max_rows: Option<usize>, rows: usize) -> usize
+    ensures { result ≡ shown_count header max_rows rows }
+{
+    match max_rows {
+        None => rows,
+        Some(most) => rows.min(most.saturating_add(header_rows(header))),
+    }
+}
+
+// How many rows the header takes.
+fn header_rows(header: bool) -> usize
+    ensures { result ≡ header_rows header }
+{
+    if header { 1 } else { 0 }
+}
+
+/// The texts of the header, where there is one.
+pub(crate) fn header_of(header: bool, rows: &[Vec<String>]) -> &[String]
+    ensures { map string_bytes result.now ≡ header_of header (text_rows rows.now) }
+{
+    if !header {
+        return &[];
+    }
+    match rows.first() {
+        Some(row) => row.as_slice(),
+        None => &[],
+    }
+}
+
+/// The rows below the header.
+pub(crate) fn records_of(header: bool, rows: &[Vec<String>]) -> &[Vec<String>]
+    ensures { text_rows result.now ≡ records_of header (text_rows rows.now) }
+{
+    let from = header_rows(header);
+    if from <= rows.len() {
+        &rows[from..]
+    } else {
+        &[]
+    }
+}
+
+/// How many texts the longest row has.
+pub(crate) fn longest_row(rows: &[Vec<String>]) -> usize
+    ensures { result ≡ longest (text_rows rows.now) }
+{
+    let mut most = 0;
+    for row in rows {
+        if most < row.len() {
+            most = row.len();
+        }
+    }
+    most
+}
