@@ -1,0 +1,175 @@
+//! Prints the records of CSV, TSV or another delimited text as a table, as the words of the command line ask.
+#![tactic(auto)]
+
+mod fault;
+mod input;
+
+use basinmug_expanded::records_text;
+use basinmug_markdown::markdown_cells;
+use basinmug_options::{Look, Options, Rules};
+use basinmug_picture::{PrintFault, print};
+use basinmug_words::{Asked, Plan, WidthAsked, read_words};
+use columns_color_list::column_of;
+use fault::Fault;
+use input::records;
+use std::env::{self, VarError};
+use std::io::{self, BufWriter, ErrorKind, Write};
+use std::process::ExitCode;
+use tabled_compact::BuildFault;
+use tabled_output::{Counted, WriteFault, write_all};
+
+// How many bytes of the table stand in the buffer of standard output at most.
+const OUTPUT_BUFFER: usize = 65536;
+
+/// The table of a file or of standard input to standard output. Its status is 0; or 1 with one line on standard
+/// error; or 2, where the words are at fault, with a text on standard error.
+fn main(rt: HostRuntime) -> ExitCode {
+    let words = match words(&rt) {
+        Ok(words) => words,
+        Err(error) => return unread(&rt, &error),
+    };
+    match read_words(rt.alloc(), &words) {
+        Ok(Asked::Run(plan)) => run(&rt, plan),
+        Ok(Asked::Help(text)) => ended(&rt, None, tell(&rt, &text)),
+        Ok(Asked::Faulty(text)) => faulty(&rt, &text),
+        Err(error) => ended(&rt, None, Err(error.into())),
+    }
+}
+
+// The words of the command line. The first is the program's name. They are pushed one by one, since
+// `collect` goes on where its early allocation fails.
+fn words(rt: &HostRuntime) -> io::Result<Vec<String>> {
+    let mut words = Vec::new(rt.alloc());
+    for word in env::args(rt)? {
+        words.push(word)?;
+    }
+    Ok(words)
+}
+
+// Reads and prints what is asked for.
+fn run(rt: &HostRuntime, plan: Plan) -> ExitCode {
+    let Plan {
+        file,
+        delimiter,
+        width,
+        options,
+    } = plan;
+    let outcome = shown(rt, file.as_deref(), delimiter, width, options);
+    ended(rt, file.as_deref(), outcome)
+}
+
+// Prints the records of a file. Where their table is wider than asked, standard error says so.
+fn shown(
+    rt: &HostRuntime,
+    file: Option<&str>,
+    delimiter: Option<u8>,
+    width: WidthAsked,
+    options: Options,
+) -> Result<(), Fault> {
+    let rows = records(rt, file, delimiter)?;
+    if options.expanded {
+        let text = records_text(rt.alloc(), rows, options.header, options.max_rows)?;
+        return tell(rt, text.as_str());
+    }
+    let mut options = options;
+    options.width = columns(rt, width)?;
+    let is_wider = match options.look {
+        Look::Markdown => document(rt, rows, options)?,
+        _ => table(rt, rows, &options)?,
+    };
+    if is_wider {
+        let _ = eprintln!(rt;
+            "basinmug: the table is wider than asked: --expanded shows records one below the other"
+        );
+    }
+    Ok(())
+}
+
+// Prints the table of a document: its cells are escaped, and its one line is below the header.
+fn document(rt: &HostRuntime, rows: Vec<Vec<String>>, options: Options) -> Result<bool, Fault> {
+    let cells = markdown_cells(rt.alloc(), rows)?;
+    let mut options = options;
+    options.rules = Rules::Header;
+    table(rt, cells, &options)
+}
+
+// How many columns the table may have.
+fn columns(rt: &HostRuntime, width: WidthAsked) -> Result<Option<usize>, Fault> {
+    match width {
+        WidthAsked::None => Ok(None),
+        WidthAsked::Columns(columns) => Ok(Some(columns)),
+        WidthAsked::Environment => match env::var(rt, "COLUMNS") {
+            Ok(text) => Ok(column_of(text.as_str()).filter(|columns| *columns > 0)),
+            Err(VarError::OutOfMemory) => Err(Fault::Memory),
+            Err(_) => Ok(None),
+        },
+    }
+}
+
+// Prints the table, and answers whether it is wider than asked. Its lines stand in a buffer until they are many, so
+// that a line costs no call of the system.
+fn table(rt: &HostRuntime, rows: Vec<Vec<String>>, options: &Options) -> Result<bool, Fault> {
+    let output = Counted::new(rt.stdout());
+    let Ok(buffered) = BufWriter::with_capacity(rt.alloc(), OUTPUT_BUFFER, output) else {
+        return Err(Fault::Memory);
+    };
+    let mut writer = Counted::new(buffered);
+    let outcome = print(rt.alloc(), rows, options, &mut writer);
+    let (mut output, rest) = writer.into_inner().into_parts();
+    match outcome {
+        Ok(shown) => {
+            write_all(&mut output, &rest)?;
+            Ok(shown.wider)
+        }
+        Err(fault) => Err(flushed(fault, &output)),
+    }
+}
+
+// Why printing failed. A buffer says only that writing did: where the output took nothing its own count tells.
+fn flushed<W: Write>(fault: PrintFault, output: &Counted<W>) -> Fault {
+    match fault {
+        PrintFault::Table(BuildFault::Write) if output.empty_writes() > 0 => {
+            Fault::Write(WriteFault::WriteZero)
+        }
+        other => Fault::Print(other),
+    }
+}
+
+// Prints a text that was asked for.
+fn tell(rt: &HostRuntime, text: &str) -> Result<(), Fault> {
+    let mut writer = Counted::new(rt.stdout());
+    Ok(write_all(&mut writer, text.as_bytes())?)
+}
+
+// The status of a call, with a line on standard error where it failed: with the name of its input, where that is
+// at fault. Where standard error takes nothing, the status alone tells.
+fn ended(rt: &HostRuntime, file: Option<&str>, outcome: Result<(), Fault>) -> ExitCode {
+    let Err(fault) = outcome else {
+        return ExitCode::SUCCESS;
+    };
+    if fault.is_of_input() {
+        let name = file.unwrap_or("standard input");
+        let _ = eprintln!(rt; "basinmug: {name}: {fault}");
+    } else {
+        let _ = eprintln!(rt; "basinmug: {fault}");
+    }
+    ExitCode::FAILURE
+}
+
+// Words that are at fault. What the parser says of them ends in a line feed, and what is said of a value in none.
+fn faulty(rt: &HostRuntime, text: &str) -> ExitCode {
+    if text.ends_with('\n') {
+        let _ = eprint!(rt; "{text}");
+    } else {
+        let _ = eprintln!(rt; "{text}");
+    }
+    ExitCode::from(2)
+}
+
+// Words that could not be read: allocation failed, or one is not UTF-8.
+fn unread(rt: &HostRuntime, error: &io::Error) -> ExitCode {
+    match error.kind() {
+        ErrorKind::OutOfMemory => ended(rt, None, Err(Fault::Memory)),
+        _ => faulty(rt, "basinmug: an argument is not UTF-8\n"),
+    }
+}
