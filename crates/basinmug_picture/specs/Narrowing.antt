@@ -24,7 +24,7 @@ ellipsis = 0xe2 ∷ 0x80 ∷ 0xa6 ∷ []
 -- a column of a padding at each side that has this room: its texts are cut, or broken between words, where the space of
 -- the break is trimmed from each line
 abbrev pub Fits : Bool → ℕ → ℕ → List Setting → Type 0
-Fits true column room settings = (suffix : String Global) × (string_bytes suffix ≡ ellipsis) × (settings ≡ CellTruncate (Column column) (Exact (room - 2)) suffix Cut false false ∷ [])
+Fits true column room settings = (suffix : String Global) × (string_bytes suffix ≡ ellipsis) × (settings ≡ CellTruncate (Column column) (Exact (room - 2)) suffix Cut true false ∷ [])
 Fits false column room settings =
     settings ≡ CellWrap (Column column) (Exact (room - 2)) true ∷ TrimHorizontal (Column column) true ∷ LineAlignment (Column column) true ∷ []
 

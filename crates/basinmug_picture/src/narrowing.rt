@@ -160,7 +160,7 @@ fn push_fitting(
             width,
             suffix: String::from_str(alloc, "…")?,
             limit: SuffixLimit::Cut,
-            multiline: false,
+            multiline: true,
             try_color: false,
         })?;
         return Ok(());
