@@ -29,9 +29,9 @@ err-told (Ok x) fault P told p = tt
 err-told (Err e) fault P told p = subst P (sym told) p
 
 pub fits-cut : (truncate : Bool) (column room width : ℕ) (suffix : String Global) (old new : List Setting) → truncate ≡ true → width ≡ room - 2 → string_bytes suffix ≡ ellipsis
-    → new ≡ old ++ CellTruncate (Column column) (Exact width) suffix Cut false false ∷ [] → (own : List Setting) × (new ≡ old ++ own) × Fits truncate column room own
+    → new ≡ old ++ CellTruncate (Column column) (Exact width) suffix Cut true false ∷ [] → (own : List Setting) × (new ≡ old ++ own) × Fits truncate column room own
 fits-cut true column room width suffix old new is size bytes grown =
-    (CellTruncate (Column column) (Exact width) suffix Cut false false ∷ [], grown, (suffix, bytes, ap (λ n. CellTruncate (Column column) (Exact n) suffix Cut false false ∷ []) size))
+    (CellTruncate (Column column) (Exact width) suffix Cut true false ∷ [], grown, (suffix, bytes, ap (λ n. CellTruncate (Column column) (Exact n) suffix Cut true false ∷ []) size))
 fits-cut false column room width suffix old new is size bytes grown = absurd (let it : false ≡ true = is in cc it)
 
 pub fit-next : (truncate : Bool) (widths rooms : List ℕ) (column width room : ℕ) (old new : List Setting) → FitFirst truncate widths rooms column old
