@@ -71,10 +71,10 @@ fn kind_of(text: &str) -> Content
 }
 
 // The cell of a record in a column; an empty text where the record is shorter.
-fn cell(record: &[String], column: usize) -> &str
-    ensures { result.now ≡ cell column (map string_bytes record.now) }
+fn cell(row: &[String], column: usize) -> &str
+    ensures { result.now ≡ cell column (map string_bytes row.now) }
 {
-    match record.get(column) {
+    match row.get(column) {
         Some(text) => text.as_str(),
         None => "",
     }
