@@ -16,10 +16,10 @@ use Rattle.ansi_str.specs.StyledText.{text_of, strip, style_after, style_after_a
 use Rattle.ansi_str.specs.Parts.{from_place, before_place, through_place, dressed}
 use Rattle.ansi_str.specs.Walking.{from_text}
 use Rattle.ansi_str.specs.Cuts.{IsGoodBound, AreBreaks, parts_behind, parts_at}
-use Rattle.ansi_str_search.proofs.PartLemmas.{text_of-text, text_of-sequence}
-use Rattle.ansi_str_search.proofs.PlaceLemmas.{strip-from, from-none, from-past, through-inside, through-past, EachStands-from}
+use Rattle.ansi_str_search.proofs.Parts.{text_of-text, text_of-sequence}
+use Rattle.ansi_str_search.proofs.Places.{strip-from, from-none, from-past, through-inside, through-past, EachStands-from}
 use Rattle.ansi_str_search.proofs.PlaceSums.{from-from, through-all, style-through_split}
-use Rattle.ansi_str_search.proofs.RestLemmas.{strip-fits}
+use Rattle.ansi_str_search.proofs.Rests.{strip-fits}
 use Rattle.ansi_str.proofs.CutParts.{style-cut, first_part-slice, later_part-slice}
 use Rattle.ansi_str.proofs.CutSteps.{slice-bytes, good-drop}
 

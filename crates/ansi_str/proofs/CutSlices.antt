@@ -11,10 +11,10 @@ use Rattle.ansi_str.specs.StyledText.{text_of, strip, style_after, style_after_a
 use Rattle.ansi_str.specs.Parts.{from_place, before_place, through_place}
 use Rattle.ansi_str.specs.Walking.{from_text}
 use Rattle.ansi_str.specs.Cuts.{cut_part, later_part}
-use Rattle.ansi_str_search.proofs.PartLemmas.{text_of-text, text_of-sequence}
-use Rattle.ansi_str_search.proofs.PlaceLemmas.{through-inside, through-past, EachStands-from}
+use Rattle.ansi_str_search.proofs.Parts.{text_of-text, text_of-sequence}
+use Rattle.ansi_str_search.proofs.Places.{through-inside, through-past, EachStands-from}
 use Rattle.ansi_str_search.proofs.PlaceSums.{style-through_split}
-use Rattle.ansi_str_search.proofs.Utf8Lemmas.{EachUtf8, EachUtf8-pieces}
+use Rattle.ansi_str_search.proofs.Utf8.{EachUtf8, EachUtf8-pieces}
 use Rattle.ansi_str_search.proofs.CharSlices.{styled-between}
 use Rattle.ansi_str.proofs.WholeCuts.{later_part-shows}
 use Rattle.ansi_str.proofs.WholeSlices.{cut-shows}

@@ -19,14 +19,14 @@ use Rattle.ansi_str.specs.Parts.{from_place, before_place, through_place}
 use Rattle.ansi_str.specs.Walking.{sequences}
 use Rattle.ansi_str.specs.Cuts.{IsGoodBound, AreGoodBounds, cut_part}
 use Rattle.ansi_str.specs.CutEnds.{AreCutEnds}
-use Rattle.ansi_str_search.proofs.PartLemmas.{text_of-text, text_of-sequence, style_by-text}
-use Rattle.ansi_str_search.proofs.StyleLemmas.{front_of-style}
-use Rattle.ansi_str_search.proofs.PlaceLemmas.{none, inside, past, reach, has_text, before-none, before-inside, before-past, through-inside, through-past, strip-from, joined-places}
-use Rattle.ansi_str_search.proofs.DressedLemmas.{short, long, cut}
+use Rattle.ansi_str_search.proofs.Parts.{text_of-text, text_of-sequence, style_by-text}
+use Rattle.ansi_str_search.proofs.Styles.{front_of-style}
+use Rattle.ansi_str_search.proofs.Places.{none, inside, past, reach, has_text, before-none, before-inside, before-past, through-inside, through-past, strip-from, joined-places}
+use Rattle.ansi_str_search.proofs.Dressed.{short, long, cut}
 use Rattle.ansi_str_search.proofs.PlainParts.{end_bytes-plain}
 use Rattle.ansi_str_search.proofs.Walks.{run_boundary, run_within, run_of, from-plain, IsCharBoundary-drop, strip-sequence}
-use Rattle.ansi_str_search.proofs.RestLemmas.{strip-fits}
-use Rattle.ansi_str_search.proofs.Utf8Lemmas.{EachUtf8-pieces, IsUtf8-strip}
+use Rattle.ansi_str_search.proofs.Rests.{strip-fits}
+use Rattle.ansi_str_search.proofs.Utf8.{EachUtf8-pieces, IsUtf8-strip}
 use Rattle.ansi_str.proofs.CutParts.{sequences-text, sequences-sequence, cut_part-slice, cut_part-ends, style-cut}
 
 -- ---- the sequences before a place

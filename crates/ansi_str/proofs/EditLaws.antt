@@ -11,7 +11,7 @@ use Rattle.ansi_str.specs.Keeping.{IsTrimmed, kept}
 use Rattle.ansi_str.specs.Matches.{split_bounds, styled_parts}
 use Rattle.ansi_str.specs.Edits.{AreParts, FailsOf, LeavesOf, TakesTo, FailsAt, TakeInTurn, OneFails}
 use Rattle.ansi_str_search.proofs.MatchLists.{AreMatches-unique}
-use Rattle.ansi_str.proofs.TrimLemmas.{TrimsFromTo, by_places}
+use Rattle.ansi_str.proofs.Trims.{TrimsFromTo, by_places}
 
 -- ---- one text
 

@@ -19,17 +19,17 @@ use Rattle.ansi_str.specs.Parts.{from_place, before_place, through_place, split_
 use Rattle.ansi_str.specs.Cuts.{AreGoodBounds, cut_part, later_part}
 use Rattle.ansi_str.specs.Matches.{split_bounds, styled_slice}
 use Rattle.ansi_str.specs.Edits.{AreParts, LeavesOf, TakesTo, TakeInTurn, ShowsItsSlice, IsInUtf8, StandAmong}
-use Rattle.ansi_str_search.proofs.PlaceLemmas.{none, inside, past, reach, from-past, strip-from}
+use Rattle.ansi_str_search.proofs.Places.{none, inside, past, reach, from-past, strip-from}
 use Rattle.ansi_str_search.proofs.PlaceSums.{through-all}
 use Rattle.ansi_str_search.proofs.CharSlices.{styled-between, styled-slice}
-use Rattle.ansi_str_search.proofs.Utf8Lemmas.{EachUtf8, EachUtf8-pieces, IsUtf8-strip, IsUtf8-split_part}
+use Rattle.ansi_str_search.proofs.Utf8.{EachUtf8, EachUtf8-pieces, IsUtf8-strip, IsUtf8-split_part}
 use Rattle.ansi_str_search.proofs.FirstPlaces.{ends-boundary}
 use Rattle.ansi_str_search.proofs.SplitSlices.{bounds-between_characters}
 use Rattle.ansi_str_search.proofs.EmptyPattern.{empty_range}
 use Rattle.ansi_str.proofs.WholeSlices.{cut-shows}
 use Rattle.ansi_str.proofs.CutSlices.{cut-slice, later_part-slice_shown}
 use Rattle.ansi_str.proofs.KeptSlices.{kept_slice}
-use Rattle.ansi_str.proofs.TrimLemmas.{begins-cut, by_places}
+use Rattle.ansi_str.proofs.Trims.{begins-cut, by_places}
 use Rattle.ansi_str.proofs.WholeEdits.{LeavesOf-whole}
 use Rattle.ansi_str.proofs.EditUtf8.{boundary-within, boundary-min, IsUtf8-taken, IsUtf8-cut_part, IsUtf8-later_part, trimmed-first, trimmed-last}
 

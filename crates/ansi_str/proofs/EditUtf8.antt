@@ -19,10 +19,10 @@ use Rattle.ansi_str.specs.StyledText.{text_of, strip, style_after}
 use Rattle.ansi_str.specs.Parts.{Places, taken_piece, taken, style_where, part}
 use Rattle.ansi_str.specs.Cuts.{IsGoodBound, cut_part, later_part}
 use Rattle.ansi_str.specs.Keeping.{IsTrimmedAt}
-use Rattle.ansi_str_search.proofs.PartLemmas.{taken_piece-text, taken_piece-sequence, text_of-text}
-use Rattle.ansi_str_search.proofs.DressedLemmas.{renditions, joined-renditions, IsRendition-after}
-use Rattle.ansi_str.proofs.TrimLemmas.{TrimsFromTo, by_places}
-use Rattle.ansi_str_search.proofs.Utf8Lemmas.{EachUtf8, IsUtf8-joined, IsUtf8-strip, EachUtf8-renditions, boundary-first, boundary-second}
+use Rattle.ansi_str_search.proofs.Parts.{taken_piece-text, taken_piece-sequence, text_of-text}
+use Rattle.ansi_str_search.proofs.Dressed.{renditions, joined-renditions, IsRendition-after}
+use Rattle.ansi_str.proofs.Trims.{TrimsFromTo, by_places}
+use Rattle.ansi_str_search.proofs.Utf8.{EachUtf8, IsUtf8-joined, IsUtf8-strip, EachUtf8-renditions, boundary-first, boundary-second}
 
 -- ---- places at which a text can be cut, or behind which it ends
 

@@ -10,11 +10,11 @@ use Rattle.ansi_scan.proofs.Uniqueness.{ArePiecesOf-unique}
 use Rattle.ansi_str.specs.StyledText.{text_of, strip}
 use Rattle.ansi_str.specs.Parts.{taken_piece, taken}
 use Rattle.ansi_str.specs.Keeping.{kept, sequences_among}
-use Rattle.ansi_str_search.proofs.PartLemmas.{text_of-text, text_of-sequence, taken_piece-text, taken_piece-sequence}
-use Rattle.ansi_str_search.proofs.PlaceLemmas.{list_all-drop}
-use Rattle.ansi_str_search.proofs.DressedLemmas.{Stands-before, list_all-take, other_kind}
-use Rattle.ansi_str_search.proofs.MergeLemmas.{slice_both}
-use Rattle.ansi_str.proofs.KeepLemmas.{empty_slice}
+use Rattle.ansi_str_search.proofs.Parts.{text_of-text, text_of-sequence, taken_piece-text, taken_piece-sequence}
+use Rattle.ansi_str_search.proofs.Places.{list_all-drop}
+use Rattle.ansi_str_search.proofs.Dressed.{Stands-before, list_all-take, other_kind}
+use Rattle.ansi_str_search.proofs.Merges.{slice_both}
+use Rattle.ansi_str.proofs.Keeps.{empty_slice}
 
 -- a piece of text, where that is not empty
 abbrev pub text_if : List ℕ → Bool → List Piece

@@ -11,12 +11,12 @@ use Rattle.ansi_scan.specs.Attributes.{Attributes, plain_attributes}
 use Rattle.ansi_str.specs.StyledText.{text_of, strip, style_after, style_after_all, styled_from, styled}
 use Rattle.ansi_str.specs.Parts.{piece_from, from_place, before_place, through_place}
 use Rattle.ansi_str.specs.Keeping.{kept}
-use Rattle.ansi_str_search.proofs.PartLemmas.{text_of-text, text_of-sequence, style_by-text}
-use Rattle.ansi_str_search.proofs.PlaceLemmas.{none, inside, past, reach, has_text, from-inside, from-past, before-inside, before-past, through-inside, through-past}
-use Rattle.ansi_str_search.proofs.CutLemmas.{with_style, styled_from-text}
+use Rattle.ansi_str_search.proofs.Parts.{text_of-text, text_of-sequence, style_by-text}
+use Rattle.ansi_str_search.proofs.Places.{none, inside, past, reach, has_text, from-inside, from-past, before-inside, before-past, through-inside, through-past}
+use Rattle.ansi_str_search.proofs.Cuts.{with_style, styled_from-text}
 use Rattle.ansi_str_search.proofs.CharSlices.{styled-between}
-use Rattle.ansi_str_search.proofs.Utf8Lemmas.{EachUtf8-pieces}
-use Rattle.ansi_str.proofs.KeepLemmas.{empty_slice}
+use Rattle.ansi_str_search.proofs.Utf8.{EachUtf8-pieces}
+use Rattle.ansi_str.proofs.Keeps.{empty_slice}
 use Rattle.ansi_str.proofs.KeptPieces.{text_if, of_kind, kept_pieces, no_bytes, pieces_kept}
 
 -- ---- what a piece shows of which a slice is kept

@@ -4,11 +4,11 @@ pub mod BreakSteps
 pub mod WholeCuts
 pub mod CutSlices
 pub mod WholeSlices
-pub mod KeepLemmas
-pub mod TrimLemmas
+pub mod Keeps
+pub mod Trims
 pub mod KeptPieces
 pub mod KeptSlices
-pub mod EditLemmas
+pub mod Edits
 pub mod EditLaws
 pub mod WholeEdits
 pub mod EditUtf8

@@ -13,7 +13,7 @@ use Rattle.ansi_str.specs.Cuts.{cut_part, later_part}
 use Rattle.ansi_str.specs.Keeping.{kept}
 use Rattle.ansi_str.specs.Lines.{IsClosedText}
 use Rattle.ansi_str.specs.Edits.{LeavesOf, TakeInTurn}
-use Rattle.ansi_str_search.proofs.Utf8Lemmas.{All-closed}
+use Rattle.ansi_str_search.proofs.Utf8.{All-closed}
 use Rattle.ansi_str.proofs.WholeCuts.{first_part-closed, later_part-closed}
 use Rattle.ansi_str.proofs.WholeSlices.{cut-closed}
 use Rattle.ansi_str.proofs.KeptPieces.{kept_whole}

@@ -1,6 +1,7 @@
 //! Laws of the definitions that the other contracts cite.
 
-ghost use Rattle.std.specs.Prelude.{All, ◌≡◌, ◌≤◌, ◌-◌, ℕ, List, [], ◌∷◌, ◌++◌, chars, codes, length, slice_range, take, ◌↔◌, Bool, IsTrue, MatchOption, Option, is_some, None, Some, String as Bytes, ◌⊎◌, string_bytes, true};
+ghost use Rattle.std.specs.Prelude.{All, ◌≡◌, ◌≤◌, ◌-◌, ℕ, List, [], ◌∷◌, ◌++◌, chars, codes, length, slice_range, take, ◌↔◌, Bool, IsTrue,
+    MatchOption, Option, is_some, None, Some, String as Bytes, ◌⊎◌, string_bytes, true};
 ghost use Rattle.std.specs.Borrow.{Bor};
 ghost use Rattle.std.specs.Range.{range_inclusive_end, range_inclusive_exhausted, range_inclusive_start};
 ghost use Rattle.std.specs.Str.{IsCharBoundary, IsUtf8, trim};
@@ -230,7 +231,9 @@ pub fn ranges_and_texts_are_read_as_they_are()
     ensures to_end { (range : UpTo ℕ) → ⟦<RangeTo<usize> as AnsiRange>⟧.end range ≡ Some range.end }
     ensures full_start { (range : Full) → ⟦<RangeFull as AnsiRange>⟧.start range ≡ 0 }
     ensures full_end { (range : Full) → ⟦<RangeFull as AnsiRange>⟧.end range ≡ None }
-    ensures through_start { (range : Through ℕ) → ⟦<RangeInclusive<usize> as AnsiRange>⟧.start range ≡ inclusive_start (range_inclusive_exhausted range) (range_inclusive_start range) (range_inclusive_end range) }
+    ensures through_start { (range : Through ℕ) →
+        ⟦<RangeInclusive<usize> as AnsiRange>⟧.start range ≡ inclusive_start (range_inclusive_exhausted range) (range_inclusive_start range)
+        (range_inclusive_end range) }
     ensures through_end { (range : Through ℕ) → ⟦<RangeInclusive<usize> as AnsiRange>⟧.end range ≡ end_behind (range_inclusive_end range) }
     ensures to_through_start { (range : UpThrough ℕ) → ⟦<RangeToInclusive<usize> as AnsiRange>⟧.start range ≡ 0 }
     ensures to_through_end { (range : UpThrough ℕ) → ⟦<RangeToInclusive<usize> as AnsiRange>⟧.end range ≡ end_behind range.end }

@@ -17,17 +17,17 @@ use Rattle.ansi_str_text.specs.StyledText.{has_escape, text_of, strip, style_aft
 use Rattle.ansi_str_search.specs.Parts.{from_place, before_place, through_place, split_part}
 use Rattle.ansi_str_search.specs.Matches.{AreMatchesFrom, AreMatches, bounds_between, split_bounds, text_parts, styled_parts}
 use Rattle.ansi_str_search.specs.Lines.{IsClosedLine}
-use Rattle.ansi_str_search.proofs.PartLemmas.{style_by-text, text_of-text}
-use Rattle.ansi_str_search.proofs.StyleLemmas.{split_part-slice}
-use Rattle.ansi_str_search.proofs.PlaceLemmas.{none, inside, past, reach, from-inside, from-past, before-inside, before-past, through-inside, through-past, strip-from}
-use Rattle.ansi_str_search.proofs.DressedLemmas.{short, long, cut, IsClosed-split_part}
-use Rattle.ansi_str_search.proofs.SliceLemmas.{strip-through, strip-split_part}
+use Rattle.ansi_str_search.proofs.Parts.{style_by-text, text_of-text}
+use Rattle.ansi_str_search.proofs.Styles.{split_part-slice}
+use Rattle.ansi_str_search.proofs.Places.{none, inside, past, reach, from-inside, from-past, before-inside, before-past, through-inside, through-past, strip-from}
+use Rattle.ansi_str_search.proofs.Dressed.{short, long, cut, IsClosed-split_part}
+use Rattle.ansi_str_search.proofs.Slices.{strip-through, strip-split_part}
 use Rattle.ansi_str_text.proofs.Stripping.{escaped, strip-without_escape}
 use Rattle.ansi_str_search.proofs.PlainParts.{plain_part}
-use Rattle.ansi_str_search.proofs.RestLemmas.{no_escape-behind}
-use Rattle.ansi_str_search.proofs.CharLemmas.{Without}
-use Rattle.ansi_str_search.proofs.Utf8Lemmas.{Occurs-fits, bounds-hold}
-use Rattle.ansi_str_search.proofs.CutLemmas.{Without-unmatched}
+use Rattle.ansi_str_search.proofs.Rests.{no_escape-behind}
+use Rattle.ansi_str_search.proofs.Chars.{Without}
+use Rattle.ansi_str_search.proofs.Utf8.{Occurs-fits, bounds-hold}
+use Rattle.ansi_str_search.proofs.Cuts.{Without-unmatched}
 
 -- ---- the bounds
 

@@ -8,15 +8,15 @@ use Rattle.std.proofs.lemmas.Str.{chars-nil, chars-append, IsUtf8-take}
 use Rattle.ansi_scan.specs.Sequences.{Piece, ArePiecesOf, NoneBroken}
 use Rattle.ansi_scan.specs.Attributes.{Attributes, plain_attributes}
 use Rattle.ansi_str_text.specs.StyledText.{text_of, strip, style_after, style_after_all, styled_from, styled}
-use Rattle.ansi_str_text.proofs.LastLemmas.{strip-append}
+use Rattle.ansi_str_text.proofs.Last.{strip-append}
 use Rattle.ansi_str_search.specs.Parts.{from_place, before_place, through_place, split_part}
-use Rattle.ansi_str_search.proofs.PlaceLemmas.{none, inside, past, reach, has_text, from-past, before-inside, before-past, strip-from}
+use Rattle.ansi_str_search.proofs.Places.{none, inside, past, reach, has_text, from-past, before-inside, before-past, strip-from}
 use Rattle.ansi_str_search.proofs.PlaceSums.{through-parted}
-use Rattle.ansi_str_search.proofs.DressedLemmas.{styled_from-append, styled-split_part}
-use Rattle.ansi_str_search.proofs.SliceLemmas.{strip-through}
-use Rattle.ansi_str_search.proofs.CharLemmas.{both_hold}
-use Rattle.ansi_str_search.proofs.Utf8Lemmas.{EachUtf8, EachUtf8-pieces, EachUtf8-from, EachUtf8-through, IsUtf8-text_of, IsUtf8-strip, boundary-from, boundary-bytes, boundary-second}
-use Rattle.ansi_str_search.proofs.CutLemmas.{with_style, styled_from-text, styled-behind}
+use Rattle.ansi_str_search.proofs.Dressed.{styled_from-append, styled-split_part}
+use Rattle.ansi_str_search.proofs.Slices.{strip-through}
+use Rattle.ansi_str_search.proofs.Chars.{both_hold}
+use Rattle.ansi_str_search.proofs.Utf8.{EachUtf8, EachUtf8-pieces, EachUtf8-from, EachUtf8-through, IsUtf8-text_of, IsUtf8-strip, boundary-from, boundary-bytes, boundary-second}
+use Rattle.ansi_str_search.proofs.Cuts.{with_style, styled_from-text, styled-behind}
 
 -- ---- how many characters are shown
 

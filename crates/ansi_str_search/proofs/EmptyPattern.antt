@@ -12,7 +12,7 @@ use Rattle.ansi_str_text.specs.StyledText.{strip, styled}
 use Rattle.ansi_str_search.specs.Matches.{Occurs, IsFirstMatch, AreMatchesFrom, AreMatches, bounds_between, split_bounds, text_parts, styled_parts, styled_slice}
 use Rattle.ansi_str_search.proofs.AllParts.{strip-styled_parts}
 use Rattle.ansi_str_search.proofs.CharSlices.{length-styled_from, take-parts}
-use Rattle.ansi_str_search.proofs.Utf8Lemmas.{EachUtf8-pieces}
+use Rattle.ansi_str_search.proofs.Utf8.{EachUtf8-pieces}
 use Rattle.ansi_str_search.proofs.SplitSlices.{styled-parts}
 use Rattle.ansi_str_text.proofs.Utf8Pieces.{IsUtf8-stripped}
 

@@ -13,11 +13,11 @@ use Rattle.ansi_str_search.specs.Matches.{Occurs, IsFirstMatch}
 use Rattle.ansi_str_search.specs.PartsLeft.{begins_with, first_match}
 use Rattle.ansi_str_search.specs.Searches.{EndsWith, IsFound}
 use Rattle.ansi_str_search.specs.Walking.{begins_with_escape}
-use Rattle.ansi_str_search.proofs.MatchLemmas.{IsFirstOrNone, first_match-unique, first_match-sound, first_match-is_first, begins_with-sound, begins_with-append, Occurs-on, Occurs-back}
-use Rattle.ansi_str_search.proofs.PlaceLemmas.{strip-from}
+use Rattle.ansi_str_search.proofs.Matches.{IsFirstOrNone, first_match-unique, first_match-sound, first_match-is_first, begins_with-sound, begins_with-append, Occurs-on, Occurs-back}
+use Rattle.ansi_str_search.proofs.Places.{strip-from}
 use Rattle.ansi_str_search.proofs.Walks.{from-plain}
-use Rattle.ansi_str_search.proofs.FindLemmas.{IsUtf8-shown}
-use Rattle.ansi_str_search.proofs.SearchLemmas.{begins_with-none_left}
+use Rattle.ansi_str_search.proofs.Finds.{IsUtf8-shown}
+use Rattle.ansi_str_search.proofs.Searches.{begins_with-none_left}
 
 -- ---- the first match
 

@@ -14,7 +14,7 @@ use Rattle.ansi_str_search.specs.Parts.{split_part}
 use Rattle.ansi_str_search.specs.Matches.{AreMatches, split_bounds, styled_parts, IsCutBetweenCharacters, styled_slice}
 use Rattle.ansi_str_search.proofs.AllParts.{map-same}
 use Rattle.ansi_str_search.proofs.CharSlices.{styled-slice}
-use Rattle.ansi_str_search.proofs.Utf8Lemmas.{bounds-hold, boundary-behind_match}
+use Rattle.ansi_str_search.proofs.Utf8.{bounds-hold, boundary-behind_match}
 
 -- what holds of each two places between characters, the first not behind the second, holds of the ends of each part
 pub bounds-between_characters : (P : (ℕ × ℕ) → Type 0) (pattern text matches : List ℕ) → IsUtf8 text → IsUtf8 pattern → AreMatches pattern text matches

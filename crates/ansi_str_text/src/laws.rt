@@ -47,7 +47,12 @@ pub fn blocks_and_characters_come_in_their_order()
     ensures asked_from_the_back { (characters : List ℕ) → ⟦<StrippedChars<'static> as DoubleEndedIterator>⟧.can_next_back characters }
     ensures left { (blocks : List Block) → ⟦<AnsiBlockIter<'static> as Iterator>⟧.remaining blocks ≡ item_count (λ (blocks : List Block). blocks) blocks }
     ensures characters_left { (characters : List ℕ) → ⟦<StrippedChars<'static> as Iterator>⟧.remaining characters ≡ item_count (λ (characters : List ℕ). characters) characters }
-    ensures blocks { (before after : List Block) (given : Option Block) → ⟦<AnsiBlockIter<'static> as Iterator>⟧.next_gives before given after → YieldsFirst (λ (blocks : List Block). blocks) before given after }
-    ensures characters { (before after : List ℕ) (given : Option ℕ) → ⟦<StrippedChars<'static> as Iterator>⟧.next_gives before given after → YieldsFirst (λ (characters : List ℕ). characters) before given after }
-    ensures from_the_back { (before after : List ℕ) (given : Option ℕ) → ⟦<StrippedChars<'static> as DoubleEndedIterator>⟧.next_back_gives before given after → YieldsLast (λ (characters : List ℕ). characters) before given after }
+    ensures blocks { (before after : List Block) (given : Option Block) →
+        ⟦<AnsiBlockIter<'static> as Iterator>⟧.next_gives before given after →
+        YieldsFirst (λ (blocks : List Block). blocks) before given after }
+    ensures characters { (before after : List ℕ) (given : Option ℕ) → ⟦<StrippedChars<'static> as Iterator>⟧.next_gives before given after →
+        YieldsFirst (λ (characters : List ℕ). characters) before given after }
+    ensures from_the_back { (before after : List ℕ) (given : Option ℕ) →
+        ⟦<StrippedChars<'static> as DoubleEndedIterator>⟧.next_back_gives before given after →
+        YieldsLast (λ (characters : List ℕ). characters) before given after }
 {}

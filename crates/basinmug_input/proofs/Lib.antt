@@ -1,7 +1,7 @@
-pub mod ByteLemmas
-pub mod CleanLemmas
+pub mod Bytes
+pub mod Cleans
 pub mod OneFault
-pub mod QuoteLemmas
-pub mod RecordLemmas
-pub mod RowLemmas
-pub mod TextLemmas
+pub mod Quotes
+pub mod Records
+pub mod Rows
+pub mod Texts

@@ -18,7 +18,7 @@ use Rattle.basinmug_input.specs.Places.{IsOpenQuote, IsReadAs, field_at, line_at
 use Rattle.basinmug_input.specs.Reading.{SoFar, field_in, nothing, read_on, with_byte}
 use Rattle.basinmug_input.specs.declared.fault.InputFault.{InputFault}
 use Rattle.basinmug_input.specs.declared.fault.InputFault.TheVariants.{NotText, Quote, Escape, Memory}
-use Rattle.basinmug_input.proofs.ByteLemmas.{both-push, default-push, other-push, with_hand}
+use Rattle.basinmug_input.proofs.Bytes.{both-push, default-push, other-push, with_hand}
 
 -- ---- a byte of a field is read once
 

@@ -2,7 +2,7 @@
 use Rattle.std.proofs.Common.{◌≡◌, ◌∙◌, ap, sym, ℕ, ◌<◌, ◌+◌, List, [], ◌∷◌, ◌++◌, length, take, get_or, zero-add}
 use Rattle.std.specs.List.{flat_map, range_with_len}
 use Rattle.std.proofs.lemmas.List.{flat_map_more, take_more}
-use Rattle.papergrid_picture.proofs.FrameLemmas.{range_with_len-more}
+use Rattle.papergrid_picture.proofs.Frames.{range_with_len-more}
 
 -- of the items of a list
 pub next_item : {X Y : Type 0} (f : X → List Y) (xs : List X) (i : ℕ) (x : X) (start old new own : List Y) → i < length xs → x ≡ get_or xs i x

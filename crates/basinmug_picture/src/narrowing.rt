@@ -19,9 +19,13 @@ pub(crate) fn narrow_if_asked(
     numeric: &[bool],
     options: &Options,
 ) -> Result<bool, Fault>
-    ensures narrowed { OnOk result (MatchOption options.now.width (state_of (λ text. text) table.new ≡ state_of (λ text. text) table.old) (λ width. Narrows options.now.truncate options.now.priority numeric.now width (state_of (λ text. text) table.old) (state_of (λ text. text) table.new))) }
+    ensures narrowed { OnOk result (MatchOption options.now.width (state_of (λ text. text) table.new ≡ state_of (λ text. text) table.old)
+        (λ width. Narrows options.now.truncate options.now.priority numeric.now width (state_of (λ text. text) table.old)
+        (state_of (λ text. text) table.new))) }
     ensures wider { IfOk result (λ wider. wider ≡ is_wider options.now.width (state_of (λ text. text) table.new)) }
-    ensures refused { IfErr result (λ fault. (fault ≡ Memory) ⊎ MatchOption options.now.width ⊥ (λ width. IsNotNarrowed options.now.truncate options.now.priority numeric.now width (state_of (λ text. text) table.old) fault)) }
+    ensures refused { IfErr result (λ fault. (fault ≡ Memory)
+        ⊎ MatchOption options.now.width ⊥
+        (λ width. IsNotNarrowed options.now.truncate options.now.priority numeric.now width (state_of (λ text. text) table.old) fault)) }
 {
     match options.width {
         None => Ok(false),

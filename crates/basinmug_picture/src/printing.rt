@@ -118,8 +118,11 @@ fn write_lines<W: Write>(
     more: &str,
     writer: &mut Counted<W>,
 ) -> Result<(), BuildFault>
-    ensures whole { OnOk result (Appends (W.contents (inner_of writer.old)) (W.contents (inner_of writer.new)) (wanted_lines (is_wanted lines.now.rules lines.now.header lines.now.rows) (state_of (λ text. text) table.now) ++ more.now)) }
-    ensures front { IfErr result (λ fault. ¬ (HasNoText fault) → AppendsFront (W.contents (inner_of writer.old)) (W.contents (inner_of writer.new)) (wanted_lines (is_wanted lines.now.rules lines.now.header lines.now.rows) (state_of (λ text. text) table.now) ++ more.now)) }
+    ensures whole { OnOk result (Appends (W.contents (inner_of writer.old)) (W.contents (inner_of writer.new))
+        (wanted_lines (is_wanted lines.now.rules lines.now.header lines.now.rows) (state_of (λ text. text) table.now) ++ more.now)) }
+    ensures front { IfErr result (λ fault. ¬ (HasNoText fault) →
+        AppendsFront (W.contents (inner_of writer.old)) (W.contents (inner_of writer.new))
+        (wanted_lines (is_wanted lines.now.rules lines.now.header lines.now.rows) (state_of (λ text. text) table.now) ++ more.now)) }
     ensures untouched { IfErr result (λ fault. HasNoText fault → writer.new ≡ writer.old) }
     ensures fits { OnOk result (IsFit (state_of (λ text. text) table.now) (Ok tt)) }
     ensures table { IfErr result (BuildRefusal (IsFit (state_of (λ text. text) table.now) (Ok tt)) (IsFit (state_of (λ text. text) table.now))) }

@@ -1,5 +1,5 @@
-pub mod ByteLemmas
-pub mod CommandLemmas
-pub mod ListLemmas
-pub mod MetLemmas
-pub mod NameLemmas
+pub mod Bytes
+pub mod Commands
+pub mod Lists
+pub mod Met
+pub mod Names

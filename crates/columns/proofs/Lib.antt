@@ -1,1 +1,1 @@
-pub mod StyleLemmas
+pub mod Styles

@@ -1,7 +1,7 @@
-pub mod SizeLemmas
-pub mod TableLemmas
-pub mod CharacterLemmas
-pub mod StrippedLemmas
-pub mod PlainTextLemmas
-pub mod ShrunkLemmas
-pub mod NarrowLemmas
+pub mod Sizes
+pub mod Tables
+pub mod Characters
+pub mod Stripped
+pub mod PlainTexts
+pub mod Shrunk
+pub mod Narrows

@@ -1,2 +1,2 @@
-pub mod StyleLemmas
-mod ColorLemmas
+pub mod Styles
+mod Colors

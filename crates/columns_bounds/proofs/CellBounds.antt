@@ -7,21 +7,21 @@ use Rattle.std.proofs.lemmas.List.Elements.{All-from_recursion}
 use Rattle.std.proofs.lemmas.Simd.{map-map}
 use Rattle.std.proofs.lemmas.Str.{chars-nil}
 use Rattle.std.proofs.lemmas.List.Splits.{slice_split-cons_no, slice_split-cons_yes, slice_split_at, slice_split_none}
-use Rattle.ansi_str_search.proofs.CharLemmas.{hold_both}
+use Rattle.ansi_str_search.proofs.Chars.{hold_both}
 use Rattle.tabled_size_cells.specs.Resizing.{Break, Cut, Resize, broken, broken_line, cell_width, cut, lines_in, resized, resized_text}
-use Rattle.tabled_size_cells.proofs.BridgeLemmas.{resized-shows, width-same}
-use Rattle.tabled_size_cells.proofs.CharacterLemmas.{resized-natural}
-use Rattle.grid_records_bounds.proofs.CostLemmas.{bounded}
-use Rattle.grid_records_bounds.proofs.SpaceLemmas.{measure-marks}
+use Rattle.tabled_size_cells.proofs.Bridges.{resized-shows, width-same}
+use Rattle.tabled_size_cells.proofs.Characters.{resized-natural}
+use Rattle.grid_records_bounds.proofs.Costs.{bounded}
+use Rattle.grid_records_bounds.proofs.Spaces.{measure-marks}
 use Rattle.grid_records_estimate.specs.Estimates.{greatest}
 use Rattle.grid_records_measure.specs.Cutting.{LinesFit, lacking, last_of, lines_of, replacement}
 use Rattle.grid_records_measure.specs.Filling.{behind_front, fitting_front}
 use Rattle.grid_records_measure.specs.Measures.{columns, measure}
 use Rattle.grid_records_measure.specs.TextLines.{is_line_feed, line_feed, shown_lines as text_shown_lines, text_width, widest}
-use Rattle.grid_records_measure.proofs.FillingLemmas.{IsLongestFront-fitting_front}
+use Rattle.grid_records_measure.proofs.Filling.{IsLongestFront-fitting_front}
 use Rattle.papergrid_picture.specs.Shown.{IsWholeText, Styled, character_of, in_plain}
-use Rattle.papergrid_picture.proofs.ItemLemmas.{slice_split-map}
-use Rattle.papergrid_picture.proofs.ShownLemmas.{pieces-nothing, styled_of}
+use Rattle.papergrid_picture.proofs.Items.{slice_split-map}
+use Rattle.papergrid_picture.proofs.Shown.{pieces-nothing, styled_of}
 use Rattle.tabled_size_wrap.specs.Runs.{runs_of}
 use Rattle.tabled_size_wrap.specs.Showing.{unit_size}
 use Rattle.tabled_size_wrap.specs.Units.{line_units}

@@ -6,21 +6,21 @@ use Rattle.std.proofs.lemmas.Bool.Decides.{nat_tests}
 use Rattle.std.proofs.lemmas.List.{drop-drop, take-append-drop}
 use Rattle.std.proofs.lemmas.List.Elements.{recursion_from_All}
 use Rattle.ansi_scan.proofs.Runs.{list_all-take_run, prefix_len-drop_run, prefix_len-pass}
-use Rattle.ansi_str_search.proofs.CharLemmas.{hold_both}
-use Rattle.grid_records_bounds.proofs.SpaceLemmas.{measure-marks}
+use Rattle.ansi_str_search.proofs.Chars.{hold_both}
+use Rattle.grid_records_bounds.proofs.Spaces.{measure-marks}
 use Rattle.grid_records_measure.specs.Cutting.{replacement}
 use Rattle.grid_records_measure.specs.Measures.{measure}
 use Rattle.grid_records_measure.specs.TextLines.{is_line_feed}
-use Rattle.papergrid_picture.proofs.ShownLemmas.{All-drop, All-take}
+use Rattle.papergrid_picture.proofs.Shown.{All-drop, All-take}
 use Rattle.tabled_size_wrap.specs.Breaking.{FitsRun, run_cost}
 use Rattle.tabled_size_wrap.specs.Runs.{runs_of}
 use Rattle.tabled_size_wrap.specs.Showing.{unit_size}
 use Rattle.tabled_size_wrap.specs.Units.{LineUnit, line_units}
 use Rattle.tabled_size_wrap.specs.Wrapping.{from_wide, is_narrow, narrow_front, shown_lines, shown_run}
-use Rattle.tabled_size_wrap.proofs.FewestLemmas.{is-breaking}
-use Rattle.tabled_size_wrap.proofs.LongestLemmas.{runs-are}
-use Rattle.tabled_size_wrap.proofs.PartLemmas.{run_size, size-texts, texts-both}
-use Rattle.tabled_size_wrap.proofs.UnitLemmas.{texts, texts-units}
+use Rattle.tabled_size_wrap.proofs.Fewest.{is-breaking}
+use Rattle.tabled_size_wrap.proofs.Longest.{runs-are}
+use Rattle.tabled_size_wrap.proofs.Parts.{run_size, size-texts, texts-both}
+use Rattle.tabled_size_wrap.proofs.Units.{texts, texts-units}
 use Rattle.columns_bounds.proofs.UnitBounds.{Stand, nothing-behind, stand-behind, stand-front, units-measure, units-stand}
 
 -- no line feed stands in it

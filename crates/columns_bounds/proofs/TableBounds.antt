@@ -9,18 +9,18 @@ use Rattle.columns_asked.specs.Layout.{by_column, frame_under, heights_of, kept_
 use Rattle.tabled_size_cells.specs.Resizing.{Break, Cut, resized_text}
 use Rattle.columns_asked.specs.Shrunk.{shrunk_list}
 use Rattle.columns_asked.specs.declared.asked.Asked.{Asked}
-use Rattle.columns_asked.proofs.ShrunkLemmas.{shrunk_list-meets}
+use Rattle.columns_asked.proofs.Shrunk.{shrunk_list-meets}
 use Rattle.columns_table.proofs.AskedWidths.{one-taken, padded}
 use Rattle.columns_table.proofs.First.{none-in_row-more, none-more}
-use Rattle.columns_table.proofs.NarrowedLemmas.{columns-are, frame-is, kept-is, room-natural, some-rows, some-sizes}
-use Rattle.columns_table.proofs.SizeLemmas.{width-each}
+use Rattle.columns_table.proofs.Narrowed.{columns-are, frame-is, kept-is, room-natural, some-rows, some-sizes}
+use Rattle.columns_table.proofs.Sizes.{width-each}
 use Rattle.columns_run.specs.Layout.{wide_cell}
 use Rattle.columns_run.specs.Run.{MayRefuse}
 use Rattle.columns_run.specs.Wanted.{Wanted}
 use Rattle.columns_run.specs.declared.fault.RunFault.TheVariants.{LineTooWide}
-use Rattle.columns_run.proofs.CellLemmas.{whole_cells, whole_text}
-use Rattle.columns_run.proofs.RoomLemmas.{natural-room}
-use Rattle.columns_run.proofs.TableLemmas.{wide-same}
+use Rattle.columns_run.proofs.Cells.{whole_cells, whole_text}
+use Rattle.columns_run.proofs.Rooms.{natural-room}
+use Rattle.columns_run.proofs.Tables.{wide-same}
 use Rattle.columns_bounds.proofs.CellBounds.{cut-bounded, nothing-measures, wrapped-bounded}
 use Rattle.grid_config.specs.Compact.{Compact}
 use Rattle.grid_config.specs.Looks.{compact_look}
@@ -35,7 +35,7 @@ use Rattle.papergrid_picture.specs.Fitting.{first_too_wide, is_too_wide, need, t
 use Rattle.papergrid_picture.specs.Frame.{Frame, block_width, frame_of}
 use Rattle.papergrid_picture.specs.Picture.{at}
 use Rattle.papergrid_picture.specs.Shown.{AreWholeTexts, IsWholeText}
-use Rattle.papergrid_picture.proofs.ShownLemmas.{get_or-map}
+use Rattle.papergrid_picture.proofs.Shown.{get_or-map}
 use Rattle.tabled_size_priority.specs.Choices.{IsShrunkByChoice}
 use Rattle.tabled_size_priority.specs.Columns.{by_width, from_column, from_side}
 use Rattle.tabled_size_priority.specs.Shrinking.{IsOfForm, cut_to_level, given_in_order, given_in_turns, shrunk_in_order, shrunk_in_turns, shrunk_to_level}

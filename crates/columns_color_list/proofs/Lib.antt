@@ -1,3 +1,3 @@
-pub mod NameLemmas
+pub mod Names
 mod ClosedNames
 pub mod ClosedLists

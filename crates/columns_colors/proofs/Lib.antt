@@ -1,2 +1,2 @@
-pub mod TableLemmas
-pub mod StrippedLemmas
+pub mod Tables
+pub mod Stripped

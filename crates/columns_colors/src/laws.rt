@@ -33,16 +33,19 @@ pub fn colored_table_shown()
 /// Without colours it is the table as it was, by its text and by its picture.
 pub fn tables_without_colors()
     ensures text { (style : Compact) (asked : Asked) (texts : List (List (List ℕ))) → colored_text style asked (λ _. None) texts ≡ asked_text style asked texts }
-    ensures picture { (style : Compact) (asked : Asked) (rows : List (List (List Styled))) (texts : List (List (List ℕ))) → colored_items style asked (λ _. None) rows texts ≡ asked_picture style asked rows }
+    ensures picture { (style : Compact) (asked : Asked) (rows : List (List (List Styled))) (texts : List (List (List ℕ))) →
+        colored_items style asked (λ _. None) rows texts ≡ asked_picture style asked rows }
     ensures none_given { (cell : Cell) → cell_color [] cell ≡ None }
 {}
 
 /// Without its sequences the text of a table whose cells have colours is that of the table of the stripped
 /// texts without colours, and no sequence of it is broken.
 pub fn colored_table_stripped()
-    ensures text { (style : Compact) (asked : Asked) (colors : Cell → Option Color) (texts : List (List (List ℕ))) (ps : List Piece) → IsBare (compact_look style) → AreWholeTexts texts → ShowNothing colors →
+    ensures text { (style : Compact) (asked : Asked) (colors : Cell → Option Color) (texts : List (List (List ℕ))) (ps : List Piece) →
+        IsBare (compact_look style) → AreWholeTexts texts → ShowNothing colors →
         ArePiecesOf (colored_text style asked colors texts) ps → strip ps ≡ asked_text style asked (stripped_texts texts) }
-    ensures whole { (style : Compact) (asked : Asked) (colors : Cell → Option Color) (texts : List (List (List ℕ))) (ps : List Piece) → IsBare (compact_look style) → AreWholeTexts texts → ShowNothing colors →
+    ensures whole { (style : Compact) (asked : Asked) (colors : Cell → Option Color) (texts : List (List (List ℕ))) (ps : List Piece) →
+        IsBare (compact_look style) → AreWholeTexts texts → ShowNothing colors →
         ArePiecesOf (colored_text style asked colors texts) ps → NoneBroken ps }
 {}
 

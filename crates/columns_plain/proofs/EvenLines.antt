@@ -16,30 +16,30 @@ use Rattle.grid_config_values.specs.declared.sides.Indent.{Indent}
 use Rattle.grid_config_values.specs.declared.sides.Sides.{Sides}
 use Rattle.grid_records_estimate.specs.Totals.{total}
 use Rattle.grid_records_measure.specs.Measures.{columns}
-use Rattle.papergrid_colors.proofs.PieceLemmas.{line-pieces}
+use Rattle.papergrid_colors.proofs.Pieces.{line-pieces}
 use Rattle.papergrid_picture.specs.Fitting.{table_width}
 use Rattle.papergrid_picture.specs.Frame.{Frame, column_count as columns_of, frame_of, line_count, row_count, total_width, track_at}
 use Rattle.papergrid_picture.specs.Shown.{CostsOne, OnEachSide, ShowsOnly}
 use Rattle.papergrid_picture.specs.Tables.{table_grid}
 use Rattle.papergrid_picture.specs.Tiling.{HasGoodSpans}
-use Rattle.papergrid_picture.proofs.WidthLemmas.{line-columns}
+use Rattle.papergrid_picture.proofs.Widths.{line-columns}
 use Rattle.tabled_size_cells.specs.Resizing.{Resize}
 use Rattle.columns_asked.specs.declared.asked.Asked.{Asked}
 use Rattle.columns_asked.specs.Layout.{asked_frame, asked_widths, frame_under, heights_of, kept_texts, narrowed, paddings, resize_in, too_wide, widths_of}
 use Rattle.columns_options.specs.ColumnColors.{AllClose}
 use Rattle.columns_table.specs.Asking.{narrowest_frame}
 use Rattle.columns_table.proofs.AskedWidths.{padded, width-fitting, width-narrowed}
-use Rattle.columns_table.proofs.NarrowedLemmas.{some-of-table}
-use Rattle.columns_table.proofs.NaturalLemmas.{positive-none}
-use Rattle.columns_table.proofs.SizeLemmas.{height-each, width-each, width-total}
+use Rattle.columns_table.proofs.Narrowed.{some-of-table}
+use Rattle.columns_table.proofs.Natural.{positive-none}
+use Rattle.columns_table.proofs.Sizes.{height-each, width-each, width-total}
 use Rattle.columns_run.specs.Layout.{grid_of, kept_of, line_bytes, piece_bytes}
 use Rattle.columns_run.specs.Plain.{IsPlain, IsPlainCharacter}
 use Rattle.columns_run.specs.Rows.{cell_parts}
 use Rattle.columns_run.specs.Wanted.{Wanted}
-use Rattle.columns_run.proofs.CellLemmas.{whole_cells, whole_text}
-use Rattle.columns_run.proofs.PieceLemmas.{line-left}
-use Rattle.columns_run.proofs.PlainLemmas.{bare, plain-space, shown-only}
-use Rattle.columns_run.proofs.TilingLemmas.{room}
+use Rattle.columns_run.proofs.Cells.{whole_cells, whole_text}
+use Rattle.columns_run.proofs.Pieces.{line-left}
+use Rattle.columns_run.proofs.Plain.{bare, plain-space, shown-only}
+use Rattle.columns_run.proofs.Tiling.{room}
 use Rattle.columns_run.specs.Widths.{least_columns, natural_columns, taken_columns}
 use Rattle.columns_bounds.proofs.TableBounds.{never-too_wide}
 use Rattle.columns_plain.specs.PlainInputs.{IsPlainInput}

@@ -4,15 +4,15 @@ use Rattle.std.specs.List.{AllByRecursion, join_by, onto_first, repeat, slice_sp
 use Rattle.std.proofs.Math.Seq.{take-append_seam}
 use Rattle.std.proofs.lemmas.Bool.Decides.{nat_tests}
 use Rattle.std.proofs.lemmas.List.{map-id}
-use Rattle.ansi_str_search.proofs.CharLemmas.{hold_both}
+use Rattle.ansi_str_search.proofs.Chars.{hold_both}
 use Rattle.grid_records_measure.specs.Cutting.{lacking, replacement}
 use Rattle.grid_records_measure.specs.Filling.{behind_front, fitting_front}
 use Rattle.grid_records_measure.specs.PlainCharacters.{is_plain_character}
 use Rattle.grid_records_measure.specs.TextLines.{is_line_feed, line_feed}
-use Rattle.grid_records_measure.proofs.FillingLemmas.{IsLongestFront-fitting_front}
-use Rattle.papergrid_picture.proofs.ShownLemmas.{All-drop, All-take}
+use Rattle.grid_records_measure.proofs.Filling.{IsLongestFront-fitting_front}
+use Rattle.papergrid_picture.proofs.Shown.{All-drop, All-take}
 use Rattle.tabled_size_cells.specs.Resizing.{Break, Cut, Keep, Resize, broken, broken_line, cell_width, cut, resized}
-use Rattle.tabled_size_cells.proofs.CharacterLemmas.{same}
+use Rattle.tabled_size_cells.proofs.Characters.{same}
 use Rattle.tabled_size_wrap.specs.Breaking.{run_cost}
 use Rattle.tabled_size_wrap.specs.Runs.{runs_of}
 use Rattle.tabled_size_wrap.specs.Showing.{unit_size}

@@ -11,13 +11,13 @@ use Rattle.grid_records_measure.specs.PlainCharacters.{is_plain_character}
 use Rattle.grid_records_measure.specs.Tabs.{tab}
 use Rattle.grid_records_measure.specs.TextLines.{is_line_feed, line_feed}
 use Rattle.papergrid_picture.specs.Shown.{ArePlainlyShown, IsPlainlyShown, IsWholeText, Styled, character_of, in_plain}
-use Rattle.papergrid_picture.proofs.ShownLemmas.{characters-styled, styled_of}
+use Rattle.papergrid_picture.proofs.Shown.{characters-styled, styled_of}
 use Rattle.tabled_size_cells.specs.Resizing.{Resize, resized, resized_text}
-use Rattle.tabled_size_cells.proofs.BridgeLemmas.{resized-shows}
-use Rattle.tabled_size_cells.proofs.CharacterLemmas.{resized-natural, same}
+use Rattle.tabled_size_cells.proofs.Bridges.{resized-shows}
+use Rattle.tabled_size_cells.proofs.Characters.{resized-natural, same}
 use Rattle.columns_run.specs.Rows.{cell_parts, row_texts, rows_of, without_empty_last}
-use Rattle.columns_run.proofs.CellLemmas.{Fails, slice_split-fails, slice_split-keeps, styled-cell_parts, whole_cells, whole_text}
-use Rattle.columns_run.proofs.SplitLemmas.{styled_characters}
+use Rattle.columns_run.proofs.Cells.{Fails, slice_split-fails, slice_split-keeps, styled-cell_parts, whole_cells, whole_text}
+use Rattle.columns_run.proofs.Splits.{styled_characters}
 use Rattle.columns_plain.specs.PlainInputs.{IsPlainInput}
 use Rattle.columns_plain.proofs.PlainCells.{IsPlain, IsPlainOrFeed, resized-shown}
 

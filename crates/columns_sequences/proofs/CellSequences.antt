@@ -16,29 +16,29 @@ use Rattle.ansi_str.specs.Cuts.{cut_part}
 use Rattle.ansi_str.specs.Parts.{before_place, from_place, split_part, through_place}
 use Rattle.ansi_str.specs.StyledText.{strip, style_after_all}
 use Rattle.ansi_str_search.specs.Lines.{IsClosedLine}
-use Rattle.ansi_str_search.proofs.DressedLemmas.{EachStands-through, NoneBroken-from, NoneBroken-through, dressed_pieces, pieces_of_part, rendition}
-use Rattle.ansi_str_search.proofs.PlaceLemmas.{EachStands-from}
-use Rattle.ansi_str_search.proofs.SliceLemmas.{strip-dressed_pieces}
+use Rattle.ansi_str_search.proofs.Dressed.{EachStands-through, NoneBroken-from, NoneBroken-through, dressed_pieces, pieces_of_part, rendition}
+use Rattle.ansi_str_search.proofs.Places.{EachStands-from}
+use Rattle.ansi_str_search.proofs.Slices.{strip-dressed_pieces}
 use Rattle.ansi_str_text.proofs.Stripping.{strip-without_escape}
 use Rattle.ansi_str_text.proofs.Utf8Pieces.{IsUtf8-shown_text}
 use Rattle.grid_records_measure.specs.Cutting.{lacking, replacement}
 use Rattle.grid_records_measure.specs.Filling.{behind_front, fitting_front}
 use Rattle.grid_records_measure.specs.TextLines.{line_feed, text_height, text_lines, text_width}
-use Rattle.grid_records_measure.proofs.LineLemmas.{lines-joined}
-use Rattle.grid_records_measure.proofs.TextLineLemmas.{length-text_lines, text_lines-are}
+use Rattle.grid_records_measure.proofs.Lines.{lines-joined}
+use Rattle.grid_records_measure.proofs.TextLines.{length-text_lines, text_lines-are}
 use Rattle.tabled_size_cells.specs.Resizing.{Break, Cut, Keep, Resize, resized_text}
 use Rattle.columns_sequences.proofs.CutLines.{cut-closed_line}
-use Rattle.tabled_size_cells.proofs.PlainTextLemmas.{IsFree, free-marks, free-none}
+use Rattle.tabled_size_cells.proofs.PlainTexts.{IsFree, free-marks, free-none}
 use Rattle.tabled_size_wrap.specs.Bytes.{cut_at, wrapped_text}
 use Rattle.tabled_size_wrap.specs.Runs.{broken_lines, has_room, runs_from, runs_of, used_behind, wrapped}
 use Rattle.tabled_size_wrap.specs.Showing.{Styled}
 use Rattle.tabled_size_wrap.specs.Units.{LineUnit, line_units, unit_len}
 use Rattle.tabled_size_wrap.specs.Wrapping.{line_part, replacement_bytes, run_len, shown_lines}
-use Rattle.tabled_size_wrap.proofs.FewestLemmas.{is-breaking}
-use Rattle.tabled_size_wrap.proofs.LongestLemmas.{runs-are}
-use Rattle.tabled_size_wrap.proofs.PartLemmas.{broken-shows}
-use Rattle.tabled_size_wrap.proofs.ShowLemmas.{ShowsLine, ShowsLine-closed, ShowsLine-nothing}
-use Rattle.tabled_size_wrap.proofs.UnitLemmas.{texts, texts-units}
+use Rattle.tabled_size_wrap.proofs.Fewest.{is-breaking}
+use Rattle.tabled_size_wrap.proofs.Longest.{runs-are}
+use Rattle.tabled_size_wrap.proofs.Parts.{broken-shows}
+use Rattle.tabled_size_wrap.proofs.Shows.{ShowsLine, ShowsLine-closed, ShowsLine-nothing}
+use Rattle.tabled_size_wrap.proofs.Units.{texts, texts-units}
 use Rattle.columns_sequences.proofs.LineSequences.{cut-whole, first-taken}
 use Rattle.columns_sequences.proofs.RunSequences.{lines-left, taken-both}
 use Rattle.columns_sequences.proofs.SequenceCounts.{taken-part, taken-sum, taken-through, taken_by, texts_take}

@@ -7,10 +7,10 @@ use Rattle.ansi_str_search.proofs.AllParts.{strip-styled_parts}
 use Rattle.ansi_str_search.proofs.StdSplits.{split_at_one_byte}
 use Rattle.grid_records_measure.specs.TextLines.{is_line_feed, line_feed}
 use Rattle.columns_run.specs.Rows.{cell_parts, parts_by_character, places, row_parts, stripped, tab}
-use Rattle.columns_run.proofs.CellLemmas.{Fails, closed_rows, slice_split-fails, slice_split-keeps, without_bare_last-keeps}
-use Rattle.columns_run.proofs.ItemLemmas.{AllByRecursion-map_of}
-use Rattle.columns_run.proofs.PlaceLemmas.{AreMatches-places}
-use Rattle.columns_run.proofs.SplitLemmas.{IsClosedPart, IsWholeText, closed-parts_by_character, whole-closed}
+use Rattle.columns_run.proofs.Cells.{Fails, closed_rows, slice_split-fails, slice_split-keeps, without_bare_last-keeps}
+use Rattle.columns_run.proofs.Items.{AllByRecursion-map_of}
+use Rattle.columns_run.proofs.Places.{AreMatches-places}
+use Rattle.columns_run.proofs.Splits.{IsClosedPart, IsWholeText, closed-parts_by_character, whole-closed}
 use Rattle.columns_sequences.proofs.CellSequences.{IsOneLine}
 
 abbrev NoLineFeeds : List ℕ → Type 0

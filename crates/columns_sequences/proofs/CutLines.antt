@@ -15,17 +15,17 @@ use Rattle.ansi_str.specs.Parts.{dressed, through_place}
 use Rattle.ansi_str.specs.StyledText.{strip}
 use Rattle.ansi_str.proofs.CutParts.{first_part-slice}
 use Rattle.ansi_str_search.specs.Lines.{IsClosedLine}
-use Rattle.ansi_str_search.proofs.DressedLemmas.{ArePiecesOf-dressed, EachStands-through, IsClosed-dressed, NoneBroken-through, dressed_pieces}
-use Rattle.ansi_str_search.proofs.SliceLemmas.{strip-dressed_pieces, strip-through}
+use Rattle.ansi_str_search.proofs.Dressed.{ArePiecesOf-dressed, EachStands-through, IsClosed-dressed, NoneBroken-through, dressed_pieces}
+use Rattle.ansi_str_search.proofs.Slices.{strip-dressed_pieces, strip-through}
 use Rattle.ansi_str_text.proofs.Stripping.{strip-without_escape}
 use Rattle.grid_records_measure.specs.Cutting.{lacking, replacement}
 use Rattle.grid_records_measure.specs.Filling.{behind_front, fitting_front}
-use Rattle.grid_records_measure.proofs.CutLemmas.{cut_at-meets}
+use Rattle.grid_records_measure.proofs.Cuts.{cut_at-meets}
 use Rattle.grid_records_measure.proofs.ShownCuts.{cut-shows}
-use Rattle.papergrid_picture.proofs.StrippedLemmas.{Leaves, Leaves-append, none-broken}
-use Rattle.tabled_size_cells.proofs.PlainTextLemmas.{free-marks, free-none}
+use Rattle.papergrid_picture.proofs.Stripped.{Leaves, Leaves-append, none-broken}
+use Rattle.tabled_size_cells.proofs.PlainTexts.{free-marks, free-none}
 use Rattle.tabled_size_wrap.specs.Bytes.{cut_at}
-use Rattle.tabled_size_wrap.proofs.ShowLemmas.{feeds, feeds-take}
+use Rattle.tabled_size_wrap.proofs.Shows.{feeds, feeds-take}
 
 no-feeds : (bytes others : List ℕ) → feeds bytes ≡ false → feeds others ≡ false → feeds (bytes ++ others) ≡ false
 no-feeds bytes others one two = list_any-append (λ byte. byte == 0x0a) bytes others ∙ ap (λ b. b || feeds others) one ∙ two

@@ -11,7 +11,7 @@ use Rattle.ansi_scan.specs.declared.items.Kind.TheVariants.{Text}
 use Rattle.ansi_scan.proofs.Existence.{ArePiecesOf-pieces}
 use Rattle.ansi_str.specs.StyledText.{strip}
 use Rattle.columns_asked.specs.Layout.{asked_widths, by_column, heights_of, kept_texts, narrowed, resize_in}
-use Rattle.columns_asked.proofs.TableLemmas.{kept-whole}
+use Rattle.columns_asked.proofs.Tables.{kept-whole}
 use Rattle.columns_colors.specs.ColumnColors.{cell_color, column_color}
 use Rattle.columns_options.specs.ColumnColors.{AllClose}
 use Rattle.grid_config.specs.Closing.{AreSequences}
@@ -20,11 +20,11 @@ use Rattle.grid_config.specs.Compact.{Compact}
 use Rattle.grid_config.specs.Looks.{Look, compact_look}
 use Rattle.grid_config_values.specs.declared.position.Position.{Position}
 use Rattle.grid_records_measure.specs.TextLines.{line_feed, line_measure, shown_lines, text_height, text_lines}
-use Rattle.grid_records_measure.proofs.TextLineLemmas.{length-text_lines}
+use Rattle.grid_records_measure.proofs.TextLines.{length-text_lines}
 use Rattle.grid_records_estimate.specs.Rows.{text_at}
 use Rattle.papergrid_colors.specs.ClosingColors.{ShowNothing, ShowsNothing}
 use Rattle.papergrid_colors.specs.ColoredLines.{with_painted_lines}
-use Rattle.papergrid_colors.proofs.LineLemmas.{none-shown}
+use Rattle.papergrid_colors.proofs.Lines.{none-shown}
 use Rattle.papergrid_picture.specs.Blocks.{Grid, Part}
 use Rattle.papergrid_picture.specs.CellLines.{cell_lines, cell_measures}
 use Rattle.papergrid_picture.specs.Frame.{column_count, line_count, row_count}
@@ -32,21 +32,21 @@ use Rattle.papergrid_picture.specs.Picture.{PlacedPart, at, parts_of, picture_li
 use Rattle.papergrid_picture.specs.Reading.{Reading, part_items}
 use Rattle.papergrid_picture.specs.Shown.{AreWholeTexts, IsShown, ShowsOnly}
 use Rattle.papergrid_picture.specs.Tables.{in_bytes, in_color, table_grid}
-use Rattle.papergrid_picture.proofs.ItemLemmas.{Anything, colored-anyhow}
-use Rattle.papergrid_picture.proofs.RelatedLemmas.{parts-hold}
-use Rattle.papergrid_picture.proofs.ShownLemmas.{IsClosedPart, IsShown-feed, IsShown-space, lines-closed_parts, pieces-nothing, whole-at}
-use Rattle.papergrid_picture.proofs.StrippedLemmas.{Leaves-append, Leaves-character}
+use Rattle.papergrid_picture.proofs.Items.{Anything, colored-anyhow}
+use Rattle.papergrid_picture.proofs.Related.{parts-hold}
+use Rattle.papergrid_picture.proofs.Shown.{IsClosedPart, IsShown-feed, IsShown-space, lines-closed_parts, pieces-nothing, whole-at}
+use Rattle.papergrid_picture.proofs.Stripped.{Leaves-append, Leaves-character}
 use Rattle.tabled_size_cells.specs.Resizing.{Resize, resized_text}
-use Rattle.tabled_size_wrap.proofs.ShowLemmas.{ShowsLine-closed, ShowsLine-nothing}
+use Rattle.tabled_size_wrap.proofs.Shows.{ShowsLine-closed, ShowsLine-nothing}
 use Rattle.columns_run.specs.Layout.{colored_line, grid_of, kept_of, output_of, piece_bytes}
 use Rattle.columns_run.specs.Plain.{IsPlain}
 use Rattle.columns_run.specs.Rows.{cell_parts}
 use Rattle.columns_run.specs.Wanted.{Wanted}
-use Rattle.columns_run.proofs.ByteLemmas.{output-lines}
-use Rattle.columns_run.proofs.CellLemmas.{whole_cells, whole_text}
-use Rattle.columns_run.proofs.ColorLemmas.{cells-silent, painted-is}
-use Rattle.columns_run.proofs.PlainLemmas.{bare}
-use Rattle.columns_run.proofs.TilingLemmas.{seen-itself}
+use Rattle.columns_run.proofs.Bytes.{output-lines}
+use Rattle.columns_run.proofs.Cells.{whole_cells, whole_text}
+use Rattle.columns_run.proofs.Colors.{cells-silent, painted-is}
+use Rattle.columns_run.proofs.Plain.{bare}
+use Rattle.columns_run.proofs.Tiling.{seen-itself}
 use Rattle.columns_sequences.specs.Bounds.{count_cell_lines as count_lines, color_around, color_bytes, row_colors, sequence_bytes}
 use Rattle.columns_sequences.proofs.CellSequences.{IsOneLine, one-line, resized-taken}
 use Rattle.columns_sequences.proofs.CellSums.{all-by, row_sum, rows_sum}

@@ -9,7 +9,7 @@ use Rattle.grid_config_values.specs.declared.position.Position.{Position}
 use Rattle.papergrid_picture.specs.Blocks.{Content, Fill, Glyph, Grid, Part, TextLine, block, fill, free_above, text_line}
 use Rattle.papergrid_picture.specs.Frame.{Boundary, Outside, Place, Row, Tracks, block_height, block_width, boundary_at, column_count, line_count, place, row_count, thickness, track_at}
 use Rattle.papergrid_picture.specs.Picture.{PlacedPart, across, along, at, blank, block_pieces, boundary_part, corner, edge, laid, margin_line, picture_line, pieces_at, row_part, seen, upright}
-use Rattle.papergrid_picture.proofs.FrameLemmas.{boundary-first, boundary-next, place-above, place-below, place-boundary, place-row}
+use Rattle.papergrid_picture.proofs.Frames.{boundary-first, boundary-next, place-above, place-below, place-boundary, place-row}
 
 -- ---- sums over numbers
 

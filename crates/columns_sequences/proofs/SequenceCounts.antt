@@ -13,10 +13,10 @@ use Rattle.ansi_str.specs.Parts.{before_place, from_place, front_of, piece_from,
 use Rattle.ansi_str.specs.StyledText.{strip, style_after_all, text_of}
 use Rattle.ansi_str.specs.Walking.{sequence_of, sequences}
 use Rattle.ansi_str.proofs.CutParts.{sequences-sequence, sequences-text}
-use Rattle.ansi_str_search.proofs.DressedLemmas.{cut, dressed_pieces, joined-renditions, long, pieces_of_part, rendition, renditions, short}
-use Rattle.ansi_str_search.proofs.PartLemmas.{text_of-sequence, text_of-text}
-use Rattle.ansi_str_search.proofs.PlaceLemmas.{from-inside, from-past, has_text, through-inside, through-past}
-use Rattle.ansi_str_search.proofs.SliceLemmas.{strip-renditions}
+use Rattle.ansi_str_search.proofs.Dressed.{cut, dressed_pieces, joined-renditions, long, pieces_of_part, rendition, renditions, short}
+use Rattle.ansi_str_search.proofs.Parts.{text_of-sequence, text_of-text}
+use Rattle.ansi_str_search.proofs.Places.{from-inside, from-past, has_text, through-inside, through-past}
+use Rattle.ansi_str_search.proofs.Slices.{strip-renditions}
 
 -- the bytes of the sequences of some pieces
 abbrev pub taken_by : List Piece → ℕ

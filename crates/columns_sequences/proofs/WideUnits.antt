@@ -11,8 +11,8 @@ use Rattle.tabled_size_wrap.specs.Breaking.{FitsRun, run_cost}
 use Rattle.tabled_size_wrap.specs.Runs.{runs_of}
 use Rattle.tabled_size_wrap.specs.Units.{LineUnit, character_unit, is_space, line_units, space_unit, word_units}
 use Rattle.tabled_size_wrap.specs.Wrapping.{from_wide, is_narrow, narrow_front}
-use Rattle.tabled_size_wrap.proofs.FewestLemmas.{is-breaking}
-use Rattle.tabled_size_wrap.proofs.LongestLemmas.{runs-are}
+use Rattle.tabled_size_wrap.proofs.Fewest.{is-breaking}
+use Rattle.tabled_size_wrap.proofs.Longest.{runs-are}
 
 module _ (width : ℕ) where
   -- a unit behind one that costs more than the width costs something

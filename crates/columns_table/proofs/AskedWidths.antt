@@ -13,19 +13,19 @@ use Rattle.grid_records_traits.specs.Rows.{fitted, text_at}
 use Rattle.grid_records_estimate.specs.Sizing.{column_axis, compact_sizing}
 use Rattle.grid_records_estimate.specs.Totals.{total}
 use Rattle.grid_records_estimate.proofs.Lengths.{length-fitted}
-use Rattle.grid_records_estimate.proofs.RoomLemmas.{LeaveRoom-widths}
+use Rattle.grid_records_estimate.proofs.Rooms.{LeaveRoom-widths}
 use Rattle.papergrid_picture.specs.Fitting.{table_width}
 use Rattle.papergrid_picture.specs.Frame.{Frame, frame_of}
 use Rattle.papergrid_picture.specs.Picture.{at}
 use Rattle.columns_asked.specs.Layout.{asked_frame, column_count, frame_under, heights_of, kept_texts, narrow, narrowed, paddings, widths_of}
 use Rattle.columns_asked.specs.Shrunk.{shrunk_list}
 use Rattle.columns_asked.specs.declared.asked.Asked.{Asked}
-use Rattle.columns_asked.proofs.NarrowLemmas.{narrowed-none, shrunk-leaves, shrunk-length}
-use Rattle.columns_asked.proofs.ShrunkLemmas.{shrunk_list-meets}
+use Rattle.columns_asked.proofs.Narrows.{narrowed-none, shrunk-leaves, shrunk-length}
+use Rattle.columns_asked.proofs.Shrunk.{shrunk_list-meets}
 use Rattle.columns_table.specs.Asking.{narrowest_frame}
-use Rattle.columns_table.proofs.NarrowedLemmas.{frame-is, frame-natural, some-heights-kept, some-of-table}
-use Rattle.columns_table.proofs.NaturalLemmas.{positive-none}
-use Rattle.columns_table.proofs.SizeLemmas.{height-each, width-each, width-total}
+use Rattle.columns_table.proofs.Narrowed.{frame-is, frame-natural, some-heights-kept, some-of-table}
+use Rattle.columns_table.proofs.Natural.{positive-none}
+use Rattle.columns_table.proofs.Sizes.{height-each, width-each, width-total}
 
 -- ---- sums
 

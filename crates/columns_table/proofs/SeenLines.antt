@@ -15,7 +15,7 @@ use Rattle.grid_records_measure.specs.TextLines.{line_feed, line_measure, shown_
 use Rattle.grid_records_traits.specs.Rows.{fitted, text_at}
 use Rattle.grid_records_estimate.specs.Sizing.{compact_sizing, row_axis}
 use Rattle.grid_records_estimate.proofs.Lengths.{length-fitted}
-use Rattle.grid_records_estimate.proofs.RoomLemmas.{LeaveRoom-heights}
+use Rattle.grid_records_estimate.proofs.Rooms.{LeaveRoom-heights}
 use Rattle.papergrid_fits.proofs.Estimated.{text_at-fitted}
 use Rattle.papergrid_picture.specs.Blocks.{Grid, Part, block, text_line}
 use Rattle.papergrid_picture.specs.CellLines.{cell_measures}
@@ -26,9 +26,9 @@ use Rattle.papergrid_picture.specs.Tiling.{IsLineOf, ShowsAllLines}
 use Rattle.columns_asked.specs.Layout.{asked_frame, asked_widths, column_count as count_columns, heights_of, kept_texts, narrowed}
 use Rattle.columns_asked.specs.declared.asked.Asked.{Asked}
 use Rattle.columns_table.specs.Asking.{asked_grid}
-use Rattle.columns_table.proofs.NarrowedLemmas.{kept-columns, kept-natural, widths-are, widths-natural}
-use Rattle.columns_table.proofs.NaturalLemmas.{positive-none}
-use Rattle.columns_table.proofs.SizeLemmas.{height-each, width-each}
+use Rattle.columns_table.proofs.Narrowed.{kept-columns, kept-natural, widths-are, widths-natural}
+use Rattle.columns_table.proofs.Natural.{positive-none}
+use Rattle.columns_table.proofs.Sizes.{height-each, width-each}
 
 -- ---- a cell by its lines
 

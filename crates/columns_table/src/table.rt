@@ -135,7 +135,8 @@ fn write_narrowed<W: Write>(
     requires beside { paddings (compact_of style.now) < 2 ^ 64 }
     requires narrowed { narrowed (compact_of style.now) asked.now (row_texts_of rows) ≡ Some widths.items }
     ensures table { Passes W.contents (colored_text (compact_of style.now) asked.now (cell_color colors.now) (row_texts_of rows.entry)) result [] writer.old writer.new }
-    ensures alone { ¬ (InRange (asked_frame (compact_of style.now) asked.now (row_texts_of rows.entry)) × (too_wide (compact_of style.now) asked.now (row_texts_of rows.entry) ≡ None)) → writer.new ≡ writer.old }
+    ensures alone { ¬ (InRange (asked_frame (compact_of style.now) asked.now (row_texts_of rows.entry))
+        × (too_wide (compact_of style.now) asked.now (row_texts_of rows.entry) ≡ None)) → writer.new ≡ writer.old }
     ensures range { OnOk result (InRange (asked_frame (compact_of style.now) asked.now (row_texts_of rows.entry))) }
     ensures room { OnOk result (too_wide (compact_of style.now) asked.now (row_texts_of rows.entry) ≡ None) }
     ensures refused { IfErr result (λ fault. (fault ≡ Memory)
@@ -163,7 +164,9 @@ fn write_where_fits<R: ExactRecords + PeekableRecords, W: Write>(
     writer: &mut Counted<W>,
 ) -> Result<Result<(), WriteFault>, Fault>
     requires { sizes.lines ≢ 0 → AreSizesOf sizes (R.columns records.now) (length (R.rows records.now)) }
-    ensures text { Passes W.contents (if sizes.lines == 0 then [] else grid_text (look_of settings.now) (slice_index sizes.widths.items) (slice_index sizes.heights.items) (cell_color colors.now) (R.columns records.now) (R.rows records.now) ++ line_feed ∷ []) result [] writer.old writer.new }
+    ensures text { Passes W.contents (if sizes.lines == 0 then [] else grid_text (look_of settings.now) (slice_index sizes.widths.items)
+        (slice_index sizes.heights.items) (cell_color colors.now) (R.columns records.now) (R.rows records.now) ++ line_feed
+        ∷ []) result [] writer.old writer.new }
     ensures alone { ¬ (CanBeDrawn settings.now (slice_index sizes.widths.items) (slice_index sizes.heights.items) (R.columns records.now) (R.rows records.now)) → writer.new ≡ writer.old }
     ensures fits { OnOk result (CanBeDrawn settings.now (slice_index sizes.widths.items) (slice_index sizes.heights.items) (R.columns records.now) (R.rows records.now)) }
     ensures refused { IfErr result (λ fault. (fault ≡ Memory)
@@ -184,7 +187,9 @@ fn write_grid<R: ExactRecords + PeekableRecords, W: Write>(
 ) -> Result<Result<(), WriteFault>, Fault>
     requires fits { sizes.lines ≢ 0 → CanBeDrawn settings.now (slice_index sizes.widths.items) (slice_index sizes.heights.items) (R.columns records.now) (R.rows records.now) }
     requires listed { sizes.lines ≢ 0 → AreSizesOf sizes (R.columns records.now) (length (R.rows records.now)) }
-    ensures text { Passes W.contents (if sizes.lines == 0 then [] else grid_text (look_of settings.now) (slice_index sizes.widths.items) (slice_index sizes.heights.items) (cell_color colors.now) (R.columns records.now) (R.rows records.now) ++ line_feed ∷ []) result [] writer.old writer.new }
+    ensures text { Passes W.contents (if sizes.lines == 0 then [] else grid_text (look_of settings.now) (slice_index sizes.widths.items)
+        (slice_index sizes.heights.items) (cell_color colors.now) (R.columns records.now) (R.rows records.now) ++ line_feed
+        ∷ []) result [] writer.old writer.new }
     ensures refused { IfErr result (λ fault. fault ≡ Memory) }
 {
     if sizes.lines == 0 {

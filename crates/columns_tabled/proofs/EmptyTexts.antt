@@ -6,7 +6,7 @@ use Rattle.std.proofs.lemmas.Bool.Decides.{nat_tests}
 use Rattle.ansi_scan.specs.Pieces.{pieces}
 use Rattle.grid_records_measure.specs.Measures.{columns}
 use Rattle.grid_records_measure.specs.TextLines.{shown_lines, text_width}
-use Rattle.papergrid_picture.proofs.ShownLemmas.{pieces-nothing}
+use Rattle.papergrid_picture.proofs.Shown.{pieces-nothing}
 use Rattle.tabled_size_cells.specs.Resizing.{Break, Cut, Keep, Resize, resized_text}
 use Rattle.tabled_size_wrap.specs.Bytes.{cut_at, wrapped_text}
 use Rattle.tabled_size_wrap.specs.Staying.{line_stays}

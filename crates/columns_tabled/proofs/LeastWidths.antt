@@ -13,8 +13,8 @@ use Rattle.grid_records_measure.specs.TextLines.{text_width}
 use Rattle.grid_records_traits.specs.Rows.{fitted}
 use Rattle.tabled_width_tables.specs.Rooms.{least_widths}
 use Rattle.columns_asked.specs.Layout.{column_count, paddings}
-use Rattle.columns_asked.proofs.NarrowLemmas.{map-below}
-use Rattle.columns_table.proofs.LeastLemmas.{map-from, single-sizes}
+use Rattle.columns_asked.proofs.Narrows.{map-below}
+use Rattle.columns_table.proofs.Leasts.{map-from, single-sizes}
 use Rattle.columns_bounds.proofs.CellBounds.{nothing-measures}
 use Rattle.columns_tabled.proofs.FilledRows.{texts-same}
 use Rattle.columns_tabled.proofs.SameSizes.{widths-same}

@@ -34,12 +34,12 @@ use Rattle.tabled_size_dimension.specs.declared.suffix.SuffixLimit.{SuffixLimit}
 use Rattle.tabled_text.specs.Rows.{filled}
 use Rattle.tabled_width_texts.specs.Breaking.{breaking}
 use Rattle.tabled_width_texts.specs.Cutting.{truncating}
-use Rattle.columns_colors.proofs.TableLemmas.{text-uncolored}
+use Rattle.columns_colors.proofs.Tables.{text-uncolored}
 use Rattle.columns_run.specs.Layout.{output_of}
-use Rattle.columns_run.proofs.ColorLemmas.{output-uncolored}
+use Rattle.columns_run.proofs.Colors.{output-uncolored}
 use Rattle.columns_run.specs.Rows.{cell_parts}
 use Rattle.columns_run.specs.Wanted.{Wanted}
-use Rattle.columns_table.proofs.NarrowedLemmas.{some-of-table}
+use Rattle.columns_table.proofs.Narrowed.{some-of-table}
 use Rattle.columns_tabled.specs.Tables.{ended_table, table_of}
 use Rattle.columns_tabled.proofs.FilledRows.{filled-is, long-fitted}
 use Rattle.columns_tabled.proofs.FilledTables.{text-filled}
@@ -54,14 +54,14 @@ use Rattle.tabled_width_tables.specs.Rooms.{boundaries_between, cell_width, colu
 use Rattle.tabled_width_tables.specs.Tables.{Drawn, NarrowsTable, has_cells, keeping, narrowed_state as narrowed_table}
 use Rattle.tabled_width_tables.specs.Widths.{table_width as columns_width}
 use Rattle.tabled.specs.Narrowed.{GivesOnly}
-use Rattle.columns_asked.proofs.NarrowLemmas.{narrowed-none, shrunk-length}
-use Rattle.columns_asked.proofs.ShrunkLemmas.{shrunk_list-meets, shrunk_list-one}
+use Rattle.columns_asked.proofs.Narrows.{narrowed-none, shrunk-length}
+use Rattle.columns_asked.proofs.Shrunk.{shrunk_list-meets, shrunk_list-one}
 use Rattle.columns_asked.specs.declared.asked.Asked.{Asked}
 use Rattle.columns_asked.specs.Layout.{asked_text, asked_widths, by_column, column_count, ended, frame_under, heights_of, narrow, narrowed, paddings, resize_in, widths_of}
 use Rattle.columns_asked.specs.Shrunk.{shrunk_list}
 use Rattle.columns_table.proofs.AskedWidths.{one-taken, padded}
-use Rattle.columns_table.proofs.NarrowedLemmas.{kept-is, text-natural, widths-are}
-use Rattle.columns_table.proofs.SizeLemmas.{height-each, width-each, width-total}
+use Rattle.columns_table.proofs.Narrowed.{kept-is, text-natural, widths-are}
+use Rattle.columns_table.proofs.Sizes.{height-each, width-each, width-total}
 use Rattle.columns_bounds.proofs.TableBounds.{least-is as least-at, narrow-keeps}
 use Rattle.columns_tabled.specs.Tables.{AreEquallyLong, table_under}
 use Rattle.columns_tabled.proofs.FilledTables.{length-each}

@@ -15,7 +15,7 @@ use Rattle.grid_records_traits.specs.TextLines.{text_height, text_width}
 use Rattle.tabled_steps.specs.Sizes.{column_axis as column_axis_of, is_seen, natural_heights, natural_widths, row_axis as row_axis_of}
 use Rattle.tabled_steps.specs.States.{column_count as first_count}
 use Rattle.columns_asked.specs.Layout.{column_count}
-use Rattle.columns_run.proofs.TilingLemmas.{seen-itself}
+use Rattle.columns_run.proofs.Tiling.{seen-itself}
 use Rattle.columns_tabled.specs.Tables.{AreEquallyLong}
 
 -- ---- as many columns

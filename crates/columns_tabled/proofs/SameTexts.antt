@@ -18,12 +18,12 @@ use Rattle.tabled_steps.specs.States.{State, column_count as first_count}
 use Rattle.tabled_stripping.specs.Printing.{drawn_frame, drawn_heights, drawn_widths, printed}
 use Rattle.columns_asked.specs.Layout.{column_count, ended, frame_under, heights_of, narrow, narrowed, widths_of}
 use Rattle.columns_table.specs.Answers.{natural_text}
-use Rattle.columns_table.proofs.NarrowedLemmas.{text-natural}
-use Rattle.columns_table.proofs.SizeLemmas.{height-each, width-each}
+use Rattle.columns_table.proofs.Narrowed.{text-natural}
+use Rattle.columns_table.proofs.Sizes.{height-each, width-each}
 use Rattle.papergrid_picture.specs.Fitting.{table_width}
-use Rattle.columns_colors.proofs.TableLemmas.{text-uncolored}
+use Rattle.columns_colors.proofs.Tables.{text-uncolored}
 use Rattle.columns_run.specs.Layout.{output_of}
-use Rattle.columns_run.proofs.ColorLemmas.{output-uncolored}
+use Rattle.columns_run.proofs.Colors.{output-uncolored}
 use Rattle.columns_run.specs.Rows.{cell_parts}
 use Rattle.columns_run.specs.Wanted.{Wanted}
 use Rattle.columns_tabled.specs.Tables.{AreEquallyLong, ended_table, table_of, table_under}

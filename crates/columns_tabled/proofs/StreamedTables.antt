@@ -19,7 +19,7 @@ use Rattle.grid_records_measure.specs.TextLines.{is_line_feed, line_feed, text_h
 use Rattle.grid_records_rows.specs.Truncating.{next_column, truncated_row, truncated_rows}
 use Rattle.grid_records_traits.specs.Rows.{fitted, fitted_row}
 use Rattle.grid_records_traits.proofs.FittedRows.{length-fitted_row}
-use Rattle.papergrid_picture.proofs.ShownLemmas.{pieces-nothing}
+use Rattle.papergrid_picture.proofs.Shown.{pieces-nothing}
 use Rattle.papergrid_picture.specs.Frame.{frame_of}
 use Rattle.papergrid_picture.specs.Fitting.{table_width}
 use Rattle.papergrid_picture.specs.Tables.{sizes_of, table_text}
@@ -27,16 +27,16 @@ use Rattle.tabled_compact.specs.Columns.{column_width, text_in}
 use Rattle.tabled_iter.specs.Content.{row_height}
 use Rattle.tabled_iter.specs.Tables.{Streamed, column_count as stream_columns, content_widths, frame, height_at, printed, shown_rows, sniffed, width_at}
 use Rattle.tabled_size_dimension.specs.Sizes.{given_size}
-use Rattle.columns_asked.proofs.NarrowLemmas.{map-below}
+use Rattle.columns_asked.proofs.Narrows.{map-below}
 use Rattle.columns_asked.specs.Layout.{column_count, ended, frame_under, heights_of, narrow, narrowed, widths_of}
-use Rattle.columns_colors.proofs.TableLemmas.{text-uncolored}
+use Rattle.columns_colors.proofs.Tables.{text-uncolored}
 use Rattle.columns_run.specs.Layout.{output_of}
-use Rattle.columns_run.proofs.ColorLemmas.{output-uncolored}
+use Rattle.columns_run.proofs.Colors.{output-uncolored}
 use Rattle.columns_run.specs.Rows.{cell_parts}
 use Rattle.columns_run.specs.Wanted.{Wanted}
-use Rattle.columns_table.proofs.LeastLemmas.{map-from, single-sizes}
-use Rattle.columns_table.proofs.NarrowedLemmas.{text-natural}
-use Rattle.columns_table.proofs.SizeLemmas.{high-wide, width-each}
+use Rattle.columns_table.proofs.Leasts.{map-from, single-sizes}
+use Rattle.columns_table.proofs.Narrowed.{text-natural}
+use Rattle.columns_table.proofs.Sizes.{high-wide, width-each}
 use Rattle.columns_table.specs.Answers.{natural_text}
 use Rattle.columns_tabled.specs.Tables.{ended_stream, sniffing}
 use Rattle.columns_tabled.proofs.AlikeTexts.{text-alike}

@@ -29,17 +29,17 @@ use Rattle.tabled_width_tables.specs.Tables.{Drawn, Narrows, NarrowsTable, Shrun
 use Rattle.tabled_width_tables.specs.Widths.{table_width as columns_width}
 use Rattle.tabled_width_texts.specs.Breaking.{breaking}
 use Rattle.tabled_width_texts.specs.Cutting.{truncating}
-use Rattle.columns_asked.proofs.ShrunkLemmas.{shrunk_list-meets}
+use Rattle.columns_asked.proofs.Shrunk.{shrunk_list-meets}
 use Rattle.columns_asked.specs.declared.asked.Asked.{Asked}
 use Rattle.columns_asked.specs.Layout.{AskedFits, column_count, frame_under, heights_of, paddings, widths_of}
 use Rattle.columns_asked.specs.Shrunk.{shrunk_list}
-use Rattle.columns_run.proofs.CellLemmas.{whole_text}
-use Rattle.columns_run.proofs.TableLemmas.{fits-same}
+use Rattle.columns_run.proofs.Cells.{whole_text}
+use Rattle.columns_run.proofs.Tables.{fits-same}
 use Rattle.columns_run.specs.Rows.{cell_parts}
 use Rattle.columns_run.specs.Run.{HasTable}
 use Rattle.columns_run.specs.Wanted.{Wanted}
 use Rattle.columns_table.proofs.AskedWidths.{padded}
-use Rattle.columns_table.proofs.SizeLemmas.{one-too_great}
+use Rattle.columns_table.proofs.Sizes.{one-too_great}
 use Rattle.columns_tabled.specs.Tables.{AreEquallyLong, table_of, table_under}
 use Rattle.columns_tabled.proofs.FilledRows.{filled-is, long-fitted}
 use Rattle.columns_tabled.proofs.FilledTables.{frame-filled}

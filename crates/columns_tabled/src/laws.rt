@@ -46,8 +46,10 @@ pub fn both_programs_draw_one_table()
 pub fn both_programs_narrow_one_table()
     ensures wrapped { (wanted : Wanted) (input : List ℕ) (width : ℕ) (left : State) → wanted.asked.width ≡ Some width → wanted.colors ≡ [] → wanted.asked.truncate ≡ false →
         setting_step (BreakTable (Exact width) wanted.asked.keep_words wanted.asked.priority) (table_of wanted input) (Ok left) → output_of wanted input ≡ ended_table left }
-    ensures cut { (wanted : Wanted) (input : List ℕ) (width : ℕ) (suffix : String Heap) (limit : SuffixLimit) (try_color : Bool) (left : State) → wanted.asked.width ≡ Some width → wanted.colors ≡ [] → wanted.asked.truncate ≡ true →
-        string_bytes suffix ≡ [] → setting_step (CutTable (Exact width) suffix limit false try_color wanted.asked.priority) (table_of wanted input) (Ok left) → output_of wanted input ≡ ended_table left }
+    ensures cut { (wanted : Wanted) (input : List ℕ) (width : ℕ) (suffix : String Heap) (limit : SuffixLimit) (try_color : Bool)
+        (left : State) → wanted.asked.width ≡ Some width → wanted.colors ≡ [] → wanted.asked.truncate ≡ true →
+        string_bytes suffix ≡ [] → setting_step (CutTable (Exact width) suffix limit false try_color wanted.asked.priority)
+        (table_of wanted input) (Ok left) → output_of wanted input ≡ ended_table left }
     ensures wrap_is_taken { (wanted : Wanted) (input : List ℕ) (width : ℕ) → HasTable wanted input →
         (left : State) × setting_step (BreakTable (Exact width) wanted.asked.keep_words wanted.asked.priority) (table_of wanted input) (Ok left) }
     ensures cut_is_taken { (wanted : Wanted) (input : List ℕ) (width : ℕ) (suffix : String Heap) (limit : SuffixLimit) (try_color : Bool) → HasTable wanted input →
@@ -63,12 +65,16 @@ pub fn both_programs_narrow_by_options<
     P: Peaker + Drop,
 >()
     ensures wrapped { (option : OneWrap W P) (wanted : Wanted) (input : List ℕ) (width : ℕ) (left : State) → wanted.asked.width ≡ Some width → wanted.colors ≡ [] → wanted.asked.truncate ≡ false →
-        (wrapping option).keep_words ≡ wanted.asked.keep_words → IsNamed P.shrinks P.grows (wrapping option).priority wanted.asked.priority → GivesOnly (W.measures (wrapping option).width) (table_of wanted input) width →
-        Settles (Some (OneRow 0)) (⟦<Wrap<W, P> as TableOption<VecRecords<T>, ColoredConfig, CompleteDimension>>⟧.step option) (table_of wanted input) (Ok left) → output_of wanted input ≡ ended_table left }
+        (wrapping option).keep_words ≡ wanted.asked.keep_words →
+        IsNamed P.shrinks P.grows (wrapping option).priority wanted.asked.priority →
+        GivesOnly (W.measures (wrapping option).width) (table_of wanted input) width →
+        Settles (Some (OneRow 0)) (⟦<Wrap<W, P> as TableOption<VecRecords<T>, ColoredConfig, CompleteDimension>>⟧.step option)
+        (table_of wanted input) (Ok left) → output_of wanted input ≡ ended_table left }
     ensures cut { (option : OneTruncate W P) (wanted : Wanted) (input : List ℕ) (width : ℕ) (left : State) → wanted.asked.width ≡ Some width → wanted.colors ≡ [] → wanted.asked.truncate ≡ true →
         IsNamed P.shrinks P.grows (truncation option).priority wanted.asked.priority → GivesOnly (W.measures (truncation option).width) (table_of wanted input) width →
         (truncation option).cutting.suffix ≡ [] → (truncation option).cutting.multiline ≡ false →
-        Settles None (⟦<Truncate<'a, W, P> as TableOption<VecRecords<T>, ColoredConfig, CompleteDimension>>⟧.step option) (table_of wanted input) (Ok left) → output_of wanted input ≡ ended_table left }
+        Settles None (⟦<Truncate<'a, W, P> as TableOption<VecRecords<T>, ColoredConfig, CompleteDimension>>⟧.step option)
+        (table_of wanted input) (Ok left) → output_of wanted input ≡ ended_table left }
 {}
 
 /// The library's own priorities and numbers are such: each priority, before it is used, is one of its name, and a number
@@ -78,7 +84,8 @@ pub fn own_priorities_and_numbers_serve()
     ensures left { (priority : OneLeft) → IsNamed ⟦<PriorityLeft as Peaker>⟧.shrinks ⟦<PriorityLeft as Peaker>⟧.grows priority Left }
     ensures right { (priority : OneRight) → IsNamed ⟦<PriorityRight as Peaker>⟧.shrinks ⟦<PriorityRight as Peaker>⟧.grows priority Right }
     ensures widest { IsNamed ⟦<PriorityMax as Peaker>⟧.shrinks ⟦<PriorityMax as Peaker>⟧.grows false MaxLeft × IsNamed ⟦<PriorityMax as Peaker>⟧.shrinks ⟦<PriorityMax as Peaker>⟧.grows true MaxRight }
-    ensures narrowest { IsNamed ⟦<PriorityMin as Peaker>⟧.shrinks ⟦<PriorityMin as Peaker>⟧.grows false MinLeft × IsNamed ⟦<PriorityMin as Peaker>⟧.shrinks ⟦<PriorityMin as Peaker>⟧.grows true MinRight }
+    ensures narrowest { IsNamed ⟦<PriorityMin as Peaker>⟧.shrinks ⟦<PriorityMin as Peaker>⟧.grows false MinLeft
+        × IsNamed ⟦<PriorityMin as Peaker>⟧.shrinks ⟦<PriorityMin as Peaker>⟧.grows true MinRight }
     ensures numbers { (s : State) (width : ℕ) → GivesOnly (⟦<usize as Measurement<Width>>⟧.measures width) s width }
 {}
 

@@ -1,4 +1,4 @@
-pub mod ColumnsLemmas
-pub mod PassedLemmas
-pub mod StyleLemmas
-pub mod ColorLemmas
+pub mod Columns
+pub mod Passed
+pub mod Styles
+pub mod Colors

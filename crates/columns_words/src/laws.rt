@@ -19,12 +19,19 @@ pub fn the_command_is_columns()
 /// Lines that ask for a run, with the values that they give.
 pub fn words_are_taken()
     ensures nothing { Gives [] (None ∷ Some (codes "false") ∷ Some (codes "false") ∷ Some (codes "none") ∷ Some (codes "ascii") ∷ Some (codes "false") ∷ None ∷ []) }
-    ensures narrowed { Gives (codes "--width" ∷ codes "6" ∷ codes "--truncate" ∷ codes "--priority" ∷ codes "max" ∷ []) (Some (codes "6") ∷ Some (codes "true") ∷ Some (codes "false") ∷ Some (codes "max") ∷ Some (codes "ascii") ∷ Some (codes "false") ∷ None ∷ []) }
-    ensures attached { Gives (codes "--keep-words" ∷ codes "--width=0" ∷ []) (Some (codes "0") ∷ Some (codes "false") ∷ Some (codes "true") ∷ Some (codes "none") ∷ Some (codes "ascii") ∷ Some (codes "false") ∷ None ∷ []) }
-    ensures greatest { Gives (codes "--width" ∷ codes "4294967295" ∷ []) (Some (codes "4294967295") ∷ Some (codes "false") ∷ Some (codes "false") ∷ Some (codes "none") ∷ Some (codes "ascii") ∷ Some (codes "false") ∷ None ∷ []) }
-    ensures colored { Gives (codes "--color" ∷ codes "0=red,2=bold" ∷ []) (None ∷ Some (codes "false") ∷ Some (codes "false") ∷ Some (codes "none") ∷ Some (codes "ascii") ∷ Some (codes "false") ∷ Some (codes "0=red,2=bold") ∷ []) }
+    ensures narrowed { Gives (codes "--width" ∷ codes "6" ∷ codes "--truncate" ∷ codes "--priority" ∷ codes "max" ∷ [])
+        (Some (codes "6") ∷ Some (codes "true") ∷ Some (codes "false") ∷ Some (codes "max") ∷ Some (codes "ascii")
+        ∷ Some (codes "false") ∷ None ∷ []) }
+    ensures attached { Gives (codes "--keep-words" ∷ codes "--width=0" ∷ []) (Some (codes "0") ∷ Some (codes "false") ∷ Some (codes "true")
+        ∷ Some (codes "none") ∷ Some (codes "ascii") ∷ Some (codes "false") ∷ None ∷ []) }
+    ensures greatest { Gives (codes "--width" ∷ codes "4294967295" ∷ []) (Some (codes "4294967295") ∷ Some (codes "false")
+        ∷ Some (codes "false") ∷ Some (codes "none") ∷ Some (codes "ascii") ∷ Some (codes "false") ∷ None ∷ []) }
+    ensures colored { Gives (codes "--color" ∷ codes "0=red,2=bold" ∷ []) (None ∷ Some (codes "false") ∷ Some (codes "false")
+        ∷ Some (codes "none") ∷ Some (codes "ascii") ∷ Some (codes "false") ∷ Some (codes "0=red,2=bold") ∷ []) }
     ensures no_list { Gives (codes "--color=" ∷ []) (None ∷ Some (codes "false") ∷ Some (codes "false") ∷ Some (codes "none") ∷ Some (codes "ascii") ∷ Some (codes "false") ∷ Some [] ∷ []) }
-    ensures streamed { Gives (codes "--streamed" ∷ codes "--style" ∷ codes "modern" ∷ []) (None ∷ Some (codes "false") ∷ Some (codes "false") ∷ Some (codes "none") ∷ Some (codes "modern") ∷ Some (codes "true") ∷ None ∷ []) }
+    ensures streamed { Gives (codes "--streamed" ∷ codes "--style" ∷ codes "modern" ∷ [])
+        (None ∷ Some (codes "false") ∷ Some (codes "false") ∷ Some (codes "none") ∷ Some (codes "modern")
+        ∷ Some (codes "true") ∷ None ∷ []) }
 {}
 
 /// Lines that the command does not take, with the kind of their fault.

@@ -9,7 +9,8 @@ ghost use Rattle.grid_config_values.specs.Settings.{IsUnchanged, SetsCovered, va
 ghost use Rattle.grid_config.specs.Compact.{compact_of};
 ghost use Rattle.grid_config.specs.Looks.{look_of};
 ghost use Rattle.grid_config.specs.Settings.{AreUniform, IsUncolored, KeepsOthers, StartsWith, compact_start, new_start};
-ghost use Rattle.grid_config.specs.Settings.{Margin, MarginColor, BorderGlyphs, BorderColors, Padding, PaddingColor, HorizontalAlignment, VerticalAlignment, LineAlignment, TrimHorizontal, TrimVertical, Justification, JustificationColor, CellSpans};
+ghost use Rattle.grid_config.specs.Settings.{Margin, MarginColor, BorderGlyphs, BorderColors, Padding, PaddingColor, HorizontalAlignment,
+    VerticalAlignment, LineAlignment, TrimHorizontal, TrimVertical, Justification, JustificationColor, CellSpans};
 
 use crate::cells::CellSettings;
 use crate::compact::CompactConfig;

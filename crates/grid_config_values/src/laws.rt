@@ -142,5 +142,6 @@ pub fn refused_growth_is_memory<T: Drop>()
 pub fn cells_come_in_their_order()
     ensures asked { (places : List Place) → ⟦<EntityIterator as Iterator>⟧.can_next places }
     ensures left { (places : List Place) → ⟦<EntityIterator as Iterator>⟧.remaining places ≡ item_count (λ (places : List Place). places) places }
-    ensures next { (before after : List Place) (given : Option Place) → ⟦<EntityIterator as Iterator>⟧.next_gives before given after → YieldsFirst (λ (places : List Place). places) before given after }
+    ensures next { (before after : List Place) (given : Option Place) → ⟦<EntityIterator as Iterator>⟧.next_gives before given after →
+        YieldsFirst (λ (places : List Place). places) before given after }
 {}

@@ -1,2 +1,2 @@
-pub mod CostLemmas
-pub mod SpaceLemmas
+pub mod Costs
+pub mod Spaces

@@ -9,16 +9,16 @@ use Rattle.std.proofs.lemmas.Str.{IsUtf8-from_ascii, chars-IsAscii, chars-nil, e
 use Rattle.ansi_scan.specs.Pieces.{pieces}
 use Rattle.ansi_scan.specs.Sequences.{escape}
 use Rattle.ansi_scan.proofs.Uniqueness.{pieces-joined}
-use Rattle.ansi_str_search.proofs.SearchLemmas.{strip-byte}
+use Rattle.ansi_str_search.proofs.Searches.{strip-byte}
 use Rattle.ansi_str_text.specs.StyledText.{strip}
 use Rattle.grid_records_measure.specs.Cutting.{lacking}
 use Rattle.grid_records_measure.specs.Filling.{behind_front, fitting_front, front_columns, has_room, used_behind}
 use Rattle.grid_records_measure.specs.Measures.{are_printable, cost}
 use Rattle.grid_records_measure.specs.TextLines.{is_line_feed}
-use Rattle.grid_records_measure.proofs.CutLemmas.{FitsOn, fits-on, lacking-some}
-use Rattle.grid_records_measure.proofs.FillingLemmas.{lacking-none}
-use Rattle.grid_records_measure.proofs.PlainLemmas.{one-column}
-use Rattle.grid_records_measure.proofs.PrintableLemmas.{printable-ascii}
+use Rattle.grid_records_measure.proofs.Cuts.{FitsOn, fits-on, lacking-some}
+use Rattle.grid_records_measure.proofs.Filling.{lacking-none}
+use Rattle.grid_records_measure.proofs.Plain.{one-column}
+use Rattle.grid_records_measure.proofs.Printable.{printable-ascii}
 
 both : (b : ℕ) (bs : List ℕ) → are_printable (b ∷ bs) ≡ true → (is_in_range 0x20 0x7E b ≡ true) × (are_printable bs ≡ true)
 both b bs h = and_parts (is_in_range 0x20 0x7E b) (are_printable bs) h

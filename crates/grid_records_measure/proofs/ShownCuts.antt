@@ -19,16 +19,16 @@ use Rattle.ansi_str.specs.StyledText.{IsClosed, strip, style_after, style_after_
 use Rattle.ansi_str.specs.Parts.{from_place, through_place, dressed, split_part}
 use Rattle.ansi_str.specs.Cuts.{cut_part}
 use Rattle.ansi_str_text.proofs.Utf8Pieces.{EachUtf8, EachUtf8-pieces, IsUtf8-shown_text}
-use Rattle.ansi_str_search.proofs.PartLemmas.{style_by-text}
-use Rattle.ansi_str_search.proofs.PlaceLemmas.{before-none, from-none}
-use Rattle.ansi_str_search.proofs.StyleLemmas.{split_part-slice}
-use Rattle.ansi_str_search.proofs.CutLemmas.{with_style, styled_from-text}
+use Rattle.ansi_str_search.proofs.Parts.{style_by-text}
+use Rattle.ansi_str_search.proofs.Places.{before-none, from-none}
+use Rattle.ansi_str_search.proofs.Styles.{split_part-slice}
+use Rattle.ansi_str_search.proofs.Cuts.{with_style, styled_from-text}
 use Rattle.ansi_str.proofs.CutParts.{first_part-slice}
 use Rattle.ansi_str_search.proofs.CharSlices.{styled-slice}
-use Rattle.ansi_str_search.proofs.Utf8Lemmas.{IsUtf8-split_part}
+use Rattle.ansi_str_search.proofs.Utf8.{IsUtf8-split_part}
 use Rattle.ansi_str.proofs.WholeCuts.{first_part-closed}
 use Rattle.grid_records_measure.specs.Cutting.{IsLongestFront, IsCutAt, ShowsCut, lacking, replacement}
-use Rattle.grid_records_measure.proofs.CutLemmas.{scalars-behind}
+use Rattle.grid_records_measure.proofs.Cuts.{scalars-behind}
 
 -- ---- pieces before others, of which a neighbouring text is made one
 

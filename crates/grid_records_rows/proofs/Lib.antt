@@ -1,4 +1,4 @@
 pub mod Keeping
-pub mod KeptLineLemmas
+pub mod KeptLines
 pub mod Tables
-pub mod PeekLemmas
+pub mod Peeks

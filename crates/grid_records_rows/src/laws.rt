@@ -78,7 +78,8 @@ pub fn empty_rows_end_for_good()
 
 /// Of the empty texts of a row no more are left than the row has columns, and after their end none.
 pub fn empty_texts_end_for_good()
-    ensures row { (before after : BlankRows) (texts : BlankCells) → ⟦<EmptyRows as Iterator>⟧.next_gives before (Some texts) after → ⟦<EmptyCells as Iterator>⟧.remaining texts ≡ at_most (length (row_at (⟦<EmptyRecords as IntoRecords>⟧.rows_left before) 0)) }
+    ensures row { (before after : BlankRows) (texts : BlankCells) → ⟦<EmptyRows as Iterator>⟧.next_gives before (Some texts) after →
+        ⟦<EmptyCells as Iterator>⟧.remaining texts ≡ at_most (length (row_at (⟦<EmptyRecords as IntoRecords>⟧.rows_left before) 0)) }
     ensures end { (before after : BlankCells) → ⟦<EmptyCells as Iterator>⟧.next_gives before None after → ⟦<EmptyCells as Iterator>⟧.remaining after ≡ at_most 0 }
 {}
 
@@ -88,14 +89,16 @@ pub fn cut_cells_come_in_their_order<
     D: Dimension + Copy,
     I: Iterator<Item = Result<C, AllocError>>,
 >()
-    ensures { (before after : CutCells I D) (given : Option (Result (CutCell C) Refused)) → ⟦<TruncatedCells<I, D> as Iterator>⟧.next_gives before given after → GivesTruncated I.next_gives C.text D.width before given after }
+    ensures { (before after : CutCells I D) (given : Option (Result (CutCell C) Refused)) →
+        ⟦<TruncatedCells<I, D> as Iterator>⟧.next_gives before given after → GivesTruncated I.next_gives C.text D.width before given after }
 {}
 
 /// A call gives the next row of those that are cut, from its first column on; at the end it stays where the rows do.
 pub fn cut_rows_come_in_their_order<C: Cell, D: Dimension + Copy, I: Iterator>()
 where
     I::Item: Iterator<Item = Result<C, AllocError>>,
-    ensures { (before after : CutRows I D) (given : Option (CutCells I.Item D)) → ⟦<TruncatedRows<I, D> as Iterator>⟧.next_gives before given after → GivesTruncatedRow I.next_gives before given after }
+    ensures { (before after : CutRows I D) (given : Option (CutCells I.Item D)) →
+        ⟦<TruncatedRows<I, D> as Iterator>⟧.next_gives before given after → GivesTruncatedRow I.next_gives before given after }
 {}
 
 /// A call gives the next row, of which as many cells are wanted as of any; at the end it stays where the rows do.
@@ -120,7 +123,9 @@ where
 /// A call gives the next of the rows that are kept, and after the last of them the next of the rest; at the end it stays
 /// where both do.
 pub fn kept_rows_come_first<C: Drop, I: Iterator>()
-    ensures { (before after : RowsBuffered C I) (given : Option (KeptOrRest (CellsKept (CellsIn C Heap)) I.Item)) → ⟦<BufferedRows<C, I> as Iterator>⟧.next_gives before given after → GivesKeptFirst ⟦<GivenRows<vec::IntoIter<Vec<C>>> as Iterator>⟧.next_gives I.next_gives before given after }
+    ensures { (before after : RowsBuffered C I) (given : Option (KeptOrRest (CellsKept (CellsIn C Heap)) I.Item)) →
+        ⟦<BufferedRows<C, I> as Iterator>⟧.next_gives before given after →
+        GivesKeptFirst ⟦<GivenRows<vec::IntoIter<Vec<C>>> as Iterator>⟧.next_gives I.next_gives before given after }
 {}
 
 /// After its end an iterator over rows that are looked up has none left, nor has one over the cells of such a row.

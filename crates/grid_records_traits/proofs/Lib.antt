@@ -1,5 +1,5 @@
 pub mod FittedRows
 pub mod LineAt
 pub mod Loops
-pub mod StartLemmas
+pub mod Starts
 pub mod TextAnswers

@@ -5,7 +5,7 @@ use Rattle.ansi_scan.specs.Sequences.{ArePiecesOf, Piece}
 use Rattle.ansi_scan.proofs.Existence.{ArePiecesOf-pieces}
 use Rattle.ansi_scan.proofs.Uniqueness.{ArePiecesOf-unique}
 use Rattle.grid_records_measure.specs.TextLines.{line_measure, shown_lines, text_height, text_lines, text_width, widest}
-use Rattle.grid_records_measure.proofs.TextLineLemmas.{length-text_lines, text_lines-are, text_lines-one}
+use Rattle.grid_records_measure.proofs.TextLines.{length-text_lines, text_lines-are, text_lines-one}
 use Rattle.grid_records_traits.specs.Cells.{HasLineCount, HasLineWidth, HasWidth, IsLineAt, line_at}
 
 pub line_of_text : (text bytes : List ℕ) (index : ℕ) → IsLineAt text index bytes → bytes ≡ line_at (text_lines text) index

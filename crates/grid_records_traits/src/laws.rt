@@ -77,7 +77,9 @@ pub fn sources_have_their_rows<'a, T: Cell + 'a, const C: usize, const R: usize>
 pub fn given_rows_come_in_their_order<I: Iterator>()
 where
     I::Item: IntoIterator,
-    ensures { (before after : RowsGiven I) (given : Option (CellsGiven I.Item.IntoIter)) → ⟦<GivenRows<I> as Iterator>⟧.next_gives before given after → GivesCellsOf I.next_gives I.Item.into_iter_gives before.0 given (λ cells. cells.0) after.0 }
+    ensures { (before after : RowsGiven I) (given : Option (CellsGiven I.Item.IntoIter)) →
+        ⟦<GivenRows<I> as Iterator>⟧.next_gives before given after →
+        GivesCellsOf I.next_gives I.Item.into_iter_gives before.0 given (λ cells. cells.0) after.0 }
 {}
 
 /// Cells that came from an iterator over them come in its order, none refused; at the end they stay where it does.

@@ -54,7 +54,8 @@ pub trait Records: RecordColumns {
 
     /// The rows, each of as many cells as there are columns. A cell that a row lacks has an empty text.
     fn iter_rows(self) -> <Self::Iter as IntoRecords>::IterRows
-        ensures { GivesRows Self.Iter.IterRows.Iterator Self.Iter.IterColumns.Iterator Self.Iter.Cell.text (Self.RecordTexts.may_refuse self) result (fitted (Self.columns self) (Self.RecordTexts.rows self)) };
+        ensures { GivesRows Self.Iter.IterRows.Iterator Self.Iter.IterColumns.Iterator Self.Iter.Cell.text
+            (Self.RecordTexts.may_refuse self) result (fitted (Self.columns self) (Self.RecordTexts.rows self)) };
 
     /// How many rows there may be. It is a hint, and promises nothing of the rows.
     fn hint_count_rows(&self) -> Option<usize>

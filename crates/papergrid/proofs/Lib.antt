@@ -2,5 +2,5 @@
 pub mod Flat
 pub use Rattle.papergrid_fits.proofs.Estimated
 pub use Rattle.papergrid_fits.proofs.First
-pub use Rattle.papergrid_fits.proofs.RoomLemmas
+pub use Rattle.papergrid_fits.proofs.Rooms
 pub use Rattle.papergrid_fits.proofs.SameTexts

@@ -72,10 +72,12 @@ impl<'a, R: Records, D: Dimension + Drop, C: Colors + Drop> CompactGrid<
     pub fn build(self, alloc: Global, out: &mut String) -> Result<(), Fault>
         ensures text { let rows = fitted (R.columns self.entry.records) (R.rows self.entry.records) in OnOk result (string_bytes out.new ≡ string_bytes out.old
             ++ compact_text (compact_of self.entry.settings.now) (D.width self.entry.sizes) (R.columns self.entry.records) rows (C.color self.entry.colors)) }
-        ensures fits { IfOk result (λ _. FitsCompact (compact_of self.entry.settings.now) (D.width self.entry.sizes) (R.columns self.entry.records) (fitted (R.columns self.entry.records) (R.rows self.entry.records))) }
+        ensures fits { IfOk result (λ _. FitsCompact (compact_of self.entry.settings.now) (D.width self.entry.sizes)
+            (R.columns self.entry.records) (fitted (R.columns self.entry.records) (R.rows self.entry.records))) }
         ensures refused { OnErr result (string_bytes out.new ≡ string_bytes out.old) }
         ensures fault { IfErr result (λ fault. (fault ≡ Memory)
-            ⊎ IsCompactAnswer (compact_of self.entry.settings.now) (D.width self.entry.sizes) (R.columns self.entry.records) (fitted (R.columns self.entry.records) (R.rows self.entry.records)) (Err fault)) }
+            ⊎ IsCompactAnswer (compact_of self.entry.settings.now) (D.width self.entry.sizes) (R.columns self.entry.records)
+            (fitted (R.columns self.entry.records) (R.rows self.entry.records)) (Err fault)) }
     {
         let CompactGrid {
             records,
@@ -101,9 +103,11 @@ impl<'a, R: Records, D: Dimension + Drop, C: Colors + Drop> CompactGrid<
     pub fn to_string(self, alloc: Global) -> Result<String, Fault>
         ensures text { let rows = fitted (R.columns self.entry.records) (R.rows self.entry.records) in IfOk result (λ text. string_bytes text
             ≡ compact_text (compact_of self.entry.settings.now) (D.width self.entry.sizes) (R.columns self.entry.records) rows (C.color self.entry.colors)) }
-        ensures fits { IfOk result (λ _. FitsCompact (compact_of self.entry.settings.now) (D.width self.entry.sizes) (R.columns self.entry.records) (fitted (R.columns self.entry.records) (R.rows self.entry.records))) }
+        ensures fits { IfOk result (λ _. FitsCompact (compact_of self.entry.settings.now) (D.width self.entry.sizes)
+            (R.columns self.entry.records) (fitted (R.columns self.entry.records) (R.rows self.entry.records))) }
         ensures fault { IfErr result (λ fault. (fault ≡ Memory)
-            ⊎ IsCompactAnswer (compact_of self.entry.settings.now) (D.width self.entry.sizes) (R.columns self.entry.records) (fitted (R.columns self.entry.records) (R.rows self.entry.records)) (Err fault)) }
+            ⊎ IsCompactAnswer (compact_of self.entry.settings.now) (D.width self.entry.sizes) (R.columns self.entry.records)
+            (fitted (R.columns self.entry.records) (R.rows self.entry.records)) (Err fault)) }
     {
         let mut text = String::new(alloc);
         self.build(alloc, &mut text)?;

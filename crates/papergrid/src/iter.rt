@@ -62,11 +62,13 @@ impl<'a, R: Records, D: Dimension + Drop, C: Colors + Drop> IterGrid<R, D, &'a S
     pub fn build(self, alloc: Global, out: &mut String) -> Result<(), Fault>
         ensures text { let rows = fitted (R.columns self.entry.records) (R.rows self.entry.records) in OnOk result (string_bytes out.new ≡ string_bytes out.old
             ++ grid_text (look_of self.entry.settings.now) (D.width self.entry.sizes) (D.height self.entry.sizes) (C.color self.entry.colors) (R.columns self.entry.records) rows) }
-        ensures fits { IfOk result (λ _. CanBeDrawn self.entry.settings.now (D.width self.entry.sizes) (D.height self.entry.sizes) (R.columns self.entry.records) (fitted (R.columns self.entry.records) (R.rows self.entry.records))) }
+        ensures fits { IfOk result (λ _. CanBeDrawn self.entry.settings.now (D.width self.entry.sizes) (D.height self.entry.sizes)
+            (R.columns self.entry.records) (fitted (R.columns self.entry.records) (R.rows self.entry.records))) }
         ensures positive { OnOk result (ArePositive self.entry.settings.now.spans) }
         ensures refused { OnErr result (string_bytes out.new ≡ string_bytes out.old) }
         ensures fault { IfErr result (λ fault. (fault ≡ Memory)
-            ⊎ IsFitsAnswer self.entry.settings.now (D.width self.entry.sizes) (D.height self.entry.sizes) (R.columns self.entry.records) (fitted (R.columns self.entry.records) (R.rows self.entry.records)) (Err fault)) }
+            ⊎ IsFitsAnswer self.entry.settings.now (D.width self.entry.sizes) (D.height self.entry.sizes) (R.columns self.entry.records)
+            (fitted (R.columns self.entry.records) (R.rows self.entry.records)) (Err fault)) }
     {
         let IterGrid {
             records,
@@ -92,10 +94,12 @@ impl<'a, R: Records, D: Dimension + Drop, C: Colors + Drop> IterGrid<R, D, &'a S
     pub fn to_string(self, alloc: Global) -> Result<String, Fault>
         ensures text { let rows = fitted (R.columns self.entry.records) (R.rows self.entry.records) in IfOk result (λ text. string_bytes text
             ≡ grid_text (look_of self.entry.settings.now) (D.width self.entry.sizes) (D.height self.entry.sizes) (C.color self.entry.colors) (R.columns self.entry.records) rows) }
-        ensures fits { IfOk result (λ _. CanBeDrawn self.entry.settings.now (D.width self.entry.sizes) (D.height self.entry.sizes) (R.columns self.entry.records) (fitted (R.columns self.entry.records) (R.rows self.entry.records))) }
+        ensures fits { IfOk result (λ _. CanBeDrawn self.entry.settings.now (D.width self.entry.sizes) (D.height self.entry.sizes)
+            (R.columns self.entry.records) (fitted (R.columns self.entry.records) (R.rows self.entry.records))) }
         ensures positive { OnOk result (ArePositive self.entry.settings.now.spans) }
         ensures fault { IfErr result (λ fault. (fault ≡ Memory)
-            ⊎ IsFitsAnswer self.entry.settings.now (D.width self.entry.sizes) (D.height self.entry.sizes) (R.columns self.entry.records) (fitted (R.columns self.entry.records) (R.rows self.entry.records)) (Err fault)) }
+            ⊎ IsFitsAnswer self.entry.settings.now (D.width self.entry.sizes) (D.height self.entry.sizes) (R.columns self.entry.records)
+            (fitted (R.columns self.entry.records) (R.rows self.entry.records)) (Err fault)) }
     {
         let mut text = String::new(alloc);
         self.build(alloc, &mut text)?;

@@ -155,7 +155,8 @@ impl<'a, R: ExactRecords + PeekableRecords, D: Dimension, C: Colors> PeekableGri
         writer: &mut Counted<W>,
     ) -> Result<Result<(), WriteFault>, AllocError>
         requires fits { CanBeDrawn self.now.settings.now (D.width self.now.sizes) (D.height self.now.sizes) (R.columns self.now.records) (R.rows self.now.records) }
-        ensures { Passes W.contents (grid_text (look_of self.now.settings.now) (D.width self.now.sizes) (D.height self.now.sizes) (C.color self.now.colors) (R.columns self.now.records) (R.rows self.now.records)) result [] writer.old writer.new }
+        ensures { Passes W.contents (grid_text (look_of self.now.settings.now) (D.width self.now.sizes) (D.height self.now.sizes)
+            (C.color self.now.colors) (R.columns self.now.records) (R.rows self.now.records)) result [] writer.old writer.new }
     {
         let rows = self.records.count_rows();
         let columns = self.records.count_columns();
@@ -181,7 +182,9 @@ impl<'a, R: ExactRecords + PeekableRecords, D: Dimension, C: Colors> PeekableGri
         wanted: &K,
     ) -> Result<Result<(), WriteFault>, AllocError>
         requires fits { CanBeDrawn self.now.settings.now (D.width self.now.sizes) (D.height self.now.sizes) (R.columns self.now.records) (R.rows self.now.records) }
-        ensures { Passes W.contents (wanted_text (look_of self.now.settings.now) (D.width self.now.sizes) (D.height self.now.sizes) (C.color self.now.colors) (R.columns self.now.records) (R.rows self.now.records) (K.wants wanted.now)) result [] writer.old writer.new }
+        ensures { Passes W.contents (wanted_text (look_of self.now.settings.now) (D.width self.now.sizes) (D.height self.now.sizes)
+            (C.color self.now.colors) (R.columns self.now.records) (R.rows self.now.records)
+            (K.wants wanted.now)) result [] writer.old writer.new }
     {
         let rows = self.records.count_rows();
         let columns = self.records.count_columns();

@@ -38,8 +38,12 @@ pub(crate) fn print_fitting<R: PeekableRecords, D: Dimension, C: Colors>(
     ensures refused { OnErr result (string_bytes out.new ≡ string_bytes out.old) }
     ensures fault { IfErr result (λ fault. (fault ≡ Memory)
         ⊎ FitsAnswer (sized cfg.now (D.width dims.now) (D.height dims.now) columns rows) (R.rows records.now) (AreGood cfg.now.spans rows columns) (Err fault)) }
-    ensures empty { (rows ≡ 0) ⊎ (columns ≡ 0) → IfErr result (λ fault. FitsAnswer (sized cfg.now (D.width dims.now) (D.height dims.now) columns rows) (R.rows records.now) (AreGood cfg.now.spans rows columns) (Err fault)) }
-    ensures memory { IfErr result (λ fault. fault ≡ Memory → FitsAnswer (sized cfg.now (D.width dims.now) (D.height dims.now) columns rows) (R.rows records.now) (AreGood cfg.now.spans rows columns) (Ok tt)) }
+    ensures empty { (rows ≡ 0) ⊎ (columns ≡ 0) →
+        IfErr result (λ fault. FitsAnswer (sized cfg.now (D.width dims.now) (D.height dims.now) columns rows) (R.rows records.now)
+        (AreGood cfg.now.spans rows columns) (Err fault)) }
+    ensures memory { IfErr result (λ fault. fault ≡ Memory →
+        FitsAnswer (sized cfg.now (D.width dims.now) (D.height dims.now) columns rows) (R.rows records.now)
+        (AreGood cfg.now.spans rows columns) (Ok tt)) }
     ensures positive { ArePositive cfg.now.spans }
 {
     fits_counted(records, cfg, dims, rows, columns)?;
@@ -89,7 +93,8 @@ pub(crate) fn write_sized<R: PeekableRecords, D: Dimension, C: Colors, W: Write>
 ) -> Result<Result<(), WriteFault>, AllocError>
     requires good { AreGood cfg.now.spans rows columns }
     requires range { InRange (sized cfg.now (D.width dims.now) (D.height dims.now) columns rows) }
-    ensures { Passes W.contents (table_text (look_of cfg.now) (R.rows records.now) (C.color colors.now) (sizes_of (D.width dims.now) columns) (sizes_of (D.height dims.now) rows)) result [] writer.old writer.new }
+    ensures { Passes W.contents (table_text (look_of cfg.now) (R.rows records.now) (C.color colors.now)
+        (sizes_of (D.width dims.now) columns) (sizes_of (D.height dims.now) rows)) result [] writer.old writer.new }
 {
     let widths = widths(alloc, dims, columns)?;
     let heights = heights(alloc, dims, rows)?;
@@ -110,7 +115,8 @@ pub(crate) fn write_sized_lines<R: PeekableRecords, D: Dimension, C: Colors, W: 
 ) -> Result<Result<(), WriteFault>, AllocError>
     requires good { AreGood cfg.now.spans rows columns }
     requires range { InRange (sized cfg.now (D.width dims.now) (D.height dims.now) columns rows) }
-    ensures { Passes W.contents (chosen_text (look_of cfg.now) (R.rows records.now) (C.color colors.now) (sizes_of (D.width dims.now) columns) (sizes_of (D.height dims.now) rows) (K.wants wanted.now)) result [] writer.old writer.new }
+    ensures { Passes W.contents (chosen_text (look_of cfg.now) (R.rows records.now) (C.color colors.now)
+        (sizes_of (D.width dims.now) columns) (sizes_of (D.height dims.now) rows) (K.wants wanted.now)) result [] writer.old writer.new }
 {
     let widths = widths(alloc, dims, columns)?;
     let heights = heights(alloc, dims, rows)?;

@@ -1,5 +1,5 @@
-mod PaintingLemmas
-pub mod CellLineLemmas
-pub mod PlainLineLemmas
-mod SpaceLemmas
-pub mod EmptyRowLemmas
+mod Painting
+pub mod CellLines
+pub mod PlainLines
+mod Spaces
+pub mod EmptyRows

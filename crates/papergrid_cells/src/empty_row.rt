@@ -39,7 +39,9 @@ impl EmptyRow {
     ) -> Result<(), AllocError>
         requires inside { count ≤ length (string_bytes self.now.line) }
         requires end { IsSplitPoint (string_bytes self.now.line) (length (string_bytes self.now.line) - count) }
-        ensures { OnOk result (string_bytes out.new ≡ string_bytes out.old ++ (colored (option_map color_of color.entry) text.now ++ drop (length (string_bytes self.now.line) - count) (string_bytes self.now.line))) }
+        ensures { OnOk result (string_bytes out.new ≡ string_bytes out.old
+            ++ (colored (option_map color_of color.entry) text.now ++ drop (length (string_bytes self.now.line) - count)
+            (string_bytes self.now.line))) }
     {
         push_text(out, text, color)?;
         out.push_str(&self.line[self.line.len() - count..])

@@ -203,7 +203,9 @@ impl<'a> FlatRows<'a> {
         line: &str,
     ) -> Result<(), AllocError>
         requires { j < columns }
-        ensures { OnOk result (string_bytes out.new ≡ string_bytes out.old ++ (placed (standing_of self.now) width measure widest (option_map color_of color.entry) line.now ++ behind_text self.now j columns)) }
+        ensures { OnOk result (string_bytes out.new ≡ string_bytes out.old
+            ++ (placed (standing_of self.now) width measure widest (option_map color_of color.entry) line.now
+            ++ behind_text self.now j columns)) }
     {
         let room = self.room(width);
         let aligned = if self.line_alignment { measure } else { widest };

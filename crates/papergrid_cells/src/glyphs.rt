@@ -141,7 +141,9 @@ pub fn push_behind(
     line: BlockLine,
 ) -> Result<(), AllocError>
     ensures runs { OnOk result (runs.new.items ≡ (if is_outside line then runs.old.items else [])) }
-    ensures out { OnOk result (string_bytes out.new ≡ string_bytes out.old ++ (if is_outside line then [] else line_items bare (map glyph_part runs.old.items) ++ alone_bytes (look_of cfg.now) cell.now line)) }
+    ensures out { OnOk result (string_bytes out.new ≡ string_bytes out.old
+        ++ (if is_outside line then [] else line_items bare (map glyph_part runs.old.items)
+        ++ alone_bytes (look_of cfg.now) cell.now line)) }
 {
     if let BlockLine::Outside = line {
         return Ok(());

@@ -1,9 +1,9 @@
 pub mod ClosedLines
 pub mod UncoloredGrids
 pub mod PaintedLines
-pub mod CellLemmas
-pub mod LineLemmas
-pub mod PictureLemmas
-pub mod CharacterLemmas
-pub mod StrippedLemmas
-pub mod PieceLemmas
+pub mod Cells
+pub mod Lines
+pub mod Pictures
+pub mod Characters
+pub mod Stripped
+pub mod Pieces

@@ -8,7 +8,7 @@ use Rattle.papergrid_picture.specs.Frame.{line_count}
 use Rattle.papergrid_picture.specs.Blocks.{Content, Fill, Glyph, TextLine, Grid, Part}
 use Rattle.papergrid_picture.specs.Picture.{parts_of, picture_line}
 use Rattle.papergrid_picture.specs.Reading.{Reading, grid_items, grid_line, line_items, painted}
-use Rattle.papergrid_picture.proofs.ReadingLemmas.{line_items-before, line_items-cons, line_items_no_texts, no_texts, no_texts-append, own_items}
+use Rattle.papergrid_picture.proofs.Reading.{line_items-before, line_items-cons, line_items_no_texts, no_texts, no_texts-append, own_items}
 use Rattle.papergrid_colors.specs.ColoredLines.{with_painted_lines, without_text_colors}
 use Rattle.papergrid_colors.proofs.UncoloredGrids.{IsOwn, own-parts, parts-uncolored, uncolored}
 

@@ -10,9 +10,9 @@ use Rattle.grid_config.specs.Colors.{Color}
 use Rattle.papergrid_picture.specs.Frame.{Place, Boundary, Row, Outside, block_height, block_width, boundary_at, column_count, place, row_count, track_at}
 use Rattle.papergrid_picture.specs.Blocks.{Content, Fill, Glyph, TextLine, Grid, Part, block, fill, free_above, text_line}
 use Rattle.papergrid_picture.specs.Picture.{PlacedPart, across, along, block_pieces, boundary_part, corner, laid, margin_line, parts_of, picture_line, pieces_at, row_part, seen, upright, blank}
-use Rattle.papergrid_picture.proofs.ItemLemmas.{Anything, colored-anyhow, shows-anything}
-use Rattle.papergrid_picture.proofs.RelatedLemmas.{parts-hold}
-use Rattle.papergrid_picture.proofs.ShownLemmas.{get_or-map}
+use Rattle.papergrid_picture.proofs.Items.{Anything, colored-anyhow, shows-anything}
+use Rattle.papergrid_picture.proofs.Related.{parts-hold}
+use Rattle.papergrid_picture.proofs.Shown.{get_or-map}
 use Rattle.papergrid_colors.specs.ColoredLines.{without_text_colors}
 
 -- the colour of content, but of a line of a cell none

@@ -17,7 +17,7 @@ use Rattle.grid_records_estimate.specs.Room.{room}
 use Rattle.grid_records_estimate.specs.Sizes.{table_widths}
 use Rattle.grid_records_estimate.specs.Sizing.{column_axis, is_visible, sizing_of, width_need}
 use Rattle.grid_records_estimate.proofs.Lengths.{length-table_widths, length-fitted}
-use Rattle.grid_records_estimate.proofs.RoomLemmas.{LeaveRoom-widths}
+use Rattle.grid_records_estimate.proofs.Rooms.{LeaveRoom-widths}
 use Rattle.grid_records_estimate.proofs.Visibility.{is_visible-decides}
 use Rattle.papergrid_picture.specs.Fitting.{first_too_wide, is_too_wide, need}
 use Rattle.papergrid_picture.specs.Frame.{block_width}

@@ -4,6 +4,6 @@ pub mod Widths
 pub mod First
 pub mod Ranges
 pub mod Estimated
-pub mod TotalLemmas
-pub mod RoomLemmas
+pub mod Totals
+pub mod Rooms
 pub mod SameTexts

@@ -1,5 +1,6 @@
 //! Laws of the definitions that the contracts of the grids cite.
-ghost use Rattle.std.specs.Prelude.{◌≡◌, ◌==◌, ◌↔◌, if◌then◌else◌, ◌<◌, ◌≤◌, ◌+◌, ℕ, All, List, [], ◌∷◌, None, Option, Some, chars, codes, encode_utf8_all, false, flat_map, length, map, slice_index, true};
+ghost use Rattle.std.specs.Prelude.{◌≡◌, ◌==◌, ◌↔◌, if◌then◌else◌, ◌<◌, ◌≤◌, ◌+◌, ℕ, All, List, [], ◌∷◌, None, Option, Some, chars, codes,
+    encode_utf8_all, false, flat_map, length, map, slice_index, true};
 ghost use Rattle.std.specs.List.{join_with_byte, range_with_len};
 ghost use Rattle.ansi_scan.specs.Attributes.{plain_attributes};
 ghost use Rattle.ansi_scan.specs.Sequences.{Piece, ArePiecesOf, NoneBroken};
@@ -20,10 +21,13 @@ ghost use Rattle.papergrid_picture.specs.CellLines.{cell_lines, cell_measures};
 ghost use Rattle.papergrid_picture.specs.Frame.{Boundary, Outside, Row, Tracks, boundary_at, column_count, frame_of, line_count, place, row_count, total_width, track_at};
 ghost use Rattle.papergrid_picture.specs.Picture.{laid, picture_line, seen};
 ghost use Rattle.papergrid_picture.specs.Reading.{Reading, grid_items};
-ghost use Rattle.papergrid_picture.specs.Shown.{ArePlainTexts, ArePlainlyShown, AreWholeTexts, CostsOne, IsBare, IsReadBy, KeepsLineEnds, Shows, ShowsOnly, Styled, character_of, character_picture, characters_of, stripped_texts, styled_picture, styled_texts};
+ghost use Rattle.papergrid_picture.specs.Shown.{ArePlainTexts, ArePlainlyShown, AreWholeTexts, CostsOne, IsBare, IsReadBy, KeepsLineEnds,
+    Shows, ShowsOnly, Styled, character_of, character_picture, characters_of, stripped_texts, styled_picture, styled_texts};
 ghost use Rattle.papergrid_picture.specs.Tables.{table_grid, table_line, table_lines, table_text};
 ghost use Rattle.papergrid_picture.specs.Tiling.{BeginsBehindMargin, HasGoodSpans, HasRoom, IsLineOf, ShowsAllLines, ShowsBlock, ShowsPlace, Tiles};
-ghost use Rattle.papergrid_picture.specs.Worked.{ascii, bracketed, capitals, cells, crossed, drawn, drawn_in, drawn_unmeasured, each_its_own, extents, half_bracketed, hidden_cell, joined, lettered, named, no_top, outer, padded, plain, red_rows, round_bracketed, sided, span, spaced, with_margins};
+ghost use Rattle.papergrid_picture.specs.Worked.{ascii, bracketed, capitals, cells, crossed, drawn, drawn_in, drawn_unmeasured,
+    each_its_own, extents, half_bracketed, hidden_cell, joined, lettered, named, no_top, outer, padded, plain, red_rows, round_bracketed,
+    sided, span, spaced, with_margins};
 
 /// Pictures that were worked out by hand: two by two cells; cells of two lines to the right, with one
 /// indent and line by line; a cell of three lines in a row of two; a line in the middle of four, where
@@ -72,7 +76,8 @@ pub fn worked_spans()
     ensures both_ways { drawn (record plain { extent = extents (span 0 0 2 1 ∷ span 0 1 1 2 ∷ span 2 1 1 2 ∷ []); alignment_vertical = λ cell. if cell.row == 0 then Middle else Top })
         (3 ∷ 2 ∷ 3 ∷ []) (1 ∷ 1 ∷ 2 ∷ [])
         (cells (codes "up" ∷ codes "wide" ∷ [] ∷ []) ∷ cells ([] ∷ codes "a" ∷ codes "b" ∷ []) ∷ ((codes "c" ∷ []) ∷ (codes "two" ∷ codes "lines" ∷ []) ∷ []) ∷ [])
-        ≡ joined (codes "+---+--+---+" ∷ codes "|   |wide  |" ∷ codes "+up +--+---+" ∷ codes "|   |a |b  |" ∷ codes "+---+--+---+" ∷ codes "|c  |two   |" ∷ codes "|   |lines |" ∷ codes "+---+--+---+" ∷ []) }
+        ≡ joined (codes "+---+--+---+" ∷ codes "|   |wide  |" ∷ codes "+up +--+---+" ∷ codes "|   |a |b  |" ∷ codes "+---+--+---+"
+        ∷ codes "|c  |two   |" ∷ codes "|   |lines |" ∷ codes "+---+--+---+" ∷ []) }
 {}
 
 /// Paddings, margins and boundaries, worked out by hand: fills of each side, where the bottom padding is
@@ -109,13 +114,16 @@ pub fn worked_colors()
         ≡ joined (codes "+[-+-]+" ∷ codes "|a[|]b|" ∷ codes "+-+-+" ∷ []) }
     ensures past_nothing { drawn crossed (1 ∷ 0 ∷ 1 ∷ []) (1 ∷ []) (cells (codes "a" ∷ codes "" ∷ codes "b" ∷ []) ∷ [])
         ≡ joined (codes "+[-++-]+" ∷ codes "|a[|][|]b|" ∷ codes "+-++-+" ∷ []) }
-    ensures past_another_color { drawn (record plain { borders_color = record no_borders { top_intersection = Some bracketed } }) (1 ∷ 0 ∷ 1 ∷ []) (1 ∷ []) (cells (codes "a" ∷ codes "" ∷ codes "b" ∷ []) ∷ [])
+    ensures past_another_color { drawn (record plain { borders_color = record no_borders { top_intersection = Some bracketed } })
+        (1 ∷ 0 ∷ 1 ∷ []) (1 ∷ []) (cells (codes "a" ∷ codes "" ∷ codes "b" ∷ []) ∷ [])
         ≡ joined (codes "+-[++]-+" ∷ codes "|a||b|" ∷ codes "+-++-+" ∷ []) }
     ensures past_absent { drawn (record outer { borders_color = record no_borders { top = Some bracketed } }) (1 ∷ 1 ∷ []) (1 ∷ []) (cells (codes "a" ∷ codes "b" ∷ []) ∷ [])
         ≡ joined (codes "+[--]+" ∷ codes "|ab|" ∷ codes "+--+" ∷ []) }
-    ensures two_colors { drawn (record plain { borders_color = record no_borders { top = Some bracketed; top_intersection = Some half_bracketed } }) (1 ∷ 1 ∷ []) (1 ∷ []) (cells (codes "a" ∷ codes "b" ∷ []) ∷ [])
+    ensures two_colors { drawn (record plain { borders_color = record no_borders { top = Some bracketed;
+        top_intersection = Some half_bracketed } }) (1 ∷ 1 ∷ []) (1 ∷ []) (cells (codes "a" ∷ codes "b" ∷ []) ∷ [])
         ≡ joined (codes "+[-][+)[-]+" ∷ codes "|a|b|" ∷ codes "+-+-+" ∷ []) }
-    ensures two_prefixes { drawn (record plain { borders_color = record no_borders { top = Some bracketed; top_intersection = Some round_bracketed } }) (1 ∷ 1 ∷ []) (1 ∷ []) (cells (codes "a" ∷ codes "b" ∷ []) ∷ [])
+    ensures two_prefixes { drawn (record plain { borders_color = record no_borders { top = Some bracketed;
+        top_intersection = Some round_bracketed } }) (1 ∷ 1 ∷ []) (1 ∷ []) (cells (codes "a" ∷ codes "b" ∷ []) ∷ [])
         ≡ joined (codes "+[-](+][-]+" ∷ codes "|a|b|" ∷ codes "+-+-+" ∷ []) }
     ensures all_places { drawn (record plain { borders = lettered; borders_color = capitals }) (1 ∷ 1 ∷ []) (1 ∷ 1 ∷ []) (cells (codes "1" ∷ codes "2" ∷ []) ∷ cells (codes "3" ∷ codes "4" ∷ []) ∷ [])
         ≡ joined (codes "Aa.Bb.Cc.Bb.Dd." ∷ codes "Ee.1Ff.2Gg." ∷ codes "Hh.Ii.Jj.Ii.Kk." ∷ codes "Ee.3Ff.4Gg." ∷ codes "Ll.Mm.Nn.Mm.Oo." ∷ []) }

@@ -1,13 +1,13 @@
-mod LineLemmas
-mod BoundaryLemmas
-pub mod OwnerLemmas
-mod SeenLemmas
-mod PlaceLemmas
-mod OpenLemmas
-mod CountLemmas
-mod TableLemmas
-mod WriteLemmas
-pub mod FlatLemmas
-mod PlacedLemmas
-mod SingleLemmas
-mod ChoosingLemmas
+mod Lines
+mod Boundaries
+pub mod Owners
+mod Seen
+mod Places
+mod Open
+mod Counts
+mod Tables
+mod Writes
+pub mod Flat
+mod Placed
+mod Single
+mod Choosing

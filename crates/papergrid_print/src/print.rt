@@ -64,7 +64,8 @@ fn push_to_empty<'a, R: PeekableRecords, C: Colors>(
     requires rows { 0 < length table.now.heights.now }
     requires columns { 0 < length table.now.widths.now }
     requires empty { string_bytes out.old ≡ [] }
-    ensures text { OnOk result (string_bytes out.new ≡ table_text (look_of table.now.cfg.now) (R.rows table.now.records.now) (C.color table.now.colors.now) table.now.widths.now table.now.heights.now) }
+    ensures text { OnOk result (string_bytes out.new ≡ table_text (look_of table.now.cfg.now) (R.rows table.now.records.now)
+        (C.color table.now.colors.now) table.now.widths.now table.now.heights.now) }
     ensures refused { OnErr result (string_bytes out.new ≡ []) }
 {
     let outcome = table.push_lines(alloc, out);

@@ -336,7 +336,9 @@ impl<'a, R: PeekableRecords, C: Colors> Table<'a, R, C> {
     ) -> Result<(), AllocError>
         requires flat { AreFlat self.now.cfg.now }
         requires column { pos.col < length self.now.widths.now }
-        ensures { OnOk result (string_bytes out.new ≡ string_bytes out.old ++ (first_placed (table_sheet R.rows C.color self.now) (standing_of flat.now) pos ++ behind_text flat.now pos.col (length self.now.widths.now))) }
+        ensures { OnOk result (string_bytes out.new ≡ string_bytes out.old
+            ++ (first_placed (table_sheet R.rows C.color self.now) (standing_of flat.now) pos
+            ++ behind_text flat.now pos.col (length self.now.widths.now))) }
     {
         let (records, j, columns) = (self.records, pos.col, self.widths.len());
         let width = self.widths[j];
@@ -492,7 +494,8 @@ impl<'a, R: PeekableRecords, C: Colors> Table<'a, R, C> {
         requires between { MatchOption between.now ⊤ (λ text. IsBetween (table_sheet R.rows C.color self.now) (string_bytes text)) }
         requires wide { length cells.old ≡ length self.now.widths.now }
         requires above { string_bytes out.old ≡ lines_of (table_sheet R.rows C.color self.now) (boundary_at (row_tracks (table_sheet R.rows C.color self.now)) 0) }
-        ensures lines { OnOk result (string_bytes out.new ≡ lines_of (table_sheet R.rows C.color self.now) (track_at (row_tracks (table_sheet R.rows C.color self.now)) (length self.now.heights.now))) }
+        ensures lines { OnOk result (string_bytes out.new ≡ lines_of (table_sheet R.rows C.color self.now)
+            (track_at (row_tracks (table_sheet R.rows C.color self.now)) (length self.now.heights.now))) }
         ensures end { IfOk result (λ end. end ≡ track_at (row_tracks (table_sheet R.rows C.color self.now)) (length self.now.heights.now)) }
     {
         let mut y = self.cfg.get_margin().top.size;
@@ -511,7 +514,8 @@ impl<'a, R: PeekableRecords, C: Colors> Table<'a, R, C> {
         requires lines { track_at (row_tracks (table_sheet R.rows C.color self.now)) (length self.now.heights.now) < 2 ^ 64 }
         requires columns { boundary_at (grid_of (table_sheet R.rows C.color self.now)).frame.columns (length self.now.widths.now) < 2 ^ 64 }
         requires above { string_bytes out.old ≡ lines_of (table_sheet R.rows C.color self.now) (boundary_at (row_tracks (table_sheet R.rows C.color self.now)) 0) }
-        ensures lines { OnOk result (string_bytes out.new ≡ lines_of (table_sheet R.rows C.color self.now) (track_at (row_tracks (table_sheet R.rows C.color self.now)) (length self.now.heights.now))) }
+        ensures lines { OnOk result (string_bytes out.new ≡ lines_of (table_sheet R.rows C.color self.now)
+            (track_at (row_tracks (table_sheet R.rows C.color self.now)) (length self.now.heights.now))) }
         ensures end { IfOk result (λ end. end ≡ track_at (row_tracks (table_sheet R.rows C.color self.now)) (length self.now.heights.now)) }
     {
         let flat = self.flat_rows(alloc)?;

@@ -20,7 +20,7 @@ use Rattle.papergrid.specs.GridParts.{wanted_text}
 use Rattle.papergrid.specs.Place.{Place}
 use Rattle.papergrid_fits.proofs.Ranges.{line_count-is, table_width-is}
 use Rattle.papergrid_fits.specs.Tables.{CanBeDrawn, IsFitsAnswer, column_tracks, row_tracks, sized}
-use Rattle.papergrid_picture.proofs.FrameLemmas.{boundary-bounded, boundary-next}
+use Rattle.papergrid_picture.proofs.Frames.{boundary-bounded, boundary-next}
 use Rattle.papergrid_picture.specs.Fitting.{FitsAnswer, InRange, table_width}
 use Rattle.papergrid_picture.specs.Frame.{Frame, Tracks, line_count, track_at}
 use Rattle.tabled_size_dimension.specs.Sizes.{given_size}

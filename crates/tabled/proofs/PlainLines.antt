@@ -5,8 +5,8 @@ use Rattle.grid_config_values.specs.declared.position.Position.{Position}
 use Rattle.grid_config_spans.specs.Spans.{ArePositive}
 use Rattle.grid_config.specs.Looks.{Look, look_of}
 use Rattle.grid_config.specs.Settings.{Settings}
-use Rattle.papergrid_fits.proofs.RoomLemmas.{good-spans}
-use Rattle.papergrid_picture.proofs.WidthLemmas.{line-columns}
+use Rattle.papergrid_fits.proofs.Rooms.{good-spans}
+use Rattle.papergrid_picture.proofs.Widths.{line-columns}
 use Rattle.papergrid_picture.specs.Shown.{ArePlainlyShown, CostsOne, IsBare, ShowsOnly}
 use Rattle.tabled_size_dimension.specs.Sizes.{given_size}
 use Rattle.tabled_size_dimension.specs.Stored.{Stored, stored_sizes}

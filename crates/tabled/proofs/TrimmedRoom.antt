@@ -25,8 +25,8 @@ use Rattle.grid_config.specs.Settings.{Settings}
 use Rattle.grid_records_measure.specs.Measures.{measure, own_width}
 use Rattle.grid_records_measure.specs.PlainCharacters.{is_plain_character}
 use Rattle.grid_records_measure.specs.TextLines.{line_measure, shown_lines, text_lines, text_width, widest}
-use Rattle.grid_records_measure.proofs.PlainLemmas.{measure-plain}
-use Rattle.grid_records_measure.proofs.TextLineLemmas.{text_lines-shown}
+use Rattle.grid_records_measure.proofs.Plain.{measure-plain}
+use Rattle.grid_records_measure.proofs.TextLines.{text_lines-shown}
 use Rattle.grid_records_traits.specs.Rows.{text_at}
 use Rattle.papergrid_picture.specs.Blocks.{Grid, greatest}
 use Rattle.papergrid_picture.specs.CellLines.{cell_measures, kept_lines, those}
@@ -36,11 +36,11 @@ use Rattle.papergrid_picture.specs.Picture.{at, seen}
 use Rattle.papergrid_picture.specs.Shown.{ArePlainlyShown, IsPlainlyShown}
 use Rattle.papergrid_picture.specs.Tables.{sizes_of, table_grid}
 use Rattle.papergrid_picture.specs.Tiling.{HasRoom}
-use Rattle.papergrid_picture.proofs.RelatedLemmas.{All-get_or}
-use Rattle.papergrid_picture.proofs.ShownLemmas.{All-drop, All-take, IsClosedPart, lines-closed_parts, pieces-nothing}
-use Rattle.papergrid_picture.proofs.WidthLemmas.{ArePlain, chars-trim, drop-plain, is_plain_or_feed, plain-parts, skip-plain}
+use Rattle.papergrid_picture.proofs.Related.{All-get_or}
+use Rattle.papergrid_picture.proofs.Shown.{All-drop, All-take, IsClosedPart, lines-closed_parts, pieces-nothing}
+use Rattle.papergrid_picture.proofs.Widths.{ArePlain, chars-trim, drop-plain, is_plain_or_feed, plain-parts, skip-plain}
 use Rattle.papergrid_fits.specs.Tables.{CanBeDrawn}
-use Rattle.papergrid_fits.proofs.RoomLemmas.{among-drop, none-passes}
+use Rattle.papergrid_fits.proofs.Rooms.{among-drop, none-passes}
 
 -- ---- white space that is taken away
 

@@ -28,7 +28,8 @@ impl Table<Text> {
     where
         I::IntoIter: Drop,
         requires { (s : I.IntoIter) → I.into_iter_gives items s → I.IntoIter.can_next s × IsFinite (I.IntoIter.remaining s) }
-        ensures table { IfOk result (λ table. (s : I.IntoIter) × (taken : List T) × I.into_iter_gives items s × Drains I.IntoIter.next_gives s taken × (state_of (λ text. text) table ≡ new_state (T.names ∷ map T.texts taken))) }
+        ensures table { IfOk result (λ table. (s : I.IntoIter) × (taken : List T) × I.into_iter_gives items s
+            × Drains I.IntoIter.next_gives s taken × (state_of (λ text. text) table ≡ new_state (T.names ∷ map T.texts taken))) }
         ensures refused { IfErr result (λ fault. fault ≡ Memory) }
     {
         let rows = headed_rows::<T, I>(alloc, Vec::new(alloc), items)?;
@@ -45,7 +46,8 @@ impl Table<Text> {
     where
         I::IntoIter: Drop,
         requires { (s : I.IntoIter) → I.into_iter_gives items s → I.IntoIter.can_next s × IsFinite (I.IntoIter.remaining s) }
-        ensures table { IfOk result (λ table. (s : I.IntoIter) × (taken : List T) × I.into_iter_gives items s × Drains I.IntoIter.next_gives s taken × (state_of (λ text. text) table ≡ new_state (T.names ∷ map T.texts taken))) }
+        ensures table { IfOk result (λ table. (s : I.IntoIter) × (taken : List T) × I.into_iter_gives items s
+            × Drains I.IntoIter.next_gives s taken × (state_of (λ text. text) table ≡ new_state (T.names ∷ map T.texts taken))) }
         ensures refused { IfErr result (λ fault. fault ≡ Memory) }
     {
         let room = Vec::with_capacity(alloc, rows.saturating_add(1))?;
@@ -63,7 +65,8 @@ impl Table<Text> {
     where
         I::IntoIter: Drop,
         requires { (s : I.IntoIter) → I.into_iter_gives items s → I.IntoIter.can_next s × IsFinite (I.IntoIter.remaining s) }
-        ensures table { IfOk result (λ table. (s : I.IntoIter) × (taken : List T) × I.into_iter_gives items s × Drains I.IntoIter.next_gives s taken × (state_of (λ text. text) table ≡ new_state (map T.texts taken))) }
+        ensures table { IfOk result (λ table. (s : I.IntoIter) × (taken : List T) × I.into_iter_gives items s
+            × Drains I.IntoIter.next_gives s taken × (state_of (λ text. text) table ≡ new_state (map T.texts taken))) }
         ensures refused { IfErr result (λ fault. fault ≡ Memory) }
     {
         let rows = value_rows::<T, I>(alloc, Vec::new(alloc), items)?;
@@ -115,7 +118,8 @@ where
     I::IntoIter: Drop,
     requires wide { All (λ row. length row ≡ length T.names) (text_rows before.items) }
     requires ends { (s : I.IntoIter) → I.into_iter_gives items s → I.IntoIter.can_next s × IsFinite (I.IntoIter.remaining s) }
-    ensures rows { IfOk result (λ out. (s : I.IntoIter) × (taken : List T) × I.into_iter_gives items s × Drains I.IntoIter.next_gives s taken × (text_rows out.items ≡ text_rows before.items ++ map T.texts taken)) }
+    ensures rows { IfOk result (λ out. (s : I.IntoIter) × (taken : List T) × I.into_iter_gives items s
+        × Drains I.IntoIter.next_gives s taken × (text_rows out.items ≡ text_rows before.items ++ map T.texts taken)) }
     ensures wide { IfOk result (λ out. All (λ row. length row ≡ length T.names) (text_rows out.items)) }
 {
     let mut rows = before;

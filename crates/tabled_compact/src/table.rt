@@ -138,7 +138,10 @@ where
         self,
         size: S,
     ) -> CompactTable<I, ConstDimension<N, ROWS>>
-        ensures { (widths : ConstSize N) × S.converts size widths × (compacted I.rows ⟦<ConstDimension<N, ROWS> as Dimension>⟧.width result ≡ record (compacted I.rows ⟦<ConstDimension<COLUMNS, ROWS> as Dimension>⟧.width self) { width = given_size (const_sizes widths) }) }
+        ensures { (widths : ConstSize N) × S.converts size widths
+            × (compacted I.rows ⟦<ConstDimension<N, ROWS> as Dimension>⟧.width result
+            ≡ record (compacted I.rows ⟦<ConstDimension<COLUMNS, ROWS> as Dimension>⟧.width self) { width = given_size
+            (const_sizes widths) }) }
     {
         let (_, heights) = self.dimension.into();
         CompactTable {
@@ -250,7 +253,9 @@ impl<I: IntoRecords, D: Dimension + Drop> CompactTable<I, D> {
     /// then written, and the writer isn't called again. Nothing is flushed.
     pub fn build<W: Write>(self, alloc: Global, writer: &mut Counted<W>) -> Result<(), BuildFault>
         ensures whole { OnOk result (Appends (W.contents (inner_of writer.old)) (W.contents (inner_of writer.new)) (printed (compacted I.RecordTexts.rows D.width self))) }
-        ensures front { IfErr result (λ fault. ¬ (NoTable fault) → AppendsFront (W.contents (inner_of writer.old)) (W.contents (inner_of writer.new)) (printed (compacted I.RecordTexts.rows D.width self))) }
+        ensures front { IfErr result (λ fault. ¬ (NoTable fault) →
+            AppendsFront (W.contents (inner_of writer.old)) (W.contents (inner_of writer.new))
+            (printed (compacted I.RecordTexts.rows D.width self))) }
         ensures untouched { IfErr result (λ fault. NoTable fault → writer.new ≡ writer.old) }
         ensures nothing { printed (compacted I.RecordTexts.rows D.width self) ≡ [] → writer.new ≡ writer.old }
         ensures fits { IfOk result (λ _. CanBeDrawnCompact (compacted I.RecordTexts.rows D.width self)) }

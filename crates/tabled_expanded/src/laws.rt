@@ -19,7 +19,9 @@ use std::alloc::Global;
 
 /// A table that is made of rows has the first as the names of the fields, and the others as records.
 pub fn rows_are_tables()
-    ensures { (rows : List1 (List1 (Bytes Heap) Heap) Heap) (table : OneTable Numbers) → ⟦<ExtendedTable<RecordNumber> as From<Vec<Vec<String>>>>⟧.from_gives rows table → expanded table ≡ table_of_rows (text_rows rows.items) }
+    ensures { (rows : List1 (List1 (Bytes Heap) Heap) Heap) (table : OneTable Numbers) →
+        ⟦<ExtendedTable<RecordNumber> as From<Vec<Vec<String>>>>⟧.from_gives rows table →
+        expanded table ≡ table_of_rows (text_rows rows.items) }
 {}
 
 /// The head of a record has its number, or is refused for memory, and can always be given; or it is what a given
@@ -27,7 +29,8 @@ pub fn rows_are_tables()
 pub fn heads_are_given<F: Fn(Global, usize) -> Result<String, Fault>>()
     ensures number { (template : Numbers) (number : ℕ) (answer : Result (Bytes Heap) Refusal) → ⟦<RecordNumber as Template>⟧.gives template number answer ↔ GivesNumber number answer }
     ensures always { (template : Numbers) → ⟦<RecordNumber as Template>⟧.can_give template }
-    ensures function { (function : F) (number : ℕ) (answer : Result (Bytes Heap) Refusal) → ⟦<Given<F> as Template>⟧.gives function number answer ↔ ((alloc : Heap) × F.post function alloc number answer) }
+    ensures function { (function : F) (number : ℕ) (answer : Result (Bytes Heap) Refusal) →
+        ⟦<Given<F> as Template>⟧.gives function number answer ↔ ((alloc : Heap) × F.post function alloc number answer) }
     ensures callable { (function : F) → F.IsAlwaysCallable function → ⟦<Given<F> as Template>⟧.can_give function }
 {}
 

@@ -19,10 +19,12 @@ impl<F: Template> ExtendedTable<F> {
     /// the first record whose head is refused; and as `Memory` where allocation fails.
     pub fn to_string(&self, alloc: Global) -> Result<String, Fault>
         requires { F.can_give (template_of self.now) }
-        ensures text { IfOk result (λ text. (heads : List (List ℕ)) × AreHeads (F.gives (template_of self.now)) heads × (length heads ≡ length (expanded self.now).records) × (string_bytes text ≡ expanded_text (expanded self.now) heads)) }
+        ensures text { IfOk result (λ text. (heads : List (List ℕ)) × AreHeads (F.gives (template_of self.now)) heads
+            × (length heads ≡ length (expanded self.now).records) × (string_bytes text ≡ expanded_text (expanded self.now) heads)) }
         ensures nothing { length (expanded self.now).records ≡ 0 → IsOk result }
         ensures range { IsTooWide (expanded self.now) → result ≡ Err Range }
-        ensures refused { IfErr result (λ fault. (fault ≡ Memory) ⊎ ((fault ≡ Range) × IsTooWide (expanded self.now)) ⊎ IsFaultOfHead (F.gives (template_of self.now)) (length (expanded self.now).records) fault) }
+        ensures refused { IfErr result (λ fault. (fault ≡ Memory) ⊎ ((fault ≡ Range) × IsTooWide (expanded self.now))
+            ⊎ IsFaultOfHead (F.gives (template_of self.now)) (length (expanded self.now).records) fault) }
     {
         if self.records.is_empty() {
             return Ok(String::new(alloc));
@@ -55,7 +57,9 @@ fn text_of<F: Template>(
 ) -> Result<String, Fault>
     requires widths { widths.0 + 3 + widths.1 < 2 ^ 64 }
     requires can { F.can_give template.now }
-    ensures text { IfOk result (λ text. (heads : List (List ℕ)) × AreHeads (F.gives template.now) heads × (length heads ≡ length records.now) × (string_bytes text ≡ joined_lines (all_lines widths.0 widths.1 (map string_bytes fields.now) heads (text_rows records.now)))) }
+    ensures text { IfOk result (λ text. (heads : List (List ℕ)) × AreHeads (F.gives template.now) heads
+        × (length heads ≡ length records.now)
+        × (string_bytes text ≡ joined_lines (all_lines widths.0 widths.1 (map string_bytes fields.now) heads (text_rows records.now)))) }
     ensures refused { IfErr result (λ fault. (fault ≡ Memory) ⊎ IsFaultOfHead (F.gives template.now) (length records.now) fault) }
 {
     let mut text = String::new(alloc);

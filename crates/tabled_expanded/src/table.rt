@@ -32,7 +32,8 @@ impl ExtendedTable<RecordNumber> {
     where
         I::IntoIter: Drop,
         requires { (s : I.IntoIter) → I.into_iter_gives items s → I.IntoIter.can_next s × IsFinite (I.IntoIter.remaining s) }
-        ensures table { IfOk result (λ table. (s : I.IntoIter) × (taken : List T) × I.into_iter_gives items s × Drains I.IntoIter.next_gives s taken × (expanded table ≡ escaped_table T.names (map T.texts taken))) }
+        ensures table { IfOk result (λ table. (s : I.IntoIter) × (taken : List T) × I.into_iter_gives items s
+            × Drains I.IntoIter.next_gives s taken × (expanded table ≡ escaped_table T.names (map T.texts taken))) }
         ensures refused { IfErr result (λ fault. fault ≡ Memory) }
     {
         let fields = escaped_texts(alloc, T::headers(alloc)?)?;
@@ -53,7 +54,8 @@ fn records_of<T: Tabled + Drop, I: IntoIterator<Item = T> + Drop>(
 where
     I::IntoIter: Drop,
     requires { (s : I.IntoIter) → I.into_iter_gives items s → I.IntoIter.can_next s × IsFinite (I.IntoIter.remaining s) }
-    ensures { IfOk result (λ out. (s : I.IntoIter) × (taken : List T) × I.into_iter_gives items s × Drains I.IntoIter.next_gives s taken × (text_rows out.items ≡ map (map escaped) (map T.texts taken))) }
+    ensures { IfOk result (λ out. (s : I.IntoIter) × (taken : List T) × I.into_iter_gives items s × Drains I.IntoIter.next_gives s taken
+        × (text_rows out.items ≡ map (map escaped) (map T.texts taken))) }
 {
     let mut records = Vec::new(alloc);
     for item in items {

@@ -66,11 +66,14 @@ pub fn options_are_their_steps<
     R: ExactRecords,
     C: Configuration,
 >()
-    ensures increase { (option : TableIncrease W P) (state : State) (outcome : Outcome) → ⟦<TableHeightIncrease<W, P> as TableOption<VecRecords<T>, ColoredConfig, CompleteDimension>>⟧.step option state outcome →
+    ensures increase { (option : TableIncrease W P) (state : State) (outcome : Outcome) →
+        ⟦<TableHeightIncrease<W, P> as TableOption<VecRecords<T>, ColoredConfig, CompleteDimension>>⟧.step option state outcome →
         RaisesTable (W.measures (table_increase option).0) P.grows (table_increase option).1 state outcome }
-    ensures limit { (option : TableLimit W P) (state : State) (outcome : Outcome) → ⟦<TableHeightLimit<W, P> as TableOption<VecRecords<T>, ColoredConfig, CompleteDimension>>⟧.step option state outcome →
+    ensures limit { (option : TableLimit W P) (state : State) (outcome : Outcome) →
+        ⟦<TableHeightLimit<W, P> as TableOption<VecRecords<T>, ColoredConfig, CompleteDimension>>⟧.step option state outcome →
         LimitsTable (W.measures (table_limit option).0) P.shrinks (table_limit option).1 state outcome }
-    ensures cell_increase { (option : CellIncrease W) (state : State) (outcome : Outcome) → ⟦<CellHeightIncrease<W> as TableOption<VecRecords<T>, ColoredConfig, CompleteDimension>>⟧.step option state outcome →
+    ensures cell_increase { (option : CellIncrease W) (state : State) (outcome : Outcome) →
+        ⟦<CellHeightIncrease<W> as TableOption<VecRecords<T>, ColoredConfig, CompleteDimension>>⟧.step option state outcome →
         RaisesTable (W.measures (increase_height option)) ⟦<PriorityNone as Peaker>⟧.grows 0 state outcome }
     ensures cell_limit { (option : CellLimit W) (state : State) (outcome : Outcome) → ⟦<CellHeightLimit<W> as TableOption<VecRecords<T>, ColoredConfig, CompleteDimension>>⟧.step option state outcome →
         LimitsTable (W.measures (limit_height option)) ⟦<PriorityNone as Peaker>⟧.shrinks 0 state outcome }

@@ -146,7 +146,8 @@ impl<T: FromText, W: Measurement<Height> + Drop, P: Peaker + Drop> TableOption<
         ensures no_rows { length (⟦<VecRecords<T> as RecordTexts>⟧.rows records.old) ≡ 0 → IsOk result }
         ensures no_columns { ⟦<VecRecords<T> as RecordColumns>⟧.columns records.old ≡ 0 → IsOk result }
         ensures step { Steps (LimitsTable (W.measures (table_limit self).0) P.shrinks (table_limit self).1) result
-            (state_with (⟦<VecRecords<T> as RecordTexts>⟧.rows records.old) (look_of cfg.old.settings) (value_at cfg.old.colors) dims.old) (state_with (⟦<VecRecords<T> as RecordTexts>⟧.rows records.new) (look_of cfg.new.settings) (value_at cfg.new.colors) dims.new) }
+            (state_with (⟦<VecRecords<T> as RecordTexts>⟧.rows records.old) (look_of cfg.old.settings) (value_at cfg.old.colors) dims.old)
+            (state_with (⟦<VecRecords<T> as RecordTexts>⟧.rows records.new) (look_of cfg.new.settings) (value_at cfg.new.colors) dims.new) }
     {
         if records.count_rows() == 0 || records.count_columns() == 0 {
             return Ok(());

@@ -4,7 +4,7 @@ use Rattle.std.proofs.lemmas.Bool.Decides.{nat_tests}
 use Rattle.std.proofs.lemmas.List.{take-map}
 use Rattle.std.proofs.lemmas.List.FromFn.{get_or-map-range_with_len, length-map-range_with_len}
 use Rattle.grid_config.specs.Looks.{Look}
-use Rattle.papergrid_picture.proofs.FrameLemmas.{boundary-bounded, boundary-next}
+use Rattle.papergrid_picture.proofs.Frames.{boundary-bounded, boundary-next}
 use Rattle.papergrid_picture.specs.Fitting.{InRange, table_width}
 use Rattle.papergrid_picture.specs.Frame.{Frame, Tracks, column_count as columns_in, frame_of, line_count, row_count, total_width, track_at}
 use Rattle.papergrid_picture.specs.Tables.{sizes_of}

@@ -42,7 +42,9 @@ pub(crate) fn layout_of<C: Cell>(
 ) -> Result<Layout, Fault>
     ensures widths { let texts = texts_of_rows C.text sniffed.now in IfOk result (λ layout. layout.content.0 ≡ widths_or shape.width columns texts) }
     ensures wide { let texts = texts_of_rows C.text sniffed.now in IfOk result (λ layout. AreGreater (padding.left.size + padding.right.size) (widths_or shape.width columns texts) layout.sizes.0) }
-    ensures high { let texts = texts_of_rows C.text sniffed.now in IfOk result (λ layout. AreGreater (padding.top.size + padding.bottom.size) (heights_or shape.height shape.width columns (kept_of shape.kept texts)) layout.sizes.1) }
+    ensures high { let texts = texts_of_rows C.text sniffed.now in IfOk result
+        (λ layout. AreGreater (padding.top.size + padding.bottom.size)
+        (heights_or shape.height shape.width columns (kept_of shape.kept texts)) layout.sizes.1) }
     ensures refused { let texts = texts_of_rows C.text sniffed.now in IfErr result (λ fault. (fault ≡ Memory)
         ⊎ ((fault ≡ PassesMax) × (Passes (padding.left.size + padding.right.size) (widths_or shape.width columns texts)
         ⊎ Passes (padding.top.size + padding.bottom.size) (heights_or shape.height shape.width columns (kept_of shape.kept texts))))) }

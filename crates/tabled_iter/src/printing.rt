@@ -32,9 +32,13 @@ pub(crate) fn draw<I: IntoRecords + Drop>(
 ) -> Result<(), Fault>
     ensures text { let shown = fitted columns (truncated_rows (given_size layout.content.0) (kept_of kept (I.RecordTexts.rows rows))) in OnOk result (string_bytes out.new ≡ string_bytes out.old
         ++ grid_text (compact_look (compact_of config.now)) (given_size layout.sizes.0) (given_size layout.sizes.1) no_colors columns shown) }
-    ensures fits { let shown = fitted columns (truncated_rows (given_size layout.content.0) (kept_of kept (I.RecordTexts.rows rows))) in IfOk result (λ done. IsDrawn (compact_look (compact_of config.now)) layout.sizes columns shown (Ok done)) }
+    ensures fits { let shown = fitted columns
+        (truncated_rows (given_size layout.content.0) (kept_of kept (I.RecordTexts.rows rows))) in IfOk result
+        (λ done. IsDrawn (compact_look (compact_of config.now)) layout.sizes columns shown (Ok done)) }
     ensures refused { OnErr result (string_bytes out.new ≡ string_bytes out.old) }
-    ensures fault { let shown = fitted columns (truncated_rows (given_size layout.content.0) (kept_of kept (I.RecordTexts.rows rows))) in IfErr result (λ fault. (fault ≡ Memory) ⊎ IsDrawn (compact_look (compact_of config.now)) layout.sizes columns shown (Err fault)) }
+    ensures fault { let shown = fitted columns
+        (truncated_rows (given_size layout.content.0) (kept_of kept (I.RecordTexts.rows rows))) in IfErr result (λ fault. (fault ≡ Memory)
+        ⊎ IsDrawn (compact_look (compact_of config.now)) layout.sizes columns shown (Err fault)) }
 {
     let settings = SpannedConfig::from_compact_config(alloc, *config)?;
     let outcome = draw_kept(alloc, rows, kept, columns, &settings, layout, out);
@@ -54,9 +58,13 @@ fn draw_kept<I: IntoRecords + Drop>(
 ) -> Result<(), Fault>
     ensures text { let shown = fitted columns (truncated_rows (given_size layout.content.0) (kept_of kept (I.RecordTexts.rows rows))) in OnOk result (string_bytes out.new ≡ string_bytes out.old
         ++ grid_text (look_of settings.now) (given_size layout.sizes.0) (given_size layout.sizes.1) no_colors columns shown) }
-    ensures fits { let shown = fitted columns (truncated_rows (given_size layout.content.0) (kept_of kept (I.RecordTexts.rows rows))) in OnOk result (CanBeDrawn settings.now (given_size layout.sizes.0) (given_size layout.sizes.1) columns shown) }
+    ensures fits { let shown = fitted columns
+        (truncated_rows (given_size layout.content.0) (kept_of kept (I.RecordTexts.rows rows))) in OnOk result
+        (CanBeDrawn settings.now (given_size layout.sizes.0) (given_size layout.sizes.1) columns shown) }
     ensures refused { OnErr result (string_bytes out.new ≡ string_bytes out.old) }
-    ensures fault { let shown = fitted columns (truncated_rows (given_size layout.content.0) (kept_of kept (I.RecordTexts.rows rows))) in IfErr result (λ fault. (fault ≡ Memory) ⊎ IsFitsAnswer settings.now (given_size layout.sizes.0) (given_size layout.sizes.1) columns shown (Err fault)) }
+    ensures fault { let shown = fitted columns
+        (truncated_rows (given_size layout.content.0) (kept_of kept (I.RecordTexts.rows rows))) in IfErr result (λ fault. (fault ≡ Memory)
+        ⊎ IsFitsAnswer settings.now (given_size layout.sizes.0) (given_size layout.sizes.1) columns shown (Err fault)) }
 {
     let Layout { content, sizes } = layout;
     match kept {

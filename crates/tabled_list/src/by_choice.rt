@@ -80,7 +80,9 @@ pub(crate) struct TextCutting<'a> {
 }
 
 impl<'a, T: FromText> Prioritized<T> for TextCutting<'a> {
-    ghost stepped = { λ option choice. Settles None (NarrowsBy (IsShrunkByChoice choice) (truncating (cutting_by option.suffix.now option.limit option.multiline option.try_color)) (width_of option.width)) };
+    ghost stepped = { λ option choice. Settles None
+        (NarrowsBy (IsShrunkByChoice choice) (truncating (cutting_by option.suffix.now option.limit option.multiline option.try_color))
+        (width_of option.width)) };
 
     fn adjust_by<S: Adjustable<T>, P: Peaker + Drop>(
         self,

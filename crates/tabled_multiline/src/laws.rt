@@ -55,7 +55,8 @@ pub fn options_are_their_steps<D: KeptSizes>()
         looking (with_borders (style_borders style)) state ≡ outcome }
     ensures padding { (padding : OnePadding) (state : State) (outcome : Outcome) → ⟦<Padding as TableOption<EmptyRecords, CompactMultilineConfig, D>>⟧.step padding state outcome →
         looking (with_padding EveryCell (padding_sides padding)) state ≡ outcome }
-    ensures whole { (settings : MultilineSettings) (state : State) (outcome : Outcome) → ⟦<CompactMultilineConfig as TableOption<EmptyRecords, CompactMultilineConfig, D>>⟧.step settings state outcome →
+    ensures whole { (settings : MultilineSettings) (state : State) (outcome : Outcome) →
+        ⟦<CompactMultilineConfig as TableOption<EmptyRecords, CompactMultilineConfig, D>>⟧.step settings state outcome →
         looking (λ _. multiline_look (multiline_of settings)) state ≡ outcome }
 {}
 

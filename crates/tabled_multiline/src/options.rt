@@ -50,7 +50,9 @@ impl<D: KeptSizes> TableOption<EmptyRecords, CompactMultilineConfig, D> for Marg
     ) -> Result<(), Fault>
         ensures answers { IsOk result }
         ensures step { Steps (λ state outcome. looking (with_margin (margin_sides self)) state ≡ outcome) result
-            (state_with (⟦<EmptyRecords as RecordTexts>⟧.rows records.old) (multiline_look (multiline_of cfg.old)) (λ _. None) (D.sizes dims.old)) (state_with (⟦<EmptyRecords as RecordTexts>⟧.rows records.new) (multiline_look (multiline_of cfg.new)) (λ _. None) (D.sizes dims.new)) }
+            (state_with (⟦<EmptyRecords as RecordTexts>⟧.rows records.old) (multiline_look (multiline_of cfg.old)) (λ _. None)
+            (D.sizes dims.old)) (state_with (⟦<EmptyRecords as RecordTexts>⟧.rows records.new) (multiline_look (multiline_of cfg.new))
+            (λ _. None) (D.sizes dims.new)) }
     {
         cfg.set_margin(Sides::from(self));
         Ok(())
@@ -76,7 +78,9 @@ impl<D: KeptSizes> TableOption<EmptyRecords, CompactMultilineConfig, D> for Padd
     ) -> Result<(), Fault>
         ensures answers { IsOk result }
         ensures step { Steps (λ state outcome. looking (with_padding EveryCell (padding_sides self)) state ≡ outcome) result
-            (state_with (⟦<EmptyRecords as RecordTexts>⟧.rows records.old) (multiline_look (multiline_of cfg.old)) (λ _. None) (D.sizes dims.old)) (state_with (⟦<EmptyRecords as RecordTexts>⟧.rows records.new) (multiline_look (multiline_of cfg.new)) (λ _. None) (D.sizes dims.new)) }
+            (state_with (⟦<EmptyRecords as RecordTexts>⟧.rows records.old) (multiline_look (multiline_of cfg.old)) (λ _. None)
+            (D.sizes dims.old)) (state_with (⟦<EmptyRecords as RecordTexts>⟧.rows records.new) (multiline_look (multiline_of cfg.new))
+            (λ _. None) (D.sizes dims.new)) }
     {
         cfg.set_padding(Sides::from(self));
         Ok(())
@@ -102,7 +106,9 @@ impl<D: KeptSizes> TableOption<EmptyRecords, CompactMultilineConfig, D> for Styl
     ) -> Result<(), Fault>
         ensures answers { IsOk result }
         ensures step { Steps (λ state outcome. looking (with_borders (style_borders self)) state ≡ outcome) result
-            (state_with (⟦<EmptyRecords as RecordTexts>⟧.rows records.old) (multiline_look (multiline_of cfg.old)) (λ _. None) (D.sizes dims.old)) (state_with (⟦<EmptyRecords as RecordTexts>⟧.rows records.new) (multiline_look (multiline_of cfg.new)) (λ _. None) (D.sizes dims.new)) }
+            (state_with (⟦<EmptyRecords as RecordTexts>⟧.rows records.old) (multiline_look (multiline_of cfg.old)) (λ _. None)
+            (D.sizes dims.old)) (state_with (⟦<EmptyRecords as RecordTexts>⟧.rows records.new) (multiline_look (multiline_of cfg.new))
+            (λ _. None) (D.sizes dims.new)) }
     {
         cfg.set_borders(self.get_borders());
         Ok(())
@@ -128,7 +134,9 @@ impl<D: KeptSizes> TableOption<EmptyRecords, CompactMultilineConfig, D> for Comp
     ) -> Result<(), Fault>
         ensures answers { IsOk result }
         ensures step { Steps (λ state outcome. looking (λ _. multiline_look (multiline_of self)) state ≡ outcome) result
-            (state_with (⟦<EmptyRecords as RecordTexts>⟧.rows records.old) (multiline_look (multiline_of cfg.old)) (λ _. None) (D.sizes dims.old)) (state_with (⟦<EmptyRecords as RecordTexts>⟧.rows records.new) (multiline_look (multiline_of cfg.new)) (λ _. None) (D.sizes dims.new)) }
+            (state_with (⟦<EmptyRecords as RecordTexts>⟧.rows records.old) (multiline_look (multiline_of cfg.old)) (λ _. None)
+            (D.sizes dims.old)) (state_with (⟦<EmptyRecords as RecordTexts>⟧.rows records.new) (multiline_look (multiline_of cfg.new))
+            (λ _. None) (D.sizes dims.new)) }
     {
         *cfg = self;
         Ok(())
@@ -154,7 +162,10 @@ impl TableOption<EmptyRecords, CompactMultilineConfig, PoolSizes> for PoolTableD
     ) -> Result<(), Fault>
         ensures answers { IsOk result }
         ensures step { Steps (λ state outcome. Ok (record state { sizes = takers_seen self }) ≡ outcome) result
-            (state_with (⟦<EmptyRecords as RecordTexts>⟧.rows records.old) (multiline_look (multiline_of cfg.old)) (λ _. None) (takers_seen dims.old.dimension)) (state_with (⟦<EmptyRecords as RecordTexts>⟧.rows records.new) (multiline_look (multiline_of cfg.new)) (λ _. None) (takers_seen dims.new.dimension)) }
+            (state_with (⟦<EmptyRecords as RecordTexts>⟧.rows records.old) (multiline_look (multiline_of cfg.old)) (λ _. None)
+            (takers_seen dims.old.dimension))
+            (state_with (⟦<EmptyRecords as RecordTexts>⟧.rows records.new) (multiline_look (multiline_of cfg.new)) (λ _. None)
+            (takers_seen dims.new.dimension)) }
     {
         dims.dimension = self;
         Ok(())

@@ -31,7 +31,8 @@ impl<R: RecordTexts, D: KeptSizes> TableOption<R, CompactConfig, D> for Margin {
     ) -> Result<(), Fault>
         ensures answers { IsOk result }
         ensures step { Steps (λ state outcome. looking (with_margin (margin_sides self)) state ≡ outcome) result
-            (state_with (R.rows records.old) (compact_look (compact_of cfg.old)) (λ _. None) (D.sizes dims.old)) (state_with (R.rows records.new) (compact_look (compact_of cfg.new)) (λ _. None) (D.sizes dims.new)) }
+            (state_with (R.rows records.old) (compact_look (compact_of cfg.old)) (λ _. None) (D.sizes dims.old))
+            (state_with (R.rows records.new) (compact_look (compact_of cfg.new)) (λ _. None) (D.sizes dims.new)) }
     {
         *cfg = cfg.set_margin(Sides::from(self));
         Ok(())
@@ -57,7 +58,8 @@ impl<R: RecordTexts, D: KeptSizes> TableOption<R, CompactConfig, D> for Padding 
     ) -> Result<(), Fault>
         ensures answers { IsOk result }
         ensures step { Steps (λ state outcome. looking (with_padding EveryCell (padding_sides self)) state ≡ outcome) result
-            (state_with (R.rows records.old) (compact_look (compact_of cfg.old)) (λ _. None) (D.sizes dims.old)) (state_with (R.rows records.new) (compact_look (compact_of cfg.new)) (λ _. None) (D.sizes dims.new)) }
+            (state_with (R.rows records.old) (compact_look (compact_of cfg.old)) (λ _. None) (D.sizes dims.old))
+            (state_with (R.rows records.new) (compact_look (compact_of cfg.new)) (λ _. None) (D.sizes dims.new)) }
     {
         *cfg = cfg.set_padding(Sides::from(self));
         Ok(())
@@ -83,7 +85,8 @@ impl<R: RecordTexts, D: KeptSizes> TableOption<R, CompactConfig, D> for Style {
     ) -> Result<(), Fault>
         ensures answers { IsOk result }
         ensures step { Steps (λ state outcome. looking (with_borders (style_borders self)) state ≡ outcome) result
-            (state_with (R.rows records.old) (compact_look (compact_of cfg.old)) (λ _. None) (D.sizes dims.old)) (state_with (R.rows records.new) (compact_look (compact_of cfg.new)) (λ _. None) (D.sizes dims.new)) }
+            (state_with (R.rows records.old) (compact_look (compact_of cfg.old)) (λ _. None) (D.sizes dims.old))
+            (state_with (R.rows records.new) (compact_look (compact_of cfg.new)) (λ _. None) (D.sizes dims.new)) }
     {
         *cfg = cfg.set_borders(self.get_borders());
         Ok(())

@@ -74,7 +74,8 @@ impl<R: RecordTexts, D: KeptSizes> TableOption<R, ColoredConfig, D> for Alignmen
     ) -> Result<(), Fault>
         ensures answers { IsOk result }
         ensures step { Steps (λ state outcome. looking (with_strategy self EveryCell) state ≡ outcome) result
-            (state_with (R.rows records.old) (look_of cfg.old.settings) (value_at cfg.old.colors) (D.sizes dims.old)) (state_with (R.rows records.new) (look_of cfg.new.settings) (value_at cfg.new.colors) (D.sizes dims.new)) }
+            (state_with (R.rows records.old) (look_of cfg.old.settings) (value_at cfg.old.colors) (D.sizes dims.old))
+            (state_with (R.rows records.new) (look_of cfg.new.settings) (value_at cfg.new.colors) (D.sizes dims.new)) }
     {
         CellOption::<R, ColoredConfig>::change(&self, alloc, records, cfg, Entity::Global)
     }
@@ -127,7 +128,8 @@ impl<R: RecordTexts, D: KeptSizes> TableOption<R, ColoredConfig, D> for TrimStra
     ) -> Result<(), Fault>
         ensures answers { IsOk result }
         ensures step { Steps (λ state outcome. looking (with_trim self EveryCell) state ≡ outcome) result
-            (state_with (R.rows records.old) (look_of cfg.old.settings) (value_at cfg.old.colors) (D.sizes dims.old)) (state_with (R.rows records.new) (look_of cfg.new.settings) (value_at cfg.new.colors) (D.sizes dims.new)) }
+            (state_with (R.rows records.old) (look_of cfg.old.settings) (value_at cfg.old.colors) (D.sizes dims.old))
+            (state_with (R.rows records.new) (look_of cfg.new.settings) (value_at cfg.new.colors) (D.sizes dims.new)) }
     {
         CellOption::<R, ColoredConfig>::change(&self, alloc, records, cfg, Entity::Global)
     }

@@ -82,7 +82,8 @@ impl<R: RecordTexts, D: KeptSizes> TableOption<R, ColoredConfig, D> for Margin {
     ) -> Result<(), Fault>
         ensures answers { IsOk result }
         ensures step { Steps (λ state outcome. looking (with_margin (margin_sides self)) state ≡ outcome) result
-            (state_with (R.rows records.old) (look_of cfg.old.settings) (value_at cfg.old.colors) (D.sizes dims.old)) (state_with (R.rows records.new) (look_of cfg.new.settings) (value_at cfg.new.colors) (D.sizes dims.new)) }
+            (state_with (R.rows records.old) (look_of cfg.old.settings) (value_at cfg.old.colors) (D.sizes dims.old))
+            (state_with (R.rows records.new) (look_of cfg.new.settings) (value_at cfg.new.colors) (D.sizes dims.new)) }
     {
         cfg.spanned_mut().set_margin(self.indent);
         Ok(())

@@ -151,9 +151,12 @@ impl<T: FromText> CellOption<VecRecords<T>, ColoredConfig> for Span {
         ensures zero { span_size self.now ≡ 0 → result ≡ Err BadSpan }
         ensures one { (row col : ℕ) → entity ≡ OneCell row col → span_size self.now ≡ 1 → IsOk result }
         ensures again { (row col : ℕ) → entity ≡ OneCell row col → span_size self.now ≢ 0 → IsAnchor cfg.old.settings.spans (record { row = row; col = col }) → IsOk result }
-        ensures outside { (row col : ℕ) → entity ≡ OneCell row col → span_size self.now ≢ 0 → (length (⟦<VecRecords<T> as RecordTexts>⟧.rows records.old) ≤ row) ⊎ (⟦<VecRecords<T> as RecordColumns>⟧.columns records.old ≤ col) → IsOk result }
+        ensures outside { (row col : ℕ) → entity ≡ OneCell row col → span_size self.now ≢ 0 →
+            (length (⟦<VecRecords<T> as RecordTexts>⟧.rows records.old) ≤ row)
+            ⊎ (⟦<VecRecords<T> as RecordColumns>⟧.columns records.old ≤ col) → IsOk result }
         ensures step { (sizes : Stored) → Steps (λ state outcome. spanning self.now entity state ≡ outcome) result
-            (state_with (⟦<VecRecords<T> as RecordTexts>⟧.rows records.old) (look_of cfg.old.settings) (value_at cfg.old.colors) sizes) (state_with (⟦<VecRecords<T> as RecordTexts>⟧.rows records.new) (look_of cfg.new.settings) (value_at cfg.new.colors) sizes) }
+            (state_with (⟦<VecRecords<T> as RecordTexts>⟧.rows records.old) (look_of cfg.old.settings) (value_at cfg.old.colors) sizes)
+            (state_with (⟦<VecRecords<T> as RecordTexts>⟧.rows records.new) (look_of cfg.new.settings) (value_at cfg.new.colors) sizes) }
     {
         if self.size == 0 {
             return Err(Fault::Spans);

@@ -1,2 +1,2 @@
-pub mod PieceLemmas
+pub mod Pieces
 pub mod Written

@@ -1,11 +1,11 @@
 pub mod SameOrder
 pub mod Equality
-pub mod SizeLemmas
+pub mod Sizes
 pub mod Adding
-pub mod DrawLemmas
-pub mod TextLemmas
-mod SetGlyphLemmas
-pub mod FrameLemmas
-pub mod RunLemmas
-pub mod LineLemmas
-pub mod MarginLemmas
+pub mod Draws
+pub mod Texts
+mod SetGlyphs
+pub mod Frames
+pub mod Runs
+pub mod Lines
+pub mod Margins

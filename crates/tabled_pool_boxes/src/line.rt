@@ -84,7 +84,8 @@ fn push_part<'a>(
     requires { x + part_width (shape_of part.now) ≤ length around.now.here.items }
     ensures width { IfOk result (λ width. width ≡ part_width (shape_of part.now)) }
     ensures text { OnOk result ((behind : List Shape) →
-        text_with (string_bytes out.new) held.new.items behind ≡ text_with (string_bytes out.old) held.old.items (part_shapes (look_of cfg.now) (around_of around.now) x (shape_of part.now) ++ behind)) }
+        text_with (string_bytes out.new) held.new.items behind ≡ text_with (string_bytes out.old) held.old.items
+        (part_shapes (look_of cfg.now) (around_of around.now) x (shape_of part.now) ++ behind)) }
 {
     match part {
         Part::Shown(width, text) => {
@@ -114,7 +115,8 @@ fn push_level<'a>(
 ) -> Result<(), AllocError>
     requires { x + width ≤ length around.now.here.items }
     ensures { OnOk result ((behind : List Shape) →
-        text_with (string_bytes out.new) held.new.items behind ≡ text_with (string_bytes out.old) held.old.items (map (level_glyph (look_of cfg.now) (around_of around.now) (kind_of edge)) (range_with_len x width) ++ behind)) }
+        text_with (string_bytes out.new) held.new.items behind ≡ text_with (string_bytes out.old) held.old.items
+        (map (level_glyph (look_of cfg.now) (around_of around.now) (kind_of edge)) (range_with_len x width) ++ behind)) }
 {
     for i in 0..width {
         push_glyph(out, held, level_glyph(cfg, around, edge, x + i))?;

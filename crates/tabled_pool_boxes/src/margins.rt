@@ -62,9 +62,11 @@ fn shows_nothing(
 
 // Refused as `Range` exactly where the margin makes the width or the height pass `usize::MAX`.
 fn check_margins(cfg: &SpannedConfig, width: usize, height: usize) -> Result<(), Fault>
-    ensures fits { IfOk result (λ _. max ((look_of cfg.now).margin.left.size + width + (look_of cfg.now).margin.right.size) ((look_of cfg.now).margin.top.size + height + (look_of cfg.now).margin.bottom.size) < 2 ^ 64) }
+    ensures fits { IfOk result (λ _. max ((look_of cfg.now).margin.left.size + width + (look_of cfg.now).margin.right.size)
+        ((look_of cfg.now).margin.top.size + height + (look_of cfg.now).margin.bottom.size) < 2 ^ 64) }
     ensures fault { IfErr result (λ fault. fault ≡ Range) }
-    ensures range { OnErr result (2 ^ 64 ≤ max ((look_of cfg.now).margin.left.size + width + (look_of cfg.now).margin.right.size) ((look_of cfg.now).margin.top.size + height + (look_of cfg.now).margin.bottom.size)) }
+    ensures range { OnErr result (2 ^ 64 ≤ max ((look_of cfg.now).margin.left.size + width + (look_of cfg.now).margin.right.size)
+        ((look_of cfg.now).margin.top.size + height + (look_of cfg.now).margin.bottom.size)) }
 {
     let margin = cfg.get_margin();
     if fits(width, margin.left.size, margin.right.size)
@@ -104,7 +106,10 @@ fn push_all(
 
 // Appends the lines of the top margin, each before a line feed.
 fn push_above(out: &mut String, cfg: &SpannedConfig, width: usize) -> Result<(), AllocError>
-    ensures { OnOk result (string_bytes out.new ≡ string_bytes out.old ++ flat_map (λ line. line ++ 10 ∷ []) (replicate (look_of cfg.now).margin.top.size (margin_line (look_of cfg.now) width (look_of cfg.now).margin.top (look_of cfg.now).margin_color.top))) }
+    ensures { OnOk result (string_bytes out.new ≡ string_bytes out.old
+        ++ flat_map (λ line. line ++ 10 ∷ [])
+        (replicate (look_of cfg.now).margin.top.size
+        (margin_line (look_of cfg.now) width (look_of cfg.now).margin.top (look_of cfg.now).margin_color.top))) }
 {
     let margin = &cfg.get_margin().top;
     for _ in 0..margin.size {
@@ -157,7 +162,9 @@ fn push_between(
 
 // Appends the lines of the bottom margin, each after a line feed.
 fn push_below(out: &mut String, cfg: &SpannedConfig, width: usize) -> Result<(), AllocError>
-    ensures { OnOk result (string_bytes out.new ≡ string_bytes out.old ++ behind_feeds (replicate (look_of cfg.now).margin.bottom.size (margin_line (look_of cfg.now) width (look_of cfg.now).margin.bottom (look_of cfg.now).margin_color.bottom))) }
+    ensures { OnOk result (string_bytes out.new ≡ string_bytes out.old
+        ++ behind_feeds (replicate (look_of cfg.now).margin.bottom.size
+        (margin_line (look_of cfg.now) width (look_of cfg.now).margin.bottom (look_of cfg.now).margin_color.bottom))) }
 {
     let margin = &cfg.get_margin().bottom;
     for _ in 0..margin.size {

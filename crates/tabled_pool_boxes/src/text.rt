@@ -89,7 +89,10 @@ fn draw_lines(
 ) -> Result<(), AllocError>
     requires room { cell_height (look_of pen.now.cfg.now) (measures_of shown.now) ≤ height }
     requires inside { top + height ≤ length lines.old }
-    ensures { OnOk result (Adds lines.old lines.new (from_line top (first_lines height (λ y. Shown shown.now.width (cell_bytes (look_of pen.now.cfg.now) (measures_of shown.now) (texts_of shown.now) shown.now.width height y) ∷ [])))) }
+    ensures { OnOk result (Adds lines.old lines.new
+        (from_line top (first_lines height
+        (λ y. Shown shown.now.width (cell_bytes (look_of pen.now.cfg.now) (measures_of shown.now)
+        (texts_of shown.now) shown.now.width height y) ∷ [])))) }
 {
     for y in 0..height {
         let line = place_line(pen, shown, height, y)?;
@@ -132,7 +135,8 @@ fn place_line(
 // How many blank lines stand above a text of so many lines and its paddings, in a place of this height.
 fn lines_above(cfg: &SpannedConfig, count: usize, height: usize) -> usize
     requires { count + ((look_of cfg.now).padding (at 0 0)).top.size + ((look_of cfg.now).padding (at 0 0)).bottom.size ≤ height }
-    ensures { result ≡ free_above ((look_of cfg.now).alignment_vertical (at 0 0)) (height - (count + ((look_of cfg.now).padding (at 0 0)).top.size + ((look_of cfg.now).padding (at 0 0)).bottom.size)) }
+    ensures { result ≡ free_above ((look_of cfg.now).alignment_vertical (at 0 0))
+        (height - (count + ((look_of cfg.now).padding (at 0 0)).top.size + ((look_of cfg.now).padding (at 0 0)).bottom.size)) }
 {
     let padding = cfg.get_padding(FIRST);
     let free = height - (count + padding.top.size + padding.bottom.size);

@@ -7,17 +7,17 @@ use Rattle.ansi_str.specs.StyledText.{strip, has_escape}
 use Rattle.ansi_str_text.proofs.Stripping.{has_escape-strip, strip-without_escape}
 use Rattle.grid_config_values.specs.declared.position.Position.{Position}
 use Rattle.grid_records_measure.specs.TextLines.{line_feed, text_height, text_width, widest}
-use Rattle.papergrid_picture.proofs.ShownLemmas.{get_or-map, pieces-nothing, characters-styled, styled_of}
+use Rattle.papergrid_picture.proofs.Shown.{get_or-map, pieces-nothing, characters-styled, styled_of}
 use Rattle.papergrid_picture.specs.Shown.{AreWholeTexts, IsWholeText, character_of, in_plain, stripped_texts}
 use Rattle.std.specs.Prelude.{chars, encode_utf8_all}
 use Rattle.std.proofs.lemmas.Simd.{map-map}
 use Rattle.std.proofs.lemmas.Str.{encodes-chars}
 use Rattle.ansi_str_text.proofs.Utf8Pieces.{IsUtf8-shown_text}
 use Rattle.grid_records_traits.specs.Rows.{text_at}
-use Rattle.papergrid_picture.proofs.StrippedLemmas.{none-broken, stripped}
+use Rattle.papergrid_picture.proofs.Stripped.{none-broken, stripped}
 use Rattle.tabled_size_cells.specs.Resizing.{Resize, resized, resized_text}
-use Rattle.tabled_size_cells.proofs.BridgeLemmas.{resized-shows}
-use Rattle.tabled_size_cells.proofs.CharacterLemmas.{resized-natural, same}
+use Rattle.tabled_size_cells.proofs.Bridges.{resized-shows}
+use Rattle.tabled_size_cells.proofs.Characters.{resized-natural, same}
 
 pub stripped-none : stripped [] ≡ []
 stripped-none = ap strip pieces-nothing

@@ -1,6 +1,6 @@
 pub mod CellStripping
-pub mod BridgeLemmas
-pub mod CharacterLemmas
+pub mod Bridges
+pub mod Characters
 pub mod RunsShown
-pub mod ResizedLemmas
-pub mod PlainTextLemmas
+pub mod Resized
+pub mod PlainTexts

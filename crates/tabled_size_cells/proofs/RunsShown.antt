@@ -4,7 +4,7 @@ use Rattle.std.proofs.lemmas.Bool.Decides.{nat_tests}
 use Rattle.tabled_size_wrap.specs.Showing.{unit_size}
 use Rattle.tabled_size_wrap.specs.Units.{LineUnit}
 use Rattle.tabled_size_wrap.specs.Wrapping.{from_wide, is_narrow, narrow_front, shown_lines, shown_run}
-use Rattle.tabled_size_wrap.proofs.RunLemmas.{front-cons, front-wide}
+use Rattle.tabled_size_wrap.proofs.Runs.{front-cons, front-wide}
 use Rattle.tabled_size_cells.specs.Resized.{AreNarrow, ShowRuns, ShowsRun, parted, run_size, whole}
 
 module _ (width : ℕ) where

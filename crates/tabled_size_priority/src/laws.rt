@@ -138,7 +138,8 @@ pub fn priorities_are_compared_and_cloned_whole()
 /// A priority but `PriorityNone` keeps what it kept when it shrinks or grows. That one goes round, from the
 /// column at which it goes on, which then is the one after the last that it changed, or where it stood.
 pub fn sides_are_kept()
-    ensures shrunk_in_turns { (next after : ℕ) (least widths sizes : List ℕ) (by : ℕ) → ⟦<PriorityNone as Peaker>⟧.shrinks next least by widths after sizes → shrinks_in_turns next least by widths after sizes }
+    ensures shrunk_in_turns { (next after : ℕ) (least widths sizes : List ℕ) (by : ℕ) →
+        ⟦<PriorityNone as Peaker>⟧.shrinks next least by widths after sizes → shrinks_in_turns next least by widths after sizes }
     ensures grown_in_turns { (next after : ℕ) (widths sizes : List ℕ) (by : ℕ) → ⟦<PriorityNone as Peaker>⟧.grows next by widths after sizes → grows_in_turns next by widths after sizes }
     ensures shrunk_by_widest { (side after : Bool) (least widths sizes : List ℕ) (by : ℕ) → ⟦<PriorityMax as Peaker>⟧.shrinks side least by widths after sizes → after ≡ side }
     ensures grown_by_widest { (side after : Bool) (widths sizes : List ℕ) (by : ℕ) → ⟦<PriorityMax as Peaker>⟧.grows side by widths after sizes → after ≡ side }
@@ -150,16 +151,23 @@ pub fn sides_are_kept()
 /// `shrink` and `grow` leave: from its side, by the widest or the narrowest with its side for ties, or in
 /// turns from the column at which it goes on.
 pub fn priorities_make_the_lists_of_their_forms()
-    ensures shrunk_from_left { (before after : FromLeft) (least widths sizes : List ℕ) (by : ℕ) → ⟦<PriorityLeft as Peaker>⟧.shrinks before least by widths after sizes → IsShrunkFromSide false least by widths sizes }
+    ensures shrunk_from_left { (before after : FromLeft) (least widths sizes : List ℕ) (by : ℕ) →
+        ⟦<PriorityLeft as Peaker>⟧.shrinks before least by widths after sizes → IsShrunkFromSide false least by widths sizes }
     ensures grown_from_left { (before after : FromLeft) (widths sizes : List ℕ) (by : ℕ) → ⟦<PriorityLeft as Peaker>⟧.grows before by widths after sizes → IsGrownFromSide false by widths sizes }
-    ensures shrunk_from_right { (before after : FromRight) (least widths sizes : List ℕ) (by : ℕ) → ⟦<PriorityRight as Peaker>⟧.shrinks before least by widths after sizes → IsShrunkFromSide true least by widths sizes }
+    ensures shrunk_from_right { (before after : FromRight) (least widths sizes : List ℕ) (by : ℕ) →
+        ⟦<PriorityRight as Peaker>⟧.shrinks before least by widths after sizes → IsShrunkFromSide true least by widths sizes }
     ensures grown_from_right { (before after : FromRight) (widths sizes : List ℕ) (by : ℕ) → ⟦<PriorityRight as Peaker>⟧.grows before by widths after sizes → IsGrownFromSide true by widths sizes }
-    ensures shrunk_by_widest { (side after : Bool) (least widths sizes : List ℕ) (by : ℕ) → ⟦<PriorityMax as Peaker>⟧.shrinks side least by widths after sizes → IsShrunkByWidest side least by widths sizes }
+    ensures shrunk_by_widest { (side after : Bool) (least widths sizes : List ℕ) (by : ℕ) →
+        ⟦<PriorityMax as Peaker>⟧.shrinks side least by widths after sizes → IsShrunkByWidest side least by widths sizes }
     ensures grown_by_widest { (side after : Bool) (widths sizes : List ℕ) (by : ℕ) → ⟦<PriorityMax as Peaker>⟧.grows side by widths after sizes → IsGrownByWidest side by widths sizes }
-    ensures shrunk_by_narrowest { (side after : Bool) (least widths sizes : List ℕ) (by : ℕ) → ⟦<PriorityMin as Peaker>⟧.shrinks side least by widths after sizes → IsShrunkByNarrowest side least by widths sizes }
+    ensures shrunk_by_narrowest { (side after : Bool) (least widths sizes : List ℕ) (by : ℕ) →
+        ⟦<PriorityMin as Peaker>⟧.shrinks side least by widths after sizes → IsShrunkByNarrowest side least by widths sizes }
     ensures grown_by_narrowest { (side after : Bool) (widths sizes : List ℕ) (by : ℕ) → ⟦<PriorityMin as Peaker>⟧.grows side by widths after sizes → IsGrownByNarrowest side by widths sizes }
-    ensures shrunk_in_turns { (next after : ℕ) (least widths sizes : List ℕ) (by : ℕ) → ⟦<PriorityNone as Peaker>⟧.shrinks next least by widths after sizes → IsShrunkInTurns (start_of next (length widths)) least by widths sizes }
-    ensures grown_in_turns { (next after : ℕ) (widths sizes : List ℕ) (by : ℕ) → ⟦<PriorityNone as Peaker>⟧.grows next by widths after sizes → IsGrownInTurns (start_of next (length widths)) by widths sizes }
+    ensures shrunk_in_turns { (next after : ℕ) (least widths sizes : List ℕ) (by : ℕ) →
+        ⟦<PriorityNone as Peaker>⟧.shrinks next least by widths after sizes →
+        IsShrunkInTurns (start_of next (length widths)) least by widths sizes }
+    ensures grown_in_turns { (next after : ℕ) (widths sizes : List ℕ) (by : ℕ) →
+        ⟦<PriorityNone as Peaker>⟧.grows next by widths after sizes → IsGrownInTurns (start_of next (length widths)) by widths sizes }
 {}
 
 /// What `PriorityMax::shrink` leaves has the least greatest width, and what `PriorityMin::grow` leaves the greatest
@@ -180,8 +188,10 @@ pub fn names_stand_for_their_priorities()
     ensures shrunk_by_narrowest_right { (least widths sizes : List ℕ) (by : ℕ) → (IsShrunkByChoice MinRight least by widths sizes ↔ ⟦<PriorityMin as Peaker>⟧.shrinks true least by widths true sizes) }
     ensures shrunk_by_widest_left { (least widths sizes : List ℕ) (by : ℕ) → (IsShrunkByChoice MaxLeft least by widths sizes ↔ ⟦<PriorityMax as Peaker>⟧.shrinks false least by widths false sizes) }
     ensures shrunk_by_widest_right { (least widths sizes : List ℕ) (by : ℕ) → (IsShrunkByChoice MaxRight least by widths sizes ↔ ⟦<PriorityMax as Peaker>⟧.shrinks true least by widths true sizes) }
-    ensures shrunk_from_left { (before after : FromLeft) (least widths sizes : List ℕ) (by : ℕ) → (IsShrunkByChoice Left least by widths sizes ↔ ⟦<PriorityLeft as Peaker>⟧.shrinks before least by widths after sizes) }
-    ensures shrunk_from_right { (before after : FromRight) (least widths sizes : List ℕ) (by : ℕ) → (IsShrunkByChoice Right least by widths sizes ↔ ⟦<PriorityRight as Peaker>⟧.shrinks before least by widths after sizes) }
+    ensures shrunk_from_left { (before after : FromLeft) (least widths sizes : List ℕ) (by : ℕ) →
+        (IsShrunkByChoice Left least by widths sizes ↔ ⟦<PriorityLeft as Peaker>⟧.shrinks before least by widths after sizes) }
+    ensures shrunk_from_right { (before after : FromRight) (least widths sizes : List ℕ) (by : ℕ) →
+        (IsShrunkByChoice Right least by widths sizes ↔ ⟦<PriorityRight as Peaker>⟧.shrinks before least by widths after sizes) }
     ensures grown_in_turns { (after : ℕ) (widths sizes : List ℕ) (by : ℕ) → ⟦<PriorityNone as Peaker>⟧.grows 0 by widths after sizes → IsGrownByChoice InTurns by widths sizes }
     ensures grown_by_narrowest_left { (widths sizes : List ℕ) (by : ℕ) → (IsGrownByChoice MinLeft by widths sizes ↔ ⟦<PriorityMin as Peaker>⟧.grows false by widths false sizes) }
     ensures grown_by_narrowest_right { (widths sizes : List ℕ) (by : ℕ) → (IsGrownByChoice MinRight by widths sizes ↔ ⟦<PriorityMin as Peaker>⟧.grows true by widths true sizes) }
@@ -194,34 +204,68 @@ pub fn names_stand_for_their_priorities()
 /// A chosen priority names the columns, and makes of widths the lists, that the one which it holds does, and then
 /// holds that one as it is then.
 pub fn chosen_priorities_do_as_those_that_they_hold()
-    ensures names_in_turns { (held : ℕ) (after : OneChosen) (least sizes : List ℕ) (answer : Option ℕ) → ⟦<PriorityChosen as Peaker>⟧.peaks (GoesRound held) least sizes answer after → HoldsThen GoesRound after (λ then. ⟦<PriorityNone as Peaker>⟧.peaks held least sizes answer then) }
-    ensures names_narrowest { (held : Bool) (after : OneChosen) (least sizes : List ℕ) (answer : Option ℕ) → ⟦<PriorityChosen as Peaker>⟧.peaks (NarrowestFirst held) least sizes answer after → HoldsThen NarrowestFirst after (λ then. ⟦<PriorityMin as Peaker>⟧.peaks held least sizes answer then) }
-    ensures names_widest { (held : Bool) (after : OneChosen) (least sizes : List ℕ) (answer : Option ℕ) → ⟦<PriorityChosen as Peaker>⟧.peaks (WidestFirst held) least sizes answer after → HoldsThen WidestFirst after (λ then. ⟦<PriorityMax as Peaker>⟧.peaks held least sizes answer then) }
-    ensures names_left { (held : FromLeft) (after : OneChosen) (least sizes : List ℕ) (answer : Option ℕ) → ⟦<PriorityChosen as Peaker>⟧.peaks (LeftFirst held) least sizes answer after → HoldsThen LeftFirst after (λ then. ⟦<PriorityLeft as Peaker>⟧.peaks held least sizes answer then) }
-    ensures names_right { (held : FromRight) (after : OneChosen) (least sizes : List ℕ) (answer : Option ℕ) → ⟦<PriorityChosen as Peaker>⟧.peaks (RightFirst held) least sizes answer after → HoldsThen RightFirst after (λ then. ⟦<PriorityRight as Peaker>⟧.peaks held least sizes answer then) }
-    ensures shrunk_in_turns { (held : ℕ) (after : OneChosen) (least widths sizes : List ℕ) (by : ℕ) → ⟦<PriorityChosen as Peaker>⟧.shrinks (GoesRound held) least by widths after sizes → HoldsThen GoesRound after (λ then. ⟦<PriorityNone as Peaker>⟧.shrinks held least by widths then sizes) }
-    ensures shrunk_narrowest { (held : Bool) (after : OneChosen) (least widths sizes : List ℕ) (by : ℕ) → ⟦<PriorityChosen as Peaker>⟧.shrinks (NarrowestFirst held) least by widths after sizes → HoldsThen NarrowestFirst after (λ then. ⟦<PriorityMin as Peaker>⟧.shrinks held least by widths then sizes) }
-    ensures shrunk_widest { (held : Bool) (after : OneChosen) (least widths sizes : List ℕ) (by : ℕ) → ⟦<PriorityChosen as Peaker>⟧.shrinks (WidestFirst held) least by widths after sizes → HoldsThen WidestFirst after (λ then. ⟦<PriorityMax as Peaker>⟧.shrinks held least by widths then sizes) }
-    ensures shrunk_left { (held : FromLeft) (after : OneChosen) (least widths sizes : List ℕ) (by : ℕ) → ⟦<PriorityChosen as Peaker>⟧.shrinks (LeftFirst held) least by widths after sizes → HoldsThen LeftFirst after (λ then. ⟦<PriorityLeft as Peaker>⟧.shrinks held least by widths then sizes) }
-    ensures shrunk_right { (held : FromRight) (after : OneChosen) (least widths sizes : List ℕ) (by : ℕ) → ⟦<PriorityChosen as Peaker>⟧.shrinks (RightFirst held) least by widths after sizes → HoldsThen RightFirst after (λ then. ⟦<PriorityRight as Peaker>⟧.shrinks held least by widths then sizes) }
-    ensures grown_in_turns { (held : ℕ) (after : OneChosen) (widths sizes : List ℕ) (by : ℕ) → ⟦<PriorityChosen as Peaker>⟧.grows (GoesRound held) by widths after sizes → HoldsThen GoesRound after (λ then. ⟦<PriorityNone as Peaker>⟧.grows held by widths then sizes) }
-    ensures grown_narrowest { (held : Bool) (after : OneChosen) (widths sizes : List ℕ) (by : ℕ) → ⟦<PriorityChosen as Peaker>⟧.grows (NarrowestFirst held) by widths after sizes → HoldsThen NarrowestFirst after (λ then. ⟦<PriorityMin as Peaker>⟧.grows held by widths then sizes) }
-    ensures grown_widest { (held : Bool) (after : OneChosen) (widths sizes : List ℕ) (by : ℕ) → ⟦<PriorityChosen as Peaker>⟧.grows (WidestFirst held) by widths after sizes → HoldsThen WidestFirst after (λ then. ⟦<PriorityMax as Peaker>⟧.grows held by widths then sizes) }
-    ensures grown_left { (held : FromLeft) (after : OneChosen) (widths sizes : List ℕ) (by : ℕ) → ⟦<PriorityChosen as Peaker>⟧.grows (LeftFirst held) by widths after sizes → HoldsThen LeftFirst after (λ then. ⟦<PriorityLeft as Peaker>⟧.grows held by widths then sizes) }
-    ensures grown_right { (held : FromRight) (after : OneChosen) (widths sizes : List ℕ) (by : ℕ) → ⟦<PriorityChosen as Peaker>⟧.grows (RightFirst held) by widths after sizes → HoldsThen RightFirst after (λ then. ⟦<PriorityRight as Peaker>⟧.grows held by widths then sizes) }
+    ensures names_in_turns { (held : ℕ) (after : OneChosen) (least sizes : List ℕ) (answer : Option ℕ) →
+        ⟦<PriorityChosen as Peaker>⟧.peaks (GoesRound held) least sizes answer after →
+        HoldsThen GoesRound after (λ then. ⟦<PriorityNone as Peaker>⟧.peaks held least sizes answer then) }
+    ensures names_narrowest { (held : Bool) (after : OneChosen) (least sizes : List ℕ) (answer : Option ℕ) →
+        ⟦<PriorityChosen as Peaker>⟧.peaks (NarrowestFirst held) least sizes answer after →
+        HoldsThen NarrowestFirst after (λ then. ⟦<PriorityMin as Peaker>⟧.peaks held least sizes answer then) }
+    ensures names_widest { (held : Bool) (after : OneChosen) (least sizes : List ℕ) (answer : Option ℕ) →
+        ⟦<PriorityChosen as Peaker>⟧.peaks (WidestFirst held) least sizes answer after →
+        HoldsThen WidestFirst after (λ then. ⟦<PriorityMax as Peaker>⟧.peaks held least sizes answer then) }
+    ensures names_left { (held : FromLeft) (after : OneChosen) (least sizes : List ℕ) (answer : Option ℕ) →
+        ⟦<PriorityChosen as Peaker>⟧.peaks (LeftFirst held) least sizes answer after →
+        HoldsThen LeftFirst after (λ then. ⟦<PriorityLeft as Peaker>⟧.peaks held least sizes answer then) }
+    ensures names_right { (held : FromRight) (after : OneChosen) (least sizes : List ℕ) (answer : Option ℕ) →
+        ⟦<PriorityChosen as Peaker>⟧.peaks (RightFirst held) least sizes answer after →
+        HoldsThen RightFirst after (λ then. ⟦<PriorityRight as Peaker>⟧.peaks held least sizes answer then) }
+    ensures shrunk_in_turns { (held : ℕ) (after : OneChosen) (least widths sizes : List ℕ) (by : ℕ) →
+        ⟦<PriorityChosen as Peaker>⟧.shrinks (GoesRound held) least by widths after sizes →
+        HoldsThen GoesRound after (λ then. ⟦<PriorityNone as Peaker>⟧.shrinks held least by widths then sizes) }
+    ensures shrunk_narrowest { (held : Bool) (after : OneChosen) (least widths sizes : List ℕ) (by : ℕ) →
+        ⟦<PriorityChosen as Peaker>⟧.shrinks (NarrowestFirst held) least by widths after sizes →
+        HoldsThen NarrowestFirst after (λ then. ⟦<PriorityMin as Peaker>⟧.shrinks held least by widths then sizes) }
+    ensures shrunk_widest { (held : Bool) (after : OneChosen) (least widths sizes : List ℕ) (by : ℕ) →
+        ⟦<PriorityChosen as Peaker>⟧.shrinks (WidestFirst held) least by widths after sizes →
+        HoldsThen WidestFirst after (λ then. ⟦<PriorityMax as Peaker>⟧.shrinks held least by widths then sizes) }
+    ensures shrunk_left { (held : FromLeft) (after : OneChosen) (least widths sizes : List ℕ) (by : ℕ) →
+        ⟦<PriorityChosen as Peaker>⟧.shrinks (LeftFirst held) least by widths after sizes →
+        HoldsThen LeftFirst after (λ then. ⟦<PriorityLeft as Peaker>⟧.shrinks held least by widths then sizes) }
+    ensures shrunk_right { (held : FromRight) (after : OneChosen) (least widths sizes : List ℕ) (by : ℕ) →
+        ⟦<PriorityChosen as Peaker>⟧.shrinks (RightFirst held) least by widths after sizes →
+        HoldsThen RightFirst after (λ then. ⟦<PriorityRight as Peaker>⟧.shrinks held least by widths then sizes) }
+    ensures grown_in_turns { (held : ℕ) (after : OneChosen) (widths sizes : List ℕ) (by : ℕ) →
+        ⟦<PriorityChosen as Peaker>⟧.grows (GoesRound held) by widths after sizes →
+        HoldsThen GoesRound after (λ then. ⟦<PriorityNone as Peaker>⟧.grows held by widths then sizes) }
+    ensures grown_narrowest { (held : Bool) (after : OneChosen) (widths sizes : List ℕ) (by : ℕ) →
+        ⟦<PriorityChosen as Peaker>⟧.grows (NarrowestFirst held) by widths after sizes →
+        HoldsThen NarrowestFirst after (λ then. ⟦<PriorityMin as Peaker>⟧.grows held by widths then sizes) }
+    ensures grown_widest { (held : Bool) (after : OneChosen) (widths sizes : List ℕ) (by : ℕ) →
+        ⟦<PriorityChosen as Peaker>⟧.grows (WidestFirst held) by widths after sizes →
+        HoldsThen WidestFirst after (λ then. ⟦<PriorityMax as Peaker>⟧.grows held by widths then sizes) }
+    ensures grown_left { (held : FromLeft) (after : OneChosen) (widths sizes : List ℕ) (by : ℕ) →
+        ⟦<PriorityChosen as Peaker>⟧.grows (LeftFirst held) by widths after sizes →
+        HoldsThen LeftFirst after (λ then. ⟦<PriorityLeft as Peaker>⟧.grows held by widths then sizes) }
+    ensures grown_right { (held : FromRight) (after : OneChosen) (widths sizes : List ℕ) (by : ℕ) →
+        ⟦<PriorityChosen as Peaker>⟧.grows (RightFirst held) by widths after sizes →
+        HoldsThen RightFirst after (λ then. ⟦<PriorityRight as Peaker>⟧.grows held by widths then sizes) }
 {}
 
 /// The priority that a name gives makes of widths what its name makes of them.
 pub fn chosen_priorities_do_as_their_names()
-    ensures shrunk { (name : OneChoice) (after : OneChosen) (least widths sizes : List ℕ) (by : ℕ) → ⟦<PriorityChosen as Peaker>⟧.shrinks (chosen name) least by widths after sizes → IsShrunkByChoice name least by widths sizes }
-    ensures grown { (name : OneChoice) (after : OneChosen) (widths sizes : List ℕ) (by : ℕ) → ⟦<PriorityChosen as Peaker>⟧.grows (chosen name) by widths after sizes → IsGrownByChoice name by widths sizes }
+    ensures shrunk { (name : OneChoice) (after : OneChosen) (least widths sizes : List ℕ) (by : ℕ) →
+        ⟦<PriorityChosen as Peaker>⟧.shrinks (chosen name) least by widths after sizes → IsShrunkByChoice name least by widths sizes }
+    ensures grown { (name : OneChoice) (after : OneChosen) (widths sizes : List ℕ) (by : ℕ) →
+        ⟦<PriorityChosen as Peaker>⟧.grows (chosen name) by widths after sizes → IsGrownByChoice name by widths sizes }
 {}
 
 /// A priority names the column of its kind, whether one is to give or to grow.
 pub fn priorities_name_their_columns()
     ensures turns { (next after : ℕ) (least sizes : List ℕ) (answer : Option ℕ) → ⟦<PriorityNone as Peaker>⟧.peaks next least sizes answer after → turn_peaks next least sizes answer after }
-    ensures left { (before after : FromLeft) (least sizes : List ℕ) (answer : Option ℕ) → ⟦<PriorityLeft as Peaker>⟧.peaks before least sizes answer after → side_peaks false before least sizes answer after }
-    ensures right { (before after : FromRight) (least sizes : List ℕ) (answer : Option ℕ) → ⟦<PriorityRight as Peaker>⟧.peaks before least sizes answer after → side_peaks true before least sizes answer after }
+    ensures left { (before after : FromLeft) (least sizes : List ℕ) (answer : Option ℕ) →
+        ⟦<PriorityLeft as Peaker>⟧.peaks before least sizes answer after → side_peaks false before least sizes answer after }
+    ensures right { (before after : FromRight) (least sizes : List ℕ) (answer : Option ℕ) →
+        ⟦<PriorityRight as Peaker>⟧.peaks before least sizes answer after → side_peaks true before least sizes answer after }
     ensures widest { (side after : Bool) (least sizes : List ℕ) (answer : Option ℕ) → ⟦<PriorityMax as Peaker>⟧.peaks side least sizes answer after → widest_peaks side least sizes answer after }
     ensures narrowest { (side after : Bool) (least sizes : List ℕ) (answer : Option ℕ) → ⟦<PriorityMin as Peaker>⟧.peaks side least sizes answer after → narrowest_peaks side least sizes answer after }
 {}

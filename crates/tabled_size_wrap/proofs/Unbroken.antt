@@ -27,17 +27,17 @@ use Rattle.grid_records_measure.specs.PlainCharacters.{is_plain_character}
 use Rattle.grid_records_measure.specs.Tabs.{space}
 use Rattle.grid_records_measure.specs.RawLines.{IsLineAndRest, lines_behind as lines_behind_of}
 use Rattle.grid_records_measure.specs.TextLines.{is_line_feed, line_feed, shown_lines, text_lines}
-use Rattle.grid_records_measure.proofs.CutLemmas.{cut-without_escape}
-use Rattle.grid_records_measure.proofs.PlainLemmas.{columns-plain, measure-plain}
-use Rattle.grid_records_measure.proofs.TextLineLemmas.{text_lines-are}
+use Rattle.grid_records_measure.proofs.Cuts.{cut-without_escape}
+use Rattle.grid_records_measure.proofs.Plain.{columns-plain, measure-plain}
+use Rattle.grid_records_measure.proofs.TextLines.{text_lines-are}
 use Rattle.tabled_size_wrap.specs.Breaking.{run_cost}
 use Rattle.tabled_size_wrap.specs.Bytes.{wrapped_text}
 use Rattle.tabled_size_wrap.specs.Runs.{broken_lines, wrapped}
 use Rattle.tabled_size_wrap.specs.Units.{LineUnit, character_unit, is_space, line_units, space_unit, unit_len, word_units}
 use Rattle.tabled_size_wrap.specs.Wrapping.{line_part, replacement_bytes, run_len}
-use Rattle.tabled_size_wrap.proofs.RunLemmas.{left_bytes, lines-all, put}
-use Rattle.tabled_size_wrap.proofs.UnitLemmas.{printable-cost, texts, texts-units}
-use Rattle.tabled_size_wrap.proofs.WrapLemmas.{line-more, lines_left}
+use Rattle.tabled_size_wrap.proofs.Runs.{left_bytes, lines-all, put}
+use Rattle.tabled_size_wrap.proofs.Units.{printable-cost, texts, texts-units}
+use Rattle.tabled_size_wrap.proofs.Wraps.{line-more, lines_left}
 use Rattle.tabled_size_wrap.specs.Staying.{line_stays, stays}
 
 -- ---- a run that has room for all units

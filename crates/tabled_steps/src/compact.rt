@@ -40,7 +40,8 @@ impl<R: RecordTexts, D: KeptSizes> TableOption<R, CompactConfig, D> for CompactC
     ) -> Result<(), Fault>
         ensures answers { IsOk result }
         ensures step { Steps (λ state outcome. looking (λ _. compact_look (compact_of self)) state ≡ outcome) result
-            (state_with (R.rows records.old) (compact_look (compact_of cfg.old)) (λ _. None) (D.sizes dims.old)) (state_with (R.rows records.new) (compact_look (compact_of cfg.new)) (λ _. None) (D.sizes dims.new)) }
+            (state_with (R.rows records.old) (compact_look (compact_of cfg.old)) (λ _. None) (D.sizes dims.old))
+            (state_with (R.rows records.new) (compact_look (compact_of cfg.new)) (λ _. None) (D.sizes dims.new)) }
     {
         *cfg = self;
         Ok(())

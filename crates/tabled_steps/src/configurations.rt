@@ -33,7 +33,8 @@ impl<R: RecordTexts, D: KeptSizes> TableOption<R, ColoredConfig, D> for CompactC
     ) -> Result<(), Fault>
         ensures answers { IsUncolored (compact_of self) → IsOk result }
         ensures step { Steps (λ state outcome. looking (λ _. compact_look (compact_of self)) state ≡ outcome) result
-            (state_with (R.rows records.old) (look_of cfg.old.settings) (value_at cfg.old.colors) (D.sizes dims.old)) (state_with (R.rows records.new) (look_of cfg.new.settings) (value_at cfg.new.colors) (D.sizes dims.new)) }
+            (state_with (R.rows records.old) (look_of cfg.old.settings) (value_at cfg.old.colors) (D.sizes dims.old))
+            (state_with (R.rows records.new) (look_of cfg.new.settings) (value_at cfg.new.colors) (D.sizes dims.new)) }
     {
         let config = SpannedConfig::from_compact_config(alloc, self)?;
         let_go(mem::replace(cfg.spanned_mut(), config));
@@ -60,7 +61,8 @@ impl<R: RecordTexts, D: KeptSizes> TableOption<R, ColoredConfig, D> for SpannedC
     ) -> Result<(), Fault>
         ensures answers { IsOk result }
         ensures step { Steps (λ state outcome. looking (λ _. look_of self) state ≡ outcome) result
-            (state_with (R.rows records.old) (look_of cfg.old.settings) (value_at cfg.old.colors) (D.sizes dims.old)) (state_with (R.rows records.new) (look_of cfg.new.settings) (value_at cfg.new.colors) (D.sizes dims.new)) }
+            (state_with (R.rows records.old) (look_of cfg.old.settings) (value_at cfg.old.colors) (D.sizes dims.old))
+            (state_with (R.rows records.new) (look_of cfg.new.settings) (value_at cfg.new.colors) (D.sizes dims.new)) }
     {
         let_go(mem::replace(cfg.spanned_mut(), self));
         Ok(())
@@ -109,7 +111,8 @@ impl<R: RecordTexts, D: KeptSizes> TableOption<R, ColoredConfig, D> for ColoredC
     ) -> Result<(), Fault>
         ensures answers { IsOk result }
         ensures step { Steps (λ state outcome. Ok (record state { look = look_of self.settings; colors = value_at self.colors }) ≡ outcome) result
-            (state_with (R.rows records.old) (look_of cfg.old.settings) (value_at cfg.old.colors) (D.sizes dims.old)) (state_with (R.rows records.new) (look_of cfg.new.settings) (value_at cfg.new.colors) (D.sizes dims.new)) }
+            (state_with (R.rows records.old) (look_of cfg.old.settings) (value_at cfg.old.colors) (D.sizes dims.old))
+            (state_with (R.rows records.new) (look_of cfg.new.settings) (value_at cfg.new.colors) (D.sizes dims.new)) }
     {
         let_go(mem::replace(cfg, self));
         Ok(())

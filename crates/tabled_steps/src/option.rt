@@ -19,7 +19,8 @@ pub trait TableOption<R: RecordTexts, C: Configuration, D: KeptSizes> {
     /// Changes a table by its records, its settings and the sizes that it keeps. Refused as the step is,
     /// and as `Memory` where allocation fails, and then nothing has changed.
     fn change(self, alloc: Global, records: &mut R, cfg: &mut C, dims: &mut D) -> Result<(), Fault>
-        ensures { Steps (step self) result (state_with (R.rows records.old) (C.look cfg.old) (C.colors cfg.old) (D.sizes dims.old)) (state_with (R.rows records.new) (C.look cfg.new) (C.colors cfg.new) (D.sizes dims.new)) };
+        ensures { Steps (step self) result (state_with (R.rows records.old) (C.look cfg.old) (C.colors cfg.old) (D.sizes dims.old))
+            (state_with (R.rows records.new) (C.look cfg.new) (C.colors cfg.new) (D.sizes dims.new)) };
 
     /// Of which cells the step changes the sizes, or none: a table keeps those that it doesn't.
     fn hint_change(&self) -> Option<Entity>
@@ -43,7 +44,9 @@ pub trait CellOption<R: RecordTexts, C: Configuration> {
         cfg: &mut C,
         entity: Entity,
     ) -> Result<(), Fault>
-        ensures { (sizes : Stored) → Steps (step self.now entity) result (state_with (R.rows records.old) (C.look cfg.old) (C.colors cfg.old) sizes) (state_with (R.rows records.new) (C.look cfg.new) (C.colors cfg.new) sizes) };
+        ensures { (sizes : Stored) → Steps (step self.now entity) result
+            (state_with (R.rows records.old) (C.look cfg.old) (C.colors cfg.old) sizes)
+            (state_with (R.rows records.new) (C.look cfg.new) (C.colors cfg.new) sizes) };
 
     /// Of which cells the step changes the sizes, or none: a table keeps those that it doesn't.
     fn hint_change(&self) -> Option<Entity>

@@ -14,7 +14,7 @@ use Rattle.grid_records_estimate.specs.Sizing.{position_at}
 use Rattle.grid_records_traits.specs.Rows.{text_at}
 use Rattle.grid_records_traits.specs.TextLines.{text_height, text_width}
 use Rattle.papergrid_picture.specs.Shown.{AreWholeTexts, IsWholeText}
-use Rattle.papergrid_picture.proofs.ShownLemmas.{whole-at}
+use Rattle.papergrid_picture.proofs.Shown.{whole-at}
 use Rattle.tabled_height.specs.Heights.{Estimate, counted, estimated, fewest_lines, hundredths, least as least_of, most_lines, row_lines}
 use Rattle.tabled_height.specs.Lines.{limited}
 use Rattle.tabled_height.specs.Steps.{LimitsTable, Measured as MeasuredHeight, RaisesTable, Resizes, WhereCells, has_no_cells, GrownRows, ShrunkRows, keeping_heights, limiting_rows, listing_heights}

@@ -8,7 +8,7 @@ use Rattle.grid_config_values.specs.declared.position.Position.{Position}
 use Rattle.grid_records_estimate.specs.Sizing.{position_at}
 use Rattle.grid_records_traits.specs.Rows.{text_at}
 use Rattle.papergrid_picture.specs.Shown.{AreWholeTexts, stripped_texts}
-use Rattle.papergrid_picture.proofs.StrippedLemmas.{stripped}
+use Rattle.papergrid_picture.proofs.Stripped.{stripped}
 use Rattle.tabled_height.specs.Lines.{limited, raised}
 use Rattle.tabled_list.specs.Lists.{RefusedAt, Runs}
 use Rattle.tabled_list.specs.Settings.{cutting_by}

@@ -22,9 +22,9 @@ use Rattle.papergrid_picture.specs.Picture.{at}
 use Rattle.papergrid_picture.specs.Reading.{painted}
 use Rattle.papergrid_picture.specs.Shown.{AreWholeTexts, IsBare, stripped_texts}
 use Rattle.papergrid_picture.specs.Tables.{in_bytes, sizes_of, table_grid, table_text}
-use Rattle.papergrid_picture.proofs.StrippedLemmas.{stripped}
+use Rattle.papergrid_picture.proofs.Stripped.{stripped}
 use Rattle.papergrid_colors.specs.ClosingColors.{ShowNothing}
-use Rattle.papergrid_colors.proofs.StrippedLemmas.{colors-stripped}
+use Rattle.papergrid_colors.proofs.Stripped.{colors-stripped}
 use Rattle.tabled_size_cells.proofs.CellStripping.{stripped-none, stripped-twice, stripped-width, text-map, texts-twice, texts-whole}
 use Rattle.tabled_size_dimension.specs.Sizes.{given_size}
 use Rattle.tabled_size_dimension.specs.Stored.{Stored, filled, stored_sizes}

@@ -15,13 +15,13 @@ use Rattle.ansi_scan.proofs.Effects.{end_bytes-sequences, end_sequences_are_read
 use Rattle.ansi_scan.proofs.Existence.{ArePiecesOf-pieces}
 use Rattle.ansi_scan.proofs.Kept.{IsRendition-plain}
 use Rattle.ansi_str.specs.StyledText.{has_escape, strip, style_after, styled, styled_from, text_of}
-use Rattle.ansi_str_search.proofs.DressedLemmas.{IsRendition-after, joined-renditions, renditions}
+use Rattle.ansi_str_search.proofs.Dressed.{IsRendition-after, joined-renditions, renditions}
 use Rattle.ansi_str_search.specs.Matches.{split_bounds, styled_parts, text_parts}
 use Rattle.ansi_str_search.proofs.AllParts.{strip-styled_parts, styled_parts-without_escape}
-use Rattle.ansi_str_search.proofs.PartLemmas.{style_by-text}
+use Rattle.ansi_str_search.proofs.Parts.{style_by-text}
 use Rattle.ansi_str_search.proofs.PlainParts.{end_bytes-plain, start_bytes-plain}
-use Rattle.ansi_str_search.proofs.StartLemmas.{end-shows, start-shows}
-use Rattle.ansi_str_search.proofs.Utf8Lemmas.{EachUtf8-renditions, IsUtf8-joined}
+use Rattle.ansi_str_search.proofs.Starts.{end-shows, start-shows}
+use Rattle.ansi_str_search.proofs.Utf8.{EachUtf8-renditions, IsUtf8-joined}
 use Rattle.ansi_str_text.proofs.Stripping.{strip-without_escape}
 use Rattle.ansi_str_text.proofs.Utf8Pieces.{IsUtf8-shown_text}
 use Rattle.grid_config_values.specs.declared.position.Position.{Position}
@@ -29,11 +29,11 @@ use Rattle.grid_records_measure.specs.Cutting.{lacking, replacement}
 use Rattle.grid_records_measure.specs.Filling.{behind_front, fitting_front}
 use Rattle.grid_records_measure.specs.Measures.{cost, measure}
 use Rattle.grid_records_measure.specs.TextLines.{is_line_feed, line_feed, line_feed_places, shown_lines, text_height, text_lines, text_width}
-use Rattle.grid_records_measure.proofs.TextLineLemmas.{line_feeds_match, text_lines-shown}
+use Rattle.grid_records_measure.proofs.TextLines.{line_feeds_match, text_lines-shown}
 use Rattle.papergrid_picture.specs.Shown.{IsPlainText, IsShown, IsWholeText, Styled, character_of, in_plain}
-use Rattle.papergrid_picture.proofs.RelatedLemmas.{All-append}
-use Rattle.papergrid_picture.proofs.ShownLemmas.{All-take, IsClosedPart, IsShown-feed, IsShown-space, characters-styled, lines-closed_parts, pieces-nothing, styled_of, take-map}
-use Rattle.papergrid_picture.proofs.StrippedLemmas.{Leaves-append, Leaves-character, stripped, stripped-plain}
+use Rattle.papergrid_picture.proofs.Related.{All-append}
+use Rattle.papergrid_picture.proofs.Shown.{All-take, IsClosedPart, IsShown-feed, IsShown-space, characters-styled, lines-closed_parts, pieces-nothing, styled_of, take-map}
+use Rattle.papergrid_picture.proofs.Stripped.{Leaves-append, Leaves-character, stripped, stripped-plain}
 use Rattle.tabled_height.specs.Lines.{first_lines, limited, raised}
 use Rattle.tabled_size_dimension.specs.declared.suffix.SuffixLimit.{SuffixLimit}
 use Rattle.tabled_size_dimension.specs.declared.suffix.SuffixLimit.TheVariants.{Cut, Ignore, Replace}
@@ -42,12 +42,12 @@ use Rattle.tabled_width.specs.Breaking.{breaking, cutting_wider, justifying, one
 use Rattle.tabled_width.specs.Cutting.{Cutting, cut_line, cut_text, kept, last_style, suffix_behind, truncating, without_room}
 use Rattle.tabled_width.specs.Filling.{filled_line, filling}
 use Rattle.tabled_size_cells.specs.Resizing.{Break, cut, resized}
-use Rattle.tabled_size_cells.proofs.BridgeLemmas.{cut-shows_whole, resized-shows}
+use Rattle.tabled_size_cells.proofs.Bridges.{cut-shows_whole, resized-shows}
 use Rattle.tabled_size_cells.proofs.CellStripping.{resized-characters, stripped-height, stripped-none, stripped-twice, stripped-width}
-use Rattle.tabled_size_cells.proofs.CharacterLemmas.{same}
+use Rattle.tabled_size_cells.proofs.Characters.{same}
 use Rattle.tabled_stripping.proofs.TextsByPlace.{stripped_but}
 use Rattle.tabled_stripping.specs.Stripping.{LimitIsShown}
-use Rattle.tabled_size_cells.proofs.PlainTextLemmas.{AreFreeTexts, free-cut, free-from, free-none, free-wrapped, pieces-free, plain-whole}
+use Rattle.tabled_size_cells.proofs.PlainTexts.{AreFreeTexts, free-cut, free-from, free-none, free-wrapped, pieces-free, plain-whole}
 use Rattle.tabled_stripping.proofs.PassingSteps.{Commutes, IsBlind}
 
 -- a whole text, and what is left of it without its sequences

@@ -55,7 +55,8 @@ impl Builder {
         I::Item: AsStr + Drop,
         I::IntoIter: Drop,
         requires { (s : I.IntoIter) → I.into_iter_gives texts s → I.IntoIter.can_next s × IsFinite (I.IntoIter.remaining s) }
-        ensures pushed { IfOk result (λ _. (s : I.IntoIter) × (taken : List I.Item) × I.into_iter_gives texts s × Drains I.IntoIter.next_gives s taken × (self.new ≡ self.old ++ map I.Item.text taken ∷ [])) }
+        ensures pushed { IfOk result (λ _. (s : I.IntoIter) × (taken : List I.Item) × I.into_iter_gives texts s
+            × Drains I.IntoIter.next_gives s taken × (self.new ≡ self.old ++ map I.Item.text taken ∷ [])) }
         ensures kept { OnErr result (self.new ≡ self.old) }
     {
         let row = row_of(*self.rows.allocator(), self.columns, texts)?;

@@ -125,6 +125,8 @@ where
     ensures four_names { ⟦<(A, B, C, D) as Tabled>⟧.names ≡ A.names ++ B.names ++ C.names ++ D.names }
     ensures five { (value : A × B × C × D × E) → ⟦<(A, B, C, D, E) as Tabled>⟧.texts value ≡ A.texts value.0 ++ B.texts value.1 ++ C.texts value.2 ++ D.texts value.3 ++ E.texts value.4 }
     ensures five_names { ⟦<(A, B, C, D, E) as Tabled>⟧.names ≡ A.names ++ B.names ++ C.names ++ D.names ++ E.names }
-    ensures six { (value : A × B × C × D × E × F) → ⟦<(A, B, C, D, E, F) as Tabled>⟧.texts value ≡ A.texts value.0 ++ B.texts value.1 ++ C.texts value.2 ++ D.texts value.3 ++ E.texts value.4 ++ F.texts value.5 }
+    ensures six { (value : A × B × C × D × E × F) →
+        ⟦<(A, B, C, D, E, F) as Tabled>⟧.texts value ≡ A.texts value.0 ++ B.texts value.1 ++ C.texts value.2 ++ D.texts value.3
+        ++ E.texts value.4 ++ F.texts value.5 }
     ensures six_names { ⟦<(A, B, C, D, E, F) as Tabled>⟧.names ≡ A.names ++ B.names ++ C.names ++ D.names ++ E.names ++ F.names }
 {}

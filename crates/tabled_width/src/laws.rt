@@ -78,7 +78,8 @@ pub fn table_options_are_their_steps<
         NarrowsTable P.shrinks (wrapping option).priority (breaking (wrapping option).keep_words) (W.measures (wrapping option).width) state outcome }
     ensures widening { (option : OneMinWidth W P) (state : State) (outcome : Outcome) → ⟦<MinWidth<W, P> as TableOption<VecRecords<T>, ColoredConfig, CompleteDimension>>⟧.step option state outcome →
         WidensTable P.grows (widening option).priority (W.measures (widening option).width) state outcome }
-    ensures cutting { (option : OneTruncate W P) (state : State) (outcome : Outcome) → ⟦<Truncate<'a, W, P> as TableOption<VecRecords<T>, ColoredConfig, CompleteDimension>>⟧.step option state outcome →
+    ensures cutting { (option : OneTruncate W P) (state : State) (outcome : Outcome) →
+        ⟦<Truncate<'a, W, P> as TableOption<VecRecords<T>, ColoredConfig, CompleteDimension>>⟧.step option state outcome →
         NarrowsTable P.shrinks (truncation option).priority (truncating (truncation option).cutting) (W.measures (truncation option).width) state outcome }
     ensures cutting_hint { (option : OneTruncate W P) → ⟦<Truncate<'a, W, P> as TableOption<VecRecords<T>, ColoredConfig, CompleteDimension>>⟧.hint option ≡ None }
     ensures breaking_hint { (option : OneWrap W P) → ⟦<Wrap<W, P> as TableOption<VecRecords<T>, ColoredConfig, CompleteDimension>>⟧.hint option ≡ Some (OneRow 0) }
@@ -138,7 +139,8 @@ pub fn worked_lists()
     ensures none { least [] ≡ 0 }
     ensures first { least (2 ∷ 3 ∷ []) ≡ 2 }
     ensures last { least (3 ∷ 5 ∷ 1 ∷ []) ≡ 1 }
-    ensures kept { (s : State) → with_width_list (3 ∷ 4 ∷ []) (record s { rows = letters; sizes = none_stored }) ≡ Ok (record s { rows = letters; sizes = record { widths = Some (3 ∷ 4 ∷ []); heights = None } }) }
+    ensures kept { (s : State) → with_width_list (3 ∷ 4 ∷ []) (record s { rows = letters; sizes = none_stored })
+        ≡ Ok (record s { rows = letters; sizes = record { widths = Some (3 ∷ 4 ∷ []); heights = None } }) }
     ensures shorter { (s : State) → with_width_list (3 ∷ []) (record s { rows = letters }) ≡ Ok (record s { rows = letters }) }
 {}
 

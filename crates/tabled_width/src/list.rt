@@ -77,7 +77,8 @@ impl<T: FromText> TableOption<VecRecords<T>, ColoredConfig, CompleteDimension> f
     ) -> Result<(), Fault>
         ensures answers { IsOk result }
         ensures step { Steps (λ state outcome. with_width_list self state ≡ outcome) result
-            (state_with (⟦<VecRecords<T> as RecordTexts>⟧.rows records.old) (look_of cfg.old.settings) (value_at cfg.old.colors) dims.old) (state_with (⟦<VecRecords<T> as RecordTexts>⟧.rows records.new) (look_of cfg.new.settings) (value_at cfg.new.colors) dims.new) }
+            (state_with (⟦<VecRecords<T> as RecordTexts>⟧.rows records.old) (look_of cfg.old.settings) (value_at cfg.old.colors) dims.old)
+            (state_with (⟦<VecRecords<T> as RecordTexts>⟧.rows records.new) (look_of cfg.new.settings) (value_at cfg.new.colors) dims.new) }
     {
         if self.widths.len() >= records.count_columns() {
             dims.set_widths(self.widths);

@@ -33,7 +33,8 @@ pub(crate) fn narrow_table<T: FromText, W: Measurement<Width>, P: Peaker + Drop,
     ensures no_rows { length (⟦<VecRecords<T> as RecordTexts>⟧.rows records.old) ≡ 0 → IsOk result }
     ensures no_columns { ⟦<VecRecords<T> as RecordColumns>⟧.columns records.old ≡ 0 → IsOk result }
     ensures step { (colors : Place → Option Color) → Steps (NarrowsTable P.shrinks priority (X.fitted change.now) (W.measures width.now)) result
-        (state_with (⟦<VecRecords<T> as RecordTexts>⟧.rows records.old) (look_of cfg.now) colors dims.old) (state_with (⟦<VecRecords<T> as RecordTexts>⟧.rows records.new) (look_of cfg.now) colors dims.new) }
+        (state_with (⟦<VecRecords<T> as RecordTexts>⟧.rows records.old) (look_of cfg.now) colors dims.old)
+        (state_with (⟦<VecRecords<T> as RecordTexts>⟧.rows records.new) (look_of cfg.now) colors dims.new) }
 {
     if records.count_rows() == 0 || records.count_columns() == 0 {
         return Ok(());

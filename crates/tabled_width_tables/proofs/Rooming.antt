@@ -6,7 +6,7 @@ use Rattle.std.proofs.lemmas.List.Sums.{sum_by-take-drop, sum_by-take-le}
 use Rattle.grid_config_values.proofs.Boundaries.{counted}
 use Rattle.grid_config_values.specs.Glyphs.{First, Between, Last, boundary_count, boundary_kind, has_column_boundary}
 use Rattle.grid_config.specs.Looks.{Look}
-use Rattle.grid_records_estimate.proofs.MeetLemmas.{boundaries_within-is}
+use Rattle.grid_records_estimate.proofs.Meets.{boundaries_within-is}
 use Rattle.tabled_width_tables.specs.Rooms.{boundaries_between}
 use Rattle.tabled_width_tables.specs.Widths.{table_width}
 

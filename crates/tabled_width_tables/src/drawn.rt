@@ -108,8 +108,10 @@ fn sizes_or_least<T: FromText>(
     cfg: &SpannedConfig,
     sizes: &CompleteDimension,
 ) -> Result<(Vec<usize>, Vec<usize>), Fault>
-    ensures widths { IfOk result (λ lists. widths_or sizes.now.widths (look_of cfg.now) (⟦<VecRecords<T> as RecordColumns>⟧.columns records.now) (⟦<VecRecords<T> as RecordTexts>⟧.rows records.now) ≡ Ok lists.0.items) }
-    ensures heights { IfOk result (λ lists. heights_or sizes.now.heights (look_of cfg.now) (⟦<VecRecords<T> as RecordColumns>⟧.columns records.now) (⟦<VecRecords<T> as RecordTexts>⟧.rows records.now) ≡ Ok lists.1.items) }
+    ensures widths { IfOk result (λ lists. widths_or sizes.now.widths (look_of cfg.now)
+        (⟦<VecRecords<T> as RecordColumns>⟧.columns records.now) (⟦<VecRecords<T> as RecordTexts>⟧.rows records.now) ≡ Ok lists.0.items) }
+    ensures heights { IfOk result (λ lists. heights_or sizes.now.heights (look_of cfg.now)
+        (⟦<VecRecords<T> as RecordColumns>⟧.columns records.now) (⟦<VecRecords<T> as RecordTexts>⟧.rows records.now) ≡ Ok lists.1.items) }
     ensures refused { let columns = ⟦<VecRecords<T> as RecordColumns>⟧.columns records.now in let rows = ⟦<VecRecords<T> as RecordTexts>⟧.rows records.now in
         IfErr result (λ fault. (next : List ℕ → List ℕ → Result DrawnSizes Refusal) →
         MayRefuse fault (λ outcome. (widths_or sizes.now.widths (look_of cfg.now) columns rows ≫= λ widths. heights_or sizes.now.heights (look_of cfg.now) columns rows ≫= next widths) ≡ outcome)) }
@@ -128,8 +130,12 @@ fn least_sizes<T: FromText>(
     records: &VecRecords<T>,
     cfg: &SpannedConfig,
 ) -> Result<(Vec<usize>, Vec<usize>), Fault>
-    ensures widths { IfOk result (λ lists. all_sized (natural_widths (look_of cfg.now) (⟦<VecRecords<T> as RecordColumns>⟧.columns records.now) (⟦<VecRecords<T> as RecordTexts>⟧.rows records.now)) ≡ Ok lists.0.items) }
-    ensures heights { IfOk result (λ lists. all_sized (natural_heights (look_of cfg.now) (⟦<VecRecords<T> as RecordColumns>⟧.columns records.now) (⟦<VecRecords<T> as RecordTexts>⟧.rows records.now)) ≡ Ok lists.1.items) }
+    ensures widths { IfOk result (λ lists. all_sized
+        (natural_widths (look_of cfg.now) (⟦<VecRecords<T> as RecordColumns>⟧.columns records.now)
+        (⟦<VecRecords<T> as RecordTexts>⟧.rows records.now)) ≡ Ok lists.0.items) }
+    ensures heights { IfOk result (λ lists. all_sized
+        (natural_heights (look_of cfg.now) (⟦<VecRecords<T> as RecordColumns>⟧.columns records.now)
+        (⟦<VecRecords<T> as RecordTexts>⟧.rows records.now)) ≡ Ok lists.1.items) }
     ensures refused { let columns = ⟦<VecRecords<T> as RecordColumns>⟧.columns records.now in let rows = ⟦<VecRecords<T> as RecordTexts>⟧.rows records.now in
         IfErr result (λ fault. (next : List ℕ → List ℕ → Result DrawnSizes Refusal) →
         MayRefuse fault (λ outcome. (all_sized (natural_widths (look_of cfg.now) columns rows) ≫= λ widths. all_sized (natural_heights (look_of cfg.now) columns rows) ≫= next widths) ≡ outcome)) }

@@ -32,7 +32,8 @@ pub fn narrow<T: FromText, P: Peaker + Drop, X: RoomChange>(
 ) -> Result<(), Fault>
     requires { 0 < length (⟦<VecRecords<T> as RecordTexts>⟧.rows records.old) }
     ensures { (colors : Place → Option Color) → Steps (Narrows P.shrinks priority (X.fitted change.now) asked) result
-        (state_with (⟦<VecRecords<T> as RecordTexts>⟧.rows records.old) (look_of cfg.now) colors dims.old) (state_with (⟦<VecRecords<T> as RecordTexts>⟧.rows records.new) (look_of cfg.now) colors dims.new) }
+        (state_with (⟦<VecRecords<T> as RecordTexts>⟧.rows records.old) (look_of cfg.now) colors dims.old)
+        (state_with (⟦<VecRecords<T> as RecordTexts>⟧.rows records.new) (look_of cfg.now) colors dims.new) }
 {
     let drawn = Drawn::estimate(alloc, &*records, cfg, &*dims)?;
     if drawn.whole <= asked {

@@ -9,12 +9,12 @@ use Rattle.ansi_scan.proofs.Uniqueness.{pieces-ArePiecesOf}
 use Rattle.ansi_str.specs.StyledText.{strip, styled}
 use Rattle.ansi_str_text.proofs.Utf8Pieces.{styled-characters}
 use Rattle.grid_records_measure.specs.Cutting.{IsLongestFront, lacking, replacement}
-use Rattle.grid_records_measure.proofs.CutLemmas.{cut_at-meets}
-use Rattle.grid_records_measure.proofs.FillingLemmas.{IsLongestFront-unique}
+use Rattle.grid_records_measure.proofs.Cuts.{cut_at-meets}
+use Rattle.grid_records_measure.proofs.Filling.{IsLongestFront-unique}
 use Rattle.grid_records_measure.proofs.ShownCuts.{cut-shows}
 use Rattle.tabled_size_wrap.specs.Bytes.{cut_at}
 use Rattle.tabled_size_wrap.specs.Fronts.{IsFrontOf}
-use Rattle.tabled_size_wrap.proofs.FrontLemmas.{fitting_front-meets, fitting_front-one, kept_of, left_of}
+use Rattle.tabled_size_wrap.proofs.Fronts.{fitting_front-meets, fitting_front-one, kept_of, left_of}
 use Rattle.tabled_width_texts.specs.Cutting.{kept}
 
 abbrev character_of : ℕ × Attributes → ℕ

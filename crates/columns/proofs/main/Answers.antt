@@ -1,7 +1,7 @@
 use Rattle.std.proofs.Common.{subst}
 use Rattle.columns_words.specs.Asking.{IsAnswer}
-use Rattle.columns_words.proofs.ColorLemmas.{asked-close}
-use Rattle.columns.proofs.StyleLemmas.{asked-plain}
+use Rattle.columns_words.proofs.Colors.{asked-close}
+use Rattle.columns.proofs.Styles.{asked-plain}
 use Rattle.columns.proofs.main.Goals as goal
 
 pub print-requires-clause-plain : goal.print-requires-clause-plain

@@ -59,7 +59,11 @@ impl<'a, R: ExactRecords + PeekableRecords> IntoRecords for PeekedRecords<'a, R>
 
     ghost may_refuse_left = { λ _. false };
 
-    ghost gives = { λ s. record { can_next = tt; ends = tt; each = each_row (λ s. s.columns) (λ s. s.left) (λ cells. texts_from (R.rows cells.records.now) cells.row cells.column cells.left) (λ s. rows_from (R.rows s.records.now) s.columns s.row s.left) _ (λ cells. record { can_next = tt; ends = tt; each = each_cell _ (λ cell. text_at (R.rows cell.records.now) cell.pos) (λ cells. cells.left) (λ cells. texts_from (R.rows cells.records.now) cells.row cells.column cells.left) cells }) s } };
+    ghost gives = { λ s. record { can_next = tt; ends = tt;
+        each = each_row (λ s. s.columns) (λ s. s.left) (λ cells. texts_from (R.rows cells.records.now) cells.row cells.column cells.left)
+        (λ s. rows_from (R.rows s.records.now) s.columns s.row s.left) _ (λ cells. record { can_next = tt; ends = tt;
+        each = each_cell _ (λ cell. text_at (R.rows cell.records.now) cell.pos) (λ cells. cells.left)
+        (λ cells. texts_from (R.rows cells.records.now) cells.row cells.column cells.left) cells }) s } };
 
     ghost passes = { λ s t _ step. (sym (ap (drop 1) step.2), refl) };
 
@@ -100,7 +104,9 @@ pub struct PeekedRows<'a, R> {
 impl<'a, R: PeekableRecords> Iterator for PeekedRows<'a, R> {
     type Item = PeekedCells<'a, R>;
 
-    ghost next_gives = { λ s r t. (t.columns ≡ s.columns) × TakesOne s.left r t.left × GivesRow (λ cells. texts_from (R.rows cells.records.now) cells.row cells.column cells.left) (rows_from (R.rows s.records.now) s.columns s.row s.left) r (rows_from (R.rows t.records.now) t.columns t.row t.left) };
+    ghost next_gives = { λ s r t. (t.columns ≡ s.columns) × TakesOne s.left r t.left
+        × GivesRow (λ cells. texts_from (R.rows cells.records.now) cells.row cells.column cells.left)
+        (rows_from (R.rows s.records.now) s.columns s.row s.left) r (rows_from (R.rows t.records.now) t.columns t.row t.left) };
 
     ghost remaining = { λ s. at_most s.left };
 
@@ -137,7 +143,9 @@ pub struct PeekedCells<'a, R> {
 impl<'a, R: PeekableRecords> Iterator for PeekedCells<'a, R> {
     type Item = Result<PeekedCell<'a, R>, AllocError>;
 
-    ghost next_gives = { λ s r t. TakesOne s.left r t.left × GivesText (λ cell. text_at (R.rows cell.records.now) cell.pos) (texts_from (R.rows s.records.now) s.row s.column s.left) r (texts_from (R.rows t.records.now) t.row t.column t.left) };
+    ghost next_gives = { λ s r t. TakesOne s.left r t.left
+        × GivesText (λ cell. text_at (R.rows cell.records.now) cell.pos) (texts_from (R.rows s.records.now) s.row s.column s.left) r
+        (texts_from (R.rows t.records.now) t.row t.column t.left) };
 
     ghost remaining = { λ s. at_most s.left };
 

@@ -58,7 +58,9 @@ impl<'a, R: PeekableRecords, C: Colors> Table<'a, R, C> {
         requires top { y ≡ boundary_at (row_tracks (table_sheet R.rows C.color self.now)) i }
         requires range { track_at (row_tracks (table_sheet R.rows C.color self.now)) i < 2 ^ 64 }
         requires empty { string_bytes line.old ≡ [] }
-        ensures lines { Chooses W.contents (chosen_lines (table_sheet R.rows C.color self.now) (K.wants wanted.now) y (track_at (row_tracks (table_sheet R.rows C.color self.now)) i)) result writer.old writer.new }
+        ensures lines { Chooses W.contents
+            (chosen_lines (table_sheet R.rows C.color self.now) (K.wants wanted.now) y
+            (track_at (row_tracks (table_sheet R.rows C.color self.now)) i)) result writer.old writer.new }
         ensures end { IfOk result (λ end. end ≡ track_at (row_tracks (table_sheet R.rows C.color self.now)) i) }
         ensures empty { OnOk result (string_bytes line.new ≡ []) }
     {
@@ -92,7 +94,9 @@ impl<'a, R: PeekableRecords, C: Colors> Table<'a, R, C> {
         requires top { y ≡ track_at (row_tracks (table_sheet R.rows C.color self.now)) i }
         requires range { boundary_at (row_tracks (table_sheet R.rows C.color self.now)) (length self.now.heights.now) < 2 ^ 64 }
         requires empty { string_bytes line.old ≡ [] }
-        ensures lines { Chooses W.contents (chosen_lines (table_sheet R.rows C.color self.now) (K.wants wanted.now) y (boundary_at (row_tracks (table_sheet R.rows C.color self.now)) (i + 1))) result writer.old writer.new }
+        ensures lines { Chooses W.contents
+            (chosen_lines (table_sheet R.rows C.color self.now) (K.wants wanted.now) y
+            (boundary_at (row_tracks (table_sheet R.rows C.color self.now)) (i + 1))) result writer.old writer.new }
         ensures end { IfOk result (λ end. end ≡ boundary_at (row_tracks (table_sheet R.rows C.color self.now)) (i + 1)) }
         ensures empty { OnOk result (string_bytes line.new ≡ []) }
     {
@@ -128,7 +132,9 @@ impl<'a, R: PeekableRecords, C: Colors> Table<'a, R, C> {
         requires top { y ≡ track_at (row_tracks (table_sheet R.rows C.color self.now)) i }
         requires range { boundary_at (row_tracks (table_sheet R.rows C.color self.now)) (length self.now.heights.now) < 2 ^ 64 }
         requires empty { string_bytes line.old ≡ [] }
-        ensures lines { Chooses W.contents (chosen_lines (table_sheet R.rows C.color self.now) (K.wants wanted.now) y (boundary_at (row_tracks (table_sheet R.rows C.color self.now)) (i + 1))) result writer.old writer.new }
+        ensures lines { Chooses W.contents
+            (chosen_lines (table_sheet R.rows C.color self.now) (K.wants wanted.now) y
+            (boundary_at (row_tracks (table_sheet R.rows C.color self.now)) (i + 1))) result writer.old writer.new }
         ensures end { IfOk result (λ end. end ≡ boundary_at (row_tracks (table_sheet R.rows C.color self.now)) (i + 1)) }
         ensures empty { OnOk result (string_bytes line.new ≡ []) }
     {
@@ -165,7 +171,9 @@ impl<'a, R: PeekableRecords, C: Colors> Table<'a, R, C> {
         requires columns { boundary_at (grid_of (table_sheet R.rows C.color self.now)).frame.columns (length self.now.widths.now) < 2 ^ 64 }
         requires top { y ≡ track_at (row_tracks (table_sheet R.rows C.color self.now)) i }
         requires empty { string_bytes line.old ≡ [] }
-        ensures lines { Chooses W.contents (chosen_lines (table_sheet R.rows C.color self.now) (K.wants wanted.now) y (boundary_at (row_tracks (table_sheet R.rows C.color self.now)) (i + 1))) result writer.old writer.new }
+        ensures lines { Chooses W.contents
+            (chosen_lines (table_sheet R.rows C.color self.now) (K.wants wanted.now) y
+            (boundary_at (row_tracks (table_sheet R.rows C.color self.now)) (i + 1))) result writer.old writer.new }
         ensures end { IfOk result (λ end. end ≡ boundary_at (row_tracks (table_sheet R.rows C.color self.now)) (i + 1)) }
         ensures goes_on { OnOk result (GoesOn (table_sheet R.rows C.color self.now) (i + 1) cells.new) }
         ensures wide { length cells.new ≡ length cells.old }
@@ -233,7 +241,10 @@ impl<'a, R: PeekableRecords, C: Colors> Table<'a, R, C> {
         requires between { MatchOption between.now ⊤ (λ text. IsBetween (table_sheet R.rows C.color self.now) (string_bytes text)) }
         requires wide { length cells.old ≡ length self.now.widths.now }
         requires empty { string_bytes line.old ≡ [] }
-        ensures lines { Chooses W.contents (chosen_lines (table_sheet R.rows C.color self.now) (K.wants wanted.now) (boundary_at (row_tracks (table_sheet R.rows C.color self.now)) 0) (track_at (row_tracks (table_sheet R.rows C.color self.now)) (length self.now.heights.now))) result writer.old writer.new }
+        ensures lines { Chooses W.contents
+            (chosen_lines (table_sheet R.rows C.color self.now) (K.wants wanted.now)
+            (boundary_at (row_tracks (table_sheet R.rows C.color self.now)) 0)
+            (track_at (row_tracks (table_sheet R.rows C.color self.now)) (length self.now.heights.now))) result writer.old writer.new }
         ensures end { IfOk result (λ end. end ≡ track_at (row_tracks (table_sheet R.rows C.color self.now)) (length self.now.heights.now)) }
         ensures empty { OnOk result (string_bytes line.new ≡ []) }
     {
@@ -260,7 +271,10 @@ impl<'a, R: PeekableRecords, C: Colors> Table<'a, R, C> {
         requires lines { track_at (row_tracks (table_sheet R.rows C.color self.now)) (length self.now.heights.now) < 2 ^ 64 }
         requires columns { boundary_at (grid_of (table_sheet R.rows C.color self.now)).frame.columns (length self.now.widths.now) < 2 ^ 64 }
         requires empty { string_bytes line.old ≡ [] }
-        ensures lines { Chooses W.contents (chosen_lines (table_sheet R.rows C.color self.now) (K.wants wanted.now) (boundary_at (row_tracks (table_sheet R.rows C.color self.now)) 0) (track_at (row_tracks (table_sheet R.rows C.color self.now)) (length self.now.heights.now))) result writer.old writer.new }
+        ensures lines { Chooses W.contents
+            (chosen_lines (table_sheet R.rows C.color self.now) (K.wants wanted.now)
+            (boundary_at (row_tracks (table_sheet R.rows C.color self.now)) 0)
+            (track_at (row_tracks (table_sheet R.rows C.color self.now)) (length self.now.heights.now))) result writer.old writer.new }
         ensures end { IfOk result (λ end. end ≡ track_at (row_tracks (table_sheet R.rows C.color self.now)) (length self.now.heights.now)) }
         ensures empty { OnOk result (string_bytes line.new ≡ []) }
     {
@@ -294,7 +308,8 @@ impl<'a, R: PeekableRecords, C: Colors> Table<'a, R, C> {
         requires rows { 0 < length self.now.heights.now }
         requires columns { 0 < length self.now.widths.now }
         requires empty { string_bytes line.old ≡ [] }
-        ensures { Chooses W.contents (chosen_lines (table_sheet R.rows C.color self.now) (K.wants wanted.now) 0 (line_count (grid_of (table_sheet R.rows C.color self.now)).frame)) result writer.old writer.new }
+        ensures { Chooses W.contents (chosen_lines (table_sheet R.rows C.color self.now) (K.wants wanted.now) 0
+            (line_count (grid_of (table_sheet R.rows C.color self.now)).frame)) result writer.old writer.new }
     {
         let margin = self.cfg.get_margin();
         let colors = self.cfg.get_margin_color();

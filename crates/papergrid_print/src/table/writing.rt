@@ -43,7 +43,9 @@ impl<'a, R: PeekableRecords, C: Colors> Table<'a, R, C> {
         requires boundary { i ≤ length self.now.heights.now }
         requires top { y ≡ boundary_at (row_tracks (table_sheet R.rows C.color self.now)) i }
         requires range { track_at (row_tracks (table_sheet R.rows C.color self.now)) i < 2 ^ 64 }
-        ensures lines { Continues W.contents (lines_of (table_sheet R.rows C.color self.now) y) (lines_of (table_sheet R.rows C.color self.now) (track_at (row_tracks (table_sheet R.rows C.color self.now)) i)) result (string_bytes buffer.old) (string_bytes buffer.new) writer.old writer.new }
+        ensures lines { Continues W.contents (lines_of (table_sheet R.rows C.color self.now) y)
+            (lines_of (table_sheet R.rows C.color self.now) (track_at (row_tracks (table_sheet R.rows C.color self.now)) i)) result
+            (string_bytes buffer.old) (string_bytes buffer.new) writer.old writer.new }
         ensures end { IfOk result (λ written. IfOk written (λ end. end ≡ track_at (row_tracks (table_sheet R.rows C.color self.now)) i)) }
     {
         let end = self.push_boundary(buffer, runs, between, owners, cells, i, y)?;
@@ -69,7 +71,9 @@ impl<'a, R: PeekableRecords, C: Colors> Table<'a, R, C> {
         requires row { i < length self.now.heights.now }
         requires top { y ≡ track_at (row_tracks (table_sheet R.rows C.color self.now)) i }
         requires range { boundary_at (row_tracks (table_sheet R.rows C.color self.now)) (length self.now.heights.now) < 2 ^ 64 }
-        ensures lines { Continues W.contents (lines_of (table_sheet R.rows C.color self.now) y) (lines_of (table_sheet R.rows C.color self.now) (boundary_at (row_tracks (table_sheet R.rows C.color self.now)) (i + 1))) result (string_bytes buffer.old) (string_bytes buffer.new) writer.old writer.new }
+        ensures lines { Continues W.contents (lines_of (table_sheet R.rows C.color self.now) y)
+            (lines_of (table_sheet R.rows C.color self.now) (boundary_at (row_tracks (table_sheet R.rows C.color self.now)) (i + 1))) result
+            (string_bytes buffer.old) (string_bytes buffer.new) writer.old writer.new }
         ensures end { IfOk result (λ written. IfOk written (λ end. end ≡ boundary_at (row_tracks (table_sheet R.rows C.color self.now)) (i + 1))) }
     {
         let end = y + self.heights[i];
@@ -106,7 +110,9 @@ impl<'a, R: PeekableRecords, C: Colors> Table<'a, R, C> {
         requires range { boundary_at (row_tracks (table_sheet R.rows C.color self.now)) (length self.now.heights.now) < 2 ^ 64 }
         requires columns { boundary_at (grid_of (table_sheet R.rows C.color self.now)).frame.columns (length self.now.widths.now) < 2 ^ 64 }
         requires top { y ≡ track_at (row_tracks (table_sheet R.rows C.color self.now)) i }
-        ensures lines { Continues W.contents (lines_of (table_sheet R.rows C.color self.now) y) (lines_of (table_sheet R.rows C.color self.now) (boundary_at (row_tracks (table_sheet R.rows C.color self.now)) (i + 1))) result (string_bytes buffer.old) (string_bytes buffer.new) writer.old writer.new }
+        ensures lines { Continues W.contents (lines_of (table_sheet R.rows C.color self.now) y)
+            (lines_of (table_sheet R.rows C.color self.now) (boundary_at (row_tracks (table_sheet R.rows C.color self.now)) (i + 1))) result
+            (string_bytes buffer.old) (string_bytes buffer.new) writer.old writer.new }
         ensures end { IfOk result (λ written. IfOk written (λ end. end ≡ boundary_at (row_tracks (table_sheet R.rows C.color self.now)) (i + 1))) }
         ensures goes_on { IfOk result (λ written. IfOk written (λ _. GoesOn (table_sheet R.rows C.color self.now) (i + 1) cells.new)) }
         ensures wide { length cells.new ≡ length cells.old }
@@ -137,7 +143,9 @@ impl<'a, R: PeekableRecords, C: Colors> Table<'a, R, C> {
     ) -> Result<Result<(), WriteFault>, AllocError>
         requires range { y + margin.size < 2 ^ 64 }
         requires shown { (k : ℕ) → y ≤ k → k < y + margin.size → place_line (table_sheet R.rows C.color self.now) k ≡ colored color.now (fill_bytes margin.fill width) }
-        ensures { Continues W.contents (lines_of (table_sheet R.rows C.color self.now) y) (lines_of (table_sheet R.rows C.color self.now) (y + margin.size)) result (string_bytes buffer.old) (string_bytes buffer.new) writer.old writer.new }
+        ensures { Continues W.contents (lines_of (table_sheet R.rows C.color self.now) y)
+            (lines_of (table_sheet R.rows C.color self.now) (y + margin.size)) result (string_bytes buffer.old)
+            (string_bytes buffer.new) writer.old writer.new }
     {
         for line in y..y + margin.size {
             push_feed(buffer, line)?;
@@ -171,7 +179,11 @@ impl<'a, R: PeekableRecords, C: Colors> Table<'a, R, C> {
         requires made { AreMadeFor self.now.cfg.now self.now.widths.now flat.now }
         requires between { MatchOption between.now ⊤ (λ text. IsBetween (table_sheet R.rows C.color self.now) (string_bytes text)) }
         requires wide { length cells.old ≡ length self.now.widths.now }
-        ensures lines { Continues W.contents (lines_of (table_sheet R.rows C.color self.now) (boundary_at (row_tracks (table_sheet R.rows C.color self.now)) 0)) (lines_of (table_sheet R.rows C.color self.now) (track_at (row_tracks (table_sheet R.rows C.color self.now)) (length self.now.heights.now))) result (string_bytes buffer.old) (string_bytes buffer.new) writer.old writer.new }
+        ensures lines { Continues W.contents
+            (lines_of (table_sheet R.rows C.color self.now) (boundary_at (row_tracks (table_sheet R.rows C.color self.now)) 0))
+            (lines_of (table_sheet R.rows C.color self.now)
+            (track_at (row_tracks (table_sheet R.rows C.color self.now)) (length self.now.heights.now))) result (string_bytes buffer.old)
+            (string_bytes buffer.new) writer.old writer.new }
         ensures end { IfOk result (λ written. IfOk written (λ end. end ≡ track_at (row_tracks (table_sheet R.rows C.color self.now)) (length self.now.heights.now))) }
     {
         let mut y = self.cfg.get_margin().top.size;
@@ -209,7 +221,11 @@ impl<'a, R: PeekableRecords, C: Colors> Table<'a, R, C> {
         requires good { AreGood self.now.cfg.now.spans (length self.now.heights.now) (length self.now.widths.now) }
         requires lines { track_at (row_tracks (table_sheet R.rows C.color self.now)) (length self.now.heights.now) < 2 ^ 64 }
         requires columns { boundary_at (grid_of (table_sheet R.rows C.color self.now)).frame.columns (length self.now.widths.now) < 2 ^ 64 }
-        ensures lines { Continues W.contents (lines_of (table_sheet R.rows C.color self.now) (boundary_at (row_tracks (table_sheet R.rows C.color self.now)) 0)) (lines_of (table_sheet R.rows C.color self.now) (track_at (row_tracks (table_sheet R.rows C.color self.now)) (length self.now.heights.now))) result (string_bytes buffer.old) (string_bytes buffer.new) writer.old writer.new }
+        ensures lines { Continues W.contents
+            (lines_of (table_sheet R.rows C.color self.now) (boundary_at (row_tracks (table_sheet R.rows C.color self.now)) 0))
+            (lines_of (table_sheet R.rows C.color self.now)
+            (track_at (row_tracks (table_sheet R.rows C.color self.now)) (length self.now.heights.now))) result (string_bytes buffer.old)
+            (string_bytes buffer.new) writer.old writer.new }
         ensures end { IfOk result (λ written. IfOk written (λ end. end ≡ track_at (row_tracks (table_sheet R.rows C.color self.now)) (length self.now.heights.now))) }
     {
         let flat = self.flat_rows(alloc)?;
@@ -254,7 +270,8 @@ impl<'a, R: PeekableRecords, C: Colors> Table<'a, R, C> {
         requires rows { 0 < length self.now.heights.now }
         requires columns { 0 < length self.now.widths.now }
         requires empty { string_bytes buffer.old ≡ [] }
-        ensures { Passes W.contents (lines_of (table_sheet R.rows C.color self.now) (line_count (grid_of (table_sheet R.rows C.color self.now)).frame)) result (string_bytes buffer.new) writer.old writer.new }
+        ensures { Passes W.contents (lines_of (table_sheet R.rows C.color self.now)
+            (line_count (grid_of (table_sheet R.rows C.color self.now)).frame)) result (string_bytes buffer.new) writer.old writer.new }
     {
         let margin = self.cfg.get_margin();
         let colors = self.cfg.get_margin_color();

@@ -24,7 +24,8 @@ impl Table<Text> {
     where
         I::IntoIter: Drop,
         requires { (s : I.IntoIter) → I.into_iter_gives items s → I.IntoIter.can_next s × IsFinite (I.IntoIter.remaining s) }
-        ensures table { IfOk result (λ table. (s : I.IntoIter) × (taken : List T) × I.into_iter_gives items s × Drains I.IntoIter.next_gives s taken × (state_of (λ text. text) table ≡ new_state (named_rows T.names T.texts taken))) }
+        ensures table { IfOk result (λ table. (s : I.IntoIter) × (taken : List T) × I.into_iter_gives items s
+            × Drains I.IntoIter.next_gives s taken × (state_of (λ text. text) table ≡ new_state (named_rows T.names T.texts taken))) }
         ensures refused { IfErr result (λ fault. fault ≡ Memory) }
     {
         let names = owned(alloc, T::headers(alloc)?)?;
@@ -44,7 +45,8 @@ where
     I::IntoIter: Drop,
     requires names { map string_bytes names.now ≡ T.names }
     requires ends { (s : I.IntoIter) → I.into_iter_gives items s → I.IntoIter.can_next s × IsFinite (I.IntoIter.remaining s) }
-    ensures rows { IfOk result (λ out. (s : I.IntoIter) × (taken : List T) × I.into_iter_gives items s × Drains I.IntoIter.next_gives s taken × (text_rows out.items ≡ named_rows T.names T.texts taken)) }
+    ensures rows { IfOk result (λ out. (s : I.IntoIter) × (taken : List T) × I.into_iter_gives items s
+        × Drains I.IntoIter.next_gives s taken × (text_rows out.items ≡ named_rows T.names T.texts taken)) }
 {
     let mut rows = Vec::new(alloc);
     for item in items {

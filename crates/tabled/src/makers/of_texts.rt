@@ -25,7 +25,10 @@ impl Table<Text> {
         I::IntoIter: Drop,
         requires rows { (s : I.IntoIter) → I.into_iter_gives rows s → I.IntoIter.can_next s × IsFinite (I.IntoIter.remaining s) }
         requires texts { (row : I.Item) (s : I.Item.IntoIter) → I.Item.into_iter_gives row s → I.Item.IntoIter.can_next s × IsFinite (I.Item.IntoIter.remaining s) }
-        ensures table { IfOk result (λ table. (s : I.IntoIter) × (taken : List I.Item) × (texts : List (List (List ℕ))) × I.into_iter_gives rows s × Drains I.IntoIter.next_gives s taken × AllZip (HoldsTexts I.Item.into_iter_gives I.Item.IntoIter.next_gives I.Item.Item.text) taken texts × (state_of (λ text. text) table ≡ new_state (filled texts))) }
+        ensures table { IfOk result (λ table. (s : I.IntoIter) × (taken : List I.Item) × (texts : List (List (List ℕ)))
+            × I.into_iter_gives rows s × Drains I.IntoIter.next_gives s taken
+            × AllZip (HoldsTexts I.Item.into_iter_gives I.Item.IntoIter.next_gives I.Item.Item.text) taken texts
+            × (state_of (λ text. text) table ≡ new_state (filled texts))) }
         ensures refused { IfErr result (λ fault. fault ≡ Memory) }
     {
         let builder = builder_of::<I>(alloc, rows)?;
@@ -42,7 +45,9 @@ where
     I::IntoIter: Drop,
     requires rows { (s : I.IntoIter) → I.into_iter_gives rows s → I.IntoIter.can_next s × IsFinite (I.IntoIter.remaining s) }
     requires texts { (row : I.Item) (s : I.Item.IntoIter) → I.Item.into_iter_gives row s → I.Item.IntoIter.can_next s × IsFinite (I.Item.IntoIter.remaining s) }
-    ensures { IfOk result (λ builder. (s : I.IntoIter) × (taken : List I.Item) × I.into_iter_gives rows s × Drains I.IntoIter.next_gives s taken × AllZip (HoldsTexts I.Item.into_iter_gives I.Item.IntoIter.next_gives I.Item.Item.text) taken builder) }
+    ensures { IfOk result (λ builder. (s : I.IntoIter) × (taken : List I.Item) × I.into_iter_gives rows s
+        × Drains I.IntoIter.next_gives s taken
+        × AllZip (HoldsTexts I.Item.into_iter_gives I.Item.IntoIter.next_gives I.Item.Item.text) taken builder) }
 {
     let mut builder = Builder::new(alloc);
     for row in rows {

@@ -64,7 +64,9 @@ impl<T: FromText> Table<T> {
         wanted: &K,
     ) -> Result<(), BuildFault>
         ensures whole { OnOk result (Appends (W.contents (inner_of writer.old)) (W.contents (inner_of writer.new)) (wanted_lines (K.wants wanted.now) (state_of T.text self.now))) }
-        ensures front { IfErr result (λ fault. ¬ (HasNoText fault) → AppendsFront (W.contents (inner_of writer.old)) (W.contents (inner_of writer.new)) (wanted_lines (K.wants wanted.now) (state_of T.text self.now))) }
+        ensures front { IfErr result (λ fault. ¬ (HasNoText fault) →
+            AppendsFront (W.contents (inner_of writer.old)) (W.contents (inner_of writer.new))
+            (wanted_lines (K.wants wanted.now) (state_of T.text self.now))) }
         ensures untouched { IfErr result (λ fault. HasNoText fault → writer.new ≡ writer.old) }
         ensures nothing { wanted_lines (K.wants wanted.now) (state_of T.text self.now) ≡ [] → writer.new ≡ writer.old }
         ensures fits { OnOk result (IsFit (state_of T.text self.now) (Ok tt)) }

@@ -7,7 +7,7 @@ use Rattle.ansi_scan.specs.Sequences.{Piece, ArePiecesOf}
 use Rattle.ansi_scan.specs.Pieces.{pieces}
 use Rattle.ansi_str.specs.StyledText.{strip}
 use Rattle.ansi_str.specs.Cuts.{AreBreaks}
-use Rattle.ansi_str_search.proofs.SearchLemmas.{of_pieces}
+use Rattle.ansi_str_search.proofs.Searches.{of_pieces}
 use Rattle.ansi_str.proofs.RisingPlaces.{Tested, Tested-start, Tested-falls, Tested-inside, Tested-next, Tested-end, AreBreaks-first, IsUtf8-behind}
 use Rattle.ansi_str.proofs.breaks.are_places.Goals as goal
 

@@ -10,7 +10,7 @@ use Rattle.ansi_str.specs.StyledText.{strip, has_escape, style_after_all}
 use Rattle.ansi_str.specs.Parts.{from_place, through_place, dressed}
 use Rattle.ansi_str.specs.Walking.{from_text}
 use Rattle.ansi_str.specs.Cuts.{IsGoodBound}
-use Rattle.ansi_str_search.proofs.RestLemmas.{strip-fits, no_escape-behind}
+use Rattle.ansi_str_search.proofs.Rests.{strip-fits, no_escape-behind}
 use Rattle.ansi_str.proofs.CutSteps.{good-none, plain-through}
 use Rattle.ansi_str.proofs.BreakSteps.{parts_at-one, part-dressed, through-rest}
 use Rattle.ansi_str.proofs.breaks.split_at.Goals as goal

@@ -7,7 +7,7 @@ use Rattle.ansi_scan.specs.Pieces.{pieces}
 use Rattle.ansi_scan.specs.Attributes.{Attributes}
 use Rattle.ansi_scan.proofs.Existence.{ArePiecesOf-pieces}
 use Rattle.ansi_str.specs.StyledText.{strip}
-use Rattle.ansi_str_search.proofs.RestLemmas.{strip-fits}
+use Rattle.ansi_str_search.proofs.Rests.{strip-fits}
 use Rattle.ansi_str.proofs.CutSteps.{good-none}
 use Rattle.ansi_str.proofs.BreakSteps.{Walked, Walked-start, Walked-next, Walked-end, part-dressed}
 use Rattle.ansi_str.proofs.breaks.split_places.Goals as goal

@@ -6,7 +6,7 @@ use Rattle.ansi_scan.proofs.Existence.{ArePiecesOf-pieces}
 use Rattle.ansi_scan.proofs.Uniqueness.{ArePiecesOf-unique}
 use Rattle.ansi_str.specs.StyledText.{strip}
 use Rattle.ansi_str.specs.Cuts.{AreGoodBounds}
-use Rattle.ansi_str_search.proofs.SearchLemmas.{of_pieces, refused_where}
+use Rattle.ansi_str_search.proofs.Searches.{of_pieces, refused_where}
 use Rattle.ansi_str.proofs.cut.get.Goals as goal
 
 pub returns-then-not-are_good_bounds-clause-good : goal.returns-then-not-are_good_bounds-clause-good

@@ -4,7 +4,7 @@ use Rattle.ansi_scan.specs.Sequences.{Piece}
 use Rattle.ansi_scan.specs.Pieces.{pieces}
 use Rattle.ansi_str.specs.StyledText.{strip}
 use Rattle.ansi_str.specs.Cuts.{AreGoodBounds}
-use Rattle.ansi_str_search.proofs.SearchLemmas.{of_pieces}
+use Rattle.ansi_str_search.proofs.Searches.{of_pieces}
 use Rattle.ansi_str.proofs.cut.is_good_range.Goals as goal
 
 pub returns : goal.returns

@@ -5,7 +5,7 @@ use Rattle.ansi_scan.specs.Pieces.{pieces}
 use Rattle.ansi_scan.proofs.Existence.{ArePiecesOf-pieces}
 use Rattle.ansi_str.specs.StyledText.{strip}
 use Rattle.ansi_str.specs.Cuts.{IsGoodBound}
-use Rattle.ansi_str_search.proofs.SearchLemmas.{of_pieces}
+use Rattle.ansi_str_search.proofs.Searches.{of_pieces}
 use Rattle.ansi_str.proofs.editing.left_side.Goals as goal
 
 pub split_at-requires : goal.split_at-requires

@@ -3,7 +3,7 @@ use Rattle.std.proofs.Common.{◌≡◌, length}
 use Rattle.ansi_str.specs.StyledText.{strip}
 use Rattle.ansi_str.specs.Searches.{BeginsWith, EndsWith}
 use Rattle.ansi_str.specs.Keeping.{without_front, without_end}
-use Rattle.ansi_str_search.proofs.SearchLemmas.{found_as_tested}
+use Rattle.ansi_str_search.proofs.Searches.{found_as_tested}
 use Rattle.ansi_str.proofs.laws.taken_where_they_are.Goals as goal
 
 pub returns-clause-prefix : goal.returns-clause-prefix

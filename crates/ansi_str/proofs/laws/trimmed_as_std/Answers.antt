@@ -3,7 +3,7 @@ use Rattle.std.proofs.Common.{◌∙◌, subst}
 use Rattle.ansi_scan.specs.Sequences.{ArePiecesOf}
 use Rattle.ansi_str.specs.StyledText.{strip}
 use Rattle.ansi_str.proofs.KeptPieces.{kept_shown}
-use Rattle.ansi_str.proofs.TrimLemmas.{by_places}
+use Rattle.ansi_str.proofs.Trims.{by_places}
 use Rattle.ansi_str.proofs.laws.trimmed_as_std.Goals as goal
 
 pub returns : goal.returns

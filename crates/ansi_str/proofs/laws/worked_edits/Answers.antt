@@ -7,7 +7,7 @@ use Rattle.ansi_scan.specs.Attributes.{plain_attributes}
 use Rattle.ansi_scan.specs.Rendition.{applied, after_parameters}
 use Rattle.ansi_str.specs.Keeping.{without_front}
 use Rattle.ansi_str.specs.WorkedCuts.{red_text}
-use Rattle.ansi_str_search.proofs.WorkedLemmas.{ArePiecesOf-worked}
+use Rattle.ansi_str_search.proofs.Worked.{ArePiecesOf-worked}
 use Rattle.ansi_str.proofs.laws.worked_edits.Goals as goal
 
 pub returns-clause-before : goal.returns-clause-before

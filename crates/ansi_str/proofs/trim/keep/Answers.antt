@@ -5,7 +5,7 @@ use Rattle.ansi_scan.specs.Pieces.{pieces}
 use Rattle.ansi_scan.proofs.Existence.{ArePiecesOf-pieces}
 use Rattle.ansi_str.specs.StyledText.{has_escape, strip}
 use Rattle.ansi_str_text.proofs.Stripping.{strip-without_escape}
-use Rattle.ansi_str.proofs.KeepLemmas.{kept-plain}
+use Rattle.ansi_str.proofs.Keeps.{kept-plain}
 use Rattle.ansi_str.proofs.trim.keep.Goals as goal
 
 shows_itself : (text : List ℕ) → has_escape text ≡ false → strip (pieces text) ≡ text

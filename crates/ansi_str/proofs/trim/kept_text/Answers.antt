@@ -4,10 +4,10 @@ use Rattle.ansi_scan.specs.declared.items.Kind.{Kind}
 use Rattle.ansi_scan.specs.Sequences.{Piece}
 use Rattle.ansi_scan.specs.Joining.{is_text_kind}
 use Rattle.ansi_str.specs.StyledText.{shown}
-use Rattle.ansi_str_search.proofs.DressedLemmas.{other_kind}
-use Rattle.ansi_str_search.proofs.RestLemmas.{strip-fits}
+use Rattle.ansi_str_search.proofs.Dressed.{other_kind}
+use Rattle.ansi_str_search.proofs.Rests.{strip-fits}
 use Rattle.ansi_str_search.proofs.Walks.{first-shorter}
-use Rattle.ansi_str.proofs.KeepLemmas.{behind-utf8, kept-counts, IsKeptLeft-text, IsKeptLeft-sequence}
+use Rattle.ansi_str.proofs.Keeps.{behind-utf8, kept-counts, IsKeptLeft-text, IsKeptLeft-sequence}
 use Rattle.ansi_str.proofs.trim.kept_text.Goals as goal
 
 pub overflow_add-place : goal.overflow_add-place

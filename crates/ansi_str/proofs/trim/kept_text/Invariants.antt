@@ -2,7 +2,7 @@
 use denote.Shadow.{shadow}
 use denote.Text.{Utf8}
 use Rattle.std.proofs.Common.{length, string_bytes}
-use Rattle.ansi_str.proofs.KeepLemmas.{IsKeptLeft}
+use Rattle.ansi_str.proofs.Keeps.{IsKeptLeft}
 use Rattle.ansi_str.proofs.trim.kept_text.Given as goal
 
 abbrev pub invariant-loop-kind : goal.invariant-loop-kind

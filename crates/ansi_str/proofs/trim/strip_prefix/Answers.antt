@@ -7,11 +7,11 @@ use Rattle.ansi_scan.proofs.Existence.{ArePiecesOf-pieces}
 use Rattle.ansi_str.specs.StyledText.{strip}
 use Rattle.ansi_str.specs.Searches.{BeginsWith}
 use Rattle.ansi_str.specs.Keeping.{without_front}
-use Rattle.ansi_str_search.proofs.FindLemmas.{IsUtf8-shown}
-use Rattle.ansi_str_search.proofs.RestLemmas.{strip-fits}
-use Rattle.ansi_str_search.proofs.SearchLemmas.{of_pieces, refused_where}
-use Rattle.ansi_str.proofs.KeepLemmas.{kept-past}
-use Rattle.ansi_str.proofs.TrimLemmas.{begins-cut}
+use Rattle.ansi_str_search.proofs.Finds.{IsUtf8-shown}
+use Rattle.ansi_str_search.proofs.Rests.{strip-fits}
+use Rattle.ansi_str_search.proofs.Searches.{of_pieces, refused_where}
+use Rattle.ansi_str.proofs.Keeps.{kept-past}
+use Rattle.ansi_str.proofs.Trims.{begins-cut}
 use Rattle.ansi_str.proofs.trim.strip_prefix.Goals as goal
 
 pub keep-requires-clause-from : goal.keep-requires-clause-from

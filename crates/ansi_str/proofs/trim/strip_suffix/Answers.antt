@@ -7,8 +7,8 @@ use Rattle.ansi_scan.specs.Pieces.{pieces}
 use Rattle.ansi_str.specs.StyledText.{strip}
 use Rattle.ansi_str.specs.Searches.{EndsWith}
 use Rattle.ansi_str.specs.Keeping.{kept, without_end}
-use Rattle.ansi_str_search.proofs.FindLemmas.{IsUtf8-shown}
-use Rattle.ansi_str_search.proofs.SearchLemmas.{of_pieces, refused_where}
+use Rattle.ansi_str_search.proofs.Finds.{IsUtf8-shown}
+use Rattle.ansi_str_search.proofs.Searches.{of_pieces, refused_where}
 use Rattle.ansi_str.proofs.trim.strip_suffix.Goals as goal
 
 pub returns-in_default-clause-kept : goal.returns-in_default-clause-kept

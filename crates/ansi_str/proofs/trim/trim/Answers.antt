@@ -4,7 +4,7 @@ use Rattle.std.specs.Str.{IsCharBoundary}
 use Rattle.ansi_scan.specs.Pieces.{pieces}
 use Rattle.ansi_scan.proofs.Existence.{ArePiecesOf-pieces}
 use Rattle.ansi_str.specs.Keeping.{IsTrimmedAt}
-use Rattle.ansi_str.proofs.TrimLemmas.{all_trimmed}
+use Rattle.ansi_str.proofs.Trims.{all_trimmed}
 use Rattle.ansi_str.proofs.trim.trim.Goals as goal
 
 pub keep-requires-clause-from : goal.keep-requires-clause-from

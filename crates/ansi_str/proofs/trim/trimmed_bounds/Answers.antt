@@ -1,5 +1,5 @@
 -- The white space at the start, and then that at the end.
-use Rattle.ansi_str.proofs.TrimLemmas.{IsTrimmedAt-both, from-cut, to-cut}
+use Rattle.ansi_str.proofs.Trims.{IsTrimmedAt-both, from-cut, to-cut}
 use Rattle.ansi_str.proofs.trim.trimmed_bounds.Goals as goal
 
 pub returns-clause-trimmed : goal.returns-clause-trimmed

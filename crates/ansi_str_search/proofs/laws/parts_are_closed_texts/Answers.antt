@@ -1,5 +1,5 @@
--- The lemmas of `Utf8Lemmas` and `AllParts`.
-use Rattle.ansi_str_search.proofs.Utf8Lemmas.{All-closed, All-utf8}
+-- The lemmas of `Utf8` and `AllParts`.
+use Rattle.ansi_str_search.proofs.Utf8.{All-closed, All-utf8}
 use Rattle.ansi_str_search.proofs.AllParts.{All-closed_lines}
 use Rattle.ansi_str_search.proofs.laws.parts_are_closed_texts.Goals as goal
 

@@ -1,5 +1,5 @@
--- A lemma of `StyleLemmas`.
-use Rattle.ansi_str_search.proofs.StyleLemmas.{split_part-slice}
+-- A lemma of `Styles`.
+use Rattle.ansi_str_search.proofs.Styles.{split_part-slice}
 use Rattle.ansi_str_search.proofs.laws.parts_are_slices.Goals as goal
 
 pub returns : goal.returns

@@ -1,5 +1,5 @@
--- The lemmas of `SliceLemmas` and `AllParts`.
-use Rattle.ansi_str_search.proofs.SliceLemmas.{strip-split_part}
+-- The lemmas of `Slices` and `AllParts`.
+use Rattle.ansi_str_search.proofs.Slices.{strip-split_part}
 use Rattle.ansi_str_search.proofs.AllParts.{strip-styled_parts}
 use Rattle.ansi_str_search.proofs.laws.parts_are_stripped_slices.Goals as goal
 

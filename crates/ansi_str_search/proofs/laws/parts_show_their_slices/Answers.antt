@@ -1,5 +1,5 @@
--- The lemmas of `DressedLemmas` and `CharSlices`.
-use Rattle.ansi_str_search.proofs.DressedLemmas.{styled-split_part, IsClosed-split_part}
+-- The lemmas of `Dressed` and `CharSlices`.
+use Rattle.ansi_str_search.proofs.Dressed.{styled-split_part, IsClosed-split_part}
 use Rattle.ansi_str_search.proofs.CharSlices.{styled-slice}
 use Rattle.ansi_str_search.proofs.laws.parts_show_their_slices.Goals as goal
 

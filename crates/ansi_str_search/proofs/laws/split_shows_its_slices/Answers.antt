@@ -1,5 +1,5 @@
--- A lemma of `CutLemmas`.
-use Rattle.ansi_str_search.proofs.CutLemmas.{shown-parts}
+-- A lemma of `Cuts`.
+use Rattle.ansi_str_search.proofs.Cuts.{shown-parts}
 use Rattle.ansi_str_search.proofs.laws.split_shows_its_slices.Goals as goal
 
 pub returns : goal.returns

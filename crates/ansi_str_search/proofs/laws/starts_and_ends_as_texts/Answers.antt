@@ -1,5 +1,5 @@
--- The lemmas of `StartLemmas`.
-use Rattle.ansi_str_search.proofs.StartLemmas.{start-read, start-shows, end-read, end-shows}
+-- The lemmas of `Starts`.
+use Rattle.ansi_str_search.proofs.Starts.{start-read, start-shows, end-read, end-shows}
 use Rattle.ansi_str_search.proofs.laws.starts_and_ends_as_texts.Goals as goal
 
 pub returns-clause-start : goal.returns-clause-start

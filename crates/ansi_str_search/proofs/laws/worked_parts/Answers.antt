@@ -10,7 +10,7 @@ use Rattle.ansi_str_text.specs.StyledText.{strip}
 use Rattle.ansi_str_search.specs.PartsLeft.{first_match}
 use Rattle.ansi_str_search.specs.WorkedParts.{black_text, two_lines}
 use Rattle.ansi_str_search.proofs.MatchLists.{matches_from, AreMatches-worked}
-use Rattle.ansi_str_search.proofs.WorkedLemmas.{ArePiecesOf-worked}
+use Rattle.ansi_str_search.proofs.Worked.{ArePiecesOf-worked}
 use Rattle.ansi_str_search.proofs.laws.worked_parts.Goals as goal
 
 pub returns-clause-black : goal.returns-clause-black

@@ -9,7 +9,7 @@ use Rattle.ansi_scan.specs.Rendition.{applied, after_parameters}
 use Rattle.ansi_scan.specs.StartsAndEnds.{start_bytes, start_sequences, end_bytes, end_sequences}
 use Rattle.ansi_str_search.specs.PartsLeft.{first_match}
 use Rattle.ansi_str_search.proofs.MatchLists.{matches_from}
-use Rattle.ansi_str_search.proofs.WorkedLemmas.{SplitsInto-worked}
+use Rattle.ansi_str_search.proofs.Worked.{SplitsInto-worked}
 use Rattle.ansi_str_search.proofs.laws.worked_splits.Goals as goal
 
 pub returns-clause-empty_pattern : goal.returns-clause-empty_pattern

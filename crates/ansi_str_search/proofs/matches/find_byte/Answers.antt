@@ -2,7 +2,7 @@
 use Rattle.std.proofs.Common.{◌∙◌, ◌+◌, sym, length, [], ◌∷◌, Some, eqb-true}
 use Rattle.ansi_scan.specs.Pieces.{pieces}
 use Rattle.ansi_str_text.specs.StyledText.{strip}
-use Rattle.ansi_str_search.proofs.FindLemmas.{SameMatch-run, SameMatch-sequence, match-found, match-none, match_ends, other_boundary, not_empty, IsUtf8-byte, IsUtf8-shown}
+use Rattle.ansi_str_search.proofs.Finds.{SameMatch-run, SameMatch-sequence, match-found, match-none, match_ends, other_boundary, not_empty, IsUtf8-byte, IsUtf8-shown}
 use Rattle.ansi_str_search.proofs.matches.find_byte.Goals as goal
 
 pub range_from-rest-requires : goal.range_from-rest-requires

@@ -2,7 +2,7 @@
 use denote.Shadow.{shadow}
 use denote.Text.{Utf8}
 use Rattle.std.proofs.Common.{length}
-use Rattle.ansi_str_search.proofs.FindLemmas.{SameMatch}
+use Rattle.ansi_str_search.proofs.Finds.{SameMatch}
 use Rattle.ansi_str_search.proofs.matches.find_byte.Given as goal
 
 abbrev pub invariant-loop-rest : goal.invariant-loop-rest

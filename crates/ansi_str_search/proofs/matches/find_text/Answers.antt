@@ -1,5 +1,5 @@
 -- What std finds is the first match.
-use Rattle.ansi_str_search.proofs.FindLemmas.{first_match-found, match_ends}
+use Rattle.ansi_str_search.proofs.Finds.{first_match-found, match_ends}
 use Rattle.ansi_str_search.proofs.matches.find_text.Goals as goal
 
 pub returns-clause-found : goal.returns-clause-found

@@ -1,7 +1,7 @@
 -- A step over text, and over a sequence behind it.
 use Rattle.std.proofs.Common.{◌≡◌, ◌-◌, ◌∙◌, true, false, ap, sym, subst, length, List, ℕ, arith, eqb-true}
 use Rattle.ansi_scan.specs.Pieces.{text_len}
-use Rattle.ansi_str_search.proofs.SearchLemmas.{IsSamePlace, place-found, place-past, place-cut, run-low, run-ends, IsSamePlace-plain, IsSamePlace-sequence}
+use Rattle.ansi_str_search.proofs.Searches.{IsSamePlace, place-found, place-past, place-cut, run-low, run-ends, IsSamePlace-plain, IsSamePlace-sequence}
 use Rattle.ansi_str_search.proofs.search.behind_place.Goals as goal
 
 pub returns-then-not-is_char_boundary : goal.returns-then-not-is_char_boundary

@@ -2,7 +2,7 @@
 use denote.Shadow.{shadow}
 use denote.Text.{Utf8}
 use Rattle.std.proofs.Common.{length}
-use Rattle.ansi_str_search.proofs.SearchLemmas.{IsSamePlace}
+use Rattle.ansi_str_search.proofs.Searches.{IsSamePlace}
 use Rattle.ansi_str_search.proofs.search.behind_place.Given as goal
 
 abbrev pub invariant-loop-left : goal.invariant-loop-left

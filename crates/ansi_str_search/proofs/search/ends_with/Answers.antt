@@ -5,7 +5,7 @@ use Rattle.ansi_scan.specs.Sequences.{Piece}
 use Rattle.ansi_scan.specs.Pieces.{pieces}
 use Rattle.ansi_str_text.specs.StyledText.{strip}
 use Rattle.ansi_str_search.specs.Searches.{EndsWith}
-use Rattle.ansi_str_search.proofs.SearchLemmas.{of_pieces, found_where}
+use Rattle.ansi_str_search.proofs.Searches.{of_pieces, found_where}
 use Rattle.ansi_str_search.proofs.search.ends_with.Goals as goal
 
 pub returns : goal.returns

@@ -6,8 +6,8 @@ use Rattle.ansi_str_text.specs.StyledText.{strip}
 use Rattle.ansi_str_search.specs.Matches.{IsFirstMatch}
 use Rattle.ansi_str_search.specs.PartsLeft.{first_match}
 use Rattle.ansi_str_search.specs.Searches.{IsFound}
-use Rattle.ansi_str_search.proofs.FindLemmas.{IsUtf8-shown}
-use Rattle.ansi_str_search.proofs.SearchLemmas.{of_pieces}
+use Rattle.ansi_str_search.proofs.Finds.{IsUtf8-shown}
+use Rattle.ansi_str_search.proofs.Searches.{of_pieces}
 use Rattle.ansi_str_search.proofs.FirstPlaces.{is_found, found-empty, one_byte}
 use Rattle.ansi_str_search.proofs.search.find.Goals as goal
 

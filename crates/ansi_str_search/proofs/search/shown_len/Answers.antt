@@ -2,9 +2,9 @@
 use Rattle.std.proofs.Common.{rules, ◌≡◌, ap, ◌+◌, ◌≤◌, length, arith}
 use Rattle.ansi_scan.specs.Pieces.{pieces}
 use Rattle.ansi_str_text.specs.StyledText.{shown, strip}
-use Rattle.ansi_str_search.proofs.RestLemmas.{strip-fits}
+use Rattle.ansi_str_search.proofs.Rests.{strip-fits}
 use Rattle.ansi_str_search.proofs.Walks.{first-shorter}
-use Rattle.ansi_str_search.proofs.SearchLemmas.{shown-step}
+use Rattle.ansi_str_search.proofs.Searches.{shown-step}
 use Rattle.ansi_str_search.proofs.search.shown_len.Goals as goal
 
 pub overflow_add-len : goal.overflow_add-len

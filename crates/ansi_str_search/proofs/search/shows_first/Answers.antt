@@ -3,8 +3,8 @@ use Rattle.std.proofs.Common.{◌≡◌, ◌∙◌, ap, sym, subst, length, List
 use Rattle.ansi_scan.specs.Pieces.{pieces}
 use Rattle.ansi_str_text.specs.StyledText.{strip}
 use Rattle.ansi_str_search.specs.Walking.{shared_len, IsBehindFirst}
-use Rattle.ansi_str_search.proofs.FindLemmas.{not_empty}
-use Rattle.ansi_str_search.proofs.SearchLemmas.{shared-fails, shared-all, shared-sequence, begins_with-none_left, escape-cut}
+use Rattle.ansi_str_search.proofs.Finds.{not_empty}
+use Rattle.ansi_str_search.proofs.Searches.{shared-fails, shared-all, shared-sequence, begins_with-none_left, escape-cut}
 use Rattle.ansi_str_search.proofs.search.shows_first.Goals as goal
 
 pub returns-then-not-is_escape_at : goal.returns-then-not-is_escape_at

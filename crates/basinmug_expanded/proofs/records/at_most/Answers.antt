@@ -1,6 +1,6 @@
 use Rattle.std.proofs.Common.{◌∙◌, ap}
 use Rattle.tabled_text.specs.Rows.{text_rows}
-use Rattle.basinmug_expanded.proofs.RowLemmas.{first-some}
+use Rattle.basinmug_expanded.proofs.Rows.{first-some}
 use Rattle.basinmug_expanded.proofs.records.at_most.Goals as goal
 
 pub returns : goal.returns

@@ -2,7 +2,7 @@
 use Rattle.std.proofs.Common.{rules, ◌≡◌, ◌∙◌, sym, chars}
 use Rattle.std.proofs.lemmas.Str.{encodes-chars}
 use Rattle.basinmug_input.specs.Cleaning.{cleaned_text}
-use Rattle.basinmug_input.proofs.CleanLemmas.{stay-shown}
+use Rattle.basinmug_input.proofs.Cleans.{stay-shown}
 use Rattle.basinmug_input.proofs.cells.push_cleaned.Goals as goal
 
 pub returns-then-stays : goal.returns-then-stays

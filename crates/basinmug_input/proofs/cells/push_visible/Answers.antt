@@ -6,7 +6,7 @@ use Rattle.std.proofs.lemmas.List.{nil_from_length}
 use Rattle.std.proofs.lemmas.Str.{IsUtf8-past_char, chars_past_char, chars-nil}
 use Rattle.csv.specs.Machine.{carriage_return, line_feed}
 use Rattle.basinmug_input.specs.Cleaning.{cleaned_text, shown}
-use Rattle.basinmug_input.proofs.CleanLemmas.{next-shown, waiting}
+use Rattle.basinmug_input.proofs.Cleans.{next-shown, waiting}
 use Rattle.basinmug_input.proofs.cells.push_visible.Goals as goal
 
 pub loop-c-preserved : goal.loop-c-preserved

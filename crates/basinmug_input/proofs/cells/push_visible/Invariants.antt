@@ -3,7 +3,7 @@ use Rattle.std.proofs.Common.{◌≡◌, ◌++◌, chars, string_bytes}
 use Rattle.std.specs.Str.{IsUtf8}
 use Rattle.std.specs.Str.Iter.{chars_rest}
 use Rattle.basinmug_input.specs.Cleaning.{cleaned_text}
-use Rattle.basinmug_input.proofs.CleanLemmas.{waiting}
+use Rattle.basinmug_input.proofs.Cleans.{waiting}
 use Rattle.basinmug_input.proofs.cells.push_visible.Given as goal
 
 abbrev pub invariant-loop-c : goal.invariant-loop-c

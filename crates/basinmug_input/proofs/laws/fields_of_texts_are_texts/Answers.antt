@@ -1,7 +1,7 @@
 use Rattle.std.proofs.Common.{inl, inr, ◌∷◌, ◌++◌, subst}
 use Rattle.std.specs.List.{AllByRecursion}
 use Rattle.std.specs.Str.{IsUtf8}
-use Rattle.basinmug_input.proofs.TextLemmas.{fields-are_texts}
+use Rattle.basinmug_input.proofs.Texts.{fields-are_texts}
 use Rattle.basinmug_input.proofs.OneFault.{one-of}
 use Rattle.basinmug_input.proofs.laws.fields_of_texts_are_texts.Goals as goal
 

@@ -5,7 +5,7 @@ use Rattle.std.proofs.lemmas.List.{take_all}
 use Rattle.csv.specs.Machine.{step}
 use Rattle.basinmug_input.specs.Reading.{read_of, settings}
 use Rattle.basinmug_input.specs.Walking.{csv_state}
-use Rattle.basinmug_input.proofs.QuoteLemmas.{IsInQuotes, LastOpening, never-quoted, only-quoted, opened-before, opening-here, opens-at, state-next}
+use Rattle.basinmug_input.proofs.Quotes.{IsInQuotes, LastOpening, never-quoted, only-quoted, opened-before, opening-here, opens-at, state-next}
 use Rattle.basinmug_input.proofs.places.open_quote.Goals as goal
 use Rattle.basinmug_input.proofs.places.open_quote.Goals.{then-opens, else-opens}
 

@@ -3,7 +3,7 @@ use Rattle.std.proofs.Common.{◌≡◌}
 use Rattle.basinmug_input.specs.Places.{read_before}
 use Rattle.basinmug_input.specs.Reading.{settings}
 use Rattle.basinmug_input.specs.Walking.{csv_state}
-use Rattle.basinmug_input.proofs.QuoteLemmas.{IsInQuotes, LastOpening}
+use Rattle.basinmug_input.proofs.Quotes.{IsInQuotes, LastOpening}
 use Rattle.basinmug_input.proofs.places.open_quote.Given as goal
 
 abbrev pub invariant-loop-i : goal.invariant-loop-i

@@ -7,7 +7,7 @@ use Rattle.csv.specs.Machine.{step}
 use Rattle.basinmug_input.specs.Places.{read_before}
 use Rattle.basinmug_input.specs.Reading.{SoFar, nothing, read_of, read_on, settings, with_byte}
 use Rattle.basinmug_input.specs.Walking.{IsReadOf}
-use Rattle.basinmug_input.proofs.ByteLemmas.{HasAtMost, few-with, no-bytes, read-all}
+use Rattle.basinmug_input.proofs.Bytes.{HasAtMost, few-with, no-bytes, read-all}
 use Rattle.basinmug_input.proofs.places.place_of.Goals as goal
 
 pub loop-i-init : goal.loop-i-init

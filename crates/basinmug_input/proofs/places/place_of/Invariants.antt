@@ -3,7 +3,7 @@ use Rattle.std.proofs.Common.{take}
 use Rattle.basinmug_input.specs.Places.{read_before}
 use Rattle.basinmug_input.specs.Reading.{settings}
 use Rattle.basinmug_input.specs.Walking.{HasAtMost, IsReadOf}
-use Rattle.basinmug_input.proofs.ByteLemmas.{HasAtMost as FieldHasAtMost}
+use Rattle.basinmug_input.proofs.Bytes.{HasAtMost as FieldHasAtMost}
 use Rattle.basinmug_input.proofs.places.place_of.Given as goal
 
 abbrev pub invariant-loop-i : goal.invariant-loop-i

@@ -4,7 +4,7 @@ use Rattle.basinmug_input.specs.Flaws.{HasFlaw, IsBroken, IsNoText}
 use Rattle.basinmug_input.specs.Reading.{settings}
 use Rattle.basinmug_input.specs.declared.cells.Flaw.{Flaw}
 use Rattle.basinmug_input.specs.declared.cells.Flaw.TheVariants.{NotText, Escape}
-use Rattle.basinmug_input.proofs.RowLemmas.{broken-below, has-byte}
+use Rattle.basinmug_input.proofs.Rows.{broken-below, has-byte}
 use Rattle.basinmug_input.proofs.records.fault_of.Goals as goal
 
 no_text : (field : List ℕ) (flaw : Flaw) (byte : ℕ) → flaw ≡ NotText byte → HasFlaw field flaw → IsNoText field byte

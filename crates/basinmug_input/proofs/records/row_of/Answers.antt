@@ -6,7 +6,7 @@ use Rattle.csv.specs.Records.{field_at, fields_of}
 use Rattle.basinmug_input.specs.Cleaning.{cleaned}
 use Rattle.basinmug_input.specs.Flaws.{HasFlaw, IsSound}
 use Rattle.basinmug_input.specs.Rows.{IsRowOf}
-use Rattle.basinmug_input.proofs.RowLemmas.{all-push, field_at-none, field_at-some}
+use Rattle.basinmug_input.proofs.Rows.{all-push, field_at-none, field_at-some}
 use Rattle.basinmug_input.proofs.records.row_of.Goals as goal
 
 pub loop-field-init : goal.loop-field-init

@@ -2,7 +2,7 @@
 use Rattle.std.proofs.Common.{◌∙◌, sym, arith}
 use Rattle.std.proofs.lemmas.List.{take_rest}
 use Rattle.csv.proofs.ReadFacts.{strip-short}
-use Rattle.basinmug_input.proofs.RowLemmas.{mark-goes, mark-stays}
+use Rattle.basinmug_input.proofs.Rows.{mark-goes, mark-stays}
 use Rattle.basinmug_input.proofs.records.without_mark.Goals as goal
 
 pub returns-in-len3-up : goal.returns-in-len3-up

@@ -1,6 +1,6 @@
 use Rattle.std.proofs.Common.{◌≡◌, ◌∙◌, get_or, ap, arith, sym, true, false}
 use Rattle.basinmug_words.specs.Asking.{byte_named, can_delimit}
-use Rattle.basinmug_words.proofs.ByteLemmas.{byte-alone}
+use Rattle.basinmug_words.proofs.Bytes.{byte-alone}
 use Rattle.basinmug_words.proofs.words.byte_named.Goals as goal
 
 pub returns-in-len1 : goal.returns-in-len1

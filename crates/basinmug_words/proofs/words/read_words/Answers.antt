@@ -15,7 +15,7 @@ use Rattle.basinmug_words.specs.Asking.{IsAnswer, IsRunOf, IsTold}
 use Rattle.basinmug_words.specs.Command.{IsBasinmug}
 use Rattle.basinmug_words.specs.declared.words.Asked.{Asked}
 use Rattle.basinmug_words.specs.declared.words.Asked.TheVariants.{Run, Help, Faulty}
-use Rattle.basinmug_words.proofs.CommandLemmas.{basinmug-free, basinmug-simple}
+use Rattle.basinmug_words.proofs.Commands.{basinmug-free, basinmug-simple}
 use Rattle.basinmug_words.proofs.words.read_words.Goals as goal
 
 -- a run by the values of a parse is one by the matches of the words

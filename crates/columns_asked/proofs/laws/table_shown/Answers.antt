@@ -1,4 +1,4 @@
-use Rattle.columns_asked.proofs.TableLemmas.{picture-feeds, text-shows}
+use Rattle.columns_asked.proofs.Tables.{picture-feeds, text-shows}
 use Rattle.columns_asked.proofs.laws.table_shown.Goals as goal
 
 pub returns-clause-shown : goal.returns-clause-shown

@@ -1,4 +1,4 @@
-use Rattle.columns_asked.proofs.ShrunkLemmas.{shrunk_list-meets, shrunk_list-one}
+use Rattle.columns_asked.proofs.Shrunk.{shrunk_list-meets, shrunk_list-one}
 use Rattle.columns_asked.proofs.laws.the_shrunk_list.Goals as goal
 
 pub returns-clause-meets : goal.returns-clause-meets

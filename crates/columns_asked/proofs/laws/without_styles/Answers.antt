@@ -2,9 +2,9 @@ use Rattle.std.proofs.Common.{ap, subst, sym, ◌∙◌}
 use Rattle.ansi_scan.proofs.Uniqueness.{pieces-ArePiecesOf}
 use Rattle.ansi_str.specs.StyledText.{strip}
 use Rattle.columns_asked.specs.Layout.{asked_text}
-use Rattle.columns_asked.proofs.CharacterLemmas.{picture-alone, picture-plain}
-use Rattle.columns_asked.proofs.PlainTextLemmas.{text-plain, text-stripped}
-use Rattle.columns_asked.proofs.StrippedLemmas.{fits-stripped, too_wide-stripped}
+use Rattle.columns_asked.proofs.Characters.{picture-alone, picture-plain}
+use Rattle.columns_asked.proofs.PlainTexts.{text-plain, text-stripped}
+use Rattle.columns_asked.proofs.Stripped.{fits-stripped, too_wide-stripped}
 use Rattle.columns_asked.proofs.laws.without_styles.Goals as goal
 
 pub returns-clause-picture : goal.returns-clause-picture

@@ -1,7 +1,7 @@
 -- The widths that are shrunk in place are a list of their own, as long as the others.
 use Rattle.std.proofs.Common.{◌≡◌, ◌<◌, ◌∙◌, length, replicate, arith}
 use Rattle.std.specs.Prelude.{Some}
-use Rattle.columns_asked.proofs.NarrowLemmas.{narrowed-some}
+use Rattle.columns_asked.proofs.Narrows.{narrowed-some}
 use Rattle.columns_asked.proofs.widths.narrowed.Goals as goal
 
 pub returns : goal.returns

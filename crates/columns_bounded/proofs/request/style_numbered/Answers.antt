@@ -1,5 +1,5 @@
 use Rattle.std.proofs.Common.{subst, sym}
-use Rattle.columns_bounded.proofs.StyleLemmas.{numbered-plain}
+use Rattle.columns_bounded.proofs.Styles.{numbered-plain}
 use Rattle.columns_options.specs.Settings.{settings_with}
 use Rattle.columns_run.specs.Plain.{IsPlain}
 use Rattle.columns_bounded.proofs.request.style_numbered.Goals as goal

@@ -1,4 +1,4 @@
-use Rattle.columns_colors.proofs.TableLemmas.{items-characters, items-feeds, text-shows}
+use Rattle.columns_colors.proofs.Tables.{items-characters, items-feeds, text-shows}
 use Rattle.columns_colors.proofs.laws.colored_table_shown.Goals as goal
 
 pub returns : goal.returns

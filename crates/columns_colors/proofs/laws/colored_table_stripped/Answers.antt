@@ -1,4 +1,4 @@
-use Rattle.columns_colors.proofs.StrippedLemmas.{text-left, text-whole}
+use Rattle.columns_colors.proofs.Stripped.{text-left, text-whole}
 use Rattle.columns_colors.proofs.laws.colored_table_stripped.Goals as goal
 
 pub returns : goal.returns

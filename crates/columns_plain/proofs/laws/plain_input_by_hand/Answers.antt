@@ -23,7 +23,7 @@ use Rattle.grid_records_estimate.specs.Sizes.{table_heights, table_widths}
 use Rattle.grid_records_measure.specs.TextLines.{text_height, text_lines, text_width}
 use Rattle.tabled_size_wrap.specs.Bytes.{cut_at, wrapped_text}
 use Rattle.unicode_width.specs.Width.{alone, char_width, past_emoji, step, str_width}
-use Rattle.columns_run.proofs.PlainLemmas.{default-plain}
+use Rattle.columns_run.proofs.Plain.{default-plain}
 use Rattle.columns_plain.specs.PlainInputs.{IsPlainInput, in_nine_columns, red_letters}
 use Rattle.columns_plain.proofs.EvenLines.{even}
 use Rattle.columns_plain.proofs.laws.plain_input_by_hand.Goals as goal

@@ -1,5 +1,5 @@
-use Rattle.columns_run.proofs.ByteLemmas.{kept-resized, piece-fill, piece-glyph, piece-text}
-use Rattle.columns_run.proofs.TilingLemmas.{shows-block}
+use Rattle.columns_run.proofs.Bytes.{kept-resized, piece-fill, piece-glyph, piece-text}
+use Rattle.columns_run.proofs.Tiling.{shows-block}
 use Rattle.columns_run.proofs.laws.cell_lines_keep_their_bytes.Goals as goal
 
 pub returns : goal.returns

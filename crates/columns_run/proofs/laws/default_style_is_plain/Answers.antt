@@ -1,4 +1,4 @@
-use Rattle.columns_run.proofs.PlainLemmas.{default-plain}
+use Rattle.columns_run.proofs.Plain.{default-plain}
 use Rattle.columns_run.proofs.laws.default_style_is_plain.Goals as goal
 
 pub returns : goal.returns

@@ -1,4 +1,4 @@
-use Rattle.columns_run.proofs.PieceLemmas.{takes-columns, takes-measures}
+use Rattle.columns_run.proofs.Pieces.{takes-columns, takes-measures}
 use Rattle.columns_run.proofs.laws.measured_pieces.Goals as goal
 
 pub returns : goal.returns

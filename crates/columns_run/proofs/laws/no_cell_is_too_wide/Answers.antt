@@ -1,4 +1,4 @@
-use Rattle.columns_run.proofs.RoomLemmas.{never-wide}
+use Rattle.columns_run.proofs.Rooms.{never-wide}
 use Rattle.columns_run.proofs.laws.no_cell_is_too_wide.Goals as goal
 
 pub returns : goal.returns

@@ -1,4 +1,4 @@
-use Rattle.columns_run.proofs.RefusalLemmas.{no-table, one-refusal}
+use Rattle.columns_run.proofs.Refusals.{no-table, one-refusal}
 use Rattle.columns_run.proofs.laws.one_refusal.Goals as goal
 
 pub returns : goal.returns

@@ -1,4 +1,4 @@
-use Rattle.columns_run.proofs.PlaceLemmas.{AreMatches-places}
+use Rattle.columns_run.proofs.Places.{AreMatches-places}
 use Rattle.columns_run.proofs.laws.places_match.Goals as goal
 
 pub returns : goal.returns

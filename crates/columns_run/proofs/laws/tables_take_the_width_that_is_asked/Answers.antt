@@ -1,4 +1,4 @@
-use Rattle.columns_run.proofs.WidthLemmas.{fitting-columns, narrowed-columns, unasked-columns}
+use Rattle.columns_run.proofs.Widths.{fitting-columns, narrowed-columns, unasked-columns}
 use Rattle.columns_run.proofs.laws.tables_take_the_width_that_is_asked.Goals as goal
 
 pub returns : goal.returns

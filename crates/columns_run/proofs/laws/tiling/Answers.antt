@@ -1,5 +1,5 @@
-use Rattle.columns_run.proofs.ByteLemmas.{output-lines}
-use Rattle.columns_run.proofs.TilingLemmas.{tiled}
+use Rattle.columns_run.proofs.Bytes.{output-lines}
+use Rattle.columns_run.proofs.Tiling.{tiled}
 use Rattle.columns_run.proofs.laws.tiling.Goals as goal
 
 pub returns : goal.returns

@@ -1,6 +1,6 @@
-use Rattle.columns_run.proofs.AcceptedLemmas.{HasTable-strip, fits-strip, wide_cell-strip}
-use Rattle.columns_run.proofs.PictureLemmas.{output-plain, picture-alone, picture-characters, picture-plain, strip-both, strip-output}
-use Rattle.columns_run.proofs.PieceLemmas.{line-left}
+use Rattle.columns_run.proofs.Accepted.{HasTable-strip, fits-strip, wide_cell-strip}
+use Rattle.columns_run.proofs.Pictures.{output-plain, picture-alone, picture-characters, picture-plain, strip-both, strip-output}
+use Rattle.columns_run.proofs.Pieces.{line-left}
 use Rattle.columns_run.proofs.laws.without_styles.Goals as goal
 
 pub returns : goal.returns

@@ -2,7 +2,7 @@ use Rattle.std.specs.Prelude.{◌∷◌, [], codes, false}
 use Rattle.columns_asked.specs.Worked.{cuts, no_width, wraps}
 use Rattle.columns_colors.specs.Worked.{bold, green, only, red}
 use Rattle.tabled_size_priority.specs.declared.choice.Choice.TheVariants.{None as InTurns}
-use Rattle.columns_run.proofs.WorkedLemmas as worked
+use Rattle.columns_run.proofs.Worked as worked
 use Rattle.columns_run.proofs.laws.worked_colors.Goals as goal
 
 pub returns-clause-one_column : goal.returns-clause-one_column

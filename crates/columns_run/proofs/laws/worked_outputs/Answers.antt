@@ -1,5 +1,5 @@
 use Rattle.std.specs.Prelude.{[], codes}
-use Rattle.columns_run.proofs.WorkedLemmas as worked
+use Rattle.columns_run.proofs.Worked as worked
 use Rattle.columns_run.proofs.laws.worked_outputs.Goals as goal
 
 pub returns-clause-two_cells : goal.returns-clause-two_cells

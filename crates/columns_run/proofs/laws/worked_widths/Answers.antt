@@ -1,7 +1,7 @@
 use Rattle.std.specs.Prelude.{codes, false, true}
 use Rattle.columns_asked.specs.Worked.{cuts, wraps}
 use Rattle.tabled_size_priority.specs.declared.choice.Choice.TheVariants.{None as InTurns, MaxLeft}
-use Rattle.columns_run.proofs.WorkedLemmas as worked
+use Rattle.columns_run.proofs.Worked as worked
 use Rattle.columns_run.proofs.laws.worked_widths.Goals as goal
 
 pub returns-clause-wrapped : goal.returns-clause-wrapped

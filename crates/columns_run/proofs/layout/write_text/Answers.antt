@@ -7,17 +7,17 @@ use Rattle.columns_table.specs.declared.rows.Rows.{Rows}
 use Rattle.columns_run.specs.Cells.{byte_line, line_rows, rows_shown, shown}
 use Rattle.columns_run.specs.Rows.{rows_of}
 use Rattle.columns_run.specs.Wanted.{wanted_of}
-use Rattle.columns_run.proofs.CellLemmas.{whole_text}
-use Rattle.columns_run.proofs.OneLineLemmas.{cells-measured}
-use Rattle.columns_run.proofs.PlaceLemmas.{IsWhole-without_escape}
-use Rattle.columns_run.proofs.TableLemmas.{answered, left-alone, line_rows-plain, output-is}
+use Rattle.columns_run.proofs.Cells.{whole_text}
+use Rattle.columns_run.proofs.OneLine.{cells-measured}
+use Rattle.columns_run.proofs.Places.{IsWhole-without_escape}
+use Rattle.columns_run.proofs.Tables.{answered, left-alone, line_rows-plain, output-is}
 use Rattle.grid_config.specs.Compact.{compact_of}
 use Rattle.tabled_output.specs.Pieces.{Passes}
-use Rattle.tabled_output.proofs.PieceLemmas.{passes-nothing}
+use Rattle.tabled_output.proofs.Pieces.{passes-nothing}
 use Rattle.columns_colors.specs.ColoredTables.{colored_text}
 use Rattle.columns_colors.specs.ColumnColors.{cell_color}
 use Rattle.columns_run.specs.Layout.{output_of}
-use Rattle.columns_run.proofs.WrittenLemmas.{is-of-table, is-written}
+use Rattle.columns_run.proofs.Written.{is-of-table, is-written}
 use Rattle.columns_run.proofs.layout.write_text.Goals as goal
 
 -- the rows are those of a text without ESC

@@ -9,8 +9,8 @@ use Rattle.columns_table.specs.declared.cells.LineCell.{LineCell}
 use Rattle.columns_run.specs.Rows.{line_feed, tab}
 use Rattle.columns_run.specs.Cells.{shown}
 use Rattle.columns_run.specs.Ends.{is_cell_text}
-use Rattle.columns_run.proofs.BegunLemmas.{AreEnded, Before, Before-last, Before-line_feed, Before-none, Before-start, Before-tab, cell_with, lines}
-use Rattle.columns_run.proofs.PassLemmas.{Pass, Clear, Clear-all, Clear-more, Clear-size, Clear-start, Pass-other, Pass-printable, Pass-text}
+use Rattle.columns_run.proofs.Begun.{AreEnded, Before, Before-last, Before-line_feed, Before-none, Before-start, Before-tab, cell_with, lines}
+use Rattle.columns_run.proofs.Passes.{Pass, Clear, Clear-all, Clear-more, Clear-size, Clear-start, Pass-other, Pass-printable, Pass-text}
 use Rattle.columns_run.proofs.plain_rows.rows_of.Goals as goal
 use Rattle.columns_run.proofs.plain_rows.rows_of.Goals.{Joined-has_begun}
 use Rattle.columns_run.proofs.plain_rows.rows_of.Goals.{then-bytes-end-eq10+in_ok-end_row-in-9, else-bytes-end-eq10, in_default-2-via-then-this-lt9, in_default-2-via-else-this-lt9+else-this-lt11}

@@ -1,6 +1,6 @@
 use Rattle.std.proofs.Common.{◌-◌, ◌≤◌, length}
-use Rattle.columns_run.proofs.BegunLemmas.{Before}
-use Rattle.columns_run.proofs.PassLemmas.{Clear}
+use Rattle.columns_run.proofs.Begun.{Before}
+use Rattle.columns_run.proofs.Passes.{Clear}
 use Rattle.columns_run.proofs.plain_rows.rows_of.Given as goal
 
 abbrev pub invariant-loop-end : goal.invariant-loop-end

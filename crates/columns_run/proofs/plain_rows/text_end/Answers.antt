@@ -1,7 +1,7 @@
 use Rattle.std.proofs.Common.{◌≡◌, ℕ, ◌+◌, ◌-◌, ◌<◌, ◌≤◌, List, true, false, drop, get_or, length, take, ap, subst, sym, ◌∙◌, arith, length-drop}
 use Rattle.std.proofs.lemmas.List.{get_or-drop, take_all}
 use Rattle.columns_run.specs.Ends.{is_cell_text}
-use Rattle.columns_run.proofs.PassLemmas.{not-sought, sought}
+use Rattle.columns_run.proofs.Passes.{not-sought, sought}
 use Rattle.columns_run.proofs.plain_rows.text_end.Goals as goal
 
 -- the bytes from the start on

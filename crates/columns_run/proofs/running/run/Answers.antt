@@ -4,8 +4,8 @@ use Rattle.tabled_output.specs.Counts.{inner_of}
 use Rattle.columns_run.specs.Layout.{output_of}
 use Rattle.columns_run.specs.Wanted.{wanted_of}
 use Rattle.columns_run.specs.Run.{LeavesAlone, MayAnswer, Writes}
-use Rattle.columns_run.proofs.ServeLemmas.{all-read, known, some}
-use Rattle.columns_run.proofs.WrittenLemmas.{no-long-read, no-read}
+use Rattle.columns_run.proofs.Serves.{all-read, known, some}
+use Rattle.columns_run.proofs.Written.{no-long-read, no-read}
 use Rattle.columns_run.proofs.running.run.Goals as goal
 
 pub returns-in_err-bytes : goal.returns-in_err-bytes

@@ -1,5 +1,5 @@
 use Rattle.grid_config.specs.Compact.{compact_of}
-use Rattle.columns_run.proofs.PlainLemmas.{plain-settings, settings-plain}
+use Rattle.columns_run.proofs.Plain.{plain-settings, settings-plain}
 use Rattle.columns_run.proofs.style.style_is_plain.Goals as goal
 
 pub returns : goal.returns

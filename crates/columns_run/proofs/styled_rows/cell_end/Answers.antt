@@ -3,9 +3,9 @@ use Rattle.std.proofs.Common.{◌≡◌, ◌∙◌, ◌≤◌, ◌+◌, ℕ, Lis
 use Rattle.std.specs.List.{prefix_len}
 use Rattle.ansi_str_search.proofs.Walks.{escape_first}
 use Rattle.columns_run.specs.Ends.{is_cell_text}
-use Rattle.columns_run.proofs.EndLemmas.{SameEnd-start, SameEnd-run, SameEnd-sequence, run_over, run-boundary, run-fits, EndsCell-end}
-use Rattle.columns_run.proofs.PassedLemmas.{Passes-behind, Passes-run, Passes-then}
-use Rattle.columns_run.proofs.WholeLemmas.{left-whole, whole-left}
+use Rattle.columns_run.proofs.Ends.{SameEnd-start, SameEnd-run, SameEnd-sequence, run_over, run-boundary, run-fits, EndsCell-end}
+use Rattle.columns_run.proofs.Passed.{Passes-behind, Passes-run, Passes-then}
+use Rattle.columns_run.proofs.Whole.{left-whole, whole-left}
 use Rattle.columns_run.proofs.styled_rows.cell_end.Goals as goal
 
 -- behind a run

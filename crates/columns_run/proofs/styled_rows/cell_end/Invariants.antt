@@ -4,7 +4,7 @@ use Rattle.std.proofs.Common.{◌≡◌, ◌≤◌, ◌+◌, ◌↔◌, length}
 use Rattle.std.specs.List.{prefix_len}
 use Rattle.ansi_scan.specs.Sequences.{IsWhole}
 use Rattle.columns_run.specs.Ends.{is_cell_text, Passes}
-use Rattle.columns_run.proofs.EndLemmas.{SameEnd}
+use Rattle.columns_run.proofs.Ends.{SameEnd}
 use Rattle.columns_run.proofs.styled_rows.cell_end.Given as goal
 
 abbrev pub invariant-loop-end : goal.invariant-loop-end

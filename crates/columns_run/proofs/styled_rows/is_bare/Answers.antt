@@ -5,7 +5,7 @@ use Rattle.ansi_scan.specs.Attributes.{plain_attributes}
 use Rattle.ansi_scan.proofs.Existence.{ArePiecesOf-pieces}
 use Rattle.ansi_str.specs.Blocks.{Block, blocks_from}
 use Rattle.columns_run.specs.Rows.{stripped}
-use Rattle.columns_run.proofs.PartLemmas.{bare-none, bare-some}
+use Rattle.columns_run.proofs.Parts.{bare-none, bare-some}
 use Rattle.columns_run.proofs.styled_rows.is_bare.Goals as goal
 
 not_not : (a b : Bool) → a ≡ not b → not a ≡ b

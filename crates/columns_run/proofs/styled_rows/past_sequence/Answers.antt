@@ -3,8 +3,8 @@ use Rattle.std.proofs.Common.{◌≢◌, arith, sym, ◌∙◌}
 use Rattle.ansi_scan.specs.Sequences.{Piece}
 use Rattle.ansi_scan.specs.declared.items.Kind.TheVariants.{Broken}
 use Rattle.ansi_str_search.proofs.Walks.{first-sequence, first-shorter, empty-nothing, escape_first}
-use Rattle.columns_run.proofs.PassedLemmas.{Passes-sequence}
-use Rattle.columns_run.proofs.WholeLemmas.{behind-whole, not-broken, whole-behind}
+use Rattle.columns_run.proofs.Passed.{Passes-sequence}
+use Rattle.columns_run.proofs.Whole.{behind-whole, not-broken, whole-behind}
 use Rattle.columns_run.proofs.styled_rows.past_sequence.Goals as goal
 use Rattle.columns_run.proofs.styled_rows.past_sequence.Goals.{in-Sgr, in_default-kind}
 

@@ -7,21 +7,21 @@ use Rattle.ansi_scan.proofs.Kept.{IsRendition-plain}
 use Rattle.ansi_scan.specs.Sequences.{IsWhole, joined}
 use Rattle.ansi_scan.specs.Pieces.{pieces}
 use Rattle.ansi_str_search.specs.Parts.{before_place, through_place}
-use Rattle.ansi_str_search.proofs.DressedLemmas.{IsRendition-after}
+use Rattle.ansi_str_search.proofs.Dressed.{IsRendition-after}
 use Rattle.grid_records_measure.specs.Measures.{measure}
 use Rattle.columns_table.specs.RowEnds.{EndedRows, row_ended}
 use Rattle.columns_table.specs.Rows.{cut}
 use Rattle.columns_table.specs.declared.ends.CellEnd.{CellEnd}
-use Rattle.columns_table.proofs.CutLemmas.{cut-map}
+use Rattle.columns_table.proofs.Cuts.{cut-map}
 use Rattle.columns_run.specs.Cells.{part_line}
 use Rattle.columns_run.specs.Ends.{cell_size, EndsCell, Passes}
 use Rattle.columns_run.specs.Rows.{line_feed, stripped, cell_parts}
 use Rattle.columns_run.specs.Styled.{AddsCell, part_between}
 use Rattle.columns_run.specs.declared.styled_rows.StyledCells.{StyledCells}
-use Rattle.columns_run.proofs.GatherLemmas.{Gathered, Gathered-start, Gathered-more, ends-longer, length-parts_in, parts-added, parts_in}
-use Rattle.columns_run.proofs.PassedLemmas.{measure-passed}
-use Rattle.columns_run.proofs.WalkLemmas.{Walked, Walked-start, Walked-tab, Walked-feed, Walked-last, Walked-none, walked-part, whole-next, separator-ascii, cell-slice, end-fits, part_at}
-use Rattle.columns_run.proofs.WholeLemmas.{whole-byte, whole-nothing}
+use Rattle.columns_run.proofs.Gathers.{Gathered, Gathered-start, Gathered-more, ends-longer, length-parts_in, parts-added, parts_in}
+use Rattle.columns_run.proofs.Passed.{measure-passed}
+use Rattle.columns_run.proofs.Walks.{Walked, Walked-start, Walked-tab, Walked-feed, Walked-last, Walked-none, walked-part, whole-next, separator-ascii, cell-slice, end-fits, part_at}
+use Rattle.columns_run.proofs.Whole.{whole-byte, whole-nothing}
 use Rattle.columns_run.proofs.styled_rows.styled_cells.Goals as goal
 use Rattle.columns_run.proofs.styled_rows.styled_cells.Goals.{then-begins_with_line_feed+in_ok-end_row, else-begins_with_line_feed}
 use Rattle.columns_run.proofs.styled_rows.styled_cells.Goals.{then-has_begun+in_ok-push_cell-2+in_ok-end_row-2, then-has_begun-via-then-has_begun, then-has_begun-via-else-has_begun+then-not-is_bare, else-has_begun+else-not-is_bare}

@@ -1,8 +1,8 @@
 use Rattle.std.proofs.Common.{◌≡◌, ◌+◌, length, string_bytes, sum}
 use Rattle.ansi_scan.specs.Sequences.{IsWhole}
 use Rattle.columns_run.specs.Ends.{Passes}
-use Rattle.columns_run.proofs.GatherLemmas.{Gathered, parts_in}
-use Rattle.columns_run.proofs.WalkLemmas.{Walked}
+use Rattle.columns_run.proofs.Gathers.{Gathered, parts_in}
+use Rattle.columns_run.proofs.Walks.{Walked}
 use Rattle.columns_run.proofs.styled_rows.styled_cells.Given as goal
 
 abbrev pub invariant-loop-alloc : goal.invariant-loop-alloc

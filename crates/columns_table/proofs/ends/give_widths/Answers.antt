@@ -1,5 +1,5 @@
 use Rattle.std.proofs.Common.{◌≡◌, ◌+◌, ◌-◌, ◌<◌, get_or, length, ap, ◌∙◌, arith}
-use Rattle.columns_table.proofs.KeptEndLemmas.{given}
+use Rattle.columns_table.proofs.KeptEnds.{given}
 use Rattle.columns_table.proofs.ends.give_widths.Goals as goal
 
 pub loop-widths-preserved : goal.loop-widths-preserved

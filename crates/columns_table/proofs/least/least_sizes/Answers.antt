@@ -2,10 +2,10 @@ use Rattle.std.proofs.Common.{◌≡◌, ℕ, ◌<◌, inl, inr, List, length, m
 use Rattle.std.proofs.lemmas.List.{length-map}
 use Rattle.grid_config.specs.Compact.{compact_of}
 use Rattle.grid_records_estimate.specs.Collecting.{PassesMax}
-use Rattle.grid_records_estimate.proofs.MeetLemmas.{IfErr-told}
+use Rattle.grid_records_estimate.proofs.Meets.{IfErr-told}
 use Rattle.columns_table.specs.Least.{padded}
-use Rattle.columns_table.proofs.LeastLemmas.{empty-heights, empty-widths, none-of, padded-heights, padded-widths, written}
-use Rattle.columns_table.proofs.SizeLemmas.{some-of}
+use Rattle.columns_table.proofs.Leasts.{empty-heights, empty-widths, none-of, padded-heights, padded-widths, written}
+use Rattle.columns_table.proofs.Sizes.{some-of}
 use Rattle.columns_table.proofs.least.least_sizes.Goals as goal
 
 pub returns-then-is_empty-clause-widths : goal.returns-then-is_empty-clause-widths

@@ -1,7 +1,7 @@
 use Rattle.std.proofs.Common.{List, ℕ, get_or, take, ap, ◌∙◌}
 use Rattle.std.proofs.lemmas.Result.{IfOk-weaker}
 use Rattle.grid_records_estimate.specs.Estimates.{greatest}
-use Rattle.columns_table.proofs.WidestLemmas.{first-widest}
+use Rattle.columns_table.proofs.Widest.{first-widest}
 use Rattle.columns_table.proofs.least.widest.Goals as goal
 
 pub returns-clause-each : goal.returns-clause-each

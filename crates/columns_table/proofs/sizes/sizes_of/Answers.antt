@@ -4,12 +4,12 @@ use Rattle.std.proofs.lemmas.Result.{IfErr-weaker, IfOk-weaker}
 use Rattle.grid_config.specs.Compact.{Compact, compact_of}
 use Rattle.grid_config.specs.Looks.{compact_look}
 use Rattle.grid_records_estimate.specs.Sizes.{IsRefusal}
-use Rattle.grid_records_estimate.proofs.MeetLemmas.{IfErr-told}
-use Rattle.grid_records_estimate.proofs.SizeLemmas.{IsRefusal-implies}
+use Rattle.grid_records_estimate.proofs.Meets.{IfErr-told}
+use Rattle.grid_records_estimate.proofs.Sizes.{IsRefusal-implies}
 use Rattle.papergrid_picture.specs.Fitting.{InRange, table_width}
 use Rattle.papergrid_picture.specs.Frame.{Frame, frame_of, line_count}
 use Rattle.columns_asked.specs.Layout.{frame_under, heights_of, widths_of}
-use Rattle.columns_table.proofs.SizeLemmas.{one-too_great}
+use Rattle.columns_table.proofs.Sizes.{one-too_great}
 use Rattle.columns_table.proofs.sizes.sizes_of.Goals as goal
 
 -- of these sizes

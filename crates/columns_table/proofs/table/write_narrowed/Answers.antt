@@ -9,7 +9,7 @@ use Rattle.grid_config.specs.Looks.{compact_look}
 use Rattle.grid_config_values.specs.declared.fault.Fault.{Fault}
 use Rattle.grid_config_values.specs.declared.fault.Fault.TheVariants.{Memory}
 use Rattle.grid_records_estimate.proofs.Lengths.{length-table_heights}
-use Rattle.grid_records_estimate.proofs.MeetLemmas.{IfErr-told, OnOk-implies}
+use Rattle.grid_records_estimate.proofs.Meets.{IfErr-told, OnOk-implies}
 use Rattle.grid_records_rows.specs.Sources.{columns_of}
 use Rattle.grid_records_traits.specs.Rows.{fitted}
 use Rattle.grid_records_traits.specs.Sources.{texts_of_rows}
@@ -22,8 +22,8 @@ use Rattle.columns_asked.specs.Layout.{asked_frame, kept_texts, narrowed, too_wi
 use Rattle.columns_table.specs.Rows.{row_texts_of}
 use Rattle.columns_table.specs.declared.kept.KeptCell.{KeptCell}
 use Rattle.tabled_output.specs.Pieces.{Passes}
-use Rattle.tabled_output.proofs.PieceLemmas.{passes-none}
-use Rattle.columns_table.proofs.NarrowedLemmas.{answer-is, counted, fits-is, frame-is, heights-are, heights-pass, made, refusal-is, some-columns, text-is}
+use Rattle.tabled_output.proofs.Pieces.{passes-none}
+use Rattle.columns_table.proofs.Narrowed.{answer-is, counted, fits-is, frame-is, heights-are, heights-pass, made, refusal-is, some-columns, text-is}
 use Rattle.columns_table.specs.declared.sizes.Sizes.{Sizes}
 use Rattle.columns_table.proofs.table.write_narrowed.Given.{Over}
 use Rattle.columns_table.proofs.table.write_narrowed.Goals as goal

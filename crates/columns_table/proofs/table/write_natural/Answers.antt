@@ -7,11 +7,11 @@ use Rattle.grid_records_measure.specs.TextLines.{line_feed}
 use Rattle.papergrid_fits.specs.Grids.{grid_text}
 use Rattle.papergrid_fits.specs.Tables.{CanBeDrawn}
 use Rattle.tabled_output.specs.Pieces.{Passes}
-use Rattle.tabled_output.proofs.PieceLemmas.{passes-none}
+use Rattle.tabled_output.proofs.Pieces.{passes-none}
 use Rattle.columns_table.specs.Answers.{natural_text}
 use Rattle.columns_table.specs.Listed.{AreSizesOf}
 use Rattle.columns_table.specs.Rows.{row_texts_of}
-use Rattle.columns_table.proofs.NaturalLemmas.{OnOk-always, fits, listed, natural-room, prints, some-heights}
+use Rattle.columns_table.proofs.Natural.{OnOk-always, fits, listed, natural-room, prints, some-heights}
 use Rattle.columns_table.proofs.table.write_natural.Goals as goal
 
 pub write_grid-written-requires-clause-fits : goal.write_grid-written-requires-clause-fits

@@ -2,14 +2,14 @@ use Rattle.std.proofs.Common.{[], ◌≡◌, ◌<◌, ◌^◌, ℕ, List, Some, 
 use Rattle.columns_colors.specs.ColoredTables.{colored_text}
 use Rattle.columns_colors.specs.ColumnColors.{cell_color}
 use Rattle.grid_config.specs.Compact.{compact_of}
-use Rattle.grid_records_estimate.proofs.MeetLemmas.{IfErr-told}
+use Rattle.grid_records_estimate.proofs.Meets.{IfErr-told}
 use Rattle.columns_asked.specs.Layout.{narrowed}
 use Rattle.tabled_output.specs.Pieces.{Passes}
-use Rattle.tabled_output.proofs.PieceLemmas.{passes-none}
+use Rattle.tabled_output.proofs.Pieces.{passes-none}
 use Rattle.columns_table.specs.Rows.{row_texts_of}
-use Rattle.columns_table.proofs.AnswerLemmas.{Known, alone-narrowed, alone-natural, found-none, found-some, from-narrowed, from-natural, narrow-is, sizes-refused}
-use Rattle.columns_table.proofs.NarrowedLemmas.{some-sizes, text-natural}
-use Rattle.columns_table.proofs.RoomLemmas.{paddings-fit, sum-fits}
+use Rattle.columns_table.proofs.Answers.{Known, alone-narrowed, alone-natural, found-none, found-some, from-narrowed, from-natural, narrow-is, sizes-refused}
+use Rattle.columns_table.proofs.Narrowed.{some-sizes, text-natural}
+use Rattle.columns_table.proofs.Rooms.{paddings-fit, sum-fits}
 use Rattle.columns_table.proofs.table.write_rows.Given.{Over}
 use Rattle.columns_table.proofs.table.write_rows.Goals as goal
 use Rattle.columns_table.proofs.table.write_rows.Goals.{After-write_narrowed, After-write_natural}

@@ -17,7 +17,7 @@ use Rattle.tabled_size_priority.specs.declared.choice.Choice.TheVariants.{None a
 use Rattle.columns_words.specs.Command.{IsColumns}
 use Rattle.columns_words.specs.declared.words.Asked.{Asked}
 use Rattle.columns_words.specs.declared.words.Asked.TheVariants.{Run, Help, Faulty}
-use Rattle.columns_words.proofs.ColumnsLemmas.{columns-free, columns-simple, width_passes}
+use Rattle.columns_words.proofs.Columns.{columns-free, columns-simple, width_passes}
 use Rattle.columns_words.proofs.words.read_words.Goals as goal
 use Rattle.tabled_glyphs.specs.Glyphs.{ascii}
 

@@ -2,7 +2,7 @@ use Rattle.std.proofs.Common.{subst, sym}
 use Rattle.std.proofs.lemmas.List.Elements.{All-nil}
 use Rattle.columns_options.specs.ColumnColors.{AllClose}
 use Rattle.columns_run.specs.Plain.{IsPlain}
-use Rattle.columns_run.proofs.PlainLemmas.{default-plain}
+use Rattle.columns_run.proofs.Plain.{default-plain}
 use Rattle.examples.proofs.pager.paged.Goals as goal
 
 pub run-requires-clause-plain : goal.run-requires-clause-plain

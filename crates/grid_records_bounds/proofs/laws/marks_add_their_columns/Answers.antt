@@ -1,4 +1,4 @@
-use Rattle.grid_records_bounds.proofs.SpaceLemmas.{measure-marks}
+use Rattle.grid_records_bounds.proofs.Spaces.{measure-marks}
 use Rattle.grid_records_bounds.proofs.laws.marks_add_their_columns.Goals as goal
 
 pub returns : goal.returns

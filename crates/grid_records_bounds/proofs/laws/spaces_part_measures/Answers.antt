@@ -1,4 +1,4 @@
-use Rattle.grid_records_bounds.proofs.SpaceLemmas.{measure-space}
+use Rattle.grid_records_bounds.proofs.Spaces.{measure-space}
 use Rattle.grid_records_bounds.proofs.laws.spaces_part_measures.Goals as goal
 
 pub returns : goal.returns

@@ -1,6 +1,6 @@
 use Rattle.std.proofs.Common.{arith}
 use Rattle.grid_records_estimate.specs.Collecting.{clipped}
-use Rattle.grid_records_estimate.proofs.CollectLemmas.{map-by_index}
+use Rattle.grid_records_estimate.proofs.Collects.{map-by_index}
 use Rattle.grid_records_estimate.proofs.collector.clip.Goals as goal
 
 pub returns : goal.returns

@@ -1,4 +1,4 @@
-use Rattle.grid_records_estimate.proofs.CompactLemmas.{start-sizes}
+use Rattle.grid_records_estimate.proofs.Compact.{start-sizes}
 use Rattle.grid_records_estimate.proofs.laws.compact_settings_give_the_same_sizes.Goals as goal
 
 pub returns-clause-widths : goal.returns-clause-widths

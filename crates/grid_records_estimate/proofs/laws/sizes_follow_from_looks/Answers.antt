@@ -1,4 +1,4 @@
-use Rattle.grid_records_estimate.proofs.AlikeLemmas.{alike-sizes, compact_look-sizes, look-sizes}
+use Rattle.grid_records_estimate.proofs.Alike.{alike-sizes, compact_look-sizes, look-sizes}
 use Rattle.grid_records_estimate.proofs.laws.sizes_follow_from_looks.Goals as goal
 
 pub returns-clause-cells : goal.returns-clause-cells

@@ -1,4 +1,4 @@
-use Rattle.grid_records_estimate.proofs.RoomLemmas.{LeaveRoom-heights, LeaveRoom-track_sizes, LeaveRoom-widths}
+use Rattle.grid_records_estimate.proofs.Rooms.{LeaveRoom-heights, LeaveRoom-track_sizes, LeaveRoom-widths}
 use Rattle.grid_records_estimate.proofs.laws.sizes_leave_room.Goals as goal
 
 pub returns-clause-tracks : goal.returns-clause-tracks

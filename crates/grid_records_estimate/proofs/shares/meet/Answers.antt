@@ -1,7 +1,7 @@
 use Rattle.std.proofs.Common.{◌≡◌, ℕ, ◌+◌, ◌-◌, List, take, drop, subst, arith, refl}
 use Rattle.grid_records_estimate.specs.Estimates.{with_shares}
 use Rattle.grid_records_estimate.specs.Collecting.{PassesMax}
-use Rattle.grid_records_estimate.proofs.MeetLemmas.{OnErr-implies, OnOk-implies, PassesMax-put_back, meet-put_back}
+use Rattle.grid_records_estimate.proofs.Meets.{OnErr-implies, OnOk-implies, PassesMax-put_back, meet-put_back}
 use Rattle.grid_records_estimate.proofs.shares.meet.Goals as goal
 
 pub returns-clause-ok : goal.returns-clause-ok

@@ -3,7 +3,7 @@ use Rattle.std.proofs.lemmas.List.Sums.{fold_more}
 use Rattle.grid_records_estimate.specs.declared.need.Need.{Need}
 use Rattle.grid_records_estimate.specs.Estimates.{meet}
 use Rattle.grid_records_estimate.specs.Collecting.{HasBetween, PassesMax}
-use Rattle.grid_records_estimate.proofs.MeetLemmas.{OnErr-always, PassesMax-later}
+use Rattle.grid_records_estimate.proofs.Meets.{OnErr-always, PassesMax-later}
 use Rattle.grid_records_estimate.proofs.shares.meet_all.Goals as goal
 
 none : Need

@@ -6,7 +6,7 @@ use Rattle.ansi_scan.specs.Pieces.{pieces}
 use Rattle.ansi_scan.proofs.Existence.{ArePiecesOf-pieces}
 use Rattle.ansi_str.specs.StyledText.{has_escape}
 use Rattle.grid_records_measure.specs.Cutting.{replacement}
-use Rattle.grid_records_measure.proofs.CutLemmas.{cut-bounds, cut-is, cut-without_escape, cut_at-one, lacking-plain, plain-boundary}
+use Rattle.grid_records_measure.proofs.Cuts.{cut-bounds, cut-is, cut-without_escape, cut_at-one, lacking-plain, plain-boundary}
 use Rattle.grid_records_measure.proofs.cut.cut_width.Goals.{else-lacking-eq0-via-then-lacking-eq0+else-not-ansi_has_any, else-lacking-eq0-via-else-lacking-eq0}
 use Rattle.grid_records_measure.proofs.cut.cut_width.Goals as goal
 

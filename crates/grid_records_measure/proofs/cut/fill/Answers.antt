@@ -2,7 +2,7 @@
 use Rattle.std.proofs.Common.{rules, ◌≤◌, ◌+◌, ◌∙◌, length, encode_utf8_all, ap, sym, arith}
 use Rattle.std.specs.Str.Iter.{chars_rest}
 use Rattle.std.proofs.lemmas.Str.{IsUtf8-past_char}
-use Rattle.grid_records_measure.proofs.CutLemmas.{takes, takes-len, refuses, ends, fitting_front-fits}
+use Rattle.grid_records_measure.proofs.Cuts.{takes, takes-len, refuses, ends, fitting_front-fits}
 use Rattle.grid_records_measure.proofs.cut.fill.Goals as goal
 
 pub returns-in_default-clause-len : goal.returns-in_default-clause-len

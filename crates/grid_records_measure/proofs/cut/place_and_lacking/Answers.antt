@@ -5,11 +5,11 @@ use Rattle.ansi_scan.specs.Pieces.{pieces}
 use Rattle.ansi_str.specs.StyledText.{strip}
 use Rattle.ansi_str.specs.Blocks.{Block, text_of_block}
 use Rattle.ansi_str_text.proofs.Utf8Pieces.{IsUtf8-shown_text}
-use Rattle.ansi_str_search.proofs.RestLemmas.{strip-fits}
+use Rattle.ansi_str_search.proofs.Rests.{strip-fits}
 use Rattle.grid_records_measure.specs.Filling.{fitting_front, front_columns, behind_front}
-use Rattle.grid_records_measure.proofs.FillingLemmas.{lacking-none}
-use Rattle.grid_records_measure.proofs.LineLemmas.{shown-blocks}
-use Rattle.grid_records_measure.proofs.CutLemmas.{all-fit, some-left, fits-on, stops-in, lacking-some, fitting_front-fits, fitting_front-longer}
+use Rattle.grid_records_measure.proofs.Filling.{lacking-none}
+use Rattle.grid_records_measure.proofs.Lines.{shown-blocks}
+use Rattle.grid_records_measure.proofs.Cuts.{all-fit, some-left, fits-on, stops-in, lacking-some, fitting_front-fits, fitting_front-longer}
 use Rattle.grid_records_measure.proofs.cut.place_and_lacking.Goals as goal
 
 pub loop-block-init : goal.loop-block-init

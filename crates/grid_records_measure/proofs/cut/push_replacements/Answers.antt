@@ -1,7 +1,7 @@
 -- One more was appended.
 use Rattle.std.proofs.Common.{◌∙◌, ◌++◌, ap, append_assoc, encode_utf8, encode_utf8_all, replicate, string_bytes}
 use Rattle.grid_records_measure.specs.Cutting.{replacement}
-use Rattle.grid_records_measure.proofs.CutLemmas.{encodes-one_more}
+use Rattle.grid_records_measure.proofs.Cuts.{encodes-one_more}
 use Rattle.grid_records_measure.proofs.cut.push_replacements.Goals as goal
 
 pub loop-preserved : goal.loop-preserved

@@ -1,5 +1,5 @@
--- The lemmas of `TextLineLemmas`.
-use Rattle.grid_records_measure.proofs.TextLineLemmas.{length-text_lines, text_lines-are, text_lines-one, text_lines-shown}
+-- The lemmas of `TextLines`.
+use Rattle.grid_records_measure.proofs.TextLines.{length-text_lines, text_lines-are, text_lines-one, text_lines-shown}
 use Rattle.grid_records_measure.proofs.laws.lines_of_texts.Goals as goal
 
 pub returns-clause-lines : goal.returns-clause-lines

@@ -1,6 +1,6 @@
--- The lemmas of `FillingLemmas`.
+-- The lemmas of `Filling`.
 use Rattle.grid_records_measure.specs.Filling.{fitting_front, behind_front}
-use Rattle.grid_records_measure.proofs.FillingLemmas.{IsLongestFront-fitting_front, IsLongestFront-unique}
+use Rattle.grid_records_measure.proofs.Filling.{IsLongestFront-fitting_front, IsLongestFront-unique}
 use Rattle.grid_records_measure.proofs.laws.one_longest_front.Goals as goal
 
 pub returns-clause-there : goal.returns-clause-there

@@ -1,6 +1,6 @@
--- The lemmas of `PlainLemmas`.
+-- The lemmas of `Plain`.
 use Rattle.std.proofs.Common.{◌∙◌, sym}
-use Rattle.grid_records_measure.proofs.PlainLemmas.{one-column, two-columns, measure-plain, columns-plain}
+use Rattle.grid_records_measure.proofs.Plain.{one-column, two-columns, measure-plain, columns-plain}
 use Rattle.grid_records_measure.proofs.laws.plain_characters_add_up.Goals as goal
 
 pub returns-clause-one : goal.returns-clause-one

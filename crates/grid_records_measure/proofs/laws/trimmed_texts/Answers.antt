@@ -1,5 +1,5 @@
--- The lemmas of `TrimmedLemmas`.
-use Rattle.grid_records_measure.proofs.TrimmedLemmas.{trimmed-is, trimmed-one}
+-- The lemmas of `Trimmed`.
+use Rattle.grid_records_measure.proofs.Trimmed.{trimmed-is, trimmed-one}
 use Rattle.grid_records_measure.proofs.laws.trimmed_texts.Goals as goal
 
 pub returns-clause-there : goal.returns-clause-there

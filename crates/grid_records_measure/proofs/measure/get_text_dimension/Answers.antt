@@ -7,11 +7,11 @@ use Rattle.ansi_scan.specs.Pieces.{pieces}
 use Rattle.ansi_scan.proofs.Existence.{ArePiecesOf-pieces}
 use Rattle.ansi_scan.proofs.Uniqueness.{ArePiecesOf-unique}
 use Rattle.ansi_str.specs.StyledText.{strip}
-use Rattle.ansi_str_search.proofs.RestLemmas.{strip-fits}
+use Rattle.ansi_str_search.proofs.Rests.{strip-fits}
 use Rattle.grid_records_measure.specs.Measures.{measure}
 use Rattle.grid_records_measure.specs.TextLines.{is_line_feed, shown_lines, widest}
 use Rattle.grid_records_measure.specs.RawLines.{lines_behind}
-use Rattle.grid_records_measure.proofs.TextLineLemmas.{height-of_pieces, width-of_pieces}
+use Rattle.grid_records_measure.proofs.TextLines.{height-of_pieces, width-of_pieces}
 use Rattle.grid_records_measure.proofs.measure.get_text_dimension.Goals as goal
 
 pub loop-rest-init : goal.loop-rest-init

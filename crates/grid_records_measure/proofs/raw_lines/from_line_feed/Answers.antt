@@ -5,7 +5,7 @@ use Rattle.ansi_scan.specs.Attributes.{plain_attributes}
 use Rattle.ansi_str.specs.StyledText.{style_after}
 use Rattle.ansi_str.specs.Walking.{AreFirstAndRest}
 use Rattle.ansi_str_search.proofs.Walks.{escape_first}
-use Rattle.ansi_str_search.proofs.FindLemmas.{other_boundary}
+use Rattle.ansi_str_search.proofs.Finds.{other_boundary}
 use Rattle.ansi_str_search.proofs.Landing.{SameLanding-same, SameLanding-left, SameLanding-sequence, run_over, Lands-end}
 use Rattle.grid_records_measure.specs.TextLines.{line_feed}
 use Rattle.grid_records_measure.proofs.raw_lines.from_line_feed.Goals as goal

@@ -3,7 +3,7 @@ use Rattle.std.proofs.Common.{◌≡◌, ◌<◌, ◌-◌, ◌==◌, ◌∙◌, 
 use Rattle.std.specs.Str.{IsCharBoundary}
 use Rattle.std.proofs.lemmas.Bool.Decides.{nat_tests}
 use Rattle.std.proofs.lemmas.Str.{IsCharBoundary-at_seam, IsCharBoundary-after_ascii}
-use Rattle.grid_records_measure.proofs.RawLineLemmas.{front-is, line-last, line-more, whole-last, whole-more}
+use Rattle.grid_records_measure.proofs.RawLines.{front-is, line-last, line-more, whole-last, whole-more}
 use Rattle.grid_records_measure.proofs.raw_lines.split_line.Goals as goal
 
 pub overflow_sub-text : goal.overflow_sub-text

@@ -1,8 +1,8 @@
 -- A text has matches of the line feed, and its parts are those between them.
 use Rattle.ansi_scan.specs.Pieces.{pieces}
 use Rattle.ansi_scan.proofs.Existence.{ArePiecesOf-pieces}
-use Rattle.grid_records_measure.proofs.LineLemmas.{line_matches, length-lines}
-use Rattle.grid_records_measure.proofs.TextLineLemmas.{text_lines-one}
+use Rattle.grid_records_measure.proofs.Lines.{line_matches, length-lines}
+use Rattle.grid_records_measure.proofs.TextLines.{text_lines-one}
 use Rattle.grid_records_measure.proofs.text_lines.get_lines.Goals as goal
 
 pub returns-clause-lines : goal.returns-clause-lines

@@ -1,7 +1,7 @@
 -- The cut of a text is one text.
 use Rattle.ansi_scan.specs.Pieces.{pieces}
 use Rattle.ansi_scan.proofs.Existence.{ArePiecesOf-pieces}
-use Rattle.grid_records_measure.proofs.CutLemmas.{cut_at-meets, cut_at-one}
+use Rattle.grid_records_measure.proofs.Cuts.{cut_at-meets, cut_at-one}
 use Rattle.grid_records_rows.proofs.laws.truncated_texts_are_cuts.Goals as goal
 
 pub returns-clause-cut : goal.returns-clause-cut

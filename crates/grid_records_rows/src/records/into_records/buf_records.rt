@@ -82,9 +82,11 @@ impl<I: IntoRecords> IntoRecords for BufRecords<I> {
 
     ghost may_refuse_left = { λ s. of_rest I.may_refuse_left false s.rest };
 
-    ghost gives = { λ s. buffered_rows_give I.Cell.text (λ s. s.0) (λ cells. cells.0) (λ s. s.kept) (λ s. s.rest) (λ row it became. all_items it _ became.0 (became.1 ∙ row.ok.0)) I.may_refuse_left I.rows_left s I.gives };
+    ghost gives = { λ s. buffered_rows_give I.Cell.text (λ s. s.0) (λ cells. cells.0) (λ s. s.kept) (λ s. s.rest)
+        (λ row it became. all_items it _ became.0 (became.1 ∙ row.ok.0)) I.may_refuse_left I.rows_left s I.gives };
 
-    ghost passes = { λ s t cells step. passed_buffered I.Cell.text _ I.IterRows.next_gives (λ s. s.0) (λ cells. cells.0) I.rows_left I.may_refuse_left I.passes s.kept t.kept s.rest t.rest cells step };
+    ghost passes = { λ s t cells step. passed_buffered I.Cell.text _ I.IterRows.next_gives (λ s. s.0)
+        (λ cells. cells.0) I.rows_left I.may_refuse_left I.passes s.kept t.kept s.rest t.rest cells step };
 
     fn iter_rows(self) -> BufferedRows<I::Cell, I::IterRows> {
         BufferedRows {
@@ -124,7 +126,8 @@ impl<C: Drop, I: Iterator> Iterator for BufferedRows<C, I> {
 
     ghost can_next = { λ s. IfSome s.rest I.can_next };
 
-    ghost next_gives = { λ s r t. GivesBuffered ⟦<GivenRows<vec::IntoIter<Vec<C>>> as Iterator>⟧.next_gives I.next_gives (record { kept = s.kept; rest = s.rest }) r (record { kept = t.kept; rest = t.rest }) };
+    ghost next_gives = { λ s r t. GivesBuffered ⟦<GivenRows<vec::IntoIter<Vec<C>>> as Iterator>⟧.next_gives I.next_gives
+        (record { kept = s.kept; rest = s.rest }) r (record { kept = t.kept; rest = t.rest }) };
 
     ghost remaining = { λ s. count_add (⟦<GivenRows<vec::IntoIter<Vec<C>>> as Iterator>⟧.remaining s.kept) (of_rest I.remaining (at_most 0) s.rest) };
 

@@ -1,6 +1,6 @@
 use Rattle.std.proofs.Common.{length}
 use Rattle.papergrid_picture.specs.Tables.{sizes_of}
-use Rattle.papergrid_picture.proofs.JoinLemmas.{table_text-joined}
+use Rattle.papergrid_picture.proofs.Joins.{table_text-joined}
 use Rattle.papergrid.proofs.laws.texts_are_lines_joined.Goals as goal
 
 pub returns : goal.returns

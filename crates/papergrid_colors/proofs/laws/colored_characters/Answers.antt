@@ -1,4 +1,4 @@
-use Rattle.papergrid_colors.proofs.CharacterLemmas.{characters-colored, feeds-plain}
+use Rattle.papergrid_colors.proofs.Characters.{characters-colored, feeds-plain}
 use Rattle.papergrid_colors.proofs.laws.colored_characters.Goals as goal
 
 pub returns : goal.returns

@@ -1,4 +1,4 @@
-use Rattle.papergrid_colors.proofs.PieceLemmas.{line-pieces}
+use Rattle.papergrid_colors.proofs.Pieces.{line-pieces}
 use Rattle.papergrid_colors.proofs.laws.colored_lines_by_pieces.Goals as goal
 
 pub returns : goal.returns

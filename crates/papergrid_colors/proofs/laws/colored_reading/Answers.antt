@@ -1,5 +1,5 @@
 use Rattle.std.proofs.Common.{refl}
-use Rattle.papergrid_colors.proofs.PictureLemmas.{table-colored}
+use Rattle.papergrid_colors.proofs.Pictures.{table-colored}
 use Rattle.papergrid_colors.proofs.laws.colored_reading.Goals as goal
 
 pub returns : goal.returns

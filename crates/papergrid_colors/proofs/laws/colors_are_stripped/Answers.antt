@@ -1,4 +1,4 @@
-use Rattle.papergrid_colors.proofs.StrippedLemmas.{around, closing-show_nothing, colors-stripped, colors-whole}
+use Rattle.papergrid_colors.proofs.Stripped.{around, closing-show_nothing, colors-stripped, colors-whole}
 use Rattle.papergrid_colors.proofs.laws.colors_are_stripped.Goals as goal
 
 pub returns : goal.returns

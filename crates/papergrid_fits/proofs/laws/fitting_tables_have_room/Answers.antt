@@ -1,4 +1,4 @@
-use Rattle.papergrid_fits.proofs.RoomLemmas.{good-spans, has-room}
+use Rattle.papergrid_fits.proofs.Rooms.{good-spans, has-room}
 use Rattle.papergrid_fits.proofs.laws.fitting_tables_have_room.Goals as goal
 
 pub returns : goal.returns

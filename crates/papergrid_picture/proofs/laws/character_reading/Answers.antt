@@ -1,4 +1,4 @@
-use Rattle.papergrid_picture.proofs.ItemLemmas.{feeds-plain, picture-characters, table-plain}
+use Rattle.papergrid_picture.proofs.Items.{feeds-plain, picture-characters, table-plain}
 use Rattle.papergrid_picture.proofs.laws.character_reading.Goals as goal
 
 pub returns : goal.returns

@@ -1,4 +1,4 @@
-use Rattle.papergrid_picture.proofs.WidthLemmas.{line-columns}
+use Rattle.papergrid_picture.proofs.Widths.{line-columns}
 use Rattle.papergrid_picture.proofs.laws.lines_are_equally_wide.Goals as goal
 
 pub returns : goal.returns

@@ -1,4 +1,4 @@
-use Rattle.papergrid_picture.proofs.JoinLemmas.{table_lines-joined, table_text-joined}
+use Rattle.papergrid_picture.proofs.Joins.{table_lines-joined, table_text-joined}
 use Rattle.papergrid_picture.proofs.laws.lines_are_joined.Goals as goal
 
 pub returns : goal.returns

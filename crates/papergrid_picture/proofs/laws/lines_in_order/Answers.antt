@@ -1,5 +1,5 @@
-use Rattle.papergrid_picture.proofs.FrameLemmas.{place-above, place-below, place-boundary, place-row}
-use Rattle.papergrid_picture.proofs.PlaceLemmas.{place-shown}
+use Rattle.papergrid_picture.proofs.Frames.{place-above, place-below, place-boundary, place-row}
+use Rattle.papergrid_picture.proofs.Places.{place-shown}
 use Rattle.papergrid_picture.proofs.laws.lines_in_order.Goals as goal
 
 pub returns : goal.returns

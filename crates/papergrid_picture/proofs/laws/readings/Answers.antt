@@ -1,4 +1,4 @@
-use Rattle.papergrid_picture.proofs.ItemLemmas.{read-picture}
+use Rattle.papergrid_picture.proofs.Items.{read-picture}
 use Rattle.papergrid_picture.proofs.laws.readings.Goals as goal
 
 pub returns : goal.returns

@@ -1,4 +1,4 @@
-use Rattle.papergrid_picture.proofs.TilingLemmas.{rectangle-shown}
+use Rattle.papergrid_picture.proofs.Tiling.{rectangle-shown}
 use Rattle.papergrid_picture.proofs.laws.rectangles_show_blocks.Goals as goal
 
 pub returns : goal.returns

@@ -1,4 +1,4 @@
-use Rattle.papergrid_picture.proofs.StrippedLemmas.{table-stripped, table-whole}
+use Rattle.papergrid_picture.proofs.Stripped.{table-stripped, table-whole}
 use Rattle.papergrid_picture.proofs.laws.stripped_reading.Goals as goal
 
 pub returns : goal.returns

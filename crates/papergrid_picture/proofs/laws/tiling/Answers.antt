@@ -1,6 +1,6 @@
 use Rattle.std.proofs.Common.{refl}
-use Rattle.papergrid_picture.proofs.TilingLemmas.{Tiles-picture, text_line-exact}
-use Rattle.papergrid_picture.proofs.WideLemmas.{room-where_tiled}
+use Rattle.papergrid_picture.proofs.Tiling.{Tiles-picture, text_line-exact}
+use Rattle.papergrid_picture.proofs.Wide.{room-where_tiled}
 use Rattle.papergrid_picture.proofs.laws.tiling.Goals as goal
 
 pub returns : goal.returns

@@ -11,7 +11,7 @@ use Rattle.grid_records_measure.specs.TextLines.{text_lines}
 use Rattle.grid_config_values.specs.Glyphs.{BoundaryKind, First, Between, Last, along_column, crossing, in_row, no_borders}
 use Rattle.papergrid_picture.specs.Shown.{IsBare, IsShown, WritesNothing}
 use Rattle.papergrid_picture.specs.Worked.{ascii, plain}
-use Rattle.papergrid_picture.proofs.ShownLemmas.{IsShown-space}
+use Rattle.papergrid_picture.proofs.Shown.{IsShown-space}
 use Rattle.papergrid_picture.proofs.laws.worked_readings.Goals as goal
 
 plus : IsShown 0x2b

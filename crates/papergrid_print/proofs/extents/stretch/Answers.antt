@@ -1,7 +1,7 @@
 use Rattle.std.proofs.Common.{◌≡◌, ◌+◌, ◌-◌, ◌<◌, ◌∙◌, ap, sym, length, arith}
 use Rattle.grid_config.specs.Looks.{look_of}
 use Rattle.papergrid_picture.specs.Frame.{boundary_at, stretch}
-use Rattle.papergrid_picture.proofs.FrameLemmas.{boundary-behind, boundary-bounded, boundary-next}
+use Rattle.papergrid_picture.proofs.Frames.{boundary-behind, boundary-bounded, boundary-next}
 use Rattle.papergrid_print.specs.Axes.{axis_tracks}
 use Rattle.papergrid_print.proofs.extents.stretch.Goals as goal
 

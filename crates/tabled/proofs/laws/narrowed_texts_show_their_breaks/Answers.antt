@@ -8,9 +8,9 @@ use Rattle.grid_records_measure.specs.Cutting.{ShowsCut}
 use Rattle.grid_records_measure.specs.TextLines.{text_width}
 use Rattle.grid_records_measure.proofs.ShownCuts.{cut-shows}
 use Rattle.tabled_size_wrap.specs.Bytes.{cut_at, wrapped_text}
-use Rattle.grid_records_measure.proofs.CutLemmas.{cut_at-meets}
-use Rattle.tabled_size_wrap.proofs.BytesLemmas.{wrapped_text-meets}
-use Rattle.tabled_size_wrap.proofs.WrappedLemmas.{wrapped-shows}
+use Rattle.grid_records_measure.proofs.Cuts.{cut_at-meets}
+use Rattle.tabled_size_wrap.proofs.Bytes.{wrapped_text-meets}
+use Rattle.tabled_size_wrap.proofs.Wrapped.{wrapped-shows}
 use Rattle.tabled_width.specs.Rooms.{in_room, room}
 use Rattle.tabled_steps.proofs.ChangedTexts.{text-at}
 use Rattle.grid_config_values.specs.declared.entity.Entity.TheVariants.{Global}

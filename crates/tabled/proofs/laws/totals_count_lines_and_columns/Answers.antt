@@ -1,4 +1,4 @@
-use Rattle.papergrid_picture.proofs.JoinLemmas.{table_text-joined}
+use Rattle.papergrid_picture.proofs.Joins.{table_text-joined}
 use Rattle.tabled.specs.Printing.{drawn_heights, drawn_widths}
 use Rattle.tabled.proofs.PlainLines.{plain-line}
 use Rattle.tabled.proofs.laws.totals_count_lines_and_columns.Goals as goal

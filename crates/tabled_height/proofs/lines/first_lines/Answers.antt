@@ -4,7 +4,7 @@ use Rattle.std.specs.List.{join_with_byte}
 use Rattle.ansi_scan.proofs.Existence.{ArePiecesOf-pieces}
 use Rattle.ansi_scan.specs.Pieces.{pieces}
 use Rattle.ansi_str_search.specs.Splitting.{PartsLeft}
-use Rattle.grid_records_measure.proofs.TextLineLemmas.{text_lines-one}
+use Rattle.grid_records_measure.proofs.TextLines.{text_lines-one}
 use Rattle.grid_records_measure.specs.TextLines.{line_feed, text_lines}
 use Rattle.tabled_height.proofs.Limiting.{all_taken, line_written}
 use Rattle.tabled_height.proofs.lines.first_lines.Goals as goal

@@ -7,8 +7,8 @@ use Rattle.tabled_pool_boxes.specs.Canvas.{Adds}
 use Rattle.tabled_pool_boxes.specs.Shares.{share}
 use Rattle.tabled_pool_boxes.specs.Values.{Beside, Stacked, Text, layout_of, layouts_of}
 use Rattle.tabled_pool_boxes.proofs.Adding.{leads-start}
-use Rattle.tabled_pool_boxes.proofs.DrawLemmas.{begins-first, column_end, column_step, height-within, highest-within, layout-cell, member-begins, member-rest, need-all, need_from, need_more, row_end, row_step, share-within, widest-within, width-within}
-use Rattle.tabled_pool_boxes.proofs.SizeLemmas.{box, highest_box, widest_box, not-empty, some-beside, some-stacked}
+use Rattle.tabled_pool_boxes.proofs.Draws.{begins-first, column_end, column_step, height-within, highest-within, layout-cell, member-begins, member-rest, need-all, need_from, need_more, row_end, row_step, share-within, widest-within, width-within}
+use Rattle.tabled_pool_boxes.proofs.Sizes.{box, highest_box, widest_box, not-empty, some-beside, some-stacked}
 use Rattle.tabled_pool_boxes.proofs.draw.+draw.Goals as goal
 
 pub draw-returns-in-Cell-clause-lines : goal.draw-returns-in-Cell-clause-lines

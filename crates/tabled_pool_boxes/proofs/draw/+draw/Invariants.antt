@@ -3,8 +3,8 @@ use Rattle.grid_config.specs.Looks.{look_of}
 use Rattle.tabled_pool_boxes.specs.Boxes.{from_line}
 use Rattle.tabled_pool_boxes.specs.declared.size.Size.{Size}
 use Rattle.tabled_pool_boxes.proofs.Adding.{Leads}
-use Rattle.tabled_pool_boxes.proofs.DrawLemmas.{column_left, need_from, row_left}
-use Rattle.tabled_pool_boxes.proofs.SizeLemmas.{all_sizes}
+use Rattle.tabled_pool_boxes.proofs.Draws.{column_left, need_from, row_left}
+use Rattle.tabled_pool_boxes.proofs.Sizes.{all_sizes}
 use Rattle.tabled_pool_boxes.proofs.draw.+draw.Given as goal
 
 abbrev pub invariant-draw_row-loop-i : goal.invariant-draw_row-loop-i

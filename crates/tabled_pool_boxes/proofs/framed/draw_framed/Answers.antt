@@ -5,7 +5,7 @@ use Rattle.tabled_pool_boxes.specs.Boxes.{box_of}
 use Rattle.tabled_pool_boxes.specs.Canvas.{line_shapes}
 use Rattle.tabled_pool_boxes.specs.Framed.{framed_height, framed_line}
 use Rattle.tabled_pool_boxes.specs.Values.{layout_of}
-use Rattle.tabled_pool_boxes.proofs.FrameLemmas.{vector-shown}
+use Rattle.tabled_pool_boxes.proofs.Frames.{vector-shown}
 use Rattle.tabled_pool_boxes.proofs.framed.draw_framed.Goals as goal
 
 pub returns-clause-lines : goal.returns-clause-lines

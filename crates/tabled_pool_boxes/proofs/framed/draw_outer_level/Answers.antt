@@ -3,7 +3,7 @@ use Rattle.papergrid_picture.specs.Frame.{thickness}
 use Rattle.tabled_pool_boxes.specs.Boxes.{from_line}
 use Rattle.tabled_pool_boxes.specs.Canvas.{Adds, kind_of}
 use Rattle.tabled_pool_boxes.specs.Framed.{outer_level}
-use Rattle.tabled_pool_boxes.proofs.FrameLemmas.{level-absent}
+use Rattle.tabled_pool_boxes.proofs.Frames.{level-absent}
 use Rattle.tabled_pool_boxes.proofs.framed.draw_outer_level.Goals as goal
 
 pub returns-else-is_there : goal.returns-else-is_there

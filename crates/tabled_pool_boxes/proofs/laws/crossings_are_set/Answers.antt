@@ -1,6 +1,6 @@
 use Rattle.grid_config_values.specs.Glyphs.{crossing}
 use Rattle.tabled_pool_boxes.specs.Crossings.{kind_between}
-use Rattle.tabled_pool_boxes.proofs.SetGlyphLemmas.{set-or-space}
+use Rattle.tabled_pool_boxes.proofs.SetGlyphs.{set-or-space}
 use Rattle.tabled_pool_boxes.proofs.laws.crossings_are_set.Goals as goal
 
 pub returns : goal.returns

@@ -7,7 +7,7 @@ use Rattle.papergrid_picture.specs.Reading.{line_items}
 use Rattle.tabled_pool_boxes.specs.Crossings.{Shape}
 use Rattle.tabled_pool_boxes.specs.Glyphs.{found_shape}
 use Rattle.tabled_pool_boxes.specs.Runs.{text_with}
-use Rattle.tabled_pool_boxes.proofs.RunLemmas.{one-printed, with-alone}
+use Rattle.tabled_pool_boxes.proofs.Runs.{one-printed, with-alone}
 use Rattle.tabled_pool_boxes.proofs.line.push_glyph.Goals as goal
 
 pub returns : goal.returns

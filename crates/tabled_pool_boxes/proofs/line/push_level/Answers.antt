@@ -5,7 +5,7 @@ use Rattle.tabled_pool_boxes.specs.Canvas.{kind_of}
 use Rattle.tabled_pool_boxes.specs.Crossings.{level_glyph}
 use Rattle.tabled_pool_boxes.specs.Glyphs.{around_of}
 use Rattle.tabled_pool_boxes.specs.Runs.{text_with}
-use Rattle.tabled_pool_boxes.proofs.LineLemmas.{level-more}
+use Rattle.tabled_pool_boxes.proofs.Lines.{level-more}
 use Rattle.tabled_pool_boxes.proofs.line.push_level.Goals as goal
 
 pub loop-i-preserved : goal.loop-i-preserved

@@ -8,8 +8,8 @@ use Rattle.tabled_pool_boxes.specs.Canvas.{shape_of}
 use Rattle.tabled_pool_boxes.specs.Crossings.{shapes_from}
 use Rattle.tabled_pool_boxes.specs.Glyphs.{around_of}
 use Rattle.tabled_pool_boxes.specs.Runs.{held_shapes, line_bytes, text_with}
-use Rattle.tabled_pool_boxes.proofs.LineLemmas.{no-part}
-use Rattle.tabled_pool_boxes.proofs.RunLemmas.{held-bytes}
+use Rattle.tabled_pool_boxes.proofs.Lines.{no-part}
+use Rattle.tabled_pool_boxes.proofs.Runs.{held-bytes}
 use Rattle.tabled_pool_boxes.proofs.line.push_parts.Goals as goal
 
 pub returns : goal.returns

@@ -4,7 +4,7 @@ use Rattle.papergrid_cells.specs.Painting.{bare, glyph_part}
 use Rattle.papergrid_picture.specs.Reading.{line_items}
 use Rattle.tabled_pool_boxes.specs.Crossings.{Shape}
 use Rattle.tabled_pool_boxes.specs.Runs.{text_with}
-use Rattle.tabled_pool_boxes.proofs.RunLemmas.{with-alone}
+use Rattle.tabled_pool_boxes.proofs.Runs.{with-alone}
 use Rattle.tabled_pool_boxes.proofs.line.push_text.Goals as goal
 
 pub returns : goal.returns

@@ -4,7 +4,7 @@ use Rattle.tabled_pool_boxes.specs.Boxes.{box_of, boxes_of, gaps, has_level, has
 use Rattle.tabled_pool_boxes.specs.declared.size.Size.{Size}
 use Rattle.tabled_pool_boxes.specs.Sizes.{IsTooLarge, sizes_of_all}
 use Rattle.tabled_pool_boxes.specs.Values.{Beside, Stacked, layout_of, layouts_of}
-use Rattle.tabled_pool_boxes.proofs.SizeLemmas.{column-own, column-sum-too-large, column-too-large, lengths, not-empty, row-own, row-sum-too-large, row-too-large, sizes-end}
+use Rattle.tabled_pool_boxes.proofs.Sizes.{column-own, column-sum-too-large, column-too-large, lengths, not-empty, row-own, row-sum-too-large, row-too-large, sizes-end}
 use Rattle.tabled_pool_boxes.proofs.size.+measure.Goals as goal
 
 pub push_row_sizes-loop-member-init : goal.push_row_sizes-loop-member-init

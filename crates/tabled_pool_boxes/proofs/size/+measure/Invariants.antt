@@ -1,7 +1,7 @@
 use Rattle.std.proofs.Common.{◌≡◌, ◌+◌, ◌++◌, drop, max}
 use Rattle.grid_config.specs.Looks.{look_of}
 use Rattle.tabled_pool_boxes.specs.Boxes.{column_height, row_width}
-use Rattle.tabled_pool_boxes.proofs.SizeLemmas.{all_sizes, heights, highest_box, widest_box, widths}
+use Rattle.tabled_pool_boxes.proofs.Sizes.{all_sizes, heights, highest_box, widest_box, widths}
 use Rattle.tabled_pool_boxes.specs.Boxes.{boxes_of}
 use Rattle.tabled_pool_boxes.specs.Values.{layouts_of}
 use Rattle.tabled_pool_boxes.proofs.size.+measure.Given as goal

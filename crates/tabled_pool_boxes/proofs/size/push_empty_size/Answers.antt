@@ -3,7 +3,7 @@ use Rattle.grid_config.specs.Looks.{look_of}
 use Rattle.tabled_pool_boxes.specs.declared.size.Size.{Size}
 use Rattle.tabled_pool_boxes.specs.Boxes.{text_box}
 use Rattle.tabled_pool_boxes.specs.Sizes.{IsTooLarge}
-use Rattle.tabled_pool_boxes.proofs.SizeLemmas.{no-text-size}
+use Rattle.tabled_pool_boxes.proofs.Sizes.{no-text-size}
 use Rattle.tabled_pool_boxes.proofs.size.push_empty_size.Goals as goal
 
 pub returns-in_err-size-clause-range : goal.returns-in_err-size-clause-range

@@ -2,7 +2,7 @@ use Rattle.std.proofs.Common.{◌≡◌, ◌∙◌, ap, sym, arith}
 use Rattle.ansi_scan.specs.Pieces.{pieces}
 use Rattle.grid_records_measure.specs.RawLines.{lines_behind}
 use Rattle.grid_records_measure.specs.TextLines.{shown_lines, widest}
-use Rattle.tabled_pool_boxes.proofs.SizeLemmas.{text_widest}
+use Rattle.tabled_pool_boxes.proofs.Sizes.{text_widest}
 use Rattle.tabled_pool_boxes.proofs.size.push_line_sizes.Goals as goal
 
 pub returns-clause-widest : goal.returns-clause-widest

@@ -3,7 +3,7 @@ use Rattle.std.proofs.Common.{◌≡◌, ◌++◌, max, length}
 use Rattle.ansi_scan.specs.Pieces.{pieces}
 use Rattle.grid_records_measure.specs.RawLines.{lines_behind}
 use Rattle.grid_records_measure.specs.TextLines.{shown_lines, widest}
-use Rattle.tabled_pool_boxes.proofs.SizeLemmas.{sized}
+use Rattle.tabled_pool_boxes.proofs.Sizes.{sized}
 use Rattle.tabled_pool_boxes.proofs.size.push_line_sizes.Given as goal
 
 abbrev pub invariant-loop-rest : goal.invariant-loop-rest

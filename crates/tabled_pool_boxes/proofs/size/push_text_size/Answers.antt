@@ -4,7 +4,7 @@ use Rattle.papergrid_picture.specs.Blocks.{greatest}
 use Rattle.papergrid_picture.specs.CellLines.{cell_measures}
 use Rattle.tabled_pool_boxes.specs.Boxes.{text_box}
 use Rattle.tabled_pool_boxes.specs.Sizes.{line_sizes, padded, size_of}
-use Rattle.tabled_pool_boxes.proofs.SizeLemmas.{text-count, text-end}
+use Rattle.tabled_pool_boxes.proofs.Sizes.{text-count, text-end}
 use Rattle.tabled_pool_boxes.proofs.size.push_text_size.Goals as goal
 
 pub returns-clause-sizes : goal.returns-clause-sizes

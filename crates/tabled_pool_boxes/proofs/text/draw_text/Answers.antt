@@ -9,7 +9,7 @@ use Rattle.tabled_pool_boxes.specs.Canvas.{Adds}
 use Rattle.tabled_pool_boxes.specs.Open.{measures_of, texts_of}
 use Rattle.tabled_pool_boxes.specs.Sizes.{widths_of}
 use Rattle.tabled_pool_boxes.proofs.Adding.{adds-as}
-use Rattle.tabled_pool_boxes.proofs.SizeLemmas.{widths-text}
+use Rattle.tabled_pool_boxes.proofs.Sizes.{widths-text}
 use Rattle.tabled_pool_boxes.proofs.text.draw_text.Goals as goal
 
 pub returns : goal.returns

@@ -1,7 +1,7 @@
 use Rattle.std.proofs.Common.{◌++◌, ap, map, ◌∙◌}
 use Rattle.std.specs.Cow.{cow_str_bytes}
 use Rattle.ansi_str_search.specs.Splitting.{PartsLeft}
-use Rattle.tabled_pool_boxes.proofs.TextLemmas.{all-lines}
+use Rattle.tabled_pool_boxes.proofs.Texts.{all-lines}
 use Rattle.tabled_pool_boxes.proofs.text.lines_of.Goals as goal
 
 pub loop-line-init : goal.loop-line-init

@@ -1,4 +1,4 @@
-use Rattle.tabled_size_cells.proofs.CharacterLemmas.{resized-natural, same}
+use Rattle.tabled_size_cells.proofs.Characters.{resized-natural, same}
 use Rattle.tabled_size_cells.proofs.CellStripping.{resized-characters}
 use Rattle.papergrid_picture.specs.Shown.{character_of, in_plain}
 use Rattle.tabled_size_cells.proofs.laws.breaks_are_chosen_on_characters.Goals as goal

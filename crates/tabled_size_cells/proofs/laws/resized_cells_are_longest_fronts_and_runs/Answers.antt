@@ -1,4 +1,4 @@
-use Rattle.tabled_size_cells.proofs.ResizedLemmas.{resized-meets, resized-one, texts-resized}
+use Rattle.tabled_size_cells.proofs.Resized.{resized-meets, resized-one, texts-resized}
 use Rattle.tabled_size_cells.proofs.laws.resized_cells_are_longest_fronts_and_runs.Goals as goal
 
 pub returns-clause-meets : goal.returns-clause-meets

@@ -1,4 +1,4 @@
-use Rattle.tabled_size_cells.proofs.BridgeLemmas.{resized-shows}
+use Rattle.tabled_size_cells.proofs.Bridges.{resized-shows}
 use Rattle.tabled_size_cells.proofs.laws.resized_texts_show_resized_cells.Goals as goal
 
 pub returns-clause-shown : goal.returns-clause-shown

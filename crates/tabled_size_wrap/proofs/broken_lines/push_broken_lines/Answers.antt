@@ -10,7 +10,7 @@ use Rattle.ansi_str.specs.StyledText.{strip}
 use Rattle.grid_records_measure.specs.TextLines.{line_feed}
 use Rattle.tabled_size_wrap.specs.Wrapping.{line_part}
 use Rattle.tabled_size_wrap.specs.Runs.{broken_lines}
-use Rattle.tabled_size_wrap.proofs.WrapLemmas.{broken-nothing, no-bytes}
+use Rattle.tabled_size_wrap.proofs.Wraps.{broken-nothing, no-bytes}
 use Rattle.tabled_size_wrap.proofs.broken_lines.push_broken_lines.Goals as goal
 
 pub push_nothing-requires : goal.push_nothing-requires

@@ -10,8 +10,8 @@ use Rattle.grid_records_measure.specs.TextLines.{line_feed}
 use Rattle.tabled_size_wrap.specs.Wrapping.{line_part}
 use Rattle.tabled_size_wrap.specs.Runs.{broken_lines}
 use Rattle.tabled_size_wrap.specs.Standing.{StandsAt}
-use Rattle.tabled_size_wrap.proofs.StandingLemmas.{stands-start}
-use Rattle.tabled_size_wrap.proofs.AsciiLemmas.{Chunked-start, chunk-good, chunk-more, chunk-last}
+use Rattle.tabled_size_wrap.proofs.Standing.{stands-start}
+use Rattle.tabled_size_wrap.proofs.Ascii.{Chunked-start, chunk-good, chunk-more, chunk-last}
 use Rattle.tabled_size_wrap.proofs.broken_lines.push_full_lines.Goals as goal
 
 pub loop-left-init : goal.loop-left-init

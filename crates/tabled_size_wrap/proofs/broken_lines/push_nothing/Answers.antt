@@ -4,7 +4,7 @@ use Rattle.ansi_scan.specs.Pieces.{pieces}
 use Rattle.ansi_str.specs.Parts.{dressed, through_place}
 use Rattle.tabled_size_wrap.specs.Wrapping.{line_part}
 use Rattle.std.proofs.lemmas.Result.{on_ok_weaker}
-use Rattle.tabled_size_wrap.proofs.StandingLemmas.{part-nothing}
+use Rattle.tabled_size_wrap.proofs.Standing.{part-nothing}
 use Rattle.tabled_size_wrap.proofs.broken_lines.push_nothing.Goals as goal
 
 pub returns : goal.returns

@@ -6,7 +6,7 @@ use Rattle.ansi_str.specs.StyledText.{strip}
 use Rattle.ansi_str.specs.Parts.{dressed, through_place}
 use Rattle.tabled_size_wrap.specs.Wrapping.{line_part}
 use Rattle.tabled_size_wrap.specs.Standing.{StandsAt}
-use Rattle.tabled_size_wrap.proofs.StandingLemmas.{stands-part, stands-next, on_ok_both}
+use Rattle.tabled_size_wrap.proofs.Standing.{stands-part, stands-next, on_ok_both}
 use Rattle.std.proofs.lemmas.Result.{on_ok_weaker}
 use Rattle.tabled_size_wrap.proofs.broken_lines.push_part.Goals as goal
 

@@ -5,14 +5,14 @@ use Rattle.std.proofs.lemmas.Result.{on_ok_weaker}
 use Rattle.ansi_scan.specs.Sequences.{Piece}
 use Rattle.ansi_scan.specs.Pieces.{pieces}
 use Rattle.ansi_str.specs.StyledText.{strip}
-use Rattle.ansi_str_search.proofs.RestLemmas.{strip-fits}
+use Rattle.ansi_str_search.proofs.Rests.{strip-fits}
 use Rattle.grid_records_measure.specs.TextLines.{line_feed}
 use Rattle.tabled_size_wrap.specs.Wrapping.{line_part, replacement_bytes}
 use Rattle.tabled_size_wrap.specs.Runs.{broken_lines}
 use Rattle.tabled_size_wrap.specs.Standing.{StandsAt}
 use Rattle.tabled_size_wrap.specs.declared.line_units.Unit.{Unit}
-use Rattle.tabled_size_wrap.proofs.StandingLemmas.{stands-start, stands-next}
-use Rattle.tabled_size_wrap.proofs.WalkLemmas.{Walked, Walked-start, Walked-end, kept-good, forward, some-len, more-fits, unit-good, unit-kept, unit-marked, Roomy-made}
+use Rattle.tabled_size_wrap.proofs.Standing.{stands-start, stands-next}
+use Rattle.tabled_size_wrap.proofs.Walks.{Walked, Walked-start, Walked-end, kept-good, forward, some-len, more-fits, unit-good, unit-kept, unit-marked, Roomy-made}
 use Rattle.tabled_size_wrap.proofs.broken_lines.push_runs.Goals as goal
 
 -- the line shows some text

@@ -4,7 +4,7 @@ use Rattle.std.specs.List.{join_with_byte}
 use Rattle.ansi_scan.specs.Pieces.{pieces}
 use Rattle.grid_records_measure.specs.TextLines.{line_feed}
 use Rattle.tabled_size_wrap.specs.Runs.{broken_lines}
-use Rattle.tabled_size_wrap.proofs.WalkLemmas.{Walked}
+use Rattle.tabled_size_wrap.proofs.Walks.{Walked}
 use Rattle.tabled_size_wrap.proofs.broken_lines.push_runs.Given as goal
 
 abbrev pub invariant-loop-unit : goal.invariant-loop-unit

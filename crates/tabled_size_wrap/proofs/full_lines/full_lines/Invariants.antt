@@ -2,7 +2,7 @@
 use denote.Shadow.{shadow}
 use denote.Text.{Utf8}
 use Rattle.std.proofs.Common.{length, string_bytes}
-use Rattle.tabled_size_wrap.proofs.PrintableLemmas.{Filled}
+use Rattle.tabled_size_wrap.proofs.Printable.{Filled}
 use Rattle.tabled_size_wrap.proofs.full_lines.full_lines.Given as goal
 
 abbrev pub invariant-loop-rest : goal.invariant-loop-rest

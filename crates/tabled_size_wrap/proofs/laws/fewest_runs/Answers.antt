@@ -1,5 +1,5 @@
--- The lemmas of `FewestLemmas`.
-use Rattle.tabled_size_wrap.proofs.FewestLemmas.{fewest, is-breaking}
+-- The lemmas of `Fewest`.
+use Rattle.tabled_size_wrap.proofs.Fewest.{fewest, is-breaking}
 use Rattle.tabled_size_wrap.proofs.laws.fewest_runs.Goals as goal
 
 pub returns-clause-joined : goal.returns-clause-joined

@@ -1,5 +1,5 @@
--- The lemmas of `LongestLemmas`.
-use Rattle.tabled_size_wrap.proofs.LongestLemmas.{runs-are, runs-one}
+-- The lemmas of `Longest`.
+use Rattle.tabled_size_wrap.proofs.Longest.{runs-are, runs-one}
 use Rattle.tabled_size_wrap.proofs.laws.one_list_of_runs.Goals as goal
 
 pub returns-clause-there : goal.returns-clause-there

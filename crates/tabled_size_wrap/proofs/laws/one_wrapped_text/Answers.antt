@@ -1,5 +1,5 @@
--- The lemmas of `WrapLemmas`.
-use Rattle.tabled_size_wrap.proofs.WrapLemmas.{wrapped-there, wrapped-one}
+-- The lemmas of `Wraps`.
+use Rattle.tabled_size_wrap.proofs.Wraps.{wrapped-there, wrapped-one}
 use Rattle.tabled_size_wrap.proofs.laws.one_wrapped_text.Goals as goal
 
 pub returns-clause-there : goal.returns-clause-there

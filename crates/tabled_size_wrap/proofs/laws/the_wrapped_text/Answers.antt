@@ -1,5 +1,5 @@
--- The lemmas of `BytesLemmas`.
-use Rattle.tabled_size_wrap.proofs.BytesLemmas.{wrapped_text-meets, wrapped_text-one}
+-- The lemmas of `Bytes`.
+use Rattle.tabled_size_wrap.proofs.Bytes.{wrapped_text-meets, wrapped_text-one}
 use Rattle.tabled_size_wrap.proofs.laws.the_wrapped_text.Goals as goal
 
 pub returns-clause-meets : goal.returns-clause-meets

@@ -15,7 +15,7 @@ use Rattle.ansi_str_search.specs.PartsLeft.{first_match}
 use Rattle.ansi_str_search.proofs.MatchLists.{matches_from}
 use Rattle.ansi_str.specs.Cuts.{cut_part}
 use Rattle.grid_records_measure.specs.Cutting.{replacement}
-use Rattle.tabled_size_wrap.proofs.WorkedLemmas.{cuts-worked, wide-behind, wide-columns, wide-fitting_front}
+use Rattle.tabled_size_wrap.proofs.Worked.{cuts-worked, wide-behind, wide-columns, wide-fitting_front}
 use Rattle.tabled_size_wrap.proofs.laws.worked_cuts.Goals as goal
 
 pub returns-clause-all_sequences : goal.returns-clause-all_sequences

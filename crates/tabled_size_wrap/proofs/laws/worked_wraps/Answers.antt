@@ -15,8 +15,8 @@ use Rattle.ansi_scan.proofs.Existence.{ArePiecesOf-pieces}
 use Rattle.ansi_str_search.specs.PartsLeft.{first_match}
 use Rattle.ansi_str_search.proofs.MatchLists.{matches_from}
 use Rattle.tabled_size_wrap.specs.Units.{LineUnit}
-use Rattle.tabled_size_wrap.proofs.WorkedLemmas.{wide, wide-unit, line-worked, wraps-worked}
-use Rattle.tabled_size_wrap.proofs.BytesLemmas.{wrapped_text-one}
+use Rattle.tabled_size_wrap.proofs.Worked.{wide, wide-unit, line-worked, wraps-worked}
+use Rattle.tabled_size_wrap.proofs.Bytes.{wrapped_text-one}
 use Rattle.tabled_size_wrap.proofs.laws.worked_wraps.Goals as goal
 
 unit : List ℕ → ℕ → LineUnit

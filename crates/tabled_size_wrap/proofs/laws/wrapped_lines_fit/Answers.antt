@@ -1,5 +1,5 @@
--- A lemma of `WrappedLemmas`.
-use Rattle.tabled_size_wrap.proofs.WrappedLemmas.{wrapped-fits}
+-- A lemma of `Wrapped`.
+use Rattle.tabled_size_wrap.proofs.Wrapped.{wrapped-fits}
 use Rattle.tabled_size_wrap.proofs.laws.wrapped_lines_fit.Goals as goal
 
 pub returns : goal.returns

@@ -1,5 +1,5 @@
--- The lemmas of `WrappedLemmas`.
-use Rattle.tabled_size_wrap.proofs.WrappedLemmas.{wrapped-shows, wrapped-closed}
+-- The lemmas of `Wrapped`.
+use Rattle.tabled_size_wrap.proofs.Wrapped.{wrapped-shows, wrapped-closed}
 use Rattle.tabled_size_wrap.proofs.laws.wrapped_lines_show_their_runs.Goals as goal
 
 pub returns-clause-shown : goal.returns-clause-shown

@@ -1,5 +1,5 @@
--- A lemma of `WrappedLemmas`.
-use Rattle.tabled_size_wrap.proofs.WrappedLemmas.{wrapped-adds}
+-- A lemma of `Wrapped`.
+use Rattle.tabled_size_wrap.proofs.Wrapped.{wrapped-adds}
 use Rattle.tabled_size_wrap.proofs.laws.wrapping_adds_breaks.Goals as goal
 
 pub returns : goal.returns

@@ -13,9 +13,9 @@ use Rattle.tabled_size_wrap.specs.Bytes.{wrapped_text}
 use Rattle.tabled_size_wrap.specs.Runs.{broken_lines}
 use Rattle.tabled_size_wrap.specs.Wrapping.{IsWrapped}
 use Rattle.ansi_scan.proofs.Existence.{ArePiecesOf-pieces}
-use Rattle.tabled_size_wrap.proofs.BytesLemmas.{wrapped_text-one}
-use Rattle.tabled_size_wrap.proofs.PrintableLemmas.{printable-is_wrapped}
-use Rattle.tabled_size_wrap.proofs.WrapLemmas.{lines_left, line-more, line-last, next-line, is-wrapped, wrapped-nothing}
+use Rattle.tabled_size_wrap.proofs.Bytes.{wrapped_text-one}
+use Rattle.tabled_size_wrap.proofs.Printable.{printable-is_wrapped}
+use Rattle.tabled_size_wrap.proofs.Wraps.{lines_left, line-more, line-last, next-line, is-wrapped, wrapped-nothing}
 use Rattle.tabled_size_wrap.proofs.wrap.wrap_styled.Goals as goal
 use Rattle.tabled_size_wrap.proofs.wrap.wrap_styled.Goals.{then-begun+in_ok-push, else-begun}
 

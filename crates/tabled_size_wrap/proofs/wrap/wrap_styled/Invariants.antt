@@ -4,7 +4,7 @@ use Rattle.std.specs.List.{join_with_byte}
 use Rattle.ansi_scan.specs.Pieces.{pieces}
 use Rattle.grid_records_measure.specs.TextLines.{line_feed}
 use Rattle.tabled_size_wrap.specs.Runs.{broken_lines}
-use Rattle.tabled_size_wrap.proofs.WrapLemmas.{lines_left}
+use Rattle.tabled_size_wrap.proofs.Wraps.{lines_left}
 use Rattle.tabled_size_wrap.proofs.wrap.wrap_styled.Given as goal
 
 abbrev pub invariant-loop-line : goal.invariant-loop-line

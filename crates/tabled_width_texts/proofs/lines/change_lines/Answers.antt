@@ -5,7 +5,7 @@ use Rattle.ansi_scan.specs.Pieces.{pieces}
 use Rattle.ansi_scan.proofs.Existence.{ArePiecesOf-pieces}
 use Rattle.ansi_str.specs.Splitting.{PartsLeft}
 use Rattle.grid_records_measure.specs.TextLines.{line_feed}
-use Rattle.grid_records_measure.proofs.TextLineLemmas.{text_lines-one}
+use Rattle.grid_records_measure.proofs.TextLines.{text_lines-one}
 use Rattle.tabled_width_texts.specs.Filling.{separated}
 use Rattle.tabled_width_texts.proofs.Lining.{line-last, line-more, lines_left, next-line}
 use Rattle.tabled_width_texts.proofs.lines.change_lines.Goals as goal

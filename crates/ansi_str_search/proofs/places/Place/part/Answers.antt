@@ -3,7 +3,7 @@ use Rattle.std.proofs.Common.{◌≡◌, ◌∙◌, true, false}
 use Rattle.ansi_scan.specs.Sequences.{joined}
 use Rattle.ansi_scan.specs.Pieces.{pieces}
 use Rattle.ansi_str_search.specs.Parts.{through_place}
-use Rattle.ansi_str_search.proofs.RestLemmas.{rest_slice, slice_part, plain-end}
+use Rattle.ansi_str_search.proofs.Rests.{rest_slice, slice_part, plain-end}
 use Rattle.ansi_str_search.proofs.places.Place.part.Goals as goal
 
 pub part_to-requires : goal.part_to-requires

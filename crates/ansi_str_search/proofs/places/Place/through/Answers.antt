@@ -1,5 +1,5 @@
 -- Behind the place, the sequences there are passed.
-use Rattle.ansi_str_search.proofs.RestLemmas.{rest_slice, slice-style}
+use Rattle.ansi_str_search.proofs.Rests.{rest_slice, slice-style}
 use Rattle.ansi_str_search.proofs.places.Place.through.Goals as goal
 
 pub returns-clause-style : goal.returns-clause-style

@@ -1,7 +1,7 @@
 -- A step over a sequence and the bytes of text behind it.
 use Rattle.std.proofs.Common.{◌∙◌, sym}
 use Rattle.ansi_str_search.proofs.Walks.{escape_first}
-use Rattle.ansi_str_search.proofs.FindLemmas.{other_boundary}
+use Rattle.ansi_str_search.proofs.Finds.{other_boundary}
 use Rattle.ansi_str_search.proofs.Landing.{SameLanding-same, SameLanding-left, SameLanding-sequence, run_over, Lands-end}
 use Rattle.ansi_str_search.proofs.places.Place.to_byte.Goals as goal
 

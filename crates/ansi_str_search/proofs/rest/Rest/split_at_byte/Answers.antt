@@ -7,8 +7,8 @@ use Rattle.ansi_scan.specs.Pieces.{pieces}
 use Rattle.ansi_str_search.specs.Parts.{through_place}
 use Rattle.ansi_str_search.specs.PartsLeft.{parts_left}
 use Rattle.ansi_str_search.specs.Walking.{bytes_to}
-use Rattle.ansi_str_search.proofs.FindLemmas.{not_empty}
-use Rattle.ansi_str_search.proofs.RestLemmas.{left-no_escape}
+use Rattle.ansi_str_search.proofs.Finds.{not_empty}
+use Rattle.ansi_str_search.proofs.Rests.{left-no_escape}
 use Rattle.ansi_str_search.proofs.ByteParts.{byte-slice, byte-part, byte-plain, byte-there, byte-known, byte-next, byte-last}
 use Rattle.ansi_str_search.proofs.rest.Rest.split_at_byte.Goals as goal
 

@@ -3,8 +3,8 @@ use Rattle.std.proofs.lemmas.Option.{slice_get_past}
 use Rattle.grid_records_traits.specs.PlainRows.{texts_at}
 use Rattle.columns_table.specs.Cells.{cell_of}
 use Rattle.columns_table.specs.CellRows.{row_cells}
-use Rattle.columns_table.proofs.CellLemmas.{get-some}
-use Rattle.columns_table.proofs.StartLemmas.{slice_get-texts}
+use Rattle.columns_table.proofs.Cells.{get-some}
+use Rattle.columns_table.proofs.Starts.{slice_get-texts}
 use Rattle.columns_table.proofs.cell_row.CellRow.get.Goals as goal
 
 pub returns-then-column-len : goal.returns-then-column-len

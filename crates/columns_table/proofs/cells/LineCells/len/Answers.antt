@@ -1,10 +1,10 @@
 use Rattle.std.proofs.Common.{◌≡◌, ◌-◌, length, ap, ◌∙◌, arith}
 use Rattle.std.specs.Prelude.{List}
 use Rattle.grid_records_traits.specs.PlainRows.{texts_at}
-use Rattle.grid_records_traits.proofs.StartLemmas.{length-texts_at}
+use Rattle.grid_records_traits.proofs.Starts.{length-texts_at}
 use Rattle.columns_table.specs.Cells.{cells_of}
 use Rattle.columns_table.specs.declared.cells.LineCell.{LineCell}
-use Rattle.columns_table.proofs.CellLemmas.{length-cells}
+use Rattle.columns_table.proofs.Cells.{length-cells}
 use Rattle.columns_table.proofs.cells.LineCells.len.Goals as goal
 
 pub returns : goal.returns

@@ -1,6 +1,6 @@
 use Rattle.std.proofs.Common.{ap, sym, subst, ◌∙◌}
 use Rattle.columns_table.specs.Ends.{AreCellEnds, cells_in}
-use Rattle.columns_table.proofs.KeptEndLemmas.{cells-in, starts-in}
+use Rattle.columns_table.proofs.KeptEnds.{cells-in, starts-in}
 use Rattle.columns_table.proofs.cells.LineCells.of.Goals as goal
 
 pub invariant_of-result : goal.invariant_of-result

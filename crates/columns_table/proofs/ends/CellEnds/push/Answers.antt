@@ -1,6 +1,6 @@
 use Rattle.std.proofs.Common.{◌≡◌, ◌==◌, ◌-◌, ◌++◌, ◌∷◌, [], get_or, length, ap, ◌∙◌, arith}
 use Rattle.std.proofs.lemmas.Grind.{get_or_default_zero}
-use Rattle.columns_table.proofs.KeptEndLemmas.{bytes-more}
+use Rattle.columns_table.proofs.KeptEnds.{bytes-more}
 use Rattle.columns_table.proofs.ends.CellEnds.push.Goals as goal
 
 pub returns-then-cell-saturating_sub-clause-more : goal.returns-then-cell-saturating_sub-clause-more

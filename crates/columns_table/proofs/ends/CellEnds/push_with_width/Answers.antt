@@ -1,6 +1,6 @@
 use Rattle.std.proofs.Common.{◌≡◌, ◌+◌, ◌++◌, ◌∷◌, [], length, ap, ◌∙◌, sym}
 use Rattle.columns_table.specs.KeptEnds.{ends_of}
-use Rattle.columns_table.proofs.KeptEndLemmas.{width-more}
+use Rattle.columns_table.proofs.KeptEnds.{width-more}
 use Rattle.columns_table.proofs.ends.CellEnds.push_with_width.Goals as goal
 
 pub returns-in-Ok-clause-more : goal.returns-in-Ok-clause-more

@@ -1,9 +1,9 @@
 use Rattle.std.proofs.Common.{◌≤◌, All, length, map, ap, sym, subst, ◌∙◌, arith}
 use Rattle.grid_records_traits.specs.PlainRows.{texts_at}
-use Rattle.grid_records_traits.proofs.StartLemmas.{length-texts_at}
+use Rattle.grid_records_traits.proofs.Starts.{length-texts_at}
 use Rattle.columns_table.specs.Records.{KeepsWidth}
-use Rattle.columns_table.proofs.CellLemmas.{plain-cells, texts-cells}
-use Rattle.columns_table.proofs.PlacedLemmas.{row-keeps, row-texts}
+use Rattle.columns_table.proofs.Cells.{plain-cells, texts-cells}
+use Rattle.columns_table.proofs.Placed.{row-keeps, row-texts}
 use Rattle.columns_table.proofs.placed.PlacedRowsPeekableRecords.plain_row.Goals as goal
 
 pub new-requires-clause-plain : goal.new-requires-clause-plain

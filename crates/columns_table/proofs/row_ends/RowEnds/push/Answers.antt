@@ -3,7 +3,7 @@ use Rattle.std.proofs.lemmas.Grind.{get_or_default_zero}
 use Rattle.std.proofs.lemmas.List.{length-map, map_push}
 use Rattle.columns_table.specs.Columns.{AreWidest, end_widths}
 use Rattle.columns_table.specs.declared.ends.CellEnd.{CellEnd}
-use Rattle.columns_table.proofs.WidestLemmas.{AreWidest-more, AreWidest-wider, begun-within}
+use Rattle.columns_table.proofs.Widest.{AreWidest-more, AreWidest-wider, begun-within}
 use Rattle.columns_table.proofs.row_ends.RowEnds.push.Goals as goal
 use Rattle.columns_table.proofs.row_ends.RowEnds.push.Goals.{Joined-column-len, then-column-len+in_ok-push, else-column-len}
 

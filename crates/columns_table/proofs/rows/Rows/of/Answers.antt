@@ -4,8 +4,8 @@ use Rattle.columns_table.specs.Columns.{AreWidest, cell_widths, end_widths}
 use Rattle.columns_table.specs.RowEnds.{EndedRows}
 use Rattle.columns_table.specs.declared.cells.LineCell.{LineCell}
 use Rattle.columns_table.specs.declared.ends.CellEnd.{CellEnd}
-use Rattle.columns_table.proofs.EndLemmas.{length-cells_in}
-use Rattle.columns_table.proofs.WidestLemmas.{AreWidest-all, widths-in}
+use Rattle.columns_table.proofs.Ends.{length-cells_in}
+use Rattle.columns_table.proofs.Widest.{AreWidest-all, widths-in}
 use Rattle.columns_table.proofs.rows.Rows.of.Goals as goal
 
 pub invariant_of-result : goal.invariant_of-result

@@ -1,7 +1,7 @@
 use Rattle.std.proofs.Common.{◌≡◌, ℕ, ◌==◌, if◌then◌else◌, max, ◌∷◌, [], ◌++◌, get_or, ap, ◌∙◌}
 use Rattle.grid_records_estimate.specs.Collecting.{Collected, is_of_one_track}
-use Rattle.grid_records_estimate.proofs.CollectLemmas.{HasCollected-other, HasCollected-plain, from_None, from_Some}
-use Rattle.grid_records_estimate.proofs.MeetLemmas.{OnOk-implies}
+use Rattle.grid_records_estimate.proofs.Collects.{HasCollected-other, HasCollected-plain, from_None, from_Some}
+use Rattle.grid_records_estimate.proofs.Meets.{OnOk-implies}
 use Rattle.grid_records_estimate.proofs.collector.Collector.add.Goals as goal
 
 pub returns-in-Some-clause-ok : goal.returns-in-Some-clause-ok

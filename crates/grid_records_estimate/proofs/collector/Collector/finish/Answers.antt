@@ -2,8 +2,8 @@ use Rattle.std.proofs.Common.{◌≡◌, ℕ, List, length, refl, ap, sym, ◌�
 use Rattle.std.proofs.lemmas.List.{with_items_is}
 use Rattle.grid_records_estimate.specs.declared.need.Need.{Need}
 use Rattle.grid_records_estimate.specs.Collecting.{AreFirstBelow, AreInside, Collected, Describes, HasBetween, PassesMax}
-use Rattle.grid_records_estimate.proofs.FinishLemmas.{not_crossed, ordered-inside, sizes-finished}
-use Rattle.grid_records_estimate.proofs.MeetLemmas.{IfErr-told}
+use Rattle.grid_records_estimate.proofs.Finishes.{not_crossed, ordered-inside, sizes-finished}
+use Rattle.grid_records_estimate.proofs.Meets.{IfErr-told}
 use Rattle.grid_records_estimate.proofs.collector.Collector.finish.Goals as goal
 
 pub returns-then-crossings-eq0-clause-ok : goal.returns-then-crossings-eq0-clause-ok

@@ -1,8 +1,8 @@
 use Rattle.std.proofs.Common.{◌≡◌, inl, inr}
 use Rattle.grid_records_estimate.specs.Collecting.{PassesMax}
 use Rattle.grid_records_estimate.specs.Sizes.{IsRefusal}
-use Rattle.grid_records_estimate.proofs.MeetLemmas.{IfErr-told}
-use Rattle.grid_records_estimate.proofs.SizeLemmas.{IsRefusal-implies, by_columns, by_rows, first-columns, first-rows}
+use Rattle.grid_records_estimate.proofs.Meets.{IfErr-told}
+use Rattle.grid_records_estimate.proofs.Sizes.{IsRefusal-implies, by_columns, by_rows, first-columns, first-rows}
 use Rattle.grid_records_estimate.proofs.dimension.GridDimension.dimension.Goals as goal
 
 pub finish-requires : goal.finish-requires

@@ -2,7 +2,7 @@ use Rattle.std.proofs.Common.{◌≡◌}
 use Rattle.std.specs.Prelude.{IfErr, IfOk}
 use Rattle.grid_records_estimate.specs.Collecting.{PassesMax}
 use Rattle.grid_records_estimate.specs.Sizes.{IsRefusal}
-use Rattle.grid_records_estimate.proofs.SizeLemmas.{by_columns, first-columns}
+use Rattle.grid_records_estimate.proofs.Sizes.{by_columns, first-columns}
 use Rattle.grid_records_estimate.proofs.dimension.GridDimension.width.Goals as goal
 
 pub finish-requires : goal.finish-requires

@@ -2,7 +2,7 @@ use Rattle.std.proofs.Common.{◌≡◌, ◌≤◌, ◌^◌, ◌∙◌, inr}
 use Rattle.std.specs.Prelude.{IfErr, IfOk}
 use Rattle.std.proofs.lemmas.Result.{IfErr-weaker}
 use Rattle.grid_records_estimate.specs.Sizes.{IsRefusal}
-use Rattle.grid_records_estimate.proofs.SizeLemmas.{total-widths}
+use Rattle.grid_records_estimate.proofs.Sizes.{total-widths}
 use Rattle.grid_records_estimate.proofs.dimension.GridDimension.width_total.Goals as goal
 
 pub returns-clause-ok : goal.returns-clause-ok

@@ -2,7 +2,7 @@ use Rattle.std.proofs.Common.{◌∙◌}
 use Rattle.std.specs.Cow.{cow_str_bytes}
 use Rattle.ansi_scan.specs.Pieces.{pieces}
 use Rattle.ansi_scan.proofs.Existence.{ArePiecesOf-pieces}
-use Rattle.grid_records_measure.proofs.TrimmedLemmas.{trimmed-one}
+use Rattle.grid_records_measure.proofs.Trimmed.{trimmed-one}
 use Rattle.papergrid_cells.proofs.cell_lines.reading.owned_trim.Goals as goal
 
 pub returns : goal.returns

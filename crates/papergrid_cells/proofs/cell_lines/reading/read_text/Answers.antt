@@ -1,7 +1,7 @@
 use Rattle.std.proofs.Common.{rules, ◌≡◌, ◌∙◌, false, ap, sym}
 use Rattle.ansi_str.specs.StyledText.{has_escape}
 use Rattle.papergrid_picture.specs.CellLines.{cell_lines, cell_measures}
-use Rattle.papergrid_cells.proofs.PlainLineLemmas.{cell_lines-plain, cell_measures-plain}
+use Rattle.papergrid_cells.proofs.PlainLines.{cell_lines-plain, cell_measures-plain}
 use Rattle.papergrid_cells.proofs.cell_lines.reading.read_text.Goals as goal
 
 pub returns-clause-lines : goal.returns-clause-lines

@@ -1,7 +1,7 @@
 use Rattle.std.proofs.Common.{◌≡◌, ◌+◌, ◌++◌, ◌∷◌, [], drop, get_or, length, ap, sym, ◌∙◌, arith, append_assoc}
 use Rattle.papergrid_cells.specs.Flat.{empty_from, joints_of, room_in, rooms_from}
 use Rattle.papergrid_cells.specs.declared.empty_row.Room.{Room}
-use Rattle.papergrid_cells.proofs.EmptyRowLemmas.{length-more, rooms-more}
+use Rattle.papergrid_cells.proofs.EmptyRows.{length-more, rooms-more}
 use Rattle.papergrid_cells.proofs.flat.FlatRows.rooms.Goals as goal
 
 pub overflow_sub-rest : goal.overflow_sub-rest

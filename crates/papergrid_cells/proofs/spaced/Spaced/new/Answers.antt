@@ -1,6 +1,6 @@
 use Rattle.std.proofs.Common.{◌≡◌, ◌++◌, ap, string_bytes, ◌∙◌}
 use Rattle.papergrid_cells.specs.Painting.{fill_bytes}
-use Rattle.papergrid_cells.proofs.SpaceLemmas.{spaced-made}
+use Rattle.papergrid_cells.proofs.Spaces.{spaced-made}
 use Rattle.papergrid_cells.proofs.spaced.Spaced.new.Goals as goal
 
 pub invariant_of-result : goal.invariant_of-result

@@ -1,5 +1,5 @@
 use Rattle.std.proofs.Common.{◌++◌, ◌-◌, ap, string_bytes, ◌∙◌, drop}
-use Rattle.papergrid_cells.proofs.SpaceLemmas.{last-spaces}
+use Rattle.papergrid_cells.proofs.Spaces.{last-spaces}
 use Rattle.papergrid_cells.proofs.spaced.Spaced.push_behind.Goals as goal
 
 pub returns-then-spaces-self : goal.returns-then-spaces-self

@@ -1,14 +1,14 @@
 use Rattle.std.proofs.Common.{◌≡◌, ◌+◌, ◌≤◌, ◌∙◌, ℕ, [], Err, ap, length, subst, arith}
 use Rattle.papergrid_picture.specs.Frame.{boundary_at, track_at}
-use Rattle.papergrid_picture.proofs.FrameLemmas.{boundary-first}
+use Rattle.papergrid_picture.proofs.Frames.{boundary-first}
 use Rattle.papergrid_print.specs.Chosen.{Chooses, chosen_lines}
 use Rattle.papergrid_print.specs.Sheets.{row_tracks, table_sheet}
 use Rattle.tabled_output.specs.Pieces.{HasPassed}
-use Rattle.papergrid_print.proofs.ChoosingLemmas.{chosen-then, none-yet, passed-then, stopped-then}
-use Rattle.papergrid_print.proofs.PlaceLemmas.{row-end}
-use Rattle.papergrid_print.proofs.SeenLemmas.{none-seen-below}
-use Rattle.papergrid_print.proofs.TableLemmas.{row-within}
-use Rattle.papergrid_print.proofs.WriteLemmas.{boundary-within}
+use Rattle.papergrid_print.proofs.Choosing.{chosen-then, none-yet, passed-then, stopped-then}
+use Rattle.papergrid_print.proofs.Places.{row-end}
+use Rattle.papergrid_print.proofs.Seen.{none-seen-below}
+use Rattle.papergrid_print.proofs.Tables.{row-within}
+use Rattle.papergrid_print.proofs.Writes.{boundary-within}
 use Rattle.papergrid_print.proofs.table.Table.choose_all_rows.Goals as goal
 
 pub choose_boundary-requires-clause-range : goal.choose_boundary-requires-clause-range

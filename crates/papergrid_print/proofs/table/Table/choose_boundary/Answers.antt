@@ -1,11 +1,11 @@
 use Rattle.std.proofs.Common.{◌≡◌, ◌+◌, ◌<◌, ◌≤◌, [], true, ap, sym, ◌∙◌, string_bytes, subst, arith}
 use Rattle.papergrid_picture.specs.Frame.{Boundary, boundary_at, place, track_at}
-use Rattle.papergrid_picture.proofs.FrameLemmas.{place-boundary}
+use Rattle.papergrid_picture.proofs.Frames.{place-boundary}
 use Rattle.papergrid_print.specs.Chosen.{chosen_lines}
 use Rattle.papergrid_print.specs.Sheets.{line_at, row_tracks, table_sheet}
 use Rattle.tabled_output.specs.Pieces.{HasPassed}
-use Rattle.papergrid_print.proofs.ChoosingLemmas.{no-memory, no-writer, none-wanted, none-yet, one-more, printed-alone}
-use Rattle.papergrid_print.proofs.PlaceLemmas.{boundary-there}
+use Rattle.papergrid_print.proofs.Choosing.{no-memory, no-writer, none-wanted, none-yet, one-more, printed-alone}
+use Rattle.papergrid_print.proofs.Places.{boundary-there}
 use Rattle.papergrid_print.proofs.table.Table.choose_boundary.Goals as goal
 
 pub returns-then-not-is_wanted-clause-lines : goal.returns-then-not-is_wanted-clause-lines

@@ -1,12 +1,12 @@
 use Rattle.std.proofs.Common.{◌≡◌, ◌+◌, ◌≤◌, ◌∙◌, ℕ, [], ap, length, subst, sym, arith}
 use Rattle.papergrid_picture.specs.Frame.{boundary_at, line_count, track_at}
-use Rattle.papergrid_picture.proofs.FrameLemmas.{boundary-first, place-above, place-below}
+use Rattle.papergrid_picture.proofs.Frames.{boundary-first, place-above, place-below}
 use Rattle.papergrid_cells.specs.Painting.{colored, fill_bytes}
 use Rattle.papergrid_print.specs.Chosen.{Chooses, chosen_lines}
 use Rattle.papergrid_print.specs.Sheets.{grid_of, row_tracks, table_sheet}
 use Rattle.tabled_output.specs.Pieces.{HasPassed}
-use Rattle.papergrid_print.proofs.ChoosingLemmas.{chosen-then, none-yet, passed-then, stopped-then}
-use Rattle.papergrid_print.proofs.TableLemmas.{below-shows, lines-fit, top-within}
+use Rattle.papergrid_print.proofs.Choosing.{chosen-then, none-yet, passed-then, stopped-then}
+use Rattle.papergrid_print.proofs.Tables.{below-shows, lines-fit, top-within}
 use Rattle.papergrid_print.proofs.table.Table.choose_lines.Goals as goal
 
 pub choose_margin-requires-clause-outside : goal.choose_margin-requires-clause-outside

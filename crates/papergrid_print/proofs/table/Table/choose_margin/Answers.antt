@@ -3,7 +3,7 @@ use Rattle.papergrid_picture.specs.Frame.{Outside}
 use Rattle.papergrid_print.specs.Chosen.{chosen_lines}
 use Rattle.papergrid_print.specs.Sheets.{table_sheet}
 use Rattle.tabled_output.specs.Pieces.{HasPassed}
-use Rattle.papergrid_print.proofs.ChoosingLemmas.{at-place, no-memory, no-writer, none-wanted, none-yet, one-more, printed-alone}
+use Rattle.papergrid_print.proofs.Choosing.{at-place, no-memory, no-writer, none-wanted, none-yet, one-more, printed-alone}
 use Rattle.papergrid_print.proofs.table.Table.choose_margin.Goals as goal
 
 pub returns-then-not-is_wanted-clause-lines : goal.returns-then-not-is_wanted-clause-lines

@@ -3,9 +3,9 @@ use Rattle.papergrid_picture.specs.Frame.{boundary_at}
 use Rattle.papergrid_cells.specs.Flat.{AreMadeFor}
 use Rattle.papergrid_cells.specs.declared.flat.FlatRows.{FlatRows}
 use Rattle.papergrid_print.specs.Sheets.{row_tracks, table_sheet}
-use Rattle.papergrid_print.proofs.ChoosingLemmas.{no-memory, none-yet, on-ok}
-use Rattle.papergrid_print.proofs.FlatLemmas.{none-goes-on}
-use Rattle.papergrid_print.proofs.PlaceLemmas.{row-end}
+use Rattle.papergrid_print.proofs.Choosing.{no-memory, none-yet, on-ok}
+use Rattle.papergrid_print.proofs.Flat.{none-goes-on}
+use Rattle.papergrid_print.proofs.Places.{row-end}
 use Rattle.papergrid_print.proofs.table.Table.choose_next_row.Goals as goal
 
 pub returns-in-Some-clause-goes_on : goal.returns-in-Some-clause-goes_on

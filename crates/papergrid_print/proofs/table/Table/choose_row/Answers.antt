@@ -1,11 +1,11 @@
 use Rattle.std.proofs.Common.{◌≡◌, ◌+◌, ◌<◌, ◌≤◌, [], sym, ◌∙◌, string_bytes, subst, arith}
 use Rattle.papergrid_picture.specs.Frame.{Row, boundary_at}
-use Rattle.papergrid_picture.proofs.FrameLemmas.{place-row}
+use Rattle.papergrid_picture.proofs.Frames.{place-row}
 use Rattle.papergrid_print.specs.Chosen.{chosen_lines}
 use Rattle.papergrid_print.specs.Sheets.{line_at, row_tracks, table_sheet}
 use Rattle.tabled_output.specs.Pieces.{HasPassed}
-use Rattle.papergrid_print.proofs.ChoosingLemmas.{no-memory, no-writer, none-wanted, none-yet, one-more, printed-alone}
-use Rattle.papergrid_print.proofs.PlaceLemmas.{row-end, row-fits}
+use Rattle.papergrid_print.proofs.Choosing.{no-memory, no-writer, none-wanted, none-yet, one-more, printed-alone}
+use Rattle.papergrid_print.proofs.Places.{row-end, row-fits}
 use Rattle.papergrid_print.proofs.table.Table.choose_row.Goals as goal
 
 pub overflow_add-end : goal.overflow_add-end

@@ -1,8 +1,8 @@
 use Rattle.std.proofs.Common.{◌≤◌, length, arith}
 use Rattle.papergrid_picture.specs.Frame.{boundary_at, track_at}
 use Rattle.papergrid_print.specs.Sheets.{row_tracks, table_sheet}
-use Rattle.papergrid_print.proofs.ChoosingLemmas.{no-memory, none-yet}
-use Rattle.papergrid_print.proofs.WriteLemmas.{boundary-within}
+use Rattle.papergrid_print.proofs.Choosing.{no-memory, none-yet}
+use Rattle.papergrid_print.proofs.Writes.{boundary-within}
 use Rattle.papergrid_print.proofs.table.Table.choose_rows.Goals as goal
 
 pub returns-in_err-flat-clause-lines : goal.returns-in_err-flat-clause-lines

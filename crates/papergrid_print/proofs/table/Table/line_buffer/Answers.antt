@@ -1,6 +1,6 @@
 use Rattle.std.proofs.Common.{arith}
 use Rattle.papergrid_print.specs.Sheets.{table_sheet}
-use Rattle.papergrid_print.proofs.TableLemmas.{columns-fit}
+use Rattle.papergrid_print.proofs.Tables.{columns-fit}
 use Rattle.papergrid_print.proofs.table.Table.line_buffer.Goals as goal
 
 pub total_width-requires-clause-range : goal.total_width-requires-clause-range

@@ -2,7 +2,7 @@ use Rattle.std.proofs.Common.{◌≡◌, ◌<◌, length, refl, ap, sym, ◌∙�
 use Rattle.grid_config_spans.specs.Owners.{owner}
 use Rattle.grid_config_spans.specs.Spans.{extent_at}
 use Rattle.papergrid_print.specs.Sheets.{IsOpen, table_sheet}
-use Rattle.papergrid_print.proofs.OpenLemmas.{open-goes-on, opens, stays}
+use Rattle.papergrid_print.proofs.Open.{open-goes-on, opens, stays}
 use Rattle.papergrid_print.proofs.table.Table.open_row.Goals.{then-eq+in_ok-open_cell+in-Some-1, then-eq+in_ok-open_cell+in-None-1, else-eq}
 use Rattle.papergrid_print.proofs.table.Table.open_row.Goals as goal
 

@@ -1,5 +1,5 @@
 use Rattle.papergrid_print.specs.Sheets.{table_sheet}
-use Rattle.papergrid_print.proofs.OpenLemmas.{IsOpening}
+use Rattle.papergrid_print.proofs.Open.{IsOpening}
 use Rattle.papergrid_print.proofs.table.Table.open_row.Given as goal
 
 abbrev pub invariant-loop-j : goal.invariant-loop-j

@@ -1,8 +1,8 @@
 use Rattle.std.proofs.Common.{◌≡◌, ◌∙◌, ◌++◌, true, sym, string_bytes}
 use Rattle.papergrid_picture.specs.Frame.{Boundary}
 use Rattle.papergrid_print.specs.Sheets.{feed_before, line_at, row_tracks, table_sheet}
-use Rattle.papergrid_print.proofs.PlaceLemmas.{boundary-more}
-use Rattle.papergrid_print.proofs.WriteLemmas.{behind}
+use Rattle.papergrid_print.proofs.Places.{boundary-more}
+use Rattle.papergrid_print.proofs.Writes.{behind}
 use Rattle.papergrid_print.proofs.table.Table.push_boundary.Goals as goal
 
 pub returns-clause-lines : goal.returns-clause-lines

@@ -8,7 +8,7 @@ use Rattle.papergrid_picture.specs.Reading.{line_items}
 use Rattle.papergrid_cells.specs.Painting.{bare, colored, fill_bytes, glyph_part}
 use Rattle.papergrid_cells.specs.declared.painting.GlyphRun.{GlyphRun}
 use Rattle.papergrid_print.specs.Sheets.{bytes_of, grid_of, table_sheet}
-use Rattle.papergrid_print.proofs.BoundaryLemmas.{boundary-line, boundary_start, boundary_start-more}
+use Rattle.papergrid_print.proofs.Boundaries.{boundary-line, boundary_start, boundary_start-more}
 use Rattle.papergrid_print.proofs.table.Table.push_boundary_line.Goals as goal
 
 pub loop-j-preserved : goal.loop-j-preserved

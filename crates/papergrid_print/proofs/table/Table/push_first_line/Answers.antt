@@ -9,9 +9,9 @@ use Rattle.papergrid_picture.specs.Blocks.{greatest}
 use Rattle.papergrid_cells.specs.Flat.{behind_text, placed, standing_of}
 use Rattle.papergrid_print.specs.Sheets.{bytes_of, grid_of, table_sheet}
 use Rattle.std.specs.Prelude.{slice_index}
-use Rattle.papergrid_print.proofs.FlatLemmas.{line-is, measured, widest-is}
-use Rattle.papergrid_cells.proofs.PlainLineLemmas.{plain-line}
-use Rattle.papergrid_print.proofs.PlacedLemmas.{plain-placed}
+use Rattle.papergrid_print.proofs.Flat.{line-is, measured, widest-is}
+use Rattle.papergrid_cells.proofs.PlainLines.{plain-line}
+use Rattle.papergrid_print.proofs.Placed.{plain-placed}
 use Rattle.papergrid_print.proofs.table.Table.push_first_line.Goals as goal
 
 pub returns : goal.returns

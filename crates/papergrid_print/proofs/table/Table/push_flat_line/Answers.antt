@@ -3,7 +3,7 @@ use Rattle.papergrid_cells.specs.Flat.{behind_text, standing_of}
 use Rattle.papergrid_print.specs.FlatSheets.{first_placed}
 use Rattle.papergrid_picture.specs.Picture.{at}
 use Rattle.papergrid_print.specs.Sheets.{table_sheet}
-use Rattle.papergrid_print.proofs.FlatLemmas.{flat-begins, flat-ends, flat-more}
+use Rattle.papergrid_print.proofs.Flat.{flat-begins, flat-ends, flat-more}
 use Rattle.papergrid_print.proofs.table.Table.push_flat_line.Goals as goal
 
 pub loop-j-init : goal.loop-j-init

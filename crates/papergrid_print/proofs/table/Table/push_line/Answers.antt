@@ -2,8 +2,8 @@ use Rattle.std.proofs.Common.{◌≡◌, ◌<◌, ◌+◌, ◌^◌, ◌++◌, �
 use Rattle.std.proofs.lemmas.Result.{on_ok_weaker}
 use Rattle.papergrid_picture.specs.Frame.{boundary_at, track_at}
 use Rattle.papergrid_print.specs.Sheets.{place_line, row_tracks, table_sheet}
-use Rattle.papergrid_print.proofs.PlaceLemmas.{row-end, row-fits}
-use Rattle.papergrid_print.proofs.TableLemmas.{lines-fit}
+use Rattle.papergrid_print.proofs.Places.{row-end, row-fits}
+use Rattle.papergrid_print.proofs.Tables.{lines-fit}
 use Rattle.papergrid_print.proofs.table.Table.push_line.Goals as goal
 
 pub overflow_add-end : goal.overflow_add-end

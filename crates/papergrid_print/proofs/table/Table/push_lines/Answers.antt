@@ -2,7 +2,7 @@ use Rattle.std.proofs.Common.{◌≤◌, ◌+◌, ◌-◌, ◌*◌, length, ap, 
 use Rattle.papergrid_picture.specs.Frame.{line_count, track_at}
 use Rattle.papergrid_cells.specs.Painting.{colored, fill_bytes}
 use Rattle.papergrid_print.specs.Sheets.{grid_of, row_tracks, table_sheet}
-use Rattle.papergrid_print.proofs.TableLemmas.{below-shows, top-within}
+use Rattle.papergrid_print.proofs.Tables.{below-shows, top-within}
 use Rattle.papergrid_print.proofs.table.Table.push_lines.Goals as goal
 
 pub reserve-requires : goal.reserve-requires

@@ -1,7 +1,7 @@
 use Rattle.std.proofs.Common.{◌≡◌, ◌+◌, ◌∙◌, ◌++◌, ap, sym, string_bytes, arith, refl}
 use Rattle.papergrid_picture.specs.Frame.{place}
 use Rattle.papergrid_print.specs.Sheets.{lines_of, row_tracks, table_sheet}
-use Rattle.papergrid_print.proofs.PlaceLemmas.{line-more}
+use Rattle.papergrid_print.proofs.Places.{line-more}
 use Rattle.papergrid_print.proofs.table.Table.push_margin.Goals as goal
 
 pub loop-line-preserved : goal.loop-line-preserved

@@ -3,8 +3,8 @@ use Rattle.papergrid_picture.specs.Frame.{Row, boundary_at, track_at}
 use Rattle.papergrid_cells.specs.Flat.{AreMadeFor}
 use Rattle.papergrid_print.specs.Sheets.{line_at, lines_of, row_tracks, table_sheet}
 use Rattle.papergrid_cells.specs.declared.flat.FlatRows.{FlatRows}
-use Rattle.papergrid_print.proofs.FlatLemmas.{none-goes-on}
-use Rattle.papergrid_print.proofs.PlaceLemmas.{row-end, row-fits, row-more}
+use Rattle.papergrid_print.proofs.Flat.{none-goes-on}
+use Rattle.papergrid_print.proofs.Places.{row-end, row-fits, row-more}
 use Rattle.papergrid_print.proofs.table.Table.push_next_row.Goals as goal
 
 pub overflow_add-result : goal.overflow_add-result

@@ -10,8 +10,8 @@ use Rattle.papergrid_cells.specs.Flat.{joints_of, room_in, standing_of}
 use Rattle.papergrid_print.specs.FlatSheets.{first_placed}
 use Rattle.papergrid_cells.specs.Painting.{colored, fill_bytes}
 use Rattle.papergrid_print.specs.Sheets.{table_sheet}
-use Rattle.papergrid_cells.proofs.EmptyRowLemmas.{end-inside, front-inside, length-rooms, none-of, placed-colored, placed-plain, rest-inside, room-inside, room-wide, split-begin, split-behind, split-front, split-line, split-text, taken, text-inside, text-over, text-put}
-use Rattle.papergrid_print.proofs.PlacedLemmas.{plain-placed, written-more}
+use Rattle.papergrid_cells.proofs.EmptyRows.{end-inside, front-inside, length-rooms, none-of, placed-colored, placed-plain, rest-inside, room-inside, room-wide, split-begin, split-behind, split-front, split-line, split-text, taken, text-inside, text-over, text-put}
+use Rattle.papergrid_print.proofs.Placed.{plain-placed, written-more}
 use Rattle.papergrid_print.proofs.table.Table.push_over.Goals as goal
 
 pub index-requires : goal.index-requires

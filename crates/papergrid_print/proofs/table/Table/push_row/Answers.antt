@@ -1,7 +1,7 @@
 use Rattle.std.proofs.Common.{◌≡◌, ◌+◌, ◌<◌, ◌≤◌, ◌∙◌, ap, get_or, string_bytes, arith}
 use Rattle.papergrid_picture.specs.Frame.{boundary_at, track_at}
 use Rattle.papergrid_print.specs.Sheets.{lines_of, row_tracks, table_sheet}
-use Rattle.papergrid_print.proofs.PlaceLemmas.{row-end, row-fits, row-more}
+use Rattle.papergrid_print.proofs.Places.{row-end, row-fits, row-more}
 use Rattle.papergrid_print.proofs.table.Table.push_row.Goals as goal
 
 pub overflow_add-end : goal.overflow_add-end

@@ -1,9 +1,9 @@
 use Rattle.std.proofs.Common.{◌≡◌, ◌≤◌, ◌<◌, ◌+◌, length, ap, arith}
 use Rattle.std.proofs.lemmas.Nat.{mul-le}
 use Rattle.papergrid_picture.specs.Frame.{boundary_at, line_count}
-use Rattle.papergrid_picture.proofs.FrameLemmas.{boundary-first, boundary-next}
+use Rattle.papergrid_picture.proofs.Frames.{boundary-first, boundary-next}
 use Rattle.papergrid_print.specs.Sheets.{grid_of, row_tracks, table_sheet}
-use Rattle.papergrid_print.proofs.TableLemmas.{lines-fit}
+use Rattle.papergrid_print.proofs.Tables.{lines-fit}
 use Rattle.papergrid_print.proofs.table.Table.room.Goals as goal
 
 pub loop-height-init : goal.loop-height-init

@@ -1,6 +1,6 @@
 use Rattle.std.proofs.Common.{ap, arith}
 use Rattle.papergrid_print.specs.Sheets.{table_sheet}
-use Rattle.papergrid_print.proofs.TableLemmas.{width-is}
+use Rattle.papergrid_print.proofs.Tables.{width-is}
 use Rattle.papergrid_print.proofs.table.Table.total_width.Goals as goal
 
 pub overflow_add-result-2 : goal.overflow_add-result-2

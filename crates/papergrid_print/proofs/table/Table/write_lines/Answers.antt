@@ -1,14 +1,14 @@
 use Rattle.std.proofs.Common.{◌≡◌, ℕ, ◌+◌, ◌≤◌, [], ◌∙◌, Result, ap, length, subst, sym, string_bytes, arith}
 use Rattle.std.specs.Prelude.{IfOk}
 use Rattle.papergrid_picture.specs.Frame.{boundary_at, line_count, track_at}
-use Rattle.papergrid_picture.proofs.FrameLemmas.{boundary-first}
+use Rattle.papergrid_picture.proofs.Frames.{boundary-first}
 use Rattle.papergrid_cells.specs.Painting.{colored, fill_bytes}
 use Rattle.papergrid_print.specs.Sheets.{grid_of, lines_of, row_tracks, table_sheet}
 use Rattle.tabled_output.specs.Pieces.{HasPassed, Passes}
 use Rattle.tabled_output.specs.declared.writing.WriteFault.{WriteFault}
-use Rattle.tabled_output.proofs.PieceLemmas.{passed-none, passes-refused}
-use Rattle.papergrid_print.proofs.TableLemmas.{below-shows, lines-fit, top-within}
-use Rattle.papergrid_print.proofs.WriteLemmas.{begun-further, continues-then, stopped-further, then-err, then-ok}
+use Rattle.tabled_output.proofs.Pieces.{passed-none, passes-refused}
+use Rattle.papergrid_print.proofs.Tables.{below-shows, lines-fit, top-within}
+use Rattle.papergrid_print.proofs.Writes.{begun-further, continues-then, stopped-further, then-err, then-ok}
 use Rattle.papergrid_print.proofs.table.Table.write_lines.Goals as goal
 
 pub returns-in_err-fault : goal.returns-in_err-fault

@@ -2,8 +2,8 @@ use Rattle.std.proofs.Common.{◌≡◌, ◌+◌, ◌≤◌, ◌++◌, ◌∙◌
 use Rattle.papergrid_picture.specs.Frame.{place}
 use Rattle.papergrid_print.specs.Sheets.{lines_of, row_tracks, table_sheet}
 use Rattle.tabled_output.specs.Pieces.{HasPassed}
-use Rattle.tabled_output.proofs.PieceLemmas.{passed-on}
-use Rattle.papergrid_print.proofs.WriteLemmas.{begun, continues-refused, passed-line, stopped}
+use Rattle.tabled_output.proofs.Pieces.{passed-on}
+use Rattle.papergrid_print.proofs.Writes.{begun, continues-refused, passed-line, stopped}
 use Rattle.papergrid_print.proofs.table.Table.write_margin.Goals as goal
 
 pub returns-in_err-push_feed : goal.returns-in_err-push_feed

@@ -4,10 +4,10 @@ use Rattle.papergrid_cells.specs.Flat.{AreMadeFor}
 use Rattle.papergrid_cells.specs.declared.flat.FlatRows.{FlatRows}
 use Rattle.papergrid_print.specs.Sheets.{line_at, lines_of, row_tracks, table_sheet}
 use Rattle.tabled_output.specs.Pieces.{HasPassed}
-use Rattle.tabled_output.proofs.PieceLemmas.{passed-on}
-use Rattle.papergrid_print.proofs.FlatLemmas.{none-goes-on}
-use Rattle.papergrid_print.proofs.PlaceLemmas.{row-end, row-fits}
-use Rattle.papergrid_print.proofs.WriteLemmas.{begun, continues-refused, passed-row, stopped}
+use Rattle.tabled_output.proofs.Pieces.{passed-on}
+use Rattle.papergrid_print.proofs.Flat.{none-goes-on}
+use Rattle.papergrid_print.proofs.Places.{row-end, row-fits}
+use Rattle.papergrid_print.proofs.Writes.{begun, continues-refused, passed-row, stopped}
 use Rattle.papergrid_print.proofs.table.Table.write_next_row.Goals as goal
 
 pub overflow_add-result : goal.overflow_add-result

@@ -1,7 +1,7 @@
 use Rattle.std.proofs.Common.{◌≤◌, length, string_bytes, arith}
 use Rattle.papergrid_picture.specs.Frame.{boundary_at, track_at}
 use Rattle.papergrid_print.specs.Sheets.{lines_of, row_tracks, table_sheet}
-use Rattle.papergrid_print.proofs.WriteLemmas.{begun, boundary-within, continues-refused}
+use Rattle.papergrid_print.proofs.Writes.{begun, boundary-within, continues-refused}
 use Rattle.papergrid_print.proofs.table.Table.write_rows.Goals as goal
 
 pub returns-in_err-flat-clause-lines : goal.returns-in_err-flat-clause-lines

@@ -1,7 +1,7 @@
 use Rattle.std.proofs.Common.{◌++◌, [], ◌∷◌, refl, subst, string_bytes}
 use Rattle.grid_records_measure.specs.TextLines.{line_feed}
 use Rattle.tabled_output.specs.Pieces.{HasPassed}
-use Rattle.papergrid_print.proofs.ChoosingLemmas.{exit-memory, nothing-passed}
+use Rattle.papergrid_print.proofs.Choosing.{exit-memory, nothing-passed}
 use Rattle.papergrid_print.proofs.table.choosing.pass_ended.Goals as goal
 
 pub returns-in_err-push-clause-lines : goal.returns-in_err-push-clause-lines

@@ -1,6 +1,6 @@
 use Rattle.std.proofs.Common.{◌∙◌, ap}
 use Rattle.grid_records_traits.specs.Rows.{fitted}
-use Rattle.grid_records_rows.proofs.PeekLemmas.{all_rows}
+use Rattle.grid_records_rows.proofs.Peeks.{all_rows}
 use Rattle.grid_records_rows.proofs.records.peeked_records.PeekedRecordsIntoRecords.iter_rows.Goals as goal
 
 pub returns-clause-rows : goal.returns-clause-rows

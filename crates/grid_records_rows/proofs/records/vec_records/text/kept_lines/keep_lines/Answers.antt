@@ -1,6 +1,6 @@
 use Rattle.std.proofs.Common.{◌≡◌, ◌∙◌, false, sym}
 use Rattle.grid_records_measure.specs.StyledText.{has_escape}
-use Rattle.grid_records_rows.proofs.KeptLineLemmas.{only_plain, some_lines}
+use Rattle.grid_records_rows.proofs.KeptLines.{only_plain, some_lines}
 use Rattle.grid_records_rows.proofs.records.vec_records.text.kept_lines.keep_lines.Goals as goal
 
 pub returns-then-count-eq1 : goal.returns-then-count-eq1

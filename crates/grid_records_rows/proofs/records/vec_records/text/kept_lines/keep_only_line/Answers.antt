@@ -6,7 +6,7 @@ use Rattle.grid_records_measure.specs.TextLines.{text_lines}
 use Rattle.grid_records_rows.specs.Measured.{AreLinesKept}
 use Rattle.grid_records_rows.specs.declared.records.vec_records.text.kept_lines.KeptLines.TheVariants.{Texts}
 use Rattle.grid_records_traits.proofs.TextAnswers.{line_of_text}
-use Rattle.grid_records_rows.proofs.KeptLineLemmas.{only_line}
+use Rattle.grid_records_rows.proofs.KeptLines.{only_line}
 use Rattle.grid_records_rows.proofs.records.vec_records.text.kept_lines.keep_only_line.Goals as goal
 
 pub returns-then-eq : goal.returns-then-eq

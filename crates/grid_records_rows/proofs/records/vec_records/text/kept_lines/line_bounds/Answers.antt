@@ -1,5 +1,5 @@
 use Rattle.std.proofs.Common.{rules, arith}
-use Rattle.grid_records_rows.proofs.KeptLineLemmas.{first_bounds, later_bounds, later_start}
+use Rattle.grid_records_rows.proofs.KeptLines.{first_bounds, later_bounds, later_start}
 use Rattle.grid_records_rows.proofs.records.vec_records.text.kept_lines.line_bounds.Goals as goal
 
 pub returns-then-index-eq0 : goal.returns-then-index-eq0

@@ -1,6 +1,6 @@
 -- The place is one of them where a line feed stands there.
 use Rattle.std.proofs.Common.{◌≡◌, ◌∙◌, ◌∷◌, ◌++◌, [], append-nil, ap, get_or, sym}
-use Rattle.grid_records_rows.proofs.KeptLineLemmas.{feed_here, no_feed_here, places_more}
+use Rattle.grid_records_rows.proofs.KeptLines.{feed_here, no_feed_here, places_more}
 use Rattle.grid_records_rows.proofs.records.vec_records.text.kept_lines.line_feed_places.Goals.{then-byte-eq10+in_ok-push, else-byte-eq10}
 use Rattle.grid_records_rows.proofs.records.vec_records.text.kept_lines.line_feed_places.Goals as goal
 

@@ -1,7 +1,7 @@
 -- The line stands between its bounds.
 use Rattle.std.proofs.Common.{◌≤◌, ◌∙◌, ap, arith, length}
 use Rattle.grid_records_measure.specs.TextLines.{line_feed_places}
-use Rattle.grid_records_rows.proofs.KeptLineLemmas.{between_characters, in_order, line_between, no_line}
+use Rattle.grid_records_rows.proofs.KeptLines.{between_characters, in_order, line_between, no_line}
 use Rattle.grid_records_rows.proofs.records.vec_records.text.kept_lines.plain_line.Goals as goal
 
 pub returns-then-index-places : goal.returns-then-index-places

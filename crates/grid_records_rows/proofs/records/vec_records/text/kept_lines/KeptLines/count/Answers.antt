@@ -1,7 +1,7 @@
 use Rattle.std.proofs.Common.{◌∙◌, ap, arith, length, string_bytes, subst, sym}
 use Rattle.std.proofs.lemmas.List.{length-map}
 use Rattle.grid_records_rows.specs.Measured.{AreLinesKept}
-use Rattle.grid_records_rows.proofs.KeptLineLemmas.{count_plain}
+use Rattle.grid_records_rows.proofs.KeptLines.{count_plain}
 use Rattle.grid_records_rows.proofs.records.vec_records.text.kept_lines.KeptLines.count.Goals as goal
 
 pub returns-in-Places : goal.returns-in-Places

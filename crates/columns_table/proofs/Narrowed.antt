@@ -1,0 +1,275 @@
+-- A table whose columns give: its sizes, and the rows that are made for it; and one whose columns don't.
+use Rattle.std.proofs.Common.{◌≡◌, ◌==◌, ◌||◌, ◌⊎◌, inl, inr, Global, Vec, slice_index_or, ℕ, suc, ◌+◌, ◌-◌, ◌<◌, nat_le, Bool, true, false, List, [], ◌∷◌, ◌++◌, Option, None, Some, Result, Ok, Err, map, length, slice_index, refl, ap, sym, subst, ◌∙◌, arith, if◌then◌else◌}
+use Rattle.std.proofs.lemmas.Bool.Decides.{nat_tests}
+use Rattle.std.proofs.lemmas.List.{length-map}
+use Rattle.std.proofs.lemmas.List.FromFn.{length-map-range_with_len}
+use Rattle.std.proofs.lemmas.Simd.{map-map}
+use Rattle.grid_config.specs.Compact.{Compact}
+use Rattle.grid_config.specs.Looks.{compact_look, look_of}
+use Rattle.grid_config.specs.Settings.{Settings, StartsWith, compact_start}
+use Rattle.grid_config.proofs.Looks.{same_look}
+use Rattle.grid_config.specs.Colors.{Color}
+use Rattle.grid_config_spans.specs.Spans.{AreGood, IsInTable}
+use Rattle.grid_config_values.specs.Glyphs.{boundary_count, has_row_boundary}
+use Rattle.grid_config_values.specs.declared.fault.Fault.{Fault}
+use Rattle.grid_config_values.specs.declared.fault.Fault.TheVariants.{Memory, Range, Room, Spans}
+use Rattle.grid_config_values.specs.declared.position.Position.{Position}
+use Rattle.grid_records_traits.specs.Rows.{fitted, fitted_row, text_at}
+use Rattle.grid_records_traits.specs.Sources.{texts_of_rows}
+use Rattle.grid_records_traits.proofs.FittedRows.{fitted-twice, length-fitted_row}
+use Rattle.grid_records_rows.specs.Sources.{columns_of}
+use Rattle.grid_records_estimate.specs.Collecting.{PassesMax}
+use Rattle.grid_records_estimate.specs.Estimates.{greatest, track_sizes}
+use Rattle.grid_records_estimate.specs.Sizes.{IsRefusal, table_heights}
+use Rattle.grid_records_estimate.specs.Sizing.{compact_sizing, row_axis}
+use Rattle.grid_records_estimate.proofs.Lengths.{length-table_heights}
+use Rattle.grid_records_estimate.proofs.Sizes.{total-passes}
+use Rattle.grid_records_measure.specs.TextLines.{line_feed}
+use Rattle.papergrid_picture.specs.Fitting.{FitsAnswer, InRange, first_too_wide, table_width}
+use Rattle.papergrid_picture.specs.Frame.{Frame, frame_of, line_count, total_width}
+use Rattle.papergrid_picture.specs.Tables.{sizes_of, table_text}
+use Rattle.papergrid_fits.specs.Tables.{CanBeDrawn, IsFitsAnswer, sized}
+use Rattle.papergrid_fits.proofs.Estimated.{text_at-fitted}
+use Rattle.papergrid_fits.specs.Grids.{grid_text}
+use Rattle.papergrid_fits.proofs.SameTexts.{answer-same, first_too_wide-same, table_text-same}
+use Rattle.columns_colors.specs.ColoredTables.{colored_text}
+use Rattle.columns_asked.specs.Asked.{Keep}
+use Rattle.columns_asked.specs.Layout.{AskedFits, asked_frame, asked_widths, by_column, column_count, frame_under, heights_of, kept_texts, narrow, narrowed, paddings, resize_in, too_wide, widths_of, widths_or}
+use Rattle.columns_asked.specs.Resizing.{resized_text}
+use Rattle.columns_asked.specs.Shrunk.{shrunk_list}
+use Rattle.columns_asked.specs.declared.asked.Asked.{Asked}
+use Rattle.columns_asked.proofs.Narrows.{shrunk-length}
+use Rattle.columns_asked.proofs.Shrunk.{shrunk_list-meets}
+use Rattle.columns_table.specs.Answers.{natural_text}
+use Rattle.columns_table.specs.Kept.{kept_row}
+use Rattle.columns_table.proofs.Kept.{kept-fitted}
+use Rattle.columns_table.proofs.Natural.{good-spans}
+use Rattle.papergrid_picture.proofs.ByNumber.{by_number}
+use Rattle.columns_table.proofs.Sizes.{height-each, too_high, width-each}
+
+-- ---- rows of as many texts
+
+module _ (settings : Settings) (width height : ℕ → ℕ) (columns : ℕ) (rows : List (List (List ℕ))) where
+  same-inside : (p : Position) → IsInTable (length (sizes_of height (length rows))) (length (sizes_of width columns)) p → text_at (fitted columns rows) p ≡ text_at rows p
+  same-inside p inside = text_at-fitted columns rows p.row p.col (subst (λ n. p.col < n) (length-map-range_with_len width 0 columns) inside.1)
+
+  -- what rows lack is empty, in their text and in what it is to fit
+  text-fitted : (colors : Position → Option Color) → grid_text (look_of settings) width height colors columns (fitted columns rows) ≡ grid_text (look_of settings) width height colors columns rows
+  text-fitted colors =
+      ap (λ n. table_text (look_of settings) (fitted columns rows) colors (sizes_of width columns) (sizes_of height n)) (length-map rows (fitted_row columns))
+      ∙ table_text-same settings (sizes_of width columns) (sizes_of height (length rows)) (fitted columns rows) rows same-inside colors
+
+  answer-fitted : (answer : Result (Unit {0}) Fault) → IsFitsAnswer settings width height columns (fitted columns rows) answer → IsFitsAnswer settings width height columns rows answer
+  answer-fitted answer is =
+      let frame : Frame = sized settings width height columns (length rows) in
+      let first : first_too_wide frame (fitted columns rows) ≡ first_too_wide frame rows = first_too_wide-same settings (sizes_of width columns) (sizes_of height (length rows)) (fitted columns rows) rows same-inside in
+      answer-same frame (fitted columns rows) rows (AreGood settings.spans (length rows) columns) first answer
+      (subst (λ n. FitsAnswer (sized settings width height columns n) (fitted columns rows) (AreGood settings.spans n columns) answer) (length-map rows (fitted_row columns)) is)
+
+-- a table without spans
+without-spans : (frame : Frame) (rows : List (List (List ℕ))) (Good : Type 0) → Good → (answer : Result (Unit {0}) Fault) → FitsAnswer frame rows Good answer → FitsAnswer frame rows (Unit {0}) answer
+without-spans frame rows Good good (Ok done) is = (tt, is.1, is.2)
+without-spans frame rows Good good (Err Spans) is = absurd (is good)
+without-spans frame rows Good good (Err Range) is = (tt, is.1)
+without-spans frame rows Good good (Err (Room row column)) is = (tt, is.1, is.2)
+without-spans frame rows Good good (Err Memory) is = is
+
+-- ---- columns that give
+
+module _ (style : Compact) (asked : Asked) where
+  -- they do where there are some, and as many stay
+  narrow-told : (natural widths : List ℕ) (total : ℕ) (width : Option ℕ) → narrow style asked natural total width ≡ Some widths → (0 < total) × (length widths ≡ length natural)
+  narrow-told natural widths total None is = absurd (cc is)
+  narrow-told natural widths total (Some w) is = step (nat_le total w) refl is where
+    step : (b : Bool) → nat_le total w ≡ b → (if b then None else Some (shrunk_list asked.priority (map (λ _. paddings style) natural) (total - w) natural)) ≡ Some widths → (0 < total) × (length widths ≡ length natural)
+    step true e told = absurd (cc told)
+    step false e told =
+        let more : w < total = grind (arith, nat_tests, e) in
+        let leasts : List ℕ = map (λ _. paddings style) natural in
+        let same : shrunk_list asked.priority leasts (total - w) natural ≡ widths = cc told in
+        (omega (arith, more), ap (λ (sizes : List ℕ). length sizes) (sym same) ∙ shrunk-length asked.priority leasts (total - w) natural (shrunk_list asked.priority leasts (total - w) natural) (shrunk_list-meets asked.priority leasts (total - w) natural))
+
+pub some-of-table : (style : Compact) (widths heights : List ℕ) → 0 < table_width (frame_of (compact_look style) widths heights) → (0 < length widths) × (0 < length heights)
+some-of-table style widths [] some = absurd (omega (arith, some))
+some-of-table style [] (height ∷ heights) some =
+    let none : table_width (frame_of (compact_look style) [] (height ∷ heights)) ≡ 0 = no_columns (length (height ∷ heights) == 0) (total_width (frame_of (compact_look style) [] (height ∷ heights))) in
+    absurd (omega (arith, some, none))
+  where
+    no_columns : (b : Bool) (n : ℕ) → (if b || true then 0 else n) ≡ 0
+    no_columns true n = refl
+    no_columns false n = refl
+some-of-table style (width ∷ widths) (height ∷ heights) some = (omega arith, omega arith)
+
+length-by_column : (f : ℕ → List ℕ → List ℕ) (column : ℕ) (row : List (List ℕ)) → length (by_column f column row) ≡ length row
+length-by_column f column [] = refl
+length-by_column f column (text ∷ row) = ap suc (length-by_column f (column + 1) row)
+
+count-by_column : (f : ℕ → List ℕ → List ℕ) (rows : List (List (List ℕ))) → column_count (map (by_column f 0) rows) ≡ column_count rows
+count-by_column f rows =
+    ap greatest (map-map (λ (row : List (List ℕ)). length row) (by_column f 0) rows) ∙ (λ k. greatest (map (λ row. length-by_column f 0 row k) rows))
+
+module _ (style : Compact) (asked : Asked) (texts : List (List (List ℕ))) (widths : List ℕ) (told : narrowed style asked texts ≡ Some widths) where
+  abbrev kept : List (List (List ℕ))
+  kept = kept_texts style asked texts
+
+  facts : (0 < table_width (frame_under style texts)) × (length widths ≡ length (widths_of style texts))
+  facts = narrow-told style asked (widths_of style texts) widths (table_width (frame_under style texts)) asked.width told
+
+  pub some-sizes : (0 < length (widths_of style texts)) × (0 < length (heights_of style texts))
+  some-sizes = some-of-table style (widths_of style texts) (heights_of style texts) facts.0
+
+  pub columns-are : length widths ≡ column_count texts
+  columns-are = facts.1 ∙ width-each style texts some-sizes.1
+
+  pub some-columns : 0 < length widths
+  some-columns = omega (arith, facts.1, some-sizes.0)
+
+  pub some-rows : 0 < length texts
+  some-rows = omega (arith, height-each style texts some-sizes.1, some-sizes.1)
+
+  pub kept-is : kept ≡ map (by_column (λ column. resized_text (resize_in style asked (Some widths) column)) 0) texts
+  unfolding kept_texts
+  kept-is = ap (λ (given : Option (List ℕ)). map (by_column (λ column. resized_text (resize_in style asked given column)) 0) texts) told
+
+  pub widths-are : asked_widths style asked texts ≡ widths
+  unfolding asked_widths
+  widths-are = ap (widths_or style asked (widths_of style texts)) told
+
+  pub kept-columns : length widths ≡ column_count kept
+  kept-columns = columns-are ∙ sym (ap (λ (rows : List (List (List ℕ))). column_count rows) kept-is ∙ count-by_column (λ column. resized_text (resize_in style asked (Some widths) column)) texts)
+
+  pub some-heights-kept : 0 < length (heights_of style kept)
+  some-heights-kept =
+      let same : length kept ≡ length texts = ap (λ (rows : List (List (List ℕ))). length rows) kept-is ∙ length-map texts (by_column (λ column. resized_text (resize_in style asked (Some widths) column)) 0) in
+      let some : 0 < column_count kept = omega (arith, kept-columns, some-columns) in
+      omega (arith, length-table_heights (compact_sizing style) (column_count kept) kept some, same, some-rows)
+
+  heights-each : length (heights_of style kept) ≡ length kept
+  heights-each = let some : 0 < column_count kept = omega (arith, kept-columns, some-columns) in length-table_heights (compact_sizing style) (column_count kept) kept some
+
+  pub frame-is : (heights : List ℕ) → heights ≡ heights_of style kept → frame_of (compact_look style) widths heights ≡ asked_frame style asked texts
+  frame-is heights high = ap (frame_of (compact_look style) widths) high ∙ ap (λ (sizes : List ℕ). frame_of (compact_look style) sizes (heights_of style kept)) (sym widths-are)
+
+  -- the rows that are made, of so many columns
+  module _ (n : ℕ) (rows : List (List (List ℕ))) (counted : n ≡ length widths) (made : rows ≡ fitted (length widths) (kept_texts style asked texts)) where
+    pub heights-are : table_heights (compact_sizing style) n rows ≡ heights_of style kept
+    unfolding table_heights
+    heights-are =
+        ap (λ m. table_heights (compact_sizing style) m rows) (counted ∙ kept-columns)
+        ∙ ap (table_heights (compact_sizing style) (column_count kept)) (made ∙ ap (λ m. fitted m kept) kept-columns)
+        ∙ ap (λ found. track_sizes (row_axis (compact_sizing style) (column_count kept) found)) (fitted-twice kept (column_count kept))
+
+    -- one height alone is too great
+    pub heights-pass : PassesMax (table_heights (compact_sizing style) n rows) → ¬ (InRange (asked_frame style asked texts))
+    heights-pass passes =
+        let found : PassesMax (heights_of style kept) = subst PassesMax heights-are passes in
+        subst (λ (frame : Frame). ¬ (InRange frame)) (frame-is (heights_of style kept) refl)
+        (too_high style widths (heights_of style kept) some-columns some-heights-kept
+        (total-passes (heights_of style kept) (boundary_count (has_row_boundary style.borders) (length (heights_of style kept))) style.margin.top.size style.margin.bottom.size found))
+
+    module _ (settings : Settings) (start : StartsWith (compact_start style) settings) (heights : List ℕ) (high : heights ≡ table_heights (compact_sizing style) n rows) where
+      heights-kept : heights ≡ heights_of style kept
+      heights-kept = high ∙ heights-are
+
+      made-here : rows ≡ fitted n kept
+      made-here = made ∙ ap (λ m. fitted m kept) (sym counted)
+
+      sized-is : sized settings (slice_index widths) (slice_index heights) n (length kept) ≡ asked_frame style asked texts
+      sized-is =
+          ap (λ look. frame_of look (sizes_of (slice_index widths) n) (sizes_of (slice_index heights) (length kept))) (same_look style settings start)
+          ∙ ap (λ sizes. frame_of (compact_look style) sizes (sizes_of (slice_index heights) (length kept))) (by_number widths n (sym counted))
+          ∙ ap (frame_of (compact_look style) widths) (by_number heights (length kept) (ap (λ (sizes : List ℕ). length sizes) heights-kept ∙ heights-each))
+          ∙ frame-is heights heights-kept
+
+      -- what they are to fit
+      pub answer-is : (answer : Result (Unit {0}) Fault) → IsFitsAnswer settings (slice_index widths) (slice_index heights) n rows answer → FitsAnswer (asked_frame style asked texts) kept (Unit {0}) answer
+      answer-is answer is =
+          subst (λ (frame : Frame). FitsAnswer frame kept (Unit {0}) answer) sized-is
+          (without-spans (sized settings (slice_index widths) (slice_index heights) n (length kept)) kept (AreGood settings.spans (length kept) n) (good-spans style settings start (length kept) n) answer
+          (answer-fitted settings (slice_index widths) (slice_index heights) n kept answer
+          (subst (λ (found : List (List (List ℕ))). IsFitsAnswer settings (slice_index widths) (slice_index heights) n found answer) made-here is)))
+
+      pub fits-is : CanBeDrawn settings (slice_index widths) (slice_index heights) n rows → FitsAnswer (asked_frame style asked texts) kept (Unit {0}) (Ok tt)
+      fits-is fits = answer-is (Ok tt) (fits.good, fits.range, fits.room)
+
+      grid-is : (colors : Position → Option Color) → grid_text (look_of settings) (slice_index widths) (slice_index heights) colors n rows ≡ table_text (compact_look style) kept colors (asked_widths style asked texts) (heights_of style kept)
+      grid-is colors =
+          ap (λ found. grid_text (look_of settings) (slice_index widths) (slice_index heights) colors n found) made-here
+          ∙ text-fitted settings (slice_index widths) (slice_index heights) n kept colors
+          ∙ ap (λ look. table_text look kept colors (sizes_of (slice_index widths) n) (sizes_of (slice_index heights) (length kept))) (same_look style settings start)
+          ∙ ap (λ sizes. table_text (compact_look style) kept colors sizes (sizes_of (slice_index heights) (length kept))) (by_number widths n (sym counted) ∙ sym widths-are)
+          ∙ ap (table_text (compact_look style) kept colors (asked_widths style asked texts)) (by_number heights (length kept) (ap (λ (sizes : List ℕ). length sizes) heights-kept ∙ heights-each) ∙ heights-kept)
+
+      -- what is printed
+      pub text-is : (colors : Position → Option Color) (lines : ℕ) → lines ≡ line_count (frame_of (compact_look style) widths heights)
+          → (if lines == 0 then [] else grid_text (look_of settings) (slice_index widths) (slice_index heights) colors n rows ++ line_feed ∷ []) ≡ colored_text style asked colors texts
+      unfolding colored_text
+      text-is colors lines counted_lines =
+          ap (λ (m : ℕ). if m == 0 then [] else grid_text (look_of settings) (slice_index widths) (slice_index heights) colors n rows ++ line_feed ∷ []) (counted_lines ∙ ap (λ (frame : Frame). line_count frame) (frame-is heights heights-kept))
+          ∙ ap (λ (text : List ℕ). if line_count (asked_frame style asked texts) == 0 then [] else text ++ line_feed ∷ []) (grid-is colors)
+
+-- what an estimate refuses is a table out of range
+pub refusal-is : (frame : Frame) (rows : List (List (List ℕ))) (fault : Fault) (Passes : Type 0) → (Passes → ¬ (InRange frame)) → IsRefusal fault Passes → (fault ≡ Memory) ⊎ FitsAnswer frame rows (Unit {0}) (Err fault)
+refusal-is frame rows fault Passes out (inl memory) = inl memory
+refusal-is frame rows fault Passes out (inr range) = inr (subst (λ (given : Fault). FitsAnswer frame rows (Unit {0}) (Err given)) (sym range.0) (tt, out range.1))
+
+-- rows of as many cells have as many columns
+first-columns : {C : Type 0} (text : C → List ℕ) (rows : List (Vec C Global)) (n : ℕ) (texts : List (List (List ℕ))) → texts_of_rows text rows ≡ fitted n texts → 0 < length texts → columns_of rows ≡ n
+first-columns text [] n texts are some = absurd (omega (arith, some, ap (λ (found : List (List (List ℕ))). length found) are, length-map texts (fitted_row n)))
+first-columns text (row ∷ rows) n [] are some = absurd (omega (arith, some))
+first-columns text (row ∷ rows) n (t ∷ ts) are some =
+    row.ok.0 ∙ sym (length-map row.items text) ∙ ap (λ (found : List (List (List ℕ))). length (slice_index_or found 0 [])) are ∙ length-fitted_row t n
+
+module _ (style : Compact) (asked : Asked) (beside : ℕ) (is_beside : beside ≡ paddings style) (texts : List (List (List ℕ))) (widths : List ℕ) (told : narrowed style asked texts ≡ Some widths)
+    {C : Type 0} (text : C → List ℕ) (rows : List (Vec C Global)) (given : List ℕ) (same : given ≡ widths) (are : texts_of_rows text rows ≡ map (kept_row asked beside given) texts) where
+  pub made : texts_of_rows text rows ≡ fitted (length widths) (kept_texts style asked texts)
+  made =
+      are ∙ ap (λ (ws : List ℕ). map (kept_row asked beside ws) texts) same ∙ kept-fitted style asked beside is_beside widths texts
+      ∙ ap (fitted (length widths)) (sym (kept-is style asked texts widths told))
+
+  pub counted : columns_of rows ≡ length widths
+  counted =
+      let many : length (kept_texts style asked texts) ≡ length texts = ap (λ (found : List (List (List ℕ))). length found) (kept-is style asked texts widths told)
+      ∙ length-map texts (by_column (λ column. resized_text (resize_in style asked (Some widths) column)) 0) in
+      first-columns text rows (length widths) (kept_texts style asked texts) made (omega (arith, many, some-rows style asked texts widths told))
+
+-- ---- columns that don't give
+
+by_column-same : (column : ℕ) (row : List (List ℕ)) → by_column (λ _. resized_text Keep) column row ≡ row
+by_column-same column [] = refl
+by_column-same column (text ∷ row) = ap (λ (rest : List (List ℕ)). text ∷ rest) (by_column-same (column + 1) row)
+
+all-same : (rows : List (List (List ℕ))) → map (by_column (λ _. resized_text Keep) 0) rows ≡ rows
+all-same [] = refl
+all-same (row ∷ rows) = ap (λ (r : List (List ℕ)). r ∷ map (by_column (λ _. resized_text Keep) 0) rows) (by_column-same 0 row) ∙ ap (λ (rest : List (List (List ℕ))). row ∷ rest) (all-same rows)
+
+module _ (style : Compact) (asked : Asked) (texts : List (List (List ℕ))) (told : narrowed style asked texts ≡ None) where
+  pub kept-natural : kept_texts style asked texts ≡ texts
+  unfolding kept_texts
+  kept-natural = ap (λ (given : Option (List ℕ)). map (by_column (λ column. resized_text (resize_in style asked given column)) 0) texts) told ∙ all-same texts
+
+  pub widths-natural : asked_widths style asked texts ≡ widths_of style texts
+  unfolding asked_widths
+  widths-natural = ap (widths_or style asked (widths_of style texts)) told
+
+  pub frame-natural : asked_frame style asked texts ≡ frame_under style texts
+  frame-natural =
+      ap (λ (sizes : List ℕ). frame_of (compact_look style) sizes (heights_of style (kept_texts style asked texts))) widths-natural
+      ∙ ap (λ (rows : List (List (List ℕ))). frame_of (compact_look style) (widths_of style texts) (heights_of style rows)) kept-natural
+
+  pub text-natural : (colors : Position → Option Color) → natural_text style colors texts ≡ colored_text style asked colors texts
+  unfolding colored_text
+  text-natural colors =
+      sym (ap (λ (frame : Frame). if line_count frame == 0 then [] else table_text (compact_look style) (kept_texts style asked texts) colors (asked_widths style asked texts) (heights_of style (kept_texts style asked texts)) ++ line_feed ∷ []) frame-natural
+      ∙ ap (λ (sizes : List ℕ). if line_count (frame_under style texts) == 0 then [] else table_text (compact_look style) (kept_texts style asked texts) colors sizes (heights_of style (kept_texts style asked texts)) ++ line_feed ∷ []) widths-natural
+      ∙ ap (λ (rows : List (List (List ℕ))). if line_count (frame_under style texts) == 0 then [] else table_text (compact_look style) rows colors (widths_of style texts) (heights_of style rows) ++ line_feed ∷ []) kept-natural)
+
+  pub fits-natural : InRange (frame_under style texts) → AskedFits style asked texts
+  unfolding AskedFits
+  fits-natural range = (range, subst (λ (frame : Frame). InRange frame) (sym frame-natural) range)
+
+  pub room-natural : first_too_wide (frame_under style texts) texts ≡ None → too_wide style asked texts ≡ None
+  unfolding too_wide
+  room-natural none =
+      ap (λ (frame : Frame). first_too_wide frame (kept_texts style asked texts)) frame-natural
+      ∙ ap (first_too_wide (frame_under style texts)) kept-natural ∙ none

@@ -1,0 +1,117 @@
+-- Rows by where they begin: their cells, looked up.
+use Rattle.std.proofs.Common.{◌≡◌, ℕ, zero, suc, ◌+◌, ◌-◌, ◌<◌, ◌≤◌, All, List, [], ◌∷◌, map, length, sum, take, drop, get_or, refl, ap, sym, subst, ◌∙◌, arith}
+use Rattle.std.specs.Prelude.{slice_range}
+use Rattle.std.proofs.lemmas.List.{drop-drop, ext_get_or}
+use Rattle.std.proofs.lemmas.List.Elements.{All-drop, All-head, All-tail, All-take}
+use Rattle.std.proofs.lemmas.List.Sums.{sum_by-cons}
+use Rattle.grid_config_values.specs.declared.position.Position.{Position}
+use Rattle.grid_records_traits.specs.Cells.{IsLineAt}
+use Rattle.grid_records_traits.specs.Rows.{row_at, text_at}
+use Rattle.papergrid_picture.proofs.Shown.{get_or-map}
+use Rattle.columns_table.specs.Rows.{cut}
+use Rattle.columns_table.specs.Records.{KeepsWidth, IsOneLine, IsOnlyLine, placed, placed_texts, starts_from}
+use Rattle.columns_table.specs.declared.cells.LineCell.{LineCell}
+use Rattle.columns_table.proofs.Records.{empty_one_line}
+
+abbrev text_of : LineCell → List ℕ
+text_of cell = cell.text.now
+
+-- ---- one row
+
+pub placed-row : {X : Type 0} (starts : List ℕ) (xs : List X) (i : ℕ) → i < length starts
+    → get_or (placed starts xs) i [] ≡ slice_range xs (get_or starts i 0) (get_or starts (i + 1) (length xs))
+placed-row [] xs i below = absurd (omega arith)
+placed-row (start ∷ starts) xs zero below = refl
+placed-row (start ∷ starts) xs (suc i) below =
+    let next : suc (i + 1) ≡ suc i + 1 = omega arith in
+    placed-row starts xs i (omega arith) ∙ ap (λ k. slice_range xs (get_or starts i 0) (get_or (start ∷ starts) k (length xs))) next
+
+pub placed-none : {X : Type 0} (starts : List ℕ) (xs : List X) (i : ℕ) → length starts ≤ i → get_or (placed starts xs) i [] ≡ []
+placed-none {X} [] xs i past = none i where
+  none : (i : ℕ) → get_or {A = List X} [] i [] ≡ []
+  none zero = refl
+  none (suc i) = refl
+placed-none (start ∷ starts) xs zero past = absurd (omega arith)
+placed-none (start ∷ starts) xs (suc i) past = placed-none starts xs i (omega arith)
+
+-- ---- one cell
+
+past-end : {A : Type 0} (xs : List A) (i : ℕ) (d : A) → length xs ≤ i → get_or xs i d ≡ d
+past-end [] zero d past = refl
+past-end [] (suc i) d past = refl
+past-end (x ∷ xs) zero d past = absurd (omega arith)
+past-end (x ∷ xs) (suc i) d past = past-end xs i d (omega arith)
+
+pub row-texts : (starts : List ℕ) (cells : List LineCell) (i : ℕ) → row_at (placed_texts starts cells) i ≡ map text_of (get_or (placed starts cells) i [])
+row-texts starts cells i = get_or-map (map text_of) (placed starts cells) i []
+
+module _ (starts : List ℕ) (cells : List LineCell) (pos : Position) where
+  pub row-text : text_at (placed_texts starts cells) pos ≡ get_or (map text_of (get_or (placed starts cells) pos.row [])) pos.col []
+  row-text = ap (λ row. get_or row pos.col []) (get_or-map (map text_of) (placed starts cells) pos.row [])
+
+-- what is true of each cell is true of each in a row
+pub row-keeps : (P : LineCell → Type 0) (starts : List ℕ) (cells : List LineCell) (i : ℕ) → All P cells → All P (get_or (placed starts cells) i [])
+row-keeps P [] cells i all = none i where
+  none : (i : ℕ) → All P (get_or {A = List LineCell} [] i [])
+  none zero = λ k d below. absurd (omega arith)
+  none (suc i) = λ k d below. absurd (omega arith)
+row-keeps P (start ∷ starts) cells zero all = All-take P (get_or starts 0 (length cells) - start) (drop start cells) (All-drop P start cells all)
+row-keeps P (start ∷ starts) cells (suc i) all = row-keeps P starts cells i all
+
+one_in_row : (row : List LineCell) (j : ℕ) → All KeepsWidth row → (width : ℕ) × IsOneLine (get_or (map text_of row) j []) width
+one_in_row [] zero all = (0, empty_one_line)
+one_in_row [] (suc j) all = (0, empty_one_line)
+one_in_row (cell ∷ row) zero all = (cell.width, All-head KeepsWidth cell row all)
+one_in_row (cell ∷ row) (suc j) all = one_in_row row j (All-tail KeepsWidth cell row all)
+
+pub one_line_each : (starts : List ℕ) (cells : List LineCell) (pos : Position) → All KeepsWidth cells → (width : ℕ) × IsOneLine (text_at (placed_texts starts cells) pos) width
+one_line_each starts cells pos all =
+    subst (λ text. (width : ℕ) × IsOneLine text width) (sym (row-text starts cells pos)) (one_in_row (get_or (placed starts cells) pos.row []) pos.col (row-keeps KeepsWidth starts cells pos.row all))
+
+-- a text that is its only line has no other
+pub no-line : (text : List ℕ) (index : ℕ) → 0 < index → IsOnlyLine text → IsLineAt text index []
+no-line text index behind only = λ ps lines of_text are.
+    sym (ap (λ found. get_or found index []) (only ps lines of_text are) ∙ past-end (text ∷ []) index [] (omega (arith, behind)))
+
+pub first-line : (text bytes : List ℕ) (index : ℕ) → index ≡ 0 → bytes ≡ text → IsOnlyLine text → IsLineAt text index bytes
+first-line text bytes index first same only = λ ps lines of_text are.
+    same ∙ sym (ap (λ found. get_or found index []) (only ps lines of_text are) ∙ ap (λ k. get_or (text ∷ []) k []) first)
+
+-- ---- rows by their counts
+
+length-starts : (at : ℕ) (counts : List ℕ) → length (starts_from at counts) ≡ length counts
+length-starts at [] = refl
+length-starts at (n ∷ ns) = ap suc (length-starts (at + n) ns)
+
+pub length-placed : (starts : List ℕ) (cells : List LineCell) → length (placed_texts starts cells) ≡ length starts
+length-placed [] cells = refl
+length-placed (start ∷ starts) cells = ap suc (length-placed starts cells)
+
+pub placed-cut : {X : Type 0} (at : ℕ) (counts : List ℕ) (xs : List X) → at + sum counts ≡ length xs → placed (starts_from at counts) xs ≡ cut counts (drop at xs)
+placed-cut at [] xs whole = refl
+placed-cut at (n ∷ []) xs whole =
+    let size : length xs - at ≡ n = omega (arith, whole, sum_by-cons (λ k. k) n []) in
+    ap (λ m. take m (drop at xs) ∷ []) size
+placed-cut at (n ∷ m ∷ ns) xs whole =
+    let size : at + n - at ≡ n = omega arith in
+    let rest : at + n + sum (m ∷ ns) ≡ length xs = omega (arith, whole, sum_by-cons (λ k. k) n (m ∷ ns)) in
+    ap (λ k. take k (drop at xs) ∷ placed (starts_from (at + n) (m ∷ ns)) xs) size
+    ∙ ap (λ rows. take n (drop at xs) ∷ rows) (placed-cut (at + n) (m ∷ ns) xs rest ∙ ap (cut (m ∷ ns)) (sym (drop-drop n at xs)))
+
+-- ---- counts put into starts
+
+pub start-at : (at : ℕ) (counts : List ℕ) (k : ℕ) → k < length counts → get_or (starts_from at counts) k 0 ≡ at + sum (take k counts)
+start-at at [] k below = absurd (omega arith)
+start-at at (n ∷ ns) zero below = omega arith
+start-at at (n ∷ ns) (suc k) below =
+    let rest = start-at (at + n) ns k (omega arith) in
+    let sums : sum (n ∷ take k ns) ≡ n + sum (take k ns) = sum_by-cons (λ m. m) n (take k ns) in
+    omega (arith, rest, sums)
+
+pub starts-are : (counts starts : List ℕ) → length starts ≡ length counts → ((k : ℕ) → k < length counts → get_or starts k 0 ≡ sum (take k counts)) → starts ≡ starts_from 0 counts
+starts-are counts starts long each =
+    ext_get_or 0 starts (starts_from 0 counts) (long ∙ sym (length-starts 0 counts))
+    (λ k below. let inside : k < length counts = omega (arith, below, long) in each k inside ∙ sum_from (sum (take k counts)) ∙ sym (start-at 0 counts k inside))
+  where
+    sum_from : (n : ℕ) → n ≡ 0 + n
+    sum_from n = omega arith

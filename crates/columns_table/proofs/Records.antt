@@ -1,0 +1,57 @@
+-- The texts of a row, in so many columns, and an empty cell.
+use Rattle.std.proofs.Common.{◌≡◌, ℕ, zero, suc, ◌-◌, ◌<◌, List, [], ◌∷◌, ◌++◌, length, take, replicate, get_or, refl, ap, sym, ◌∙◌, arith}
+use Rattle.std.proofs.lemmas.List.{get_or-replicate}
+use Rattle.std.specs.Str.{chars}
+use Rattle.unicode_width.specs.Width.{str_width}
+use Rattle.ansi_scan.specs.Sequences.{Piece, ArePiecesOf}
+use Rattle.ansi_scan.proofs.Uniqueness.{pieces-ArePiecesOf}
+use Rattle.grid_records_measure.specs.TextLines.{shown_lines, widest}
+use Rattle.std.proofs.lemmas.List.Elements.{All-from_recursion}
+use Rattle.ansi_str.specs.Lines.{IsClosedLine}
+use Rattle.grid_records_measure.proofs.Lines.{lines-joined}
+use Rattle.grid_records_traits.specs.Cells.{HasLineCount, HasWidth}
+use Rattle.grid_records_traits.specs.Rows.{fitted_row}
+use Rattle.columns_table.specs.Records.{IsOneLine, IsOnlyLine}
+use Rattle.papergrid_picture.proofs.Shown.{pieces-nothing}
+
+-- ---- an empty cell
+
+no_pieces : (ps : List Piece) → ArePiecesOf [] ps → [] ≡ ps
+no_pieces ps of_text = sym pieces-nothing ∙ pieces-ArePiecesOf [] ps of_text
+
+empty_line_count : HasLineCount [] 1
+empty_line_count = λ ps of_text. ap (λ found. length (shown_lines found)) (no_pieces ps of_text)
+
+no_width : 0 ≡ widest ([] ∷ [])
+unfolding chars str_width
+no_width = refl
+
+empty_width : HasWidth [] 0
+empty_width = λ ps of_text. no_width ∙ ap (λ found. widest (shown_lines found)) (no_pieces ps of_text)
+
+-- a closed line is the only one of itself
+pub only_line : (text : List ℕ) → IsClosedLine text → IsOnlyLine text
+only_line text closed = λ ps lines of_text are.
+    let some : 0 < length (text ∷ []) = omega arith in
+    lines-joined (text ∷ []) lines ps some (All-from_recursion IsClosedLine (text ∷ []) (closed, tt)) of_text are
+
+-- nothing is one line
+pub empty_one_line : IsOneLine [] 0
+empty_one_line = (
+  empty_line_count,
+  empty_width,
+  only_line [] (record { pieces = []; of_line = record { joins = refl; stand = tt }; closed = record { none_broken = tt; plain = refl }; one_line = refl }),
+)
+
+-- ---- rows of as many texts
+
+-- what a row lacks is empty
+pub get_or-fitted_row : (n : ℕ) (texts : List (List ℕ)) (j : ℕ) → j < n → get_or (fitted_row n texts) j [] ≡ get_or texts j []
+get_or-fitted_row zero texts j below = absurd (omega arith)
+get_or-fitted_row (suc n) [] j below =
+    let all : suc n - 0 ≡ suc n = omega arith in
+    ap (λ m. get_or (replicate m (let none : List ℕ = [] in none)) j []) all ∙ get_or-replicate (suc n) j [] [] below
+get_or-fitted_row (suc n) (text ∷ texts) zero below = refl
+get_or-fitted_row (suc n) (text ∷ texts) (suc j) below =
+    let left : suc n - suc (length texts) ≡ n - length texts = omega arith in
+    ap (λ m. get_or (take n texts ++ replicate m []) j []) left ∙ get_or-fitted_row n texts j (omega arith)

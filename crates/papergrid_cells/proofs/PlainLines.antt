@@ -1,0 +1,54 @@
+-- A text of one line without sequences is its own first line.
+use Rattle.std.proofs.Common.{◌≡◌, ◌<◌, ℕ, false, List, [], ◌∷◌, get_or, length, map, take, ap, sym, subst, ◌∙◌, arith}
+use Rattle.std.specs.List.{join_with_byte, slice_split}
+use Rattle.std.proofs.lemmas.List.Splits.{join_with_byte-slice_split}
+use Rattle.std.proofs.Math.Seq.{take-length}
+use Rattle.ansi_scan.specs.Pieces.{pieces}
+use Rattle.ansi_scan.specs.Sequences.{Piece, ArePiecesOf}
+use Rattle.ansi_scan.proofs.Existence.{ArePiecesOf-pieces}
+use Rattle.ansi_str.specs.Matches.{AreMatches, split_bounds, styled_parts}
+use Rattle.ansi_str.specs.StyledText.{has_escape, strip}
+use Rattle.ansi_str_search.proofs.AllParts.{styled_parts-without_escape}
+use Rattle.ansi_str_search.proofs.StdSplits.{split_at_one_byte}
+use Rattle.ansi_str_text.proofs.Stripping.{strip-without_escape}
+use Rattle.grid_records_measure.specs.TextLines.{AreLinesOf, is_line_feed, line_feed, line_measure, shown_lines, text_lines}
+use Rattle.grid_records_measure.proofs.TextLines.{text_lines-are}
+use Rattle.grid_records_traits.specs.Cells.{HasLineCount, IsLineAt}
+use Rattle.papergrid_picture.specs.CellLines.{cell_lines, cell_measures}
+use Rattle.papergrid_cells.proofs.CellLines.{map-same, one-element}
+
+-- the lines of a text without ESC are its parts between line feeds
+pub lines-plain : (text : List ℕ) (ps : List Piece) (lines : List (List ℕ)) → has_escape text ≡ false → ArePiecesOf text ps → AreLinesOf ps lines → lines ≡ slice_split is_line_feed text
+lines-plain text ps lines plain of_text are =
+    let feed = line_feed ∷ [] in
+    let low : line_feed < 128 = omega arith in
+    let itself : strip ps ≡ text = strip-without_escape text ps of_text plain in
+    let matched : AreMatches feed text are.0 = subst (λ (shown : List ℕ). AreMatches feed shown are.0) itself are.1 in
+    are.2 ∙ (ap (λ shown. styled_parts ps (split_bounds feed shown are.0)) itself
+    ∙ (styled_parts-without_escape feed text ps are.0 plain of_text matched
+    ∙ split_at_one_byte line_feed text are.0 low matched))
+
+pub plain-line : (text : List ℕ) → has_escape text ≡ false → HasLineCount text 1 → IsLineAt text 0 text
+plain-line text plain counted = λ ps lines of_text are.
+    let parts = slice_split is_line_feed text in
+    let itself : strip ps ≡ text = strip-without_escape text ps of_text plain in
+    let one : length parts ≡ 1 = sym (counted ps of_text ∙ ap (λ shown. length (slice_split is_line_feed shown)) itself) in
+    sym (join_with_byte-slice_split line_feed text)
+    ∙ (ap (join_with_byte line_feed) (one-element parts [] one)
+    ∙ ap (λ all. get_or all 0 []) (sym (lines-plain text ps lines plain of_text are)))
+
+-- ---- such a text whole, without trims
+
+module _ (text : List ℕ) (plain : has_escape text ≡ false) where
+  shown-plain : shown_lines (pieces text) ≡ slice_split is_line_feed text
+  shown-plain = ap (slice_split is_line_feed) (strip-without_escape text (pieces text) (ArePiecesOf-pieces text) plain)
+
+  pub cell_lines-plain : slice_split is_line_feed text ≡ cell_lines false false text
+  cell_lines-plain =
+      let lines : text_lines text ≡ slice_split is_line_feed text = lines-plain text (pieces text) (text_lines text) plain (ArePiecesOf-pieces text) (text_lines-are text) in
+      sym (map-same (take (length (shown_lines (pieces text))) (text_lines text))
+      ∙ (ap (λ shown. take (length shown) (text_lines text)) (shown-plain ∙ sym lines)
+      ∙ (take-length (text_lines text) ∙ lines)))
+
+  pub cell_measures-plain : map line_measure (slice_split is_line_feed text) ≡ cell_measures false false text
+  cell_measures-plain = ap (map line_measure) (sym (take-length (shown_lines (pieces text)) ∙ shown-plain))

@@ -1,0 +1,196 @@
+-- Wanted lines that are written one by one.
+use Rattle.std.proofs.Common.{◌≡◌, ℕ, zero, suc, ◌+◌, ◌-◌, ◌<◌, ◌≤◌, Bool, true, false, List, [], ◌∷◌, ◌++◌, Option, Result, Ok, Err, flat_map, refl, ap, sym, subst, ◌∙◌, arith, append-nil}
+use Rattle.std.specs.List.{range_with_len}
+use Rattle.std.specs.Prelude.{IsErrAnd, OnOk}
+use Rattle.std.proofs.lemmas.List.Concat.{flat_map-append}
+use Rattle.std.proofs.lemmas.Result.{err_from_is_err_and}
+use Rattle.grid_records_measure.specs.TextLines.{line_feed}
+use Rattle.grid_config.specs.Looks.{look_of}
+use Rattle.papergrid_picture.specs.Frame.{Place as Drawn, line_count, place}
+use Rattle.papergrid_print.specs.Chosen.{Chooses, chosen_line, chosen_lines, chosen_text, ended_where, shown}
+use Rattle.papergrid_print.specs.Sheets.{Sheet, grid_of, line_at, place_line, row_tracks}
+use Rattle.papergrid_print.specs.declared.stop.Stop.{Stop}
+use Rattle.papergrid_print.specs.declared.stop.Stop.TheVariants.{Memory, Writer}
+use Rattle.papergrid_print.specs.declared.wanted.Place.{Place}
+use Rattle.tabled_output.specs.Pieces.{HasBegun, HasPassed}
+use Rattle.tabled_output.specs.declared.counted.Counted.{Counted}
+use Rattle.tabled_output.proofs.Pieces.{begun-front, passed-front, passed-none, passed-on, stopped-front, stopped-on}
+
+-- ---- a text that is written in parts
+
+module _ {T : Type 0} (contents : T → Option (List ℕ)) where
+  -- what was written is the front of a longer text
+  fronted : (p q : List ℕ) (a b : Counted T) → HasPassed contents p [] a b → HasPassed contents (p ++ q) q a b
+  fronted p q a b passed = passed-front contents p [] q (p ++ q) a b refl passed
+
+  pub passed-both : (p q : List ℕ) (a b c : Counted T) → HasPassed contents p [] a b → HasPassed contents q [] b c → HasPassed contents (p ++ q) [] a c
+  passed-both p q a b c first then_q = passed-on contents (p ++ q) q [] a b c (fronted p q a b first) then_q
+
+  pub chooses-after : {A : Type 0} (p q : List ℕ) (r : Result A Stop) (a b c : Counted T) → HasPassed contents p [] a b → Chooses contents q r b c → Chooses contents (p ++ q) r a c
+  chooses-after p q (Ok done) a b c first step = passed-both p q a b c first step
+  chooses-after p q (Err Memory) a b c first step = (step.0, passed-on contents (p ++ q) q step.0 a b c (fronted p q a b first) step.1)
+  chooses-after p q (Err (Writer fault)) a b c first step = stopped-on contents (p ++ q) q fault a b c (fronted p q a b first) step
+
+  -- where it ends early, more of the text changes nothing
+  short : (A B : Type 0) (p q : List ℕ) (stop : Stop) (a b : Counted T) → Chooses {A = A} contents p (Err stop) a b → Chooses {A = B} contents (p ++ q) (Err stop) a b
+  short A B p q Memory a b step = begun-front contents p q (p ++ q) a b refl step
+  short A B p q (Writer fault) a b step = stopped-front contents p q (p ++ q) fault a b refl step
+
+  -- no memory, behind a part that is written
+  pub exit-memory : {A : Type 0} (p q whole : List ℕ) (r : Result A Stop) (a b : Counted T) → whole ≡ p ++ q → IsErrAnd r (λ stop. stop ≡ Memory) → HasPassed contents p [] a b → Chooses contents whole r a b
+  exit-memory {A} p q whole r a b is refused passed =
+      let told = err_from_is_err_and r refused in
+      let same : r ≡ Err Memory = told.1 ∙ ap (λ stop. Err stop) told.2 in
+      subst (λ r. Chooses contents whole r a b) (sym same) (subst (λ text. HasBegun contents text a b) (sym is) (q, fronted p q a b passed))
+
+  -- a step that ended early, behind a part that is written
+  pub exit-stop : {A : Type 0} (B : Type 0) (p q rest whole : List ℕ) (r : Result A Stop) (stop : Stop) (a b c : Counted T) → whole ≡ (p ++ q) ++ rest → IsErrAnd r (λ given. given ≡ stop)
+      → HasPassed contents p [] a b → Chooses {A = B} contents q (Err stop) b c → Chooses contents whole r a c
+  exit-stop {A} B p q rest whole r stop a b c is refused passed step =
+      let told = err_from_is_err_and r refused in
+      let same : r ≡ Err stop = told.1 ∙ ap (λ stop. Err stop) told.2 in
+      subst (λ r. Chooses contents whole r a c) (sym same)
+      (subst (λ text. Chooses {A = A} contents text (Err stop) a c) (sym is) (short B A (p ++ q) rest stop a c (chooses-after {A = B} p q (Err stop) a b c passed step)))
+
+  -- where memory was the reason a front of the text was written
+  pub begun-chosen : (text : List ℕ) (stop : Stop) (a b : Counted T) → stop ≡ Memory → Chooses {A = Unit {0}} contents text (Err stop) a b → HasBegun contents text a b
+  begun-chosen text stop a b is step = subst (λ stop. Chooses {A = Unit {0}} contents text (Err stop) a b) is step
+
+  pub nothing-passed : (a : Counted T) → HasPassed contents [] [] a a
+  nothing-passed a = passed-none contents [] a
+
+-- ---- parts of the lines
+
+range-joined : (from n m : ℕ) → range_with_len from (n + m) ≡ range_with_len from n ++ range_with_len (from + n) m
+range-joined from zero m =
+    let none : zero + m ≡ m = omega arith in
+    let same : from ≡ from + zero = omega arith in
+    ap (range_with_len from) none ∙ ap (λ first. range_with_len first m) same
+range-joined from (suc n) m =
+    let next : suc n + m ≡ suc (n + m) = omega arith in
+    let same : (from + 1) + n ≡ from + suc n = omega arith in
+    ap (range_with_len from) next ∙ (ap (λ bs. from ∷ bs) (range-joined (from + 1) n m) ∙ ap (λ first. from ∷ (range_with_len (from + 1) n ++ range_with_len first m)) same)
+
+ended : (bytes : List ℕ) (b : Bool) → b ≡ true → ended_where b bytes ≡ bytes ++ line_feed ∷ []
+ended bytes b is = ap (λ b. ended_where b bytes) is
+
+left-out : (bytes : List ℕ) (b : Bool) → b ≡ false → ended_where b bytes ≡ []
+left-out bytes b is = ap (λ b. ended_where b bytes) is
+
+module _ (sheet : Sheet) (wants : Place → Bool) where
+  -- what is written of a line, by what it shows
+  pub line-wanted : (what : Drawn) (y : ℕ) (bytes : List ℕ) → place (row_tracks sheet) y ≡ what → wants (shown what) ≡ true → bytes ≡ line_at sheet what y → chosen_line sheet wants y ≡ bytes ++ line_feed ∷ []
+  line-wanted what y bytes is wanted printed =
+      ap (λ p. ended_where (wants (shown p)) (line_at sheet p y)) is ∙ (ended (line_at sheet what y) (wants (shown what)) wanted ∙ ap (λ l. l ++ line_feed ∷ []) (sym printed))
+
+  pub line-unwanted : (what : Drawn) (y : ℕ) → place (row_tracks sheet) y ≡ what → wants (shown what) ≡ false → chosen_line sheet wants y ≡ []
+  line-unwanted what y is unwanted = ap (λ p. ended_where (wants (shown p)) (line_at sheet p y)) is ∙ left-out (line_at sheet what y) (wants (shown what)) unwanted
+
+  pub chosen-join : (from mid to : ℕ) → from ≤ mid → mid ≤ to → chosen_lines sheet wants from to ≡ chosen_lines sheet wants from mid ++ chosen_lines sheet wants mid to
+  chosen-join from mid to first second =
+      let f : ℕ → List ℕ = chosen_line sheet wants in
+      let count : to - from ≡ (mid - from) + (to - mid) = omega (arith, first, second) in
+      let start : from + (mid - from) ≡ mid = omega (arith, first) in
+      ap (λ n. flat_map f (range_with_len from n)) count
+      ∙ (ap (flat_map f) (range-joined from (mid - from) (to - mid))
+      ∙ (flat_map-append f (range_with_len from (mid - from)) (range_with_len (from + (mid - from)) (to - mid))
+      ∙ ap (λ first. chosen_lines sheet wants from mid ++ flat_map f (range_with_len first (to - mid))) start))
+
+  pub chosen-one : (y : ℕ) → chosen_lines sheet wants y (y + 1) ≡ chosen_line sheet wants y
+  chosen-one y =
+      let one : (y + 1) - y ≡ 1 = omega arith in
+      ap (λ n. flat_map (chosen_line sheet wants) (range_with_len y n)) one ∙ append-nil (chosen_line sheet wants y)
+
+  pub chosen-next : (from y : ℕ) → from ≤ y → chosen_lines sheet wants from (y + 1) ≡ chosen_lines sheet wants from y ++ chosen_line sheet wants y
+  chosen-next from y within =
+      let next : y ≤ y + 1 = omega arith in
+      chosen-join from y (y + 1) within next ∙ ap (λ l. chosen_lines sheet wants from y ++ l) (chosen-one y)
+
+  pub chosen-none : (from : ℕ) → chosen_lines sheet wants from from ≡ []
+  chosen-none from = let none : from - from ≡ 0 = omega arith in ap (λ n. flat_map (chosen_line sheet wants) (range_with_len from n)) none
+
+  -- a line, those before it and those behind it
+  pub chosen-around : (from y to : ℕ) → from ≤ y → y < to → chosen_lines sheet wants from to ≡ (chosen_lines sheet wants from y ++ chosen_line sheet wants y) ++ chosen_lines sheet wants (y + 1) to
+  chosen-around from y to first second =
+      let past : from ≤ y + 1 = omega (arith, first) in
+      let within : y + 1 ≤ to = omega (arith, second) in
+      chosen-join from (y + 1) to past within ∙ ap (λ l. l ++ chosen_lines sheet wants (y + 1) to) (chosen-next from y first)
+
+  left-out-from : (what : Drawn) (from n : ℕ) → wants (shown what) ≡ false → ((k : ℕ) → from ≤ k → k < from + n → place (row_tracks sheet) k ≡ what) → flat_map (chosen_line sheet wants) (range_with_len from n) ≡ []
+  left-out-from what from zero unwanted is = refl
+  left-out-from what from (suc n) unwanted is =
+      let here : from ≤ from = omega arith in
+      let some : from < from + suc n = omega arith in
+      let rest = left-out-from what (from + 1) n unwanted (λ k first second. is k (omega (arith, first)) (omega (arith, second))) in
+      ap (λ l. l ++ flat_map (chosen_line sheet wants) (range_with_len (from + 1) n)) (line-unwanted what from (is from here some) unwanted) ∙ rest
+
+  -- lines that show one thing, which is not wanted
+  pub chosen-unwanted : (what : Drawn) (from to : ℕ) → wants (shown what) ≡ false → ((k : ℕ) → from ≤ k → k < to → place (row_tracks sheet) k ≡ what) → chosen_lines sheet wants from to ≡ []
+  chosen-unwanted what from to unwanted is = left-out-from what from (to - from) unwanted (λ k first second. is k first (omega (arith, first, second)))
+
+  -- all lines of the table
+  pub all-chosen : chosen_lines sheet wants 0 (line_count (grid_of sheet).frame) ≡ chosen_text (look_of sheet.settings) sheet.rows sheet.colors sheet.widths sheet.heights wants
+  all-chosen =
+      let n : ℕ = line_count (grid_of sheet).frame in
+      let all : n - 0 ≡ n = omega arith in
+      ap (λ k. flat_map (chosen_line sheet wants) (range_with_len 0 k)) all
+
+  -- ---- one line, and why no more are written
+
+  module _ {T : Type 0} (contents : T → Option (List ℕ)) where
+    pub none-yet : (y : ℕ) (a : Counted T) → HasPassed contents (chosen_lines sheet wants y y) [] a a
+    none-yet y a = subst (λ text. HasPassed contents text [] a a) (sym (chosen-none y)) (nothing-passed contents a)
+
+    pub one-more : (from y : ℕ) (what : Drawn) (bytes : List ℕ) (a b c : Counted T) → from ≤ y → place (row_tracks sheet) y ≡ what → wants (shown what) ≡ true → bytes ≡ line_at sheet what y
+        → HasPassed contents (chosen_lines sheet wants from y) [] a b → HasPassed contents (bytes ++ line_feed ∷ []) [] b c → HasPassed contents (chosen_lines sheet wants from (y + 1)) [] a c
+    one-more from y what bytes a b c within is wanted printed before step =
+        let line = line-wanted what y bytes is wanted printed in
+        let whole = chosen-next from y within ∙ ap (λ l. chosen_lines sheet wants from y ++ l) line in
+        subst (λ text. HasPassed contents text [] a c) (sym whole) (passed-both contents (chosen_lines sheet wants from y) (bytes ++ line_feed ∷ []) a b c before step)
+
+    pub no-memory : {A : Type 0} (from y to : ℕ) (r : Result A Stop) (a b : Counted T) → from ≤ y → y ≤ to → IsErrAnd r (λ stop. stop ≡ Memory)
+        → HasPassed contents (chosen_lines sheet wants from y) [] a b → Chooses contents (chosen_lines sheet wants from to) r a b
+    no-memory from y to r a b first second refused before =
+        exit-memory contents (chosen_lines sheet wants from y) (chosen_lines sheet wants y to) (chosen_lines sheet wants from to) r a b (chosen-join from y to first second) refused before
+
+    pub no-writer : {A : Type 0} (B : Type 0) (from y to : ℕ) (what : Drawn) (bytes : List ℕ) (r : Result A Stop) (stop : Stop) (a b c : Counted T) → from ≤ y → y < to → place (row_tracks sheet) y ≡ what
+        → wants (shown what) ≡ true → bytes ≡ line_at sheet what y → IsErrAnd r (λ given. given ≡ stop) → HasPassed contents (chosen_lines sheet wants from y) [] a b
+        → Chooses {A = B} contents (bytes ++ line_feed ∷ []) (Err stop) b c → Chooses contents (chosen_lines sheet wants from to) r a c
+    no-writer B from y to what bytes r stop a b c first second is wanted printed refused before step =
+        let line = line-wanted what y bytes is wanted printed in
+        let whole = chosen-around from y to first second ∙ ap (λ l. (chosen_lines sheet wants from y ++ l) ++ chosen_lines sheet wants (y + 1) to) line in
+        exit-stop contents B (chosen_lines sheet wants from y) (bytes ++ line_feed ∷ []) (chosen_lines sheet wants (y + 1) to) (chosen_lines sheet wants from to) r stop a b c whole refused before step
+
+    -- a longer step that ended early, behind lines that are written
+    pub stopped-then : {A : Type 0} (B : Type 0) (from mid far to : ℕ) (r : Result A Stop) (stop : Stop) (a b c : Counted T) → from ≤ mid → mid ≤ far → far ≤ to → IsErrAnd r (λ given. given ≡ stop)
+        → HasPassed contents (chosen_lines sheet wants from mid) [] a b → Chooses {A = B} contents (chosen_lines sheet wants mid far) (Err stop) b c → Chooses contents (chosen_lines sheet wants from to) r a c
+    stopped-then B from mid far to r stop a b c first second third refused before step =
+        let all : from ≤ far = omega (arith, first, second) in
+        let whole = chosen-join from far to all third ∙ ap (λ l. l ++ chosen_lines sheet wants far to) (chosen-join from mid far first second) in
+        exit-stop contents B (chosen_lines sheet wants from mid) (chosen_lines sheet wants mid far) (chosen_lines sheet wants far to) (chosen_lines sheet wants from to) r stop a b c whole refused before step
+
+    -- a step behind lines that are written
+    pub chosen-then : {A : Type 0} (from mid to : ℕ) (r : Result A Stop) (a b c : Counted T) → from ≤ mid → mid ≤ to → HasPassed contents (chosen_lines sheet wants from mid) [] a b
+        → Chooses contents (chosen_lines sheet wants mid to) r b c → Chooses contents (chosen_lines sheet wants from to) r a c
+    chosen-then from mid to r a b c first second before step =
+        subst (λ text. Chooses contents text r a c) (sym (chosen-join from mid to first second)) (chooses-after contents (chosen_lines sheet wants from mid) (chosen_lines sheet wants mid to) r a b c before step)
+
+    pub passed-then : (from mid to : ℕ) (a b c : Counted T) → from ≤ mid → mid ≤ to → HasPassed contents (chosen_lines sheet wants from mid) [] a b
+        → HasPassed contents (chosen_lines sheet wants mid to) [] b c → HasPassed contents (chosen_lines sheet wants from to) [] a c
+    passed-then from mid to a b c first second before step =
+        subst (λ text. HasPassed contents text [] a c) (sym (chosen-join from mid to first second)) (passed-both contents (chosen_lines sheet wants from mid) (chosen_lines sheet wants mid to) a b c before step)
+
+    pub none-wanted : (what : Drawn) (from to : ℕ) (a : Counted T) → wants (shown what) ≡ false → ((k : ℕ) → from ≤ k → k < to → place (row_tracks sheet) k ≡ what) → HasPassed contents (chosen_lines sheet wants from to) [] a a
+    none-wanted what from to a unwanted is = subst (λ text. HasPassed contents text [] a a) (sym (chosen-unwanted what from to unwanted is)) (nothing-passed contents a)
+
+-- what is appended to an empty text
+pub printed-alone : (old more new : List ℕ) → old ≡ [] → new ≡ old ++ more → new ≡ more
+printed-alone old more new empty is = is ∙ ap (λ l. l ++ more) empty
+
+pub on-ok : {A E P : Type 0} (r : Result A E) → P → OnOk r P
+on-ok (Ok done) p = p
+on-ok (Err stop) p = tt
+
+-- the line that stands at a line's place is the line of what it shows
+pub at-place : (sheet : Sheet) (what : Drawn) (y : ℕ) (bytes : List ℕ) → place (row_tracks sheet) y ≡ what → bytes ≡ place_line sheet y → bytes ≡ line_at sheet what y
+at-place sheet what y bytes is printed = printed ∙ ap (λ p. line_at sheet p y) is

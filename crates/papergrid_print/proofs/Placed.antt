@@ -1,0 +1,56 @@
+-- Texts in their columns show what the picture shows, where all cells of a table have the same settings.
+use Rattle.std.proofs.Common.{◌≡◌, ℕ, ◌+◌, ◌<◌, List, ◌++◌, Option, drop, get_or, length, refl, ap, subst, ◌∙◌, append_assoc}
+use Rattle.std.specs.Prelude.{slice_index}
+use Rattle.grid_config.specs.Colors.{Color}
+use Rattle.grid_config_values.specs.declared.position.Position.{Position}
+use Rattle.grid_config.specs.Looks.{look_of}
+use Rattle.grid_records_traits.specs.Cells.{HasLineCount, HasWidth, IsLineAt}
+use Rattle.grid_records_traits.specs.Rows.{text_at}
+use Rattle.papergrid_picture.specs.Blocks.{greatest}
+use Rattle.papergrid_picture.specs.Picture.{at}
+use Rattle.papergrid_cells.specs.Flat.{AreFlat, AreFlatRows, Standing, empty_from, joint_behind, joints_of, placed, standing_of}
+use Rattle.papergrid_cells.specs.declared.flat.FlatRows.{FlatRows}
+use Rattle.papergrid_print.specs.FlatSheets.{first_placed, row_front}
+use Rattle.papergrid_print.specs.Sheets.{Sheet, bytes_of, grid_of}
+use Rattle.papergrid_print.proofs.Flat.{flat-more, line-is, measured, one-width, widest-is}
+
+-- ---- a text that is its own first line, in its column
+
+module _ (sheet : Sheet) (flat : AreFlat sheet.settings) (pos : Position) (stands : Standing) where
+  pub plain-placed : (text : List ℕ) (width : ℕ) (color : Option Color) → text ≡ text_at sheet.rows pos → HasLineCount text 1 → HasWidth text width → IsLineAt text 0 text → color ≡ sheet.colors pos
+      → placed stands (slice_index sheet.widths pos.col) width width color text ≡ first_placed sheet stands pos
+  plain-placed text width color own counted has first shade =
+      let column = slice_index sheet.widths pos.col in
+      let measures = (grid_of sheet).measures pos in
+      let line = (bytes_of sheet).line pos 0 in
+      let own_count : HasLineCount (text_at sheet.rows pos) 1 = subst (λ (t : List ℕ). HasLineCount t 1) own counted in
+      let own_width : HasWidth (text_at sheet.rows pos) width = subst (λ (t : List ℕ). HasWidth t width) own has in
+      let own_first : IsLineAt (text_at sheet.rows pos) 0 text = subst (λ (t : List ℕ). IsLineAt t 0 text) own first in
+      let shown : text ≡ line = line-is sheet flat pos text own_first in
+      ap (λ t. placed stands column width width color t) shown
+      ∙ (ap (λ n. placed stands column n width color line) (measured sheet flat pos width (one-width (text_at sheet.rows pos) 1 width own_count refl own_width))
+      ∙ (ap (λ n. placed stands column (slice_index measures 0) n color line) (widest-is sheet flat pos width own_width)
+      ∙ ap (λ c. placed stands column (slice_index measures 0) (greatest measures) c line) shade))
+
+-- ---- the line of a row of empty cells
+
+-- one column more: a text is written over its room
+module _ (sheet : Sheet) (flat : AreFlat sheet.settings) (rows : FlatRows) (are : AreFlatRows (look_of sheet.settings) (length sheet.widths) rows) (i j : ℕ) (begin : List ℕ) where
+  abbrev behind_front : ℕ → List ℕ
+  behind_front k = empty_from (joints_of rows) (length sheet.widths) k (drop k sheet.widths)
+
+  pub written-more : {new : List ℕ} (shown : List ℕ) → i < length sheet.heights → j < length sheet.widths → get_or sheet.heights i 0 ≡ 1
+      → shown ≡ first_placed sheet (standing_of rows) (at i j)
+      → new ≡ (begin ++ row_front sheet i j) ++ (shown ++ (joint_behind (joints_of rows) j (length sheet.widths) ++ behind_front (j + 1)))
+      → new ≡ (begin ++ row_front sheet i (j + 1)) ++ behind_front (j + 1)
+  written-more {new} shown row column high is made =
+      let front = begin ++ row_front sheet i j in
+      let joint = joint_behind (joints_of rows) j (length sheet.widths) in
+      let placed_text = first_placed sheet (standing_of rows) (at i j) in
+      made
+      ∙ (ap (λ l. front ++ (l ++ (joint ++ behind_front (j + 1)))) is
+      ∙ (regroup front placed_text joint (behind_front (j + 1))
+      ∙ ap (λ l. l ++ behind_front (j + 1)) (flat-more sheet flat i j rows begin row column high are refl refl refl)))
+    where
+      regroup : (a b c d : List ℕ) → a ++ (b ++ (c ++ d)) ≡ ((a ++ b) ++ c) ++ d
+      regroup a b c d = simp append_assoc

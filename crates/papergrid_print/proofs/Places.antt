@@ -1,0 +1,49 @@
+-- Lines of the picture in turn.
+use Rattle.std.proofs.Common.{◌≡◌, ℕ, ◌+◌, ◌<◌, ◌≤◌, true, false, List, [], ◌∷◌, ◌++◌, length, get_or, ap, sym, ◌∙◌, arith, append_assoc, append-nil, flat_map}
+use Rattle.std.specs.List.{range_with_len}
+use Rattle.std.proofs.lemmas.List.Concat.{flat_map-append}
+use Rattle.papergrid_picture.specs.Frame.{Boundary, Place, Row, boundary_at, place, thickness, track_at}
+use Rattle.papergrid_picture.specs.Reading.{grid_line}
+use Rattle.papergrid_picture.proofs.Frames.{boundary-bounded, boundary-next, place-boundary, place-row, range_with_len-more}
+use Rattle.papergrid_print.specs.Sheets.{Sheet, bytes_of, feed_before, grid_of, line_at, lines_of, row_tracks}
+
+module _ (sheet : Sheet) where
+  pub lines-next : (y : ℕ) → lines_of sheet (y + 1) ≡ lines_of sheet y ++ (feed_before y ++ grid_line (bytes_of sheet) (grid_of sheet) y)
+  lines-next y =
+      let f : ℕ → List ℕ = λ k. feed_before k ++ grid_line (bytes_of sheet) (grid_of sheet) k in
+      let zero_y : 0 + y ≡ y = omega arith in
+      ap (flat_map f) (range_with_len-more 0 y) ∙ (flat_map-append f (range_with_len 0 y) ((0 + y) ∷ [])
+      ∙ ap (λ l. lines_of sheet y ++ l) (append-nil (f (0 + y)) ∙ ap f zero_y))
+
+  -- one line more, by what it shows
+  pub line-more : (shown : Place) (y : ℕ) (out one new : List ℕ) → place (row_tracks sheet) y ≡ shown → out ≡ lines_of sheet y → one ≡ out ++ feed_before y
+      → new ≡ one ++ line_at sheet shown y → new ≡ lines_of sheet (y + 1)
+  line-more shown y out one new is before fed printed =
+      printed ∙ (ap (λ l. l ++ line_at sheet shown y) (fed ∙ ap (λ l. l ++ feed_before y) before)
+      ∙ (append_assoc (lines_of sheet y) (feed_before y) (line_at sheet shown y)
+      ∙ (ap (λ p. lines_of sheet y ++ (feed_before y ++ line_at sheet p y)) (sym is)
+      ∙ sym (lines-next y))))
+
+  -- the line of a row fits
+  pub row-fits : (i : ℕ) → i < length sheet.heights → track_at (row_tracks sheet) i + get_or sheet.heights i 0 ≤ boundary_at (row_tracks sheet) (length sheet.heights)
+  row-fits i inside = omega (arith, boundary-next (row_tracks sheet) i inside, boundary-bounded (row_tracks sheet) (i + 1) (omega (arith, inside)))
+
+  pub row-end : (i : ℕ) → i < length sheet.heights → track_at (row_tracks sheet) i + get_or sheet.heights i 0 ≡ boundary_at (row_tracks sheet) (i + 1)
+  row-end i inside = sym (boundary-next (row_tracks sheet) i inside)
+
+  pub row-more : (i y : ℕ) (out one new : List ℕ) → i < length sheet.heights → track_at (row_tracks sheet) i ≤ y → y < track_at (row_tracks sheet) i + get_or sheet.heights i 0
+      → out ≡ lines_of sheet y → one ≡ out ++ feed_before y → new ≡ one ++ line_at sheet (Row i) y → new ≡ lines_of sheet (y + 1)
+  row-more i y out one new inside from before = line-more (Row i) y out one new (place-row (row_tracks sheet) i y inside from before)
+
+  pub boundary-there : (i : ℕ) → (row_tracks sheet).has_boundary i ≡ true → track_at (row_tracks sheet) i ≡ boundary_at (row_tracks sheet) i + 1
+  boundary-there i there = ap (λ b. boundary_at (row_tracks sheet) i + thickness b) there
+
+  pub boundary-absent : (i : ℕ) → (row_tracks sheet).has_boundary i ≡ false → track_at (row_tracks sheet) i ≡ boundary_at (row_tracks sheet) i
+  boundary-absent i there = let e : boundary_at (row_tracks sheet) i + 0 ≡ boundary_at (row_tracks sheet) i = omega arith in ap (λ b. boundary_at (row_tracks sheet) i + thickness b) there ∙ e
+
+  pub boundary-more : (i y : ℕ) (out one new : List ℕ) → y ≡ boundary_at (row_tracks sheet) i → i ≤ length sheet.heights → (row_tracks sheet).has_boundary i ≡ true
+      → out ≡ lines_of sheet y → one ≡ out ++ feed_before y → new ≡ one ++ line_at sheet (Boundary i) y → new ≡ lines_of sheet (track_at (row_tracks sheet) i)
+  boundary-more i y out one new top inside there before fed printed =
+      let next : y + 1 ≡ track_at (row_tracks sheet) i = omega (arith, boundary-there i there, top) in
+      line-more (Boundary i) y out one new (ap (place (row_tracks sheet)) top ∙ place-boundary (row_tracks sheet) i inside there) before fed printed
+      ∙ ap (lines_of sheet) next
