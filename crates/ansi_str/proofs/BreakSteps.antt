@@ -17,7 +17,7 @@ use Rattle.ansi_str.specs.Parts.{from_place, before_place, through_place, dresse
 use Rattle.ansi_str.specs.Walking.{from_text}
 use Rattle.ansi_str.specs.Cuts.{IsGoodBound, AreBreaks, parts_behind, parts_at}
 use Rattle.ansi_str_search.proofs.Parts.{text_of-text, text_of-sequence}
-use Rattle.ansi_str_search.proofs.Places.{strip-from, from-none, from-past, through-inside, through-past, EachStands-from}
+use Rattle.ansi_str_search.proofs.PiecesAtPlaces.{strip-from, from-none, from-past, through-inside, through-past, EachStands-from}
 use Rattle.ansi_str_search.proofs.PlaceSums.{from-from, through-all, style-through_split}
 use Rattle.ansi_str_search.proofs.Rests.{strip-fits}
 use Rattle.ansi_str.proofs.CutParts.{style-cut, first_part-slice, later_part-slice}

@@ -13,7 +13,7 @@ use Rattle.ansi_str.specs.Walking.{from_text, sequence_of, sequences}
 use Rattle.ansi_str.specs.Cuts.{cut_part, later_part}
 use Rattle.ansi_str_search.proofs.Parts.{below, not_below, at_most, style_by-text, text_of-text, text_of-sequence, within, taken_piece-text, taken_piece-sequence, take_nil, taken-slice}
 use Rattle.ansi_str_search.proofs.Styles.{either_style, style_where-through}
-use Rattle.ansi_str_search.proofs.Places.{none, inside, past, reach, has_text, from-none, before-none, from-inside, from-past, before-inside, before-past, EachStands-from}
+use Rattle.ansi_str_search.proofs.PiecesAtPlaces.{none, inside, past, reach, has_text, from-none, before-none, from-inside, from-past, before-inside, before-past, EachStands-from}
 use Rattle.ansi_str_search.proofs.PlaceSums.{from-from, style-before_sum, through-all, style-through_split}
 use Rattle.ansi_str_search.proofs.PlainParts.{start_bytes-plain}
 

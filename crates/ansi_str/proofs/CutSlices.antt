@@ -12,7 +12,7 @@ use Rattle.ansi_str.specs.Parts.{from_place, before_place, through_place}
 use Rattle.ansi_str.specs.Walking.{from_text}
 use Rattle.ansi_str.specs.Cuts.{cut_part, later_part}
 use Rattle.ansi_str_search.proofs.Parts.{text_of-text, text_of-sequence}
-use Rattle.ansi_str_search.proofs.Places.{through-inside, through-past, EachStands-from}
+use Rattle.ansi_str_search.proofs.PiecesAtPlaces.{through-inside, through-past, EachStands-from}
 use Rattle.ansi_str_search.proofs.PlaceSums.{style-through_split}
 use Rattle.ansi_str_search.proofs.Utf8.{EachUtf8, EachUtf8-pieces}
 use Rattle.ansi_str_search.proofs.CharSlices.{styled-between}

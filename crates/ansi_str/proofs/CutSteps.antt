@@ -21,7 +21,7 @@ use Rattle.ansi_str.specs.Cuts.{IsGoodBound, AreGoodBounds, cut_part}
 use Rattle.ansi_str.specs.CutEnds.{AreCutEnds}
 use Rattle.ansi_str_search.proofs.Parts.{text_of-text, text_of-sequence, style_by-text}
 use Rattle.ansi_str_search.proofs.Styles.{front_of-style}
-use Rattle.ansi_str_search.proofs.Places.{none, inside, past, reach, has_text, before-none, before-inside, before-past, through-inside, through-past, strip-from, joined-places}
+use Rattle.ansi_str_search.proofs.PiecesAtPlaces.{none, inside, past, reach, has_text, before-none, before-inside, before-past, through-inside, through-past, strip-from, joined-places}
 use Rattle.ansi_str_search.proofs.Dressed.{short, long, cut}
 use Rattle.ansi_str_search.proofs.PlainParts.{end_bytes-plain}
 use Rattle.ansi_str_search.proofs.Walks.{run_boundary, run_within, run_of, from-plain, IsCharBoundary-drop, strip-sequence}

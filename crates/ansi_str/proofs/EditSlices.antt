@@ -19,7 +19,7 @@ use Rattle.ansi_str.specs.Parts.{from_place, before_place, through_place, split_
 use Rattle.ansi_str.specs.Cuts.{AreGoodBounds, cut_part, later_part}
 use Rattle.ansi_str.specs.Matches.{split_bounds, styled_slice}
 use Rattle.ansi_str.specs.Edits.{AreParts, LeavesOf, TakesTo, TakeInTurn, ShowsItsSlice, IsInUtf8, StandAmong}
-use Rattle.ansi_str_search.proofs.Places.{none, inside, past, reach, from-past, strip-from}
+use Rattle.ansi_str_search.proofs.PiecesAtPlaces.{none, inside, past, reach, from-past, strip-from}
 use Rattle.ansi_str_search.proofs.PlaceSums.{through-all}
 use Rattle.ansi_str_search.proofs.CharSlices.{styled-between, styled-slice}
 use Rattle.ansi_str_search.proofs.Utf8.{EachUtf8, EachUtf8-pieces, IsUtf8-strip, IsUtf8-split_part}

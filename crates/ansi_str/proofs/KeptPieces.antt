@@ -11,7 +11,7 @@ use Rattle.ansi_str.specs.StyledText.{text_of, strip}
 use Rattle.ansi_str.specs.Parts.{taken_piece, taken}
 use Rattle.ansi_str.specs.Keeping.{kept, sequences_among}
 use Rattle.ansi_str_search.proofs.Parts.{text_of-text, text_of-sequence, taken_piece-text, taken_piece-sequence}
-use Rattle.ansi_str_search.proofs.Places.{list_all-drop}
+use Rattle.ansi_str_search.proofs.PiecesAtPlaces.{list_all-drop}
 use Rattle.ansi_str_search.proofs.Dressed.{Stands-before, list_all-take, other_kind}
 use Rattle.ansi_str_search.proofs.Merges.{slice_both}
 use Rattle.ansi_str.proofs.Keeps.{empty_slice}

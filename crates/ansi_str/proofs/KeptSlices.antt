@@ -12,7 +12,7 @@ use Rattle.ansi_str.specs.StyledText.{text_of, strip, style_after, style_after_a
 use Rattle.ansi_str.specs.Parts.{piece_from, from_place, before_place, through_place}
 use Rattle.ansi_str.specs.Keeping.{kept}
 use Rattle.ansi_str_search.proofs.Parts.{text_of-text, text_of-sequence, style_by-text}
-use Rattle.ansi_str_search.proofs.Places.{none, inside, past, reach, has_text, from-inside, from-past, before-inside, before-past, through-inside, through-past}
+use Rattle.ansi_str_search.proofs.PiecesAtPlaces.{none, inside, past, reach, has_text, from-inside, from-past, before-inside, before-past, through-inside, through-past}
 use Rattle.ansi_str_search.proofs.Cuts.{with_style, styled_from-text}
 use Rattle.ansi_str_search.proofs.CharSlices.{styled-between}
 use Rattle.ansi_str_search.proofs.Utf8.{EachUtf8-pieces}

@@ -8,7 +8,7 @@ pub mod Keeps
 pub mod Trims
 pub mod KeptPieces
 pub mod KeptSlices
-pub mod Edits
+pub mod PickedParts
 pub mod EditLaws
 pub mod WholeEdits
 pub mod EditUtf8

@@ -10,7 +10,7 @@ use Rattle.ansi_scan.proofs.Existence.{ArePiecesOf-pieces}
 use Rattle.ansi_str.specs.StyledText.{strip}
 use Rattle.ansi_str.specs.Parts.{from_place}
 use Rattle.ansi_str.specs.Cuts.{AreBreaks}
-use Rattle.ansi_str_search.proofs.Places.{strip-from}
+use Rattle.ansi_str_search.proofs.PiecesAtPlaces.{strip-from}
 use Rattle.ansi_str_search.proofs.Utf8.{EachUtf8-from, EachUtf8-pieces, IsUtf8-joined, boundary-from}
 use Rattle.ansi_str_search.proofs.PlaceSums.{from-from}
 use Rattle.ansi_str.proofs.BreakSteps.{rise-tail}

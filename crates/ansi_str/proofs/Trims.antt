@@ -16,7 +16,7 @@ use Rattle.ansi_str.specs.StyledText.{strip}
 use Rattle.ansi_str.specs.Searches.{BeginsWith}
 use Rattle.ansi_str.specs.Keeping.{IsTrimmed, IsTrimmedAt, kept}
 use Rattle.ansi_str_search.proofs.Searches.{of_pieces}
-use Rattle.ansi_str_search.proofs.Matches.{Occurs-ends}
+use Rattle.ansi_str_search.proofs.FirstMatch.{Occurs-ends}
 
 -- a text can be cut behind a prefix
 pub begins-cut : (p text : List ℕ) → IsUtf8 p → IsUtf8 text → BeginsWith p text → IsCharBoundary text (length p)

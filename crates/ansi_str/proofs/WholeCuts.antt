@@ -14,7 +14,7 @@ use Rattle.ansi_str.specs.Parts.{piece_from, from_place, before_place, through_p
 use Rattle.ansi_str.specs.Walking.{from_text}
 use Rattle.ansi_str.specs.Cuts.{IsGoodBound, cut_part, later_part}
 use Rattle.ansi_str_search.proofs.Parts.{text_of-text, text_of-sequence, style_by-text}
-use Rattle.ansi_str_search.proofs.Places.{none, inside, past, reach, has_text, from-inside, from-past, before-inside, before-past, through-inside, through-past, EachStands-from, strip-from}
+use Rattle.ansi_str_search.proofs.PiecesAtPlaces.{none, inside, past, reach, has_text, from-inside, from-past, before-inside, before-past, through-inside, through-past, EachStands-from, strip-from}
 use Rattle.ansi_str_search.proofs.PlaceSums.{through-all, through-parted, style-through_split}
 use Rattle.ansi_str_search.proofs.Dressed.{dressed_pieces, styled_from-append, EachStands-through, NoneBroken-through, NoneBroken-from, ArePiecesOf-dressed, styled-dressed, IsClosed-dressed, IsRendition-after}
 use Rattle.ansi_str_search.proofs.Slices.{strip-dressed_pieces, strip-through}

@@ -19,7 +19,7 @@ use Rattle.ansi_str_search.specs.Matches.{AreMatchesFrom, AreMatches, bounds_bet
 use Rattle.ansi_str_search.specs.Lines.{IsClosedLine}
 use Rattle.ansi_str_search.proofs.Parts.{style_by-text, text_of-text}
 use Rattle.ansi_str_search.proofs.Styles.{split_part-slice}
-use Rattle.ansi_str_search.proofs.Places.{none, inside, past, reach, from-inside, from-past, before-inside, before-past, through-inside, through-past, strip-from}
+use Rattle.ansi_str_search.proofs.PiecesAtPlaces.{none, inside, past, reach, from-inside, from-past, before-inside, before-past, through-inside, through-past, strip-from}
 use Rattle.ansi_str_search.proofs.Dressed.{short, long, cut, IsClosed-split_part}
 use Rattle.ansi_str_search.proofs.Slices.{strip-through, strip-split_part}
 use Rattle.ansi_str_text.proofs.Stripping.{escaped, strip-without_escape}

@@ -14,9 +14,9 @@ use Rattle.ansi_str_search.specs.Parts.{from_place, before_place, through_place,
 use Rattle.ansi_str_search.specs.PartsLeft.{first_match, passed_over, parts_left}
 use Rattle.ansi_str_search.specs.Walking.{from_text, bytes_to, Lands}
 use Rattle.ansi_str_search.proofs.Parts.{text_of-text, text_of-sequence}
-use Rattle.ansi_str_search.proofs.Places.{EachStands-from, from-past, before-past, through-past, through-inside}
+use Rattle.ansi_str_search.proofs.PiecesAtPlaces.{EachStands-from, from-past, before-past, through-past, through-inside}
 use Rattle.ansi_str_search.proofs.PlaceSums.{from-from, style-before_sum, through-all, style-through_split}
-use Rattle.ansi_str_search.proofs.Matches.{parts_left-found}
+use Rattle.ansi_str_search.proofs.FirstMatch.{parts_left-found}
 use Rattle.ansi_str_search.proofs.Finds.{text_some}
 use Rattle.ansi_str_search.proofs.Walks.{from-plain, style-plain}
 use Rattle.ansi_str_search.proofs.Rests.{rest_slice, slice_part, plain-end, strip-fits, match-fits, next-part}

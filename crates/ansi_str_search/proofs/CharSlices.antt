@@ -8,9 +8,9 @@ use Rattle.std.proofs.lemmas.Str.{chars-nil, chars-append, IsUtf8-take}
 use Rattle.ansi_scan.specs.Sequences.{Piece, ArePiecesOf, NoneBroken}
 use Rattle.ansi_scan.specs.Attributes.{Attributes, plain_attributes}
 use Rattle.ansi_str_text.specs.StyledText.{text_of, strip, style_after, style_after_all, styled_from, styled}
-use Rattle.ansi_str_text.proofs.Last.{strip-append}
+use Rattle.ansi_str_text.proofs.LastSequence.{strip-append}
 use Rattle.ansi_str_search.specs.Parts.{from_place, before_place, through_place, split_part}
-use Rattle.ansi_str_search.proofs.Places.{none, inside, past, reach, has_text, from-past, before-inside, before-past, strip-from}
+use Rattle.ansi_str_search.proofs.PiecesAtPlaces.{none, inside, past, reach, has_text, from-past, before-inside, before-past, strip-from}
 use Rattle.ansi_str_search.proofs.PlaceSums.{through-parted}
 use Rattle.ansi_str_search.proofs.Dressed.{styled_from-append, styled-split_part}
 use Rattle.ansi_str_search.proofs.Slices.{strip-through}

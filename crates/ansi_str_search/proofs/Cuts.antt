@@ -20,7 +20,7 @@ use Rattle.ansi_str_search.specs.Parts.{piece_from, from_place, before_place, th
 use Rattle.ansi_str_search.specs.Matches.{Occurs, AreMatchesFrom, AreMatches, bounds_between, split_bounds, styled_parts}
 use Rattle.ansi_str_search.proofs.Parts.{style_by-text, text_of-text}
 use Rattle.ansi_str_search.proofs.Styles.{front_of-style}
-use Rattle.ansi_str_search.proofs.Places.{none, inside, past, reach, has_text, from-inside, from-past, before-inside, before-past, through-inside, through-past, from-none, before-none, drop-append_past, strip-from}
+use Rattle.ansi_str_search.proofs.PiecesAtPlaces.{none, inside, past, reach, has_text, from-inside, from-past, before-inside, before-past, through-inside, through-past, from-none, before-none, drop-append_past, strip-from}
 use Rattle.ansi_str_search.proofs.PlaceSums.{from-from, style-before_sum, through-all}
 use Rattle.ansi_str_search.proofs.Dressed.{short, long, cut, styled-split_part}
 use Rattle.ansi_str_search.proofs.Slices.{strip-through}

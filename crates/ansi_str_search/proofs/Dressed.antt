@@ -25,7 +25,7 @@ use Rattle.ansi_str_text.proofs.Seams.{joined-append}
 use Rattle.ansi_str_search.specs.Parts.{from_place, before_place, through_place, split_part, dressed}
 use Rattle.ansi_str_search.proofs.Parts.{text_of-text, text_of-sequence}
 use Rattle.ansi_str_search.proofs.Styles.{split_part-slice}
-use Rattle.ansi_str_search.proofs.Places.{none, inside, past, reach, has_text, from-inside, from-past, through-inside, through-past, EachStands-from}
+use Rattle.ansi_str_search.proofs.PiecesAtPlaces.{none, inside, past, reach, has_text, from-inside, from-past, through-inside, through-past, EachStands-from}
 
 -- ---- sequences as pieces
 

@@ -20,8 +20,8 @@ use Rattle.ansi_str_text.specs.StyledText.{strip}
 use Rattle.ansi_str_search.specs.Walking.{begins_with_escape, is_other, IsBehindFirst}
 use Rattle.ansi_str_search.specs.PartsLeft.{matches_first, first_match, passed_over}
 use Rattle.ansi_str_search.specs.Matches.{Occurs}
-use Rattle.ansi_str_search.proofs.Matches.{IsFirstOrNone, first_match-unique, first_match-ends}
-use Rattle.ansi_str_search.proofs.Places.{strip-from}
+use Rattle.ansi_str_search.proofs.FirstMatch.{IsFirstOrNone, first_match-unique, first_match-ends}
+use Rattle.ansi_str_search.proofs.PiecesAtPlaces.{strip-from}
 use Rattle.ansi_str_search.proofs.Walks.{from-plain, strip_byte, take-strip, strip-sequence, escape_first, escape_ends}
 use Rattle.ansi_str_search.proofs.Utf8.{EachUtf8-pieces, IsUtf8-strip}
 

@@ -13,8 +13,8 @@ use Rattle.ansi_str_search.specs.Matches.{Occurs, IsFirstMatch}
 use Rattle.ansi_str_search.specs.PartsLeft.{begins_with, first_match}
 use Rattle.ansi_str_search.specs.Searches.{EndsWith, IsFound}
 use Rattle.ansi_str_search.specs.Walking.{begins_with_escape}
-use Rattle.ansi_str_search.proofs.Matches.{IsFirstOrNone, first_match-unique, first_match-sound, first_match-is_first, begins_with-sound, begins_with-append, Occurs-on, Occurs-back}
-use Rattle.ansi_str_search.proofs.Places.{strip-from}
+use Rattle.ansi_str_search.proofs.FirstMatch.{IsFirstOrNone, first_match-unique, first_match-sound, first_match-is_first, begins_with-sound, begins_with-append, Occurs-on, Occurs-back}
+use Rattle.ansi_str_search.proofs.PiecesAtPlaces.{strip-from}
 use Rattle.ansi_str_search.proofs.Walks.{from-plain}
 use Rattle.ansi_str_search.proofs.Finds.{IsUtf8-shown}
 use Rattle.ansi_str_search.proofs.Searches.{begins_with-none_left}

@@ -16,7 +16,7 @@ use Rattle.ansi_str_search.specs.Parts.{from_place, before_place, through_place}
 use Rattle.ansi_str_search.specs.PartsLeft.{first_match}
 use Rattle.ansi_str_search.specs.Walking.{from_text, begins_with_escape, is_other, AreFirstAndRest, bytes_to, Lands}
 use Rattle.ansi_str_search.proofs.Parts.{text_of-sequence}
-use Rattle.ansi_str_search.proofs.Places.{from-none, through-past}
+use Rattle.ansi_str_search.proofs.PiecesAtPlaces.{from-none, through-past}
 use Rattle.ansi_str_search.proofs.PlaceSums.{from-from, style-before_sum, style-through_split}
 use Rattle.ansi_str_search.proofs.Walks.{from-plain, style-plain, first-sequence, strip-sequence, from-sequence, from_text-sequence, at_text}
 use Rattle.ansi_str_search.proofs.Finds.{match-behind_others, match-here, match-nowhere, other_run, other_fits, parted, found_byte}

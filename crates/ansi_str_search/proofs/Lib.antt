@@ -1,11 +1,11 @@
 pub mod Parts
 pub mod Styles
-pub mod Places
+pub mod PiecesAtPlaces
 pub mod Dressed
 pub mod Walks
 pub mod Finds
 pub mod PlaceSums
-pub mod Matches
+pub mod FirstMatch
 pub mod Slices
 pub mod Chars
 pub mod Utf8

@@ -2,7 +2,7 @@
 use Rattle.std.proofs.Common.{◌≡◌, ℕ, zero, suc, ◌+◌, ◌<◌, ◌≤◌, List, [], ◌∷◌, length, Option, None, Some, refl, ap, sym, subst, ◌∙◌, arith}
 use Rattle.ansi_str_search.specs.Matches.{IsFirstMatch, behind_match, AreMatchesFrom, AreMatches}
 use Rattle.ansi_str_search.specs.PartsLeft.{first_match}
-use Rattle.ansi_str_search.proofs.Matches.{IsFirstOrNone, first_match-sound, two_firsts}
+use Rattle.ansi_str_search.proofs.FirstMatch.{IsFirstOrNone, first_match-sound, two_firsts}
 
 -- ---- one list
 

@@ -18,9 +18,9 @@ use Rattle.ansi_str_search.specs.Parts.{from_place, before_place, through_place,
 use Rattle.ansi_str_search.specs.PartsLeft.{first_match, passed_over, parts_left}
 use Rattle.ansi_str_search.specs.Walking.{from_text, begins_with_escape}
 use Rattle.ansi_str_search.proofs.Parts.{text_of-text, text_of-sequence}
-use Rattle.ansi_str_search.proofs.Places.{joined-places, through-inside, through-past, strip-from}
+use Rattle.ansi_str_search.proofs.PiecesAtPlaces.{joined-places, through-inside, through-past, strip-from}
 use Rattle.ansi_str_search.proofs.PlaceSums.{from-from, style-before_sum, through-all, through-split, style-through_split}
-use Rattle.ansi_str_search.proofs.Matches.{parts_left-found, first_match-begins, first_match-within}
+use Rattle.ansi_str_search.proofs.FirstMatch.{parts_left-found, first_match-begins, first_match-within}
 use Rattle.ansi_str_search.proofs.Walks.{style-plain, at_text, IsCharBoundary-drop}
 
 -- ---- the sequences that come first

@@ -19,10 +19,10 @@ use Rattle.ansi_str_search.specs.Parts.{from_place}
 use Rattle.ansi_str_search.specs.PartsLeft.{begins_with}
 use Rattle.ansi_str_search.specs.Searches.{BeginsWith}
 use Rattle.ansi_str_search.specs.Walking.{IsBehindFirst, begins_with_escape, shared_len}
-use Rattle.ansi_str_search.proofs.Places.{strip-from, from-none}
+use Rattle.ansi_str_search.proofs.PiecesAtPlaces.{strip-from, from-none}
 use Rattle.ansi_str_search.proofs.PlaceSums.{from-from}
 use Rattle.ansi_str_search.proofs.Walks.{from-plain, take-strip, strip-sequence, from-sequence, IsCharBoundary-drop, run_boundary, run_within, run_of, empty_text, escape_first}
-use Rattle.ansi_str_search.proofs.Matches.{begins_with-sound, begins_with-append}
+use Rattle.ansi_str_search.proofs.FirstMatch.{begins_with-sound, begins_with-append}
 use Rattle.ansi_str_search.proofs.Finds.{IsUtf8-shown}
 
 -- ---- bytes of text

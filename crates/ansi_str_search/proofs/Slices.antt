@@ -7,10 +7,10 @@ use Rattle.ansi_scan.specs.Sequences.{Piece, ArePiecesOf, NoneBroken}
 use Rattle.ansi_scan.specs.Attributes.{Attributes, plain_attributes}
 use Rattle.ansi_scan.specs.StartsAndEnds.{start_sequences, end_sequences}
 use Rattle.ansi_str_text.specs.StyledText.{text_of, strip, style_after_all}
-use Rattle.ansi_str_text.proofs.Last.{strip-append}
+use Rattle.ansi_str_text.proofs.LastSequence.{strip-append}
 use Rattle.ansi_str_search.specs.Parts.{from_place, before_place, through_place, split_part}
 use Rattle.ansi_str_search.proofs.Parts.{text_of-text}
-use Rattle.ansi_str_search.proofs.Places.{has_text, through-inside, through-past, strip-from}
+use Rattle.ansi_str_search.proofs.PiecesAtPlaces.{has_text, through-inside, through-past, strip-from}
 use Rattle.ansi_str_search.proofs.Dressed.{renditions, dressed_pieces, pieces_of_part, short, long, cut}
 
 pub strip-renditions : (sequences : List (List ℕ)) → strip (renditions sequences) ≡ []

@@ -16,7 +16,7 @@ use Rattle.std.proofs.lemmas.List.Splits.{slice_split_none, slice_split_at}
 use Rattle.std.proofs.lemmas.Str.{IsCharBoundary-start}
 use Rattle.ansi_str_search.specs.Matches.{Occurs, IsFirstMatch, behind_match, AreMatchesFrom, AreMatches, bounds_between, split_bounds, text_parts}
 use Rattle.ansi_str_search.specs.PartsLeft.{first_match}
-use Rattle.ansi_str_search.proofs.Matches.{first_match-unique, first_match-none_left, first_match-left, Occurs-within}
+use Rattle.ansi_str_search.proofs.FirstMatch.{first_match-unique, first_match-none_left, first_match-left, Occurs-within}
 
 -- the part from a place to the end of a text
 last-slice : (text : List ℕ) (from : ℕ) → slice_range text from (length text) ≡ drop from text

@@ -26,7 +26,7 @@ use Rattle.ansi_str_search.specs.Matches.{Occurs, AreMatchesFrom, AreMatches, be
 use Rattle.ansi_str_search.specs.Lines.{IsClosedText}
 use Rattle.ansi_str_search.proofs.Parts.{text_of-text}
 use Rattle.ansi_str_search.proofs.Styles.{split_part-slice}
-use Rattle.ansi_str_search.proofs.Places.{none, inside, past, reach, has_text, from-inside, from-past, through-inside, through-past, strip-from}
+use Rattle.ansi_str_search.proofs.PiecesAtPlaces.{none, inside, past, reach, has_text, from-inside, from-past, through-inside, through-past, strip-from}
 use Rattle.ansi_str_search.proofs.Dressed.{renditions, dressed_pieces, joined-dressed, short, long, cut, IsRendition-after, IsClosed-split_part}
 use Rattle.ansi_str_search.proofs.Chars.{hold_both}
 pub use Rattle.ansi_str_text.proofs.Utf8Pieces.{EachUtf8, EachUtf8-pieces, IsUtf8-joined, IsUtf8-text_of, IsUtf8-strip}

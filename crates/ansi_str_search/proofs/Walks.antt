@@ -21,7 +21,7 @@ use Rattle.ansi_str_text.specs.StyledText.{text_of, strip, style_after, style_af
 use Rattle.ansi_str_search.specs.Parts.{from_place, before_place, through_place}
 use Rattle.ansi_str_search.specs.Walking.{from_text, begins_with_escape, AreFirstAndRest}
 use Rattle.ansi_str_search.proofs.Parts.{text_of-text, text_of-sequence, style_by-text}
-use Rattle.ansi_str_search.proofs.Places.{none, inside, past, reach, strip-from, from-none, before-none, from-inside, from-past, before-past, before-inside, through-inside, through-past, drop-append_inside, EachStands-from}
+use Rattle.ansi_str_search.proofs.PiecesAtPlaces.{none, inside, past, reach, strip-from, from-none, before-none, from-inside, from-past, before-past, before-inside, through-inside, through-past, drop-append_inside, EachStands-from}
 use Rattle.ansi_str_search.proofs.PlaceSums.{from-from, style-before_sum}
 
 -- ---- a text that begins with text

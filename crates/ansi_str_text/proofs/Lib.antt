@@ -5,5 +5,5 @@ pub mod Shown
 pub mod Utf8Pieces
 pub mod Tails
 pub mod Seams
-pub mod Last
-pub mod Characters
+pub mod LastSequence
+pub mod ShownCharacters

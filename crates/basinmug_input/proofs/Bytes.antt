@@ -9,7 +9,7 @@ use Rattle.csv.specs.declared.parser.Action.TheVariants as act
 use Rattle.csv.specs.declared.parser.Config.{Config}
 use Rattle.csv.specs.declared.parser.State.{State}
 use Rattle.basinmug_input.specs.Reading.{HasByte, SoFar, field_in, read_of, with_byte}
-use Rattle.basinmug_input.proofs.Records.{records-read}
+use Rattle.basinmug_input.proofs.ReadRecords.{records-read}
 
 pub other-push : {X : Type 0} (xs : List X) (y d : X) (i : ℕ) → (i ≡ length xs → ⊥) → get_or (xs ++ y ∷ []) i d ≡ get_or xs i d
 other-push xs y d i other =

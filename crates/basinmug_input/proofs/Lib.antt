@@ -2,6 +2,6 @@ pub mod Bytes
 pub mod Cleans
 pub mod OneFault
 pub mod Quotes
-pub mod Records
+pub mod ReadRecords
 pub mod Rows
 pub mod Texts

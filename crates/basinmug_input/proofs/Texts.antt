@@ -17,7 +17,7 @@ use Rattle.csv.specs.declared.parser.Terminator.TheVariants as term
 use Rattle.basinmug_input.specs.Reading.{SoFar, nothing, read_of, read_on, settings, with_byte}
 use Rattle.basinmug_input.proofs.Cleans.{both}
 use Rattle.basinmug_input.proofs.Quotes.{either, state-with}
-use Rattle.basinmug_input.proofs.Records.{records-read}
+use Rattle.basinmug_input.proofs.ReadRecords.{records-read}
 use Rattle.basinmug_input.proofs.Rows.{all-push}
 
 -- no comment is read

@@ -8,7 +8,7 @@ use Rattle.tabled_output.specs.Counts.{inner_of}
 use Rattle.tabled_output.specs.Streams.{AppendsFront}
 use Rattle.tabled_output.specs.declared.counted.Counted.{Counted}
 use Rattle.std.proofs.KnownBytes.{Appends-trans}
-use Rattle.tabled_output.proofs.Pieces.{front-taken}
+use Rattle.tabled_output.proofs.WrittenPieces.{front-taken}
 
 -- a front of a text is one of a longer text
 pub front-of-more : (old new : Option (List ℕ)) (text more : List ℕ) → AppendsFront old new text → AppendsFront old new (text ++ more)

@@ -1,2 +1,2 @@
 pub mod Styles
-mod Colors
+mod ListedColors

@@ -13,7 +13,7 @@ use Rattle.columns_asked.proofs.Shrunk.{shrunk_list-meets}
 use Rattle.columns_table.proofs.AskedWidths.{one-taken, padded}
 use Rattle.columns_table.proofs.First.{none-in_row-more, none-more}
 use Rattle.columns_table.proofs.Narrowed.{columns-are, frame-is, kept-is, room-natural, some-rows, some-sizes}
-use Rattle.columns_table.proofs.Sizes.{width-each}
+use Rattle.columns_table.proofs.RowsCut.{width-each}
 use Rattle.columns_run.specs.Layout.{wide_cell}
 use Rattle.columns_run.specs.Run.{MayRefuse}
 use Rattle.columns_run.specs.Wanted.{Wanted}

@@ -1,3 +1,3 @@
-pub mod Names
+pub mod NotNamed
 mod ClosedNames
 pub mod ClosedLists

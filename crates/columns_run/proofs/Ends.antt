@@ -17,7 +17,7 @@ use Rattle.ansi_str_text.specs.StyledText.{strip, style_after_all}
 use Rattle.ansi_str_search.specs.Parts.{from_place, before_place, through_place}
 use Rattle.ansi_str_search.specs.Walking.{from_text, begins_with_escape, AreFirstAndRest}
 use Rattle.ansi_str_search.proofs.Landing.{sequence-place, sequence-style}
-use Rattle.ansi_str_search.proofs.Places.{from-none, strip-from}
+use Rattle.ansi_str_search.proofs.PiecesAtPlaces.{from-none, strip-from}
 use Rattle.ansi_str_search.proofs.PlaceSums.{from-from, style-before_sum, style-through_split}
 use Rattle.ansi_str_search.proofs.Walks.{from-plain, style-plain, take-strip, strip-sequence, at_text}
 use Rattle.columns_run.specs.Rows.{line_feed, tab, stripped}

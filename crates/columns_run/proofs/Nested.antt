@@ -12,12 +12,12 @@ use Rattle.ansi_scan.proofs.Effects.{start_from_plain, end_from_itself, start_by
 use Rattle.ansi_scan.proofs.Existence.{ArePiecesOf-pieces}
 use Rattle.ansi_scan.proofs.Comparing.{not_zero}
 use Rattle.ansi_str_text.specs.StyledText.{text_of, strip, style_after, style_after_all}
-use Rattle.ansi_str_text.proofs.Last.{strip-append}
+use Rattle.ansi_str_text.proofs.LastSequence.{strip-append}
 use Rattle.ansi_str_text.proofs.Seams.{joined-append}
 use Rattle.ansi_str_search.specs.Parts.{piece_from, front_of, from_place, before_place, through_place, split_part, dressed}
 use Rattle.ansi_str_search.proofs.Parts.{text_of-text}
 use Rattle.ansi_str_search.proofs.PlainParts.{start_bytes-plain, end_bytes-plain}
-use Rattle.ansi_str_search.proofs.Places.{none, inside, past, reach, has_text, from-none, before-none, from-inside, from-past, before-inside, before-past, through-inside, through-past, strip-from}
+use Rattle.ansi_str_search.proofs.PiecesAtPlaces.{none, inside, past, reach, has_text, from-none, before-none, from-inside, from-past, before-inside, before-past, through-inside, through-past, strip-from}
 use Rattle.ansi_str_search.proofs.PlaceSums.{from-from, style-before_sum, through-all, style-through_split}
 use Rattle.ansi_str_search.proofs.Styles.{split_part-slice}
 use Rattle.ansi_str_search.proofs.Slices.{strip-through, strip-renditions}

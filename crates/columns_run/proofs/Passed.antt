@@ -22,7 +22,7 @@ use Rattle.ansi_str_search.proofs.Starts.{end-shows, start-shows}
 use Rattle.ansi_str_text.proofs.Stripping.{has_escape-plain}
 use Rattle.ansi_str_text.specs.StyledText.{has_escape, strip}
 use Rattle.grid_records_measure.specs.Measures.{are_printable, measure}
-use Rattle.grid_records_measure.proofs.Printable.{measure-printable}
+use Rattle.grid_records_measure.proofs.PrintableWidth.{measure-printable}
 use Rattle.papergrid_picture.proofs.Stripped.{Leaves, Leaves-append}
 use Rattle.columns_run.specs.Ends.{is_cell_text, Passes}
 use Rattle.columns_run.specs.Rows.{stripped}

@@ -17,7 +17,7 @@ use Rattle.ansi_str_text.specs.StyledText.{strip, style_after_all}
 use Rattle.ansi_str_search.specs.Parts.{from_place, before_place, through_place, split_part, dressed}
 use Rattle.ansi_str_search.specs.Walking.{from_text, begins_with_escape}
 use Rattle.ansi_str_search.proofs.Parts.{text_of-sequence}
-use Rattle.ansi_str_search.proofs.Places.{EachStands-from, from-none, before-none, strip-from}
+use Rattle.ansi_str_search.proofs.PiecesAtPlaces.{EachStands-from, from-none, before-none, strip-from}
 use Rattle.ansi_str_search.proofs.PlaceSums.{from-from, style-before_sum, style-through_split}
 use Rattle.ansi_str_search.proofs.Rests.{rest_slice, slice_part}
 use Rattle.ansi_str_search.proofs.Styles.{split_part-slice}

@@ -17,7 +17,7 @@ use Rattle.ansi_str.specs.Parts.{before_place, from_place, split_part, through_p
 use Rattle.ansi_str.specs.StyledText.{strip, style_after_all}
 use Rattle.ansi_str_search.specs.Lines.{IsClosedLine}
 use Rattle.ansi_str_search.proofs.Dressed.{EachStands-through, NoneBroken-from, NoneBroken-through, dressed_pieces, pieces_of_part, rendition}
-use Rattle.ansi_str_search.proofs.Places.{EachStands-from}
+use Rattle.ansi_str_search.proofs.PiecesAtPlaces.{EachStands-from}
 use Rattle.ansi_str_search.proofs.Slices.{strip-dressed_pieces}
 use Rattle.ansi_str_text.proofs.Stripping.{strip-without_escape}
 use Rattle.ansi_str_text.proofs.Utf8Pieces.{IsUtf8-shown_text}

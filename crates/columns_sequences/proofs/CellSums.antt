@@ -6,7 +6,7 @@ use Rattle.ansi_scan.specs.Pieces.{pieces}
 use Rattle.ansi_scan.specs.Sequences.{NoneBroken}
 use Rattle.ansi_str.specs.Parts.{from_place, through_place}
 use Rattle.ansi_str.specs.StyledText.{strip}
-use Rattle.ansi_str_search.proofs.Places.{from-none}
+use Rattle.ansi_str_search.proofs.PiecesAtPlaces.{from-none}
 use Rattle.ansi_str_search.proofs.PlaceSums.{from-from}
 use Rattle.columns_run.specs.Rows.{cell_parts, line_feed, tab}
 use Rattle.columns_run.proofs.Bounds.{cells_from, cells_from-start, part_of}

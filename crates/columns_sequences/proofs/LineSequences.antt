@@ -18,11 +18,11 @@ use Rattle.ansi_str.specs.StyledText.{strip, style_after, style_after_all, text_
 use Rattle.ansi_str.specs.Walking.{from_text, sequence_of, sequences}
 use Rattle.ansi_str.proofs.BreakSteps.{EachStands-from_text, strip-from_text}
 use Rattle.ansi_str.proofs.CutParts.{first_part-slice, later_part-slice}
-use Rattle.ansi_str_text.proofs.Last.{strip-append}
+use Rattle.ansi_str_text.proofs.LastSequence.{strip-append}
 use Rattle.ansi_str_search.proofs.ByteParts.{from-text}
 use Rattle.ansi_str_search.proofs.Dressed.{ArePiecesOf-dressed, EachStands-through, IsClosed-dressed, IsRendition-after, NoneBroken-from, NoneBroken-through, cut, dressed_pieces, joined-renditions, long, renditions, short}
 use Rattle.ansi_str_search.proofs.Parts.{style_by-text, text_of-sequence, text_of-text}
-use Rattle.ansi_str_search.proofs.Places.{EachStands-from, before-inside, before-past, from-inside, from-none, from-past, has_text, inside, none, past, reach, strip-from, through-inside, through-past}
+use Rattle.ansi_str_search.proofs.PiecesAtPlaces.{EachStands-from, before-inside, before-past, from-inside, from-none, from-past, has_text, inside, none, past, reach, strip-from, through-inside, through-past}
 use Rattle.ansi_str_search.proofs.PlaceSums.{from-from, style-through_split, through-all}
 use Rattle.ansi_str_search.proofs.PlainParts.{end_bytes-plain, start_bytes-plain}
 use Rattle.ansi_str_search.proofs.Slices.{strip-renditions}

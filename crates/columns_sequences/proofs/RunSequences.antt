@@ -22,7 +22,7 @@ use Rattle.ansi_str_search.proofs.Slices.{strip-dressed_pieces}
 use Rattle.papergrid_picture.proofs.Shown.{pieces-nothing}
 use Rattle.tabled_size_cells.proofs.PlainTexts.{free-both, free-mark, free-none, free-repeat}
 use Rattle.ansi_str_search.proofs.Merges.{alike-put_all_before}
-use Rattle.ansi_str_text.proofs.Last.{strip-append}
+use Rattle.ansi_str_text.proofs.LastSequence.{strip-append}
 use Rattle.tabled_size_wrap.specs.Breaking.{run_cost}
 use Rattle.tabled_size_wrap.specs.Units.{LineUnit, unit_len}
 use Rattle.tabled_size_wrap.specs.Wrapping.{from_wide, is_narrow, line_part, narrow_front, replacement_bytes, run_len, shown_lines, shown_run}

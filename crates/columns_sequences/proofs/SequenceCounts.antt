@@ -15,7 +15,7 @@ use Rattle.ansi_str.specs.Walking.{sequence_of, sequences}
 use Rattle.ansi_str.proofs.CutParts.{sequences-sequence, sequences-text}
 use Rattle.ansi_str_search.proofs.Dressed.{cut, dressed_pieces, joined-renditions, long, pieces_of_part, rendition, renditions, short}
 use Rattle.ansi_str_search.proofs.Parts.{text_of-sequence, text_of-text}
-use Rattle.ansi_str_search.proofs.Places.{from-inside, from-past, has_text, through-inside, through-past}
+use Rattle.ansi_str_search.proofs.PiecesAtPlaces.{from-inside, from-past, has_text, through-inside, through-past}
 use Rattle.ansi_str_search.proofs.Slices.{strip-renditions}
 
 -- the bytes of the sequences of some pieces

@@ -21,9 +21,9 @@ use Rattle.columns_table.specs.Least.{padded, width_in}
 use Rattle.columns_table.specs.Records.{KeepsWidth}
 use Rattle.columns_table.specs.Rows.{cell_texts, cut}
 use Rattle.columns_table.specs.declared.cells.LineCell.{LineCell}
-use Rattle.columns_table.proofs.Kept.{width-is}
+use Rattle.columns_table.proofs.KeptRows.{width-is}
 use Rattle.columns_table.proofs.Records.{empty_one_line, get_or-fitted_row}
-use Rattle.columns_table.proofs.Sizes.{columns-cut}
+use Rattle.columns_table.proofs.RowsCut.{columns-cut}
 
 -- ---- tracks that nothing spans
 

@@ -42,10 +42,10 @@ use Rattle.columns_asked.proofs.Narrows.{shrunk-length}
 use Rattle.columns_asked.proofs.Shrunk.{shrunk_list-meets}
 use Rattle.columns_table.specs.Answers.{natural_text}
 use Rattle.columns_table.specs.Kept.{kept_row}
-use Rattle.columns_table.proofs.Kept.{kept-fitted}
+use Rattle.columns_table.proofs.KeptRows.{kept-fitted}
 use Rattle.columns_table.proofs.Natural.{good-spans}
 use Rattle.papergrid_picture.proofs.ByNumber.{by_number}
-use Rattle.columns_table.proofs.Sizes.{height-each, too_high, width-each}
+use Rattle.columns_table.proofs.RowsCut.{height-each, too_high, width-each}
 
 -- ---- rows of as many texts
 

@@ -27,8 +27,8 @@ use Rattle.columns_table.specs.Answers.{natural_text}
 use Rattle.columns_table.specs.Records.{placed_texts, starts_from}
 use Rattle.columns_table.specs.Rows.{cell_texts}
 use Rattle.columns_table.specs.declared.cells.LineCell.{LineCell}
-use Rattle.columns_table.proofs.Placed.{placed-cut}
-use Rattle.columns_table.proofs.Sizes.{columns-cut, cut_texts, height-each, none-high, width-each}
+use Rattle.columns_table.proofs.PlacedRows.{placed-cut}
+use Rattle.columns_table.proofs.RowsCut.{columns-cut, cut_texts, height-each, none-high, width-each}
 
 -- what always holds
 pub OnOk-always : {T E P : Type 0} (r : Result T E) → P → OnOk r P

@@ -61,7 +61,7 @@ use Rattle.columns_asked.specs.Layout.{asked_text, asked_widths, by_column, colu
 use Rattle.columns_asked.specs.Shrunk.{shrunk_list}
 use Rattle.columns_table.proofs.AskedWidths.{one-taken, padded}
 use Rattle.columns_table.proofs.Narrowed.{kept-is, text-natural, widths-are}
-use Rattle.columns_table.proofs.Sizes.{height-each, width-each, width-total}
+use Rattle.columns_table.proofs.RowsCut.{height-each, width-each, width-total}
 use Rattle.columns_bounds.proofs.TableBounds.{least-is as least-at, narrow-keeps}
 use Rattle.columns_tabled.specs.Tables.{AreEquallyLong, table_under}
 use Rattle.columns_tabled.proofs.FilledTables.{length-each}

@@ -39,7 +39,7 @@ use Rattle.columns_run.specs.Rows.{cell_parts}
 use Rattle.columns_run.specs.Run.{HasTable}
 use Rattle.columns_run.specs.Wanted.{Wanted}
 use Rattle.columns_table.proofs.AskedWidths.{padded}
-use Rattle.columns_table.proofs.Sizes.{one-too_great}
+use Rattle.columns_table.proofs.RowsCut.{one-too_great}
 use Rattle.columns_tabled.specs.Tables.{AreEquallyLong, table_of, table_under}
 use Rattle.columns_tabled.proofs.FilledRows.{filled-is, long-fitted}
 use Rattle.columns_tabled.proofs.FilledTables.{frame-filled}

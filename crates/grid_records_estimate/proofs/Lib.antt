@@ -1,5 +1,5 @@
 pub mod Lengths
-pub mod Shares
+pub mod DividedShares
 pub mod Growing
 pub mod Meets
 pub mod Collects

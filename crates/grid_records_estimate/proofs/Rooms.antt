@@ -17,7 +17,7 @@ use Rattle.grid_records_estimate.specs.Sizing.{Sizing, column_axis, row_axis}
 use Rattle.grid_records_estimate.proofs.Each.{Each, Each-flat_map, Each-map}
 use Rattle.grid_records_estimate.proofs.Growing.{Grows, Grows-meet_all}
 use Rattle.grid_records_estimate.proofs.Members.{Each-filtered, Each-from_filtered, Each-from_flat_map, Each-from_mapped, Each-from_range, Each-mapped}
-use Rattle.grid_records_estimate.proofs.Shares.{length-with_shares}
+use Rattle.grid_records_estimate.proofs.DividedShares.{length-with_shares}
 use Rattle.grid_records_estimate.proofs.Singles.{length-meet}
 
 -- ---- sums

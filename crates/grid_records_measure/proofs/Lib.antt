@@ -1,11 +1,11 @@
 pub mod Filling
 pub mod Lines
-pub mod Tabs
+pub mod AroundTabs
 pub mod Cuts
 pub mod RawLines
 pub mod Drained
 pub mod Plain
-pub mod Printable
+pub mod PrintableWidth
 pub mod PrintableCuts
 pub mod ShownCuts
 pub mod TextLines

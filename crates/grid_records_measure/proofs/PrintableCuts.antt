@@ -18,7 +18,7 @@ use Rattle.grid_records_measure.specs.TextLines.{is_line_feed}
 use Rattle.grid_records_measure.proofs.Cuts.{FitsOn, fits-on, lacking-some}
 use Rattle.grid_records_measure.proofs.Filling.{lacking-none}
 use Rattle.grid_records_measure.proofs.Plain.{one-column}
-use Rattle.grid_records_measure.proofs.Printable.{printable-ascii}
+use Rattle.grid_records_measure.proofs.PrintableWidth.{printable-ascii}
 
 both : (b : ℕ) (bs : List ℕ) → are_printable (b ∷ bs) ≡ true → (is_in_range 0x20 0x7E b ≡ true) × (are_printable bs ≡ true)
 both b bs h = and_parts (is_in_range 0x20 0x7E b) (are_printable bs) h

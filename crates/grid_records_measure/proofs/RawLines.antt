@@ -16,7 +16,7 @@ use Rattle.ansi_str.specs.StyledText.{strip, text_of}
 use Rattle.ansi_str.specs.Parts.{through_place}
 use Rattle.ansi_str.specs.PartsLeft.{first_match, matches_first}
 use Rattle.ansi_str.specs.Walking.{bytes_to}
-use Rattle.ansi_str_search.proofs.Places.{strip-from, through-inside, through-past}
+use Rattle.ansi_str_search.proofs.PiecesAtPlaces.{strip-from, through-inside, through-past}
 use Rattle.ansi_str_search.proofs.Dressed.{NoTextFirst-through, EachStands-front, short, long, cut}
 use Rattle.ansi_str_search.proofs.Slices.{strip-through}
 use Rattle.ansi_str_search.proofs.ByteParts.{byte-slice, byte-there}

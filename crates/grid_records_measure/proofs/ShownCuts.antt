@@ -20,7 +20,7 @@ use Rattle.ansi_str.specs.Parts.{from_place, through_place, dressed, split_part}
 use Rattle.ansi_str.specs.Cuts.{cut_part}
 use Rattle.ansi_str_text.proofs.Utf8Pieces.{EachUtf8, EachUtf8-pieces, IsUtf8-shown_text}
 use Rattle.ansi_str_search.proofs.Parts.{style_by-text}
-use Rattle.ansi_str_search.proofs.Places.{before-none, from-none}
+use Rattle.ansi_str_search.proofs.PiecesAtPlaces.{before-none, from-none}
 use Rattle.ansi_str_search.proofs.Styles.{split_part-slice}
 use Rattle.ansi_str_search.proofs.Cuts.{with_style, styled_from-text}
 use Rattle.ansi_str.proofs.CutParts.{first_part-slice}

@@ -8,7 +8,7 @@ use Rattle.ansi_scan.specs.Pieces.{pieces}
 use Rattle.ansi_scan.proofs.Existence.{ArePiecesOf-pieces}
 use Rattle.ansi_str.specs.StyledText.{strip}
 use Rattle.ansi_str.specs.Matches.{AreMatches, AreMatchesFrom, Occurs}
-use Rattle.ansi_str_search.proofs.Matches.{Occurs-within}
+use Rattle.ansi_str_search.proofs.FirstMatch.{Occurs-within}
 use Rattle.ansi_str_search.proofs.Searches.{of_pieces}
 use Rattle.grid_records_measure.specs.TextLines.{AreLinesOf, is_line_feed, line_feed, line_feed_places, shown_lines, text_height, text_lines, text_width, widest}
 use Rattle.grid_records_measure.proofs.Lines.{length-lines, lines-shown, lines-unique}

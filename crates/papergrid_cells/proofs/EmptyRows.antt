@@ -18,7 +18,7 @@ use Rattle.papergrid_cells.specs.Painting.{colored, fill_bytes}
 use Rattle.papergrid_cells.specs.declared.empty_row.Room.{Room}
 use Rattle.papergrid_cells.specs.declared.flat.FlatRows.{FlatRows}
 use Rattle.papergrid_cells.specs.declared.spaced.Spaced.{Spaced}
-use Rattle.papergrid_cells.proofs.Painting.{spaces-filled}
+use Rattle.papergrid_cells.proofs.PrintedGlyphs.{spaces-filled}
 
 abbrev fill : ℕ → List ℕ
 fill n = fill_bytes 0x20 n

@@ -1,4 +1,4 @@
-mod Painting
+mod PrintedGlyphs
 pub mod CellLines
 pub mod PlainLines
 mod Spaces

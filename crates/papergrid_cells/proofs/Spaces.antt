@@ -6,7 +6,7 @@ use Rattle.std.proofs.Math.Seq.{take-append_seam}
 use Rattle.std.proofs.lemmas.Str.{IsCharBoundary-at_seam}
 use Rattle.papergrid_cells.specs.Painting.{fill_bytes}
 use Rattle.papergrid_cells.specs.Spaces.{IsSpaced}
-use Rattle.papergrid_cells.proofs.Painting.{spaces-filled}
+use Rattle.papergrid_cells.proofs.PrintedGlyphs.{spaces-filled}
 
 abbrev spaces : ℕ → List ℕ
 spaces n = replicate n 0x20

@@ -4,6 +4,6 @@ pub mod Widths
 pub mod First
 pub mod Ranges
 pub mod Estimated
-pub mod Totals
+pub mod TotalSizes
 pub mod Rooms
 pub mod SameTexts

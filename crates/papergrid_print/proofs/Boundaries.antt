@@ -22,7 +22,7 @@ use Rattle.papergrid_cells.specs.declared.block.BlockLine.{BlockLine}
 use Rattle.papergrid_cells.specs.declared.block.BlockLine.TheVariants.{Above, Text, Below, Outside}
 use Rattle.papergrid_cells.specs.declared.block.OpenCell.{OpenCell}
 use Rattle.papergrid_cells.specs.declared.painting.GlyphRun.{GlyphRun}
-use Rattle.papergrid_print.proofs.Lines.{across-parts, alone-same, block-parts, painted-bare, parts_of-append, plain-line}
+use Rattle.papergrid_print.proofs.LinesShown.{across-parts, alone-same, block-parts, painted-bare, parts_of-append, plain-line}
 
 glyphs-only : (runs : List GlyphRun) → no_texts (map glyph_part runs) ≡ true
 glyphs-only [] = refl

@@ -14,7 +14,7 @@ use Rattle.papergrid_print.specs.declared.stop.Stop.TheVariants.{Memory, Writer}
 use Rattle.papergrid_print.specs.declared.wanted.Place.{Place}
 use Rattle.tabled_output.specs.Pieces.{HasBegun, HasPassed}
 use Rattle.tabled_output.specs.declared.counted.Counted.{Counted}
-use Rattle.tabled_output.proofs.Pieces.{begun-front, passed-front, passed-none, passed-on, stopped-front, stopped-on}
+use Rattle.tabled_output.proofs.WrittenPieces.{begun-front, passed-front, passed-none, passed-on, stopped-front, stopped-on}
 
 -- ---- a text that is written in parts
 

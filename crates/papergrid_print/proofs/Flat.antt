@@ -39,7 +39,7 @@ use Rattle.papergrid_cells.specs.declared.block.BlockLine.TheVariants.{Text, Bel
 use Rattle.papergrid_cells.specs.declared.block.OpenCell.{OpenCell}
 use Rattle.papergrid_cells.specs.declared.flat.FlatRows.{FlatRows}
 use Rattle.papergrid_cells.proofs.CellLines.{map-same}
-use Rattle.papergrid_print.proofs.Lines.{block-line, painted-bare, parts_of-append, parts_of-laid, row-line, row_start, row_start-more, upright-bytes}
+use Rattle.papergrid_print.proofs.LinesShown.{block-line, painted-bare, parts_of-append, parts_of-laid, row-line, row_start, row_start-more, upright-bytes}
 
 -- ---- the first line of a block
 

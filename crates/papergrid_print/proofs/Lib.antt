@@ -1,7 +1,7 @@
-mod Lines
+mod LinesShown
 mod Boundaries
 pub mod Owners
-mod Seen
+mod SeenInRows
 mod Places
 mod Open
 mod Counts
@@ -9,5 +9,5 @@ mod Tables
 mod Writes
 pub mod Flat
 mod Placed
-mod Single
+mod OneLine
 mod Choosing

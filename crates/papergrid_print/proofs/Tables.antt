@@ -14,7 +14,7 @@ use Rattle.papergrid_picture.proofs.Reading.{line_items-cons, own_items}
 use Rattle.papergrid_cells.specs.Painting.{colored, fill_bytes}
 use Rattle.papergrid_print.specs.Sheets.{IsPrintable, Sheet, bytes_of, grid_of, line_at, place_line, row_tracks}
 use Rattle.papergrid_print.proofs.Counts.{all-lines, last-boundary}
-use Rattle.papergrid_print.proofs.Lines.{painted-bare}
+use Rattle.papergrid_print.proofs.LinesShown.{painted-bare}
 
 module _ (sheet : Sheet) where
   abbrev pub columns_of : Tracks

@@ -10,7 +10,7 @@ use Rattle.papergrid_print.proofs.Places.{line-more, lines-next, row-more}
 use Rattle.tabled_output.specs.Pieces.{Continues, HasBegun, HasPassed, HasStopped, Passes}
 use Rattle.tabled_output.specs.declared.counted.Counted.{Counted}
 use Rattle.tabled_output.specs.declared.writing.WriteFault.{WriteFault}
-use Rattle.tabled_output.proofs.Pieces.{passed-by, passed-front, stopped-front, stopped-on}
+use Rattle.tabled_output.proofs.WrittenPieces.{passed-by, passed-front, stopped-front, stopped-on}
 
 -- what is appended behind bytes that are written is appended behind all
 pub behind : (front out more new : List ℕ) → new ≡ out ++ more → front ++ new ≡ (front ++ out) ++ more

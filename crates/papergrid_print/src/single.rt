@@ -14,7 +14,7 @@ use std::alloc::{AllocError, Global};
 
 /// Appends line `y` of a table of these sizes, without a line feed. Of the table it reads the cells alone
 /// that are seen there. Fails only where allocation fails, and then the text is as it was.
-#[tactic(auto, using(crate::proofs::Single::has_rows, crate::proofs::Single::has_columns))]
+#[tactic(auto, using(crate::proofs::OneLine::has_rows, crate::proofs::OneLine::has_columns))]
 pub fn print_line<R: PeekableRecords, C: Colors>(
     alloc: Global,
     records: &R,

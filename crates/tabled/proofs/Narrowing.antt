@@ -16,7 +16,7 @@ use Rattle.grid_config.specs.Settings.{Settings}
 use Rattle.grid_records_estimate.proofs.Lengths.{length-table_widths}
 use Rattle.grid_records_estimate.specs.Sizing.{sizing_of}
 use Rattle.grid_records_traits.specs.Rows.{row_at, with_text}
-use Rattle.papergrid_fits.proofs.Totals.{columns-total}
+use Rattle.papergrid_fits.proofs.TotalSizes.{columns-total}
 use Rattle.tabled_size_dimension.specs.Sizes.{given_size}
 use Rattle.tabled_size_dimension.specs.Stored.{Stored, kept_after, stored_sizes}
 use Rattle.tabled_size_levels.specs.Lists.{map-le, sum-cons}

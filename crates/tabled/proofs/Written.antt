@@ -11,7 +11,7 @@ use Rattle.tabled_output.specs.Streams.{AppendsFront}
 use Rattle.tabled_output.specs.declared.counted.Counted.{Counted}
 use Rattle.tabled_output.specs.declared.writing.WriteFault.{WriteFault}
 use Rattle.tabled_output.specs.declared.writing.WriteFault.TheVariants.{Write as Failed, WriteZero as TookNothing}
-use Rattle.tabled_output.proofs.Pieces.{front-taken, passes-nothing}
+use Rattle.tabled_output.proofs.WrittenPieces.{front-taken, passes-nothing}
 use Rattle.grid_config.specs.Colors.{Color}
 use Rattle.grid_config.specs.Looks.{look_of}
 use Rattle.grid_config.specs.Settings.{Settings}

@@ -8,4 +8,4 @@ mod SetGlyphs
 pub mod Frames
 pub mod Runs
 pub mod Lines
-pub mod Margins
+pub mod RoundMargins

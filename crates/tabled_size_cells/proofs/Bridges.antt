@@ -13,7 +13,7 @@ use Rattle.ansi_scan.proofs.Uniqueness.{pieces-ArePiecesOf}
 use Rattle.ansi_str.specs.StyledText.{strip, styled, style_after_all}
 use Rattle.ansi_str.specs.Parts.{dressed, from_place, split_part, through_place}
 use Rattle.ansi_str.specs.Cuts.{cut_part}
-use Rattle.ansi_str_search.proofs.Places.{before-none, from-none}
+use Rattle.ansi_str_search.proofs.PiecesAtPlaces.{before-none, from-none}
 use Rattle.ansi_str_search.proofs.Styles.{split_part-slice}
 use Rattle.ansi_str_search.proofs.Utf8.{IsUtf8-split_part}
 use Rattle.ansi_str_text.proofs.Utf8Pieces.{IsUtf8-shown_text}

@@ -21,7 +21,7 @@ use Rattle.ansi_str.specs.Parts.{from_place, through_place}
 use Rattle.ansi_str.specs.Walking.{from_text}
 use Rattle.ansi_str.specs.Cuts.{cut_part, later_part}
 use Rattle.ansi_str_search.proofs.Dressed.{EachStands-through, NoneBroken-through, IsRendition-after}
-use Rattle.ansi_str_search.proofs.Places.{strip-from}
+use Rattle.ansi_str_search.proofs.PiecesAtPlaces.{strip-from}
 use Rattle.ansi_str_search.proofs.Slices.{strip-through}
 use Rattle.ansi_str_search.proofs.Utf8.{EachUtf8, EachUtf8-pieces, EachUtf8-from, EachUtf8-through, IsUtf8-dressed, IsUtf8-strip, boundary-from}
 use Rattle.ansi_str.proofs.BreakSteps.{strip-from_text}

@@ -25,7 +25,7 @@ use Rattle.ansi_str_text.proofs.Stripping.{strip-without_escape}
 use Rattle.grid_records_measure.specs.Measures.{are_printable}
 use Rattle.grid_records_measure.specs.TextLines.{AreLinesOf, is_line_feed, line_feed, text_lines}
 use Rattle.grid_records_measure.proofs.Cuts.{cut-without_escape}
-use Rattle.grid_records_measure.proofs.Printable.{printable-ascii}
+use Rattle.grid_records_measure.proofs.PrintableWidth.{printable-ascii}
 use Rattle.grid_records_measure.proofs.TextLines.{text_lines-are}
 use Rattle.tabled_size_wrap.specs.Runs.{broken_lines}
 use Rattle.tabled_size_wrap.specs.Standing.{StandsAt}

@@ -10,7 +10,7 @@ use Rattle.ansi_str.specs.StyledText.{strip, style_after_all}
 use Rattle.ansi_str.specs.Parts.{dressed, from_place, through_place}
 use Rattle.ansi_str.specs.Walking.{from_text}
 use Rattle.ansi_str.specs.Cuts.{IsGoodBound, cut_part, later_part}
-use Rattle.ansi_str_search.proofs.Places.{strip-from}
+use Rattle.ansi_str_search.proofs.PiecesAtPlaces.{strip-from}
 use Rattle.ansi_str.proofs.CutParts.{first_part-slice, later_part-slice}
 use Rattle.ansi_str.proofs.CutSteps.{good-drop}
 use Rattle.ansi_str.proofs.BreakSteps.{break-rest, break-style, strip-from_text}

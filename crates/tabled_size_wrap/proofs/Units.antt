@@ -12,7 +12,7 @@ use Rattle.std.proofs.lemmas.Str.{chars-nil, chars-append, chars_past_char, enco
 use Rattle.ansi_str_search.proofs.Chars.{Without-chars, hold_both}
 use Rattle.grid_records_measure.specs.Measures.{cost, measure}
 use Rattle.grid_records_measure.specs.Tabs.{space}
-use Rattle.grid_records_measure.proofs.Printable.{measure-printable}
+use Rattle.grid_records_measure.proofs.PrintableWidth.{measure-printable}
 use Rattle.grid_records_measure.proofs.Plain.{one-column}
 use Rattle.tabled_size_wrap.specs.Units.{LineUnit, character_unit, space_unit, word_units, is_space, line_units, placed}
 use Rattle.tabled_size_wrap.specs.Words.{IsWord, EndsWord, AreWordAndRest}

@@ -6,7 +6,7 @@ use Rattle.ansi_str.specs.Parts.{before_place}
 use Rattle.ansi_str.specs.Walking.{sequences}
 use Rattle.ansi_scan.specs.Joining.{is_text_kind}
 use Rattle.ansi_str_search.proofs.Dressed.{other_kind}
-use Rattle.ansi_str_search.proofs.Places.{before-none}
+use Rattle.ansi_str_search.proofs.PiecesAtPlaces.{before-none}
 use Rattle.ansi_str_search.proofs.Walks.{first-shorter}
 use Rattle.ansi_str.proofs.CutSteps.{sequences-past_text, sequences-past_sequence}
 use Rattle.ansi_str.proofs.cut.sequences_before.Goals.{else-loop-left-test, then-loop-left-test+in_default}

@@ -8,7 +8,7 @@ use Rattle.ansi_scan.specs.Pieces.{pieces}
 use Rattle.ansi_str.specs.declared.edits.Edit.{Edit}
 use Rattle.ansi_str.specs.declared.edits.Edit.TheVariants.{Cut}
 use Rattle.ansi_str.specs.Edits.{FailsOf, LeavesOf, TakeInTurn}
-use Rattle.ansi_str.proofs.Edits.{Answers, Edited, Edited-end, Edited-fails, Edited-next}
+use Rattle.ansi_str.proofs.PickedParts.{Answers, Edited, Edited-end, Edited-fails, Edited-next}
 use Rattle.ansi_str.proofs.EditLaws.{TakeInTurn-fails}
 use Rattle.ansi_str.proofs.editing.edit.Goals as goal
 

@@ -7,7 +7,7 @@ use Rattle.ansi_scan.proofs.Existence.{ArePiecesOf-pieces}
 use Rattle.ansi_str.specs.declared.edits.Edit.{Edit}
 use Rattle.ansi_str.specs.declared.edits.Edit.TheVariants.{Prefix, Suffix}
 use Rattle.ansi_str.specs.Edits.{LeavesOf}
-use Rattle.ansi_str.proofs.Edits.{Answers, Answers-cut, at_pieces}
+use Rattle.ansi_str.proofs.PickedParts.{Answers, Answers-cut, at_pieces}
 use Rattle.ansi_str.proofs.editing.edited.Goals as goal
 
 pub returns-in-Cut : goal.returns-in-Cut

@@ -4,7 +4,7 @@ use Rattle.std.specs.Prelude.{IfOk}
 use Rattle.std.specs.Cow.{cow_str_bytes}
 use Rattle.ansi_scan.specs.Pieces.{pieces}
 use Rattle.ansi_str.specs.declared.edits.Edit.TheVariants.{Part}
-use Rattle.ansi_str.proofs.Edits.{AreParts-all, Answers, Answers-part, GivesPart-came, drop-next, slice_get-none}
+use Rattle.ansi_str.proofs.PickedParts.{AreParts-all, Answers, Answers-part, GivesPart-came, drop-next, slice_get-none}
 use Rattle.ansi_str.proofs.editing.part_at.Goals as goal
 
 pub returns-in_default : goal.returns-in_default

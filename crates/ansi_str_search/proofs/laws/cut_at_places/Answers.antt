@@ -1,5 +1,5 @@
--- The lemmas of `Places`.
-use Rattle.ansi_str_search.proofs.Places.{joined-places, strip-from, ArePiecesOf-from}
+-- The lemmas of `PiecesAtPlaces`.
+use Rattle.ansi_str_search.proofs.PiecesAtPlaces.{joined-places, strip-from, ArePiecesOf-from}
 use Rattle.ansi_str_search.proofs.laws.cut_at_places.Goals as goal
 
 pub returns-clause-joined : goal.returns-clause-joined

@@ -4,7 +4,7 @@ use Rattle.ansi_scan.specs.Sequences.{Piece}
 use Rattle.ansi_scan.specs.Pieces.{pieces}
 use Rattle.ansi_str_text.specs.StyledText.{strip}
 use Rattle.ansi_str_search.specs.PartsLeft.{begins_with}
-use Rattle.ansi_str_search.proofs.Places.{strip-from}
+use Rattle.ansi_str_search.proofs.PiecesAtPlaces.{strip-from}
 use Rattle.ansi_str_search.proofs.FirstPlaces.{ends-boundary, ends-begins, ends-there}
 use Rattle.ansi_str_search.proofs.search.find_end.Goals as goal
 

@@ -10,8 +10,8 @@ use Rattle.ansi_str_text.specs.Characters.{shown_chars}
 use Rattle.ansi_str_text.proofs.FirstItem.{pieces-nothing}
 use Rattle.ansi_str_text.proofs.FirstBlock.{shorter}
 use Rattle.ansi_str_text.proofs.Stripping.{shown-sequence}
-use Rattle.ansi_str_text.proofs.Last.{strip-first, first-some}
-use Rattle.ansi_str_text.proofs.Characters.{shown_chars-first, shown_chars-nothing}
+use Rattle.ansi_str_text.proofs.LastSequence.{strip-first, first-some}
+use Rattle.ansi_str_text.proofs.ShownCharacters.{shown_chars-first, shown_chars-nothing}
 use Rattle.ansi_str_text.proofs.characters.split_first_text.Goals as goal
 
 pub returns-in-Text-clause-shown : goal.returns-in-Text-clause-shown

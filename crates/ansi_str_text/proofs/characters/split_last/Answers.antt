@@ -2,7 +2,7 @@
 use Rattle.std.proofs.Common.{rules, List, ℕ, ◌++◌, ap, sym, ◌∙◌}
 use Rattle.std.specs.Prelude.{encode_utf8}
 use Rattle.std.specs.Char.{IsScalar}
-use Rattle.ansi_str_text.proofs.Characters.{chars-before_char}
+use Rattle.ansi_str_text.proofs.ShownCharacters.{chars-before_char}
 use Rattle.ansi_str_text.proofs.characters.split_last.Goals as goal
 
 pub returns : goal.returns

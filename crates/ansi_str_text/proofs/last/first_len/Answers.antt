@@ -1,7 +1,7 @@
 -- The first item, as the scan gives it.
 use Rattle.ansi_scan.specs.Scan.{items_left}
 use Rattle.ansi_str_text.proofs.FirstItem.{IsFirstItem-items, pieces-nothing}
-use Rattle.ansi_str_text.proofs.Last.{leading_piece-IsFirstItem, nothing-short}
+use Rattle.ansi_str_text.proofs.LastSequence.{leading_piece-IsFirstItem, nothing-short}
 use Rattle.ansi_str_text.proofs.last.first_len.Goals as goal
 
 pub returns-in-Some-clause-value : goal.returns-in-Some-clause-value

@@ -2,7 +2,7 @@
 use Rattle.std.proofs.Common.{arith}
 use Rattle.std.proofs.lemmas.Str.Pattern.{rfind_char}
 use Rattle.ansi_scan.specs.Sequences.{escape}
-use Rattle.ansi_str_text.proofs.Last.{IsLastEscape-found}
+use Rattle.ansi_str_text.proofs.LastSequence.{IsLastEscape-found}
 use Rattle.ansi_str_text.proofs.last.last_escape.Goals as goal
 
 pub returns-clause-found : goal.returns-clause-found

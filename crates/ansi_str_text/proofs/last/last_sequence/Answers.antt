@@ -3,7 +3,7 @@ use Rattle.std.proofs.Common.{rules, ◌≡◌, ◌+◌, ◌-◌, ℕ, List, tak
 use Rattle.ansi_scan.specs.Pieces.{leading_piece}
 use Rattle.ansi_str_text.specs.StyledText.{has_escape}
 use Rattle.ansi_str_text.specs.Last.{IsLastEscape}
-use Rattle.ansi_str_text.proofs.Last.{NoneReaches-byte, NoneReaches-none, NoneReaches-short, IsLastSequence-last, IsLastSequence-opened}
+use Rattle.ansi_str_text.proofs.LastSequence.{NoneReaches-byte, NoneReaches-none, NoneReaches-short, IsLastSequence-last, IsLastSequence-opened}
 use Rattle.ansi_str_text.proofs.last.last_sequence.Goals as goal
 
 pub returns-in_err-last : goal.returns-in_err-last

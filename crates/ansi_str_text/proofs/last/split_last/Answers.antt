@@ -1,8 +1,8 @@
 -- What the last sequence parts.
 use Rattle.std.proofs.Common.{◌≡◌, ◌-◌, ℕ, List, ◌++◌, take, ap, sym, ◌∙◌, arith}
 use Rattle.std.specs.Prelude.{chars}
-use Rattle.ansi_str_text.proofs.Last.{strip-last}
-use Rattle.ansi_str_text.proofs.Characters.{shown_chars-last, shown_chars-plain, shown_chars-nothing}
+use Rattle.ansi_str_text.proofs.LastSequence.{strip-last}
+use Rattle.ansi_str_text.proofs.ShownCharacters.{shown_chars-last, shown_chars-plain, shown_chars-nothing}
 use Rattle.ansi_str_text.proofs.last.split_last.Goals as goal
 
 pub returns-in_default-clause-shown : goal.returns-in_default-clause-shown

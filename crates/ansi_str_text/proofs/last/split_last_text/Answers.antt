@@ -3,7 +3,7 @@ use Rattle.std.proofs.Common.{rules, ◌≡◌, ◌++◌, [], length, ℕ, List,
 use Rattle.std.specs.Prelude.{chars}
 use Rattle.std.proofs.lemmas.Str.{chars-nil}
 use Rattle.ansi_str_text.specs.Characters.{shown_chars}
-use Rattle.ansi_str_text.proofs.Characters.{shown_chars-nothing, shown_chars-empty, chars-behind_none}
+use Rattle.ansi_str_text.proofs.ShownCharacters.{shown_chars-nothing, shown_chars-empty, chars-behind_none}
 use Rattle.ansi_str_text.proofs.last.split_last_text.Goals as goal
 
 pub loop-rest-preserved : goal.loop-rest-preserved

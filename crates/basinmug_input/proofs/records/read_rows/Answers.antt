@@ -16,7 +16,7 @@ use Rattle.basinmug_input.specs.Cleaning.{cleaned}
 use Rattle.basinmug_input.specs.Flaws.{IsSound}
 use Rattle.basinmug_input.specs.Reading.{settings}
 use Rattle.basinmug_input.specs.Rows.{IsFirstFlawed, text_rows}
-use Rattle.basinmug_input.proofs.Records.{records-go_on, records-only}
+use Rattle.basinmug_input.proofs.ReadRecords.{records-go_on, records-only}
 use Rattle.basinmug_input.proofs.Rows.{all-push}
 use Rattle.basinmug_input.proofs.records.read_rows.Goals as goal
 

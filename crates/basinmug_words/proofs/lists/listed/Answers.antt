@@ -1,7 +1,7 @@
 use Rattle.std.proofs.Common.{◌≡◌, ◌∙◌, List, Option, Some, Vec, Global, true, false, ap, map, option_map, subst, sym}
 use Rattle.basinmug_options.specs.declared.options.ColumnName.{ColumnName}
 use Rattle.basinmug_words.specs.Lists.{has_twice, items_of, seen, seen_items}
-use Rattle.basinmug_words.proofs.Lists.{listed-found}
+use Rattle.basinmug_words.proofs.OneMore.{listed-found}
 use Rattle.basinmug_words.proofs.lists.listed.Goals as goal
 
 pub returns-then-branch : goal.returns-then-branch

@@ -1,7 +1,7 @@
 use Rattle.std.proofs.Common.{◌∷◌, [], sym, codes}
-use Rattle.columns_color_list.proofs.Names.{apart}
+use Rattle.columns_color_list.proofs.NotNamed.{apart}
 use Rattle.basinmug_options.specs.declared.options.Look.TheVariants.{Rounded, Modern, Ascii, Extended, Markdown, Empty}
-use Rattle.basinmug_words.proofs.Names.{first_or_none}
+use Rattle.basinmug_words.proofs.NotNamed.{first_or_none}
 use Rattle.basinmug_words.proofs.names.look_of.Goals as goal
 
 pub returns-in_default : goal.returns-in_default

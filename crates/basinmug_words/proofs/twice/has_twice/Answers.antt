@@ -4,7 +4,7 @@ use Rattle.std.specs.List.{list_any}
 use Rattle.std.proofs.lemmas.List.{map_more}
 use Rattle.basinmug_options.specs.declared.options.ColumnName.{ColumnName}
 use Rattle.basinmug_words.specs.Lists.{Column, has_twice, is_same, seen}
-use Rattle.basinmug_words.proofs.Lists.{any-push, twice-step}
+use Rattle.basinmug_words.proofs.OneMore.{any-push, twice-step}
 use Rattle.basinmug_words.proofs.twice.has_twice.Goals as goal
 use Rattle.basinmug_words.proofs.twice.has_twice.Goals.{then-not-branch, else-not-branch}
 

@@ -1,5 +1,5 @@
 use Rattle.std.proofs.Common.{◌≡◌, ◌∙◌, Some, ap, option_map, subst, sym, vec_items}
-use Rattle.columns_bounded.proofs.Colors.{colors-no_text, colors-text, listed-close}
+use Rattle.columns_bounded.proofs.ListedColors.{colors-no_text, colors-text, listed-close}
 use Rattle.columns_bounded.proofs.colors.listed.Goals as goal
 use Rattle.columns_color_list.specs.Listed.{listed_colors}
 

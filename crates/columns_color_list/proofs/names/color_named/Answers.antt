@@ -1,6 +1,6 @@
 use Rattle.std.proofs.Common.{sym, codes}
 use Rattle.columns_color_list.specs.Names.{named_colors}
-use Rattle.columns_color_list.proofs.Names.{apart, none-found}
+use Rattle.columns_color_list.proofs.NotNamed.{apart, none-found}
 use Rattle.columns_color_list.proofs.names.color_named.Goals as goal
 
 pub returns-in_default : goal.returns-in_default

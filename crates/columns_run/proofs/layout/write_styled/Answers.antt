@@ -16,7 +16,7 @@ use Rattle.columns_run.proofs.OneLine.{cells-measured}
 use Rattle.columns_run.proofs.Tables.{answered, left-alone, output-is}
 use Rattle.grid_config.specs.Compact.{compact_of}
 use Rattle.tabled_output.specs.Pieces.{Passes}
-use Rattle.tabled_output.proofs.Pieces.{passes-nothing}
+use Rattle.tabled_output.proofs.WrittenPieces.{passes-nothing}
 use Rattle.columns_colors.specs.ColoredTables.{colored_text}
 use Rattle.columns_colors.specs.ColumnColors.{cell_color}
 use Rattle.columns_run.specs.Layout.{output_of}

@@ -1,5 +1,5 @@
 use Rattle.std.proofs.Common.{ap, sym}
-use Rattle.grid_records_measure.proofs.Printable.{measure-printable}
+use Rattle.grid_records_measure.proofs.PrintableWidth.{measure-printable}
 use Rattle.columns_run.proofs.plain_rows.cell_end.Goals as goal
 
 pub returns-then-plain : goal.returns-then-plain

@@ -6,8 +6,8 @@ use Rattle.columns_table.specs.Cells.{anywhere}
 use Rattle.columns_table.specs.CellRows.{row_cells}
 use Rattle.columns_table.specs.Kept.{resize_to}
 use Rattle.columns_table.specs.Records.{KeepsWidth}
-use Rattle.columns_table.proofs.Cells.{each-some}
-use Rattle.columns_table.proofs.Kept.{first-none, first-some, width-is}
+use Rattle.columns_table.proofs.KeptCells.{each-some}
+use Rattle.columns_table.proofs.KeptRows.{first-none, first-some, width-is}
 use Rattle.columns_table.proofs.kept.kept_cell.Goals as goal
 
 pub resized_cell-requires : goal.resized_cell-requires

@@ -4,7 +4,7 @@ use Rattle.columns_table.specs.CellRows.{row_cells}
 use Rattle.columns_table.specs.Kept.{first_kept, kept_row, resize_to}
 use Rattle.columns_table.specs.Rows.{cell_texts}
 use Rattle.columns_table.specs.declared.kept.KeptCell.{KeptCell}
-use Rattle.columns_table.proofs.Kept.{row-pushed}
+use Rattle.columns_table.proofs.KeptRows.{row-pushed}
 use Rattle.columns_table.proofs.kept.kept_cells.Goals as goal
 
 pub loop-column-preserved : goal.loop-column-preserved

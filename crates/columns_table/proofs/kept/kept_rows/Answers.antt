@@ -6,7 +6,7 @@ use Rattle.columns_table.specs.Kept.{kept_row}
 use Rattle.columns_table.specs.Records.{KeepsWidth}
 use Rattle.columns_table.specs.Rows.{cell_texts, cut}
 use Rattle.columns_table.specs.declared.kept.KeptCell.{KeptCell}
-use Rattle.columns_table.proofs.Kept.{rows-pushed}
+use Rattle.columns_table.proofs.KeptRows.{rows-pushed}
 use Rattle.columns_table.proofs.kept.kept_rows.Goals as goal
 
 abbrev texts_of : Vec KeptCell Global → List (List ℕ)

@@ -3,7 +3,7 @@ use Rattle.std.proofs.lemmas.Bool.Decides.{nat_tests}
 use Rattle.std.proofs.lemmas.Grind.{get_or_default_zero}
 use Rattle.std.proofs.lemmas.List.{get_or-set_other, get_or-set_same, length-set}
 use Rattle.std.proofs.lemmas.List.Sums.{sum_by_more, sum_by_more_le}
-use Rattle.columns_table.proofs.Placed.{starts-are}
+use Rattle.columns_table.proofs.PlacedRows.{starts-are}
 use Rattle.columns_table.proofs.placed.starts_of.Goals as goal
 
 pub overflow_add-start : goal.overflow_add-start

@@ -7,7 +7,7 @@ use Rattle.grid_config_values.specs.declared.fault.Fault.{Fault}
 use Rattle.grid_records_measure.specs.TextLines.{line_feed}
 use Rattle.papergrid_fits.specs.Grids.{grid_text}
 use Rattle.papergrid_picture.specs.Tables.{table_text}
-use Rattle.tabled_output.proofs.Pieces.{begun-front, passed-front, passes-err, passes-last, passes-ok, passes-refused, stopped-front}
+use Rattle.tabled_output.proofs.WrittenPieces.{begun-front, passed-front, passes-err, passes-last, passes-ok, passes-refused, stopped-front}
 use Rattle.columns_table.proofs.Listed.{listed-good, listed-range, listed-text}
 use Rattle.columns_table.proofs.Natural.{OnOk-always}
 use Rattle.columns_table.proofs.table.write_grid.Goals as goal

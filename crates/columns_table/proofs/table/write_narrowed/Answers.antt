@@ -22,7 +22,7 @@ use Rattle.columns_asked.specs.Layout.{asked_frame, kept_texts, narrowed, too_wi
 use Rattle.columns_table.specs.Rows.{row_texts_of}
 use Rattle.columns_table.specs.declared.kept.KeptCell.{KeptCell}
 use Rattle.tabled_output.specs.Pieces.{Passes}
-use Rattle.tabled_output.proofs.Pieces.{passes-none}
+use Rattle.tabled_output.proofs.WrittenPieces.{passes-none}
 use Rattle.columns_table.proofs.Narrowed.{answer-is, counted, fits-is, frame-is, heights-are, heights-pass, made, refusal-is, some-columns, text-is}
 use Rattle.columns_table.specs.declared.sizes.Sizes.{Sizes}
 use Rattle.columns_table.proofs.table.write_narrowed.Given.{Over}

@@ -7,7 +7,7 @@ use Rattle.grid_records_measure.specs.TextLines.{line_feed}
 use Rattle.papergrid_fits.specs.Grids.{grid_text}
 use Rattle.papergrid_fits.specs.Tables.{CanBeDrawn}
 use Rattle.tabled_output.specs.Pieces.{Passes}
-use Rattle.tabled_output.proofs.Pieces.{passes-none}
+use Rattle.tabled_output.proofs.WrittenPieces.{passes-none}
 use Rattle.columns_table.specs.Answers.{natural_text}
 use Rattle.columns_table.specs.Listed.{AreSizesOf}
 use Rattle.columns_table.specs.Rows.{row_texts_of}

@@ -5,7 +5,7 @@ use Rattle.grid_config.specs.Compact.{compact_of}
 use Rattle.grid_records_estimate.proofs.Meets.{IfErr-told}
 use Rattle.columns_asked.specs.Layout.{narrowed}
 use Rattle.tabled_output.specs.Pieces.{Passes}
-use Rattle.tabled_output.proofs.Pieces.{passes-none}
+use Rattle.tabled_output.proofs.WrittenPieces.{passes-none}
 use Rattle.columns_table.specs.Rows.{row_texts_of}
 use Rattle.columns_table.proofs.Answers.{Known, alone-narrowed, alone-natural, found-none, found-some, from-narrowed, from-natural, narrow-is, sizes-refused}
 use Rattle.columns_table.proofs.Narrowed.{some-sizes, text-natural}

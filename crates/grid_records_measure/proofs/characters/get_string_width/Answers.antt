@@ -1,6 +1,6 @@
 -- Printable ASCII takes a column a byte.
 use Rattle.std.proofs.Common.{◌∙◌, sym}
-use Rattle.grid_records_measure.proofs.Printable.{measure-printable}
+use Rattle.grid_records_measure.proofs.PrintableWidth.{measure-printable}
 use Rattle.grid_records_measure.proofs.characters.get_string_width.Goals as goal
 
 pub returns-then-is_printable : goal.returns-then-is_printable

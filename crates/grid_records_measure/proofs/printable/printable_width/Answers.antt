@@ -7,8 +7,8 @@ use Rattle.ansi_str_text.specs.StyledText.{shown, strip}
 use Rattle.ansi_str_text.proofs.FirstItem.{pieces-nothing}
 use Rattle.ansi_str_text.proofs.FirstBlock.{shorter}
 use Rattle.ansi_str_text.proofs.Stripping.{shown-sequence}
-use Rattle.ansi_str_text.proofs.Last.{strip-first}
-use Rattle.grid_records_measure.proofs.Printable.{IsPassed, IsPassed-text, IsPassed-other, IsPassed-end, IsPassed-fits, not-printable}
+use Rattle.ansi_str_text.proofs.LastSequence.{strip-first}
+use Rattle.grid_records_measure.proofs.PrintableWidth.{IsPassed, IsPassed-text, IsPassed-other, IsPassed-end, IsPassed-fits, not-printable}
 use Rattle.grid_records_measure.proofs.printable.printable_width.Goals as goal
 use Rattle.grid_records_measure.proofs.printable.printable_width.Goals.{in-Text+else-not-is_printable, in_default-kind}
 

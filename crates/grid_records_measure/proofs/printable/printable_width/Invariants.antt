@@ -1,7 +1,7 @@
 use Rattle.std.proofs.Common.{length}
 use denote.Text.{Utf8}
 use denote.Shadow.{shadow}
-use Rattle.grid_records_measure.proofs.Printable.{IsPassed}
+use Rattle.grid_records_measure.proofs.PrintableWidth.{IsPassed}
 use Rattle.grid_records_measure.proofs.printable.printable_width.Given as goal
 
 abbrev pub invariant-loop-item : goal.invariant-loop-item

@@ -3,7 +3,7 @@ use Rattle.std.proofs.Common.{rules, ◌∙◌, ◌++◌, ap, sym, append_assoc,
 use Rattle.std.specs.List.{before_first}
 use Rattle.std.proofs.lemmas.Str.Pattern.{split_once_first}
 use Rattle.grid_records_measure.specs.Tabs.{put_for_tabs}
-use Rattle.grid_records_measure.proofs.Tabs.{is_tab, around-tab, no-tab}
+use Rattle.grid_records_measure.proofs.AroundTabs.{is_tab, around-tab, no-tab}
 use Rattle.grid_records_measure.proofs.tabs.push_with.Goals as goal
 
 pub loop-before-preserved : goal.loop-before-preserved

@@ -5,7 +5,7 @@ use Rattle.ansi_scan.proofs.Existence.{ArePiecesOf-pieces}
 use Rattle.ansi_scan.proofs.Uniqueness.{ArePiecesOf-unique}
 use Rattle.ansi_str.specs.StyledText.{strip}
 use Rattle.grid_records_measure.specs.Tabs.{space, has_tab, tabs_replaced}
-use Rattle.grid_records_measure.proofs.Tabs.{pieces-without_tab}
+use Rattle.grid_records_measure.proofs.AroundTabs.{pieces-without_tab}
 use Rattle.grid_records_measure.proofs.tabs.replace_tab.Goals as goal
 
 pub returns-then-not-shows_tab-clause-replaces : goal.returns-then-not-shows_tab-clause-replaces

@@ -10,7 +10,7 @@ use Rattle.ansi_scan.proofs.Existence.{ArePiecesOf-pieces}
 use Rattle.ansi_scan.proofs.Reading.{flat_map-placed}
 use Rattle.ansi_scan.proofs.Uniqueness.{ArePiecesOf-unique}
 use Rattle.grid_records_measure.specs.Tabs.{space, piece_with}
-use Rattle.grid_records_measure.proofs.Tabs.{repeat-one}
+use Rattle.grid_records_measure.proofs.AroundTabs.{repeat-one}
 use Rattle.grid_records_measure.proofs.tabs.with_spaces.Goals as goal
 
 pub returns : goal.returns

@@ -4,7 +4,7 @@ use Rattle.grid_config.specs.Looks.{look_of}
 use Rattle.grid_config_spans.specs.Spans.{AreGood}
 use Rattle.papergrid_picture.specs.Tables.{sizes_of, table_text}
 use Rattle.tabled_output.specs.Pieces.{Passes}
-use Rattle.tabled_output.proofs.Pieces.{passes-none}
+use Rattle.tabled_output.proofs.WrittenPieces.{passes-none}
 use Rattle.papergrid.proofs.printing.write_sized.Goals as goal
 
 pub write_table-requires-clause-good : goal.write_table-requires-clause-good

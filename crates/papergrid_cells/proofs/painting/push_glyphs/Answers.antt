@@ -4,7 +4,7 @@ use Rattle.std.proofs.lemmas.List.{at_drop_all}
 use Rattle.std.proofs.lemmas.Result.{on_ok_weaker}
 use Rattle.grid_config.specs.Colors.{color_of}
 use Rattle.papergrid_cells.specs.Painting.{glyphs_behind}
-use Rattle.papergrid_cells.proofs.Painting.{glyphs_behind_none}
+use Rattle.papergrid_cells.proofs.PrintedGlyphs.{glyphs_behind_none}
 use Rattle.papergrid_cells.proofs.painting.push_glyphs.Goals as goal
 
 pub returns : goal.returns

@@ -1,7 +1,7 @@
 use Rattle.std.specs.Option.{option_map}
 use Rattle.std.proofs.lemmas.Result.{on_ok_weaker}
 use Rattle.grid_config.specs.Colors.{color_of}
-use Rattle.papergrid_cells.proofs.Painting.{appended3, filled}
+use Rattle.papergrid_cells.proofs.PrintedGlyphs.{appended3, filled}
 use Rattle.papergrid_cells.proofs.painting.push_some.Goals as goal
 
 pub returns : goal.returns

@@ -1,5 +1,5 @@
 use Rattle.std.proofs.Common.{◌++◌, ◌∙◌, ap, string_bytes}
-use Rattle.papergrid_cells.proofs.Painting.{spaces-front}
+use Rattle.papergrid_cells.proofs.PrintedGlyphs.{spaces-front}
 use Rattle.papergrid_cells.proofs.painting.push_spaces.Goals as goal
 
 pub returns : goal.returns

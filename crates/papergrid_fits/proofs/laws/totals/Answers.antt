@@ -1,4 +1,4 @@
-use Rattle.papergrid_fits.proofs.Totals.{columns-total, estimated-columns, estimated-lines, lines-total}
+use Rattle.papergrid_fits.proofs.TotalSizes.{columns-total, estimated-columns, estimated-lines, lines-total}
 use Rattle.papergrid_fits.proofs.laws.totals.Goals as goal
 
 pub returns : goal.returns

@@ -3,7 +3,7 @@ use Rattle.grid_config.specs.Looks.{look_of}
 use Rattle.papergrid_print.specs.Chosen.{chosen_text}
 use Rattle.papergrid_print.specs.Sheets.{sheet_of}
 use Rattle.tabled_output.specs.Pieces.{HasBegun, HasPassed}
-use Rattle.tabled_output.proofs.Pieces.{passes-none}
+use Rattle.tabled_output.proofs.WrittenPieces.{passes-none}
 use Rattle.papergrid_print.proofs.Choosing.{all-chosen, begun-chosen}
 use Rattle.papergrid_print.proofs.choose.write_chosen.Goals as goal
 

@@ -2,7 +2,7 @@ use Rattle.std.proofs.Common.{[], string_bytes}
 use Rattle.std.specs.declared.alloc.AllocError.{AllocError}
 use Rattle.grid_config.specs.Looks.{look_of}
 use Rattle.papergrid_picture.specs.Tables.{table_text}
-use Rattle.tabled_output.proofs.Pieces.{passes-err, passes-last, passes-none, passes-ok, passes-refused}
+use Rattle.tabled_output.proofs.WrittenPieces.{passes-err, passes-last, passes-none, passes-ok, passes-refused}
 use Rattle.papergrid_print.proofs.print.write_table.Goals as goal
 
 pub returns-in_err-line : goal.returns-in_err-line

@@ -1,4 +1,4 @@
-use Rattle.tabled_output.proofs.Pieces.{piece-passed, piece-stopped}
+use Rattle.tabled_output.proofs.WrittenPieces.{piece-passed, piece-stopped}
 use Rattle.tabled_output.proofs.pieces.write_piece.Goals as goal
 
 pub returns-clause-passed : goal.returns-clause-passed

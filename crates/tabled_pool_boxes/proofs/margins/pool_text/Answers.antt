@@ -5,7 +5,7 @@ use Rattle.tabled_pool_boxes.specs.Boxes.{box_of}
 use Rattle.tabled_pool_boxes.specs.Canvas.{line_shapes}
 use Rattle.tabled_pool_boxes.specs.Texts.{IsTooLarge, joined, printed_lines}
 use Rattle.tabled_pool_boxes.specs.Values.{layout_of}
-use Rattle.tabled_pool_boxes.proofs.Margins.{is-within, passes}
+use Rattle.tabled_pool_boxes.proofs.RoundMargins.{is-within, passes}
 use Rattle.tabled_pool_boxes.proofs.margins.pool_text.Goals as goal
 
 pub returns-in_err-check_margins-clause-range : goal.returns-in_err-check_margins-clause-range

@@ -1,7 +1,7 @@
 use Rattle.std.proofs.Common.{◌≡◌, ◌++◌, replicate, string_bytes}
 use Rattle.grid_config.specs.Looks.{look_of}
 use Rattle.tabled_pool_boxes.specs.Texts.{margin_line}
-use Rattle.tabled_pool_boxes.proofs.Margins.{before_feeds}
+use Rattle.tabled_pool_boxes.proofs.RoundMargins.{before_feeds}
 use Rattle.tabled_pool_boxes.proofs.margins.push_above.Given as goal
 
 abbrev pub invariant-loop : goal.invariant-loop

@@ -5,7 +5,7 @@ use Rattle.std.proofs.lemmas.Result.{on_ok_weaker}
 use Rattle.grid_config.specs.Looks.{look_of}
 use Rattle.tabled_pool_boxes.specs.Canvas.{line_shapes}
 use Rattle.tabled_pool_boxes.specs.Texts.{behind_feeds, joined, margin_line, printed_lines, with_margins}
-use Rattle.tabled_pool_boxes.proofs.Margins.{count-printed, margins-around}
+use Rattle.tabled_pool_boxes.proofs.RoundMargins.{count-printed, margins-around}
 use Rattle.tabled_pool_boxes.proofs.margins.push_all.Goals as goal
 
 pub returns : goal.returns

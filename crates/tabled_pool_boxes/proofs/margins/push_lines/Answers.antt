@@ -5,7 +5,7 @@ use Rattle.std.proofs.lemmas.List.{length-map}
 use Rattle.grid_config.specs.Looks.{look_of}
 use Rattle.tabled_pool_boxes.specs.Canvas.{line_shapes}
 use Rattle.tabled_pool_boxes.specs.Texts.{in_margins, joined, printed_line}
-use Rattle.tabled_pool_boxes.proofs.Margins.{line-added, mapped-twice}
+use Rattle.tabled_pool_boxes.proofs.RoundMargins.{line-added, mapped-twice}
 use Rattle.tabled_pool_boxes.proofs.margins.push_lines.Goals as goal
 
 pub loop-y-preserved : goal.loop-y-preserved

@@ -2,7 +2,7 @@
 use Rattle.std.proofs.Common.{◌∙◌, ◌<◌, ◌≤◌, ◌++◌, ◌∷◌, [], List, ℕ, length, ap, sym, subst, arith, string_bytes}
 use Rattle.std.proofs.lemmas.Str.{IsUtf8-from_ascii, encode_ascii}
 use Rattle.grid_records_measure.specs.TextLines.{line_feed}
-use Rattle.grid_records_measure.proofs.Printable.{printable-ascii}
+use Rattle.grid_records_measure.proofs.PrintableWidth.{printable-ascii}
 use Rattle.tabled_size_wrap.proofs.Printable.{Filled, Filled-start, Filled-more, Filled-last}
 use Rattle.tabled_size_wrap.proofs.full_lines.full_lines.Goals as goal
 

@@ -5,7 +5,7 @@ use Rattle.ansi_scan.specs.Pieces.{pieces}
 use Rattle.ansi_scan.specs.Attributes.{plain_attributes}
 use Rattle.ansi_scan.proofs.Uniqueness.{pieces-ArePiecesOf}
 use Rattle.ansi_str_search.specs.PartsLeft.{parts_left}
-use Rattle.ansi_str_search.proofs.Matches.{styled_parts-parts_left, length-parts_left}
+use Rattle.ansi_str_search.proofs.FirstMatch.{styled_parts-parts_left, length-parts_left}
 use Rattle.ansi_str_search.proofs.Rests.{strip-fits}
 use Rattle.ansi_str_search.proofs.split.AnsiSplit.new.Goals as goal
 

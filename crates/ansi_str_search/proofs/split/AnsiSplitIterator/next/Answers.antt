@@ -4,7 +4,7 @@ use Rattle.ansi_scan.specs.Pieces.{pieces}
 use Rattle.ansi_str_search.specs.declared.rest.Rest.{Rest}
 use Rattle.ansi_str_search.specs.Rests.{rest_parts, parts_of, may_refuse, what_is_left}
 use Rattle.ansi_str_search.specs.Splitting.{PartsLeft}
-use Rattle.ansi_str_search.proofs.Matches.{parts_left-some}
+use Rattle.ansi_str_search.proofs.FirstMatch.{parts_left-some}
 use Rattle.ansi_str_search.proofs.split.AnsiSplitIterator.next.Goals as goal
 
 refused-none : (rest : Rest) → IsTrue rest.styled → (IsTrue (may_refuse None) → IsTrue rest.styled) × ((0 < length (rest_parts rest)) × (parts_of None ≡ []) × IsTrue rest.styled)

@@ -4,7 +4,7 @@ use Rattle.std.specs.Prelude.{chars}
 use Rattle.ansi_scan.specs.Sequences.{Piece}
 use Rattle.ansi_scan.proofs.Uniqueness.{pieces-ArePiecesOf}
 use Rattle.ansi_str_text.specs.StyledText.{strip}
-use Rattle.ansi_str_text.proofs.Characters.{left_chars-new, length-shown_chars}
+use Rattle.ansi_str_text.proofs.ShownCharacters.{left_chars-new, length-shown_chars}
 use Rattle.ansi_str_text.proofs.characters.StrippedChars.new.Goals as goal
 
 pub returns-clause-characters : goal.returns-clause-characters

@@ -2,7 +2,7 @@
 use Rattle.std.proofs.Common.{rules, ◌≡◌, [], ◌∷◌, ◌++◌, ℕ, List, ap, sym, ◌∙◌}
 use Rattle.std.specs.Prelude.{chars}
 use Rattle.std.proofs.lemmas.Str.{chars-nil}
-use Rattle.ansi_str_text.proofs.Characters.{left_chars, left_chars-last, left_chars-front, left_chars-only_front}
+use Rattle.ansi_str_text.proofs.ShownCharacters.{left_chars, left_chars-last, left_chars-front, left_chars-only_front}
 use Rattle.ansi_str_text.proofs.characters.StrippedCharsDoubleEndedIterator.next_back.Goals as goal
 
 pub returns-in-Some-split_last-clause-steps : goal.returns-in-Some-split_last-clause-steps

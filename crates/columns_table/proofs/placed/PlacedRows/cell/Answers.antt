@@ -3,8 +3,8 @@ use Rattle.std.specs.List.{slice_get}
 use Rattle.std.specs.Option.{option_map}
 use Rattle.columns_table.specs.Cells.{anywhere}
 use Rattle.columns_table.specs.Records.{KeepsWidth}
-use Rattle.columns_table.proofs.Cells.{each-some, text-none, text-some}
-use Rattle.columns_table.proofs.Placed.{row-keeps, row-text}
+use Rattle.columns_table.proofs.KeptCells.{each-some, text-none, text-some}
+use Rattle.columns_table.proofs.PlacedRows.{row-keeps, row-text}
 use Rattle.columns_table.proofs.Records.{empty_one_line}
 use Rattle.columns_table.proofs.placed.PlacedRows.cell.Goals as goal
 

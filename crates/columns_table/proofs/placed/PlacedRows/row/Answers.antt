@@ -1,7 +1,7 @@
 use Rattle.std.proofs.Common.{◌≡◌, ◌+◌, ◌<◌, length, get_or, ap, sym, ◌∙◌, arith}
 use Rattle.std.specs.Prelude.{slice_range}
 use Rattle.std.proofs.lemmas.Grind.{get_or_default_zero}
-use Rattle.columns_table.proofs.Placed.{placed-none, placed-row}
+use Rattle.columns_table.proofs.PlacedRows.{placed-none, placed-row}
 use Rattle.columns_table.proofs.placed.PlacedRows.row.Goals as goal
 
 pub returns-then-row-len : goal.returns-then-row-len

@@ -1,5 +1,5 @@
 use Rattle.std.proofs.Common.{sym, ◌∙◌}
-use Rattle.columns_table.proofs.Placed.{length-placed}
+use Rattle.columns_table.proofs.PlacedRows.{length-placed}
 use Rattle.columns_table.proofs.placed.PlacedRowsExactRecords.count_rows.Goals as goal
 
 pub returns : goal.returns

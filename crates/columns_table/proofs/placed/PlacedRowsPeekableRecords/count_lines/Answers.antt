@@ -1,4 +1,4 @@
-use Rattle.columns_table.proofs.Placed.{one_line_each}
+use Rattle.columns_table.proofs.PlacedRows.{one_line_each}
 use Rattle.columns_table.proofs.placed.PlacedRowsPeekableRecords.count_lines.Goals as goal
 
 pub returns : goal.returns

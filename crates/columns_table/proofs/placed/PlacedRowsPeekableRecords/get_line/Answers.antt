@@ -1,7 +1,7 @@
 use Rattle.std.proofs.Common.{◌≡◌, arith}
 use Rattle.grid_records_traits.specs.Rows.{text_at}
 use Rattle.columns_table.specs.Records.{placed_texts}
-use Rattle.columns_table.proofs.Placed.{first-line, no-line, one_line_each}
+use Rattle.columns_table.proofs.PlacedRows.{first-line, no-line, one_line_each}
 use Rattle.columns_table.proofs.placed.PlacedRowsPeekableRecords.get_line.Goals as goal
 
 pub returns-then-line-gt0-clause-line : goal.returns-then-line-gt0-clause-line

@@ -2,8 +2,8 @@ use Rattle.std.proofs.Common.{◌≤◌, All, length, map, ap, sym, subst, ◌�
 use Rattle.grid_records_traits.specs.PlainRows.{texts_at}
 use Rattle.grid_records_traits.proofs.Starts.{length-texts_at}
 use Rattle.columns_table.specs.Records.{KeepsWidth}
-use Rattle.columns_table.proofs.Cells.{plain-cells, texts-cells}
-use Rattle.columns_table.proofs.Placed.{row-keeps, row-texts}
+use Rattle.columns_table.proofs.KeptCells.{plain-cells, texts-cells}
+use Rattle.columns_table.proofs.PlacedRows.{row-keeps, row-texts}
 use Rattle.columns_table.proofs.placed.PlacedRowsPeekableRecords.plain_row.Goals as goal
 
 pub new-requires-clause-plain : goal.new-requires-clause-plain

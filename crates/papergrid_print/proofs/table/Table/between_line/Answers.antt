@@ -2,7 +2,7 @@ use Rattle.std.proofs.Common.{◌<◌, ◌++◌, [], length, refl, ap, ◌∙◌
 use Rattle.papergrid_picture.specs.Frame.{Boundary}
 use Rattle.papergrid_print.specs.Sheets.{line_at, table_sheet}
 use Rattle.papergrid_print.proofs.Flat.{between-same, none-goes-on}
-use Rattle.papergrid_print.proofs.Seen.{none-seen, seen-on}
+use Rattle.papergrid_print.proofs.SeenInRows.{none-seen, seen-on}
 use Rattle.papergrid_print.proofs.table.Table.between_line.Goals as goal
 
 pub push_boundary_line-requires-clause-goes_on : goal.push_boundary_line-requires-clause-goes_on

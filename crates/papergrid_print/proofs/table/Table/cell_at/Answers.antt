@@ -1,6 +1,6 @@
 use Rattle.std.proofs.Common.{◌∙◌, refl, arith}
 use Rattle.papergrid_print.specs.Sheets.{table_sheet}
-use Rattle.papergrid_print.proofs.Single.{seen-above}
+use Rattle.papergrid_print.proofs.OneLine.{seen-above}
 use Rattle.papergrid_print.proofs.table.Table.cell_at.Goals as goal
 
 pub top_of-top-requires-clause-above : goal.top_of-top-requires-clause-above

@@ -1,5 +1,5 @@
 use Rattle.papergrid_print.specs.Sheets.{table_sheet}
-use Rattle.papergrid_print.proofs.Single.{AreKept}
+use Rattle.papergrid_print.proofs.OneLine.{AreKept}
 use Rattle.papergrid_print.proofs.table.Table.cells_at.Given as goal
 
 abbrev pub invariant-loop-j : goal.invariant-loop-j

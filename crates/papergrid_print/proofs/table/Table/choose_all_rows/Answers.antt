@@ -6,7 +6,7 @@ use Rattle.papergrid_print.specs.Sheets.{row_tracks, table_sheet}
 use Rattle.tabled_output.specs.Pieces.{HasPassed}
 use Rattle.papergrid_print.proofs.Choosing.{chosen-then, none-yet, passed-then, stopped-then}
 use Rattle.papergrid_print.proofs.Places.{row-end}
-use Rattle.papergrid_print.proofs.Seen.{none-seen-below}
+use Rattle.papergrid_print.proofs.SeenInRows.{none-seen-below}
 use Rattle.papergrid_print.proofs.Tables.{row-within}
 use Rattle.papergrid_print.proofs.Writes.{boundary-within}
 use Rattle.papergrid_print.proofs.table.Table.choose_all_rows.Goals as goal

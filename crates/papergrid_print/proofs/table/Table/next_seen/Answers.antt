@@ -1,7 +1,7 @@
 use Rattle.std.proofs.Common.{◌≡◌, length, arith}
 use Rattle.papergrid_picture.specs.Picture.{at}
 use Rattle.papergrid_print.specs.Seen.{seen_at}
-use Rattle.papergrid_print.proofs.Seen.{seen-here, seen-own}
+use Rattle.papergrid_print.proofs.SeenInRows.{seen-here, seen-own}
 use Rattle.papergrid_print.proofs.table.Table.next_seen.Goals as goal
 
 pub returns : goal.returns

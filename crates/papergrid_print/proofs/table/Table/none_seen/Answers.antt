@@ -1,4 +1,4 @@
-use Rattle.papergrid_print.proofs.Seen.{positive-without}
+use Rattle.papergrid_print.proofs.SeenInRows.{positive-without}
 use Rattle.papergrid_print.proofs.table.Table.none_seen.Goals as goal
 
 pub returns-then-has_no_spans-clause-positive : goal.returns-then-has_no_spans-clause-positive

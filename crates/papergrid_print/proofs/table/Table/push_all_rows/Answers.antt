@@ -1,7 +1,7 @@
 use Rattle.std.proofs.Common.{length, [], ap, sym, ◌∙◌, arith}
 use Rattle.papergrid_print.specs.Sheets.{lines_of, table_sheet}
 use Rattle.papergrid_print.proofs.Boundaries.{on_ok_both}
-use Rattle.papergrid_print.proofs.Seen.{none-seen-below}
+use Rattle.papergrid_print.proofs.SeenInRows.{none-seen-below}
 use Rattle.papergrid_print.proofs.Tables.{row-within}
 use Rattle.papergrid_print.proofs.table.Table.push_all_rows.Goals as goal
 

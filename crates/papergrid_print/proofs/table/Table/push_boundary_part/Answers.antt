@@ -7,9 +7,9 @@ use Rattle.papergrid_cells.specs.BlockLines.{line_kind}
 use Rattle.papergrid_cells.specs.Shown.{measures_of}
 use Rattle.papergrid_print.specs.Seen.{IsSameAbove}
 use Rattle.papergrid_print.specs.Sheets.{ShowsCell, grid_of, table_sheet}
-use Rattle.papergrid_print.proofs.Lines.{kept-shows}
+use Rattle.papergrid_print.proofs.LinesShown.{kept-shows}
 use Rattle.papergrid_print.proofs.Boundaries.{closed-part, on_ok_both, open-part}
-use Rattle.papergrid_print.proofs.Seen.{same-above, same-below}
+use Rattle.papergrid_print.proofs.SeenInRows.{same-above, same-below}
 use Rattle.papergrid_print.proofs.table.Table.push_boundary_part.Goals as goal
 
 pub returns-then-owner-i : goal.returns-then-owner-i

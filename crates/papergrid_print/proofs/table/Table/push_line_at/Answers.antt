@@ -5,7 +5,7 @@ use Rattle.papergrid_picture.specs.Picture.{seen}
 use Rattle.papergrid_picture.proofs.Frames.{boundary-next, place-row}
 use Rattle.papergrid_print.specs.Sheets.{ShowsAt, grid_of, row_tracks, table_sheet}
 use Rattle.papergrid_cells.specs.declared.block.OpenCell.{OpenCell}
-use Rattle.papergrid_print.proofs.Single.{boundary-shown, line-shown}
+use Rattle.papergrid_print.proofs.OneLine.{boundary-shown, line-shown}
 use Rattle.papergrid_print.proofs.table.Table.push_line_at.Goals as goal
 
 pub returns-then-y-top_of : goal.returns-then-y-top_of

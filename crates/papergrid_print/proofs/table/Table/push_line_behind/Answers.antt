@@ -3,7 +3,7 @@ use Rattle.std.proofs.lemmas.Result.{on_ok_weaker}
 use Rattle.papergrid_picture.specs.Frame.{Boundary, track_at}
 use Rattle.papergrid_cells.specs.Painting.{colored, fill_bytes}
 use Rattle.papergrid_print.specs.Sheets.{row_tracks, table_sheet}
-use Rattle.papergrid_print.proofs.Single.{boundary-shown, line-shown}
+use Rattle.papergrid_print.proofs.OneLine.{boundary-shown, line-shown}
 use Rattle.papergrid_print.proofs.Tables.{below-shows, top-within}
 use Rattle.papergrid_print.proofs.table.Table.push_line_behind.Goals as goal
 

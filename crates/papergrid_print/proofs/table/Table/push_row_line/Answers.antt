@@ -5,7 +5,7 @@ use Rattle.grid_config_values.specs.declared.sides.Indent.{Indent}
 use Rattle.grid_config_values.specs.declared.sides.Sides.{Sides}
 use Rattle.papergrid_cells.specs.Painting.{colored, fill_bytes}
 use Rattle.papergrid_print.specs.Sheets.{table_sheet}
-use Rattle.papergrid_print.proofs.Lines.{appended2, appended4, row-line, row_start, row_start-more}
+use Rattle.papergrid_print.proofs.LinesShown.{appended2, appended4, row-line, row_start, row_start-more}
 use Rattle.papergrid_print.proofs.table.Table.push_row_line.Goals as goal
 
 pub loop-j-preserved : goal.loop-j-preserved

@@ -1,6 +1,6 @@
 use Rattle.std.proofs.Common.{◌≡◌, ◌++◌, string_bytes}
 use Rattle.papergrid_print.specs.Sheets.{table_sheet}
-use Rattle.papergrid_print.proofs.Lines.{row_start}
+use Rattle.papergrid_print.proofs.LinesShown.{row_start}
 use Rattle.papergrid_print.proofs.table.Table.push_row_line.Given as goal
 
 abbrev pub invariant-loop-j : goal.invariant-loop-j

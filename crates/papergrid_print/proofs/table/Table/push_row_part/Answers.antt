@@ -6,7 +6,7 @@ use Rattle.papergrid_picture.specs.Picture.{seen}
 use Rattle.papergrid_cells.specs.BlockLines.{alone_bytes, line_kind}
 use Rattle.papergrid_cells.specs.Shown.{measures_of}
 use Rattle.papergrid_print.specs.Sheets.{ShowsCell, grid_of, table_sheet}
-use Rattle.papergrid_print.proofs.Lines.{appended2, kept-shows, row-part}
+use Rattle.papergrid_print.proofs.LinesShown.{appended2, kept-shows, row-part}
 use Rattle.papergrid_print.proofs.table.Table.push_row_part.Goals as goal
 
 pub returns-in-Some : goal.returns-in-Some

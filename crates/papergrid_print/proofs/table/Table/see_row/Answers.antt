@@ -1,6 +1,6 @@
 use Rattle.std.proofs.Common.{◌<◌, refl, sym, subst, length, arith}
 use Rattle.papergrid_print.specs.Seen.{IsSeenAbove}
-use Rattle.papergrid_print.proofs.Seen.{are-seen, begins, kept-so, next-above, sees}
+use Rattle.papergrid_print.proofs.SeenInRows.{are-seen, begins, kept-so, next-above, sees}
 use Rattle.papergrid_print.proofs.table.Table.see_row.Goals as goal
 
 pub loop-j-init : goal.loop-j-init

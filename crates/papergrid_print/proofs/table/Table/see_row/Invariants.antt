@@ -1,5 +1,5 @@
 use Rattle.std.proofs.Common.{length}
-use Rattle.papergrid_print.proofs.Seen.{IsSeeing}
+use Rattle.papergrid_print.proofs.SeenInRows.{IsSeeing}
 use Rattle.papergrid_print.proofs.table.Table.see_row.Given as goal
 
 abbrev pub invariant-loop-j : goal.invariant-loop-j

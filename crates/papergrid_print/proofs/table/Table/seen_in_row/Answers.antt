@@ -1,6 +1,6 @@
 use Rattle.std.proofs.Common.{length, subst, sym}
 use Rattle.papergrid_print.specs.Seen.{AreSeen}
-use Rattle.papergrid_print.proofs.Seen.{none-seen, positive-without}
+use Rattle.papergrid_print.proofs.SeenInRows.{none-seen, positive-without}
 use Rattle.papergrid_print.proofs.table.Table.seen_in_row.Goals as goal
 
 pub returns-then-has_no_spans-clause-seen : goal.returns-then-has_no_spans-clause-seen

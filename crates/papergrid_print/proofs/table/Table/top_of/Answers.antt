@@ -1,7 +1,7 @@
 use Rattle.std.proofs.Common.{◌<◌, ◌+◌, length, arith}
 use Rattle.papergrid_picture.proofs.Frames.{boundary-bounded, boundary-next}
 use Rattle.papergrid_print.specs.Sheets.{row_tracks, table_sheet}
-use Rattle.papergrid_print.proofs.Single.{boundary-above}
+use Rattle.papergrid_print.proofs.OneLine.{boundary-above}
 use Rattle.papergrid_print.proofs.table.Table.top_of.Goals as goal
 
 pub overflow_add-result : goal.overflow_add-result

@@ -4,7 +4,7 @@ use Rattle.papergrid_picture.specs.Frame.{boundary_at, track_at}
 use Rattle.papergrid_print.specs.Sheets.{GoesOn, lines_of, row_tracks, table_sheet}
 use Rattle.tabled_output.specs.Pieces.{HasPassed}
 use Rattle.tabled_output.specs.declared.writing.WriteFault.{WriteFault}
-use Rattle.papergrid_print.proofs.Seen.{none-seen-below}
+use Rattle.papergrid_print.proofs.SeenInRows.{none-seen-below}
 use Rattle.papergrid_print.proofs.Tables.{row-within}
 use Rattle.papergrid_print.proofs.Writes.{begun-further, boundary-within, continues-after, continues-refused, stopped-further, then-err, then-ok}
 use Rattle.papergrid_print.proofs.table.Table.write_all_rows.Goals as goal

@@ -1,7 +1,7 @@
 use Rattle.std.proofs.Common.{◌≤◌, string_bytes, arith}
 use Rattle.papergrid_picture.specs.Frame.{track_at}
 use Rattle.papergrid_print.specs.Sheets.{lines_of, row_tracks, table_sheet}
-use Rattle.tabled_output.proofs.Pieces.{passed-by, passed-on, stopped-on}
+use Rattle.tabled_output.proofs.WrittenPieces.{passed-by, passed-on, stopped-on}
 use Rattle.papergrid_print.proofs.Writes.{begun, continues-refused}
 use Rattle.papergrid_print.proofs.table.Table.write_boundary.Goals as goal
 

@@ -6,7 +6,7 @@ use Rattle.papergrid_cells.specs.Painting.{colored, fill_bytes}
 use Rattle.papergrid_print.specs.Sheets.{grid_of, lines_of, row_tracks, table_sheet}
 use Rattle.tabled_output.specs.Pieces.{HasPassed, Passes}
 use Rattle.tabled_output.specs.declared.writing.WriteFault.{WriteFault}
-use Rattle.tabled_output.proofs.Pieces.{passed-none, passes-refused}
+use Rattle.tabled_output.proofs.WrittenPieces.{passed-none, passes-refused}
 use Rattle.papergrid_print.proofs.Tables.{below-shows, lines-fit, top-within}
 use Rattle.papergrid_print.proofs.Writes.{begun-further, continues-then, stopped-further, then-err, then-ok}
 use Rattle.papergrid_print.proofs.table.Table.write_lines.Goals as goal

@@ -4,7 +4,7 @@ use Rattle.papergrid_cells.specs.Flat.{AreMadeFor}
 use Rattle.papergrid_cells.specs.declared.flat.FlatRows.{FlatRows}
 use Rattle.papergrid_print.specs.Sheets.{line_at, lines_of, row_tracks, table_sheet}
 use Rattle.tabled_output.specs.Pieces.{HasPassed}
-use Rattle.tabled_output.proofs.Pieces.{passed-on}
+use Rattle.tabled_output.proofs.WrittenPieces.{passed-on}
 use Rattle.papergrid_print.proofs.Flat.{none-goes-on}
 use Rattle.papergrid_print.proofs.Places.{row-end, row-fits}
 use Rattle.papergrid_print.proofs.Writes.{begun, continues-refused, passed-row, stopped}

@@ -2,7 +2,7 @@ use Rattle.std.proofs.Common.{◌≡◌, ◌+◌, ◌<◌, ◌≤◌, subst, get
 use Rattle.papergrid_picture.specs.Frame.{boundary_at, track_at}
 use Rattle.papergrid_print.specs.Sheets.{lines_of, row_tracks, table_sheet}
 use Rattle.tabled_output.specs.Pieces.{HasPassed}
-use Rattle.tabled_output.proofs.Pieces.{passed-on}
+use Rattle.tabled_output.proofs.WrittenPieces.{passed-on}
 use Rattle.papergrid_print.proofs.Places.{row-end, row-fits}
 use Rattle.papergrid_print.proofs.Writes.{begun, continues-refused, passed-row, stopped}
 use Rattle.papergrid_print.proofs.table.Table.write_row.Goals as goal

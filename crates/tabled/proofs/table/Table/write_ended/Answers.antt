@@ -10,7 +10,7 @@ use Rattle.papergrid.specs.Grids.{grid_text}
 use Rattle.papergrid_fits.specs.Tables.{table_frame}
 use Rattle.papergrid_picture.specs.Frame.{line_count}
 use Rattle.tabled_output.specs.Pieces.{HasBegun, HasPassed, HasStopped}
-use Rattle.tabled_output.proofs.Pieces.{begun-front, passed-front, passes-err, passes-last, passes-none, passes-ok, passes-refused, stopped-front}
+use Rattle.tabled_output.proofs.WrittenPieces.{begun-front, passed-front, passes-err, passes-last, passes-none, passes-ok, passes-refused, stopped-front}
 use Rattle.tabled_size_dimension.specs.Sizes.{given_size}
 use Rattle.tabled_size_dimension.specs.Stored.{stored_sizes}
 use Rattle.tabled_steps.proofs.Changing.{count_texts}

@@ -7,7 +7,7 @@ use Rattle.grid_records_rows.specs.Sources.{columns_of}
 use Rattle.grid_records_traits.specs.Sources.{texts_of_rows}
 use Rattle.papergrid.specs.Grids.{grid_text}
 use Rattle.tabled_output.specs.Pieces.{HasBegun, Passes}
-use Rattle.tabled_output.proofs.Pieces.{passes-answered, passes-none, passes-refused}
+use Rattle.tabled_output.proofs.WrittenPieces.{passes-answered, passes-none, passes-refused}
 use Rattle.tabled_size_dimension.specs.Sizes.{given_size}
 use Rattle.tabled_size_dimension.specs.Stored.{stored_sizes}
 use Rattle.tabled_steps.proofs.Changing.{count_texts}

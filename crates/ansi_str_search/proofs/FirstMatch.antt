@@ -13,7 +13,7 @@ use Rattle.ansi_str_text.specs.StyledText.{strip, style_after_all}
 use Rattle.ansi_str_search.specs.Parts.{from_place, before_place, through_place, split_part, dressed}
 use Rattle.ansi_str_search.specs.Matches.{Occurs, IsFirstMatch, behind_match, AreMatchesFrom, AreMatches, bounds_between, split_bounds, styled_parts}
 use Rattle.ansi_str_search.specs.PartsLeft.{begins_character, begins_with, matches_first, first_match, passed_over, part_and_others, first_parts, parts_left}
-use Rattle.ansi_str_search.proofs.Places.{strip-from, from-none, before-none}
+use Rattle.ansi_str_search.proofs.PiecesAtPlaces.{strip-from, from-none, before-none}
 use Rattle.ansi_str_search.proofs.PlaceSums.{from-from, style-before_sum, through-all}
 use Rattle.ansi_str_search.proofs.Styles.{split_part-slice}
 

@@ -13,7 +13,7 @@ use Rattle.ansi_scan.proofs.Existence.{ArePiecesOf-pieces}
 use Rattle.ansi_str_text.specs.StyledText.{has_escape, shown, text_of, strip}
 use Rattle.ansi_str_text.specs.Characters.{shown_chars}
 use Rattle.ansi_str_text.proofs.Utf8Pieces.{IsUtf8-shown_text}
-use Rattle.ansi_str_text.proofs.Last.{strip-plain, strip-nothing}
+use Rattle.ansi_str_text.proofs.LastSequence.{strip-plain, strip-nothing}
 
 -- what a text shows behind its first item of text
 pub shown_chars-first : (text first rest : List ℕ) → strip (pieces text) ≡ first ++ strip (pieces rest) → IsUtf8 first → shown_chars text ≡ chars first ++ shown_chars rest
