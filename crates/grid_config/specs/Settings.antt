@@ -76,17 +76,21 @@ KeepsOthers setting old new = new ≡ with_one setting old new
 abbrev pub IsEverywhere : {T : Type 0} → EntityMap T → T → Type 0
 IsEverywhere map value = (p : Position) → value_at map p ≡ value
 
--- all cells have the same settings, but for what they span
-pub record AreUniform (settings : Settings) : Type 0 where
+-- all cells have the same settings, but for what they span and for the side at which their texts stand
+pub record AreUniformButAlignment (settings : Settings) : Type 0 where
   pub padding : IsUniform settings.padding
   pub padding_color : IsUniform settings.padding_color
-  pub alignment_horizontal : IsUniform settings.alignment_horizontal
   pub alignment_vertical : IsUniform settings.alignment_vertical
   pub line_alignment : IsUniform settings.line_alignment
   pub trim_horizontal : IsUniform settings.trim_horizontal
   pub trim_vertical : IsUniform settings.trim_vertical
   pub justification : IsUniform settings.justification
   pub justification_color : IsUniform settings.justification_color
+
+-- all cells have the same settings, but for what they span
+pub record AreUniform (settings : Settings) : Type 0 where
+  pub others : AreUniformButAlignment settings
+  pub alignment_horizontal : IsUniform settings.alignment_horizontal
 
 -- what a table may start with
 pub record Start : Type 0 where

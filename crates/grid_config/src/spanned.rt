@@ -8,7 +8,7 @@ ghost use Rattle.grid_config_spans.specs.Spans.{AreGood, ArePositive, IsVisible,
 ghost use Rattle.grid_config_values.specs.Settings.{IsUnchanged, SetsCovered, value_at};
 ghost use Rattle.grid_config.specs.Compact.{compact_of};
 ghost use Rattle.grid_config.specs.Looks.{look_of};
-ghost use Rattle.grid_config.specs.Settings.{AreUniform, IsUncolored, KeepsOthers, StartsWith, compact_start, new_start};
+ghost use Rattle.grid_config.specs.Settings.{AreUniform, AreUniformButAlignment, IsUncolored, KeepsOthers, StartsWith, compact_start, new_start};
 ghost use Rattle.grid_config.specs.Settings.{Margin, MarginColor, BorderGlyphs, BorderColors, Padding, PaddingColor, HorizontalAlignment,
     VerticalAlignment, LineAlignment, TrimHorizontal, TrimVertical, Justification, JustificationColor, CellSpans};
 
@@ -413,10 +413,16 @@ impl SpannedConfig {
     pub fn is_uniform(&self) -> bool
         ensures { IsTrue result → AreUniform self.now }
     {
+        self.is_uniform_but_alignment() && self.cells.alignment_horizontal.is_uniform()
+    }
+
+    /// The same where the side at which the texts of cells stand may differ, left, right or in the middle.
+    pub fn is_uniform_but_alignment(&self) -> bool
+        ensures { IsTrue result → AreUniformButAlignment self.now }
+    {
         let cells = &self.cells;
         cells.padding.is_uniform()
             && cells.padding_color.is_uniform()
-            && cells.alignment_horizontal.is_uniform()
             && cells.alignment_vertical.is_uniform()
             && cells.line_alignment.is_uniform()
             && cells.trim_horizontal.is_uniform()
