@@ -9,7 +9,7 @@ use Rattle.columns_table.specs.Cells.{cell_of}
 use Rattle.columns_table.specs.Ends.{AreCellEnds, IsTextIn, cells_in, start_behind}
 use Rattle.columns_table.specs.RowEnds.{EndedRows, no_rows, row_ended, with_cell}
 use Rattle.columns_table.specs.declared.ends.CellEnd.{CellEnd}
-use Rattle.columns_table.proofs.CellEnds.{cells-more, fit-more, start-more}
+use Rattle.columns_table.proofs.EndsOfCells.{cells-more, fit-more, start-more}
 use Rattle.columns_run.specs.Rows.{line_feed, tab}
 use Rattle.columns_run.specs.Cells.{Line, byte_line, shown}
 use Rattle.columns_run.proofs.Passes.{AreRows, Pass, Pass-last, Pass-line_feed, Pass-none, Pass-start, Pass-tab, cell-last}

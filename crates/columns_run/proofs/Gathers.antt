@@ -8,7 +8,7 @@ use Rattle.columns_table.specs.RowEnds.{EndedRows}
 use Rattle.columns_table.specs.Rows.{cell_texts}
 use Rattle.columns_table.specs.declared.cells.LineCell.{LineCell}
 use Rattle.columns_table.specs.declared.ends.CellEnd.{CellEnd}
-use Rattle.columns_table.proofs.CellEnds.{cells-written, fit-written, length-cells_in, start-written}
+use Rattle.columns_table.proofs.EndsOfCells.{cells-written, fit-written, length-cells_in, start-written}
 use Rattle.columns_run.specs.Cells.{part_line, shown}
 use Rattle.columns_run.specs.Rows.{line_feed, stripped}
 use Rattle.columns_run.specs.Styled.{AddsCell}

@@ -24,7 +24,7 @@ use Rattle.ansi_str_text.proofs.Utf8Pieces.{IsUtf8-shown_text}
 use Rattle.grid_records_measure.specs.Cutting.{lacking, replacement}
 use Rattle.grid_records_measure.specs.Filling.{behind_front, fitting_front}
 use Rattle.grid_records_measure.specs.TextLines.{line_feed, text_height, text_lines, text_width}
-use Rattle.grid_records_measure.proofs.Lines.{lines-joined}
+use Rattle.grid_records_measure.proofs.LinesAndBlocks.{lines-joined}
 use Rattle.grid_records_measure.proofs.TextLines.{length-text_lines, text_lines-are}
 use Rattle.tabled_size_cells.specs.Resizing.{Break, Cut, Keep, Resize, resized_text}
 use Rattle.columns_sequences.proofs.CutLines.{cut-closed_line}

@@ -2,7 +2,7 @@ pub mod Answers
 pub mod AskedWidths
 pub mod KeptCells
 pub mod Cuts
-pub mod CellEnds
+pub mod EndsOfCells
 pub mod KeptEnds
 pub mod KeptRows
 pub mod Leasts

@@ -8,7 +8,7 @@ use Rattle.ansi_scan.proofs.Uniqueness.{pieces-ArePiecesOf}
 use Rattle.grid_records_measure.specs.TextLines.{shown_lines, widest}
 use Rattle.std.proofs.lemmas.List.Elements.{All-from_recursion}
 use Rattle.ansi_str.specs.Lines.{IsClosedLine}
-use Rattle.grid_records_measure.proofs.Lines.{lines-joined}
+use Rattle.grid_records_measure.proofs.LinesAndBlocks.{lines-joined}
 use Rattle.grid_records_traits.specs.Cells.{HasLineCount, HasWidth}
 use Rattle.grid_records_traits.specs.Rows.{fitted_row}
 use Rattle.columns_table.specs.Records.{IsOneLine, IsOnlyLine}

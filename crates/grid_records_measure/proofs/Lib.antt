@@ -1,5 +1,5 @@
 pub mod Filling
-pub mod Lines
+pub mod LinesAndBlocks
 pub mod AroundTabs
 pub mod Cuts
 pub mod RawLines

@@ -11,7 +11,7 @@ use Rattle.ansi_str.specs.Matches.{AreMatches, AreMatchesFrom, Occurs}
 use Rattle.ansi_str_search.proofs.FirstMatch.{Occurs-within}
 use Rattle.ansi_str_search.proofs.Searches.{of_pieces}
 use Rattle.grid_records_measure.specs.TextLines.{AreLinesOf, is_line_feed, line_feed, line_feed_places, shown_lines, text_height, text_lines, text_width, widest}
-use Rattle.grid_records_measure.proofs.Lines.{length-lines, lines-shown, lines-unique}
+use Rattle.grid_records_measure.proofs.LinesAndBlocks.{length-lines, lines-shown, lines-unique}
 
 -- ---- the places of line feeds
 

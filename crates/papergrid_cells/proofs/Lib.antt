@@ -1,5 +1,5 @@
 mod PrintedGlyphs
-pub mod CellLines
+pub mod KeptLines
 pub mod PlainLines
 mod Spaces
 pub mod EmptyRows

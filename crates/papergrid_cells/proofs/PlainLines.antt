@@ -15,7 +15,7 @@ use Rattle.grid_records_measure.specs.TextLines.{AreLinesOf, is_line_feed, line_
 use Rattle.grid_records_measure.proofs.TextLines.{text_lines-are}
 use Rattle.grid_records_traits.specs.Cells.{HasLineCount, IsLineAt}
 use Rattle.papergrid_picture.specs.CellLines.{cell_lines, cell_measures}
-use Rattle.papergrid_cells.proofs.CellLines.{map-same, one-element}
+use Rattle.papergrid_cells.proofs.KeptLines.{map-same, one-element}
 
 -- the lines of a text without ESC are its parts between line feeds
 pub lines-plain : (text : List ℕ) (ps : List Piece) (lines : List (List ℕ)) → has_escape text ≡ false → ArePiecesOf text ps → AreLinesOf ps lines → lines ≡ slice_split is_line_feed text

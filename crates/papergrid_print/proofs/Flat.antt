@@ -8,7 +8,7 @@ use Rattle.std.proofs.Math.Seq.{take-length}
 use Rattle.ansi_scan.specs.Pieces.{pieces}
 use Rattle.ansi_str.specs.StyledText.{strip}
 use Rattle.grid_records_measure.specs.TextLines.{is_line_feed, line_measure, shown_lines, text_lines, widest}
-use Rattle.grid_records_measure.proofs.Lines.{length-lines}
+use Rattle.grid_records_measure.proofs.LinesAndBlocks.{length-lines}
 use Rattle.grid_records_measure.proofs.TextLines.{text_lines-are}
 use Rattle.ansi_scan.proofs.Existence.{ArePiecesOf-pieces}
 use Rattle.grid_records_traits.specs.Cells.{HasLineCount, HasLineWidth, HasWidth, IsLineAt, line_at as text_line_at}
@@ -38,7 +38,7 @@ use Rattle.papergrid_print.specs.Sheets.{GoesOn, Sheet, bytes_of, grid_of, line_
 use Rattle.papergrid_cells.specs.declared.block.BlockLine.TheVariants.{Text, Below, Outside}
 use Rattle.papergrid_cells.specs.declared.block.OpenCell.{OpenCell}
 use Rattle.papergrid_cells.specs.declared.flat.FlatRows.{FlatRows}
-use Rattle.papergrid_cells.proofs.CellLines.{map-same}
+use Rattle.papergrid_cells.proofs.KeptLines.{map-same}
 use Rattle.papergrid_print.proofs.LinesShown.{block-line, painted-bare, parts_of-append, parts_of-laid, row-line, row_start, row_start-more, upright-bytes}
 
 -- ---- the first line of a block

@@ -3,9 +3,9 @@ use Rattle.std.proofs.Common.{◌≡◌, ℕ, false, List, length, take, ap, sym
 use Rattle.std.proofs.Math.Seq.{take-length}
 use Rattle.ansi_scan.specs.Pieces.{pieces}
 use Rattle.grid_records_measure.specs.TextLines.{shown_lines, text_lines}
-use Rattle.grid_records_measure.proofs.Lines.{length-lines}
+use Rattle.grid_records_measure.proofs.LinesAndBlocks.{length-lines}
 use Rattle.grid_records_measure.proofs.TextLines.{text_lines-are}
-use Rattle.papergrid_cells.proofs.CellLines.{map-same}
+use Rattle.papergrid_cells.proofs.KeptLines.{map-same}
 use Rattle.papergrid_picture.specs.CellLines.{cell_lines}
 
 -- without trims a text keeps all its lines

@@ -20,7 +20,7 @@ use Rattle.grid_records_measure.specs.Cutting.{replacement}
 use Rattle.grid_records_measure.specs.Measures.{measure, own_width}
 use Rattle.grid_records_measure.specs.PlainCharacters.{is_plain_character}
 use Rattle.grid_records_measure.specs.TextLines.{AreLinesOf, is_line_feed, line_feed, line_measure, widest}
-use Rattle.grid_records_measure.proofs.Lines.{length-lines, lines-closed, lines-joined, lines-shown, lines-there}
+use Rattle.grid_records_measure.proofs.LinesAndBlocks.{length-lines, lines-closed, lines-joined, lines-shown, lines-there}
 use Rattle.tabled_size_wrap.specs.Units.{LineUnit, line_units, unit_len}
 use Rattle.tabled_size_wrap.specs.Breaking.{AreRunsOf}
 use Rattle.tabled_size_wrap.specs.Wrapping.{AreBrokenLines, IsWrapped, line_part, replacement_bytes, shown_lines}

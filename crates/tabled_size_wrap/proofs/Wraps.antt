@@ -15,7 +15,7 @@ use Rattle.tabled_size_wrap.specs.Wrapping.{line_part, replacement_bytes, shown_
 use Rattle.tabled_size_wrap.specs.Runs.{runs_of, broken_lines}
 use Rattle.tabled_size_wrap.proofs.Runs.{some-runs, some-shown, join-cons}
 use Rattle.tabled_size_wrap.proofs.Longest.{runs-are, runs-one}
-use Rattle.grid_records_measure.proofs.Lines.{lines-there, lines-unique}
+use Rattle.grid_records_measure.proofs.LinesAndBlocks.{lines-there, lines-unique}
 
 pub no-bytes : (bytes : List ℕ) → length bytes ≡ 0 → bytes ≡ []
 no-bytes [] none = refl

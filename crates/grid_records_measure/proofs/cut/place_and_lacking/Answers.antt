@@ -8,7 +8,7 @@ use Rattle.ansi_str_text.proofs.Utf8Pieces.{IsUtf8-shown_text}
 use Rattle.ansi_str_search.proofs.Rests.{strip-fits}
 use Rattle.grid_records_measure.specs.Filling.{fitting_front, front_columns, behind_front}
 use Rattle.grid_records_measure.proofs.Filling.{lacking-none}
-use Rattle.grid_records_measure.proofs.Lines.{shown-blocks}
+use Rattle.grid_records_measure.proofs.LinesAndBlocks.{shown-blocks}
 use Rattle.grid_records_measure.proofs.Cuts.{all-fit, some-left, fits-on, stops-in, lacking-some, fitting_front-fits, fitting_front-longer}
 use Rattle.grid_records_measure.proofs.cut.place_and_lacking.Goals as goal
 

@@ -1,5 +1,5 @@
--- A lemma of `Lines`.
-use Rattle.grid_records_measure.proofs.Lines.{lines-joined}
+-- A lemma of `LinesAndBlocks`.
+use Rattle.grid_records_measure.proofs.LinesAndBlocks.{lines-joined}
 use Rattle.grid_records_measure.proofs.laws.closed_lines_join.Goals as goal
 
 pub returns : goal.returns

@@ -1,5 +1,5 @@
--- A lemma of `Lines`.
-use Rattle.grid_records_measure.proofs.Lines.{lines-closed}
+-- A lemma of `LinesAndBlocks`.
+use Rattle.grid_records_measure.proofs.LinesAndBlocks.{lines-closed}
 use Rattle.grid_records_measure.proofs.laws.lines_are_closed.Goals as goal
 
 pub returns : goal.returns

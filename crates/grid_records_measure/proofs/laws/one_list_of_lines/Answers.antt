@@ -1,5 +1,5 @@
--- The lemmas of `Lines`.
-use Rattle.grid_records_measure.proofs.Lines.{lines-there, lines-unique}
+-- The lemmas of `LinesAndBlocks`.
+use Rattle.grid_records_measure.proofs.LinesAndBlocks.{lines-there, lines-unique}
 use Rattle.grid_records_measure.proofs.laws.one_list_of_lines.Goals as goal
 
 pub returns-clause-there : goal.returns-clause-there

@@ -2,7 +2,7 @@
 use Rattle.std.proofs.Common.{rules, ◌≡◌, ◌∙◌, flat_map, ap}
 use Rattle.ansi_str.specs.Blocks.{text_of_block}
 use Rattle.grid_records_measure.specs.Tabs.{has_tab}
-use Rattle.grid_records_measure.proofs.Lines.{shown-blocks}
+use Rattle.grid_records_measure.proofs.LinesAndBlocks.{shown-blocks}
 use Rattle.grid_records_measure.proofs.tabs.shows_tab.Goals as goal
 
 pub loop-block-init : goal.loop-block-init

@@ -11,7 +11,7 @@ use Rattle.ansi_str.specs.StyledText.{strip}
 use Rattle.ansi_str.specs.Blocks.{Block, text_of_block}
 use Rattle.ansi_str_search.proofs.Rests.{strip-fits}
 use Rattle.grid_records_measure.specs.TextLines.{is_line_feed, shown_lines}
-use Rattle.grid_records_measure.proofs.Lines.{shown-blocks}
+use Rattle.grid_records_measure.proofs.LinesAndBlocks.{shown-blocks}
 use Rattle.grid_records_measure.proofs.TextLines.{height-of_pieces}
 use Rattle.grid_records_measure.proofs.text_lines.count_lines.Goals as goal
 

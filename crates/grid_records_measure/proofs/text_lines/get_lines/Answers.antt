@@ -1,7 +1,7 @@
 -- A text has matches of the line feed, and its parts are those between them.
 use Rattle.ansi_scan.specs.Pieces.{pieces}
 use Rattle.ansi_scan.proofs.Existence.{ArePiecesOf-pieces}
-use Rattle.grid_records_measure.proofs.Lines.{line_matches, length-lines}
+use Rattle.grid_records_measure.proofs.LinesAndBlocks.{line_matches, length-lines}
 use Rattle.grid_records_measure.proofs.TextLines.{text_lines-one}
 use Rattle.grid_records_measure.proofs.text_lines.get_lines.Goals as goal
 

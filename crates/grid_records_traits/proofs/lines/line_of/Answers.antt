@@ -1,7 +1,7 @@
 -- The lines of a text are one list, and the loop goes through it.
 use Rattle.std.proofs.Common.{Global}
 use Rattle.std.specs.declared.alloc.AllocError.{AllocError}
-use Rattle.grid_records_measure.proofs.Lines.{lines-unique}
+use Rattle.grid_records_measure.proofs.LinesAndBlocks.{lines-unique}
 use Rattle.grid_records_traits.proofs.LineAt.{line_found, line_lacking}
 use Rattle.grid_records_traits.proofs.lines.line_of.Goals as goal
 

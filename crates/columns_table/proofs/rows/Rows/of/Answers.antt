@@ -4,7 +4,7 @@ use Rattle.columns_table.specs.Columns.{AreWidest, cell_widths, end_widths}
 use Rattle.columns_table.specs.RowEnds.{EndedRows}
 use Rattle.columns_table.specs.declared.cells.LineCell.{LineCell}
 use Rattle.columns_table.specs.declared.ends.CellEnd.{CellEnd}
-use Rattle.columns_table.proofs.CellEnds.{length-cells_in}
+use Rattle.columns_table.proofs.EndsOfCells.{length-cells_in}
 use Rattle.columns_table.proofs.Widest.{AreWidest-all, widths-in}
 use Rattle.columns_table.proofs.rows.Rows.of.Goals as goal
 

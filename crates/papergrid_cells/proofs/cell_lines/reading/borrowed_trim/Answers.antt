@@ -1,5 +1,5 @@
 use Rattle.std.proofs.Common.{◌∙◌, sym}
-use Rattle.papergrid_cells.proofs.CellLines.{trimmed-plain}
+use Rattle.papergrid_cells.proofs.KeptLines.{trimmed-plain}
 use Rattle.papergrid_cells.proofs.cell_lines.reading.borrowed_trim.Goals as goal
 
 pub returns : goal.returns

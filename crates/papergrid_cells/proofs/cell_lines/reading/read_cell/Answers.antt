@@ -2,7 +2,7 @@ use Rattle.std.proofs.Common.{◌∙◌, ap}
 use Rattle.std.specs.Cow.{cow_str_bytes}
 use Rattle.grid_records_traits.specs.Rows.{text_at}
 use Rattle.papergrid_cells.specs.Lines.{line_measures, line_texts}
-use Rattle.papergrid_cells.proofs.CellLines.{one_line, one_measure}
+use Rattle.papergrid_cells.proofs.KeptLines.{one_line, one_measure}
 use Rattle.papergrid_cells.proofs.cell_lines.reading.read_cell.Goals as goal
 
 pub returns-clause-lines : goal.returns-clause-lines

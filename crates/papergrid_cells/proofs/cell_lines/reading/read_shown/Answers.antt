@@ -1,7 +1,7 @@
 use Rattle.std.proofs.Common.{◌∙◌}
 use Rattle.ansi_scan.specs.Pieces.{pieces}
 use Rattle.ansi_scan.proofs.Existence.{ArePiecesOf-pieces}
-use Rattle.papergrid_cells.proofs.CellLines.{are_read, enough_lines, measures_kept, texts_kept}
+use Rattle.papergrid_cells.proofs.KeptLines.{are_read, enough_lines, measures_kept, texts_kept}
 use Rattle.papergrid_cells.proofs.cell_lines.reading.read_shown.Goals as goal
 
 pub take_lines-requires : goal.take_lines-requires

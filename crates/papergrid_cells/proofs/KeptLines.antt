@@ -13,7 +13,7 @@ use Rattle.ansi_str_text.proofs.Stripping.{strip-without_escape}
 use Rattle.grid_records_measure.specs.TextLines.{AreLinesOf, is_line_feed, line_measure, shown_lines, text_lines, widest}
 use Rattle.grid_records_measure.specs.Trimming.{trimmed_from, trimmed_to, trimmed}
 use Rattle.grid_records_measure.proofs.TextLines.{text_lines-are, text_lines-one}
-use Rattle.grid_records_measure.proofs.Lines.{length-lines}
+use Rattle.grid_records_measure.proofs.LinesAndBlocks.{length-lines}
 use Rattle.std.proofs.Math.Seq.{take-length}
 use Rattle.std.proofs.lemmas.Simd.{map-map}
 use Rattle.ansi_str.proofs.Trims.{by_places}
