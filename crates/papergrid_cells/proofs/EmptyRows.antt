@@ -219,9 +219,9 @@ module _ (rows : FlatRows) (widths before : List ℕ) (j : ℕ) (inside : j < le
   parts : all ≡ before ++ (fill room.width ++ after_room)
   parts = are ∙ (ap (λ l. before ++ l) (empty-more (joints_of rows) (length widths) j widths inside) ∙ ap (λ n. before ++ (fill n ++ after_room)) (sym room-wide))
 
-  module _ (width : ℕ) (fits : width ≤ room.width) (indent : ℕ) (is : indent ≡ free_left rows.alignment (room.width - width)) where
+  module _ (alignment : AlignmentHorizontal) (width : ℕ) (fits : width ≤ room.width) (indent : ℕ) (is : indent ≡ free_left alignment (room.width - width)) where
     both : indent + width ≤ room.width
-    both = omega (arith, fits, is, free_left-within rows.alignment (room.width - width))
+    both = omega (arith, fits, is, free_left-within alignment (room.width - width))
 
     begins : len - room.rest + indent ≡ length before + indent
     begins = omega (arith, begin-is)
@@ -245,19 +245,19 @@ pub none-of : {X : Type 0} (kept : Option X) → is_some kept ≡ false → kept
 none-of None none = refl
 none-of (Some x) none = absurd (cc)
 
-module _ (rows : FlatRows) (spaced : rows.fill ≡ 0x20) (bare : rows.fill_color ≡ None) where
+module _ (rows : FlatRows) (alignment : AlignmentHorizontal) (spaced : rows.fill ≡ 0x20) (bare : rows.fill_color ≡ None) where
   abbrev indent_of : ℕ → ℕ → ℕ
-  indent_of room width = free_left rows.alignment (room - width)
+  indent_of room width = free_left alignment (room - width)
 
   same : (b : Bool) (n : ℕ) → cond b n n ≡ n
   same true n = refl
   same false n = refl
 
-  pub placed-plain : (column width : ℕ) (text : List ℕ) → placed (standing_of rows) column width width None text
+  pub placed-plain : (column width : ℕ) (text : List ℕ) → placed (standing_of rows alignment) column width width None text
       ≡ fill (indent_of (room_in (joints_of rows) column) width) ++ (text ++ fill (room_in (joints_of rows) column - indent_of (room_in (joints_of rows) column) width - width))
   placed-plain column width text =
       let room = room_in (joints_of rows) column in
-      ap (λ n. colored (option_map color_of rows.fill_color) (fill_bytes rows.fill (free_left rows.alignment (room - n)))
-      ++ (text ++ colored (option_map color_of rows.fill_color) (fill_bytes rows.fill (room - free_left rows.alignment (room - n) - width)))) (same rows.line_alignment width)
+      ap (λ n. colored (option_map color_of rows.fill_color) (fill_bytes rows.fill (free_left alignment (room - n)))
+      ++ (text ++ colored (option_map color_of rows.fill_color) (fill_bytes rows.fill (room - free_left alignment (room - n) - width)))) (same rows.line_alignment width)
       ∙ (ap (λ c. colored (option_map color_of c) (fill_bytes rows.fill (indent_of room width)) ++ (text ++ colored (option_map color_of c) (fill_bytes rows.fill (room - indent_of room width - width)))) bare
       ∙ ap (λ n. fill_bytes n (indent_of room width) ++ (text ++ fill_bytes n (room - indent_of room width - width))) spaced)

@@ -37,10 +37,13 @@ impl<'a, R: PeekableRecords, C: Colors> Table<'a, R, C> {
         let columns = self.widths.len();
         let first = self.push_front(out, flat, cells, i)?;
         for j in first..columns {
-            let cell = cells.cell(j);
+            let (cell, pos) = (cells.cell(j), Position::new(i, j));
             let (width, measure) = (self.widths[j], cell.width);
-            let color = self.colors.get_color(Position::new(i, j));
-            flat.push_line(out, j, columns, width, measure, measure, color, cell.text)?;
+            let alignment = flat.alignment(self.cfg, pos);
+            let color = self.colors.get_color(pos);
+            flat.push_line(
+                out, j, columns, width, measure, measure, alignment, color, cell.text,
+            )?;
         }
         Ok(())
     }
@@ -107,7 +110,7 @@ impl<'a, R: PeekableRecords, C: Colors> Table<'a, R, C> {
                 out.truncate(start);
                 return Ok(j);
             }
-            let indent = flat.indent(room.width - width);
+            let indent = flat.indent(self.cfg, pos, room.width - width);
             write_over(out, start + indent, cell.text)?;
         }
         Ok(columns)

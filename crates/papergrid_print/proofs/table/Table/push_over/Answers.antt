@@ -2,6 +2,7 @@ use Rattle.std.proofs.Common.{◌≡◌, ◌-◌, ◌≤◌, ◌++◌, [], None,
 use Rattle.std.specs.Prelude.{slice_index_or}
 use Rattle.std.specs.Option.{option_map}
 use Rattle.grid_config.specs.Colors.{color_of}
+use Rattle.grid_config.specs.Looks.{look_of}
 use Rattle.grid_records_traits.specs.Cells.{HasWidth}
 use Rattle.grid_records_traits.specs.Rows.{text_at}
 use Rattle.papergrid_picture.specs.Blocks.{free_left}
@@ -35,27 +36,27 @@ pub overflow_add-start : goal.overflow_add-start
 overflow_add-start g c =
     let fits : length c.cell-cell.result.text.now ≤ c.index.result.now.width = omega (arith, c.if-room-width.false) in
     let inside = text-inside c.args.flat.now _ _ _ c.loop-j-test.true c.loop-j.invariant _ c.requires.empty.rooms _ c.index.ensures _ (c.len.ensures ∙ c.loop-j.out.bytes.ok.0)
-    _ fits _ c.indent-indent.ensures in
+    _ _ fits _ (c.indent-indent.ensures (length c.args.self.now.widths.now) c.requires.made) in
     omega (arith, inside, c.len.type_inv)
 
 pub write_over-requires-clause-range : goal.write_over-requires-clause-range
 write_over-requires-clause-range g c =
     let fits : length c.cell-cell.result.text.now ≤ c.index.result.now.width = omega (arith, c.if-room-width.false) in
     let inside = text-inside c.args.flat.now _ _ _ c.loop-j-test.true c.loop-j.invariant _ c.requires.empty.rooms _ c.index.ensures _ (c.len.ensures ∙ c.loop-j.out.bytes.ok.0)
-    _ fits _ c.indent-indent.ensures in
+    _ _ fits _ (c.indent-indent.ensures (length c.args.self.now.widths.now) c.requires.made) in
     omega (arith, inside, c.len.type_inv)
 
 pub write_over-requires-clause-start : goal.write_over-requires-clause-start
 write_over-requires-clause-start g c =
     let fits : length c.cell-cell.result.text.now ≤ c.index.result.now.width = omega (arith, c.if-room-width.false) in
     split-text c.args.flat.now _ _ _ c.loop-j-test.true c.loop-j.invariant _ c.requires.empty.rooms _ c.index.ensures _ (c.len.ensures ∙ c.loop-j.out.bytes.ok.0)
-    _ fits _ c.indent-indent.ensures
+    _ _ fits _ (c.indent-indent.ensures (length c.args.self.now.widths.now) c.requires.made)
 
 pub write_over-requires-clause-end : goal.write_over-requires-clause-end
 write_over-requires-clause-end g c =
     let fits : length c.cell-cell.result.text.now ≤ c.index.result.now.width = omega (arith, c.if-room-width.false) in
     split-behind c.args.flat.now _ _ _ c.loop-j-test.true c.loop-j.invariant _ c.requires.empty.rooms _ c.index.ensures _ (c.len.ensures ∙ c.loop-j.out.bytes.ok.0)
-    _ fits _ c.indent-indent.ensures
+    _ _ fits _ (c.indent-indent.ensures (length c.args.self.now.widths.now) c.requires.made)
 
 pub loop-j-preserved : goal.loop-j-preserved
 loop-j-preserved g c =
@@ -70,6 +71,7 @@ loop-j-preserved g c =
     let text = cell.text.now in
     let width = length text in
     let column = get_or c.args.self.now.widths.now j 0 in
+    let alignment = (look_of c.args.self.now.cfg.now).alignment_horizontal pos in
     let counted : c.len.result ≡ length (string_bytes c.loop-j.out) = c.len.ensures ∙ c.loop-j.out.bytes.ok.0 in
     let wide : room.width ≡ room_in (joints_of rows) column = room-wide rows _ _ _ c.loop-j-test.true c.loop-j.invariant _ c.requires.empty.rooms _ c.index.ensures _ counted in
     let fits : width ≤ room.width = omega (arith, c.if-room-width.false) in
@@ -78,12 +80,15 @@ loop-j-preserved g c =
     let shade : None ≡ sheet.colors pos = ap (option_map color_of) (sym none) ∙ (c.get_color-color.ensures ∙ ap sheet.colors c.new-pos.ensures) in
     let takes : cell.width ≡ width = omega (arith, c.if-cell-width.false) in
     let has : HasWidth text width = subst (λ (n : ℕ). HasWidth text n) takes c.cell-cell.ensures.width in
-    let shown : fill_bytes 0x20 indent ++ (text ++ fill_bytes 0x20 (room.width - indent - width)) ≡ first_placed sheet (standing_of rows) pos =
-    ap (λ n. fill_bytes 0x20 n ++ (text ++ fill_bytes 0x20 (room.width - n - width))) c.indent-indent.ensures
-    ∙ (ap (λ n. fill_bytes 0x20 (free_left rows.alignment (n - width)) ++ (text ++ fill_bytes 0x20 (n - free_left rows.alignment (n - width) - width))) wide
-    ∙ (sym (placed-plain rows c.requires.empty.fill c.requires.empty.color column width text)
-    ∙ plain-placed sheet c.requires.flat pos (standing_of rows) text width None own c.cell-cell.ensures.lines has c.cell-cell.ensures.line shade)) in
+    let is : indent ≡ free_left alignment (room.width - width) =
+    c.indent-indent.ensures (length c.args.self.now.widths.now) c.requires.made
+    ∙ ap (λ p. free_left ((look_of c.args.self.now.cfg.now).alignment_horizontal p) (room.width - width)) c.new-pos.ensures in
+    let shown : fill_bytes 0x20 indent ++ (text ++ fill_bytes 0x20 (room.width - indent - width)) ≡ first_placed sheet (standing_of rows alignment) pos =
+    ap (λ n. fill_bytes 0x20 n ++ (text ++ fill_bytes 0x20 (room.width - n - width))) is
+    ∙ (ap (λ n. fill_bytes 0x20 (free_left alignment (n - width)) ++ (text ++ fill_bytes 0x20 (n - free_left alignment (n - width) - width))) wide
+    ∙ (sym (placed-plain rows alignment c.requires.empty.fill c.requires.empty.color column width text)
+    ∙ plain-placed sheet c.requires.flat pos (standing_of rows alignment) text width None own c.cell-cell.ensures.lines has c.cell-cell.ensures.line shade)) in
     written-more sheet c.requires.flat rows c.requires.made i j (string_bytes c.args.out.now)
     (fill_bytes 0x20 indent ++ (text ++ fill_bytes 0x20 (room.width - indent - width)))
     c.requires.row c.loop-j-test.true c.requires.high shown
-    (c.in_ok-write_over.ensures ∙ text-over rows _ _ _ c.loop-j-test.true c.loop-j.invariant _ c.requires.empty.rooms _ c.index.ensures _ counted width fits indent c.indent-indent.ensures text)
+    (c.in_ok-write_over.ensures ∙ text-over rows _ _ _ c.loop-j-test.true c.loop-j.invariant _ c.requires.empty.rooms _ c.index.ensures _ counted alignment width fits indent is text)
