@@ -39,8 +39,7 @@ impl<'a, R: PeekableRecords, C: Colors> Table<'a, R, C> {
         for j in first..columns {
             let (cell, pos) = (cells.cell(j), Position::new(i, j));
             let (width, measure) = (self.widths[j], cell.width);
-            let alignment = flat.alignment(self.cfg, pos);
-            let color = self.colors.get_color(pos);
+            let (alignment, color) = (flat.alignment(self.cfg, pos), self.colors.get_color(pos));
             flat.push_line(
                 out, j, columns, width, measure, measure, alignment, color, cell.text,
             )?;
