@@ -1,7 +1,7 @@
 //! Laws of the definitions that the other contracts cite.
 
-ghost use Rattle.std.specs.Prelude.{All, ◌≡◌, ◌≤◌, ◌-◌, ℕ, List, [], ◌∷◌, ◌++◌, chars, codes, length, slice_range, take, ◌↔◌, Bool, IsTrue,
-    MatchOption, Option, is_some, None, Some, String as Bytes, ◌⊎◌, string_bytes, true};
+ghost use Rattle.std.specs.Prelude.{All, ◌≡◌, ◌≤◌, ◌-◌, ℕ, List, [], ◌∷◌, ◌++◌, chars, codes, length, slice_range, take, ◌↔◌, Bool, IsTrue};
+ghost use Rattle.std.specs.Prelude.{MatchOption, Option, is_some, None, Some, String as Bytes, ◌⊎◌, string_bytes, true};
 ghost use Rattle.std.specs.Borrow.{Bor};
 ghost use Rattle.std.specs.Range.{range_inclusive_end, range_inclusive_exhausted, range_inclusive_start};
 ghost use Rattle.std.specs.Str.{IsCharBoundary, IsUtf8, trim};

@@ -1,6 +1,6 @@
 //! Laws over the definitions, each the contract of a function that does nothing.
-ghost use Rattle.std.specs.Prelude.{◌≡◌, ◌↔◌, ℕ, ◌<◌, ◌≤◌, ◌++◌, All, chars, encode_utf8, false, flat_map, true, codes, List, ◌∷◌, [],
-    length, map, max, replicate, slice_index_or, IsUtf8, None, Option, Result, Some, ⊤};
+ghost use Rattle.std.specs.Prelude.{◌≡◌, ◌↔◌, ℕ, ◌<◌, ◌≤◌, ◌++◌, All, chars, encode_utf8, false, flat_map, true, codes, List, ◌∷◌, [], length, map};
+ghost use Rattle.std.specs.Prelude.{max, replicate, slice_index_or, IsUtf8, None, Option, Result, Some, ⊤};
 ghost use Rattle.std.specs.List.{range_with_len};
 ghost use Rattle.std.specs.Str.{encode_utf8_all};
 ghost use Rattle.ansi_scan.specs.Sequences.{Piece, ArePiecesOf, NoneBroken, IsWhole};
@@ -25,8 +25,8 @@ ghost use Rattle.papergrid_picture.specs.Picture.{PlacedPart as TablePiece, at, 
 ghost use Rattle.papergrid_picture.specs.Shown.{Styled, character_of, in_plain};
 ghost use Rattle.papergrid_picture.specs.Tiling.{IsLineOf, ShowsAllLines, ShowsBlock, Tiles};
 ghost use Rattle.columns_run.specs.Rows.{cell_parts, line_feed, places, rows_of, stripped};
-ghost use Rattle.columns_run.specs.Layout.{TableFits, characters_of, colored_line, grid_of, kept_of, line_bytes, output_of, picture,
-    picture_without_colors, piece_bytes, piece_columns, resize_of, table_characters, wide_cell};
+ghost use Rattle.columns_run.specs.Layout.{TableFits, characters_of, colored_line, grid_of, kept_of, line_bytes, output_of, picture};
+ghost use Rattle.columns_run.specs.Layout.{picture_without_colors, piece_bytes, piece_columns, resize_of, table_characters, wide_cell};
 ghost use Rattle.columns_run.specs.Plain.{IsPlain};
 ghost use Rattle.columns_run.specs.TableShown.{ShowsTableOf};
 ghost use Rattle.columns_run.specs.Run.{HasTable, MayRefuse, Serves};

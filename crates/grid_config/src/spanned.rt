@@ -9,8 +9,9 @@ ghost use Rattle.grid_config_values.specs.Settings.{IsUnchanged, SetsCovered, va
 ghost use Rattle.grid_config.specs.Compact.{compact_of};
 ghost use Rattle.grid_config.specs.Looks.{look_of};
 ghost use Rattle.grid_config.specs.Settings.{AreUniform, AreUniformButAlignment, IsUncolored, KeepsOthers, StartsWith, compact_start, new_start};
-ghost use Rattle.grid_config.specs.Settings.{Margin, MarginColor, BorderGlyphs, BorderColors, Padding, PaddingColor, HorizontalAlignment,
-    VerticalAlignment, LineAlignment, TrimHorizontal, TrimVertical, Justification, JustificationColor, CellSpans};
+ghost use Rattle.grid_config.specs.Settings.{Margin, MarginColor, BorderGlyphs, BorderColors, Padding, PaddingColor, HorizontalAlignment};
+ghost use Rattle.grid_config.specs.Settings.{VerticalAlignment, LineAlignment, TrimHorizontal, TrimVertical, Justification, JustificationColor};
+ghost use Rattle.grid_config.specs.Settings.{CellSpans};
 
 use crate::cells::CellSettings;
 use crate::compact::CompactConfig;

@@ -48,9 +48,12 @@ impl IntoRecords for RefusedRows {
 
     ghost may_refuse_left = { λ _. true };
 
-    ghost gives = { λ s. record { can_next = tt; ends = tt;
-        each = each_row (λ s. s.left) (λ s. s.columns) (λ cells. cells.left) _ s.columns s.left
-        (λ cells is. record { can_next = tt; ends = tt; each = each_cell _ (λ cells. cells.left) s.columns cells is }) s refl refl } };
+    ghost gives = { λ s. record {
+      can_next = tt;
+      ends = tt;
+      each = each_row (λ s. s.left) (λ s. s.columns) (λ cells. cells.left) _ s.columns s.left
+          (λ cells is. record { can_next = tt; ends = tt; each = each_cell _ (λ cells. cells.left) s.columns cells is }) s refl refl;
+    } };
 
     ghost passes = { λ s t _ step. (passed_same t.left s.left (replicate s.columns letter) (replicate t.columns letter) step.1.0 (ap (λ n. replicate n letter) step.0), refl) };
 

@@ -1,6 +1,6 @@
 //! Laws of the definitions that the contracts of the grids cite.
-ghost use Rattle.std.specs.Prelude.{◌≡◌, ◌==◌, ◌↔◌, if◌then◌else◌, ◌<◌, ◌≤◌, ◌+◌, ℕ, All, List, [], ◌∷◌, None, Option, Some, chars, codes,
-    encode_utf8_all, false, flat_map, length, map, slice_index, true};
+ghost use Rattle.std.specs.Prelude.{◌≡◌, ◌==◌, ◌↔◌, if◌then◌else◌, ◌<◌, ◌≤◌, ◌+◌, ℕ, All, List, [], ◌∷◌, None, Option, Some, chars, codes};
+ghost use Rattle.std.specs.Prelude.{encode_utf8_all, false, flat_map, length, map, slice_index, true};
 ghost use Rattle.std.specs.List.{join_with_byte, range_with_len};
 ghost use Rattle.ansi_scan.specs.Attributes.{plain_attributes};
 ghost use Rattle.ansi_scan.specs.Sequences.{Piece, ArePiecesOf, NoneBroken};
@@ -21,13 +21,14 @@ ghost use Rattle.papergrid_picture.specs.CellLines.{cell_lines, cell_measures};
 ghost use Rattle.papergrid_picture.specs.Frame.{Boundary, Outside, Row, Tracks, boundary_at, column_count, frame_of, line_count, place, row_count, total_width, track_at};
 ghost use Rattle.papergrid_picture.specs.Picture.{laid, picture_line, seen};
 ghost use Rattle.papergrid_picture.specs.Reading.{Reading, grid_items};
-ghost use Rattle.papergrid_picture.specs.Shown.{ArePlainTexts, ArePlainlyShown, AreWholeTexts, CostsOne, IsBare, IsReadBy, KeepsLineEnds,
-    Shows, ShowsOnly, Styled, character_of, character_picture, characters_of, stripped_texts, styled_picture, styled_texts};
+ghost use Rattle.papergrid_picture.specs.Shown.{ArePlainTexts, ArePlainlyShown, AreWholeTexts, CostsOne, IsBare, IsReadBy, KeepsLineEnds, Shows};
+ghost use Rattle.papergrid_picture.specs.Shown.{ShowsOnly, Styled, character_of, character_picture, characters_of, stripped_texts, styled_picture};
+ghost use Rattle.papergrid_picture.specs.Shown.{styled_texts};
 ghost use Rattle.papergrid_picture.specs.Tables.{table_grid, table_line, table_lines, table_text};
 ghost use Rattle.papergrid_picture.specs.Tiling.{BeginsBehindMargin, HasGoodSpans, HasRoom, IsLineOf, ShowsAllLines, ShowsBlock, ShowsPlace, Tiles};
-ghost use Rattle.papergrid_picture.specs.Worked.{ascii, bracketed, capitals, cells, crossed, drawn, drawn_in, drawn_unmeasured,
-    each_its_own, extents, half_bracketed, hidden_cell, joined, lettered, named, no_top, outer, padded, plain, red_rows, round_bracketed,
-    sided, span, spaced, with_margins};
+ghost use Rattle.papergrid_picture.specs.Worked.{ascii, bracketed, capitals, cells, crossed, drawn, drawn_in, drawn_unmeasured, each_its_own};
+ghost use Rattle.papergrid_picture.specs.Worked.{extents, half_bracketed, hidden_cell, joined, lettered, named, no_top, outer, padded, plain};
+ghost use Rattle.papergrid_picture.specs.Worked.{red_rows, round_bracketed, sided, span, spaced, with_margins};
 
 /// Pictures that were worked out by hand: two by two cells; cells of two lines to the right, with one
 /// indent and line by line; a cell of three lines in a row of two; a line in the middle of four, where
@@ -119,11 +120,19 @@ pub fn worked_colors()
         ≡ joined (codes "+-[++]-+" ∷ codes "|a||b|" ∷ codes "+-++-+" ∷ []) }
     ensures past_absent { drawn (record outer { borders_color = record no_borders { top = Some bracketed } }) (1 ∷ 1 ∷ []) (1 ∷ []) (cells (codes "a" ∷ codes "b" ∷ []) ∷ [])
         ≡ joined (codes "+[--]+" ∷ codes "|ab|" ∷ codes "+--+" ∷ []) }
-    ensures two_colors { drawn (record plain { borders_color = record no_borders { top = Some bracketed;
-        top_intersection = Some half_bracketed } }) (1 ∷ 1 ∷ []) (1 ∷ []) (cells (codes "a" ∷ codes "b" ∷ []) ∷ [])
+    ensures two_colors { drawn (record plain {
+      borders_color = record no_borders {
+        top = Some bracketed;
+        top_intersection = Some half_bracketed;
+      };
+    }) (1 ∷ 1 ∷ []) (1 ∷ []) (cells (codes "a" ∷ codes "b" ∷ []) ∷ [])
         ≡ joined (codes "+[-][+)[-]+" ∷ codes "|a|b|" ∷ codes "+-+-+" ∷ []) }
-    ensures two_prefixes { drawn (record plain { borders_color = record no_borders { top = Some bracketed;
-        top_intersection = Some round_bracketed } }) (1 ∷ 1 ∷ []) (1 ∷ []) (cells (codes "a" ∷ codes "b" ∷ []) ∷ [])
+    ensures two_prefixes { drawn (record plain {
+      borders_color = record no_borders {
+        top = Some bracketed;
+        top_intersection = Some round_bracketed;
+      };
+    }) (1 ∷ 1 ∷ []) (1 ∷ []) (cells (codes "a" ∷ codes "b" ∷ []) ∷ [])
         ≡ joined (codes "+[-](+][-]+" ∷ codes "|a|b|" ∷ codes "+-+-+" ∷ []) }
     ensures all_places { drawn (record plain { borders = lettered; borders_color = capitals }) (1 ∷ 1 ∷ []) (1 ∷ 1 ∷ []) (cells (codes "1" ∷ codes "2" ∷ []) ∷ cells (codes "3" ∷ codes "4" ∷ []) ∷ [])
         ≡ joined (codes "Aa.Bb.Cc.Bb.Dd." ∷ codes "Ee.1Ff.2Gg." ∷ codes "Hh.Ii.Jj.Ii.Kk." ∷ codes "Ee.3Ff.4Gg." ∷ codes "Ll.Mm.Nn.Mm.Oo." ∷ []) }

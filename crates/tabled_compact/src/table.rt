@@ -140,8 +140,10 @@ where
     ) -> CompactTable<I, ConstDimension<N, ROWS>>
         ensures { (widths : ConstSize N) × S.converts size widths
             × (compacted I.rows ⟦<ConstDimension<N, ROWS> as Dimension>⟧.width result
-            ≡ record (compacted I.rows ⟦<ConstDimension<COLUMNS, ROWS> as Dimension>⟧.width self) { width = given_size
-            (const_sizes widths) }) }
+            ≡ record (compacted I.rows ⟦<ConstDimension<COLUMNS, ROWS> as Dimension>⟧.width self) {
+              width = given_size
+                  (const_sizes widths);
+            }) }
     {
         let (_, heights) = self.dimension.into();
         CompactTable {

@@ -109,8 +109,8 @@ impl<T> Counted<T> {
 }
 
 impl<R: Read> Read for Counted<R> {
-    ghost use Rattle.tabled_output.specs.Counts.{inner_of, failures_of, empty_writes_of, bare_writes_of, pieces_read_of, ends_of,
-        flushes_of, last_refused, last_told_end, failures_after, is_refused, pieces_after, ends_after, tells_end};
+    ghost use Rattle.tabled_output.specs.Counts.{inner_of, failures_of, empty_writes_of, bare_writes_of, pieces_read_of, ends_of, flushes_of};
+    ghost use Rattle.tabled_output.specs.Counts.{last_refused, last_told_end, failures_after, is_refused, pieces_after, ends_after, tells_end};
 
     ghost remaining = { λ c. R.remaining (inner_of c) };
 
@@ -141,9 +141,9 @@ impl<R: Read> Read for Counted<R> {
 
 impl<W: Write> Write for Counted<W> {
     ghost use Rattle.std.specs.Prelude.{false};
-    ghost use Rattle.tabled_output.specs.Counts.{inner_of, failures_of, empty_writes_of, bare_writes_of, pieces_read_of, ends_of,
-        flushes_of, last_refused, last_told_end, failures_after, is_refused, is_write_refused, empty_writes_after,
-        bare_writes_after, next_count};
+    ghost use Rattle.tabled_output.specs.Counts.{inner_of, failures_of, empty_writes_of, bare_writes_of, pieces_read_of, ends_of, flushes_of};
+    ghost use Rattle.tabled_output.specs.Counts.{last_refused, last_told_end, failures_after, is_refused, is_write_refused, empty_writes_after};
+    ghost use Rattle.tabled_output.specs.Counts.{bare_writes_after, next_count};
 
     ghost contents = { λ c. W.contents (inner_of c) };
 

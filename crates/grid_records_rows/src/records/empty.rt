@@ -45,9 +45,15 @@ impl IntoRecords for EmptyRecords {
 
     ghost may_refuse_left = { λ _. false };
 
-    ghost gives = { λ s. record { can_next = tt; ends = tt;
-        each = each_empty_row _ s.columns s.left (λ cells is. record { can_next = tt; ends = tt;
-        each = each_empty_text _ false s.columns cells is }) s refl refl } };
+    ghost gives = { λ s. record {
+      can_next = tt;
+      ends = tt;
+      each = each_empty_row _ s.columns s.left (λ cells is. record {
+        can_next = tt;
+        ends = tt;
+        each = each_empty_text _ false s.columns cells is;
+      }) s refl refl;
+    } };
 
     ghost passes = { λ s t _ step. (passed_same t.left s.left (replicate s.columns []) (replicate t.columns []) step.0 (ap (λ n. replicate n []) step.1), refl) };
 

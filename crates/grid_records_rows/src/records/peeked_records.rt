@@ -59,11 +59,17 @@ impl<'a, R: ExactRecords + PeekableRecords> IntoRecords for PeekedRecords<'a, R>
 
     ghost may_refuse_left = { λ _. false };
 
-    ghost gives = { λ s. record { can_next = tt; ends = tt;
-        each = each_row (λ s. s.columns) (λ s. s.left) (λ cells. texts_from (R.rows cells.records.now) cells.row cells.column cells.left)
-        (λ s. rows_from (R.rows s.records.now) s.columns s.row s.left) _ (λ cells. record { can_next = tt; ends = tt;
-        each = each_cell _ (λ cell. text_at (R.rows cell.records.now) cell.pos) (λ cells. cells.left)
-        (λ cells. texts_from (R.rows cells.records.now) cells.row cells.column cells.left) cells }) s } };
+    ghost gives = { λ s. record {
+      can_next = tt;
+      ends = tt;
+      each = each_row (λ s. s.columns) (λ s. s.left) (λ cells. texts_from (R.rows cells.records.now) cells.row cells.column cells.left)
+          (λ s. rows_from (R.rows s.records.now) s.columns s.row s.left) _ (λ cells. record {
+            can_next = tt;
+            ends = tt;
+            each = each_cell _ (λ cell. text_at (R.rows cell.records.now) cell.pos) (λ cells. cells.left)
+                (λ cells. texts_from (R.rows cells.records.now) cells.row cells.column cells.left) cells;
+          }) s;
+    } };
 
     ghost passes = { λ s t _ step. (sym (ap (drop 1) step.2), refl) };
 

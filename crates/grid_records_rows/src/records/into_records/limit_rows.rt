@@ -44,9 +44,10 @@ impl<I: IntoRecords> IntoRecords for LimitRows<I> {
 
     ghost gives = { λ s. gives_taken s (take_count s) refl refl (I.gives (take_source s)) };
 
-    ghost passes = { λ s t cells step.
-        (passed_taken I.IterRows.next_gives I.rows_left (λ s t cells step. (I.passes s t cells step).0) s t cells step,
-        (I.passes (take_source s) (take_source t) cells step.0).1) };
+    ghost passes = { λ s t cells step. (
+      passed_taken I.IterRows.next_gives I.rows_left (λ s t cells step. (I.passes s t cells step).0) s t cells step,
+      (I.passes (take_source s) (take_source t) cells step.0).1,
+    ) };
 
     fn iter_rows(self) -> Take<I::IterRows> {
         self.records.iter_rows().take(self.limit)

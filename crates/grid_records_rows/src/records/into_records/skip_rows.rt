@@ -44,9 +44,10 @@ impl<I: IntoRecords> IntoRecords for SkipRows<I> {
 
     ghost gives = { λ s. gives_skipped s (skip_count s) refl refl (I.gives (skip_source s)) };
 
-    ghost passes = { λ s t cells step.
-        (passed_skipped I.IterRows.next_gives I.rows_left (λ s t cells step. (I.passes s t cells step).0) s t cells step,
-        refusing_skipped I.IterRows.next_gives I.may_refuse_left (λ s t cells step. (I.passes s t cells step).1) s t cells step) };
+    ghost passes = { λ s t cells step. (
+      passed_skipped I.IterRows.next_gives I.rows_left (λ s t cells step. (I.passes s t cells step).0) s t cells step,
+      refusing_skipped I.IterRows.next_gives I.may_refuse_left (λ s t cells step. (I.passes s t cells step).1) s t cells step,
+    ) };
 
     fn iter_rows(self) -> Skip<I::IterRows> {
         self.records.iter_rows().skip(self.count)

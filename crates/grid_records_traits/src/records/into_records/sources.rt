@@ -57,9 +57,12 @@ impl<T: Cell> IntoRecords for Vec<Vec<T>> {
 
     ghost may_refuse_left = { λ _. false };
 
-    ghost gives = { λ s. record { can_next = tt; ends = tt;
-        each = vec_gives T.text _ _ _ (λ _. (tt, tt)) (λ s. s.0) (λ cells. cells.0)
-        (λ row it became. all_items it _ became.0 (became.1 ∙ row.ok.0)) s } };
+    ghost gives = { λ s. record {
+      can_next = tt;
+      ends = tt;
+      each = vec_gives T.text _ _ _ (λ _. (tt, tt)) (λ s. s.0) (λ cells. cells.0)
+          (λ row it became. all_items it _ became.0 (became.1 ∙ row.ok.0)) s;
+    } };
 
     ghost passes = { λ s t _ step. (vec_passes T.text s.0 t.0 step.0 step.1, refl) };
 
