@@ -40,15 +40,16 @@ item-closed item = by (nat_lt (position_or_len is_equals item) (length item))
 -- each of what is given, if each of them closes
 all-closed : (parts : List (List ℕ)) → IfSome (all_of (map listed_color parts)) (AllByRecursion ClosedItem)
 all-closed [] = tt
-all-closed (part ∷ parts) = by (listed_color part) (item-closed part)
+all-closed (part ∷ parts) = by (all-closed parts) (listed_color part) (item-closed part)
   where
     behind : (first : ℕ × Color) → ClosedItem first → (rest : Option (List (ℕ × Color))) → IfSome rest (AllByRecursion ClosedItem)
         → IfSome (option_map (λ (others : List (ℕ × Color)). first ∷ others) rest) (AllByRecursion ClosedItem)
     behind first one None all = tt
     behind first one (Some rest) all = (one, all)
-    by : (given : Option (ℕ × Color)) → IfSome given ClosedItem → IfSome (all_of (given ∷ map listed_color parts)) (AllByRecursion ClosedItem)
-    by None one = tt
-    by (Some first) one = behind first one (all_of (map listed_color parts)) (all-closed parts)
+    by : IfSome (all_of (map listed_color parts)) (AllByRecursion ClosedItem) → (given : Option (ℕ × Color)) → IfSome given ClosedItem
+        → IfSome (all_of (given ∷ map listed_color parts)) (AllByRecursion ClosedItem)
+    by others None one = tt
+    by others (Some first) one = behind first one (all_of (map listed_color parts)) others
 
 different-closed : (given : Option (List (ℕ × Color))) → IfSome given (AllByRecursion ClosedItem) → IfSome (option_and_then unless_twice given) (AllByRecursion ClosedItem)
 different-closed None all = tt
