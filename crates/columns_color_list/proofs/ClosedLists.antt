@@ -1,11 +1,11 @@
 -- Each colour of a list is one that has a name, and closes as that does.
-use Rattle.std.proofs.Common.{◌++◌, ◌==◌, ℕ, Bool, true, false, List, [], ◌∷◌, Option, None, Some, IfSome, fold, if◌then◌else◌, option_map}
-use Rattle.std.specs.Prelude.{find, length, nat_lt}
-use Rattle.std.specs.List.{AllByRecursion, after_first, before_first, list_any, position_or_len, slice_split}
+use Rattle.std.proofs.Common.{ℕ, Bool, true, false, List, [], ◌∷◌, Option, None, Some, IfSome, map, if◌then◌else◌, option_map}
+use Rattle.std.specs.Prelude.{find, length, nat_lt, option_and_then}
+use Rattle.std.specs.List.{AllByRecursion, after_first, before_first, position_or_len, slice_split}
 use Rattle.std.specs.Str.{bytes_eq}
 use Rattle.grid_config_colors.specs.Colors.{Color}
 use Rattle.papergrid_colors.specs.ClosingColors.{IsClosing}
-use Rattle.columns_color_list.specs.Listed.{column_of, given_of, is_comma, is_equals, listed_color, listed_colors, more, named, with_item}
+use Rattle.columns_color_list.specs.Listed.{all_of, column_of, given_of, has_twice, is_comma, is_equals, listed_color, listed_colors, named, unless_twice}
 use Rattle.columns_color_list.specs.Names.{named_colors}
 use Rattle.columns_color_list.proofs.ClosedNames.{names-close}
 
@@ -37,25 +37,27 @@ item-closed item = by (nat_lt (position_or_len is_equals item) (length item))
         (found-closed named_colors (λ row. bytes_eq row.0 (after_first is_equals item)) names-close)
     by false = tt
 
-and-one : (found : List (ℕ × Color)) (given : ℕ × Color) → AllByRecursion ClosedItem found → ClosedItem given → AllByRecursion ClosedItem (found ++ given ∷ [])
-and-one [] given all one = (one, tt)
-and-one (first ∷ found) given all one = (all.0, and-one found given all.1 one)
-
-more-closed : (found : List (ℕ × Color)) (given : Option (ℕ × Color)) → AllByRecursion ClosedItem found → IfSome given ClosedItem → IfSome (more found given) (AllByRecursion ClosedItem)
-more-closed found None all one = tt
-more-closed found (Some given) all one = by (list_any (λ (other : ℕ × Color). other.0 == given.0) found)
+-- each of what is given, if each of them closes
+all-closed : (parts : List (List ℕ)) → IfSome (all_of (map listed_color parts)) (AllByRecursion ClosedItem)
+all-closed [] = tt
+all-closed (part ∷ parts) = by (all-closed parts) (listed_color part) (item-closed part)
   where
-    by : (b : Bool) → IfSome (if b then None else Some (found ++ given ∷ [])) (AllByRecursion ClosedItem)
+    behind : (first : ℕ × Color) → ClosedItem first → (rest : Option (List (ℕ × Color))) → IfSome rest (AllByRecursion ClosedItem)
+        → IfSome (option_map (λ (others : List (ℕ × Color)). first ∷ others) rest) (AllByRecursion ClosedItem)
+    behind first one None all = tt
+    behind first one (Some rest) all = (one, all)
+    by : IfSome (all_of (map listed_color parts)) (AllByRecursion ClosedItem) → (given : Option (ℕ × Color)) → IfSome given ClosedItem
+        → IfSome (all_of (given ∷ map listed_color parts)) (AllByRecursion ClosedItem)
+    by others None one = tt
+    by others (Some first) one = behind first one (all_of (map listed_color parts)) others
+
+different-closed : (given : Option (List (ℕ × Color))) → IfSome given (AllByRecursion ClosedItem) → IfSome (option_and_then unless_twice given) (AllByRecursion ClosedItem)
+different-closed None all = tt
+different-closed (Some given) all = by (has_twice (map (λ (one : ℕ × Color). one.0) given))
+  where
+    by : (b : Bool) → IfSome (if b then None else Some given) (AllByRecursion ClosedItem)
     by true = tt
-    by false = and-one found given all one
-
-with-closed : (found : Option (List (ℕ × Color))) (item : List ℕ) → IfSome found (AllByRecursion ClosedItem) → IfSome (with_item found item) (AllByRecursion ClosedItem)
-with-closed None item all = tt
-with-closed (Some found) item all = more-closed found (listed_color item) all (item-closed item)
-
-items-closed : (items : List (List ℕ)) (found : Option (List (ℕ × Color))) → IfSome found (AllByRecursion ClosedItem) → IfSome (fold with_item found items) (AllByRecursion ClosedItem)
-items-closed [] found all = all
-items-closed (item ∷ items) found all = items-closed items (with_item found item) (with-closed found item all)
+    by false = all
 
 pub lists-close : (list : List ℕ) → IfSome (listed_colors list) (AllByRecursion ClosedItem)
-lists-close list = items-closed (slice_split is_comma list) (Some []) tt
+lists-close list = different-closed (all_of (map listed_color (slice_split is_comma list))) (all-closed (slice_split is_comma list))

@@ -1,3 +1,5 @@
 pub mod NotNamed
 mod ClosedNames
 pub mod ClosedLists
+mod DigitTexts
+mod OneMore

@@ -1,33 +1,25 @@
 //! The number of a column.
-ghost use Rattle.std.specs.Prelude.{◌≡◌, ◌≤◌, IfSome};
-ghost use Rattle.columns_color_list.specs.Listed.{column_of, with_digit};
-
-const GREATEST: usize = 4294967295;
+ghost use Rattle.std.specs.Prelude.{◌≡◌};
+ghost use Rattle.std.specs.Char.{is_ascii_digit};
+ghost use Rattle.std.specs.List.{list_all};
+ghost use Rattle.columns_color_list.specs.Listed.{column_of};
 
 /// The column that decimal digits write, one at least; none above 4294967295. Does not allocate.
 pub fn column_of(text: &str) -> Option<usize>
     ensures { result ≡ column_of text.now }
 {
-    if text.is_empty() {
+    if !are_digits(text) {
         return None;
     }
-    let mut column = Some(0);
-    for byte in text.as_bytes() {
-        column = with_digit(column, *byte);
+    match text.parse::<u32>() {
+        Ok(column) => Some(column as usize),
+        Err(_) => None,
     }
-    column
 }
 
-// The number with one digit more.
-fn with_digit(column: Option<usize>, byte: u8) -> Option<usize>
-    requires { IfSome column (λ n. n ≤ 4294967295) }
-    ensures digit { result ≡ with_digit column byte }
-    ensures low { IfSome result (λ n. n ≤ 4294967295) }
+// Whether all bytes are decimal digits.
+fn are_digits(text: &str) -> bool
+    ensures { result ≡ list_all is_ascii_digit text.now }
 {
-    let number = column?;
-    if !byte.is_ascii_digit() {
-        return None;
-    }
-    let more = number * 10 + (byte - b'0') as usize;
-    if more <= GREATEST { Some(more) } else { None }
+    text.as_bytes().iter().all(|byte| byte.is_ascii_digit())
 }

@@ -1,19 +1,35 @@
 //! A list of colours, read.
-ghost use Rattle.std.specs.Prelude.{◌≡◌, ◌==◌, IfOk, vec_items};
-ghost use Rattle.std.specs.List.{list_any};
+ghost use Rattle.std.specs.Prelude.{◌≡◌, IfOk, map, vec_items};
+ghost use Rattle.std.specs.List.{slice_split};
 ghost use Rattle.std.specs.Option.{option_map};
 ghost use Rattle.grid_config_colors.specs.Colors.{color_of};
-ghost use Rattle.columns_color_list.specs.Listed.{listed_color, listed_colors, more};
+ghost use Rattle.columns_color_list.specs.Listed.{all_of, is_comma, listed_color, listed_colors};
+ghost use Rattle.columns_color_list.specs.Steps.{with_one};
 
 use crate::columns::column_of;
 use crate::names::color_named;
+use crate::twice::has_twice;
 use grid_config_colors::{ANSIBuf, ANSIStr};
 use std::alloc::{AllocError, Global};
 
 /// The colours of a list, `COLUMN=NAME` parted by commas: none where an item has not this form, a column is
-/// above 4294967295 or stands twice, or a name is not known. Fails only where allocation fails.
+/// above 4294967295 or stands twice, or a name is not known. Takes one look at each item. Fails only where
+/// allocation fails.
 pub fn colors_of(alloc: Global, list: &str) -> Result<Option<Vec<(usize, ANSIBuf)>>, AllocError>
     ensures { IfOk result (λ found. option_map vec_items found ≡ listed_colors list.now) }
+{
+    let Some(colors) = all_colors(alloc, list)? else {
+        return Ok(None);
+    };
+    if has_twice(alloc, &colors)? {
+        return Ok(None);
+    }
+    Ok(Some(colors))
+}
+
+// The colours of all items.
+fn all_colors(alloc: Global, list: &str) -> Result<Option<Vec<(usize, ANSIBuf)>>, AllocError>
+    ensures { IfOk result (λ found. option_map vec_items found ≡ all_of (map listed_color (slice_split is_comma list.now))) }
 {
     let mut colors = Some(Vec::new(alloc));
     for item in list.split(',') {
@@ -31,24 +47,14 @@ fn with_item(
     found: Vec<(usize, ANSIBuf)>,
     item: &str,
 ) -> Result<Option<Vec<(usize, ANSIBuf)>>, AllocError>
-    ensures { IfOk result (λ colors. option_map vec_items colors ≡ more (vec_items found) (listed_color item.now)) }
+    ensures { IfOk result (λ colors. option_map vec_items colors ≡ with_one (vec_items found) (listed_color item.now)) }
 {
     let Some((column, color)) = color_of(item) else {
         return Ok(None);
     };
-    if has_column(&found, column) {
-        return Ok(None);
-    }
     let mut colors = found;
     colors.push((column, ANSIBuf::from_ansi_str(alloc, color)?))?;
     Ok(Some(colors))
-}
-
-// Whether a column has a colour.
-fn has_column(found: &[(usize, ANSIBuf)], column: usize) -> bool
-    ensures { result ≡ list_any (λ given. given.0 == column) found.now }
-{
-    found.iter().any(|given| given.0 == column)
 }
 
 // The column and the colour of an item.
