@@ -170,6 +170,10 @@ free_left-within Left free = omega arith
 free_left-within Center free = omega arith
 free_left-within Right free = omega arith
 
+-- nothing stands before what leaves nothing free
+pub none-left : (alignment : AlignmentHorizontal) (free : ℕ) → free ≡ 0 → 0 ≡ free_left alignment free
+none-left alignment free none = omega (arith, free_left-within alignment free, none)
+
 -- ---- the same by what is kept of a room
 
 module _ (rows : FlatRows) (widths before : List ℕ) (j : ℕ) (inside : j < length widths) {all : List ℕ}

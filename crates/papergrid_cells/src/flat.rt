@@ -161,24 +161,16 @@ impl<'a> FlatRows<'a> {
         &self.empty
     }
 
-    /// How the text of this cell stands from left to right, in the table of these settings, for which the
-    /// rows were made.
-    #[inline(always)]
-    pub fn alignment(&self, cfg: &SpannedConfig, pos: Position) -> AlignmentHorizontal
-        ensures { (columns : ℕ) → AreFlatRows (look_of cfg.now) columns self.now → result ≡ (look_of cfg.now).alignment_horizontal pos }
-    {
-        match self.alignment {
-            Some(alignment) => alignment,
-            None => cfg.get_alignment_horizontal(pos),
-        }
-    }
-
-    /// How many of the columns that the text of this cell leaves free stand before it.
+    /// How many of the columns that the text of this cell leaves free stand before it, in the table of these
+    /// settings, for which the rows were made.
     #[inline(always)]
     pub fn indent(&self, cfg: &SpannedConfig, pos: Position, free: usize) -> usize
         ensures { (columns : ℕ) → AreFlatRows (look_of cfg.now) columns self.now → result ≡ free_left ((look_of cfg.now).alignment_horizontal pos) free }
     {
-        free_left(self.alignment(cfg, pos), free)
+        match self.alignment {
+            Some(alignment) => free_left(alignment, free),
+            None => indent_of(cfg, pos, free),
+        }
     }
 
     /// What stands before the first text of a row.
@@ -201,34 +193,35 @@ impl<'a> FlatRows<'a> {
         }
     }
 
-    /// Appends a line that measures `measure` to column `j` of `columns`, which is `width` wide, by the
-    /// alignment of its cell, and what stands after it; `widest` is what the widest line of that cell
-    /// measures. Fails only where allocation fails.
+    /// Appends a line that measures `measure` to the column of its cell, one of `columns`, which is `width`
+    /// wide, by the alignment of that cell, and what stands after it; `widest` is what the widest line of
+    /// the cell measures. Fails only where allocation fails.
     #[inline(always)]
     pub fn push_line(
         &self,
         out: &mut String,
-        j: usize,
+        cfg: &SpannedConfig,
+        pos: Position,
         columns: usize,
         width: usize,
         measure: usize,
         widest: usize,
-        alignment: AlignmentHorizontal,
         color: Option<ANSIStr<'_>>,
         line: &str,
     ) -> Result<(), AllocError>
-        requires { j < columns }
+        requires made { AreFlatRows (look_of cfg.now) columns self.now }
+        requires column { pos.col < columns }
         ensures { OnOk result (string_bytes out.new ≡ string_bytes out.old
-            ++ (placed (standing_of self.now alignment) width measure widest (option_map color_of color.entry) line.now
-            ++ behind_text self.now j columns)) }
+            ++ (placed (standing_of self.now ((look_of cfg.now).alignment_horizontal pos)) width measure widest (option_map color_of color.entry) line.now
+            ++ behind_text self.now pos.col columns)) }
     {
         let room = self.room(width);
         let aligned = if self.line_alignment { measure } else { widest };
-        let indent = free_left(alignment, room.saturating_sub(aligned));
+        let indent = self.indent(cfg, pos, room.saturating_sub(aligned));
         let rest = room.saturating_sub(indent).saturating_sub(measure);
         push_fill(out, self.fill, indent, self.fill_color)?;
         push_text(out, line, color)?;
-        self.push_rest(out, rest, self.behind(j, columns))
+        self.push_rest(out, rest, self.behind(pos.col, columns))
     }
 
     // Appends what is free after a text, and what stands after that.
@@ -253,6 +246,17 @@ fn one_alignment(cfg: &SpannedConfig) -> Option<AlignmentHorizontal>
     } else {
         None
     }
+}
+
+// How many of the free columns stand before the text of this cell. Its alignment is looked up only where
+// there are some.
+fn indent_of(cfg: &SpannedConfig, pos: Position, free: usize) -> usize
+    ensures { result ≡ free_left ((look_of cfg.now).alignment_horizontal pos) free }
+{
+    if free == 0 {
+        return 0;
+    }
+    free_left(cfg.get_alignment_horizontal(pos), free)
 }
 
 // A padding or a margin, and its colour.

@@ -341,20 +341,19 @@ impl<'a, R: PeekableRecords, C: Colors> Table<'a, R, C> {
             ++ (first_placed (table_sheet R.rows C.color self.now) (standing_of flat.now ((look_of self.now.cfg.now).alignment_horizontal pos)) pos
             ++ behind_text flat.now pos.col (length self.now.widths.now))) }
     {
-        let (records, j, columns) = (self.records, pos.col, self.widths.len());
-        let width = self.widths[j];
-        let alignment = flat.alignment(self.cfg, pos);
+        let (records, columns) = (self.records, self.widths.len());
+        let width = self.widths[pos.col];
         let color = self.colors.get_color(pos);
         let widest = records.get_width(pos);
         if let Some(text) = plain_line(records, pos) {
             return flat.push_line(
-                out, j, columns, width, widest, widest, alignment, color, text,
+                out, self.cfg, pos, columns, width, widest, widest, color, text,
             );
         }
         let measure = first_width(records, pos, widest);
         let line = records.get_line(alloc, pos, 0)?;
         flat.push_line(
-            out, j, columns, width, measure, widest, alignment, color, &line,
+            out, self.cfg, pos, columns, width, measure, widest, color, &line,
         )
     }
 

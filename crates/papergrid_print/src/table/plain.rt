@@ -39,9 +39,9 @@ impl<'a, R: PeekableRecords, C: Colors> Table<'a, R, C> {
         for j in first..columns {
             let (cell, pos) = (cells.cell(j), Position::new(i, j));
             let (width, measure) = (self.widths[j], cell.width);
-            let (alignment, color) = (flat.alignment(self.cfg, pos), self.colors.get_color(pos));
+            let color = self.colors.get_color(pos);
             flat.push_line(
-                out, j, columns, width, measure, measure, alignment, color, cell.text,
+                out, self.cfg, pos, columns, width, measure, measure, color, cell.text,
             )?;
         }
         Ok(())

@@ -3,6 +3,7 @@ use Rattle.std.specs.Prelude.{slice_index_or}
 use Rattle.std.specs.Option.{option_map}
 use Rattle.grid_config.specs.Colors.{color_of}
 use Rattle.grid_config.specs.Looks.{look_of}
+use Rattle.grid_config_values.specs.declared.position.Position.{Position}
 use Rattle.grid_records_traits.specs.Rows.{text_at}
 use Rattle.papergrid_cells.specs.Flat.{behind_text, placed, standing_of}
 use Rattle.papergrid_print.specs.FlatSheets.{first_placed}
@@ -22,7 +23,6 @@ loop-j-preserved g c =
     let j = c.loop-j.j in
     let out = string_bytes c.loop-j.out in
     let stands = standing_of c.args.flat.now ((look_of c.args.self.now.cfg.now).alignment_horizontal (at i j)) in
-    let known = c.alignment-alignment.ensures (length c.args.self.now.widths.now) c.requires.made ∙ ap (look_of c.args.self.now.cfg.now).alignment_horizontal c.new-pos.ensures in
     let width = get_or c.args.self.now.widths.now j 0 in
     let color = option_map color_of c.get_color-color.result in
     let behind = behind_text c.args.flat.now j (length c.args.self.now.widths.now) in
@@ -32,7 +32,7 @@ loop-j-preserved g c =
     flat-more sheet c.requires.flat i j c.args.flat.now (string_bytes c.args.out.now) c.requires.row c.loop-j-test.true c.requires.high c.requires.made
     c.loop-j.invariant refl
     (c.in_ok-push_line.ensures
-    ∙ (ap (λ a. out ++ (placed (standing_of c.args.flat.now a) width cell.width cell.width color cell.text.now ++ behind)) known
+    ∙ (ap (λ (p : Position). out ++ (placed (standing_of c.args.flat.now ((look_of c.args.self.now.cfg.now).alignment_horizontal p)) width cell.width cell.width color cell.text.now ++ behind_text c.args.flat.now p.col (length c.args.self.now.widths.now))) c.new-pos.ensures
     ∙ (ap (λ shown. out ++ (shown ++ behind)) (plain-placed sheet c.requires.flat (at i j) stands cell.text.now cell.width color own c.cell-cell.ensures.lines c.cell-cell.ensures.width c.cell-cell.ensures.line shade)
     ∙ sym (append_assoc out (first_placed sheet stands (at i j)) behind))))
 
