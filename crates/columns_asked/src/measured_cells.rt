@@ -21,7 +21,8 @@ pub fn resized_line<'a>(
 ) -> Result<Option<MeasuredText<'a>>, AllocError>
     requires one { text_lines line.now ≡ line.now ∷ [] }
     requires columns { columns ≡ text_width line.now }
-    ensures { IfOk result (λ made. unwrap_or (option_map (λ text. cow_str_bytes text.text) made) line.now ≡ resized_text (if asked.now.truncate then Cut room else Break room asked.now.keep_words) line.now) }
+    ensures { IfOk result (λ made. unwrap_or (option_map (λ text. cow_str_bytes text.text) made) line.now
+        ≡ resized_text (if asked.now.truncate then Cut room else Break room asked.now.keep_words) line.now) }
 {
     if columns <= room && (asked.truncate || stays(line, room, asked.keep_words)) {
         return Ok(None);
