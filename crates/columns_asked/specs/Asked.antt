@@ -3,3 +3,5 @@
 pub use Rattle.columns_asked.specs.declared.asked.Asked.{Asked}
 -- that of a cell
 pub use Rattle.tabled_size_cells.specs.Resizing.{Break, Cut, Keep, Resize}
+-- a text that a cell becomes, with what its lines measure
+pub use Rattle.tabled_size_wrap.specs.declared.measured.MeasuredText.{MeasuredText}

@@ -5,8 +5,11 @@
 mod asked;
 mod cells;
 pub mod laws;
+mod measured_cells;
 mod widths;
 
 pub use asked::Asked;
 pub use cells::resized_cell;
+pub use measured_cells::resized_line;
+pub use tabled_size_wrap::MeasuredText;
 pub use widths::narrowed;

@@ -7,7 +7,8 @@ use Rattle.std.proofs.lemmas.List.Elements.{All-head}
 use Rattle.ansi_scan.specs.Pieces.{pieces}
 use Rattle.ansi_scan.proofs.Existence.{ArePiecesOf-pieces}
 use Rattle.grid_config.specs.Compact.{Compact}
-use Rattle.grid_records_measure.specs.TextLines.{text_width}
+use Rattle.grid_records_measure.specs.TextLines.{text_lines, text_width}
+use Rattle.grid_records_measure.proofs.TextLines.{text_lines-are}
 use Rattle.grid_records_traits.specs.Rows.{fitted, fitted_row}
 use Rattle.grid_records_rows.specs.Sources.{AreEquallyLong}
 use Rattle.columns_asked.specs.Layout.{by_column, paddings, resize_in}
@@ -23,6 +24,10 @@ use Rattle.columns_table.specs.declared.cells.LineCell.{LineCell}
 pub width-is : (cell : LineCell) → KeepsWidth cell → cell.width ≡ text_width cell.text.now
 unfolding text_width
 width-is cell measured = measured.1 (pieces cell.text.now) (ArePiecesOf-pieces cell.text.now)
+
+-- and is its only line
+pub only_line-is : (cell : LineCell) → KeepsWidth cell → text_lines cell.text.now ≡ cell.text.now ∷ []
+only_line-is cell measured = measured.2 (pieces cell.text.now) (text_lines cell.text.now) (ArePiecesOf-pieces cell.text.now) (text_lines-are cell.text.now)
 
 -- the first text from a column on is that of the cell there
 pub first-some : (resize : Resize) (cells : List LineCell) (column : ℕ) (cell : LineCell) → slice_get cells column ≡ Some cell

@@ -10,8 +10,7 @@ ghost use Rattle.columns_table.specs.Rows.{cell_texts, row_texts_of};
 
 use crate::cell_row::CellRow;
 use crate::rows::Rows;
-use columns_asked::{Asked, resized_cell};
-use grid_records_measure::get_text_dimension;
+use columns_asked::{Asked, MeasuredText, resized_line};
 use grid_records_traits::Cell;
 use std::alloc::{AllocError, Global};
 use std::borrow::CowStr;
@@ -26,12 +25,15 @@ pub struct KeptCell<'a> {
 }
 
 impl<'a> KeptCell<'a> {
-    /// A cell with this text, which is measured once. Does not allocate.
-    fn new(text: CowStr<'a>) -> KeptCell<'a>
-        ensures { cow_str_bytes result.text ≡ cow_str_bytes text.entry }
+    /// A cell with this text, whose measures are known. Does not allocate.
+    fn new(text: MeasuredText<'a>) -> KeptCell<'a>
+        ensures { cow_str_bytes result.text ≡ cow_str_bytes text.entry.text }
     {
-        let (lines, width) = get_text_dimension(&text);
-        KeptCell { text, lines, width }
+        KeptCell {
+            text: text.text,
+            lines: text.lines,
+            width: text.columns,
+        }
     }
 
     /// A cell of one line that takes so many columns, which is not measured again. Does not allocate.
@@ -124,9 +126,9 @@ fn kept_cell<'a>(
     ensures { IfOk result (λ kept. cow_str_bytes kept.text ≡ first_kept (resize_to asked.now room) (cell_texts (drop column (row_cells row.entry)))) }
 {
     let Some(cell) = row.get(column) else {
-        return Ok(KeptCell::new(CowStr::Borrowed("")));
+        return Ok(KeptCell::new(MeasuredText::new(CowStr::Borrowed(""))));
     };
-    match resized_cell(alloc, asked, cell.text, cell.width, room)? {
+    match resized_line(alloc, asked, cell.text, cell.width, room)? {
         Some(text) => Ok(KeptCell::new(text)),
         None => Ok(KeptCell::of_line(cell.text, cell.width)),
     }

@@ -1,5 +1,7 @@
 -- A text of one line without sequences is its own first line.
-use Rattle.std.proofs.Common.{◌≡◌, ◌<◌, ℕ, false, List, [], ◌∷◌, get_or, length, map, take, ap, sym, subst, ◌∙◌, arith}
+use Rattle.std.proofs.Common.{◌≡◌, ◌<◌, ℕ, false, List, [], ◌∷◌, ◌++◌, None, Option, Some, get_or, length, map, take, ap, sym, subst, ◌∙◌, arith, append_assoc}
+use Rattle.std.specs.Borrow.{Bor}
+use Rattle.std.specs.Option.{IfSome}
 use Rattle.std.specs.List.{join_with_byte, slice_split}
 use Rattle.std.proofs.lemmas.List.Splits.{join_with_byte-slice_split}
 use Rattle.std.proofs.Math.Seq.{take-length}
@@ -10,7 +12,9 @@ use Rattle.ansi_str.specs.Matches.{AreMatches, split_bounds, styled_parts}
 use Rattle.ansi_str.specs.StyledText.{has_escape, strip}
 use Rattle.ansi_str_search.proofs.AllParts.{styled_parts-without_escape}
 use Rattle.ansi_str_search.proofs.StdSplits.{split_at_one_byte}
+use Rattle.ansi_str_text.proofs.LastSequence.{has_escape-append}
 use Rattle.ansi_str_text.proofs.Stripping.{strip-without_escape}
+use Rattle.grid_records_measure.specs.RawLines.{IsLineAndRest, lines_behind}
 use Rattle.grid_records_measure.specs.TextLines.{AreLinesOf, is_line_feed, line_feed, line_measure, shown_lines, text_lines}
 use Rattle.grid_records_measure.proofs.TextLines.{text_lines-are}
 use Rattle.grid_records_traits.specs.Cells.{HasLineCount, IsLineAt}
@@ -52,3 +56,33 @@ module _ (text : List ℕ) (plain : has_escape text ≡ false) where
 
   pub cell_measures-plain : map line_measure (slice_split is_line_feed text) ≡ cell_measures false false text
   cell_measures-plain = ap (map line_measure) (sym (take-length (shown_lines (pieces text)) ∙ shown-plain))
+
+-- ---- such a text line by line
+
+-- none of what stands there has ESC
+abbrev pub IsPlainRest : Option (Bor (List ℕ)) → Type 0
+IsPlainRest rest = IfSome rest (λ other. has_escape other.now ≡ false)
+
+-- the first line, and those behind it, which have no ESC either
+pub split_plain : (text line : List ℕ) (rest : Option (Bor (List ℕ))) → has_escape text ≡ false → IsLineAndRest text line rest → shown_lines (pieces text) ≡ strip (pieces line) ∷ lines_behind rest
+    → (shown_lines (pieces text) ≡ line ∷ lines_behind rest) × IsPlainRest rest
+split_plain text line rest plain parted lines =
+    let parts = by rest parted in
+    (lines ∙ ap (λ first. first ∷ lines_behind rest) (strip-without_escape line (pieces line) (ArePiecesOf-pieces line) parts.0), parts.1)
+  where
+    by : (rest : Option (Bor (List ℕ))) → IsLineAndRest text line rest → (has_escape line ≡ false) × IsPlainRest rest
+    by None is = (ap has_escape (sym is) ∙ plain, tt)
+    by (Some other) is =
+        let first = has_escape-append line (line_feed ∷ other.now) (ap has_escape (sym is) ∙ plain) in
+        (first.0, (has_escape-append (line_feed ∷ []) other.now first.1).1)
+
+-- something is made of lines, one by one
+module _ {X : Type 0} (f : List ℕ → X) (of_lines : List (List ℕ) → List X) (one_more : (line : List ℕ) (lines : List (List ℕ)) → of_lines (line ∷ lines) ≡ f line ∷ of_lines lines) where
+  -- what was made so far, and what the lines that are left give, is all; so it is with one line more
+  pub made_more : (all made next : List X) (line : List ℕ) (rest behind : Option (Bor (List ℕ))) (item : X)
+      → made ++ of_lines (lines_behind rest) ≡ all → lines_behind rest ≡ line ∷ lines_behind behind → next ≡ made ++ item ∷ [] → item ≡ f line
+      → next ++ of_lines (lines_behind behind) ≡ all
+  made_more all made next line rest behind item so_far come more is =
+      ap (λ items. items ++ of_lines (lines_behind behind)) (more ∙ ap (λ (i : X). made ++ i ∷ []) is)
+      ∙ append_assoc made (f line ∷ []) (of_lines (lines_behind behind))
+      ∙ ap (λ items. made ++ items) (sym (ap of_lines come ∙ one_more line (lines_behind behind))) ∙ so_far

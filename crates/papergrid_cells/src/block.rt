@@ -124,12 +124,18 @@ pub fn push_block_line(
 ) -> Result<(), AllocError>
     ensures { OnOk result (string_bytes out.new ≡ string_bytes out.old ++ alone_bytes (look_of cfg.now) cell.now line) }
 {
-    let padding = cfg.get_padding(cell.pos);
-    let colors = cfg.get_padding_color(cell.pos);
     match line {
-        BlockLine::Above => push_blank(out, padding.top.fill, cell.width, &colors.top),
+        BlockLine::Above => {
+            let padding = cfg.get_padding(cell.pos).top;
+            let colors = cfg.get_padding_color(cell.pos);
+            push_blank(out, padding.fill, cell.width, &colors.top)
+        }
         BlockLine::Text(k) => push_text_line(out, cfg, cell, k),
-        BlockLine::Below => push_blank(out, padding.bottom.fill, cell.width, &colors.bottom),
+        BlockLine::Below => {
+            let padding = cfg.get_padding(cell.pos).bottom;
+            let colors = cfg.get_padding_color(cell.pos);
+            push_blank(out, padding.fill, cell.width, &colors.bottom)
+        }
         BlockLine::Outside => Ok(()),
     }
 }

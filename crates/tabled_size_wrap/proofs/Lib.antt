@@ -15,3 +15,5 @@ pub mod Added
 pub mod Wrapped
 pub mod Bytes
 pub mod Unbroken
+pub mod CountedLines
+pub mod OneLine

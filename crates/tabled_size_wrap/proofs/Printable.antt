@@ -58,7 +58,7 @@ printable-begins : (bytes : List ℕ) → are_printable bytes ≡ true → begin
 printable-begins [] h = refl
 printable-begins (b ∷ bs) h = printable-other b (both b bs h).0
 
-printable-feeds : (bytes : List ℕ) → are_printable bytes ≡ true → All (λ b. is_line_feed b ≡ false) bytes
+pub printable-feeds : (bytes : List ℕ) → are_printable bytes ≡ true → All (λ b. is_line_feed b ≡ false) bytes
 printable-feeds [] h = All-nil (λ b. is_line_feed b ≡ false)
 printable-feeds (b ∷ bs) h = All-cons (λ b. is_line_feed b ≡ false) b bs (printable-no_feed b (both b bs h).0) (printable-feeds bs (both b bs h).1)
 

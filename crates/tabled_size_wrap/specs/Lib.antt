@@ -10,3 +10,4 @@ pub mod Fronts
 pub mod Worked
 pub mod Bytes
 pub mod Staying
+pub mod Measured

@@ -1,9 +1,10 @@
 //! A line that is broken, part by part.
-ghost use Rattle.std.specs.Prelude.{◌≡◌, ◌<◌, ◌≤◌, ◌+◌, ◌++◌, ℕ, List, [], OnOk, length, false, string_bytes};
+ghost use Rattle.std.specs.Prelude.{◌≡◌, ◌<◌, ◌≤◌, ◌+◌, ◌-◌, ◌++◌, ℕ, List, [], OnOk, length, false, string_bytes, take, true};
 ghost use Rattle.std.specs.List.{join_with_byte, repeat};
 ghost use Rattle.std.specs.Str.{IsAscii, IsCharBoundary};
 ghost use Rattle.ansi_scan.specs.Sequences.{Piece};
 ghost use Rattle.ansi_scan.specs.Pieces.{pieces};
+ghost use Rattle.ansi_scan.specs.StartsAndEnds.{end_bytes, start_bytes};
 ghost use Rattle.ansi_str.specs.StyledText.{strip, style_after_all};
 ghost use Rattle.ansi_str.specs.Parts.{dressed, from_place, through_place};
 ghost use Rattle.ansi_str.specs.Walking.{from_text};
@@ -15,7 +16,8 @@ ghost use Rattle.tabled_size_wrap.specs.Room.{MakesRoom};
 
 use crate::line_units::LineUnits;
 use ansi_str::AnsiStr;
-use ansi_str_search::Place;
+use ansi_str_search::{Place, front};
+use grid_records_measure::is_printable;
 use std::alloc::{AllocError, Global};
 
 /// Appends the lines that a line is broken into, with a line feed between each two.
@@ -31,17 +33,24 @@ pub(crate) fn push_broken_lines(
 {
     let stripped = line.ansi_strip(alloc)?;
     if stripped.is_empty() {
-        return push_nothing(alloc, out, line);
+        return push_nothing(out, line);
     }
-    if !keep_words && stripped.is_ascii() {
-        return push_full_lines(alloc, out, line, stripped.len(), width);
+    if !keep_words && is_ascii(&stripped) {
+        return push_full_lines(out, line, stripped.len(), width);
     }
-    push_runs(alloc, out, line, &stripped, width, keep_words)
+    push_runs(out, line, &stripped, width, keep_words)
+}
+
+// Whether it is plain that a text is ASCII. Printable ASCII, as most of it is, is told by a look at many bytes at a
+// time.
+fn is_ascii(text: &str) -> bool
+    ensures { result ≡ true → IsAscii text.now }
+{
+    is_printable(text) || text.is_ascii()
 }
 
 // The same of a line that shows some text, which this is.
 fn push_runs(
-    alloc: Global,
     out: &mut String,
     line: &str,
     stripped: &str,
@@ -60,13 +69,13 @@ fn push_runs(
     };
     for unit in LineUnits::new(stripped, width, keep_words) {
         let len = unit.end - unit.start;
-        run.make_room(alloc, out, unit.cost, width)?;
+        run.make_room(out, unit.cost, width)?;
         if unit.cost <= width {
             run.kept += len;
             run.used += unit.cost;
         } else {
             let kept = run.kept;
-            push_part(alloc, out, &mut run.place, kept)?;
+            push_part(out, &mut run.place, kept)?;
             run.place = run.place.through(len);
             push_replacements(out, width - run.used)?;
             run.kept = 0;
@@ -74,7 +83,7 @@ fn push_runs(
         }
     }
     let kept = run.kept;
-    push_part(alloc, out, &mut run.place, kept)
+    push_part(out, &mut run.place, kept)
 }
 
 // The line of the result that is being written: the place up to which it is written, the bytes after the place
@@ -90,8 +99,7 @@ impl<'a> Run<'a> {
     // Makes room for a unit of this cost: where the line has none, writes it, and begins the next one.
     fn make_room(
         &mut self,
-        alloc: Global,
-        out: &mut String,
+            out: &mut String,
         cost: usize,
         width: usize,
     ) -> Result<(), AllocError>
@@ -102,7 +110,7 @@ impl<'a> Run<'a> {
         if has_room(cost, self.used, width) {
             return Ok(());
         }
-        push_part(alloc, out, &mut self.place, self.kept)?;
+        push_part(out, &mut self.place, self.kept)?;
         out.push('\n')?;
         self.kept = 0;
         self.used = 0;
@@ -113,7 +121,6 @@ impl<'a> Run<'a> {
 // The same of a line that shows some ASCII text, `len` bytes of it, where words are not kept: each byte
 // is a unit that costs one column, so a line of the result has as many as the width.
 fn push_full_lines(
-    alloc: Global,
     out: &mut String,
     line: &str,
     len: usize,
@@ -128,11 +135,11 @@ fn push_full_lines(
     let mut place = Place::start_of(line);
     let mut left = len;
     while left > width {
-        push_part(alloc, out, &mut place, width)?;
+        push_part(out, &mut place, width)?;
         out.push('\n')?;
         left -= width;
     }
-    push_part(alloc, out, &mut place, left)
+    push_part(out, &mut place, left)
 }
 
 // Whether a line that has taken `used` columns has room for a unit; for one that costs more than the
@@ -149,18 +156,17 @@ fn has_room(cost: usize, used: usize, width: usize) -> bool
 }
 
 // Appends a line that shows no text.
-fn push_nothing(alloc: Global, out: &mut String, line: &str) -> Result<(), AllocError>
+fn push_nothing(out: &mut String, line: &str) -> Result<(), AllocError>
     requires { strip (pieces line.now) ≡ [] }
     ensures { OnOk result (string_bytes out.new ≡ string_bytes out.old ++ line_part (pieces line.now) 0 0) }
 {
     let mut place = Place::start_of(line);
-    push_slice(alloc, out, &mut place, 0)
+    push_slice(out, &mut place, 0)
 }
 
 // Appends the part of a line from a place on, and goes to the place after it. Of a line that shows some
 // text no bytes are no part.
 fn push_part<'a>(
-    alloc: Global,
     out: &mut String,
     place: &mut Place<'a>,
     len: usize,
@@ -174,13 +180,12 @@ fn push_part<'a>(
     if len == 0 {
         return Ok(());
     }
-    push_slice(alloc, out, place, len)
+    push_slice(out, place, len)
 }
 
 // Appends `len` bytes of a line from a place on, with the sequences among and after them, and goes to
 // the place after them.
 fn push_slice<'a>(
-    alloc: Global,
     out: &mut String,
     place: &mut Place<'a>,
     len: usize,
@@ -192,9 +197,26 @@ fn push_slice<'a>(
     ensures style { OnOk result (place.new.style ≡ style_after_all place.old.style (through_place len (pieces place.old.rest.now))) }
 {
     let end = place.through(len);
-    out.push_str(&place.part_to(alloc, &end)?)?;
+    push_between(out, place, &end)?;
     *place = end;
     Ok(())
+}
+
+// Appends what stands from a place to another, between the start of the style known here and the end of the style
+// known there. `Place::part_to` would make a text of it, which is written once more.
+fn push_between<'a>(out: &mut String, from: &Place<'a>, to: &Place<'a>) -> Result<(), AllocError>
+    requires { (slice : List ℕ) × (from.now.rest.now ≡ slice ++ to.now.rest.now) }
+    ensures { OnOk result (string_bytes out.new ≡ string_bytes out.old ++ (start_bytes from.now.style
+        ++ (take (length from.now.rest.now - length to.now.rest.now) from.now.rest.now ++ end_bytes to.now.style))) }
+{
+    let slice = front(from.rest, to.rest);
+    if from.style.is_plain() && to.style.is_plain() {
+        out.push_str(slice)?;
+        return Ok(());
+    }
+    let start = from.style.start();
+    let end = to.style.end();
+    write!(out, "{start}{slice}{end}")
 }
 
 // Appends `n` replacement characters.

@@ -6,11 +6,13 @@ mod cut;
 mod full_lines;
 pub mod laws;
 mod line_units;
+mod measured;
 mod staying;
 mod words;
 mod wrap;
 
 pub use cut::cut_styled;
 pub use line_units::{Unit, units};
+pub use measured::MeasuredText;
 pub use staying::stays;
-pub use wrap::wrap_styled;
+pub use wrap::{wrap_line, wrap_styled};

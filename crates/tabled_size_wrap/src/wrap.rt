@@ -1,13 +1,17 @@
 //! A text that is wrapped at a width.
-ghost use Rattle.std.specs.Prelude.{◌≡◌, List, IfOk, IsOk, string_bytes};
+ghost use Rattle.std.specs.Prelude.{◌≡◌, ◌∷◌, List, [], IfOk, IsOk, string_bytes};
+ghost use Rattle.std.specs.Cow.{cow_str_bytes};
 ghost use Rattle.ansi_scan.specs.Sequences.{Piece, ArePiecesOf};
+ghost use Rattle.grid_records_measure.specs.TextLines.{text_lines};
 ghost use Rattle.tabled_size_wrap.specs.Bytes.{wrapped_text};
 ghost use Rattle.tabled_size_wrap.specs.Wrapping.{IsWrapped};
 
 use crate::broken_lines::push_broken_lines;
 use crate::full_lines::full_lines;
+use crate::measured::MeasuredText;
 use grid_records_measure::{get_lines, is_printable};
 use std::alloc::{AllocError, Global};
+use std::borrow::CowStr;
 
 /// A text with its lines broken at a width, in columns. Each line of `get_lines` is broken by itself into runs of
 /// its units (`units`), each as long as it fits: its units sum to at most the width. A unit that costs
@@ -30,7 +34,8 @@ pub fn wrap_styled(
         return Ok(String::new(alloc));
     }
     if !keep_words && !text.is_empty() && is_printable(text) {
-        return full_lines(alloc, text, width);
+        let made = full_lines(alloc, text, width)?;
+        return made.text.into_owned(alloc);
     }
     let mut out = String::new(alloc);
     let mut begun = false;
@@ -43,4 +48,28 @@ pub fn wrap_styled(
         push_broken_lines(alloc, &mut out, &line, width, keep_words)?;
     }
     Ok(out)
+}
+
+/// The same of a text that is its only line, as a text without ESC and without line feeds is, and one that opens and
+/// ends its own styles; with what the lines of the result measure. Its lines are not looked for; where words are not
+/// kept and it is printable ASCII, nothing is measured either. It fails only where allocation fails.
+pub fn wrap_line<'a>(
+    alloc: Global,
+    line: &str,
+    width: usize,
+    keep_words: bool,
+) -> Result<MeasuredText<'a>, AllocError>
+    requires { text_lines line.now ≡ line.now ∷ [] }
+    ensures { IfOk result (λ made. cow_str_bytes made.text ≡ wrapped_text width keep_words line.now) }
+{
+    let mut out = String::new(alloc);
+    if width == 0 {
+        return Ok(MeasuredText::new(CowStr::Owned(out)));
+    }
+    if !keep_words && !line.is_empty() && is_printable(line) {
+        return full_lines(alloc, line, width);
+    }
+    out.reserve(line.len())?;
+    push_broken_lines(alloc, &mut out, line, width, keep_words)?;
+    Ok(MeasuredText::new(CowStr::Owned(out)))
 }

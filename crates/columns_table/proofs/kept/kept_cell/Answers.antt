@@ -1,17 +1,23 @@
 -- A cell that is there is resized, and one that stays is the line that it was; one that is lacking is empty.
-use Rattle.std.proofs.Common.{ap, sym, ◌∙◌}
+use Rattle.std.proofs.Common.{Option, ap, sym, ◌∙◌}
 use Rattle.std.specs.Cow.{cow_str_bytes}
 use Rattle.std.specs.Option.{option_map, unwrap_or}
+use Rattle.columns_asked.specs.Asked.{MeasuredText}
 use Rattle.columns_table.specs.Cells.{anywhere}
 use Rattle.columns_table.specs.CellRows.{row_cells}
 use Rattle.columns_table.specs.Kept.{resize_to}
 use Rattle.columns_table.specs.Records.{KeepsWidth}
 use Rattle.columns_table.proofs.KeptCells.{each-some}
-use Rattle.columns_table.proofs.KeptRows.{first-none, first-some, width-is}
+use Rattle.columns_table.proofs.KeptRows.{first-none, first-some, only_line-is, width-is}
 use Rattle.columns_table.proofs.kept.kept_cell.Goals as goal
 
-pub resized_cell-requires : goal.resized_cell-requires
-resized_cell-requires c =
+pub resized_line-requires-clause-one : goal.resized_line-requires-clause-one
+resized_line-requires-clause-one c =
+    let cell = c.in-Some.cell in
+    only_line-is cell (each-some KeepsWidth (row_cells c.args.row) c.args.column (anywhere cell) (sym c.get.ensures ∙ ap (option_map anywhere) c.in-Some.is) c.requires)
+
+pub resized_line-requires-clause-columns : goal.resized_line-requires-clause-columns
+resized_line-requires-clause-columns c =
     let cell = c.in-Some.cell in
     width-is cell (each-some KeepsWidth (row_cells c.args.row) c.args.column (anywhere cell) (sym c.get.ensures ∙ ap (option_map anywhere) c.in-Some.is) c.requires)
 
@@ -27,13 +33,13 @@ of_line-requires-clause-width c =
 
 pub returns-in_default : goal.returns-in_default
 returns-in_default c =
-    c.new.ensures ∙ first-none (resize_to c.args.asked.now c.args.room) (row_cells c.args.row) c.args.column (sym c.get.ensures ∙ ap (option_map anywhere) c.in_default.is)
+    c.new-2.ensures ∙ c.new.ensures ∙ first-none (resize_to c.args.asked.now c.args.room) (row_cells c.args.row) c.args.column (sym c.get.ensures ∙ ap (option_map anywhere) c.in_default.is)
 
 pub returns-in-Some-2 : goal.returns-in-Some-2
 returns-in-Some-2 c =
     let cell = c.in-Some.cell in
     c.new-in-Some-2.ensures
-    ∙ sym (ap (λ made. unwrap_or (option_map cow_str_bytes made) cell.text.now) c.in-Some-2.is)
+    ∙ sym (ap (λ (made : Option MeasuredText). unwrap_or (option_map (λ text. cow_str_bytes text.text) made) cell.text.now) c.in-Some-2.is)
     ∙ c.in_ok-text.ensures
     ∙ first-some (resize_to c.args.asked.now c.args.room) (row_cells c.args.row) c.args.column (anywhere cell) (sym c.get.ensures ∙ ap (option_map anywhere) c.in-Some.is)
 
@@ -41,6 +47,6 @@ pub returns-in-None : goal.returns-in-None
 returns-in-None c =
     let cell = c.in-Some.cell in
     c.of_line.ensures
-    ∙ sym (ap (λ made. unwrap_or (option_map cow_str_bytes made) cell.text.now) c.in-None.is)
+    ∙ sym (ap (λ (made : Option MeasuredText). unwrap_or (option_map (λ text. cow_str_bytes text.text) made) cell.text.now) c.in-None.is)
     ∙ c.in_ok-text.ensures
     ∙ first-some (resize_to c.args.asked.now c.args.room) (row_cells c.args.row) c.args.column (anywhere cell) (sym c.get.ensures ∙ ap (option_map anywhere) c.in-Some.is)

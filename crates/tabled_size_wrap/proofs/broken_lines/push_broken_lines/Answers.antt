@@ -1,5 +1,5 @@
 -- A line that shows no text is one part; any other is broken run by run.
-use Rattle.std.proofs.Common.{◌≡◌, ◌∙◌, ◌==◌, [], ◌++◌, List, ℕ, length, true, ap, sym, subst, arith, string_bytes}
+use Rattle.std.proofs.Common.{◌≡◌, ◌∙◌, ◌==◌, [], ◌++◌, List, ℕ, length, true, ap, sym, subst, arith, refl, string_bytes}
 use Rattle.std.specs.List.{join_with_byte}
 use Rattle.std.specs.Str.{IsAscii}
 use Rattle.std.proofs.lemmas.Bool.Decides.{nat_tests}
@@ -35,7 +35,7 @@ push_full_lines-requires-clause-shown c =
 
 pub push_full_lines-requires-clause-ascii : goal.push_full_lines-requires-clause-ascii
 push_full_lines-requires-clause-ascii c =
-    subst IsAscii (c.deref-then-not-keep_words.ensures.value ∙ c.in_ok-stripped.ensures.strips (pieces c.args.line.now) (ArePiecesOf-pieces c.args.line.now)) c.if-is_ascii.ensures.cases
+    subst IsAscii (c.deref-then-not-keep_words.ensures.value ∙ c.in_ok-stripped.ensures.strips (pieces c.args.line.now) (ArePiecesOf-pieces c.args.line.now)) (c.if-is_ascii.ensures refl)
 
 pub push_runs-requires-clause-shown : goal.push_runs-requires-clause-shown
 push_runs-requires-clause-shown c = c.deref-2.ensures.value ∙ c.in_ok-stripped.ensures.strips (pieces c.args.line.now) (ArePiecesOf-pieces c.args.line.now)

@@ -1,5 +1,5 @@
 -- The lines come one after the other, and all of them come.
-use Rattle.std.proofs.Common.{◌≡◌, ◌∙◌, ◌<◌, ◌++◌, ◌∷◌, [], List, ℕ, Bool, true, false, flat_map, ap, sym, arith, append-nil, string_bytes, if◌then◌else◌}
+use Rattle.std.proofs.Common.{◌≡◌, ◌∙◌, ◌<◌, ◌++◌, ◌∷◌, [], List, ℕ, Bool, true, flat_map, ap, sym, arith, append-nil, string_bytes, if◌then◌else◌}
 use Rattle.std.specs.Cow.{cow_str_bytes}
 use Rattle.std.specs.List.{join_with_byte}
 use Rattle.std.proofs.lemmas.Result.{IfOk-weaker}
@@ -88,15 +88,15 @@ returns-then-is_printable-clause-wrapped c =
     let width = c.args.width in
     let some : 0 < width = omega (arith, c.if-width-eq0.false) in
     let printable : are_printable text ≡ true = sym c.is_printable.ensures ∙ c.if-is_printable.true in
-    IfOk-weaker c.full_lines.result (λ out. string_bytes out ≡ join_with_byte line_feed (broken_lines width false (pieces text)))
+    IfOk-weaker c.into_owned.result (λ out. string_bytes out ≡ cow_str_bytes c.in_ok-made.made.text)
     (λ out. (ps : List Piece) → ArePiecesOf text ps → IsWrapped width c.args.keep_words ps (string_bytes out))
-    (λ out is ps of_text. printable-is_wrapped text (string_bytes out) width c.args.keep_words ps some printable c.if-not-keep_words.true of_text is) c.full_lines.ensures
+    (λ out is ps of_text. printable-is_wrapped text (string_bytes out) width c.args.keep_words ps some printable c.if-not-keep_words.true of_text (is ∙ c.in_ok-made.ensures)) c.into_owned.ensures.ok
 
 pub returns-then-is_printable-clause-bytes : goal.returns-then-is_printable-clause-bytes
 returns-then-is_printable-clause-bytes c =
     let text = c.args.text.now in
     let width = c.args.width in
-    IfOk-weaker c.full_lines.result (λ out. (ps : List Piece) → ArePiecesOf text ps → IsWrapped width c.args.keep_words ps (string_bytes out))
+    IfOk-weaker c.into_owned.result (λ out. (ps : List Piece) → ArePiecesOf text ps → IsWrapped width c.args.keep_words ps (string_bytes out))
     (λ out. string_bytes out ≡ wrapped_text width c.args.keep_words text)
     (λ out is. wrapped_text-one width c.args.keep_words text (string_bytes out) (pieces text) (ArePiecesOf-pieces text) (is (pieces text) (ArePiecesOf-pieces text)))
     (returns-then-is_printable-clause-wrapped c)

@@ -1,8 +1,15 @@
-use Rattle.std.proofs.Common.{◌∙◌}
+use Rattle.std.proofs.Common.{◌∙◌, ap}
 use Rattle.ansi_scan.specs.Pieces.{pieces}
 use Rattle.ansi_scan.proofs.Existence.{ArePiecesOf-pieces}
+use Rattle.ansi_str.specs.StyledText.{has_escape}
+use Rattle.ansi_str_text.proofs.Stripping.{has_escape-strip}
 use Rattle.papergrid_cells.proofs.KeptLines.{are_read, enough_lines, measures_kept, texts_kept}
 use Rattle.papergrid_cells.proofs.cell_lines.reading.read_shown.Goals as goal
+
+pub shown_lines-requires : goal.shown_lines-requires
+shown_lines-requires c =
+    let text = c.args.text.now in
+    ap has_escape (c.deref.ensures.value ∙ c.in_ok-stripped.ensures.strips (pieces text) (ArePiecesOf-pieces text)) ∙ has_escape-strip text (pieces text) (ArePiecesOf-pieces text)
 
 pub take_lines-requires : goal.take_lines-requires
 take_lines-requires c =

@@ -1,0 +1,34 @@
+//! The cells of one line of a table that is asked to be narrower, with what they measure then.
+ghost use Rattle.std.specs.Prelude.{◌≡◌, ◌∷◌, [], IfOk, if◌then◌else◌, unwrap_or};
+ghost use Rattle.std.specs.Cow.{cow_str_bytes};
+ghost use Rattle.std.specs.Option.{option_map};
+ghost use Rattle.grid_records_measure.specs.TextLines.{text_lines, text_width};
+ghost use Rattle.tabled_size_cells.specs.Resizing.{Break, Cut, resized_text};
+
+use crate::asked::Asked;
+use std::alloc::{AllocError, Global};
+use tabled_size_wrap::{MeasuredText, cut_styled, stays, wrap_line};
+
+/// What `resized_cell` returns of a text that is its only line, as a text without ESC and without line feeds is, and
+/// one that opens and ends its own styles; with what its lines measure, so that nothing needs a second look at them.
+/// It fails only where allocation fails.
+pub fn resized_line<'a>(
+    alloc: Global,
+    asked: &Asked,
+    line: &'a str,
+    columns: usize,
+    room: usize,
+) -> Result<Option<MeasuredText<'a>>, AllocError>
+    requires one { text_lines line.now ≡ line.now ∷ [] }
+    requires columns { columns ≡ text_width line.now }
+    ensures { IfOk result (λ made. unwrap_or (option_map (λ text. cow_str_bytes text.text) made) line.now
+        ≡ resized_text (if asked.now.truncate then Cut room else Break room asked.now.keep_words) line.now) }
+{
+    if columns <= room && (asked.truncate || stays(line, room, asked.keep_words)) {
+        return Ok(None);
+    }
+    if asked.truncate {
+        return Ok(Some(MeasuredText::new(cut_styled(alloc, line, room)?)));
+    }
+    Ok(Some(wrap_line(alloc, line, room, asked.keep_words)?))
+}
