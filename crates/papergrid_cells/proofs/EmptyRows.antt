@@ -9,7 +9,7 @@ use Rattle.std.proofs.Math.Seq.{drop-append_seam, take-append_seam}
 use Rattle.std.proofs.lemmas.List.{at_drop_more, length-append, length-replicate, replicate-append-replicate}
 use Rattle.std.proofs.lemmas.Str.{IsCharBoundary-at_seam, IsUtf8-append, IsUtf8-drop, IsUtf8-nil, IsUtf8-string_bytes}
 use Rattle.ansi_str_search.proofs.Finds.{IsUtf8-byte}
-use Rattle.grid_config.specs.Colors.{Color, color_of}
+use Rattle.grid_config.specs.Colors.{color_of}
 use Rattle.grid_config_values.specs.declared.alignment.AlignmentHorizontal.{AlignmentHorizontal}
 use Rattle.grid_config_values.specs.declared.alignment.AlignmentHorizontal.TheVariants.{Left, Center, Right}
 use Rattle.papergrid_picture.specs.Blocks.{free_left}
@@ -77,26 +77,6 @@ module _ (joints : Joints) (columns : ℕ) where
       room-at 0 k widths default inside
       ∙ ap (λ n. record { width = room_in joints (get_or widths k 0); rest = length (empty_from joints columns n (drop k widths)) }) same
 
-  -- the line ends with what stands from a column on
-  empty-ends : (j k : ℕ) (widths : List ℕ) → k ≤ length widths
-      → (front : List ℕ) × (empty_from joints columns j widths ≡ front ++ empty_from joints columns (j + k) (drop k widths))
-  empty-ends j zero widths inside =
-      let same : j ≡ j + 0 = omega arith in
-      ([], ap (λ n. empty_from joints columns n widths) same)
-  empty-ends j (suc k) [] inside = absurd (omega (arith, inside))
-  empty-ends j (suc k) (width ∷ widths) inside =
-      let same : (j + 1) + k ≡ j + suc k = omega arith in
-      let ends = empty-ends (j + 1) k widths (omega (arith, inside)) in
-      let blank = fill (room_in joints width) in
-      let joint = joint_behind joints j columns in (
-        blank ++ (joint ++ ends.0),
-        ap (λ l. blank ++ (joint ++ l)) (ends.1 ∙ ap (λ n. ends.0 ++ empty_from joints columns n (drop k widths)) same)
-            ∙ regroup blank joint ends.0 (empty_from joints columns (j + suc k) (drop k widths)),
-      )
-    where
-      regroup : (a b c d : List ℕ) → a ++ (b ++ (c ++ d)) ≡ (a ++ (b ++ c)) ++ d
-      regroup a b c d = simp append_assoc
-
   pub length-rooms : (j : ℕ) (widths : List ℕ) → length (rooms_from joints columns j widths) ≡ length widths
   length-rooms j [] = refl
   length-rooms j (width ∷ widths) = ap suc (length-rooms (j + 1) widths)
@@ -156,14 +136,13 @@ module _ (before after : List ℕ) (room indent width : ℕ) (fits : indent + wi
     end-is : length (before ++ (fill indent ++ fill width)) ≡ start + width
     end-is = omega (arith, length-behind, begins)
 
-    pub taken-front : take start all ≡ before ++ fill indent
-    taken-front = ap (λ n. take n all) (sym start-is) ∙ (ap (take (length (before ++ fill indent))) front ∙ take-append_seam (before ++ fill indent) (fill width ++ (fill rest ++ after)))
-
     pub over : (text : List ℕ) → replace_range all start (start + width) text ≡ before ++ ((fill indent ++ (text ++ fill rest)) ++ after)
     over text =
+        let first : take start all ≡ before ++ fill indent =
+        ap (λ n. take n all) (sym start-is) ∙ (ap (take (length (before ++ fill indent))) front ∙ take-append_seam (before ++ fill indent) (fill width ++ (fill rest ++ after))) in
         let last : drop (start + width) all ≡ fill rest ++ after =
         ap (λ n. drop n all) (sym end-is) ∙ (ap (drop (length (before ++ (fill indent ++ fill width)))) behind ∙ drop-append_seam (before ++ (fill indent ++ fill width)) (fill rest ++ after)) in
-        ap (λ l. (l ++ text) ++ drop (start + width) all) taken-front
+        ap (λ l. (l ++ text) ++ drop (start + width) all) first
         ∙ (ap (λ l. ((before ++ fill indent) ++ text) ++ l) last
         ∙ regroup text)
       where
@@ -185,23 +164,6 @@ module _ (before after : List ℕ) (room indent width : ℕ) (fits : indent + wi
           split-at (start + width) (subst (IsCharBoundary all) end-is
           (IsCharBoundary-at_seam all (before ++ (fill indent ++ fill width)) (fill rest ++ after) behind
           (IsUtf8-append (fill rest) after (utf8-fill rest) utf8)))
-
--- ---- the last bytes of a line
-
-module _ (line front behind : List ℕ) (parts : line ≡ front ++ behind) (count : ℕ) (counted : count ≡ length behind) where
-  ends-at : length line - count ≡ length front
-  ends-at = omega (arith, ap (λ l. length l) parts, length-append front behind, counted)
-
-  count-inside : count ≤ length line
-  count-inside = omega (arith, ap (λ l. length l) parts, length-append front behind, counted)
-
-  last-bytes : drop (length line - count) line ≡ behind
-  last-bytes = ap (λ n. drop n line) ends-at ∙ (ap (drop (length front)) parts ∙ drop-append_seam front behind)
-
-  split-last : IsUtf8 behind → IsSplitPoint line (length line - count)
-  split-last utf8 =
-      let boundary : IsCharBoundary line (length line - count) = subst (IsCharBoundary line) (sym ends-at) (IsCharBoundary-at_seam line front behind parts utf8) in
-      (boundary.0, λ some. boundary.1)
 
 free_left-within : (alignment : AlignmentHorizontal) (free : ℕ) → free_left alignment free ≤ free
 free_left-within Left free = omega arith
@@ -257,9 +219,9 @@ module _ (rows : FlatRows) (widths before : List ℕ) (j : ℕ) (inside : j < le
   parts : all ≡ before ++ (fill room.width ++ after_room)
   parts = are ∙ (ap (λ l. before ++ l) (empty-more (joints_of rows) (length widths) j widths inside) ∙ ap (λ n. before ++ (fill n ++ after_room)) (sym room-wide))
 
-  module _ (width : ℕ) (fits : width ≤ room.width) (indent : ℕ) (is : indent ≡ free_left rows.alignment (room.width - width)) where
+  module _ (alignment : AlignmentHorizontal) (width : ℕ) (fits : width ≤ room.width) (indent : ℕ) (is : indent ≡ free_left alignment (room.width - width)) where
     both : indent + width ≤ room.width
-    both = omega (arith, fits, is, free_left-within rows.alignment (room.width - width))
+    both = omega (arith, fits, is, free_left-within alignment (room.width - width))
 
     begins : len - room.rest + indent ≡ length before + indent
     begins = omega (arith, begin-is)
@@ -277,110 +239,25 @@ module _ (rows : FlatRows) (widths before : List ℕ) (j : ℕ) (inside : j < le
         ≡ before ++ ((fill indent ++ (text ++ fill (room.width - indent - width))) ++ after_room)
     text-over text = over before after_room room.width indent width both parts (len - room.rest + indent) begins text
 
-  pub room-inside : room.width ≤ room.rest
-  room-inside = omega (arith, left, room-wide, length-more (joints_of rows) (length widths) j widths inside)
-
-  -- a text of any bytes, and the rest of the line anew behind it
-  module _ (measure indent : ℕ) (is : indent ≡ free_left rows.alignment (room.width - measure)) where
-    indent-inside : indent + 0 ≤ room.width
-    indent-inside = omega (arith, is, free_left-within rows.alignment (room.width - measure))
-
-    text-begins : len - room.rest + indent ≡ length before + indent
-    text-begins = omega (arith, begin-is)
-
-    pub front-inside : len - room.rest + indent ≤ len
-    front-inside = omega (arith, room-inside, rest-inside, indent-inside)
-
-    pub split-front : IsSplitPoint all (len - room.rest + indent)
-    split-front = split-start before after_room room.width indent 0 indent-inside parts (len - room.rest + indent) text-begins utf8-after
-
-    pub taken-indent : take (len - room.rest + indent) all ≡ before ++ fill indent
-    taken-indent = taken-front before after_room room.width indent 0 indent-inside parts (len - room.rest + indent) text-begins
-
-    module _ (line : List ℕ) (whole : line ≡ string_bytes rows.front ++ empty_from (joints_of rows) (length widths) 0 widths) (free : ℕ) (leaves : free ≡ room.width - indent - measure) where
-      abbrev line_end : List ℕ
-      line_end = fill free ++ after_room
-
-      free-inside : free ≤ room.width
-      free-inside = omega (arith, leaves)
-
-      length-end : room.rest - room.width + free ≡ length line_end
-      length-end = omega (
-        arith,
-        left,
-        room-wide,
-        length-more (joints_of rows) (length widths) j widths inside,
-        length-append (fill free) after_room,
-        length-fill free,
-        length-append (joint_behind (joints_of rows) j (length widths)) (tail_from (j + 1)),
-      )
-
-      tail-parts : tail_from j ≡ fill (room.width - free) ++ line_end
-      tail-parts =
-          let sum : room.width ≡ (room.width - free) + free = omega (arith, free-inside) in
-          let blank : fill room.width ≡ fill (room.width - free) ++ fill free =
-          ap fill sum
-          ∙ (spaces-filled ((room.width - free) + free)
-          ∙ (sym (replicate-append-replicate (room.width - free) free 0x20)
-          ∙ (ap (λ l. l ++ replicate free 0x20) (sym (spaces-filled (room.width - free)))
-          ∙ ap (λ l. fill (room.width - free) ++ l) (sym (spaces-filled free))))) in
-          empty-more (joints_of rows) (length widths) j widths inside
-          ∙ (ap (λ n. fill n ++ after_room) (sym room-wide)
-          ∙ (ap (λ l. l ++ after_room) blank
-          ∙ append_assoc (fill (room.width - free)) (fill free) after_room))
-
-      line-ends : (front : List ℕ) × (line ≡ front ++ line_end)
-      line-ends =
-          let ends = empty-ends (joints_of rows) (length widths) 0 j widths (omega (arith, inside)) in
-          let here : 0 + j ≡ j = omega arith in (
-            string_bytes rows.front ++ (ends.0 ++ fill (room.width - free)),
-            whole
-                ∙ (ap (λ l. string_bytes rows.front ++ l) (ends.1 ∙ ap (λ l. ends.0 ++ l) (ap (λ n. empty_from (joints_of rows) (length widths) n (drop j widths)) here ∙ tail-parts))
-                ∙ regroup (string_bytes rows.front) ends.0 (fill (room.width - free)) line_end),
-          )
-        where
-          regroup : (a b c d : List ℕ) → a ++ (b ++ (c ++ d)) ≡ (a ++ (b ++ c)) ++ d
-          regroup a b c d = simp append_assoc
-
-      pub end-inside : room.rest - room.width + free ≤ length line
-      end-inside = count-inside line line-ends.0 line_end line-ends.1 (room.rest - room.width + free) length-end
-
-      pub split-line : IsSplitPoint line (length line - (room.rest - room.width + free))
-      split-line = split-last line line-ends.0 line_end line-ends.1 (room.rest - room.width + free) length-end (IsUtf8-append (fill free) after_room (utf8-fill free) utf8-after)
-
-      pub text-put : (printed : List ℕ) → take (len - room.rest + indent) all ++ (printed ++ drop (length line - (room.rest - room.width + free)) line)
-          ≡ before ++ ((fill indent ++ (printed ++ fill free)) ++ after_room)
-      text-put printed =
-          ap (λ l. l ++ (printed ++ drop (length line - (room.rest - room.width + free)) line)) taken-indent
-          ∙ (ap (λ l. (before ++ fill indent) ++ (printed ++ l)) (last-bytes line line-ends.0 line_end line-ends.1 (room.rest - room.width + free) length-end)
-          ∙ regroup before (fill indent) printed (fill free) after_room)
-        where
-          regroup : (a b c d e : List ℕ) → (a ++ b) ++ (c ++ (d ++ e)) ≡ a ++ ((b ++ (c ++ d)) ++ e)
-          regroup a b c d e = simp append_assoc
-
 -- ---- what such a text shows
 
 pub none-of : {X : Type 0} (kept : Option X) → is_some kept ≡ false → kept ≡ None
 none-of None none = refl
 none-of (Some x) none = absurd (cc)
 
-module _ (rows : FlatRows) (spaced : rows.fill ≡ 0x20) (bare : rows.fill_color ≡ None) where
+module _ (rows : FlatRows) (alignment : AlignmentHorizontal) (spaced : rows.fill ≡ 0x20) (bare : rows.fill_color ≡ None) where
   abbrev indent_of : ℕ → ℕ → ℕ
-  indent_of room width = free_left rows.alignment (room - width)
+  indent_of room width = free_left alignment (room - width)
 
   same : (b : Bool) (n : ℕ) → cond b n n ≡ n
   same true n = refl
   same false n = refl
 
-  pub placed-colored : (column width : ℕ) (color : Option Color) (text : List ℕ) → placed (standing_of rows) column width width color text
-      ≡ fill (indent_of (room_in (joints_of rows) column) width) ++ (colored color text ++ fill (room_in (joints_of rows) column - indent_of (room_in (joints_of rows) column) width - width))
-  placed-colored column width color text =
-      let room = room_in (joints_of rows) column in
-      ap (λ n. colored (option_map color_of rows.fill_color) (fill_bytes rows.fill (free_left rows.alignment (room - n)))
-      ++ (colored color text ++ colored (option_map color_of rows.fill_color) (fill_bytes rows.fill (room - free_left rows.alignment (room - n) - width)))) (same rows.line_alignment width)
-      ∙ (ap (λ c. colored (option_map color_of c) (fill_bytes rows.fill (indent_of room width)) ++ (colored color text ++ colored (option_map color_of c) (fill_bytes rows.fill (room - indent_of room width - width)))) bare
-      ∙ ap (λ n. fill_bytes n (indent_of room width) ++ (colored color text ++ fill_bytes n (room - indent_of room width - width))) spaced)
-
-  pub placed-plain : (column width : ℕ) (text : List ℕ) → placed (standing_of rows) column width width None text
+  pub placed-plain : (column width : ℕ) (text : List ℕ) → placed (standing_of rows alignment) column width width None text
       ≡ fill (indent_of (room_in (joints_of rows) column) width) ++ (text ++ fill (room_in (joints_of rows) column - indent_of (room_in (joints_of rows) column) width - width))
-  placed-plain column width text = placed-colored column width None text
+  placed-plain column width text =
+      let room = room_in (joints_of rows) column in
+      ap (λ n. colored (option_map color_of rows.fill_color) (fill_bytes rows.fill (free_left alignment (room - n)))
+      ++ (text ++ colored (option_map color_of rows.fill_color) (fill_bytes rows.fill (room - free_left alignment (room - n) - width)))) (same rows.line_alignment width)
+      ∙ (ap (λ c. colored (option_map color_of c) (fill_bytes rows.fill (indent_of room width)) ++ (text ++ colored (option_map color_of c) (fill_bytes rows.fill (room - indent_of room width - width)))) bare
+      ∙ ap (λ n. fill_bytes n (indent_of room width) ++ (text ++ fill_bytes n (room - indent_of room width - width))) spaced)

@@ -1,4 +1,5 @@
--- Rows of one line, where the cells of a table have the same settings: what stands between their texts is the same in each.
+-- Rows of one line, where the cells of a table have the same settings but for their alignment: what stands between their
+-- texts is the same in each.
 use Rattle.std.specs.Prelude.{◌≡◌, ⊤, ℕ, ◌+◌, ◌-◌, ◌==◌, Bool, false, List, [], ◌∷◌, ◌++◌, Option, MatchOption, None, drop, length, string_bytes, if◌then◌else◌}
 use Rattle.std.specs.Option.{option_map}
 use Rattle.grid_config_values.specs.declared.alignment.AlignmentHorizontal.{AlignmentHorizontal}
@@ -6,7 +7,7 @@ use Rattle.grid_config_values.specs.declared.position.Position.{Position}
 use Rattle.grid_config_values.specs.Settings.{value_at}
 use Rattle.grid_config.specs.Colors.{Color, color_of}
 use Rattle.grid_config.specs.Looks.{Look, look_of}
-use Rattle.grid_config.specs.Settings.{AreUniform, Settings}
+use Rattle.grid_config.specs.Settings.{AreUniformButAlignment, Settings}
 use Rattle.papergrid_picture.specs.Blocks.{free_left}
 use Rattle.papergrid_picture.specs.Picture.{at}
 use Rattle.papergrid_cells.specs.Boundaries.{upright_bytes}
@@ -20,9 +21,10 @@ use Rattle.papergrid_cells.specs.declared.spaced.Spaced.{Spaced}
 abbrev pub first_cell : Position
 first_cell = at 0 0
 
--- all cells have the same settings, none spans several rows or columns, is padded above or below, or is trimmed
+-- all cells have the same settings but for how texts stand from left to right, none spans several rows or columns, is
+-- padded above or below, or is trimmed
 pub record AreFlat (settings : Settings) : Type 0 where
-  pub uniform : AreUniform settings
+  pub uniform : AreUniformButAlignment settings
   pub single : settings.spans ≡ []
   pub above : (value_at settings.padding first_cell).top.size ≡ 0
   pub below : (value_at settings.padding first_cell).bottom.size ≡ 0
@@ -61,13 +63,14 @@ placed stands width measure widest color line =
 abbrev pub spaced_text : Spaced → List ℕ
 spaced_text spaced = drop spaced.spaces (string_bytes spaced.text)
 
-abbrev pub standing_of : FlatRows → Standing
-standing_of rows = record {
+-- how texts of this alignment stand in such rows
+abbrev pub standing_of : FlatRows → AlignmentHorizontal → Standing
+standing_of rows alignment = record {
   left = rows.left;
   right = rows.right;
   fill = rows.fill;
   fill_color = option_map color_of rows.fill_color;
-  alignment = rows.alignment;
+  alignment = alignment;
   line_alignment = rows.line_alignment;
 }
 
@@ -85,12 +88,14 @@ module _ (look : Look) where
   abbrev pub right_padding : Position → List ℕ
   right_padding cell = colored (look.padding_color cell).right (fill_bytes (look.padding cell).right.fill (look.padding cell).right.size)
 
-  -- what stands before the first line, between two, and after the last, and how lines stand in their columns
+  -- what stands before the first line, between two, and after the last, how lines stand in their columns, and the alignment
+  -- of all cells where it is told
   pub record AreFlatRows (columns : ℕ) (rows : FlatRows) : Type 0 where
     pub front : string_bytes rows.front ≡ left_margin ++ (upright_bytes look 0 columns ++ left_padding first_cell)
     pub between : spaced_text rows.between ≡ right_padding first_cell ++ (upright_bytes look 1 columns ++ left_padding first_cell)
     pub back : spaced_text rows.back ≡ right_padding first_cell ++ (upright_bytes look columns columns ++ right_margin)
-    pub standing : standing_of rows ≡ standing look first_cell
+    pub standing : standing_of rows (look.alignment_horizontal first_cell) ≡ standing look first_cell
+    pub alignment : MatchOption rows.alignment ⊤ (λ one. (cell : Position) → look.alignment_horizontal cell ≡ one)
 
   -- what stands after column boundary j of `columns`: the padding of the next cell, and after the last one the margin
   abbrev pub behind_boundary : ℕ → ℕ → List ℕ

@@ -1,9 +1,10 @@
-//! Rows of one line, where all cells of a table have the same settings: what stands between their texts
-//! is made once.
-ghost use Rattle.std.specs.Prelude.{◌≡◌, ⊤, ◌<◌, ◌++◌, ℕ, IfOk, IsSome, IsTrue, MatchOption, None, OnOk, length, string_bytes};
+//! Rows of one line, where all cells of a table have the same settings but for their alignment: what stands
+//! between their texts is made once.
+ghost use Rattle.std.specs.Prelude.{◌≡◌, ⊤, ◌<◌, ◌++◌, ℕ, IfOk, IfSome, IsSome, IsTrue, MatchOption, None, OnOk, length, string_bytes};
 ghost use Rattle.std.specs.Option.{option_map};
 ghost use Rattle.grid_config.specs.Looks.{Look, look_of};
 ghost use Rattle.grid_config.specs.Colors.{color_of};
+ghost use Rattle.grid_config_values.specs.declared.position.Position.{Position as Cell};
 ghost use Rattle.papergrid_picture.specs.Blocks.{free_left};
 ghost use Rattle.papergrid_cells.specs.Boundaries.{upright_bytes};
 ghost use Rattle.papergrid_cells.specs.Flat.{AreFlat, AreFlatRows, HasEmptyRow, IsEmptyRow, behind_text, empty_from, joints_of, placed, room_in, rooms_from, spaced_text, standing_of};
@@ -22,7 +23,8 @@ use std::alloc::{AllocError, Global};
 const FIRST: Position = Position { row: 0, col: 0 };
 
 /// What rows of one line have in common: what stands before the first text, between two, and after the
-/// last, how texts stand in their columns, and where it was made the line of a row of empty cells.
+/// last, how texts stand in their columns, the alignment of all cells where they have but one, and where it
+/// was made the line of a row of empty cells.
 #[derive(Drop)]
 pub struct FlatRows<'a> {
     pub front: String,
@@ -32,19 +34,19 @@ pub struct FlatRows<'a> {
     pub right: usize,
     pub fill: char,
     pub fill_color: Option<ANSIStr<'a>>,
-    pub alignment: AlignmentHorizontal,
+    pub alignment: Option<AlignmentHorizontal>,
     pub line_alignment: bool,
     pub empty: Option<EmptyRow>,
 }
 
-/// Whether all cells are known to have the same settings, and none spans several rows or columns, is
-/// padded above or below, or is trimmed.
+/// Whether all cells are known to have the same settings but for how their texts stand from left to right,
+/// and none spans several rows or columns, is padded above or below, or is trimmed.
 pub fn are_flat(cfg: &SpannedConfig) -> bool
     ensures { IsTrue result → AreFlat cfg.now }
 {
     let padding = cfg.get_padding(FIRST);
     cfg.has_no_spans()
-        && cfg.is_uniform()
+        && cfg.is_uniform_but_alignment()
         && padding.top.size == 0
         && padding.bottom.size == 0
         && !cfg.get_trim_horizontal(FIRST)
@@ -79,7 +81,7 @@ impl<'a> FlatRows<'a> {
             right: padding.right.size,
             fill: cfg.get_justification(FIRST),
             fill_color: borrowed(cfg.get_justification_color(FIRST)),
-            alignment: cfg.get_alignment_horizontal(FIRST),
+            alignment: one_alignment(cfg),
             line_alignment: cfg.get_line_alignment(FIRST),
             empty: None,
         })
@@ -159,12 +161,24 @@ impl<'a> FlatRows<'a> {
         &self.empty
     }
 
-    /// How many of the columns that a text leaves free stand before it.
+    /// How the text of this cell stands from left to right, in the table of these settings, for which the
+    /// rows were made.
     #[inline(always)]
-    pub fn indent(&self, free: usize) -> usize
-        ensures { result ≡ free_left self.now.alignment free }
+    pub fn alignment(&self, cfg: &SpannedConfig, pos: Position) -> AlignmentHorizontal
+        ensures { (columns : ℕ) → AreFlatRows (look_of cfg.now) columns self.now → result ≡ (look_of cfg.now).alignment_horizontal pos }
     {
-        free_left(self.alignment, free)
+        match self.alignment {
+            Some(alignment) => alignment,
+            None => cfg.get_alignment_horizontal(pos),
+        }
+    }
+
+    /// How many of the columns that the text of this cell leaves free stand before it.
+    #[inline(always)]
+    pub fn indent(&self, cfg: &SpannedConfig, pos: Position, free: usize) -> usize
+        ensures { (columns : ℕ) → AreFlatRows (look_of cfg.now) columns self.now → result ≡ free_left ((look_of cfg.now).alignment_horizontal pos) free }
+    {
+        free_left(self.alignment(cfg, pos), free)
     }
 
     /// What stands before the first text of a row.
@@ -187,9 +201,9 @@ impl<'a> FlatRows<'a> {
         }
     }
 
-    /// Appends a line that measures `measure` to column `j` of `columns`, which is `width` wide, and what
-    /// stands after it; `widest` is what the widest line of its cell measures. Fails only where allocation
-    /// fails.
+    /// Appends a line that measures `measure` to column `j` of `columns`, which is `width` wide, by the
+    /// alignment of its cell, and what stands after it; `widest` is what the widest line of that cell
+    /// measures. Fails only where allocation fails.
     #[inline(always)]
     pub fn push_line(
         &self,
@@ -199,17 +213,18 @@ impl<'a> FlatRows<'a> {
         width: usize,
         measure: usize,
         widest: usize,
+        alignment: AlignmentHorizontal,
         color: Option<ANSIStr<'_>>,
         line: &str,
     ) -> Result<(), AllocError>
         requires { j < columns }
         ensures { OnOk result (string_bytes out.new ≡ string_bytes out.old
-            ++ (placed (standing_of self.now) width measure widest (option_map color_of color.entry) line.now
+            ++ (placed (standing_of self.now alignment) width measure widest (option_map color_of color.entry) line.now
             ++ behind_text self.now j columns)) }
     {
         let room = self.room(width);
         let aligned = if self.line_alignment { measure } else { widest };
-        let indent = free_left(self.alignment, room.saturating_sub(aligned));
+        let indent = free_left(alignment, room.saturating_sub(aligned));
         let rest = room.saturating_sub(indent).saturating_sub(measure);
         push_fill(out, self.fill, indent, self.fill_color)?;
         push_text(out, line, color)?;
@@ -226,6 +241,17 @@ impl<'a> FlatRows<'a> {
         }
         push_fill(out, self.fill, rest, self.fill_color)?;
         behind.push_behind(out, 0)
+    }
+}
+
+// The alignment of all cells, where they are known to have but one.
+fn one_alignment(cfg: &SpannedConfig) -> Option<AlignmentHorizontal>
+    ensures { IfSome result (λ one. (cell : Cell) → (look_of cfg.now).alignment_horizontal cell ≡ one) }
+{
+    if cfg.is_uniform() {
+        Some(cfg.get_alignment_horizontal(FIRST))
+    } else {
+        None
     }
 }
 

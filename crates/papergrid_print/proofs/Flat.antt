@@ -1,4 +1,4 @@
--- Rows of one line show what the picture shows, where all cells of a table have the same settings.
+-- Rows of one line show what the picture shows, where all cells of a table have the same settings but for their alignment.
 use Rattle.std.proofs.Common.{◌≡◌, ℕ, zero, suc, ◌+◌, ◌-◌, ◌<◌, ◌≤◌, true, false, cond, List, [], ◌∷◌, ◌++◌, Option, length, map, max, take, get_or, refl, ap, sym, ◌∙◌, arith, append_assoc, append-nil, string_bytes}
 use Rattle.std.specs.Prelude.{◌==◌, nat_lt, slice_index, unwrap_or}
 use Rattle.std.proofs.lemmas.Bool.Decides.{nat_tests}
@@ -31,7 +31,7 @@ use Rattle.papergrid_picture.specs.Reading.{line_items, painted, part_items}
 use Rattle.papergrid_picture.proofs.Frames.{boundary-behind, boundary-next}
 use Rattle.papergrid_cells.specs.BlockLines.{kind_at, line_kind, line_parts}
 use Rattle.papergrid_cells.specs.Boundaries.{upright_bytes}
-use Rattle.papergrid_cells.specs.Flat.{AreFlat, AreFlatRows, behind_boundary, first_cell, left_margin, left_padding, placed, right_margin, right_padding, spaced_text, standing, standing_of}
+use Rattle.papergrid_cells.specs.Flat.{AreFlat, AreFlatRows, Standing, behind_boundary, first_cell, left_margin, left_padding, placed, right_margin, right_padding, spaced_text, standing, standing_of}
 use Rattle.papergrid_print.specs.FlatSheets.{first_placed, row_front}
 use Rattle.papergrid_cells.specs.Painting.{colored, fill_bytes}
 use Rattle.papergrid_print.specs.Sheets.{GoesOn, Sheet, bytes_of, grid_of, line_at, plain_bytes, row_tracks}
@@ -224,15 +224,26 @@ module _ (sheet : Sheet) (flat : AreFlat sheet.settings) where
   abbrev text_of : Position → List ℕ
   text_of pos = text_at sheet.rows pos
 
-  standing-same : (pos : Position) → standing (look sheet) pos ≡ standing (look sheet) first_cell
-  standing-same pos = λ t. record {
-    left = (flat.uniform.padding pos first_cell t).left.size;
-    right = (flat.uniform.padding pos first_cell t).right.size;
-    fill = flat.uniform.justification pos first_cell t;
-    fill_color = flat.uniform.justification_color pos first_cell t;
-    alignment = flat.uniform.alignment_horizontal pos first_cell t;
-    line_alignment = flat.uniform.line_alignment pos first_cell t;
-  }
+  -- how a cell's text stands, by what rows of one line have in common and the cell's alignment
+  pub standing-own : (rows : FlatRows) (pos : Position) → AreFlatRows (look sheet) (length sheet.widths) rows
+      → standing_of rows ((look sheet).alignment_horizontal pos) ≡ standing (look sheet) pos
+  standing-own rows pos are =
+      ap (λ (s : Standing). record {
+        left = s.left;
+        right = s.right;
+        fill = s.fill;
+        fill_color = s.fill_color;
+        alignment = (look sheet).alignment_horizontal pos;
+        line_alignment = s.line_alignment;
+      }) are.standing
+      ∙ (λ t. record {
+        left = (flat.uniform.padding first_cell pos t).left.size;
+        right = (flat.uniform.padding first_cell pos t).right.size;
+        fill = flat.uniform.justification first_cell pos t;
+        fill_color = flat.uniform.justification_color first_cell pos t;
+        alignment = (look sheet).alignment_horizontal pos;
+        line_alignment = flat.uniform.line_alignment first_cell pos t;
+      })
 
   left-same : (pos : Position) → left_padding (look sheet) pos ≡ left_padding (look sheet) first_cell
   left-same pos = λ t. colored (flat.uniform.padding_color pos first_cell t).left (fill_bytes (flat.uniform.padding pos first_cell t).left.fill (flat.uniform.padding pos first_cell t).left.size)
@@ -321,7 +332,7 @@ module _ (sheet : Sheet) (flat : AreFlat sheet.settings) where
 
   pub flat-part : (i j : ℕ) → i < length sheet.heights → j < length sheet.widths → get_or sheet.heights i 0 ≡ 1
       → plain_bytes sheet (parts_of (row_part (grid_of sheet) i (track_at (row_tracks sheet) i) j))
-      ≡ upright_bytes (look sheet) j (length sheet.widths) ++ (left_padding (look sheet) first_cell ++ (first_placed sheet (standing (look sheet) first_cell) (at i j) ++ right_padding (look sheet) first_cell))
+      ≡ upright_bytes (look sheet) j (length sheet.widths) ++ (left_padding (look sheet) first_cell ++ (first_placed sheet (standing (look sheet) (at i j)) (at i j) ++ right_padding (look sheet) first_cell))
   flat-part i j row column one =
       let grid = grid_of sheet in
       let pos = at i j in
@@ -331,12 +342,11 @@ module _ (sheet : Sheet) (flat : AreFlat sheet.settings) where
       let same : j ≡ j = refl in
       let here : (j == j) ≡ true = grind (arith, nat_tests, same) in
       let up_bytes = upright_bytes (look sheet) j (length sheet.widths) in
-      let inner : plain_bytes sheet (parts_of down) ≡ left_padding (look sheet) first_cell ++ (first_placed sheet (standing (look sheet) first_cell) pos ++ right_padding (look sheet) first_cell) =
+      let inner : plain_bytes sheet (parts_of down) ≡ left_padding (look sheet) first_cell ++ (first_placed sheet (standing (look sheet) pos) pos ++ right_padding (look sheet) first_cell) =
       ap (plain_bytes sheet) (block-first i j row column one)
       ∙ (line-bytes pos (get_or sheet.widths j 0)
       ∙ (ap (λ n. n ++ (first_placed sheet (standing (look sheet) pos) pos ++ right_padding (look sheet) pos)) (left-same pos)
-      ∙ (ap (λ s. left_padding (look sheet) first_cell ++ (first_placed sheet s pos ++ right_padding (look sheet) pos)) (standing-same pos)
-      ∙ ap (λ n. left_padding (look sheet) first_cell ++ (first_placed sheet (standing (look sheet) first_cell) pos ++ n)) (right-same pos)))) in
+      ∙ ap (λ n. left_padding (look sheet) first_cell ++ (first_placed sheet (standing (look sheet) pos) pos ++ n)) (right-same pos))) in
       ap (λ (cell : Position). plain_bytes sheet (parts_of (cond (cell.col == j) (up ++ block_pieces grid cell y) []))) (seen-own sheet flat.single i j)
       ∙ (ap (λ b. plain_bytes sheet (parts_of (cond b (up ++ down) []))) here
       ∙ (ap (plain_bytes sheet) (parts_of-append up down)
@@ -346,7 +356,7 @@ module _ (sheet : Sheet) (flat : AreFlat sheet.settings) where
 
   -- one column more
   pub flat-more : (i j : ℕ) (rows : FlatRows) (begin : List ℕ) {out one new : List ℕ} → i < length sheet.heights → j < length sheet.widths → get_or sheet.heights i 0 ≡ 1 → AreFlatRows (look sheet) (length sheet.widths) rows
-      → out ≡ begin ++ flat_start sheet i j → one ≡ out ++ first_placed sheet (standing_of rows) (at i j)
+      → out ≡ begin ++ flat_start sheet i j → one ≡ out ++ first_placed sheet (standing_of rows ((look sheet).alignment_horizontal (at i j))) (at i j)
       → new ≡ one ++ cond (j + 1 == length sheet.widths) (spaced_text rows.back) (spaced_text rows.between)
       → new ≡ begin ++ flat_start sheet i (j + 1)
   flat-more i j rows begin {out} {one} {new} row column high are before printed behind =
@@ -356,7 +366,7 @@ module _ (sheet : Sheet) (flat : AreFlat sheet.settings) where
       let S = row_start sheet i y j in
       let U = upright_bytes (look sheet) j C in
       let L = left_padding (look sheet) first_cell in
-      let P = first_placed sheet (standing (look sheet) first_cell) (at i j) in
+      let P = first_placed sheet (standing (look sheet) (at i j)) (at i j) in
       let R = right_padding (look sheet) first_cell in
       let V = upright_bytes (look sheet) (j + 1) C in
       let B = behind_boundary (look sheet) (j + 1) C in
@@ -364,7 +374,7 @@ module _ (sheet : Sheet) (flat : AreFlat sheet.settings) where
       let start : flat_start sheet i j ≡ M ++ (S ++ (U ++ L)) = ap (λ b. M ++ (S ++ (U ++ cond b (right_margin (look sheet)) L))) here in
       let next : row_start sheet i y (j + 1) ≡ S ++ (U ++ (L ++ (P ++ R))) = sym (row_start-more sheet i y j) ∙ ap (λ l. S ++ l) (flat-part i j row column high) in
       behind
-      ∙ (ap (λ l. l ++ cond (j + 1 == C) (spaced_text rows.back) (spaced_text rows.between)) (printed ∙ (ap (λ s. out ++ first_placed sheet s (at i j)) are.standing ∙ ap (λ l. l ++ P) (before ∙ ap (λ l. begin ++ l) start)))
+      ∙ (ap (λ l. l ++ cond (j + 1 == C) (spaced_text rows.back) (spaced_text rows.between)) (printed ∙ (ap (λ s. out ++ first_placed sheet s (at i j)) (standing-own rows (at i j) are) ∙ ap (λ l. l ++ P) (before ∙ ap (λ l. begin ++ l) start)))
       ∙ (ap (λ l. ((begin ++ (M ++ (S ++ (U ++ L)))) ++ P) ++ l) (flat-behind sheet j rows column are)
       ∙ (regrouped begin M S U L P R (V ++ B)
       ∙ ap (λ l. begin ++ (M ++ (l ++ (V ++ B)))) (sym next))))

@@ -1,4 +1,5 @@
--- Texts in their columns show what the picture shows, where all cells of a table have the same settings.
+-- Texts in their columns show what the picture shows, where all cells of a table have the same settings but for their
+-- alignment.
 use Rattle.std.proofs.Common.{◌≡◌, ℕ, ◌+◌, ◌<◌, List, ◌++◌, Option, drop, get_or, length, refl, ap, subst, ◌∙◌, append_assoc}
 use Rattle.std.specs.Prelude.{slice_index}
 use Rattle.grid_config.specs.Colors.{Color}
@@ -36,17 +37,20 @@ module _ (sheet : Sheet) (flat : AreFlat sheet.settings) (pos : Position) (stand
 
 -- one column more: a text is written over its room
 module _ (sheet : Sheet) (flat : AreFlat sheet.settings) (rows : FlatRows) (are : AreFlatRows (look_of sheet.settings) (length sheet.widths) rows) (i j : ℕ) (begin : List ℕ) where
+  abbrev stands_own : Standing
+  stands_own = standing_of rows ((look_of sheet.settings).alignment_horizontal (at i j))
+
   abbrev behind_front : ℕ → List ℕ
   behind_front k = empty_from (joints_of rows) (length sheet.widths) k (drop k sheet.widths)
 
   pub written-more : {new : List ℕ} (shown : List ℕ) → i < length sheet.heights → j < length sheet.widths → get_or sheet.heights i 0 ≡ 1
-      → shown ≡ first_placed sheet (standing_of rows) (at i j)
+      → shown ≡ first_placed sheet stands_own (at i j)
       → new ≡ (begin ++ row_front sheet i j) ++ (shown ++ (joint_behind (joints_of rows) j (length sheet.widths) ++ behind_front (j + 1)))
       → new ≡ (begin ++ row_front sheet i (j + 1)) ++ behind_front (j + 1)
   written-more {new} shown row column high is made =
       let front = begin ++ row_front sheet i j in
       let joint = joint_behind (joints_of rows) j (length sheet.widths) in
-      let placed_text = first_placed sheet (standing_of rows) (at i j) in
+      let placed_text = first_placed sheet stands_own (at i j) in
       made
       ∙ (ap (λ l. front ++ (l ++ (joint ++ behind_front (j + 1)))) is
       ∙ (regroup front placed_text joint (behind_front (j + 1))

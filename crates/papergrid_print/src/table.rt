@@ -311,7 +311,7 @@ impl<'a, R: PeekableRecords, C: Colors> Table<'a, R, C> {
         Ok(())
     }
 
-    // What rows of one line have in common, where all cells have the same settings.
+    // What rows of one line have in common, where all cells have the same settings but for their alignment.
     fn flat_rows(&self, alloc: Global) -> Result<Option<FlatRows<'a>>, AllocError>
         ensures made { IfOk result (λ made. AreMadeFor self.now.cfg.now self.now.widths.now made) }
         ensures empty { IfOk result (λ made. MatchOption made ⊤ (λ rows. MANY_ROWS ≤ length self.now.heights.now → rows.fill ≡ 0x20 → rows.fill_color ≡ None → IsSome rows.empty)) }
@@ -335,21 +335,27 @@ impl<'a, R: PeekableRecords, C: Colors> Table<'a, R, C> {
         pos: Position,
     ) -> Result<(), AllocError>
         requires flat { AreFlat self.now.cfg.now }
+        requires made { AreFlatRows (look_of self.now.cfg.now) (length self.now.widths.now) flat.now }
         requires column { pos.col < length self.now.widths.now }
         ensures { OnOk result (string_bytes out.new ≡ string_bytes out.old
-            ++ (first_placed (table_sheet R.rows C.color self.now) (standing_of flat.now) pos
+            ++ (first_placed (table_sheet R.rows C.color self.now) (standing_of flat.now ((look_of self.now.cfg.now).alignment_horizontal pos)) pos
             ++ behind_text flat.now pos.col (length self.now.widths.now))) }
     {
         let (records, j, columns) = (self.records, pos.col, self.widths.len());
         let width = self.widths[j];
+        let alignment = flat.alignment(self.cfg, pos);
         let color = self.colors.get_color(pos);
         let widest = records.get_width(pos);
         if let Some(text) = plain_line(records, pos) {
-            return flat.push_line(out, j, columns, width, widest, widest, color, text);
+            return flat.push_line(
+                out, j, columns, width, widest, widest, alignment, color, text,
+            );
         }
         let measure = first_width(records, pos, widest);
         let line = records.get_line(alloc, pos, 0)?;
-        flat.push_line(out, j, columns, width, measure, widest, color, &line)
+        flat.push_line(
+            out, j, columns, width, measure, widest, alignment, color, &line,
+        )
     }
 
     // Appends the line of row `i`, which has but one.

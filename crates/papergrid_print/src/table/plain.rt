@@ -15,10 +15,6 @@ use grid_records_traits::{PeekableRecords, PlainRow};
 use papergrid_cells::{EmptyRow, FlatRows, write_over};
 use std::alloc::AllocError;
 
-// How often the rest of the line of a row of empty cells is appended anew in one row: a bound, so that a row
-// costs no more than so many times its line, however many columns it has.
-const MOST_RESTS: usize = 16;
-
 impl<'a, R: PeekableRecords, C: Colors> Table<'a, R, C> {
     /// Appends the line of row `i`, which has but one, by these cells of it. Each is one line that is its
     /// whole text: it has no ESC, or opens and ends its own styles.
@@ -41,10 +37,12 @@ impl<'a, R: PeekableRecords, C: Colors> Table<'a, R, C> {
         let columns = self.widths.len();
         let first = self.push_front(out, flat, cells, i)?;
         for j in first..columns {
-            let cell = cells.cell(j);
+            let (cell, pos) = (cells.cell(j), Position::new(i, j));
             let (width, measure) = (self.widths[j], cell.width);
-            let color = self.colors.get_color(Position::new(i, j));
-            flat.push_line(out, j, columns, width, measure, measure, color, cell.text)?;
+            let (alignment, color) = (flat.alignment(self.cfg, pos), self.colors.get_color(pos));
+            flat.push_line(
+                out, j, columns, width, measure, measure, alignment, color, cell.text,
+            )?;
         }
         Ok(())
     }
@@ -78,9 +76,8 @@ impl<'a, R: PeekableRecords, C: Colors> Table<'a, R, C> {
         }
     }
 
-    // The same by the line of a row of empty cells: each text is written over its room there. Behind one that is
-    // in a colour, takes other than its bytes, or has no room, the rest of that line is appended anew, as
-    // often as `MOST_RESTS` says.
+    // The same by the line of a row of empty cells: each text is written over its room there, up to the
+    // first that is in a colour, takes other than its bytes, or has no room.
     #[inline(always)]
     fn push_over(
         &self,
@@ -102,7 +99,6 @@ impl<'a, R: PeekableRecords, C: Colors> Table<'a, R, C> {
     {
         out.push_str(&empty.line)?;
         let columns = self.widths.len();
-        let mut rests = MOST_RESTS;
         for j in 0..columns {
             let (cell, room) = (cells.cell(j), empty.rooms[j]);
             let pos = Position::new(i, j);
@@ -110,18 +106,10 @@ impl<'a, R: PeekableRecords, C: Colors> Table<'a, R, C> {
             let start = out.len() - room.rest;
             let width = cell.text.len();
             if color.is_some() || cell.width != width || room.width < width {
-                if rests == 0 {
-                    out.truncate(start);
-                    return Ok(j);
-                }
-                rests -= 1;
-                let front = flat.indent(room.width.saturating_sub(cell.width));
-                let free = room.width.saturating_sub(front).saturating_sub(cell.width);
-                out.truncate(start + front);
-                empty.push_before_end(out, cell.text, color, room.rest - room.width + free)?;
-                continue;
+                out.truncate(start);
+                return Ok(j);
             }
-            let indent = flat.indent(room.width - width);
+            let indent = flat.indent(self.cfg, pos, room.width - width);
             write_over(out, start + indent, cell.text)?;
         }
         Ok(columns)

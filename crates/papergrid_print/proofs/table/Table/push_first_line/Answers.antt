@@ -3,6 +3,7 @@ use Rattle.std.proofs.lemmas.Result.{on_ok_weaker}
 use Rattle.std.specs.Option.{option_map}
 use Rattle.std.specs.Cow.{cow_str_bytes}
 use Rattle.grid_config.specs.Colors.{color_of}
+use Rattle.grid_config.specs.Looks.{look_of}
 use Rattle.grid_records_traits.specs.Cells.{HasLineCount, HasWidth}
 use Rattle.grid_records_traits.specs.Rows.{text_at}
 use Rattle.papergrid_picture.specs.Blocks.{greatest}
@@ -19,16 +20,18 @@ returns g c =
     let sheet = (table_sheet g.R.RecordTexts.rows g.C.Colors.color c.args.self.now) in
     let pos = c.args.pos in
     let out = string_bytes c.args.out.now in
-    let stands = standing_of c.args.flat.now in
+    let known = c.alignment-alignment.ensures (length c.args.self.now.widths.now) c.requires.made in
+    let stands = standing_of c.args.flat.now ((look_of c.args.self.now.cfg.now).alignment_horizontal pos) in
     let width = get_or c.args.self.now.widths.now pos.col 0 in
     let behind = behind_text c.args.flat.now pos.col (length c.args.self.now.widths.now) in
     let measures = (grid_of sheet).measures pos in
     on_ok_weaker c.push_line-2.result
     (λ last. last
+    ∙ (ap (λ a. out ++ (placed (standing_of c.args.flat.now a) width c.first_width-measure.result c.get_width-widest.result (option_map color_of c.get_color-color.result) c.deref.result.now ++ behind)) known
     ∙ (ap (λ text. out ++ (placed stands width c.first_width-measure.result c.get_width-widest.result (option_map color_of c.get_color-color.result) text ++ behind)) (c.deref.ensures.value ∙ line-is sheet c.requires.flat pos (cow_str_bytes c.in_ok-line.line) c.in_ok-line.ensures.line)
     ∙ (ap (λ n. out ++ (placed stands width n c.get_width-widest.result (option_map color_of c.get_color-color.result) ((bytes_of sheet).line pos 0) ++ behind)) (measured sheet c.requires.flat pos c.first_width-measure.result c.first_width-measure.ensures)
     ∙ (ap (λ n. out ++ (placed stands width (slice_index measures 0) n (option_map color_of c.get_color-color.result) ((bytes_of sheet).line pos 0) ++ behind)) (widest-is sheet c.requires.flat pos c.get_width-widest.result c.get_width-widest.ensures)
-    ∙ ap (λ color. out ++ (placed stands width (slice_index measures 0) (greatest measures) color ((bytes_of sheet).line pos 0) ++ behind)) c.get_color-color.ensures))))
+    ∙ ap (λ color. out ++ (placed stands width (slice_index measures 0) (greatest measures) color ((bytes_of sheet).line pos 0) ++ behind)) c.get_color-color.ensures)))))
     c.push_line-2.ensures
 
 pub returns-in-Some : goal.returns-in-Some
@@ -38,11 +41,16 @@ returns-in-Some g c =
     let out = string_bytes c.args.out.now in
     let behind = behind_text c.args.flat.now pos.col (length c.args.self.now.widths.now) in
     let widest = c.get_width-widest.result in
+    let color = option_map color_of c.get_color-color.result in
+    let known = c.alignment-alignment.ensures (length c.args.self.now.widths.now) c.requires.made in
+    let stands = standing_of c.args.flat.now ((look_of c.args.self.now.cfg.now).alignment_horizontal pos) in
+    let width = get_or c.args.self.now.widths.now pos.col 0 in
     let own = text_at sheet.rows pos in
     let same = c.in-Some.ensures.text in
     let counted : HasLineCount c.in-Some.text.now 1 = subst (λ (t : List ℕ). HasLineCount t 1) (sym same) c.in-Some.ensures.one in
     let has : HasWidth c.in-Some.text.now widest = subst (λ (t : List ℕ). HasWidth t widest) (sym same) c.get_width-widest.ensures in
     on_ok_weaker c.push_line.result
     (λ last. last
-    ∙ ap (λ shown. out ++ (shown ++ behind)) (plain-placed sheet c.requires.flat pos (standing_of c.args.flat.now) c.in-Some.text.now widest (option_map color_of c.get_color-color.result) same counted has (plain-line c.in-Some.text.now c.in-Some.ensures.plain counted) c.get_color-color.ensures))
+    ∙ (ap (λ a. out ++ (placed (standing_of c.args.flat.now a) width widest widest color c.in-Some.text.now ++ behind)) known
+    ∙ ap (λ shown. out ++ (shown ++ behind)) (plain-placed sheet c.requires.flat pos stands c.in-Some.text.now widest color same counted has (plain-line c.in-Some.text.now c.in-Some.ensures.plain counted) c.get_color-color.ensures)))
     c.push_line.ensures

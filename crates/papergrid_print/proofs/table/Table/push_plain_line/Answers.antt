@@ -1,9 +1,10 @@
-use Rattle.std.proofs.Common.{◌≡◌, ◌++◌, [], length, string_bytes, ap, refl, sym, ◌∙◌, arith, append_assoc}
+use Rattle.std.proofs.Common.{◌≡◌, ◌++◌, [], get_or, length, string_bytes, ap, refl, sym, ◌∙◌, arith, append_assoc}
 use Rattle.std.specs.Prelude.{slice_index_or}
 use Rattle.std.specs.Option.{option_map}
 use Rattle.grid_config.specs.Colors.{color_of}
+use Rattle.grid_config.specs.Looks.{look_of}
 use Rattle.grid_records_traits.specs.Rows.{text_at}
-use Rattle.papergrid_cells.specs.Flat.{behind_text, standing_of}
+use Rattle.papergrid_cells.specs.Flat.{behind_text, placed, standing_of}
 use Rattle.papergrid_print.specs.FlatSheets.{first_placed}
 use Rattle.papergrid_picture.specs.Picture.{at}
 use Rattle.papergrid_print.specs.Sheets.{table_sheet}
@@ -20,16 +21,20 @@ loop-j-preserved g c =
     let i = c.args.i in
     let j = c.loop-j.j in
     let out = string_bytes c.loop-j.out in
-    let stands = standing_of c.args.flat.now in
+    let stands = standing_of c.args.flat.now ((look_of c.args.self.now.cfg.now).alignment_horizontal (at i j)) in
+    let known = c.alignment-alignment.ensures (length c.args.self.now.widths.now) c.requires.made ∙ ap (look_of c.args.self.now.cfg.now).alignment_horizontal c.new-pos.ensures in
+    let width = get_or c.args.self.now.widths.now j 0 in
+    let color = option_map color_of c.get_color-color.result in
     let behind = behind_text c.args.flat.now j (length c.args.self.now.widths.now) in
     let cell = c.cell-cell.result in
     let own : cell.text.now ≡ text_at sheet.rows (at i j) = c.cell-cell.ensures.text ∙ ap (λ texts. slice_index_or texts j []) c.requires.cells in
-    let shade : option_map color_of c.get_color-color.result ≡ sheet.colors (at i j) = c.get_color-color.ensures ∙ ap sheet.colors c.new.ensures in
+    let shade : color ≡ sheet.colors (at i j) = c.get_color-color.ensures ∙ ap sheet.colors c.new-pos.ensures in
     flat-more sheet c.requires.flat i j c.args.flat.now (string_bytes c.args.out.now) c.requires.row c.loop-j-test.true c.requires.high c.requires.made
     c.loop-j.invariant refl
     (c.in_ok-push_line.ensures
-    ∙ (ap (λ shown. out ++ (shown ++ behind)) (plain-placed sheet c.requires.flat (at i j) stands cell.text.now cell.width (option_map color_of c.get_color-color.result) own c.cell-cell.ensures.lines c.cell-cell.ensures.width c.cell-cell.ensures.line shade)
-    ∙ sym (append_assoc out (first_placed sheet stands (at i j)) behind)))
+    ∙ (ap (λ a. out ++ (placed (standing_of c.args.flat.now a) width cell.width cell.width color cell.text.now ++ behind)) known
+    ∙ (ap (λ shown. out ++ (shown ++ behind)) (plain-placed sheet c.requires.flat (at i j) stands cell.text.now cell.width color own c.cell-cell.ensures.lines c.cell-cell.ensures.width c.cell-cell.ensures.line shade)
+    ∙ sym (append_assoc out (first_placed sheet stands (at i j)) behind))))
 
 pub returns : goal.returns
 returns g c =
