@@ -1,7 +1,7 @@
 -- What the names of priorities and styles stand for.
 use Rattle.std.specs.Prelude.{ℕ, List, [], ◌∷◌, codes}
 use Rattle.clap.specs.Words.{Text}
-use Rattle.command_options.specs.Names.{names_of}
+pub use Rattle.command_options.specs.Names.{named, names_of}
 use Rattle.grid_config_values.specs.Glyphs.{no_borders}
 use Rattle.grid_config_values.specs.declared.borders.Borders.{Borders}
 use Rattle.tabled_glyphs.specs.Glyphs.{ascii, extended, modern}
