@@ -1,6 +1,7 @@
 //! Texts whose bars, backslashes and line feeds are escaped.
 ghost use Rattle.std.specs.Prelude.{◌≡◌, ◌++◌, IfOk, OnOk, map, string_bytes};
 ghost use Rattle.tabled_text.specs.Rows.{text_rows};
+ghost use Rattle.basinmug_markdown.specs.Documents.{with_header};
 ghost use Rattle.basinmug_markdown.specs.Escapes.{escaped, escaped_char};
 
 use std::alloc::{AllocError, Global};
@@ -13,6 +14,22 @@ pub fn markdown_cells(alloc: Global, rows: Vec<Vec<String>>) -> Result<Vec<Vec<S
     let mut cells = Vec::with_capacity(alloc, rows.len())?;
     for row in rows {
         cells.push(escaped_row(alloc, row)?)?;
+    }
+    Ok(cells)
+}
+
+/// The rows of a table of Markdown, with each text as `markdown_cells` gives it. Such a table always has a header: an
+/// empty row stands first where the rows have none. No rows stay none. Fails only where allocation fails.
+pub fn markdown_rows(
+    alloc: Global,
+    rows: Vec<Vec<String>>,
+    has_header: bool,
+) -> Result<Vec<Vec<String>>, AllocError>
+    ensures { IfOk result (λ cells. text_rows cells.items ≡ with_header has_header (map (map escaped) (text_rows rows.items))) }
+{
+    let mut cells = markdown_cells(alloc, rows)?;
+    if !has_header && !cells.is_empty() {
+        cells.insert(0, Vec::new(alloc))?;
     }
     Ok(cells)
 }

@@ -2,6 +2,8 @@
 #![tactic(auto)]
 
 mod cells;
+mod delimiters;
 pub mod laws;
 
-pub use cells::markdown_cells;
+pub use cells::{markdown_cells, markdown_rows};
+pub use delimiters::delimiter_row;

@@ -1,1 +1,4 @@
+mod Groups
+mod Parts
+mod Scanned
 mod Texts

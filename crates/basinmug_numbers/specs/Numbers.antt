@@ -1,7 +1,8 @@
--- Which texts are numbers: a sign or none; digits, with commas between groups of three or without; a point and digits or
--- none; an exponent or none; a percent sign or none. A text is the list of its bytes.
-use Rattle.std.specs.Prelude.{ℕ, ◌-◌, ◌%◌, ◌==◌, ◌&&◌, ◌||◌, not, Bool, false, List, [], ◌∷◌, drop, length, if◌then◌else◌}
-use Rattle.std.specs.List.{enumerate_from, list_all, prefix_len, take_while}
+-- Which texts are numbers, as people write them in tables: a sign or none; digits, with commas between groups of three or
+-- without; a point and digits or none; an exponent or none; a percent sign or none. A number is these parts one behind the
+-- other. A text is the list of its bytes.
+use Rattle.std.specs.Prelude.{ℕ, zero, suc, ◌==◌, ◌&&◌, ◌||◌, not, Bool, true, false, List, [], ◌∷◌}
+use Rattle.std.specs.List.{list_all}
 use Rattle.std.specs.Char.{is_ascii_digit}
 
 -- ---- bytes
@@ -22,60 +23,64 @@ is_exponent_mark byte = byte == 0x65 || byte == 0x45
 abbrev pub is_percent : ℕ → Bool
 is_percent byte = byte == 0x25
 
-abbrev pub is_digit_or_comma : ℕ → Bool
-is_digit_or_comma byte = is_ascii_digit byte || byte == comma
+-- ---- texts and their parts
 
--- ---- fronts
+abbrev pub is_empty : List ℕ → Bool
+is_empty [] = true
+is_empty (byte ∷ bytes) = false
 
-abbrev pub begins_with : (ℕ → Bool) → List ℕ → Bool
-begins_with test [] = false
-begins_with test (byte ∷ bytes) = test byte
+-- one byte of a kind
+abbrev pub is_one : (ℕ → Bool) → List ℕ → Bool
+is_one kind [] = false
+is_one kind (byte ∷ bytes) = kind byte && is_empty bytes
 
--- what is left where a byte of a kind, if one stands in front, is taken
-abbrev pub without_one : (ℕ → Bool) → List ℕ → List ℕ
-without_one test bytes = if begins_with test bytes then drop 1 bytes else bytes
+abbrev pub or_nothing : (List ℕ → Bool) → List ℕ → Bool
+or_nothing part text = is_empty text || part text
 
--- what is left behind the longest front of bytes of a kind
-abbrev pub behind : (ℕ → Bool) → List ℕ → List ℕ
-behind test bytes = drop (prefix_len test bytes) bytes
+-- a text that can be cut into the one part in front and the other behind it
+abbrev pub followed_by : (List ℕ → Bool) → (List ℕ → Bool) → List ℕ → Bool
+followed_by front behind [] = front [] && behind []
+followed_by front behind (byte ∷ bytes) = (front [] && behind (byte ∷ bytes)) || followed_by (λ more. front (byte ∷ more)) behind bytes
 
 -- ---- numbers
 
--- counted from the end, each fourth byte is a comma, and each other a digit
-abbrev pub are_in_groups : List ℕ → Bool
-are_in_groups bytes =
-    list_all (λ (placed : ℕ × ℕ). if (length bytes - placed.0) % 4 == 0 then placed.1 == comma else is_ascii_digit placed.1) (enumerate_from 0 bytes)
+-- any number of digits
+abbrev pub are_digits : List ℕ → Bool
+are_digits text = list_all is_ascii_digit text
 
--- digits in groups of three, of which the first may have fewer
+-- one digit or more
+abbrev pub is_digits : List ℕ → Bool
+is_digits text = not (is_empty text) && are_digits text
+
+-- so many digits, and behind them any number of groups, each a comma and three digits
+abbrev pub is_before_groups : ℕ → List ℕ → Bool
+is_before_groups zero [] = true
+is_before_groups (suc digits) [] = false
+is_before_groups zero (byte ∷ bytes) = byte == comma && is_before_groups 3 bytes
+is_before_groups (suc digits) (byte ∷ bytes) = is_ascii_digit byte && is_before_groups digits bytes
+
+-- digits in groups of three, of which the first may have one or two
 abbrev pub is_grouped : List ℕ → Bool
-is_grouped bytes = not (length bytes % 4 == 0) && are_in_groups bytes
+is_grouped text = is_before_groups 1 text || is_before_groups 2 text || is_before_groups 3 text
 
--- digits alone, or in groups
-abbrev pub is_whole_part : List ℕ → Bool
-is_whole_part bytes = list_all is_ascii_digit bytes || is_grouped bytes
+-- `1234` or `1,234`
+abbrev pub is_whole : List ℕ → Bool
+is_whole text = is_digits text || is_grouped text
 
--- a percent sign, or nothing
+-- `1234.5`, `1234.`, `1234` or `.5`
+abbrev pub is_mantissa : List ℕ → Bool
+is_mantissa text = followed_by is_whole (or_nothing (followed_by (is_one is_point) are_digits)) text || followed_by (is_one is_point) is_digits text
+
+abbrev pub is_sign_or_none : List ℕ → Bool
+is_sign_or_none = or_nothing (is_one is_sign)
+
+-- `e6`, `E-6` or `e+6`
+abbrev pub is_exponent : List ℕ → Bool
+is_exponent = followed_by (is_one is_exponent_mark) (followed_by is_sign_or_none is_digits)
+
+-- an exponent or none, and then a percent sign or none
 abbrev pub is_end : List ℕ → Bool
-is_end bytes = length (without_one is_percent bytes) == 0
-
--- an exponent, which has a digit, or none, and then an end
-abbrev pub is_tail : List ℕ → Bool
-is_tail bytes =
-    if begins_with is_exponent_mark bytes then
-    (let power = without_one is_sign (drop 1 bytes) in begins_with is_ascii_digit power && is_end (behind is_ascii_digit power))
-    else is_end bytes
-
--- a point and a front of digits, or none, and then a tail; there is a digit, before the point or behind it
-abbrev pub is_fraction : Bool → List ℕ → Bool
-is_fraction has_digits bytes =
-    if begins_with is_point bytes then
-    (let digits = drop 1 bytes in (has_digits || begins_with is_ascii_digit digits) && is_tail (behind is_ascii_digit digits))
-    else has_digits && is_tail bytes
-
-abbrev pub is_unsigned : List ℕ → Bool
-is_unsigned bytes =
-    let whole = take_while is_digit_or_comma bytes in
-    is_whole_part whole && is_fraction (not (length whole == 0)) (behind is_digit_or_comma bytes)
+is_end = followed_by (or_nothing is_exponent) (or_nothing (is_one is_percent))
 
 abbrev pub is_number : List ℕ → Bool
-is_number text = is_unsigned (without_one is_sign text)
+is_number = followed_by is_sign_or_none (followed_by is_mantissa is_end)

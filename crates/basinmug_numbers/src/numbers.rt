@@ -2,9 +2,20 @@
 ghost use Rattle.std.specs.Prelude.{◌≡◌, ◌≤◌, length};
 ghost use Rattle.std.specs.Char.{is_ascii_digit};
 ghost use Rattle.std.specs.List.{list_all, prefix_len};
-ghost use Rattle.basinmug_numbers.specs.Numbers.{are_in_groups, begins_with, behind, is_digit_or_comma, is_end, is_exponent_mark, is_fraction};
-ghost use Rattle.basinmug_numbers.specs.Numbers.{is_grouped, is_number, is_percent, is_point, is_sign, is_tail, is_unsigned, is_whole_part};
-ghost use Rattle.basinmug_numbers.specs.Numbers.{without_one};
+ghost use Rattle.basinmug_numbers.specs.Numbers.{is_exponent_mark, is_number, is_percent, is_point, is_sign};
+ghost use Rattle.basinmug_numbers.specs.Scans.{
+  are_in_groups,
+  begins_with,
+  behind,
+  is_digit_or_comma,
+  is_end,
+  is_fraction,
+  is_grouped,
+  is_tail,
+  is_unsigned,
+  is_whole_part,
+  without_one,
+};
 
 /// Whether a text, of these bytes, is a number: a sign or none; digits, with commas between groups of three or
 /// without; a point and digits or none; an exponent or none; a percent sign or none.

@@ -6,7 +6,8 @@ use Rattle.clap.specs.Simple.{App, is_simple}
 use Rattle.clap.specs.Walk.{Rule, Text}
 use Rattle.clap.specs.declared.builder.value_parser.ValueParser.TheVariants.{Names}
 use Rattle.clap.proofs.OnLiterals.{clap_on_literals}
-use Rattle.basinmug_words.specs.Command.{IsBasinmug, basinmug_app, value_rule}
+use Rattle.command_options.specs.Rules.{value_rule}
+use Rattle.basinmug_words.specs.Command.{IsBasinmug, basinmug_app}
 
 -- the names that a parser borrows
 abbrev Borrowed : Type 0

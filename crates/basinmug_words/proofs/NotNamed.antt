@@ -4,7 +4,7 @@ use Rattle.std.specs.Prelude.{find}
 use Rattle.std.specs.List.{AllByRecursion}
 use Rattle.std.specs.Option.{option_map_or}
 use Rattle.std.specs.Str.{bytes_eq}
-use Rattle.basinmug_words.specs.Names.{named}
+use Rattle.command_options.specs.Names.{named}
 
 abbrev pub AllOther : {T : Type 0} → List ℕ → List (List ℕ × T) → Type 0
 AllOther name rows = AllByRecursion (λ row. bytes_eq row.0 name ≡ false) rows

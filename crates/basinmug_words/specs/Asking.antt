@@ -14,7 +14,8 @@ use Rattle.basinmug_options.specs.declared.options.Look.TheVariants.{Rounded, Ma
 use Rattle.basinmug_options.specs.declared.options.Rules.TheVariants.{Header as BelowHeader}
 use Rattle.basinmug_words.specs.Command.{IsBasinmug}
 use Rattle.basinmug_words.specs.Lists.{Column, listed, seen_items}
-use Rattle.basinmug_words.specs.Names.{alignment_named, looks, named, priorities, rules}
+use Rattle.command_options.specs.Names.{named}
+use Rattle.basinmug_words.specs.Names.{alignment_named, looks, priorities, rules}
 use Rattle.basinmug_words.specs.declared.words.Asked.{Asked}
 use Rattle.basinmug_words.specs.declared.words.Asked.TheVariants.{Run, Help, Faulty}
 use Rattle.basinmug_words.specs.declared.words.Plan.{Plan}

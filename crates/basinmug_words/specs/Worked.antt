@@ -3,7 +3,8 @@ use Rattle.std.specs.Prelude.{◌≡◌, List, [], ◌∷◌, Option, codes, map
 use Rattle.std.specs.Borrow.{Bor}
 use Rattle.clap.specs.Words.{App, Kinds, Rule, Text, fault_of, first_of, matches_of, takes}
 use Rattle.clap.specs.declared.builder.value_parser.ValueParser.TheVariants.{Names}
-use Rattle.basinmug_words.specs.Command.{basinmug_app, value_rule}
+use Rattle.command_options.specs.Rules.{value_rule}
+use Rattle.basinmug_words.specs.Command.{basinmug_app}
 use Rattle.basinmug_words.specs.Names.{look_names, priority_names, rules_names}
 
 abbrev borrowed : {X : Type 0} → X → Bor X

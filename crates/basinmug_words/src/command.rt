@@ -1,11 +1,13 @@
 //! The command, with its options and the texts of its help.
 ghost use Rattle.std.specs.Prelude.{◌≡◌, IfOk, codes, false};
 ghost use Rattle.clap.specs.Words.{app_of, rule_of};
-ghost use Rattle.basinmug_words.specs.Command.{IsBasinmug, IsOfNames, file_rule, flag_rule, text_rule};
+ghost use Rattle.command_options.specs.Rules.{IsOfNames, flag_rule, text_rule};
+ghost use Rattle.basinmug_words.specs.Command.{IsBasinmug, file_rule};
 ghost use Rattle.basinmug_words.specs.Names.{look_names, priority_names, rules_names};
 
 use clap::builder::ValueParser;
 use clap::{Arg, ArgAction, Command};
+use command_options::{flag, text};
 use std::alloc::{AllocError, Global};
 
 static PRIORITIES: [&str; 5] = ["max", "none", "min", "left", "right"];
@@ -99,15 +101,9 @@ fn delimiter<'a>(alloc: Global) -> Arg<'a>
     ensures rule { rule_of result ≡ text_rule (codes "delimiter") }
     ensures global { result.global ≡ false }
 {
-    Arg::new(alloc, "delimiter")
-        .long("delimiter")
-        .value_name("CHAR")
-        .action(ArgAction::Set)
-        .value_parser(ValueParser::String)
-        .help_heading(INPUT)
-        .help(
-            "What stands between fields: an ASCII character, or \\t for a tab [default: by FILE's ending]",
-        )
+    text(alloc, "delimiter", "CHAR").help_heading(INPUT).help(
+        "What stands between fields: an ASCII character, or \\t for a tab [default: by FILE's ending]",
+    )
 }
 
 // Whether there is no header.
@@ -115,9 +111,7 @@ fn no_header<'a>(alloc: Global) -> Arg<'a>
     ensures rule { rule_of result ≡ flag_rule (codes "no-header") }
     ensures global { result.global ≡ false }
 {
-    Arg::new(alloc, "no-header")
-        .long("no-header")
-        .action(ArgAction::SetTrue)
+    flag(alloc, "no-header")
         .help_heading(INPUT)
         .help("The first record is no header")
 }
@@ -127,15 +121,9 @@ fn width<'a>(alloc: Global) -> Arg<'a>
     ensures rule { rule_of result ≡ text_rule (codes "width") }
     ensures global { result.global ≡ false }
 {
-    Arg::new(alloc, "width")
-        .long("width")
-        .value_name("N")
-        .action(ArgAction::Set)
-        .value_parser(ValueParser::String)
-        .help_heading(WIDTH)
-        .help(
-            "At most N columns, 0 to 4294967295, or none: as wide as its text [default: COLUMNS, else none]",
-        )
+    text(alloc, "width", "N").help_heading(WIDTH).help(
+        "At most N columns, 0 to 4294967295, or none: as wide as its text [default: COLUMNS, else none]",
+    )
 }
 
 // Which column gives first.
@@ -158,11 +146,9 @@ fn truncate<'a>(alloc: Global) -> Arg<'a>
     ensures rule { rule_of result ≡ flag_rule (codes "truncate") }
     ensures global { result.global ≡ false }
 {
-    Arg::new(alloc, "truncate")
-        .long("truncate")
-        .action(ArgAction::SetTrue)
-        .help_heading(WIDTH)
-        .help("In a width: cut off what doesn't fit [default: break lines between words]")
+    flag(alloc, "truncate").help_heading(WIDTH).help(
+        "In a width: cut off what doesn't fit [default: break lines between words]",
+    )
 }
 
 // The lines of the table.
@@ -200,15 +186,9 @@ fn align<'a>(alloc: Global) -> Arg<'a>
     ensures rule { rule_of result ≡ text_rule (codes "align") }
     ensures global { result.global ≡ false }
 {
-    Arg::new(alloc, "align")
-        .long("align")
-        .value_name("LIST")
-        .action(ArgAction::Set)
-        .value_parser(ValueParser::String)
-        .help_heading(LOOKS)
-        .help(
-            "Where texts stand: COLUMN=left, center or right, parted by commas [default: numbers at the right]",
-        )
+    text(alloc, "align", "LIST").help_heading(LOOKS).help(
+        "Where texts stand: COLUMN=left, center or right, parted by commas [default: numbers at the right]",
+    )
 }
 
 // The colours of columns.
@@ -216,13 +196,9 @@ fn color<'a>(alloc: Global) -> Arg<'a>
     ensures rule { rule_of result ≡ text_rule (codes "color") }
     ensures global { result.global ≡ false }
 {
-    Arg::new(alloc, "color")
-        .long("color")
-        .value_name("LIST")
-        .action(ArgAction::Set)
-        .value_parser(ValueParser::String)
-        .help_heading(LOOKS)
-        .help("Colour columns: COLUMN=NAME, parted by commas [default: none]")
+    text(alloc, "color", "LIST").help_heading(LOOKS).help(
+        "Colour columns: COLUMN=NAME, parted by commas [default: none]",
+    )
 }
 
 // How many records are shown.
@@ -230,11 +206,7 @@ fn max_rows<'a>(alloc: Global) -> Arg<'a>
     ensures rule { rule_of result ≡ text_rule (codes "max-rows") }
     ensures global { result.global ≡ false }
 {
-    Arg::new(alloc, "max-rows")
-        .long("max-rows")
-        .value_name("N")
-        .action(ArgAction::Set)
-        .value_parser(ValueParser::String)
+    text(alloc, "max-rows", "N")
         .help_heading(ROWS)
         .help("Show at most N records, 0 to 4294967295 [default: all]")
 }
@@ -244,11 +216,7 @@ fn expanded<'a>(alloc: Global) -> Arg<'a>
     ensures rule { rule_of result ≡ flag_rule (codes "expanded") }
     ensures global { result.global ≡ false }
 {
-    Arg::new(alloc, "expanded")
-        .long("expanded")
-        .action(ArgAction::SetTrue)
-        .help_heading(ROWS)
-        .help(
-            "Records one below the other, a line for each field; options of width and look do nothing then",
-        )
+    flag(alloc, "expanded").help_heading(ROWS).help(
+        "Records one below the other, a line for each field; options of width and look do nothing then",
+    )
 }

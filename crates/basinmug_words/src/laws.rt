@@ -5,7 +5,8 @@ ghost use Rattle.columns_color_list.specs.Names.{sequences};
 ghost use Rattle.basinmug_words.specs.Asking.{alignments_asked, colors_asked, delimiter_asked, file_asked, refusal_of, rows_asked, table_width, width_asked};
 ghost use Rattle.basinmug_words.specs.Command.{IsBasinmug};
 ghost use Rattle.basinmug_words.specs.Lists.{Numbered, Titled};
-ghost use Rattle.basinmug_words.specs.Names.{looks, named, priorities, rules};
+ghost use Rattle.command_options.specs.Names.{named};
+ghost use Rattle.basinmug_words.specs.Names.{looks, priorities, rules};
 ghost use Rattle.basinmug_words.specs.Worked.{Finds, Gives, basinmug_by_hand};
 
 use crate::words::WidthAsked;

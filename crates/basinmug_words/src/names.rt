@@ -1,6 +1,7 @@
 //! What the names of the command line stand for.
 ghost use Rattle.std.specs.Prelude.{◌≡◌, ℕ, List, IfOk, Option, Some, option_map};
-ghost use Rattle.basinmug_words.specs.Names.{alignment_named, looks, named, priorities, rules};
+ghost use Rattle.command_options.specs.Names.{named};
+ghost use Rattle.basinmug_words.specs.Names.{alignment_named, looks, priorities, rules};
 ghost use Rattle.columns_color_list.specs.Listed.{named as color_of_name};
 
 use basinmug_options::{Look, Rules};

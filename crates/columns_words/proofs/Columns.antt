@@ -20,7 +20,8 @@ use Rattle.clap.specs.declared.builder.value_parser.ValueParser.TheVariants.{Nam
 use Rattle.clap.specs.declared.parser.matches.ArgMatches.{ArgMatches}
 use Rattle.clap.proofs.OnLiterals.{clap_on_literals}
 use Rattle.columns_words.specs.Asking.{IsWidth}
-use Rattle.columns_words.specs.Command.{IsColumns, columns_app, value_rule}
+use Rattle.command_options.specs.Rules.{value_rule}
+use Rattle.columns_words.specs.Command.{IsColumns, columns_app}
 use Rattle.columns_words.proofs.Passed.{StandsAlone, value_passes}
 
 -- the names that a parser borrows

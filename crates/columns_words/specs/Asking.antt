@@ -11,7 +11,8 @@ use Rattle.columns_color_list.specs.Listed.{listed_colors}
 use Rattle.columns_options.specs.declared.options.Options.{Options}
 use Rattle.columns_options.specs.Settings.{settings_with}
 use Rattle.columns_words.specs.Command.{IsColumns}
-use Rattle.columns_words.specs.Names.{named, priorities, styles}
+use Rattle.command_options.specs.Names.{named}
+use Rattle.columns_words.specs.Names.{priorities, styles}
 use Rattle.columns_words.specs.declared.words.Asked.{Asked}
 use Rattle.columns_words.specs.declared.words.Asked.TheVariants.{Run, Help, Faulty}
 use Rattle.grid_config.specs.Colors.{Color}

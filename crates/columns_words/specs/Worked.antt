@@ -3,7 +3,8 @@ use Rattle.std.specs.Prelude.{◌≡◌, List, [], ◌∷◌, Option, codes, map
 use Rattle.std.specs.Borrow.{Bor}
 use Rattle.clap.specs.Words.{App, Kinds, Rule, Text, fault_of, first_of, matches_of, takes}
 use Rattle.clap.specs.declared.builder.value_parser.ValueParser.TheVariants.{Names}
-use Rattle.columns_words.specs.Command.{columns_app, value_rule}
+use Rattle.command_options.specs.Rules.{value_rule}
+use Rattle.columns_words.specs.Command.{columns_app}
 use Rattle.columns_words.specs.Names.{priority_names, style_names}
 
 abbrev borrowed : {X : Type 0} → X → Bor X

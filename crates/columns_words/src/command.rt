@@ -1,11 +1,13 @@
 //! The command, with its options and the texts of its help.
 ghost use Rattle.std.specs.Prelude.{◌≡◌, IfOk, codes, false};
 ghost use Rattle.clap.specs.Words.{app_of, rule_of};
-ghost use Rattle.columns_words.specs.Command.{IsColumns, IsOfNames, color_rule, flag_rule, width_rule};
+ghost use Rattle.command_options.specs.Rules.{IsOfNames, flag_rule};
+ghost use Rattle.columns_words.specs.Command.{IsColumns, color_rule, width_rule};
 ghost use Rattle.columns_words.specs.Names.{priority_names, style_names};
 
 use clap::builder::ValueParser;
 use clap::{Arg, ArgAction, Command};
+use command_options::{flag, text};
 use std::alloc::{AllocError, Global};
 
 static PRIORITIES: [&str; 5] = ["none", "min", "max", "left", "right"];
@@ -78,10 +80,7 @@ fn truncate<'a>(alloc: Global) -> Arg<'a>
     ensures rule { rule_of result ≡ flag_rule (codes "truncate") }
     ensures global { result.global ≡ false }
 {
-    Arg::new(alloc, "truncate")
-        .long("truncate")
-        .action(ArgAction::SetTrue)
-        .help("With --width: cut off what doesn't fit [default: break lines]")
+    flag(alloc, "truncate").help("With --width: cut off what doesn't fit [default: break lines]")
 }
 
 // Whether to break lines between words.
@@ -89,10 +88,7 @@ fn keep_words<'a>(alloc: Global) -> Arg<'a>
     ensures rule { rule_of result ≡ flag_rule (codes "keep-words") }
     ensures global { result.global ≡ false }
 {
-    Arg::new(alloc, "keep-words")
-        .long("keep-words")
-        .action(ArgAction::SetTrue)
-        .help("With --width: break lines between words [default: anywhere]")
+    flag(alloc, "keep-words").help("With --width: break lines between words [default: anywhere]")
 }
 
 // Which column gives first.
@@ -128,10 +124,7 @@ fn streamed<'a>(alloc: Global) -> Arg<'a>
     ensures rule { rule_of result ≡ flag_rule (codes "streamed") }
     ensures global { result.global ≡ false }
 {
-    Arg::new(alloc, "streamed")
-        .long("streamed")
-        .action(ArgAction::SetTrue)
-        .help("Print a streamed table: as wide as its text, by --style alone")
+    flag(alloc, "streamed").help("Print a streamed table: as wide as its text, by --style alone")
 }
 
 // The colours of columns.
@@ -139,10 +132,7 @@ fn color<'a>(alloc: Global) -> Arg<'a>
     ensures rule { rule_of result ≡ color_rule }
     ensures global { result.global ≡ false }
 {
-    Arg::new(alloc, "color")
-        .long("color")
-        .value_name("LIST")
-        .action(ArgAction::Set)
-        .value_parser(ValueParser::String)
-        .help("Colour columns, from 0: COLUMN=NAME, parted by commas [default: none]")
+    text(alloc, "color", "LIST").help(
+        "Colour columns, from 0: COLUMN=NAME, parted by commas [default: none]",
+    )
 }

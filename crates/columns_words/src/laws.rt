@@ -4,7 +4,8 @@ ghost use Rattle.clap.specs.declared.error.kind.ErrorKind.TheVariants.{ArgumentC
 ghost use Rattle.columns_color_list.specs.Names.{sequences};
 ghost use Rattle.columns_words.specs.Asking.{colors_asked, number};
 ghost use Rattle.columns_words.specs.Command.{IsColumns};
-ghost use Rattle.columns_words.specs.Names.{named, priorities, styles};
+ghost use Rattle.command_options.specs.Names.{named};
+ghost use Rattle.columns_words.specs.Names.{priorities, styles};
 ghost use Rattle.columns_words.specs.Worked.{Finds, Gives, columns_by_hand};
 ghost use Rattle.grid_config_values.specs.Glyphs.{no_borders};
 ghost use Rattle.tabled_glyphs.specs.Glyphs.{ascii, modern};

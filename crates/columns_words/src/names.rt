@@ -1,6 +1,7 @@
 //! What the names of priorities and styles stand for.
 ghost use Rattle.std.specs.Prelude.{◌≡◌, option_map};
-ghost use Rattle.columns_words.specs.Names.{named, priorities, styles};
+ghost use Rattle.command_options.specs.Names.{named};
+ghost use Rattle.columns_words.specs.Names.{priorities, styles};
 ghost use Rattle.grid_config.specs.Compact.{compact_of};
 ghost use Rattle.columns_options.specs.Settings.{settings_with};
 ghost use Rattle.tabled_glyphs.specs.Glyphs.{ascii};

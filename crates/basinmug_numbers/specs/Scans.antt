@@ -1,0 +1,61 @@
+-- What is read of a text from left to right, where each part is as long as it can be. The functions that read a number say
+-- what they answer by these words; that what is read is what the grammar says is shown in `proofs/Scanned.antt`.
+use Rattle.std.specs.Prelude.{ℕ, ◌-◌, ◌%◌, ◌==◌, ◌&&◌, ◌||◌, not, Bool, false, List, [], ◌∷◌, drop, length, if◌then◌else◌}
+use Rattle.std.specs.List.{enumerate_from, list_all, prefix_len, take_while}
+use Rattle.std.specs.Char.{is_ascii_digit}
+use Rattle.basinmug_numbers.specs.Numbers.{comma, is_exponent_mark, is_percent, is_point, is_sign}
+
+abbrev pub is_digit_or_comma : ℕ → Bool
+is_digit_or_comma byte = is_ascii_digit byte || byte == comma
+
+-- ---- fronts
+
+abbrev pub begins_with : (ℕ → Bool) → List ℕ → Bool
+begins_with test [] = false
+begins_with test (byte ∷ bytes) = test byte
+
+-- what is left where a byte of a kind, if one stands in front, is taken
+abbrev pub without_one : (ℕ → Bool) → List ℕ → List ℕ
+without_one test bytes = if begins_with test bytes then drop 1 bytes else bytes
+
+-- what is left behind the longest front of bytes of a kind
+abbrev pub behind : (ℕ → Bool) → List ℕ → List ℕ
+behind test bytes = drop (prefix_len test bytes) bytes
+
+-- ---- numbers
+
+-- counted from the end, each fourth byte is a comma, and each other a digit
+abbrev pub are_in_groups : List ℕ → Bool
+are_in_groups bytes =
+    list_all (λ (placed : ℕ × ℕ). if (length bytes - placed.0) % 4 == 0 then placed.1 == comma else is_ascii_digit placed.1) (enumerate_from 0 bytes)
+
+-- digits in groups of three, of which the first may have fewer
+abbrev pub is_grouped : List ℕ → Bool
+is_grouped bytes = not (length bytes % 4 == 0) && are_in_groups bytes
+
+-- digits alone, or in groups
+abbrev pub is_whole_part : List ℕ → Bool
+is_whole_part bytes = list_all is_ascii_digit bytes || is_grouped bytes
+
+-- a percent sign, or nothing
+abbrev pub is_end : List ℕ → Bool
+is_end bytes = length (without_one is_percent bytes) == 0
+
+-- an exponent, which has a digit, or none, and then an end
+abbrev pub is_tail : List ℕ → Bool
+is_tail bytes =
+    if begins_with is_exponent_mark bytes then
+    (let power = without_one is_sign (drop 1 bytes) in begins_with is_ascii_digit power && is_end (behind is_ascii_digit power))
+    else is_end bytes
+
+-- a point and a front of digits, or none, and then a tail; there is a digit, before the point or behind it
+abbrev pub is_fraction : Bool → List ℕ → Bool
+is_fraction has_digits bytes =
+    if begins_with is_point bytes then
+    (let digits = drop 1 bytes in (has_digits || begins_with is_ascii_digit digits) && is_tail (behind is_ascii_digit digits))
+    else has_digits && is_tail bytes
+
+abbrev pub is_unsigned : List ℕ → Bool
+is_unsigned bytes =
+    let whole = take_while is_digit_or_comma bytes in
+    is_whole_part whole && is_fraction (not (length whole == 0)) (behind is_digit_or_comma bytes)
