@@ -1,5 +1,5 @@
 pub mod Bytes
 pub mod Commands
 pub mod OneMore
-pub mod Met
+pub mod ColumnsMet
 pub mod NotNamed

@@ -20,7 +20,7 @@ use Rattle.tabled_size_wrap.specs.Wrapping.{from_wide, is_narrow, narrow_front, 
 use Rattle.tabled_size_wrap.proofs.Fewest.{is-breaking}
 use Rattle.tabled_size_wrap.proofs.Longest.{runs-are}
 use Rattle.tabled_size_wrap.proofs.Parts.{run_size, size-texts, texts-both}
-use Rattle.tabled_size_wrap.proofs.Units.{texts, texts-units}
+use Rattle.tabled_size_wrap.proofs.AllUnits.{texts, texts-units}
 use Rattle.columns_bounds.proofs.UnitBounds.{Stand, nothing-behind, stand-behind, stand-front, units-measure, units-stand}
 
 -- no line feed stands in it

@@ -10,7 +10,7 @@ use Rattle.grid_records_bounds.proofs.Costs.{Bounded, bounded-plain, bounded-ste
 use Rattle.grid_records_bounds.proofs.Spaces.{read-append, read-more, space-resets}
 use Rattle.tabled_size_wrap.specs.Breaking.{run_cost}
 use Rattle.tabled_size_wrap.specs.Units.{LineUnit, character_unit, is_space, line_units, space_unit, word_units}
-use Rattle.tabled_size_wrap.proofs.Units.{texts}
+use Rattle.tabled_size_wrap.proofs.AllUnits.{texts}
 
 -- ---- which units follow one another
 

@@ -38,7 +38,7 @@ use Rattle.tabled_size_wrap.proofs.Fewest.{is-breaking}
 use Rattle.tabled_size_wrap.proofs.Longest.{runs-are}
 use Rattle.tabled_size_wrap.proofs.Parts.{broken-shows}
 use Rattle.tabled_size_wrap.proofs.Shows.{ShowsLine, ShowsLine-closed, ShowsLine-nothing}
-use Rattle.tabled_size_wrap.proofs.Units.{texts, texts-units}
+use Rattle.tabled_size_wrap.proofs.AllUnits.{texts, texts-units}
 use Rattle.columns_sequences.proofs.LineSequences.{cut-whole, first-taken}
 use Rattle.columns_sequences.proofs.RunSequences.{lines-left, taken-both}
 use Rattle.columns_sequences.proofs.SequenceCounts.{taken-part, taken-sum, taken-through, taken_by, texts_take}

@@ -11,7 +11,7 @@ pub mod Enumerated
 pub mod Singles
 pub mod Finishes
 pub mod Visibility
-pub mod Reads
+pub mod OneCellRead
 pub mod Tables
 pub mod Sizes
 pub mod Members

@@ -17,7 +17,7 @@ use Rattle.tabled_size_wrap.specs.Units.{LineUnit, character_unit, space_unit, w
 use Rattle.tabled_size_wrap.specs.Breaking.{run_cost, FitsRun}
 use Rattle.tabled_size_wrap.specs.Wrapping.{is_narrow, narrow_front, from_wide, shown_run, shown_lines}
 use Rattle.tabled_size_wrap.specs.Showing.{Styled, plain, characters_of, ends_line, joined_lines, unit_size, with_plain_line_feeds, AreShownLines}
-use Rattle.tabled_size_wrap.proofs.Units.{texts, texts-units}
+use Rattle.tabled_size_wrap.proofs.AllUnits.{texts, texts-units}
 use Rattle.tabled_size_wrap.proofs.Runs.{front-cons}
 use Rattle.tabled_size_wrap.proofs.Fewest.{is-breaking}
 use Rattle.tabled_size_wrap.proofs.Parts.{run_size, size-texts, texts-both}

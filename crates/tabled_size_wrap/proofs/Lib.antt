@@ -1,4 +1,4 @@
-pub mod Units
+pub mod AllUnits
 pub mod Fronts
 pub mod Runs
 pub mod Longest

@@ -36,7 +36,7 @@ use Rattle.tabled_size_wrap.specs.Breaking.{AreRunsOf, run_cost}
 use Rattle.tabled_size_wrap.specs.Wrapping.{run_len, is_narrow, narrow_front, from_wide, line_part, replacement_bytes, shown_run, shown_lines}
 use Rattle.tabled_size_wrap.specs.Showing.{Styled, plain, unit_size}
 use Rattle.tabled_size_wrap.proofs.Standing.{by-part}
-use Rattle.tabled_size_wrap.proofs.Units.{texts, texts-units}
+use Rattle.tabled_size_wrap.proofs.AllUnits.{texts, texts-units}
 use Rattle.tabled_size_wrap.proofs.Fewest.{is-breaking}
 use Rattle.tabled_size_wrap.proofs.Shows.{feeds, feeds-take, feeds-drop, ShowsLine, ShowsLine-nothing, ShowsLine-both, replacements-line}
 

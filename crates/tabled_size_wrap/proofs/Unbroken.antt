@@ -36,7 +36,7 @@ use Rattle.tabled_size_wrap.specs.Runs.{broken_lines, wrapped}
 use Rattle.tabled_size_wrap.specs.Units.{LineUnit, character_unit, is_space, line_units, space_unit, unit_len, word_units}
 use Rattle.tabled_size_wrap.specs.Wrapping.{line_part, replacement_bytes, run_len}
 use Rattle.tabled_size_wrap.proofs.Runs.{left_bytes, lines-all, put}
-use Rattle.tabled_size_wrap.proofs.Units.{printable-cost, texts, texts-units}
+use Rattle.tabled_size_wrap.proofs.AllUnits.{printable-cost, texts, texts-units}
 use Rattle.tabled_size_wrap.proofs.Wraps.{line-more, lines_left}
 use Rattle.tabled_size_wrap.specs.Staying.{line_stays, stays}
 

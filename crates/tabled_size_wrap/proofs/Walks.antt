@@ -20,7 +20,7 @@ use Rattle.tabled_size_wrap.specs.Runs.{broken_lines, has_room, room, runs_of}
 use Rattle.tabled_size_wrap.specs.Standing.{StandsAt}
 use Rattle.tabled_size_wrap.specs.Room.{MakesRoom}
 use Rattle.tabled_size_wrap.specs.declared.broken_lines.Run.{Run}
-use Rattle.tabled_size_wrap.proofs.Units.{texts, AllSome, texts-units, some-units}
+use Rattle.tabled_size_wrap.proofs.AllUnits.{texts, AllSome, texts-units, some-units}
 use Rattle.tabled_size_wrap.proofs.Runs.{left_bytes, put, lines-all}
 use Rattle.tabled_size_wrap.proofs.Standing.{stands-good}
 

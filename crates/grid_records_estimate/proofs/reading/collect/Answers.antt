@@ -2,7 +2,7 @@ use Rattle.std.proofs.Common.{◌≡◌, ◌+◌, [], ◌∷◌, ◌++◌, drop,
 use Rattle.std.proofs.lemmas.List.{length-map}
 use Rattle.grid_records_traits.specs.Rows.{fitted, fitted_row}
 use Rattle.grid_records_traits.proofs.Loops.{next_given, none_given}
-use Rattle.grid_records_estimate.proofs.Reads.{TableRead-all, TableRead-more, more_than, no_more_than}
+use Rattle.grid_records_estimate.proofs.OneCellRead.{TableRead-all, TableRead-more, more_than, no_more_than}
 use Rattle.grid_records_estimate.proofs.reading.collect.Goals as goal
 
 pub collect_row-requires-clause-can : goal.collect_row-requires-clause-can

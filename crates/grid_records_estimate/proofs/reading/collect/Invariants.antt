@@ -1,7 +1,7 @@
 use Rattle.std.proofs.Common.{◌≡◌, ◌≤◌, [], length, drop}
 use Rattle.grid_records_traits.specs.Rows.{fitted}
 use Rattle.grid_records_estimate.specs.Reading.{HasRead}
-use Rattle.grid_records_estimate.proofs.Reads.{TableRead}
+use Rattle.grid_records_estimate.proofs.OneCellRead.{TableRead}
 use Rattle.grid_records_estimate.proofs.reading.collect.Given as goal
 
 abbrev pub invariant-loop-cells : goal.invariant-loop-cells

@@ -5,7 +5,7 @@ use Rattle.grid_records_estimate.specs.Reading.{cell_heights, width_needs}
 use Rattle.grid_records_estimate.specs.Sizing.{is_visible}
 use Rattle.grid_records_estimate.specs.declared.need.Need.{Need}
 use Rattle.grid_records_estimate.proofs.Meets.{OnOk-implies}
-use Rattle.grid_records_estimate.proofs.Reads.{HasRead-added, asks-height, asks-width}
+use Rattle.grid_records_estimate.proofs.OneCellRead.{HasRead-added, asks-height, asks-width}
 use Rattle.grid_records_estimate.proofs.reading.collect_cell.Goals as goal
 
 pub returns : goal.returns

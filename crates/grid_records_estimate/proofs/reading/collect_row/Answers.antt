@@ -2,7 +2,7 @@ use Rattle.std.proofs.Common.{[], ◌∷◌, ◌++◌, drop, length, subst}
 use Rattle.grid_config_values.specs.declared.position.Position.{Position}
 use Rattle.grid_records_estimate.specs.Reading.{HasRead}
 use Rattle.grid_records_traits.proofs.Loops.{cells_more, next_text, none_text}
-use Rattle.grid_records_estimate.proofs.Reads.{RowRead-all, RowRead-more, RowRead-none}
+use Rattle.grid_records_estimate.proofs.OneCellRead.{RowRead-all, RowRead-more, RowRead-none}
 use Rattle.grid_records_estimate.proofs.reading.collect_row.Goals as goal
 
 pub loop-cell-init : goal.loop-cell-init

@@ -2,7 +2,7 @@ use Rattle.std.proofs.Common.{ℕ, Bool, List, length, drop}
 use Rattle.grid_records_traits.proofs.Loops.{AreCells}
 use Rattle.grid_records_traits.specs.Giving.{GivesTexts}
 use Rattle.grid_records_estimate.specs.Reading.{HasRead, Placed}
-use Rattle.grid_records_estimate.proofs.Reads.{RowRead}
+use Rattle.grid_records_estimate.proofs.OneCellRead.{RowRead}
 use Rattle.grid_records_estimate.proofs.reading.collect_row.Given as goal
 
 abbrev pub invariant-loop-cell : goal.invariant-loop-cell

@@ -1,7 +1,7 @@
 -- Printable ASCII costs one column.
 use Rattle.std.proofs.Common.{rules, ◌≤◌, sym, arith}
 use Rattle.std.proofs.lemmas.Bool.Decides.{nat_tests}
-use Rattle.tabled_size_wrap.proofs.Units.{printable-cost}
+use Rattle.tabled_size_wrap.proofs.AllUnits.{printable-cost}
 use Rattle.tabled_size_wrap.proofs.words.cost.Goals as goal
 
 pub returns-in-32-to-126 : goal.returns-in-32-to-126

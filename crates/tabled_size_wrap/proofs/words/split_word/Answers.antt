@@ -1,6 +1,6 @@
 -- The text is cut behind its first word or space.
 use Rattle.std.proofs.Common.{◌≡◌, ◌∙◌, ◌-◌, min, max, length, take, ap, arith}
-use Rattle.tabled_size_wrap.proofs.Units.{front_len, split-word-is, split-boundary}
+use Rattle.tabled_size_wrap.proofs.AllUnits.{front_len, split-word-is, split-boundary}
 use Rattle.tabled_size_wrap.proofs.words.split_word.Goals as goal
 
 pub range-requires-clause-end_boundary : goal.range-requires-clause-end_boundary

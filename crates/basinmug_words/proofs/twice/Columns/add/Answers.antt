@@ -1,6 +1,6 @@
 use Rattle.std.proofs.Common.{◌∙◌, ap, refl, sym}
 use Rattle.basinmug_words.specs.Lists.{Titled, seen}
-use Rattle.basinmug_words.proofs.Met.{title-met}
+use Rattle.basinmug_words.proofs.ColumnsMet.{title-met}
 use Rattle.basinmug_words.proofs.twice.Columns.add.Goals as goal
 
 pub returns-in_ok-insert-in-Header-clause-met : goal.returns-in_ok-insert-in-Header-clause-met

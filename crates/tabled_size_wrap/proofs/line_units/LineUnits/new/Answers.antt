@@ -3,7 +3,7 @@ use Rattle.std.proofs.Common.{◌∙◌, ◌++◌, List, Bool, ℕ, map, ap, sym
 use Rattle.std.specs.Prelude.{chars}
 use Rattle.std.proofs.lemmas.Str.{chars-nil}
 use Rattle.tabled_size_wrap.specs.Units.{character_unit, line_units, placed}
-use Rattle.tabled_size_wrap.proofs.Units.{left-none}
+use Rattle.tabled_size_wrap.proofs.AllUnits.{left-none}
 use Rattle.tabled_size_wrap.proofs.line_units.LineUnits.new.Goals as goal
 
 pub returns-then-keep_words : goal.returns-then-keep_words

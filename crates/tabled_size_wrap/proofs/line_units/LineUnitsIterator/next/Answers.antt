@@ -6,7 +6,7 @@ use Rattle.std.proofs.lemmas.Str.{length-encode}
 use Rattle.grid_records_measure.specs.Measures.{cost, measure}
 use Rattle.tabled_size_wrap.specs.Units.{placed}
 use Rattle.tabled_size_wrap.specs.declared.line_units.Unit.{Unit}
-use Rattle.tabled_size_wrap.proofs.Units.{left, placed-word, placed-divided, placed-character}
+use Rattle.tabled_size_wrap.proofs.AllUnits.{left, placed-word, placed-divided, placed-character}
 use Rattle.tabled_size_wrap.proofs.line_units.LineUnitsIterator.next.Goals as goal
 use Rattle.tabled_size_wrap.proofs.line_units.LineUnitsIterator.next.Goals.{then-is_empty+else-not-is_empty, else-not-is_empty-via-then-not-is_empty+else-cost-self, else-not-is_empty-via-else-not-is_empty, else-is_empty}
 
