@@ -1,7 +1,9 @@
 pub mod Bytes
 pub mod Cleans
+pub mod Graphic
 pub mod OneFault
 pub mod Quotes
 pub mod ReadRecords
 pub mod Rows
 pub mod Texts
+pub mod WithoutQuotes

@@ -1,8 +1,9 @@
 -- Fields and rows, one after the other.
 use Rattle.std.proofs.Common.{◌≡◌, ◌∙◌, ◌+◌, ◌<◌, ◌≤◌, ℕ, zero, suc, Bool, true, false, List, [], ◌∷◌, ◌++◌, Some, None, Result, Ok, Err, length, get_or, drop, sym, ap, subst, arith}
 use Rattle.std.specs.List.{AllByRecursion}
-use Rattle.std.specs.Prelude.{OnOk, if◌then◌else◌}
-use Rattle.std.proofs.lemmas.List.{get_or_at, length-append}
+use Rattle.std.specs.Prelude.{OnOk, Vec, if◌then◌else◌, map, string_bytes, vec_items}
+use Rattle.std.specs.declared.string.String.{String}
+use Rattle.std.proofs.lemmas.List.{get_or_at, length-append, map_push}
 use Rattle.ansi_scan.specs.Sequences.{EachStands, IsFirstBroken, Piece, joined}
 use Rattle.ansi_scan.proofs.Uniqueness.{Stands-some}
 use Rattle.csv.specs.Reading.{is_bom, records, strip_bom}
@@ -11,7 +12,9 @@ use Rattle.csv.specs.declared.parser.Config.{Config}
 use Rattle.basinmug_input.specs.Faults.{HasFirstFlaw}
 use Rattle.basinmug_input.specs.Places.{IsReadAs, field_at as field_of_byte, line_at}
 use Rattle.basinmug_input.specs.Reading.{HasByte}
-use Rattle.basinmug_input.specs.Rows.{IsFirstFlawed}
+use Rattle.basinmug_input.specs.Cleaning.{cleaned}
+use Rattle.basinmug_input.specs.Flaws.{IsSound}
+use Rattle.basinmug_input.specs.Rows.{IsFirstFlawed, IsRowOf}
 use Rattle.basinmug_input.specs.declared.records.Flawed.{Flawed}
 
 -- a field by its place
@@ -30,6 +33,18 @@ field_at-none (x ∷ fs) (suc i) e = let low = field_at-none fs i e in omega (ar
 pub all-push : {A : Type 0} (P : A → Type 0) (xs : List A) (x : A) → AllByRecursion P xs → P x → AllByRecursion P (xs ++ x ∷ [])
 all-push P [] x all here = (here, tt)
 all-push P (y ∷ xs) x all here = (all.0, all-push P xs x all.1 here)
+
+-- one field more
+pub row-push : {Z : Type 0} (fields : List (List ℕ)) (here : List ℕ) (old new : Vec (String Z) Z) (cell : String Z) → IsRowOf fields old
+    → vec_items new ≡ vec_items old ++ cell ∷ [] → IsSound here → string_bytes cell ≡ cleaned here → IsRowOf (fields ++ here ∷ []) new
+row-push fields here old new cell row grown sound shown = record {
+  sound = all-push IsSound fields here row.sound sound;
+  texts = ap (map string_bytes) grown
+      ∙ map_push string_bytes (vec_items old) cell
+      ∙ ap (λ (texts : List (List ℕ)). texts ++ string_bytes cell ∷ []) row.texts
+      ∙ ap (λ (text : List ℕ). map cleaned fields ++ text ∷ []) shown
+      ∙ sym (map_push cleaned fields here);
+}
 
 -- what holds where a call is not refused
 pub on_ok-map : {E : Type 0} (r : Result (Unit {0}) E) (P Q : Type 0) → OnOk r P → (P → Q) → OnOk r Q

@@ -5,4 +5,5 @@ pub mod Flaws
 pub mod Places
 pub mod Reading
 pub mod Rows
+pub mod Unquoted
 pub mod Walking

@@ -4,6 +4,7 @@ ghost use Rattle.std.specs.List.{list_all};
 ghost use Rattle.csv.specs.Machine.{carriage_return, line_feed};
 ghost use Rattle.basinmug_input.specs.Cleaning.{cleaned, cleaned_text, is_control, shown, stays};
 ghost use Rattle.basinmug_input.specs.Flaws.{HasFlaw, IsSound};
+ghost use Rattle.basinmug_input.specs.Unquoted.{is_printable};
 
 use ansi_scan::{Kind, first_broken, scan};
 use simdutf8::compat;
@@ -28,18 +29,34 @@ pub(crate) enum Flaw {
 pub(crate) fn cell_of(alloc: Global, field: &[u8]) -> Result<Result<String, Flaw>, AllocError>
     ensures { IfOk result (λ read. MatchResult read (λ cell. IsSound field.now × (string_bytes cell ≡ cleaned field.now)) (HasFlaw field.now)) }
 {
-    let text = match compat::from_utf8(field) {
-        Ok(text) => text,
-        Err(error) => {
-            return Ok(Err(Flaw::NotText {
-                byte: error.valid_up_to(),
-            }));
-        }
-    };
+    match compat::from_utf8(field) {
+        Ok(text) => text_cell(alloc, text),
+        Err(error) => Ok(Err(Flaw::NotText {
+            byte: error.valid_up_to(),
+        })),
+    }
+}
+
+/// The same of a field that is text. Printable ASCII is copied as it is.
+pub(crate) fn text_cell(alloc: Global, text: &str) -> Result<Result<String, Flaw>, AllocError>
+    ensures { IfOk result (λ read. MatchResult read (λ cell. IsSound text.now × (string_bytes cell ≡ cleaned text.now)) (HasFlaw text.now)) }
+{
+    if is_printable(text) {
+        return Ok(Ok(String::from_str(alloc, text)?));
+    }
     match first_broken(text) {
         Some(byte) => Ok(Err(Flaw::Escape { byte })),
         None => Ok(Ok(cleaned(alloc, text)?)),
     }
+}
+
+// Whether each byte of a text is printable ASCII.
+fn is_printable(text: &str) -> bool
+    ensures { result ≡ list_all is_printable text.now }
+{
+    text.as_bytes()
+        .iter()
+        .all(|byte| matches!(*byte, b' '..=b'~'))
 }
 
 // A text with its control characters made visible; its sequences stay as they are.

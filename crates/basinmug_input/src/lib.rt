@@ -8,6 +8,7 @@ pub mod laws;
 mod places;
 mod progress;
 mod records;
+mod unquoted;
 
 pub use fault::InputFault;
 pub use files::delimiter_for;

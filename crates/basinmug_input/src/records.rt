@@ -10,6 +10,7 @@ ghost use Rattle.basinmug_input.specs.Rows.{HasFlawed, IsFirstFlawed, IsRowOf, r
 use crate::cells::{Flaw, cell_of};
 use crate::fault::InputFault;
 use crate::places::{field_of, line_of, open_quote, place_of};
+use crate::unquoted::{is_unquoted, unquoted_rows};
 use csv::{ByteRecord, Error, ReaderBuilder};
 use simdutf8::compat;
 use std::alloc::{AllocError, Global};
@@ -23,8 +24,13 @@ pub fn rows_of(alloc: Global, bytes: &[u8], delimiter: u8) -> Result<Vec<Vec<Str
     ensures fault { IfErr result (IsFaultOf (settings delimiter) (text_in bytes.now)) }
 {
     let text = without_mark(bytes);
-    check_text(text, delimiter)?;
-    check_quotes(text, delimiter)?;
+    let text = text_of(text, delimiter)?;
+    if is_unquoted(text.as_bytes(), delimiter) {
+        if let Some(rows) = unquoted_rows(alloc, text, delimiter)? {
+            return Ok(rows);
+        }
+    }
+    check_quotes(text.as_bytes(), delimiter)?;
     read_rows(alloc, bytes, delimiter)
 }
 
@@ -45,13 +51,13 @@ fn is_mark(a: u8, b: u8, c: u8) -> bool
     a == 0xef && b == 0xbb && c == 0xbf
 }
 
-// Refuses bytes that are no text.
-fn check_text(text: &[u8], delimiter: u8) -> Result<(), InputFault>
-    ensures text { OnOk result (IsUtf8 text.now) }
+// The text of these bytes. Refuses bytes that are none.
+fn text_of(text: &[u8], delimiter: u8) -> Result<&str, InputFault>
+    ensures text { IfOk result (λ read. read.now ≡ text.now) }
     ensures fault { IfErr result (IsFaultOf (settings delimiter) text.now) }
 {
     match compat::from_utf8(text) {
-        Ok(_) => Ok(()),
+        Ok(read) => Ok(read),
         Err(error) => {
             let at = error.valid_up_to();
             Err(InputFault::NotText {

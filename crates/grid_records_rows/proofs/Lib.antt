@@ -2,3 +2,4 @@ pub mod Keeping
 pub mod KeptLines
 pub mod Tables
 pub mod Peeks
+pub mod PlainText

@@ -5,7 +5,7 @@ ghost use Rattle.grid_records_measure.specs.TextLines.{text_lines};
 mod kept_lines;
 
 use crate::records::vec_records::Cell;
-use grid_records_measure::get_text_dimension;
+use grid_records_measure::{get_text_dimension, is_printable};
 use kept_lines::{KeptLines, keep_lines};
 use std::alloc::{AllocError, Global};
 use std::borrow::CowStr;
@@ -36,11 +36,19 @@ impl Model for Text {
 impl Text {
     ghost use Rattle.grid_records_rows.specs.Measured.{AreKept};
 
-    /// A cell with this text, which is measured. A text that is its only line takes no further memory. Fails
-    /// only where allocation fails.
+    /// A cell with this text, which is measured; of printable ASCII each byte takes a column. A text that is its
+    /// only line takes no further memory. Fails only where allocation fails.
     pub fn new(alloc: Global, text: String) -> Result<Text, AllocError>
         ensures { IfOk result (λ cell. cell ≡ string_bytes text) }
     {
+        if is_printable(&text) {
+            let width = text.len();
+            return Ok(Text {
+                text,
+                lines: None,
+                width,
+            });
+        }
         let (count, width) = get_text_dimension(&text);
         let lines = keep_lines(alloc, &text, count)?;
         Ok(Text { text, lines, width })

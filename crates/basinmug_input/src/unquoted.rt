@@ -1,0 +1,104 @@
+//! Texts without quotes. Such a text is read field by field: each byte but those between fields joins its field, so
+//! that no machine is walked, and a field is copied once.
+ghost use Rattle.std.specs.List.{prefix_len};
+ghost use Rattle.std.specs.Prelude.{◌≡◌, ◌≤◌, IfOk, IfSome, IsTrue, length};
+ghost use Rattle.csv.specs.Reading.{records};
+ghost use Rattle.basinmug_input.specs.Reading.{settings};
+ghost use Rattle.basinmug_input.specs.Unquoted.{AreRowsOf, BeginsRecord, IsRecordAt, IsUnquoted, is_line_end, is_of_field};
+
+use crate::cells::text_cell;
+use crate::progress::QUOTE;
+use std::alloc::{AllocError, Global};
+
+/// Whether no quote stands in a text, and what parts its fields is a character.
+pub(crate) fn is_unquoted(text: &[u8], delimiter: u8) -> bool
+    ensures { IsTrue result → IsUnquoted delimiter text.now }
+{
+    delimiter.is_ascii() && !text.contains(&QUOTE)
+}
+
+/// The rows of a text without quotes; none where a field has a flaw.
+pub(crate) fn unquoted_rows(
+    alloc: Global,
+    text: &str,
+    delimiter: u8,
+) -> Result<Option<Vec<Vec<String>>>, AllocError>
+    requires { IsUnquoted delimiter text.now }
+    ensures { IfOk result (λ read. IfSome read (λ rows. AreRowsOf (records (settings delimiter) text.now) rows.items)) }
+{
+    let mut rows = Vec::new(alloc);
+    let mut width = 0;
+    let bytes = text.as_bytes();
+    let mut at = line_ends_len(bytes);
+    while at < bytes.len() {
+        let Some((row, end)) = unquoted_row(alloc, text, delimiter, at, width)? else {
+            return Ok(None);
+        };
+        width = row.len();
+        rows.push(row)?;
+        at = end + line_ends_len(&bytes[end..]);
+    }
+    Ok(Some(rows))
+}
+
+// The row of the record that begins at a byte, and where the record ends; none where a field has a flaw. Room is made
+// for so many fields.
+fn unquoted_row(
+    alloc: Global,
+    text: &str,
+    delimiter: u8,
+    at: usize,
+    width: usize,
+) -> Result<Option<(Vec<String>, usize)>, AllocError>
+    requires text { IsUnquoted delimiter text.now }
+    requires begins { BeginsRecord text.now at }
+    ensures { IfOk result (λ read. IfSome read (λ found. IsRecordAt delimiter text.now at found.1 found.0)) }
+{
+    let bytes = text.as_bytes();
+    let mut row = Vec::with_capacity(alloc, width)?;
+    let mut start = at;
+    while start <= bytes.len() {
+        let end = start + field_len(&bytes[start..], delimiter);
+        match text_cell(alloc, &text[start..end])? {
+            Ok(cell) => row.push(cell)?,
+            Err(_) => return Ok(None),
+        }
+        if end == bytes.len() || bytes[end] != delimiter {
+            return Ok(Some((row, end)));
+        }
+        start = end + 1;
+    }
+    Ok(None)
+}
+
+// How many bytes in front belong to a field.
+fn field_len(text: &[u8], delimiter: u8) -> usize
+    ensures count { result ≡ prefix_len (is_of_field delimiter) text.now }
+    ensures bound { result ≤ length text.now }
+{
+    text.iter()
+        .take_while(|byte| is_of_field(delimiter, **byte))
+        .count()
+}
+
+// How many bytes in front end lines.
+fn line_ends_len(text: &[u8]) -> usize
+    ensures count { result ≡ prefix_len is_line_end text.now }
+    ensures bound { result ≤ length text.now }
+{
+    text.iter().take_while(|byte| is_line_end(**byte)).count()
+}
+
+// Whether a byte belongs to a field.
+fn is_of_field(delimiter: u8, byte: u8) -> bool
+    ensures { result ≡ is_of_field delimiter byte }
+{
+    byte != delimiter && !is_line_end(byte)
+}
+
+// Whether a byte ends a line.
+fn is_line_end(byte: u8) -> bool
+    ensures { result ≡ is_line_end byte }
+{
+    byte == b'\r' || byte == b'\n'
+}
