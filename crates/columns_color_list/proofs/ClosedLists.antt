@@ -46,6 +46,7 @@ all-closed (part ∷ parts) = by (all-closed parts) (listed_color part) (item-cl
         → IfSome (option_map (λ (others : List (ℕ × Color)). first ∷ others) rest) (AllByRecursion ClosedItem)
     behind first one None all = tt
     behind first one (Some rest) all = (one, all)
+
     by : IfSome (all_of (map listed_color parts)) (AllByRecursion ClosedItem) → (given : Option (ℕ × Color)) → IfSome given ClosedItem
         → IfSome (all_of (given ∷ map listed_color parts)) (AllByRecursion ClosedItem)
     by others None one = tt

@@ -47,6 +47,7 @@ module _ {E : Type 0} (text : List ℕ) (read : Result ℕ E) (parses : ParsesUn
     where
       none : ¬ IsLow
       none = subst (λ (r : Result ℕ E). OkIff r IsLow (digits_value 10 text)) is answer
+
       by : (b : Bool) → is_low ≡ b → None ≡ column_of text
       by true e =
           let both = and_parts (nat_lt 0 (length text)) (nat_lt (digits_value 10 text) 4294967296) e in

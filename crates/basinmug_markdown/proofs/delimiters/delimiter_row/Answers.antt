@@ -15,7 +15,7 @@ one_more from (suc count) =
 next : (f : ℕ → List ℕ) (n : ℕ) (start old new : List ℕ) → old ≡ start ++ flat_map f (range_with_len 0 n) → new ≡ old ++ f n → new ≡ start ++ flat_map f (range_with_len 0 (n + 1))
 next f n start old new before grown =
     let numbers : range_with_len 0 n ++ n ∷ [] ≡ range_with_len 0 (n + 1) =
-        ap (λ (m : ℕ). range_with_len 0 n ++ m ∷ []) (omega arith) ∙ (sym (one_more 0 n) ∙ ap (range_with_len 0) (sym (add-one n))) in
+    ap (λ (m : ℕ). range_with_len 0 n ++ m ∷ []) (omega arith) ∙ (sym (one_more 0 n) ∙ ap (range_with_len 0) (sym (add-one n))) in
     grown ∙ (ap (λ (bytes : List ℕ). bytes ++ f n) before ∙ (flat_map_more f start (range_with_len 0 n) n ∙ ap (λ (ns : List ℕ). start ++ flat_map f ns) numbers))
 
 -- a row of some columns
