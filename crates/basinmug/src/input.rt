@@ -1,6 +1,5 @@
-//! The records that a run prints.
+//! The bytes that a run prints.
 use crate::fault::Fault;
-use basinmug_input::{delimiter_for, rows_of};
 use columns_run::read_all;
 use std::fs::File;
 use std::io::Read;
@@ -9,30 +8,19 @@ use tabled_output::Counted;
 // How many reads of an input there are at most.
 const READS: u64 = 1 << 40;
 
-/// The records of a file, or of standard input where there is none, with this byte between fields, or where there
-/// is none with that which the file's name says.
-pub fn records(
-    rt: &HostRuntime,
-    file: Option<&str>,
-    delimiter: Option<u8>,
-) -> Result<Vec<Vec<String>>, Fault> {
-    let delimiter = delimiter.unwrap_or(delimiter_for(file));
+/// The bytes of a file, or of standard input where there is none.
+pub fn bytes_of(rt: &HostRuntime, file: Option<&str>) -> Result<Vec<u8>, Fault> {
     match file {
         Some(path) => match File::open(rt, path) {
-            Ok(opened) => records_in(rt, opened, delimiter),
+            Ok(opened) => bytes_in(rt, opened),
             Err(error) => Err(Fault::Open(error)),
         },
-        None => records_in(rt, rt.stdin(), delimiter),
+        None => bytes_in(rt, rt.stdin()),
     }
 }
 
-// The records that a reader gives.
-fn records_in<R: Read + Drop>(
-    rt: &HostRuntime,
-    reader: R,
-    delimiter: u8,
-) -> Result<Vec<Vec<String>>, Fault> {
+// The bytes that a reader gives.
+fn bytes_in<R: Read + Drop>(rt: &HostRuntime, reader: R) -> Result<Vec<u8>, Fault> {
     let mut counted = Counted::new(reader);
-    let bytes = read_all(rt.alloc(), &mut counted, READS)?;
-    Ok(rows_of(rt.alloc(), &bytes, delimiter)?)
+    Ok(read_all(rt.alloc(), &mut counted, READS)?)
 }

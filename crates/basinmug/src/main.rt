@@ -4,14 +4,15 @@
 mod fault;
 mod input;
 
-use basinmug_expanded::records_text;
-use basinmug_markdown::markdown_cells;
-use basinmug_options::{Look, Options, Rules};
-use basinmug_picture::{PrintFault, print};
+use basinmug_input::delimiter_for;
+use basinmug_options::Options;
+use basinmug_picture::PrintFault;
+use basinmug_run::{RunFault, run, visible};
 use basinmug_words::{Asked, Plan, WidthAsked, read_words};
 use columns_color_list::column_of;
 use fault::Fault;
-use input::records;
+use input::bytes_of;
+use std::alloc::AllocError;
 use std::env::{self, VarError};
 use std::io::{self, BufWriter, ErrorKind, Write};
 use std::process::ExitCode;
@@ -29,7 +30,7 @@ fn main(rt: HostRuntime) -> ExitCode {
         Err(error) => return unread(&rt, &error),
     };
     match read_words(rt.alloc(), &words) {
-        Ok(Asked::Run(plan)) => run(&rt, plan),
+        Ok(Asked::Run(plan)) => show(&rt, plan),
         Ok(Asked::Help(text)) => ended(&rt, None, tell(&rt, &text)),
         Ok(Asked::Faulty(text)) => faulty(&rt, &text),
         Err(error) => ended(&rt, None, Err(error.into())),
@@ -47,7 +48,7 @@ fn words(rt: &HostRuntime) -> io::Result<Vec<String>> {
 }
 
 // Reads and prints what is asked for.
-fn run(rt: &HostRuntime, plan: Plan) -> ExitCode {
+fn show(rt: &HostRuntime, plan: Plan) -> ExitCode {
     let Plan {
         file,
         delimiter,
@@ -58,7 +59,8 @@ fn run(rt: &HostRuntime, plan: Plan) -> ExitCode {
     ended(rt, file.as_deref(), outcome)
 }
 
-// Prints the records of a file. Where their table is wider than asked, standard error says so.
+// Prints the records of a file, with this byte between fields, or where there is none with that which the file's name
+// says. Where their table is wider than asked, standard error says so.
 fn shown(
     rt: &HostRuntime,
     file: Option<&str>,
@@ -66,31 +68,16 @@ fn shown(
     width: WidthAsked,
     options: Options,
 ) -> Result<(), Fault> {
-    let rows = records(rt, file, delimiter)?;
-    if options.expanded {
-        let text = records_text(rt.alloc(), rows, options.header, options.max_rows)?;
-        return tell(rt, text.as_str());
-    }
+    let bytes = bytes_of(rt, file)?;
+    let delimiter = delimiter.unwrap_or(delimiter_for(file));
     let mut options = options;
     options.width = columns(rt, width)?;
-    let is_wider = match options.look {
-        Look::Markdown => document(rt, rows, options)?,
-        _ => table(rt, rows, &options)?,
-    };
-    if is_wider {
+    if table(rt, &bytes, delimiter, &options)? {
         let _ = eprintln!(rt;
             "basinmug: the table is wider than asked: --expanded shows records one below the other"
         );
     }
     Ok(())
-}
-
-// Prints the table of a document: its cells are escaped, and its one line is below the header.
-fn document(rt: &HostRuntime, rows: Vec<Vec<String>>, options: Options) -> Result<bool, Fault> {
-    let cells = markdown_cells(rt.alloc(), rows)?;
-    let mut options = options;
-    options.rules = Rules::Header;
-    table(rt, cells, &options)
 }
 
 // How many columns the table may have.
@@ -108,13 +95,13 @@ fn columns(rt: &HostRuntime, width: WidthAsked) -> Result<Option<usize>, Fault> 
 
 // Prints the table, and answers whether it is wider than asked. Its lines stand in a buffer until they are many, so
 // that a line costs no call of the system.
-fn table(rt: &HostRuntime, rows: Vec<Vec<String>>, options: &Options) -> Result<bool, Fault> {
+fn table(rt: &HostRuntime, bytes: &[u8], delimiter: u8, options: &Options) -> Result<bool, Fault> {
     let output = Counted::new(rt.stdout());
     let Ok(buffered) = BufWriter::with_capacity(rt.alloc(), OUTPUT_BUFFER, output) else {
         return Err(Fault::Memory);
     };
     let mut writer = Counted::new(buffered);
-    let outcome = print(rt.alloc(), rows, options, &mut writer);
+    let outcome = run(rt.alloc(), bytes, delimiter, options, &mut writer);
     let (mut output, rest) = writer.into_inner().into_parts();
     match outcome {
         Ok(shown) => {
@@ -125,13 +112,14 @@ fn table(rt: &HostRuntime, rows: Vec<Vec<String>>, options: &Options) -> Result<
     }
 }
 
-// Why printing failed. A buffer says only that writing did: where the output took nothing its own count tells.
-fn flushed<W: Write>(fault: PrintFault, output: &Counted<W>) -> Fault {
+// Why the run failed. A buffer says only that writing did: where the output took nothing its own count tells.
+fn flushed<W: Write>(fault: RunFault, output: &Counted<W>) -> Fault {
     match fault {
-        PrintFault::Table(BuildFault::Write) if output.empty_writes() > 0 => {
+        RunFault::Print(PrintFault::Table(BuildFault::Write)) if output.empty_writes() > 0 => {
             Fault::Write(WriteFault::WriteZero)
         }
-        other => Fault::Print(other),
+        RunFault::Memory => Fault::Memory,
+        other => Fault::Run(other),
     }
 }
 
@@ -147,13 +135,26 @@ fn ended(rt: &HostRuntime, file: Option<&str>, outcome: Result<(), Fault>) -> Ex
     let Err(fault) = outcome else {
         return ExitCode::SUCCESS;
     };
-    if fault.is_of_input() {
+    let line = if fault.is_of_input() {
         let name = file.unwrap_or("standard input");
-        let _ = eprintln!(rt; "basinmug: {name}: {fault}");
+        format!(in rt.alloc(); "{name}: {fault}")
     } else {
-        let _ = eprintln!(rt; "basinmug: {fault}");
-    }
+        format!(in rt.alloc(); "{fault}")
+    };
+    say(rt, line);
     ExitCode::FAILURE
+}
+
+// Says a line on standard error. Names in it may hold anything: what would move a terminal's cursor is shown.
+fn say(rt: &HostRuntime, line: Result<String, AllocError>) {
+    let shown = match line {
+        Ok(line) => visible(rt.alloc(), line.as_str()),
+        Err(error) => Err(error),
+    };
+    let _ = match shown {
+        Ok(shown) => eprintln!(rt; "basinmug: {shown}"),
+        Err(_) => eprintln!(rt; "basinmug: out of memory"),
+    };
 }
 
 // Words that are at fault. What the parser says of them ends in a line feed, and what is said of a value in none.

@@ -1,65 +1,37 @@
 -- Faults of tables as faults of pictures.
-use Rattle.std.proofs.Common.{◌≡◌, ◌≢◌, ◌⊎◌, ℕ, List, inl, inr, refl}
+use Rattle.std.proofs.Common.{◌≡◌, ◌⊎◌, inl, inr, refl}
 use Rattle.grid_config_values.specs.declared.fault.Fault.{Fault}
 use Rattle.grid_config_values.specs.declared.fault.Fault.TheVariants.{Memory as OutOfMemory, Range, Spans, Room}
+use Rattle.tabled.specs.Printing.{IsFit}
+use Rattle.std.specs.Prelude.{Ok}
 use Rattle.tabled.specs.Writing.{HasNoText}
+use Rattle.tabled_compact.specs.Building.{BuildRefusal}
 use Rattle.tabled_compact.specs.declared.fault.BuildFault.{BuildFault}
 use Rattle.tabled_compact.specs.declared.fault.BuildFault.TheVariants.{Table as OfTable, Write, WriteZero}
-use Rattle.tabled_output.specs.Counts.{FailsIff, OnlyWrites, TakesNothingIff}
-use Rattle.tabled_output.specs.declared.counted.Counted.{Counted}
-use Rattle.basinmug_options.specs.declared.options.Options.{Options}
+use Rattle.tabled_steps.specs.States.{State}
 use Rattle.basinmug_picture.specs.Faults.{of_build, of_table}
-use Rattle.basinmug_picture.specs.Names.{IsFirstMissing}
-use Rattle.basinmug_picture.specs.Pictures.{HasNoTable, IsNoTable, missing_of}
-use Rattle.basinmug_picture.specs.Printed.{HasNothing}
-use Rattle.basinmug_picture.specs.declared.fault.PrintFault.{PrintFault}
-use Rattle.basinmug_picture.specs.declared.fault.PrintFault.TheVariants.{NoColumn, Table, Memory}
+use Rattle.basinmug_picture.specs.Printed.{HasNothing, IsTableFault}
+use Rattle.basinmug_picture.specs.declared.fault.PrintFault.TheVariants.{Table, Memory}
 
-module _ (options : Options) (rows : List (List (List ℕ))) where
-  -- a refusal of a table
-  pub no-table : (fault : Fault) → (fault ≡ OutOfMemory) ⊎ HasNoTable options rows fault → IsNoTable options rows (of_table fault)
+module _ (Makes : State → Type 0) (NotMade : Fault → Type 0) where
+  -- a table is not made
+  pub no-table : (fault : Fault) → (fault ≡ OutOfMemory) ⊎ NotMade fault → IsTableFault Makes NotMade (of_table fault)
   no-table OutOfMemory out = tt
   no-table Range (inl is) = absurd (let it : Range ≡ OutOfMemory = is in cc it)
-  no-table Range (inr out) = (Range, refl, out)
+  no-table Range (inr out) = inl (Range, refl, out)
   no-table Spans (inl is) = absurd (let it : Spans ≡ OutOfMemory = is in cc it)
-  no-table Spans (inr out) = (Spans, refl, out)
+  no-table Spans (inr out) = inl (Spans, refl, out)
   no-table (Room row column) (inl is) = absurd (let it : Room row column ≡ OutOfMemory = is in cc it)
-  no-table (Room row column) (inr out) = (Room row column, refl, out)
+  no-table (Room row column) (inr out) = inl (Room row column, refl, out)
 
-  -- a name that is missing
-  pub no-column : (fault : PrintFault) → IsFirstMissing (missing_of options rows) fault → IsNoTable options rows fault
-  no-column (NoColumn name) is = is
-  no-column (Table fault) is = absurd is
-  no-column Memory is = tt
-
-  -- the writer has no part in it
-  pub no-write : (fault : PrintFault) → IsNoTable options rows fault → fault ≢ Table Write
-  no-write (NoColumn name) out is = cc is
-  no-write (Table fault) out is = let of : fault ≡ OfTable out.0 = out.1 in cc (is, of)
-  no-write Memory out is = cc is
-
-  pub no-write_zero : (fault : PrintFault) → IsNoTable options rows fault → fault ≢ Table WriteZero
-  no-write_zero (NoColumn name) out is = cc is
-  no-write_zero (Table fault) out is = let of : fault ≡ OfTable out.0 = out.1 in cc (is, of)
-  no-write_zero Memory out is = cc is
-
--- ---- the writer
-
-module _ {T : Type 0} (a b : Counted T) where
-  pub same-fails : (P : Type 0) → ¬ P → FailsIff P a a
-  same-fails P out = record { once = λ is. absurd (out is); last = λ is. absurd (out is); others = λ _. refl }
-
-  pub same-takes : (P : Type 0) → ¬ P → TakesNothingIff P a a
-  same-takes P out = record { once = λ is. absurd (out is); last = λ is. absurd (out is); others = λ _. refl }
-
-  pub same-writes : OnlyWrites a a
-  same-writes = record { bare_writes = refl; pieces_read = refl; ends = refl; flushes = refl }
-
-  pub fails-alike : (P Q : Type 0) → (P → Q) → (Q → P) → FailsIff P a b → FailsIff Q a b
-  fails-alike P Q to from is = record { once = λ q. is.once (from q); last = λ q. is.last (from q); others = λ out. is.others (λ p. out (to p)) }
-
-  pub takes-alike : (P Q : Type 0) → (P → Q) → (Q → P) → TakesNothingIff P a b → TakesNothingIff Q a b
-  takes-alike P Q to from is = record { once = λ q. is.once (from q); last = λ q. is.last (from q); others = λ out. is.others (λ p. out (to p)) }
+  -- a table that is made is not written
+  pub refusal-by : (s : State) (fault : BuildFault) → Makes s → BuildRefusal (IsFit s (Ok tt)) (IsFit s) fault → IsTableFault Makes NotMade (of_build fault)
+  refusal-by s (OfTable OutOfMemory) made out = tt
+  refusal-by s (OfTable Range) made out = inr (s, made, out)
+  refusal-by s (OfTable Spans) made out = inr (s, made, out)
+  refusal-by s (OfTable (Room row column)) made out = inr (s, made, out)
+  refusal-by s Write made out = inr (s, made, out)
+  refusal-by s WriteZero made out = inr (s, made, out)
 
 pub write-named : (fault : BuildFault) → of_build fault ≡ Table Write → fault ≡ Write
 write-named (OfTable OutOfMemory) is = absurd (let it : Memory ≡ Table Write = is in cc it)

@@ -2,8 +2,9 @@ mod Mapped
 mod Missing
 mod Widths
 mod Behind
-mod Faults
+pub mod Faults
+pub mod Written
 mod Tables
-mod Narrowed
+pub mod Narrowed
 mod ShownRows
 mod Printed

@@ -16,7 +16,7 @@ use Rattle.tabled_size_dimension.specs.declared.suffix.SuffixLimit.TheVariants.{
 use Rattle.tabled_size_priority.specs.declared.choice.Choice.{Choice}
 use Rattle.tabled_steps.specs.States.{State}
 use Rattle.basinmug_columns.specs.Rooms.{AreRooms}
-use Rattle.basinmug_picture.specs.Narrowing.{AreFitting, FitFirst, FitIfLess, Fits, Narrows, ellipsis}
+use Rattle.basinmug_picture.specs.Narrowing.{AreFitting, FitFirst, FitIfLess, FitsColumn, Narrows, ellipsis}
 
 -- what holds anyway holds where a call is accepted
 pub on-ok : {T E : Type 0} (r : Result T E) (P : Type 0) → P → OnOk r P
@@ -29,7 +29,7 @@ err-told (Ok x) fault P told p = tt
 err-told (Err e) fault P told p = subst P (sym told) p
 
 pub fits-cut : (truncate : Bool) (column room width : ℕ) (suffix : String Global) (old new : List Setting) → truncate ≡ true → width ≡ room - 2 → string_bytes suffix ≡ ellipsis
-    → new ≡ old ++ CellTruncate (Column column) (Exact width) suffix Cut true false ∷ [] → (own : List Setting) × (new ≡ old ++ own) × Fits truncate column room own
+    → new ≡ old ++ CellTruncate (Column column) (Exact width) suffix Cut true false ∷ [] → (own : List Setting) × (new ≡ old ++ own) × FitsColumn truncate column room own
 fits-cut true column room width suffix old new is size bytes grown =
     (CellTruncate (Column column) (Exact width) suffix Cut true false ∷ [], grown, (suffix, bytes, ap (λ n. CellTruncate (Column column) (Exact n) suffix Cut true false ∷ []) size))
 fits-cut false column room width suffix old new is size bytes grown = absurd (let it : false ≡ true = is in cc it)

@@ -1,19 +1,18 @@
 -- What the parts of a picture are, together.
-use Rattle.std.proofs.Common.{◌≡◌, ◌∙◌, ◌⊎◌, ap, inl, inr, subst, ℕ, List, Bool, map}
+use Rattle.std.proofs.Common.{◌≡◌, ◌∙◌, ◌⊎◌, ap, inl, inr, subst, ℕ, List, Bool, Result, Ok, Err, map}
 use Rattle.std.specs.List.{range_with_len}
-use Rattle.std.specs.Prelude.{MatchOption}
+use Rattle.std.specs.Prelude.{IfErr, MatchOption, OnOk}
 use Rattle.grid_config_values.specs.declared.fault.Fault.{Fault}
 use Rattle.grid_config_values.specs.declared.fault.Fault.TheVariants.{Memory as OutOfMemory}
-use Rattle.tabled.specs.Tables.{new_state}
 use Rattle.tabled_list.specs.Lists.{Runs}
 use Rattle.tabled_list.specs.declared.setting.Setting.{Setting}
 use Rattle.tabled_steps.specs.States.{State}
-use Rattle.tabled_text.specs.Rows.{filled, longest}
+use Rattle.tabled_text.specs.Rows.{longest}
 use Rattle.basinmug_numbers.specs.Columns.{is_numeric}
 use Rattle.basinmug_options.specs.declared.options.Options.{Options}
 use Rattle.basinmug_picture.specs.Looks.{looks}
-use Rattle.basinmug_picture.specs.Narrowing.{IsNotNarrowed, IsRefusedIn, Narrows}
-use Rattle.basinmug_picture.specs.Pictures.{HasNoTable, IsTable, looks_of, numeric_of}
+use Rattle.basinmug_picture.specs.Narrowing.{IsNotNarrowed, Narrows}
+use Rattle.basinmug_picture.specs.Pictures.{IsMade, IsNotMade, looks_of, numeric_of}
 use Rattle.basinmug_picture.specs.Rows.{header_of, records_of}
 
 pub numeric-is : (header : Bool) (rows records : List (List (List ℕ))) (columns : ℕ) (numeric : List Bool) → numeric ≡ map (is_numeric records) (range_with_len 0 columns) → records ≡ records_of header rows → columns ≡ longest rows
@@ -27,27 +26,29 @@ looks-are options rows header numeric settings are head is =
     are ∙ ap (λ (it : List (List ℕ)). looks options.look it numeric options.alignments.items options.colors.items) head
     ∙ ap (λ (it : List Bool). looks options.look (header_of options.header rows) it options.alignments.items options.colors.items) is
 
-pub refused-alike : (settings list : List Setting) (start first : State) (fault : Fault) → list ≡ settings → first ≡ start → IsRefusedIn list first fault → IsRefusedIn settings start fault
-refused-alike settings list start first fault listed made is =
-    subst (λ (it : List Setting). IsRefusedIn it start fault) listed (subst (λ (s : State). IsRefusedIn list s fault) made is)
-
-runs-alike : (settings list : List Setting) (start first look : State) → list ≡ settings → first ≡ start → Runs list first look → Runs settings start look
-runs-alike settings list start first look listed made run = subst (λ (it : List Setting). Runs it start look) listed (subst (λ (s : State). Runs list s look) made run)
-
-module _ (options : Options) (rows : List (List (List ℕ))) (numeric : List Bool) (list : List Setting) (first look : State) where
-  pub table-is : (s : State) → numeric ≡ numeric_of options.header rows → list ≡ looks_of options rows → first ≡ new_state (filled rows) → Runs list first look
-      → MatchOption options.width (s ≡ look) (λ width. Narrows options.truncate options.priority numeric width look s) → IsTable options rows s
-  table-is s numbers listed made run narrowed = (
+module _ (options : Options) (settings list : List Setting) (numeric numbers : List Bool) (old look : State) where
+  -- a table is made by its settings, and then by its width
+  pub made-by : list ≡ settings → numbers ≡ numeric → Runs list old look → (new : State) (r : Result Bool Fault)
+      → OnOk r (MatchOption options.width (new ≡ look) (λ width. Narrows options.truncate options.priority numbers width look new)) → OnOk r (IsMade options settings numeric old new)
+  made-by listed numbered run new (Err fault) narrowed = tt
+  made-by listed numbered run new (Ok wider) narrowed = (
     look,
-    runs-alike (looks_of options rows) list (new_state (filled rows)) first look listed made run,
-    subst (λ (it : List Bool). MatchOption options.width (s ≡ look) (λ width. Narrows options.truncate options.priority it width look s)) numbers narrowed,
+    subst (λ (it : List Setting). Runs it old look) listed run,
+    subst (λ (it : List Bool). MatchOption options.width (new ≡ look) (λ width. Narrows options.truncate options.priority it width look new)) numbered narrowed,
   )
 
-  pub wider-refused : (fault : Fault) → numeric ≡ numeric_of options.header rows → list ≡ looks_of options rows → first ≡ new_state (filled rows) → Runs list first look
-      → (fault ≡ OutOfMemory) ⊎ MatchOption options.width ⊥ (λ width. IsNotNarrowed options.truncate options.priority numeric width look fault) → (fault ≡ OutOfMemory) ⊎ HasNoTable options rows fault
-  wider-refused fault numbers listed made run (inl is) = inl is
-  wider-refused fault numbers listed made run (inr out) = inr (inr (
+  not-made : list ≡ settings → numbers ≡ numeric → Runs list old look → (fault : Fault)
+      → (fault ≡ OutOfMemory) ⊎ MatchOption options.width ⊥ (λ width. IsNotNarrowed options.truncate options.priority numbers width look fault) → (fault ≡ OutOfMemory) ⊎ IsNotMade options settings numeric old fault
+  not-made listed numbered run fault (inl is) = inl is
+  not-made listed numbered run fault (inr out) = inr (inr (
     look,
-    runs-alike (looks_of options rows) list (new_state (filled rows)) first look listed made run,
-    subst (λ (it : List Bool). MatchOption options.width ⊥ (λ width. IsNotNarrowed options.truncate options.priority it width look fault)) numbers out,
+    subst (λ (it : List Setting). Runs it old look) listed run,
+    subst (λ (it : List Bool). MatchOption options.width ⊥ (λ width. IsNotNarrowed options.truncate options.priority it width look fault)) numbered out,
   ))
+
+  -- it is not made, since it is not made narrower
+  pub not-made-by : list ≡ settings → numbers ≡ numeric → Runs list old look → (r : Result Bool Fault)
+      → IfErr r (λ fault. (fault ≡ OutOfMemory) ⊎ MatchOption options.width ⊥ (λ width. IsNotNarrowed options.truncate options.priority numbers width look fault))
+      → IfErr r (λ fault. (fault ≡ OutOfMemory) ⊎ IsNotMade options settings numeric old fault)
+  not-made-by listed numbered run (Ok wider) out = tt
+  not-made-by listed numbered run (Err fault) out = not-made listed numbered run fault out

@@ -23,14 +23,14 @@ ellipsis = 0xe2 ∷ 0x80 ∷ 0xa6 ∷ []
 
 -- a column of a padding at each side that has this room: its texts are cut, or broken between words, where the space of
 -- the break is trimmed from each line
-abbrev pub Fits : Bool → ℕ → ℕ → List Setting → Type 0
-Fits true column room settings = (suffix : String Global) × (string_bytes suffix ≡ ellipsis) × (settings ≡ CellTruncate (Column column) (Exact (room - 2)) suffix Cut true false ∷ [])
-Fits false column room settings =
+abbrev pub FitsColumn : Bool → ℕ → ℕ → List Setting → Type 0
+FitsColumn true column room settings = (suffix : String Global) × (string_bytes suffix ≡ ellipsis) × (settings ≡ CellTruncate (Column column) (Exact (room - 2)) suffix Cut true false ∷ [])
+FitsColumn false column room settings =
     settings ≡ CellWrap (Column column) (Exact (room - 2)) true ∷ TrimHorizontal (Column column) true ∷ LineAlignment (Column column) true ∷ []
 
 -- the same where the room is less than the width of the column, and else nothing
 abbrev pub FitIfLess : Bool → ℕ → ℕ → ℕ → List Setting → Type 0
-FitIfLess truncate column width room own = MatchBool (nat_lt room width) (Fits truncate column room own) (own ≡ [])
+FitIfLess truncate column width room own = MatchBool (nat_lt room width) (FitsColumn truncate column room own) (own ≡ [])
 
 -- the settings of the first columns, one after the other
 abbrev pub FitFirst : Bool → List ℕ → List ℕ → ℕ → List Setting → Type 0

@@ -1,14 +1,17 @@
 -- What a call that prints rows leaves in a writer, and why it gives up.
-use Rattle.std.specs.Prelude.{◌≡◌, ◌⊎◌, ⊤, ℕ, ◌-◌, Bool, List, [], ◌++◌, Option, Ok, length, take}
+use Rattle.std.specs.Prelude.{◌≡◌, ◌⊎◌, ⊤, ℕ, ◌-◌, Bool, List, [], Option, Ok, length, take}
 use Rattle.std.specs.Io.KnownBytes.{Appends}
+use Rattle.grid_config_values.specs.declared.fault.Fault.{Fault}
 use Rattle.tabled.specs.Printing.{IsFit}
-use Rattle.tabled.specs.Writing.{HasNoText, wanted_lines}
+use Rattle.tabled.specs.Writing.{HasNoText}
 use Rattle.tabled_compact.specs.Building.{BuildRefusal}
+use Rattle.tabled_compact.specs.declared.fault.BuildFault.TheVariants.{Table as OfTable}
 use Rattle.tabled_output.specs.Streams.{AppendsFront}
 use Rattle.tabled_steps.specs.States.{State}
 use Rattle.basinmug_options.specs.declared.options.Options.{Options}
-use Rattle.basinmug_picture.specs.Lines.{is_wanted, more_line}
-use Rattle.basinmug_picture.specs.Pictures.{IsNoTable, IsTable, is_wider, missing_of}
+use Rattle.basinmug_picture.specs.Lines.{lines_text, more_line, rules_of}
+use Rattle.basinmug_picture.specs.Names.{IsFirstMissing}
+use Rattle.basinmug_picture.specs.Pictures.{HasNoTable, IsTable, is_wider, missing_of}
 use Rattle.basinmug_picture.specs.Rows.{shown_count}
 use Rattle.basinmug_picture.specs.declared.fault.PrintFault.{PrintFault}
 use Rattle.basinmug_picture.specs.declared.fault.PrintFault.TheVariants.{NoColumn, Table, Memory}
@@ -18,6 +21,21 @@ abbrev pub HasNothing : PrintFault → Type 0
 HasNothing (NoColumn name) = ⊤
 HasNothing (Table fault) = HasNoText fault
 HasNothing Memory = ⊥
+
+-- a table that is made so is printed, by this text of it
+abbrev pub PrintsTable : (State → Type 0) → (State → List ℕ) → Option ℕ → Bool → Option (List ℕ) → Option (List ℕ) → Type 0
+PrintsTable Makes text width wider old new = (s : State) × Makes s × IsFit s (Ok tt) × (wider ≡ is_wider width s) × Appends old new (text s)
+
+-- nothing of it is written, or a front
+abbrev pub StopsInTable : (State → Type 0) → (State → List ℕ) → Option (List ℕ) → Option (List ℕ) → Type 0
+StopsInTable Makes text old new = Appends old new [] ⊎ ((s : State) × Makes s × AppendsFront old new (text s))
+
+-- why it is not printed: it is not made, or it has no text, or the writer gave up; want of memory may always be
+abbrev pub IsTableFault : (State → Type 0) → (Fault → Type 0) → PrintFault → Type 0
+IsTableFault Makes NotMade (NoColumn name) = ⊥
+IsTableFault Makes NotMade (Table fault) =
+    ((why : Fault) × (fault ≡ OfTable why) × NotMade why) ⊎ ((s : State) × Makes s × BuildRefusal (IsFit s (Ok tt)) (IsFit s) fault)
+IsTableFault Makes NotMade Memory = ⊤
 
 module _ (options : Options) (rows : List (List (List ℕ))) where
   -- how many rows are shown, and which
@@ -29,19 +47,18 @@ module _ (options : Options) (rows : List (List (List ℕ))) where
 
   -- what is printed of their table: its lines that are wanted, and the line of the rows that are left out
   abbrev pub text_of : State → List ℕ
-  text_of s = wanted_lines (is_wanted options.rules options.header shown) s ++ more_line (length rows - shown)
+  text_of = lines_text (rules_of options.look options.rules) options.header shown (more_line (length rows - shown))
 
-  -- the rows are printed as a table
+  -- the rows are printed as a table, in which each named column is
   abbrev pub Prints : Bool → Option (List ℕ) → Option (List ℕ) → Type 0
-  Prints wider old new =
-      (s : State) × IsTable options shown_rows s × IsFit s (Ok tt) × (wider ≡ is_wider options.width s) × (missing_of options shown_rows ≡ []) × Appends old new (text_of s)
+  Prints wider old new = (missing_of options shown_rows ≡ []) × PrintsTable (IsTable options shown_rows) text_of options.width wider old new
 
   -- nothing of it is written, or a front
   abbrev pub StopsIn : Option (List ℕ) → Option (List ℕ) → Type 0
-  StopsIn old new = Appends old new [] ⊎ ((s : State) × IsTable options shown_rows s × AppendsFront old new (text_of s))
+  StopsIn = StopsInTable (IsTable options shown_rows) text_of
 
-  -- why it is not printed: there is no table, or it has no text, or the writer gave up; want of memory may always be
+  -- why it is not printed: a name is missing, of which the first is told; and else the fault of the table
   abbrev pub IsRefusal : PrintFault → Type 0
-  IsRefusal (NoColumn name) = IsNoTable options shown_rows (NoColumn name)
-  IsRefusal (Table fault) = IsNoTable options shown_rows (Table fault) ⊎ ((s : State) × IsTable options shown_rows s × BuildRefusal (IsFit s (Ok tt)) (IsFit s) fault)
+  IsRefusal (NoColumn name) = IsFirstMissing (missing_of options shown_rows) (NoColumn name)
+  IsRefusal (Table fault) = (missing_of options shown_rows ≡ []) × IsTableFault (IsTable options shown_rows) (HasNoTable options shown_rows) (Table fault)
   IsRefusal Memory = ⊤

@@ -1,6 +1,7 @@
 //! Records as a picture: a table with a header, in a width.
 #![tactic(auto)]
 
+mod appearance;
 mod fault;
 mod glyphs;
 mod lines;

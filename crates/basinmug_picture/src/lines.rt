@@ -1,8 +1,8 @@
 //! Which lines of a picture are printed, and what stands below them.
 ghost use Rattle.std.specs.Prelude.{◌≡◌, IfOk, string_bytes};
-ghost use Rattle.basinmug_picture.specs.Lines.{is_inner_wanted, more_line};
+ghost use Rattle.basinmug_picture.specs.Lines.{is_inner_wanted, more_line, rules_of};
 
-use basinmug_options::Rules;
+use basinmug_options::{Look, Rules};
 use std::alloc::{AllocError, Global};
 use tabled::{Place, Wanted};
 
@@ -39,6 +39,16 @@ fn is_inner_wanted(rules: Rules, header: bool, boundary: usize) -> bool
         Rules::Header => header && boundary == 1,
         Rules::All => true,
         Rules::None => false,
+    }
+}
+
+/// The rules of a table in this look: in one of Markdown a line stands below the header alone.
+pub(crate) fn rules_of(look: Look, rules: Rules) -> Rules
+    ensures { result ≡ rules_of look rules }
+{
+    match look {
+        Look::Markdown => Rules::Header,
+        Look::Ascii | Look::Modern | Look::Rounded | Look::Extended | Look::Empty => rules,
     }
 }
 

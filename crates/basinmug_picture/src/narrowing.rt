@@ -4,7 +4,7 @@ ghost use Rattle.grid_config_values.specs.declared.fault.Fault.TheVariants.{Memo
 ghost use Rattle.tabled.specs.Tables.{state_of};
 ghost use Rattle.tabled.specs.Totals.{drawn_width};
 ghost use Rattle.tabled_list.specs.Lists.{Runs};
-ghost use Rattle.basinmug_picture.specs.Narrowing.{FitFirst, FitIfLess, Fits, IsNotNarrowed, IsRefusedIn, Narrows};
+ghost use Rattle.basinmug_picture.specs.Narrowing.{FitFirst, FitIfLess, FitsColumn, IsNotNarrowed, IsRefusedIn, Narrows};
 ghost use Rattle.basinmug_picture.specs.Pictures.{is_wider};
 
 use basinmug_columns::shrink_columns;
@@ -154,7 +154,7 @@ fn push_fitting(
     room: usize,
     truncate: bool,
 ) -> Result<(), AllocError>
-    ensures { OnOk result ((own : List Setting) × (settings.new.items ≡ settings.old.items ++ own) × Fits truncate column room own) }
+    ensures { OnOk result ((own : List Setting) × (settings.new.items ≡ settings.old.items ++ own) × FitsColumn truncate column room own) }
 {
     let at = Entity::Column(column);
     let width = Amount::Exact(room.saturating_sub(2));

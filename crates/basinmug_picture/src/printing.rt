@@ -1,6 +1,7 @@
 //! A picture that is printed.
 ghost use Rattle.std.specs.Io.KnownBytes.{Appends};
-ghost use Rattle.std.specs.Prelude.{◌≡◌, ◌≤◌, ◌-◌, ◌++◌, [], IfErr, IfOk, IsErrOf, Ok, OnOk, length, take};
+ghost use Rattle.std.specs.Prelude.{◌≡◌, ◌≤◌, ◌⊎◌, ◌-◌, ◌++◌, [], IfErr, IfOk, IsErrOf, Ok, OnOk, length, take};
+ghost use Rattle.grid_config_values.specs.declared.fault.Fault.TheVariants.{Memory};
 ghost use Rattle.tabled.specs.Printing.{IsFit};
 ghost use Rattle.tabled.specs.Tables.{state_of};
 ghost use Rattle.tabled.specs.Writing.{HasNoText, wanted_lines};
@@ -8,21 +9,20 @@ ghost use Rattle.tabled_compact.specs.Building.{BuildRefusal};
 ghost use Rattle.tabled_output.specs.Counts.{FailsIff, OnlyWrites, TakesNothingIff, inner_of};
 ghost use Rattle.tabled_output.specs.Streams.{AppendsFront};
 ghost use Rattle.tabled_text.specs.Rows.{text_rows};
-ghost use Rattle.basinmug_picture.specs.Lines.{is_wanted};
-ghost use Rattle.basinmug_picture.specs.Pictures.{IsNoTable, IsTable, is_wider, missing_of};
-ghost use Rattle.basinmug_picture.specs.Printed.{HasNothing, IsRefusal, Prints, StopsIn};
+ghost use Rattle.basinmug_picture.specs.Lines.{is_wanted, lines_text};
+ghost use Rattle.basinmug_picture.specs.Pictures.{IsMade, IsNotMade, is_wider};
+ghost use Rattle.basinmug_picture.specs.Printed.{HasNothing, IsRefusal, IsTableFault, Prints, PrintsTable, StopsIn, StopsInTable};
 ghost use Rattle.basinmug_picture.specs.Rows.{shown_count};
 
+use crate::appearance::{Appearance, appearance_of};
 use crate::fault::PrintFault;
-use crate::lines::{RuledLines, more_line};
-use crate::looks::looks;
+use crate::lines::{RuledLines, more_line, rules_of};
 use crate::narrowing::{narrow_if_asked, run_settings};
-use crate::rows::{header_of, longest_row, records_of, shown_count};
-use basinmug_numbers::numeric_columns;
+use crate::rows::shown_count;
 use basinmug_options::Options;
 use std::alloc::Global;
 use std::io::Write;
-use tabled::{BuildFault, Builder, Counted, Table};
+use tabled::{BuildFault, Builder, Counted, Fault, Table};
 use tabled_output::write_piece;
 
 /// What there is to say of a picture that was printed.
@@ -52,17 +52,28 @@ pub fn print<W: Write>(
 {
     let shown = shown_rows(rows, options);
     let (rows, left_out) = shown;
-    let more = more_line(alloc, left_out)?;
     let lines = RuledLines {
-        rules: options.rules,
+        rules: rules_of(options.look, options.rules),
         header: options.header,
         rows: rows.len(),
     };
-    let picture = picture_of(alloc, rows, options)?;
-    write_lines(&picture.table, &lines, more.as_str(), writer)?;
-    Ok(Shown {
-        wider: picture.wider,
-    })
+    let more = more_line(alloc, left_out)?;
+    let texts = rows.as_slice();
+    let appearance = appearance_of(alloc, texts, options)?;
+    let builder = Builder::from_vec(rows);
+    let mut table = Table::from_builder(builder)?;
+    let below = more.as_str();
+    let outcome = print_table(
+        alloc,
+        &mut table,
+        &appearance,
+        options,
+        &lines,
+        below,
+        writer,
+    );
+    drop(table);
+    outcome
 }
 
 // The rows that are shown, and how many are left out.
@@ -77,38 +88,55 @@ fn shown_rows(rows: Vec<Vec<String>>, options: &Options) -> (Vec<Vec<String>>, u
     (rows, left_out)
 }
 
-// A table that is ready to be written.
-#[derive(Drop)]
-struct Picture {
-    table: Table,
-    // Whether it is wider than was asked.
-    wider: bool,
+// Prints a table: its settings, its width, its lines that are wanted, and then a text. The table is lent, so that who
+// made it drops it in one place.
+fn print_table<W: Write>(
+    alloc: Global,
+    table: &mut Table,
+    appearance: &Appearance,
+    options: &Options,
+    lines: &RuledLines,
+    more: &str,
+    writer: &mut Counted<W>,
+) -> Result<Shown, PrintFault>
+    ensures printed { IfOk result (λ shown. PrintsTable
+        (IsMade options.now appearance.now.settings.items appearance.now.numeric.items (state_of (λ text. text) table.old))
+        (lines_text lines.now.rules lines.now.header lines.now.rows more.now) options.now.width
+        shown.wider (W.contents (inner_of writer.old)) (W.contents (inner_of writer.new))) }
+    ensures front { IfErr result (λ fault. ¬ (HasNothing fault) → StopsInTable
+        (IsMade options.now appearance.now.settings.items appearance.now.numeric.items (state_of (λ text. text) table.old))
+        (lines_text lines.now.rules lines.now.header lines.now.rows more.now)
+        (W.contents (inner_of writer.old)) (W.contents (inner_of writer.new))) }
+    ensures untouched { IfErr result (λ fault. HasNothing fault → writer.new ≡ writer.old) }
+    ensures refused { IfErr result (IsTableFault
+        (IsMade options.now appearance.now.settings.items appearance.now.numeric.items (state_of (λ text. text) table.old))
+        (IsNotMade options.now appearance.now.settings.items appearance.now.numeric.items (state_of (λ text. text) table.old))) }
+    ensures write { FailsIff (IsErrOf result (PrintFault.Table BuildFault.Write)) writer.old writer.new }
+    ensures write_zero { TakesNothingIff (IsErrOf result (PrintFault.Table BuildFault.WriteZero)) writer.old writer.new }
+    ensures only_writes { OnlyWrites writer.old writer.new }
+{
+    let wider = make_table(alloc, table, appearance, options)?;
+    write_lines(table, lines, more, writer)?;
+    Ok(Shown { wider })
 }
 
-// The table of rows, under its settings.
-fn picture_of(
+// Sets what a table looks like, and makes it narrower where a width is asked. Answers whether it is wider than asked.
+fn make_table(
     alloc: Global,
-    rows: Vec<Vec<String>>,
+    table: &mut Table,
+    appearance: &Appearance,
     options: &Options,
-) -> Result<Picture, PrintFault>
-    ensures table { IfOk result (λ picture. IsTable options.now (text_rows rows.items) (state_of (λ text. text) picture.table)) }
-    ensures wider { IfOk result (λ picture. picture.wider ≡ is_wider options.now.width (state_of (λ text. text) picture.table)) }
-    ensures named { OnOk result (missing_of options.now (text_rows rows.items) ≡ []) }
-    ensures refused { IfErr result (IsNoTable options.now (text_rows rows.items)) }
+) -> Result<bool, Fault>
+    ensures made { OnOk result (IsMade options.now appearance.now.settings.items appearance.now.numeric.items
+        (state_of (λ text. text) table.old) (state_of (λ text. text) table.new)) }
+    ensures wider { IfOk result (λ wider. wider ≡ is_wider options.now.width (state_of (λ text. text) table.new)) }
+    ensures refused { IfErr result (λ fault. (fault ≡ Memory) ⊎ IsNotMade options.now
+        appearance.now.settings.items appearance.now.numeric.items (state_of (λ text. text) table.old) fault) }
 {
-    let shown = rows.as_slice();
-    let header = header_of(options.header, shown);
-    let records = records_of(options.header, shown);
-    let longest = longest_row(shown);
-    let numeric = numeric_columns(alloc, records, longest)?;
-    let numbers = numeric.as_slice();
-    let settings = looks(alloc, header, numbers, options)?;
-    let list = settings.as_slice();
-    let builder = Builder::from_vec(rows);
-    let mut table = Table::from_builder(builder)?;
-    run_settings(&mut table, list)?;
-    let wider = narrow_if_asked(alloc, &mut table, numbers, options)?;
-    Ok(Picture { table, wider })
+    let list = appearance.settings.as_slice();
+    run_settings(table, list)?;
+    let numbers = appearance.numeric.as_slice();
+    narrow_if_asked(alloc, table, numbers, options)
 }
 
 // Writes the lines of a table that are wanted, and then a text.

@@ -1,0 +1,58 @@
+-- What is printed of a table, and what comes of a refusal.
+use Rattle.std.proofs.Common.{inr, ℕ, List}
+use Rattle.tabled.specs.Tables.{state_of}
+use Rattle.basinmug_picture.specs.Faults.{of_build, of_table}
+use Rattle.basinmug_picture.specs.Pictures.{IsMade, IsNotMade}
+use Rattle.basinmug_picture.proofs.Faults.{no-table, nothing-written, refusal-by, something-written}
+use Rattle.basinmug_picture.proofs.Narrowed.{err-told}
+use Rattle.basinmug_picture.proofs.Written.{fails-told, table-fails, table-takes, takes-told}
+use Rattle.basinmug_picture.proofs.printing.print_table.Goals as goal
+
+pub returns-in_err-wider-clause-refused : goal.returns-in_err-wider-clause-refused
+returns-in_err-wider-clause-refused g c =
+    let options = c.args.options.now in
+    let it = c.args.appearance.now in
+    let old = state_of {T = List ℕ} (λ text. text) c.args.table.now in
+    err-told c.from_residual.result (of_table c.in_err-wider.field-0.0) _ c.from_residual.ensures.1
+    (no-table (IsMade options it.settings.items it.numeric.items old) (IsNotMade options it.settings.items it.numeric.items old) c.in_err-wider.field-0.0 c.in_err-wider.ensures.refused)
+
+pub returns-in_err-wider-clause-write : goal.returns-in_err-wider-clause-write
+returns-in_err-wider-clause-write g c = table-fails c.args.writer.now c.in_err-wider.field-0.0 c.from_residual.result c.from_residual.ensures.1
+
+pub returns-in_err-wider-clause-write_zero : goal.returns-in_err-wider-clause-write_zero
+returns-in_err-wider-clause-write_zero g c = table-takes c.args.writer.now c.in_err-wider.field-0.0 c.from_residual.result c.from_residual.ensures.1
+
+pub returns-in_err-write_lines-clause-front : goal.returns-in_err-write_lines-clause-front
+returns-in_err-write_lines-clause-front g c =
+    err-told c.from_residual-in_err-write_lines.result (of_build c.in_err-write_lines.field-0.0) _ c.from_residual-in_err-write_lines.ensures.1
+    (λ some. inr (state_of {T = List ℕ} (λ text. text) c.make_table.new.table, c.in_ok-wider.ensures.made, c.in_err-write_lines.ensures.front (something-written c.in_err-write_lines.field-0.0 some)))
+
+pub returns-in_err-write_lines-clause-untouched : goal.returns-in_err-write_lines-clause-untouched
+returns-in_err-write_lines-clause-untouched g c =
+    err-told c.from_residual-in_err-write_lines.result (of_build c.in_err-write_lines.field-0.0) _ c.from_residual-in_err-write_lines.ensures.1 (λ none. c.in_err-write_lines.ensures.untouched (nothing-written c.in_err-write_lines.field-0.0 none))
+
+pub returns-in_err-write_lines-clause-refused : goal.returns-in_err-write_lines-clause-refused
+returns-in_err-write_lines-clause-refused g c =
+    let options = c.args.options.now in
+    let it = c.args.appearance.now in
+    let old = state_of {T = List ℕ} (λ text. text) c.args.table.now in
+    err-told c.from_residual-in_err-write_lines.result (of_build c.in_err-write_lines.field-0.0) _ c.from_residual-in_err-write_lines.ensures.1
+    (refusal-by (IsMade options it.settings.items it.numeric.items old) (IsNotMade options it.settings.items it.numeric.items old) (state_of {T = List ℕ} (λ text. text) c.make_table.new.table) c.in_err-write_lines.field-0.0
+    c.in_ok-wider.ensures.made c.in_err-write_lines.ensures.table)
+
+pub returns-in_err-write_lines-clause-write : goal.returns-in_err-write_lines-clause-write
+returns-in_err-write_lines-clause-write g c =
+    fails-told c.args.writer.now c.write_lines.new.writer c.in_err-write_lines.field-0.0 c.from_residual-in_err-write_lines.result c.write_lines.result c.from_residual-in_err-write_lines.ensures.1 c.in_err-write_lines.was c.write_lines.ensures.write
+
+pub returns-in_err-write_lines-clause-write_zero : goal.returns-in_err-write_lines-clause-write_zero
+returns-in_err-write_lines-clause-write_zero g c =
+    takes-told c.args.writer.now c.write_lines.new.writer c.in_err-write_lines.field-0.0 c.from_residual-in_err-write_lines.result c.write_lines.result c.from_residual-in_err-write_lines.ensures.1 c.in_err-write_lines.was c.write_lines.ensures.write_zero
+
+pub returns-clause-printed : goal.returns-clause-printed
+returns-clause-printed g c = (
+  state_of {T = List ℕ} (λ text. text) c.make_table.new.table,
+  c.in_ok-wider.ensures.made,
+  c.in_ok-write_lines.ensures.fits,
+  c.in_ok-wider.ensures.wider,
+  c.in_ok-write_lines.ensures.whole,
+)

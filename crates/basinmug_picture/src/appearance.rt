@@ -1,0 +1,41 @@
+//! What a table looks like before it is made narrower.
+ghost use Rattle.std.specs.Prelude.{◌≡◌, [], IfErr, IfOk, OnOk};
+ghost use Rattle.tabled_text.specs.Rows.{text_rows};
+ghost use Rattle.basinmug_picture.specs.Names.{IsFirstMissing};
+ghost use Rattle.basinmug_picture.specs.Pictures.{looks_of, missing_of, numeric_of};
+
+use crate::fault::PrintFault;
+use crate::looks::looks;
+use crate::rows::{header_of, longest_row, records_of};
+use basinmug_numbers::numeric_columns;
+use basinmug_options::Options;
+use std::alloc::Global;
+use tabled::Setting;
+
+/// The settings of a table, and which of its columns are of numbers.
+#[derive(Drop)]
+pub(crate) struct Appearance {
+    pub settings: Vec<Setting>,
+    pub numeric: Vec<bool>,
+}
+
+/// What the table of rows looks like, of which the first is the header where the options say so. Refused as
+/// `NoColumn` with the first name that the header does not have, and as `Memory` where allocation fails.
+pub(crate) fn appearance_of(
+    alloc: Global,
+    rows: &[Vec<String>],
+    options: &Options,
+) -> Result<Appearance, PrintFault>
+    ensures settings { IfOk result (λ it. it.settings.items ≡ looks_of options.now (text_rows rows.now)) }
+    ensures numeric { IfOk result (λ it. it.numeric.items ≡ numeric_of options.now.header (text_rows rows.now)) }
+    ensures named { OnOk result (missing_of options.now (text_rows rows.now) ≡ []) }
+    ensures refused { IfErr result (IsFirstMissing (missing_of options.now (text_rows rows.now))) }
+{
+    let header = header_of(options.header, rows);
+    let records = records_of(options.header, rows);
+    let longest = longest_row(rows);
+    let numeric = numeric_columns(alloc, records, longest)?;
+    let numbers = numeric.as_slice();
+    let settings = looks(alloc, header, numbers, options)?;
+    Ok(Appearance { settings, numeric })
+}

@@ -1,0 +1,39 @@
+-- What holds of the one of two ways that is taken.
+use Rattle.std.proofs.Common.{◌≡◌, sym, subst, Bool, true, false, Result, Ok, Err}
+use Rattle.std.specs.Prelude.{IfErr, IfOk, MatchBool}
+
+pub either : (b : Bool) (P Q : Type 0) → P → Q → MatchBool b P Q
+either true P Q p q = p
+either false P Q p q = q
+
+pub first : (b : Bool) (P Q : Type 0) → b ≡ true → P → MatchBool b P Q
+first b P Q is p = subst (λ (it : Bool). MatchBool it P Q) (sym is) p
+
+pub second : (b : Bool) (P Q : Type 0) → b ≡ false → Q → MatchBool b P Q
+second b P Q is q = subst (λ (it : Bool). MatchBool it P Q) (sym is) q
+
+module _ {T E : Type 0} (b : Bool) where
+  pub ok-first : (r : Result T E) (P Q : T → Type 0) → b ≡ true → IfOk r P → IfOk r (λ it. MatchBool b (P it) (Q it))
+  ok-first (Ok x) P Q is p = first b (P x) (Q x) is p
+  ok-first (Err e) P Q is p = tt
+
+  pub ok-second : (r : Result T E) (P Q : T → Type 0) → b ≡ false → IfOk r Q → IfOk r (λ it. MatchBool b (P it) (Q it))
+  ok-second (Ok x) P Q is q = second b (P x) (Q x) is q
+  ok-second (Err e) P Q is q = tt
+
+  pub err-first : (r : Result T E) (P Q : E → Type 0) → b ≡ true → IfErr r P → IfErr r (λ it. MatchBool b (P it) (Q it))
+  err-first (Ok x) P Q is p = tt
+  err-first (Err e) P Q is p = first b (P e) (Q e) is p
+
+  pub err-second : (r : Result T E) (P Q : E → Type 0) → b ≡ false → IfErr r Q → IfErr r (λ it. MatchBool b (P it) (Q it))
+  err-second (Ok x) P Q is q = tt
+  err-second (Err e) P Q is q = second b (P e) (Q e) is q
+
+  -- under a premise
+  pub front-first : (r : Result T E) (Some : E → Type 0) (P Q : Type 0) → b ≡ true → IfErr r (λ it. Some it → P) → IfErr r (λ it. Some it → MatchBool b P Q)
+  front-first (Ok x) Some P Q is p = tt
+  front-first (Err e) Some P Q is p = λ some. first b P Q is (p some)
+
+  pub front-second : (r : Result T E) (Some : E → Type 0) (P Q : Type 0) → b ≡ false → IfErr r (λ it. Some it → Q) → IfErr r (λ it. Some it → MatchBool b P Q)
+  front-second (Ok x) Some P Q is q = tt
+  front-second (Err e) Some P Q is q = λ some. second b P Q is (q some)

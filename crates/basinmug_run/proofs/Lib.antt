@@ -1,0 +1,3 @@
+mod Chosen
+mod OfRecords
+mod OfRuns

@@ -1,0 +1,98 @@
+-- Faults of a text and of its rows as faults of a run.
+use Rattle.std.proofs.Common.{◌≡◌, ◌∙◌, ap, inl, sym, ℕ, List, Option, Result, Ok, Err}
+use Rattle.std.specs.Prelude.{IsErrAnd, IsErrOf}
+use Rattle.std.proofs.KnownBytes.{Appends-nil}
+use Rattle.tabled_compact.specs.declared.fault.BuildFault.TheVariants.{Write, WriteZero}
+use Rattle.tabled_output.specs.Counts.{FailsIff, TakesNothingIff}
+use Rattle.tabled_output.specs.declared.counted.Counted.{Counted}
+use Rattle.basinmug_input.specs.Faults.{IsFaultOf, IsReadable}
+use Rattle.basinmug_input.specs.Reading.{settings}
+use Rattle.basinmug_input.specs.Rows.{rows_in, text_in}
+use Rattle.basinmug_input.specs.declared.fault.InputFault.{InputFault}
+use Rattle.basinmug_input.specs.declared.fault.InputFault.TheVariants.{NotText, Quote, Escape, Memory as NoMemoryToRead}
+use Rattle.basinmug_options.specs.declared.options.Options.{Options}
+use Rattle.basinmug_picture.specs.Printed.{HasNothing as HasNothingPrinted}
+use Rattle.basinmug_picture.specs.declared.fault.PrintFault.{PrintFault}
+use Rattle.basinmug_picture.specs.declared.fault.PrintFault.TheVariants.{NoColumn, Table, Memory as NoMemoryToPrint}
+use Rattle.basinmug_picture.proofs.Written.{fails-alike, same-fails, same-takes, takes-alike}
+use Rattle.basinmug_run.specs.Faults.{of_input, of_print}
+use Rattle.basinmug_run.specs.Runs.{HasNothing, IsRefusal, IsRowsFault, StopsInRows}
+use Rattle.basinmug_run.specs.declared.fault.RunFault.{RunFault}
+use Rattle.basinmug_run.specs.declared.fault.RunFault.TheVariants.{Input, Print, Memory}
+use Rattle.basinmug_run.proofs.Chosen.{either}
+
+-- where nothing is written, it is a front
+pub stops-at-once : (options : Options) (rows : List (List (List ℕ))) (old : Option (List ℕ)) → StopsInRows options rows old old
+stops-at-once options rows old = either options.expanded _ _ (inl (Appends-nil old)) (inl (Appends-nil old))
+
+module _ (delimiter : ℕ) (bytes : List ℕ) (options : Options) where
+  -- a text without records
+  pub not-read : (fault : InputFault) → IsFaultOf (settings delimiter) (text_in bytes) fault → IsRefusal delimiter bytes options (of_input fault)
+  not-read (NotText line field) is = (is, λ same. let it : NotText line field ≡ NoMemoryToRead = same in cc it)
+  not-read (Quote line) is = (is, λ same. let it : Quote line ≡ NoMemoryToRead = same in cc it)
+  not-read (Escape line field) is = (is, λ same. let it : Escape line field ≡ NoMemoryToRead = same in cc it)
+  not-read NoMemoryToRead is = tt
+
+  -- rows that are not printed
+  pub not-printed : (fault : PrintFault) → IsReadable (settings delimiter) (text_in bytes) → IsRowsFault options (rows_in delimiter bytes) fault → IsRefusal delimiter bytes options (of_print fault)
+  not-printed (NoColumn name) read is = (read, is, λ same. let it : NoColumn name ≡ NoMemoryToPrint = same in cc it)
+  not-printed (Table fault) read is = (read, is, λ same. let it : Table fault ≡ NoMemoryToPrint = same in cc it)
+  not-printed NoMemoryToPrint read is = tt
+
+-- before which faults nothing is written
+pub nothing-printed : (fault : PrintFault) → HasNothing (of_print fault) → HasNothingPrinted fault
+nothing-printed (NoColumn name) none = none
+nothing-printed (Table fault) none = none
+nothing-printed NoMemoryToPrint none = none
+
+pub something-printed : (fault : PrintFault) → ¬ (HasNothing (of_print fault)) → ¬ (HasNothingPrinted fault)
+something-printed (NoColumn name) some none = some none
+something-printed (Table fault) some none = some none
+something-printed NoMemoryToPrint some none = none
+
+-- ---- the writer
+
+input-no-print : (fault : InputFault) (why : PrintFault) → ¬ (of_input fault ≡ Print why)
+input-no-print (NotText line field) why is = let it : Input (NotText line field) ≡ Print why = is in cc it
+input-no-print (Quote line) why is = let it : Input (Quote line) ≡ Print why = is in cc it
+input-no-print (Escape line field) why is = let it : Input (Escape line field) ≡ Print why = is in cc it
+input-no-print NoMemoryToRead why is = let it : Memory ≡ Print why = is in cc it
+
+print-named : (fault why : PrintFault) → of_print fault ≡ Print why → fault ≡ why
+print-named (NoColumn name) why is = let it : Print (NoColumn name) ≡ Print why = is in cc it
+print-named (Table fault) why is = let it : Print (Table fault) ≡ Print why = is in cc it
+print-named NoMemoryToPrint why is = absurd (let it : Memory ≡ Print why = is in cc it)
+
+module _ {Y : Type 0} (fault : PrintFault) where
+  of-print : (e : RunFault) → e ≡ of_print fault → (done : Result Y PrintFault) → done ≡ Err fault → IsErrOf done (Table Write) → e ≡ Print (Table Write)
+  of-print e told done is of = let same : fault ≡ Table Write = let it : Err fault ≡ Err (Table Write) = sym is ∙ of in cc it in told ∙ ap of_print same
+
+  of-print_zero : (e : RunFault) → e ≡ of_print fault → (done : Result Y PrintFault) → done ≡ Err fault → IsErrOf done (Table WriteZero) → e ≡ Print (Table WriteZero)
+  of-print_zero e told done is of = let same : fault ≡ Table WriteZero = let it : Err fault ≡ Err (Table WriteZero) = sym is ∙ of in cc it in told ∙ ap of_print same
+
+module _ {T X : Type 0} (a b : Counted T) where
+  abbrev refused-by : RunFault → Result X RunFault
+  refused-by e = Err e
+
+  inner : (e f : RunFault) → refused-by e ≡ refused-by f → e ≡ f
+  inner e f is = cc is
+
+  -- a text without records has nothing written
+  pub input-fails : (fault : InputFault) (r : Result X RunFault) (why : PrintFault) → IsErrAnd r (λ e. e ≡ of_input fault) → FailsIff (IsErrOf r (Print why)) a a
+  input-fails fault (Ok x) why told = absurd told
+  input-fails fault (Err e) why told = same-fails a a _ (λ is. input-no-print fault why (sym told ∙ inner e (Print why) is))
+
+  pub input-takes : (fault : InputFault) (r : Result X RunFault) (why : PrintFault) → IsErrAnd r (λ e. e ≡ of_input fault) → TakesNothingIff (IsErrOf r (Print why)) a a
+  input-takes fault (Ok x) why told = absurd told
+  input-takes fault (Err e) why told = same-takes a a _ (λ is. input-no-print fault why (sym told ∙ inner e (Print why) is))
+
+  module _ {Y : Type 0} (fault : PrintFault) where
+    pub fails-told : (r : Result X RunFault) (done : Result Y PrintFault) → IsErrAnd r (λ e. e ≡ of_print fault) → done ≡ Err fault → FailsIff (IsErrOf done (Table Write)) a b → FailsIff (IsErrOf r (Print (Table Write))) a b
+    fails-told (Ok x) done told is fails = absurd told
+    fails-told (Err e) done told is fails =
+        fails-alike a b _ _ (λ of. ap (λ f. Err f) (of-print fault e told done is of)) (λ of. is ∙ ap (λ f. Err f) (print-named fault (Table Write) (sym told ∙ inner e (Print (Table Write)) of))) fails
+
+    pub takes-told : (r : Result X RunFault) (done : Result Y PrintFault) → IsErrAnd r (λ e. e ≡ of_print fault) → done ≡ Err fault → TakesNothingIff (IsErrOf done (Table WriteZero)) a b → TakesNothingIff (IsErrOf r (Print (Table WriteZero))) a b
+    takes-told (Ok x) done told is takes = absurd told
+    takes-told (Err e) done told is takes =
+        takes-alike a b _ _ (λ of. ap (λ f. Err f) (of-print_zero fault e told done is of)) (λ of. is ∙ ap (λ f. Err f) (print-named fault (Table WriteZero) (sym told ∙ inner e (Print (Table WriteZero)) of))) takes

@@ -1,0 +1,14 @@
+-- What is shown so far and of what is left is what is shown of all.
+use Rattle.std.proofs.Common.{◌≡◌, ◌++◌, chars, flat_map, string_bytes}
+use Rattle.std.specs.Str.{IsUtf8}
+use Rattle.std.specs.Str.Iter.{chars_rest}
+use Rattle.basinmug_run.specs.Messages.{visible_char}
+use Rattle.basinmug_run.proofs.messages.visible.Given as goal
+
+abbrev pub invariant-loop-c : goal.invariant-loop-c
+invariant-loop-c l =
+    record {
+      goes : (goal.iterator-loop-c).can_next l.c-iterator × (goal.iterator-loop-c).is_finite l.c-iterator;
+      text : IsUtf8 (chars_rest l.c-iterator);
+      left : string_bytes l.out ++ flat_map visible_char (chars (chars_rest l.c-iterator)) ≡ flat_map visible_char (chars l.text);
+    }

@@ -1,0 +1,57 @@
+-- What a run prints of a text, and what comes of a refusal.
+use Rattle.std.proofs.Common.{subst, List, ℕ}
+use Rattle.tabled_output.specs.Counts.{inner_of}
+use Rattle.tabled_compact.specs.declared.fault.BuildFault.TheVariants.{Write, WriteZero}
+use Rattle.basinmug_picture.specs.declared.fault.PrintFault.TheVariants.{Table}
+use Rattle.basinmug_picture.proofs.Narrowed.{err-told}
+use Rattle.basinmug_run.specs.Faults.{of_input, of_print}
+use Rattle.basinmug_run.specs.Runs.{IsRowsFault, PrintsRows, StopsInRows}
+use Rattle.basinmug_input.specs.Rows.{rows_in}
+use Rattle.basinmug_run.proofs.OfRuns.{fails-told, input-fails, input-takes, not-printed, not-read, nothing-printed, something-printed, stops-at-once, takes-told}
+use Rattle.basinmug_run.proofs.running.run.Goals as goal
+
+pub returns-in_err-rows-clause-front : goal.returns-in_err-rows-clause-front
+returns-in_err-rows-clause-front g c =
+    err-told c.from_residual.result (of_input c.in_err-rows.field-0.0) _ c.from_residual.ensures.1
+    (λ some. stops-at-once c.args.options.now (rows_in c.args.delimiter c.args.bytes.now) (g.W.Write.contents (inner_of c.args.writer.now)))
+
+pub returns-in_err-rows-clause-refused : goal.returns-in_err-rows-clause-refused
+returns-in_err-rows-clause-refused g c =
+    err-told c.from_residual.result (of_input c.in_err-rows.field-0.0) _ c.from_residual.ensures.1 (not-read c.args.delimiter c.args.bytes.now c.args.options.now c.in_err-rows.field-0.0 c.in_err-rows.ensures.fault)
+
+pub returns-in_err-rows-clause-write : goal.returns-in_err-rows-clause-write
+returns-in_err-rows-clause-write g c = input-fails c.args.writer.now c.args.writer.now c.in_err-rows.field-0.0 c.from_residual.result (Table Write) c.from_residual.ensures.1
+
+pub returns-in_err-rows-clause-write_zero : goal.returns-in_err-rows-clause-write_zero
+returns-in_err-rows-clause-write_zero g c = input-takes c.args.writer.now c.args.writer.now c.in_err-rows.field-0.0 c.from_residual.result (Table WriteZero) c.from_residual.ensures.1
+
+pub returns-in_err-shown-clause-front : goal.returns-in_err-shown-clause-front
+returns-in_err-shown-clause-front g c =
+    err-told c.from_residual-in_err-shown.result (of_print c.in_err-shown.field-0.0) _ c.from_residual-in_err-shown.ensures.1
+    (λ some. subst (λ (it : List (List (List ℕ))). StopsInRows c.args.options.now it (g.W.Write.contents (inner_of c.args.writer.now)) (g.W.Write.contents (inner_of c.print_rows.new.writer))) c.in_ok-rows.ensures.rows
+    (c.in_err-shown.ensures.front (something-printed c.in_err-shown.field-0.0 some)))
+
+pub returns-in_err-shown-clause-untouched : goal.returns-in_err-shown-clause-untouched
+returns-in_err-shown-clause-untouched g c =
+    err-told c.from_residual-in_err-shown.result (of_print c.in_err-shown.field-0.0) _ c.from_residual-in_err-shown.ensures.1 (λ none. c.in_err-shown.ensures.untouched (nothing-printed c.in_err-shown.field-0.0 none))
+
+pub returns-in_err-shown-clause-refused : goal.returns-in_err-shown-clause-refused
+returns-in_err-shown-clause-refused g c =
+    let options = c.args.options.now in
+    let fault = c.in_err-shown.field-0.0 in
+    err-told c.from_residual-in_err-shown.result (of_print fault) _ c.from_residual-in_err-shown.ensures.1
+    (not-printed c.args.delimiter c.args.bytes.now options fault c.in_ok-rows.ensures.readable
+    (subst (λ (it : List (List (List ℕ))). IsRowsFault options it fault) c.in_ok-rows.ensures.rows c.in_err-shown.ensures.refused))
+
+pub returns-in_err-shown-clause-write : goal.returns-in_err-shown-clause-write
+returns-in_err-shown-clause-write g c =
+    fails-told c.args.writer.now c.print_rows.new.writer c.in_err-shown.field-0.0 c.from_residual-in_err-shown.result c.print_rows.result c.from_residual-in_err-shown.ensures.1 c.in_err-shown.was c.print_rows.ensures.write
+
+pub returns-in_err-shown-clause-write_zero : goal.returns-in_err-shown-clause-write_zero
+returns-in_err-shown-clause-write_zero g c =
+    takes-told c.args.writer.now c.print_rows.new.writer c.in_err-shown.field-0.0 c.from_residual-in_err-shown.result c.print_rows.result c.from_residual-in_err-shown.ensures.1 c.in_err-shown.was c.print_rows.ensures.write_zero
+
+pub returns-clause-printed : goal.returns-clause-printed
+returns-clause-printed g c =
+    subst (λ (it : List (List (List ℕ))). PrintsRows c.args.options.now it c.in_ok-shown.shown.wider (g.W.Write.contents (inner_of c.args.writer.now)) (g.W.Write.contents (inner_of c.print_rows.new.writer)))
+    c.in_ok-rows.ensures.rows c.in_ok-shown.ensures.printed

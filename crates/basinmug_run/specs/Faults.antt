@@ -1,0 +1,29 @@
+-- What the faults of a run are called.
+use Rattle.std.specs.Prelude.{ℕ, List, codes}
+use Rattle.basinmug_input.specs.Faults.{fault_text}
+use Rattle.basinmug_input.specs.declared.fault.InputFault.{InputFault}
+use Rattle.basinmug_input.specs.declared.fault.InputFault.TheVariants.{NotText, Quote, Escape, Memory as NoMemoryToRead}
+use Rattle.basinmug_picture.specs.Faults.{print_fault_text}
+use Rattle.basinmug_picture.specs.declared.fault.PrintFault.{PrintFault}
+use Rattle.basinmug_picture.specs.declared.fault.PrintFault.TheVariants.{NoColumn, Table, Memory as NoMemoryToPrint}
+use Rattle.basinmug_run.specs.declared.fault.RunFault.{RunFault}
+use Rattle.basinmug_run.specs.declared.fault.RunFault.TheVariants.{Input, Print, Memory}
+
+-- a fault of the text; want of memory keeps its name
+abbrev pub of_input : InputFault → RunFault
+of_input (NotText line field) = Input (NotText line field)
+of_input (Quote line) = Input (Quote line)
+of_input (Escape line field) = Input (Escape line field)
+of_input NoMemoryToRead = Memory
+
+-- a fault of printing; want of memory keeps its name
+abbrev pub of_print : PrintFault → RunFault
+of_print (NoColumn name) = Print (NoColumn name)
+of_print (Table fault) = Print (Table fault)
+of_print NoMemoryToPrint = Memory
+
+-- the bytes that a fault prints
+abbrev pub run_fault_text : RunFault → List ℕ
+run_fault_text (Input fault) = fault_text fault
+run_fault_text (Print fault) = print_fault_text fault
+run_fault_text Memory = codes "out of memory"

@@ -1,0 +1,77 @@
+-- What a run of a text leaves in a writer, and why it gives up.
+use Rattle.std.specs.Prelude.{◌≡◌, ◌≢◌, ◌⊎◌, ⊤, ℕ, Bool, false, List, [], MatchBool, Option, map}
+use Rattle.std.specs.Io.KnownBytes.{Appends}
+use Rattle.grid_config_values.specs.declared.fault.Fault.TheVariants.{Range}
+use Rattle.tabled_compact.specs.declared.fault.BuildFault.{BuildFault}
+use Rattle.tabled_compact.specs.declared.fault.BuildFault.TheVariants.{Table as OfTable, Write, WriteZero}
+use Rattle.tabled_expanded.specs.Expanded.{IsTooWide}
+use Rattle.tabled_output.specs.Streams.{AppendsFront}
+use Rattle.basinmug_expanded.specs.Records.{IsRecordsText, record_table}
+use Rattle.basinmug_input.specs.Faults.{IsFaultOf, IsReadable}
+use Rattle.basinmug_input.specs.Reading.{settings}
+use Rattle.basinmug_input.specs.Rows.{rows_in, text_in}
+use Rattle.basinmug_input.specs.declared.fault.InputFault.TheVariants.{Memory as NoMemoryToRead}
+use Rattle.basinmug_markdown.specs.Escapes.{escaped}
+use Rattle.basinmug_options.specs.declared.options.Look.{Look}
+use Rattle.basinmug_options.specs.declared.options.Look.TheVariants.{Markdown}
+use Rattle.basinmug_options.specs.declared.options.Options.{Options}
+use Rattle.basinmug_picture.specs.Printed.{HasNothing as HasNothingPrinted, IsRefusal as IsPictureFault, Prints, StopsIn}
+use Rattle.basinmug_picture.specs.declared.fault.PrintFault.{PrintFault}
+use Rattle.basinmug_picture.specs.declared.fault.PrintFault.TheVariants.{NoColumn, Table, Memory as NoMemoryToPrint}
+use Rattle.basinmug_run.specs.declared.fault.RunFault.{RunFault}
+use Rattle.basinmug_run.specs.declared.fault.RunFault.TheVariants.{Input, Print, Memory}
+
+-- ---- rows
+
+-- the rows as cells of a table: those of Markdown are escaped
+abbrev pub cells_of : Look → List (List (List ℕ)) → List (List (List ℕ))
+cells_of Markdown rows = map (map escaped) rows
+cells_of _ rows = rows
+
+-- the writer failed, or took nothing
+abbrev pub IsOfWriter : BuildFault → Type 0
+IsOfWriter (OfTable fault) = ⊥
+IsOfWriter Write = ⊤
+IsOfWriter WriteZero = ⊤
+
+module _ (options : Options) (rows : List (List (List ℕ))) where
+  -- rows are printed as records one below the other, which are never wider than asked
+  abbrev pub PrintsRecords : Bool → Option (List ℕ) → Option (List ℕ) → Type 0
+  PrintsRecords wider old new = (wider ≡ false) × ((text : List ℕ) × IsRecordsText options.header options.max_rows rows text × Appends old new text)
+
+  -- nothing of them is written, or a front
+  abbrev pub StopsInRecords : Option (List ℕ) → Option (List ℕ) → Type 0
+  StopsInRecords old new = Appends old new [] ⊎ ((text : List ℕ) × IsRecordsText options.header options.max_rows rows text × AppendsFront old new text)
+
+  -- why they are not printed: a line is wider than can be counted, or the writer gave up; want of memory may always be
+  abbrev pub IsRecordsFault : PrintFault → Type 0
+  IsRecordsFault (NoColumn name) = ⊥
+  IsRecordsFault (Table (OfTable fault)) = (fault ≡ Range) × IsTooWide (record_table options.header options.max_rows rows)
+  IsRecordsFault (Table Write) = ⊤
+  IsRecordsFault (Table WriteZero) = ⊤
+  IsRecordsFault NoMemoryToPrint = ⊤
+
+  -- rows are printed as is asked: as records one below the other, or as a table
+  abbrev pub PrintsRows : Bool → Option (List ℕ) → Option (List ℕ) → Type 0
+  PrintsRows wider old new = MatchBool options.expanded (PrintsRecords wider old new) (Prints options (cells_of options.look rows) wider old new)
+
+  abbrev pub StopsInRows : Option (List ℕ) → Option (List ℕ) → Type 0
+  StopsInRows old new = MatchBool options.expanded (StopsInRecords old new) (StopsIn options (cells_of options.look rows) old new)
+
+  abbrev pub IsRowsFault : PrintFault → Type 0
+  IsRowsFault fault = MatchBool options.expanded (IsRecordsFault fault) (IsPictureFault options (cells_of options.look rows) fault)
+
+-- ---- a text
+
+-- nothing is written before such a fault
+abbrev pub HasNothing : RunFault → Type 0
+HasNothing (Input fault) = ⊤
+HasNothing (Print fault) = HasNothingPrinted fault
+HasNothing Memory = ⊥
+
+-- why a text in which this byte parts fields is not printed: it has no records, and of its faults the first is told; or it
+-- has, and its rows are not printed; want of memory may always be, by its own name
+abbrev pub IsRefusal : ℕ → List ℕ → Options → RunFault → Type 0
+IsRefusal delimiter bytes options (Input fault) = IsFaultOf (settings delimiter) (text_in bytes) fault × (fault ≢ NoMemoryToRead)
+IsRefusal delimiter bytes options (Print fault) = IsReadable (settings delimiter) (text_in bytes) × IsRowsFault options (rows_in delimiter bytes) fault × (fault ≢ NoMemoryToPrint)
+IsRefusal delimiter bytes options Memory = ⊤

@@ -1,0 +1,68 @@
+//! From bytes to a writer: the rows, and their table.
+ghost use Rattle.std.specs.Prelude.{◌≡◌, IfErr, IfOk, IsErrOf, OnOk};
+ghost use Rattle.tabled_output.specs.Counts.{FailsIff, OnlyWrites, TakesNothingIff, inner_of};
+ghost use Rattle.tabled_text.specs.Rows.{text_rows};
+ghost use Rattle.basinmug_input.specs.Faults.{IsReadable};
+ghost use Rattle.basinmug_input.specs.Reading.{settings};
+ghost use Rattle.basinmug_input.specs.Rows.{rows_in, text_in};
+ghost use Rattle.basinmug_picture.specs.Printed.{HasNothing as HasNothingPrinted};
+ghost use Rattle.basinmug_run.specs.Runs.{HasNothing, IsRefusal, IsRowsFault, PrintsRows, StopsInRows};
+
+use crate::fault::RunFault;
+use crate::records::{cells_of, print_records};
+use basinmug_input::rows_of;
+use basinmug_options::Options;
+use basinmug_picture::{PrintFault, Shown, print};
+use std::alloc::Global;
+use std::io::Write;
+use tabled_compact::BuildFault;
+use tabled_output::Counted;
+
+/// Prints the records of a text in which the byte `delimiter` parts fields, as the options ask: as a table, or one
+/// below the other. `RunFault` says when it gives up, in its order; before a fault of the text, a name that is missing
+/// or a refusal of the table nothing is written, and else a front of what is printed may be. It answers whether the
+/// table is wider than asked. Nothing is flushed.
+pub fn run<W: Write>(
+    alloc: Global,
+    bytes: &[u8],
+    delimiter: u8,
+    options: &Options,
+    writer: &mut Counted<W>,
+) -> Result<Shown, RunFault>
+    ensures readable { OnOk result (IsReadable (settings delimiter) (text_in bytes.now)) }
+    ensures printed { IfOk result (λ shown. PrintsRows options.now (rows_in delimiter bytes.now) shown.wider (W.contents (inner_of writer.old)) (W.contents (inner_of writer.new))) }
+    ensures front { IfErr result (λ fault. ¬ (HasNothing fault) →
+        StopsInRows options.now (rows_in delimiter bytes.now) (W.contents (inner_of writer.old)) (W.contents (inner_of writer.new))) }
+    ensures untouched { IfErr result (λ fault. HasNothing fault → writer.new ≡ writer.old) }
+    ensures refused { IfErr result (IsRefusal delimiter bytes.now options.now) }
+    ensures write { FailsIff (IsErrOf result (RunFault.Print (PrintFault.Table BuildFault.Write))) writer.old writer.new }
+    ensures write_zero { TakesNothingIff (IsErrOf result (RunFault.Print (PrintFault.Table BuildFault.WriteZero))) writer.old writer.new }
+    ensures only_writes { OnlyWrites writer.old writer.new }
+{
+    let rows = rows_of(alloc, bytes, delimiter)?;
+    let shown = print_rows(alloc, rows, options, writer)?;
+    Ok(shown)
+}
+
+// Prints rows as a table, or one below the other.
+fn print_rows<W: Write>(
+    alloc: Global,
+    rows: Vec<Vec<String>>,
+    options: &Options,
+    writer: &mut Counted<W>,
+) -> Result<Shown, PrintFault>
+    ensures printed { IfOk result (λ shown. PrintsRows options.now (text_rows rows.items) shown.wider (W.contents (inner_of writer.old)) (W.contents (inner_of writer.new))) }
+    ensures front { IfErr result (λ fault. ¬ (HasNothingPrinted fault) →
+        StopsInRows options.now (text_rows rows.items) (W.contents (inner_of writer.old)) (W.contents (inner_of writer.new))) }
+    ensures untouched { IfErr result (λ fault. HasNothingPrinted fault → writer.new ≡ writer.old) }
+    ensures refused { IfErr result (IsRowsFault options.now (text_rows rows.items)) }
+    ensures write { FailsIff (IsErrOf result (PrintFault.Table BuildFault.Write)) writer.old writer.new }
+    ensures write_zero { TakesNothingIff (IsErrOf result (PrintFault.Table BuildFault.WriteZero)) writer.old writer.new }
+    ensures only_writes { OnlyWrites writer.old writer.new }
+{
+    if options.expanded {
+        return print_records(alloc, rows, options, writer);
+    }
+    let cells = cells_of(alloc, rows, options.look)?;
+    print(alloc, cells, options, writer)
+}
