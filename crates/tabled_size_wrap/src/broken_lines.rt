@@ -97,12 +97,7 @@ struct Run<'a> {
 
 impl<'a> Run<'a> {
     // Makes room for a unit of this cost: where the line has none, writes it, and begins the next one.
-    fn make_room(
-        &mut self,
-            out: &mut String,
-        cost: usize,
-        width: usize,
-    ) -> Result<(), AllocError>
+    fn make_room(&mut self, out: &mut String, cost: usize, width: usize) -> Result<(), AllocError>
         requires fits { self.old.used ≤ width }
         requires good { self.old.kept < length (strip (pieces self.old.place.rest.now)) → IsCharBoundary (strip (pieces self.old.place.rest.now)) self.old.kept }
         ensures { OnOk result (MakesRoom width cost self.old self.new (string_bytes out.old) (string_bytes out.new)) }
@@ -120,12 +115,7 @@ impl<'a> Run<'a> {
 
 // The same of a line that shows some ASCII text, `len` bytes of it, where words are not kept: each byte
 // is a unit that costs one column, so a line of the result has as many as the width.
-fn push_full_lines(
-    out: &mut String,
-    line: &str,
-    len: usize,
-    width: usize,
-) -> Result<(), AllocError>
+fn push_full_lines(out: &mut String, line: &str, len: usize, width: usize) -> Result<(), AllocError>
     requires some_width { 0 < width }
     requires shown { len ≡ length (strip (pieces line.now)) }
     requires some_text { 0 < len }
@@ -166,11 +156,7 @@ fn push_nothing(out: &mut String, line: &str) -> Result<(), AllocError>
 
 // Appends the part of a line from a place on, and goes to the place after it. Of a line that shows some
 // text no bytes are no part.
-fn push_part<'a>(
-    out: &mut String,
-    place: &mut Place<'a>,
-    len: usize,
-) -> Result<(), AllocError>
+fn push_part<'a>(out: &mut String, place: &mut Place<'a>, len: usize) -> Result<(), AllocError>
     requires { len < length (strip (pieces place.old.rest.now)) → IsCharBoundary (strip (pieces place.old.rest.now)) len }
     ensures pushes { OnOk result ((line : List Piece) (at : ℕ) → StandsAt line at place.old.rest.now place.old.style →
         0 < length (strip line) → string_bytes out.new ≡ string_bytes out.old ++ line_part line at (at + len)) }
@@ -185,11 +171,7 @@ fn push_part<'a>(
 
 // Appends `len` bytes of a line from a place on, with the sequences among and after them, and goes to
 // the place after them.
-fn push_slice<'a>(
-    out: &mut String,
-    place: &mut Place<'a>,
-    len: usize,
-) -> Result<(), AllocError>
+fn push_slice<'a>(out: &mut String, place: &mut Place<'a>, len: usize) -> Result<(), AllocError>
     requires { len < length (strip (pieces place.old.rest.now)) → IsCharBoundary (strip (pieces place.old.rest.now)) len }
     ensures pushes { OnOk result (string_bytes out.new ≡ string_bytes out.old
         ++ dressed place.old.style (through_place len (pieces place.old.rest.now))) }
