@@ -33,7 +33,7 @@ of_line-requires-clause-width c =
 
 pub returns-in_default : goal.returns-in_default
 returns-in_default c =
-    c.new-2.ensures ∙ c.new.ensures ∙ first-none (resize_to c.args.asked.now c.args.room) (row_cells c.args.row) c.args.column (sym c.get.ensures ∙ ap (option_map anywhere) c.in_default.is)
+    c.new-in_default.ensures ∙ c.new.ensures ∙ first-none (resize_to c.args.asked.now c.args.room) (row_cells c.args.row) c.args.column (sym c.get.ensures ∙ ap (option_map anywhere) c.in_default.is)
 
 pub returns-in-Some-2 : goal.returns-in-Some-2
 returns-in-Some-2 c =
