@@ -1,5 +1,5 @@
 -- What is printed, and what comes of a refusal: that of the table of the rows that are shown.
-use Rattle.std.proofs.Common.{◌≡◌, ◌∙◌, ap, subst, ℕ, List, [], length}
+use Rattle.std.proofs.Common.{◌≡◌, ◌∙◌, ap, subst, ℕ, List, []}
 use Rattle.std.specs.Prelude.{IfErr, IfOk}
 use Rattle.tabled.specs.Tables.{new_state, state_of}
 use Rattle.tabled_output.specs.Counts.{inner_of}
