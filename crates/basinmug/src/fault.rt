@@ -12,7 +12,7 @@ pub enum Fault {
     Open(io::Error),
     /// Reading failed.
     Read(ReadFault),
-    /// The text has no records, the records have no table, or printing failed.
+    /// The text is not readable, its records have no table, or printing failed.
     Run(RunFault),
     /// Writing a text failed.
     Write(WriteFault),
@@ -30,7 +30,7 @@ impl Fault {
     }
 }
 
-/// The reason in a line, without the name of a file.
+/// The reason, without the name of a file. Names stand in it as they are; `visible` makes it one line.
 impl fmt::Display for Fault {
     fn fmt<W: fmt::Write>(&self, f: &mut fmt::Formatter<W>) -> fmt::Result {
         match self {

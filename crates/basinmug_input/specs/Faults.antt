@@ -1,4 +1,4 @@
--- Why a text has no rows, and what a fault prints.
+-- Which texts are readable, why another is not, and what a fault prints.
 use Rattle.std.specs.Prelude.{◌≡◌, ◌+◌, ◌⊎◌, ℕ, List, ◌∷◌, ◌++◌, ⊤, IsUtf8, codes, decimal, length}
 use Rattle.std.specs.List.{AllByRecursion}
 use Rattle.std.specs.Str.{IsValidUpTo}
@@ -20,7 +20,7 @@ fault_text Memory = codes "out of memory"
 abbrev pub IsText : Config → List ℕ → Type 0
 IsText cfg text = IsUtf8 text × ¬ (EndsInQuotes cfg text)
 
--- the text has rows: nothing is wrong with any of its fields
+-- the text is readable: nothing is wrong with any of its fields. It may have no records
 pub record IsReadable (cfg : Config) (text : List ℕ) : Type 0 where
   pub is_text : IsText cfg text
   pub sound : AllByRecursion (AllByRecursion IsSound) (records cfg text)
@@ -58,7 +58,7 @@ pub record HasFirstFlaw (Flaw : List ℕ → ℕ → Type 0) (cfg : Config) (tex
   pub in_line : line ≡ line_at text at
   pub in_field : field ≡ length fields + 1
 
--- why a text has no rows. A delimiter past ASCII may part a character, so that a field of a text is none
+-- why a text is not readable. A delimiter past ASCII may part a character, so that a field of a text is none
 abbrev pub IsFaultOf : Config → List ℕ → InputFault → Type 0
 IsFaultOf cfg text (NotText line field) = IsNotUtf8 cfg text line field ⊎ HasFirstFlaw IsNoText cfg text line field
 IsFaultOf cfg text (Quote line) = HasOpenQuote cfg text line

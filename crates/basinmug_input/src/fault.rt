@@ -1,11 +1,11 @@
-//! Why a text has no rows.
+//! Why a text is not readable.
 use std::alloc::{AllocError, AllocFailed};
 use std::error::Error;
 use std::fmt;
 
-/// Why a text has no rows. Bytes that are in no character come before a quote, and a quote before the first field with a
-/// flaw; `Memory` may come at any step. A line is one more than the line feeds before the place, and a field one more
-/// than those of its record that have ended before it.
+/// Why a text is not readable. Bytes that are in no character come before a quote, and a quote before the first field
+/// with a flaw; `Memory` may come at any step. A line is one more than the line feeds before the place, and a field one
+/// more than those of its record that have ended before it.
 #[derive(Clone, Copy, Debug, PartialEq, Eq)]
 pub enum InputFault {
     /// A byte that is in no character of UTF-8, in the text or, where the delimiter parts a character, in a field.

@@ -17,7 +17,7 @@ pub fn records_are_what_is_read()
     ensures { (delimiter : ℕ) (text : List ℕ) → records (settings delimiter) text ≡ all_read (read_of (settings delimiter) text) }
 {}
 
-/// A text that has rows has no fault, so that its rows are refused only where memory is.
+/// A readable text has no fault, so that its rows are refused only where memory is.
 pub fn readable_texts_have_no_fault()
     ensures { (delimiter : ℕ) (text : List ℕ) (fault : Fault) → IsReadable (settings delimiter) text → IsFaultOf (settings delimiter) text fault → fault ≡ Memory }
 {}

@@ -15,7 +15,7 @@ pub enum PrintFault {
     Memory,
 }
 
-/// The reason in a few words, with no line feed.
+/// The reason in a few words, in which the name of a column stands as it is, also with a line feed.
 impl fmt::Display for PrintFault {
     ghost use Rattle.std.specs.Prelude.{Some};
     ghost use Rattle.basinmug_picture.specs.Faults.{print_fault_text};

@@ -69,8 +69,8 @@ HasNothing (Input fault) = ⊤
 HasNothing (Print fault) = HasNothingPrinted fault
 HasNothing Memory = ⊥
 
--- why a text in which this byte parts fields is not printed: it has no records, and of its faults the first is told; or it
--- has, and its rows are not printed; want of memory may always be, by its own name
+-- why a text in which this byte parts fields is not printed: it is not readable, and of its faults the first is told; or it
+-- is, and its rows are not printed; want of memory may always be, by its own name
 abbrev pub IsRefusal : ℕ → List ℕ → Options → RunFault → Type 0
 IsRefusal delimiter bytes options (Input fault) = IsFaultOf (settings delimiter) (text_in bytes) fault × (fault ≢ NoMemoryToRead)
 IsRefusal delimiter bytes options (Print fault) = IsReadable (settings delimiter) (text_in bytes) × IsRowsFault options (rows_in delimiter bytes) fault × (fault ≢ NoMemoryToPrint)

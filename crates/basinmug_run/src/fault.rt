@@ -8,7 +8,7 @@ use std::fmt;
 /// then one of its table, and then one of the writer; `Memory` may come at any step.
 #[derive(Debug, Drop)]
 pub enum RunFault {
-    /// The text has no records; nothing was written.
+    /// The text is not readable; nothing was written.
     Input(InputFault),
     /// A name is missing or the table has no text, and nothing was written; or the writer gave up.
     Print(PrintFault),
@@ -16,7 +16,7 @@ pub enum RunFault {
     Memory,
 }
 
-/// The reason in a line, without the name of a file.
+/// The reason, without the name of a file. The name of a column stands in it as it is; `visible` makes it one line.
 impl fmt::Display for RunFault {
     ghost use Rattle.std.specs.Prelude.{Some};
     ghost use Rattle.basinmug_run.specs.Faults.{run_fault_text};
