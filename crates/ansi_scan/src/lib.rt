@@ -18,8 +18,8 @@ pub use items::{Item, Kind, Scan};
 
 /// The items of a text in order, each with the bytes at which it begins and ends.
 /// Together they cover the text, and a text can be cut at each place. Does not allocate.
-/// The forms are those of ECMA-48 where a code has seven bits. It takes at most three looks at each
-/// byte, which `Scan::looks` counts.
+/// The forms are the seven-bit ones of ECMA-48. It takes at most three looks at each byte, which
+/// `Scan::looks` counts.
 pub fn scan(text: &str) -> Scan<'_>
     ensures items { AreItemsOf text.now (items_left result) }
     ensures cuts { All (IsCut text.now) (items_left result) }

@@ -195,7 +195,7 @@ impl<T: FromText> Table<T> {
         &self.records
     }
 
-    /// The text of the cell at a place, and an empty one where there is none, as records answer.
+    /// The text of the cell at a place, and the empty text where there is none.
     pub fn get_text(&self, pos: Position) -> &str
         ensures { result.now ≡ text_at (state_of T.text self.now).rows pos }
     {
