@@ -56,7 +56,7 @@ pub(crate) fn front(bytes: &[u8]) -> FirstItem
     FirstItem { kind, len, beyond }
 }
 
-/// How many bytes stand before the first ESC: all of them where there is none.
+// How many bytes stand before the first ESC: all of them where there is none.
 fn text_len(bytes: &[u8]) -> usize
     ensures value { result ≡ text_len bytes.now }
     ensures in_range { result ≤ length bytes.now }
@@ -69,8 +69,8 @@ fn text_len(bytes: &[u8]) -> usize
     bytes.len()
 }
 
-/// The kind and the length of the sequence at the front of bytes that begin with ESC. Where there is none,
-/// `tried` becomes the count of looks behind the ESC that showed it.
+// The kind and the length of the sequence at the front of bytes that begin with ESC. Where there is none,
+// `tried` becomes the count of looks behind the ESC that showed it.
 #[tactic(auto, unfolding(crate::specs::Pieces::sequence_front, crate::specs::Pieces::opened))]
 fn sequence(bytes: &[u8], tried: &mut usize) -> Option<(Kind, usize)>
     ensures value { result ≡ sequence_front bytes.now }
@@ -100,8 +100,8 @@ fn sequence(bytes: &[u8], tried: &mut usize) -> Option<(Kind, usize)>
     }
 }
 
-/// The kind and the length of a control sequence after ESC and `[` (ECMA-48, 5.4). Where there is none, `tried`
-/// becomes the count of looks that showed it, with the one at `[`; so it does below with the one at the opener.
+// The kind and the length of a control sequence after ESC and `[` (ECMA-48, 5.4). Where there is none, `tried`
+// becomes the count of looks that showed it, with the one at `[`; so it does below with the one at the opener.
 #[tactic(auto, unfolding(crate::specs::Pieces::control_from))]
 fn control_sequence(bytes: &[u8], tried: &mut usize) -> Option<(Kind, usize)>
     requires { length bytes.now + 1 < 2 ^ 64 }
@@ -133,7 +133,7 @@ fn control_sequence(bytes: &[u8], tried: &mut usize) -> Option<(Kind, usize)>
     None
 }
 
-/// The length of a string with its end: STRING TERMINATOR, or BELL where that ends it.
+// The length of a string with its end: STRING TERMINATOR, or BELL where that ends it.
 #[tactic(auto, unfolding(crate::specs::Pieces::string_from))]
 fn string_len(bytes: &[u8], bell_ends: bool, tried: &mut usize) -> Option<usize>
     requires { length bytes.now + 1 < 2 ^ 64 }
@@ -164,7 +164,7 @@ fn string_len(bytes: &[u8], bell_ends: bool, tried: &mut usize) -> Option<usize>
     None
 }
 
-/// The length of further intermediate bytes of an escape sequence with its final byte.
+// The length of further intermediate bytes of an escape sequence with its final byte.
 #[tactic(auto, unfolding(crate::specs::Pieces::escape_from))]
 fn escape_len(bytes: &[u8], tried: &mut usize) -> Option<usize>
     requires { length bytes.now + 1 < 2 ^ 64 }

@@ -92,7 +92,7 @@ impl DoubleEndedIterator for StrippedChars<'_> {
     }
 }
 
-/// The first character, and the text after it.
+// The first character, and the text after it.
 fn split_first(text: &str) -> Option<(char, &str)>
     ensures { MatchOption result (text.now ≡ []) (λ found. chars text.now ≡ found.0 ∷ chars found.1.now) }
 {
@@ -101,7 +101,7 @@ fn split_first(text: &str) -> Option<(char, &str)>
     Some((first, characters.as_str()))
 }
 
-/// The text before the last character, and that.
+// The text before the last character, and that.
 fn split_last(text: &str) -> Option<(&str, char)>
     ensures { MatchOption result (text.now ≡ []) (λ found. chars text.now ≡ chars found.0.now ++ found.1 ∷ []) }
 {
@@ -110,7 +110,7 @@ fn split_last(text: &str) -> Option<(&str, char)>
     Some((characters.as_str(), last))
 }
 
-/// The first item of text, and the text after it. The item is empty where the text shows nothing.
+// The first item of text, and the text after it. The item is empty where the text shows nothing.
 fn split_first_text(text: &str) -> (&str, &str)
     ensures shown { shown_chars text.now ≡ chars result.0.now ++ shown_chars result.1.now }
     ensures empty { result.0.now ≡ [] → shown_chars result.1.now ≡ [] }

@@ -32,7 +32,7 @@ pub(crate) fn split_last_text(text: &str) -> (&str, &str)
     ("", "")
 }
 
-/// The text before its last sequence, and the text after that.
+// The text before its last sequence, and the text after that.
 fn split_last(text: &str) -> (&str, &str)
     requires { 0 < length text.now }
     ensures shown { shown_chars text.now ≡ shown_chars result.0.now ++ chars result.1.now }
@@ -45,7 +45,7 @@ fn split_last(text: &str) -> (&str, &str)
     (&text[..start], &sequence[first_len(sequence)..])
 }
 
-/// Where the last sequence of the text, or broken ESC, begins.
+// Where the last sequence of the text, or broken ESC, begins.
 fn last_sequence(text: &str) -> Option<usize>
     ensures { MatchOption result (has_escape text.now ≡ false) (IsLastSequence text.now) }
 {
@@ -60,7 +60,7 @@ fn last_sequence(text: &str) -> Option<usize>
     }
 }
 
-/// Whether the byte at this place is the `\` that with ESC before it ends a string.
+// Whether the byte at this place is the `\` that with ESC before it ends a string.
 fn is_backslash_at(text: &str, at: usize) -> bool
     ensures { result ≡ (slice_index text.now at == 0x5c) }
 {
@@ -70,7 +70,7 @@ fn is_backslash_at(text: &str, at: usize) -> bool
     }
 }
 
-/// Where the last ESC of the text stands.
+// Where the last ESC of the text stands.
 fn last_escape(text: &str) -> Option<usize>
     ensures found { MatchOption result (has_escape text.now ≡ false) (IsLastEscape text.now) }
     ensures cut { IfSome result (IsCharBoundary text.now) }
@@ -78,7 +78,7 @@ fn last_escape(text: &str) -> Option<usize>
     text.rfind(ESC)
 }
 
-/// The length of the first item.
+// The length of the first item.
 fn first_len(text: &str) -> usize
     requires { 0 < length text.now }
     ensures value { result ≡ (leading_piece text.now).1 }

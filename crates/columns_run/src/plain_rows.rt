@@ -53,7 +53,7 @@ pub fn rows_of<'a>(alloc: Global, text: &'a str) -> Result<Option<Rows<'a>>, All
     Ok(Some(Rows::of(text, rows)))
 }
 
-/// Where the first tab, line feed or ESC stands from `start` on; the end where there is none.
+// Where the first tab, line feed or ESC stands from `start` on; the end where there is none.
 fn text_end(bytes: &[u8], start: usize) -> usize
     requires { start ≤ length bytes.now }
     ensures within { (start ≤ result) × (result ≤ length bytes.now) }
@@ -66,15 +66,15 @@ fn text_end(bytes: &[u8], start: usize) -> usize
     }
 }
 
-/// Whether a byte is a printable ASCII character, which takes one column.
+// Whether a byte is a printable ASCII character, which takes one column.
 fn is_printable(byte: u8) -> bool
     ensures { result ≡ is_in_range 0x20 0x7E byte }
 {
     matches!(byte, b' '..=b'~')
 }
 
-/// A cell with this text, measured, that ends here. Where it is `plain`, it has printable ASCII alone, and a byte
-/// takes a column.
+// A cell with this text, measured, that ends here. Where it is `plain`, it has printable ASCII alone, and a byte
+// takes a column.
 #[inline(always)]
 fn cell_end(text: &str, end: usize, plain: bool) -> CellEnd
     requires { IsTrue plain → IsTrue (are_printable text.now) }

@@ -82,7 +82,7 @@ pub fn styled_cells(alloc: Global, text: &str) -> Result<Option<StyledCells>, Al
     Ok(Some(found))
 }
 
-/// Appends what stands from here to the end as a cell, measured.
+// Appends what stands from here to the end as a cell, measured.
 fn push_cell<'a>(
     alloc: Global,
     cells: &mut StyledCells,
@@ -102,8 +102,8 @@ fn push_cell<'a>(
     Ok(())
 }
 
-/// The columns of a part that ends there, without its sequences. Where all that it shows is printable, it takes one for
-/// each byte, and is not looked at again.
+// The columns of a part that ends there, without its sequences. Where all that it shows is printable, it takes one for
+// each byte, and is not looked at again.
 fn part_width(part: &str, end: &CellStop<'_>) -> usize
     requires { IsTrue end.now.printable → measure (chars (stripped part.now)) ≡ end.now.size }
     ensures { result ≡ measure (chars (stripped part.now)) }
@@ -115,8 +115,8 @@ fn part_width(part: &str, end: &CellStop<'_>) -> usize
     }
 }
 
-/// The end of the cell that begins here, behind the sequences there, and what is shown up to it; none where one of
-/// the sequences is broken.
+// The end of the cell that begins here, behind the sequences there, and what is shown up to it; none where one of
+// the sequences is broken.
 fn cell_end<'a>(place: &Place<'a>) -> Option<CellStop<'a>>
     ensures cell { IfSome result (λ end. EndsCell place.now.rest.now place.now.style end.place.rest.now end.place.style) }
     ensures passes { IfSome result (λ end. Passes place.now.rest.now end.place.rest.now end.size end.printable) }
@@ -147,8 +147,8 @@ fn cell_end<'a>(place: &Place<'a>) -> Option<CellStop<'a>>
     })
 }
 
-/// How many bytes stand before the first sequence, the first tab and the first line feed, and whether each of them is
-/// printable ASCII.
+// How many bytes stand before the first sequence, the first tab and the first line feed, and whether each of them is
+// printable ASCII.
 fn cell_run(text: &str) -> (usize, bool)
     ensures size { result.0 ≡ prefix_len is_cell_text text.now }
     ensures printable { result.1 ≡ are_printable (take result.0 text.now) }
@@ -164,7 +164,7 @@ fn cell_run(text: &str) -> (usize, bool)
     (text.len(), printable)
 }
 
-/// Behind the sequence that stands here; nowhere where it is broken.
+// Behind the sequence that stands here; nowhere where it is broken.
 fn past_sequence<'a>(place: &Place<'a>) -> Option<Place<'a>>
     requires { begins_with_escape place.now.rest.now ≡ true }
     ensures first { IfSome result (λ behind. AreFirstAndRest place.now.style (pieces place.now.rest.now) behind.style (pieces behind.rest.now)) }
@@ -184,7 +184,7 @@ fn past_sequence<'a>(place: &Place<'a>) -> Option<Place<'a>>
     Some(Place { rest, style })
 }
 
-/// Behind the tab or the line feed that stands first.
+// Behind the tab or the line feed that stands first.
 fn behind_separator(text: &str) -> &str
     requires { (0 < length text.now) × (slice_index text.now 0 < 128) }
     ensures { result.now ≡ drop 1 text.now }
@@ -192,7 +192,7 @@ fn behind_separator(text: &str) -> &str
     &text[1..]
 }
 
-/// Whether the first byte is a line feed, of a text that is not empty.
+// Whether the first byte is a line feed, of a text that is not empty.
 fn begins_with_line_feed(text: &str) -> bool
     requires { 0 < length text.now }
     ensures { result ≡ (slice_index text.now 0 == line_feed) }
@@ -200,7 +200,7 @@ fn begins_with_line_feed(text: &str) -> bool
     text.as_bytes()[0] == b'\n'
 }
 
-/// Whether a text is nothing but sequences.
+// Whether a text is nothing but sequences.
 fn is_bare(text: &str) -> bool
     ensures { result ≡ (length (stripped text.now) == 0) }
 {

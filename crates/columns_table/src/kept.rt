@@ -25,7 +25,7 @@ pub struct KeptCell<'a> {
 }
 
 impl<'a> KeptCell<'a> {
-    /// A cell with this text, whose measures are known. Does not allocate.
+    // A cell with this text, whose measures are known. Does not allocate.
     fn new(text: MeasuredText<'a>) -> KeptCell<'a>
         ensures { cow_str_bytes result.text ≡ cow_str_bytes text.entry.text }
     {
@@ -36,7 +36,7 @@ impl<'a> KeptCell<'a> {
         }
     }
 
-    /// A cell of one line that takes so many columns, which is not measured again. Does not allocate.
+    // A cell of one line that takes so many columns, which is not measured again. Does not allocate.
     fn of_line(text: &'a str, width: usize) -> KeptCell<'a>
         requires one { HasLineCount text.now 1 }
         requires width { HasWidth text.now width }

@@ -79,8 +79,8 @@ pub fn totalled(
     })
 }
 
-/// How many columns and how many lines these sizes take together. Refused as `Range` where either pass
-/// `usize::MAX`. Does not allocate.
+// How many columns and how many lines these sizes take together. Refused as `Range` where either pass
+// `usize::MAX`. Does not allocate.
 fn totals_of(
     widths: &[usize],
     heights: &[usize],

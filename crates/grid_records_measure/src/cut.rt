@@ -34,7 +34,7 @@ pub fn cut_width<'a>(alloc: Global, text: &'a str, width: usize) -> Result<CowSt
     Ok(CowStr::Owned(out))
 }
 
-/// How many bytes of the text that is shown fit, and how many columns the last line then lacks where text is left.
+// How many bytes of the text that is shown fit, and how many columns the last line then lacks where text is left.
 fn place_and_lacking(text: &str, width: usize) -> (usize, usize)
     ensures place { result.0 ≡ length (encode_utf8_all (fitting_front width 0 (chars (strip (pieces_of text.now))))) }
     ensures left { result.1 ≡ lacking width (fitting_front width 0 (chars (strip (pieces_of text.now)))) (behind_front width 0 (chars (strip (pieces_of text.now)))) }
@@ -56,8 +56,8 @@ fn place_and_lacking(text: &str, width: usize) -> (usize, usize)
     (place, 0)
 }
 
-/// How many bytes fit of a text whose first bytes are printable ASCII, as many as the width or all: just these, and
-/// no column is lacking. None of any other text.
+// How many bytes fit of a text whose first bytes are printable ASCII, as many as the width or all: just these, and
+// no column is lacking. None of any other text.
 fn printable_front(text: &str, width: usize) -> Option<usize>
     ensures place { IfSome result (λ place. place ≡ length (encode_utf8_all (fitting_front width 0 (chars (strip (pieces_of text.now)))))) }
     ensures left { IfSome result (λ _. 0 ≡ lacking width (fitting_front width 0 (chars (strip (pieces_of text.now)))) (behind_front width 0 (chars (strip (pieces_of text.now))))) }
@@ -71,8 +71,8 @@ fn printable_front(text: &str, width: usize) -> Option<usize>
     }
 }
 
-/// How many bytes of a text without sequences fit after `before` columns of a line, and the columns of the
-/// line after them.
+// How many bytes of a text without sequences fit after `before` columns of a line, and the columns of the
+// line after them.
 fn fill(text: &str, width: usize, before: usize) -> (usize, usize)
     requires { before ≤ width }
     ensures len { result.0 ≡ length (encode_utf8_all (fitting_front width before (chars text.now))) }
@@ -113,7 +113,7 @@ pub fn columns_with(c: char, used: usize, width: usize) -> Option<usize>
     }
 }
 
-/// Appends `n` replacement characters.
+// Appends `n` replacement characters.
 fn push_replacements(out: &mut String, n: usize) -> Result<(), AllocError>
     ensures { OnOk result (string_bytes out.new ≡ string_bytes out.old ++ encode_utf8_all (replicate n replacement)) }
 {

@@ -28,7 +28,7 @@ pub fn split_line(text: &str) -> (&str, Option<&str>)
     (line, Some(&rest[1..]))
 }
 
-/// What stands from the first line feed on that the text shows, or nothing.
+// What stands from the first line feed on that the text shows, or nothing.
 fn from_line_feed(text: &str) -> &str
     ensures { IsFromLineFeed text.now result.now }
 {
@@ -40,7 +40,7 @@ fn from_line_feed(text: &str) -> &str
     rest
 }
 
-/// How many bytes stand before the first ESC and the first line feed, or all where neither comes.
+// How many bytes stand before the first ESC and the first line feed, or all where neither comes.
 fn run_len(text: &str) -> usize
     ensures value { result ≡ prefix_len (is_other line_feed) text.now }
 {

@@ -28,7 +28,7 @@ pub fn replace_tab<'a>(alloc: Global, text: &'a str, n: usize) -> Result<CowStr<
     Ok(CowStr::Owned(with_spaces(alloc, text, n)?))
 }
 
-/// Whether a text shows a tab.
+// Whether a text shows a tab.
 fn shows_tab(text: &str) -> bool
     ensures { result ≡ has_tab (strip (pieces_of text.now)) }
 {
@@ -40,14 +40,14 @@ fn shows_tab(text: &str) -> bool
     false
 }
 
-/// Whether a text without sequences has a tab.
+// Whether a text without sequences has a tab.
 fn has_tab(text: &str) -> bool
     ensures { result ≡ has_tab text.now }
 {
     text.as_bytes().contains(&b'\t')
 }
 
-/// The text with `n` spaces in the place of each tab that it shows.
+// The text with `n` spaces in the place of each tab that it shows.
 fn with_spaces(alloc: Global, text: &str, n: usize) -> Result<String, AllocError>
     ensures { IfOk result (λ out. string_bytes out ≡ tabs_replaced n (pieces_of text.now)) }
 {
@@ -63,7 +63,7 @@ fn with_spaces(alloc: Global, text: &str, n: usize) -> Result<String, AllocError
     Ok(out)
 }
 
-/// Appends a text without sequences, with this in the place of each tab.
+// Appends a text without sequences, with this in the place of each tab.
 fn push_with(out: &mut String, text: &str, put: &str) -> Result<(), AllocError>
     ensures { OnOk result (string_bytes out.new ≡ string_bytes out.old ++ put_for_tabs put.now text.now) }
 {

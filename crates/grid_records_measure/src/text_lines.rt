@@ -22,7 +22,7 @@ pub fn count_lines(text: &str) -> usize
     count
 }
 
-/// How many line feeds a text without sequences has.
+// How many line feeds a text without sequences has.
 fn line_feeds(text: &str) -> usize
     ensures { result ≡ count_by is_line_feed text.now }
 {

@@ -96,7 +96,7 @@ ghost use Rattle.std.specs.Prelude.{◌≡◌, List, [], IfOk, map, string_bytes
 ghost use Rattle.std.specs.Iterator.{Drains, IsFinite};
 ghost use Rattle.tabled_text.specs.Rows.{filled_row as filled_texts, longest, text_rows};
 
-/// How many texts the longest of these rows has.
+// How many texts the longest of these rows has.
 fn longest_row(rows: &[Vec<String>]) -> usize
     ensures { result ≡ longest (text_rows rows.now) }
 {
@@ -109,7 +109,7 @@ fn longest_row(rows: &[Vec<String>]) -> usize
     most
 }
 
-/// A row of these texts.
+// A row of these texts.
 fn row_of<I: IntoIterator>(
     alloc: Global,
     columns: usize,
@@ -128,7 +128,7 @@ where
     Ok(row)
 }
 
-/// A row without texts, with room for `columns` texts where there is memory for it.
+// A row without texts, with room for `columns` texts where there is memory for it.
 fn empty_row(alloc: Global, columns: usize) -> Vec<String>
     ensures { result.items ≡ [] }
 {
@@ -138,7 +138,7 @@ fn empty_row(alloc: Global, columns: usize) -> Vec<String>
     }
 }
 
-/// The row, and after it an empty text for each that it lacks of `columns` texts.
+// The row, and after it an empty text for each that it lacks of `columns` texts.
 fn filled_row(row: Vec<String>, columns: usize) -> Result<Vec<String>, AllocError>
     ensures { IfOk result (λ filled. map string_bytes filled.items ≡ filled_texts columns (map string_bytes row.items)) }
 {

@@ -90,7 +90,7 @@ impl<T: Tabled> Tabled for Option<T> {
     }
 }
 
-/// `count` empty texts. Room for all is allocated at once.
+// `count` empty texts. Room for all is allocated at once.
 fn empty_texts<'a>(alloc: Global, count: usize) -> Result<Vec<CowStr<'a>>, AllocError>
     ensures texts { IfOk result (λ out. texts_of out.items ≡ replicate count []) }
     ensures count { IfOk result (λ out. vec_len out ≡ count) }

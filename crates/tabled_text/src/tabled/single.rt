@@ -9,7 +9,7 @@ use crate::tabled::Tabled;
 use std::alloc::{AllocError, Global};
 use std::borrow::CowStr;
 
-/// The text of the value alone.
+// The text of the value alone.
 fn one_field<'a, T: CellText>(alloc: Global, value: &'a T) -> Result<Vec<CowStr<'a>>, AllocError>
     ensures texts { IfOk result (λ out. texts_of out.items ≡ T.text value.now ∷ []) }
     ensures count { IfOk result (λ out. vec_len out ≡ 1) }
@@ -18,7 +18,7 @@ fn one_field<'a, T: CellText>(alloc: Global, value: &'a T) -> Result<Vec<CowStr<
     one_text(alloc, value.cell_text(alloc)?)
 }
 
-/// This name alone.
+// This name alone.
 fn one_name(alloc: Global, name: &'static str) -> Result<Vec<CowStr<'static>>, AllocError>
     ensures names { IfOk result (λ out. texts_of out.items ≡ name.now ∷ []) }
     ensures count { IfOk result (λ out. vec_len out ≡ 1) }
@@ -26,7 +26,7 @@ fn one_name(alloc: Global, name: &'static str) -> Result<Vec<CowStr<'static>>, A
     one_text(alloc, CowStr::Borrowed(name))
 }
 
-/// This text alone.
+// This text alone.
 fn one_text<'a>(alloc: Global, text: CowStr<'a>) -> Result<Vec<CowStr<'a>>, AllocError>
     ensures texts { IfOk result (λ out. out.items ≡ text.entry ∷ []) }
     ensures count { IfOk result (λ out. vec_len out ≡ 1) }

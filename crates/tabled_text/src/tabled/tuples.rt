@@ -6,7 +6,7 @@ use crate::tabled::Tabled;
 use std::alloc::{AllocError, Global};
 use std::borrow::CowStr;
 
-/// Puts the fields of this member after those of the members before it.
+// Puts the fields of this member after those of the members before it.
 fn put_fields<'a, T: Tabled>(
     alloc: Global,
     fields: &mut Vec<CowStr<'a>>,
@@ -19,7 +19,7 @@ fn put_fields<'a, T: Tabled>(
     fields.append(&mut own)
 }
 
-/// Puts the names of this member after those of the members before it.
+// Puts the names of this member after those of the members before it.
 fn put_headers<T: Tabled>(
     alloc: Global,
     headers: &mut Vec<CowStr<'static>>,

@@ -87,7 +87,7 @@ impl<C: Cell> Cell for Truncated<C> {
     }
 }
 
-/// The cell as it is, or cut where it measures more than this width. Only a cut may fail, where allocation fails.
+// The cell as it is, or cut where it measures more than this width. Only a cut may fail, where allocation fails.
 fn truncate<C: Cell>(alloc: Global, cell: C, width: usize) -> Result<Truncated<C>, AllocError>
     ensures ok { IfOk result (λ out. text_of_truncated C.text out ≡ truncated_text width (C.text cell)) }
     ensures whole { text_width (C.text cell) ≤ width → result ≡ Ok (Whole cell) }
@@ -171,7 +171,7 @@ impl<C: Cell, D: Dimension + Copy, I: Iterator<Item = Result<C, AllocError>>> It
     }
 }
 
-/// The number of the next column; no number is greater than the greatest.
+// The number of the next column; no number is greater than the greatest.
 fn next_column(column: usize) -> usize
     ensures { result ≡ next_column column }
 {
