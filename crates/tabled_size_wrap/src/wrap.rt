@@ -60,7 +60,8 @@ pub fn wrap_line<'a>(
     keep_words: bool,
 ) -> Result<MeasuredText<'a>, AllocError>
     requires { text_lines line.now ≡ line.now ∷ [] }
-    ensures { IfOk result (λ made. cow_str_bytes made.text ≡ wrapped_text width keep_words line.now) }
+    ensures bytes { IfOk result (λ made. cow_str_bytes made.text ≡ wrapped_text width keep_words line.now) }
+    ensures nothing { width ≡ 0 → IsOk result }
 {
     let mut out = String::new(alloc);
     if width == 0 {

@@ -10,11 +10,11 @@ use Rattle.tabled_size_wrap.specs.Runs.{broken_lines}
 use Rattle.tabled_size_wrap.proofs.OneLine.{no_width-wrapped, one_line-wrapped}
 use Rattle.tabled_size_wrap.proofs.wrap.wrap_line.Goals as goal
 
-pub returns-then-width-eq0 : goal.returns-then-width-eq0
-returns-then-width-eq0 c = no_width-wrapped c.args.line.now (cow_str_bytes c.new.result.text) c.args.width c.args.keep_words c.if-width-eq0.true (c.new.ensures ∙ c.new-out.ensures.bytes)
+pub returns-then-width-eq0-clause-bytes : goal.returns-then-width-eq0-clause-bytes
+returns-then-width-eq0-clause-bytes c = no_width-wrapped c.args.line.now (cow_str_bytes c.new.result.text) c.args.width c.args.keep_words c.if-width-eq0.true (c.new.ensures ∙ c.new-out.ensures.bytes)
 
-pub returns-then-is_printable : goal.returns-then-is_printable
-returns-then-is_printable c =
+pub returns-then-is_printable-clause-bytes : goal.returns-then-is_printable-clause-bytes
+returns-then-is_printable-clause-bytes c =
     let line = c.args.line.now in
     let width = c.args.width in
     let some : 0 < width = omega (arith, c.if-width-eq0.false) in
@@ -23,8 +23,8 @@ returns-then-is_printable c =
     (λ made is. subst (λ (keep : Bool). cow_str_bytes made.text ≡ wrapped_text width keep line) (sym c.if-not-keep_words.true)
     (one_line-wrapped line (cow_str_bytes made.text) width false some c.requires is)) c.full_lines.ensures
 
-pub returns : goal.returns
-returns c =
+pub returns-clause-bytes : goal.returns-clause-bytes
+returns-clause-bytes c =
     let line = c.args.line.now in
     let width = c.args.width in
     let some : 0 < width = omega (arith, c.if-width-eq0.false) in
