@@ -32,9 +32,10 @@ const ABOUT: &str = "\
 Prints CSV or TSV as a table.
 
 FILE is CSV where its name ends in .csv, and TSV else; without FILE, or where
-it is -, standard input is read as TSV. The table is as wide as COLUMNS says in
-the environment, where that is a number, and else as wide as its text. Colours
-and other escape sequences are kept. Columns of numbers stand at the right.";
+it is -, standard input is read as TSV. The table is at most as wide as COLUMNS
+says in the environment, where that is a number above 0; else it is as wide as
+its text. Colours and other escape sequences are kept. Columns of numbers stand
+at the right.";
 
 const AFTER_HELP: &str = "\
 Columns in lists:
@@ -217,6 +218,6 @@ fn expanded<'a>(alloc: Global) -> Arg<'a>
     ensures global { result.global ≡ false }
 {
     flag(alloc, "expanded").help_heading(ROWS).help(
-        "Records one below the other, a line for each field; options of width and look do nothing then",
+        "Records one below the other, a line for each field; options of width and look have no effect then",
     )
 }
