@@ -66,14 +66,9 @@ color_if_set_equal (Some (Bit24 k l m)) None e = cc
 color_if_set_equal (Some (Bit24 k l m)) (Some (Bit4 r)) e = cc
 color_if_set_equal (Some (Bit24 k l m)) (Some (Bit8 r)) e = cc
 
-pub equal_attributes : (a b : Attributes) → ghosts.eq a b ≡ true → a ≡ b
-equal_attributes a b e =
-    let each = each_passes (flags_ghosts.eq (flags_of a) (flags_of b))
-    ((option_ghosts denote.Builtin.u8 u8_ghosts u8_dict).eq a.font b.font
-    ∷ packed_ghosts.eq a.foreground b.foreground
-    ∷ packed_ghosts.eq a.background b.background
-    ∷ packed_ghosts.eq a.underline_color b.underline_color ∷ []) e in
-    let flags = flags_equal (flags_of a) (flags_of b) each.0 in
+-- attributes are the same by their flags, font and colours
+same_attributes : (a b : Attributes) → flags_of a ≡ flags_of b → a.font ≡ b.font → a.foreground ≡ b.foreground → a.background ≡ b.background → a.underline_color ≡ b.underline_color → a ≡ b
+same_attributes a b flags font foreground background underline_color =
     λ i. record {
       bold = (flags i).bold;
       faint = (flags i).faint;
@@ -84,16 +79,16 @@ equal_attributes a b e =
       inverted = (flags i).inverted;
       hidden = (flags i).hidden;
       crossed_out = (flags i).crossed_out;
-      font = font_equal a.font b.font each.1.0 i;
+      font = font i;
       fraktur = (flags i).fraktur;
       double_underline = (flags i).double_underline;
       proportional_spacing = (flags i).proportional_spacing;
-      foreground = color_if_set_equal a.foreground b.foreground each.1.1.0 i;
-      background = color_if_set_equal a.background b.background each.1.1.1.0 i;
+      foreground = foreground i;
+      background = background i;
       framed = (flags i).framed;
       encircled = (flags i).encircled;
       overlined = (flags i).overlined;
-      underline_color = color_if_set_equal a.underline_color b.underline_color each.1.1.1.1 i;
+      underline_color = underline_color i;
       ideogram_underline = (flags i).ideogram_underline;
       ideogram_double_underline = (flags i).ideogram_double_underline;
       ideogram_overline = (flags i).ideogram_overline;
@@ -102,6 +97,17 @@ equal_attributes a b e =
       superscript = (flags i).superscript;
       subscript = (flags i).subscript;
     }
+
+pub equal_attributes : (a b : Attributes) → ghosts.eq a b ≡ true → a ≡ b
+equal_attributes a b e =
+    let each = each_passes (flags_ghosts.eq (flags_of a) (flags_of b))
+    ((option_ghosts denote.Builtin.u8 u8_ghosts u8_dict).eq a.font b.font
+    ∷ packed_ghosts.eq a.foreground b.foreground
+    ∷ packed_ghosts.eq a.background b.background
+    ∷ packed_ghosts.eq a.underline_color b.underline_color ∷ []) e in
+    let flags = flags_equal (flags_of a) (flags_of b) each.0 in
+    same_attributes a b flags (font_equal a.font b.font each.1.0) (color_if_set_equal a.foreground b.foreground each.1.1.0) (color_if_set_equal a.background b.background each.1.1.1.0)
+    (color_if_set_equal a.underline_color b.underline_color each.1.1.1.1)
 
 pub equal_to_itself : (a b : Attributes) → a ≡ b → ghosts.eq a b ≡ true
 equal_to_itself a b e = subst (λ (c : Attributes). ghosts.eq a c ≡ true) e (laws-law.refl a)
@@ -133,34 +139,8 @@ plain_from_test a e =
     let each = each_passes (word_of (flags_of a) == 0)
     (is_none a.font ∷ not (is_some a.foreground) ∷ not (is_some a.background) ∷ not (is_some a.underline_color) ∷ []) e in
     let flags = same_flags (flags_of a) (flags_of plain_attributes) (eqb-true (word_of (flags_of a)) 0 each.0) in
-    λ i. record {
-      bold = (flags i).bold;
-      faint = (flags i).faint;
-      italic = (flags i).italic;
-      underline = (flags i).underline;
-      slow_blink = (flags i).slow_blink;
-      rapid_blink = (flags i).rapid_blink;
-      inverted = (flags i).inverted;
-      hidden = (flags i).hidden;
-      crossed_out = (flags i).crossed_out;
-      font = none_from_test a.font each.1.0 i;
-      fraktur = (flags i).fraktur;
-      double_underline = (flags i).double_underline;
-      proportional_spacing = (flags i).proportional_spacing;
-      foreground = none_from_refusal a.foreground each.1.1.0 i;
-      background = none_from_refusal a.background each.1.1.1.0 i;
-      framed = (flags i).framed;
-      encircled = (flags i).encircled;
-      overlined = (flags i).overlined;
-      underline_color = none_from_refusal a.underline_color each.1.1.1.1 i;
-      ideogram_underline = (flags i).ideogram_underline;
-      ideogram_double_underline = (flags i).ideogram_double_underline;
-      ideogram_overline = (flags i).ideogram_overline;
-      ideogram_double_overline = (flags i).ideogram_double_overline;
-      ideogram_stress = (flags i).ideogram_stress;
-      superscript = (flags i).superscript;
-      subscript = (flags i).subscript;
-    }
+    same_attributes a plain_attributes flags (none_from_test a.font each.1.0) (none_from_refusal a.foreground each.1.1.0) (none_from_refusal a.background each.1.1.1.0)
+    (none_from_refusal a.underline_color each.1.1.1.1)
 
 pub test_from_plain : (a : Attributes) → a ≡ plain_attributes → sets_nothing a ≡ true
 unfolding plain_attributes

@@ -26,6 +26,7 @@ use Rattle.ansi_str_search.proofs.Dressed.{short, long, cut}
 use Rattle.ansi_str_search.proofs.PlainParts.{end_bytes-plain}
 use Rattle.ansi_str_search.proofs.Walks.{run_boundary, run_within, run_of, from-plain, IsCharBoundary-drop, strip-sequence}
 use Rattle.ansi_str_search.proofs.Rests.{strip-fits}
+use Rattle.ansi_str_search.proofs.Searches.{of_pieces}
 use Rattle.ansi_str_search.proofs.Utf8.{EachUtf8-pieces, IsUtf8-strip}
 use Rattle.ansi_str.proofs.CutParts.{sequences-text, sequences-sequence, cut_part-slice, cut_part-ends, style-cut}
 
@@ -102,6 +103,10 @@ plain-through n t style gone = plain-pieces n (pieces t) style (ArePiecesOf-piec
 
 pub good-none : (text : List ℕ) (n : ℕ) → length text ≤ n → IsGoodBound text n
 good-none text n over = λ less. absurd (omega (arith, over, less))
+
+-- a bound that is good in the pieces of a text is good in all of its pieces
+pub good-in-all : (text : List ℕ) (n : ℕ) → IsGoodBound (strip (pieces text)) n → (ps : List Piece) → ArePiecesOf text ps → IsGoodBound (strip ps) n
+good-in-all text n good = of_pieces (λ (ps : List Piece). IsGoodBound (strip ps) n) text good
 
 module _ (bytes : List ℕ) (k n : ℕ) (order : k ≤ n) where
   sum : k + (n - k) ≡ n

@@ -47,27 +47,20 @@ loop-at-init c =
 
 pub returns-then-at-from : goal.returns-then-at-from
 returns-then-at-from c =
-    let text = c.args.text.now in
-    let places = c.args.places.now in
     let others = c.in-Some.others.now in
     let l = c.loop-at in
-    let i = l.at-index in
-    let at = get_or others i 0 in
-    let low : at ≤ l.from = omega (arith, c.if-at-from.true) in
-    refused text places
-    (Tested-falls text places l.rest.now l.from at (drop (i + 1) others) (next text places l.rest.now others l.from i c.loop-at-test.true l.invariant.1) low)
+    let low : get_or others l.at-index 0 ≤ l.from = omega (arith, c.if-at-from.true) in
+    let here = next c.args.text.now c.args.places.now l.rest.now others l.from l.at-index c.loop-at-test.true l.invariant.1 in
+    refused c.args.text.now c.args.places.now (Tested-falls c.args.text.now c.args.places.now l.rest.now l.from (get_or others l.at-index 0) (drop (l.at-index + 1) others) here low)
 
 pub returns-in_default-behind_place-2 : goal.returns-in_default-behind_place-2
 returns-in_default-behind_place-2 c =
-    let text = c.args.text.now in
-    let places = c.args.places.now in
     let others = c.in-Some.others.now in
     let l = c.loop-at in
-    let i = l.at-index in
-    let at = get_or others i 0 in
-    let less : l.from < at = omega (arith, c.if-at-from.false) in
-    refused text places
-    (Tested-inside text places l.rest.now l.from at (drop (i + 1) others) (next text places l.rest.now others l.from i c.loop-at-test.true l.invariant.1) less c.in_default-behind_place-2.ensures)
+    let less : l.from < get_or others l.at-index 0 = omega (arith, c.if-at-from.false) in
+    let here = next c.args.text.now c.args.places.now l.rest.now others l.from l.at-index c.loop-at-test.true l.invariant.1 in
+    refused c.args.text.now c.args.places.now
+    (Tested-inside c.args.text.now c.args.places.now l.rest.now l.from (get_or others l.at-index 0) (drop (l.at-index + 1) others) here less c.in_default-behind_place-2.ensures)
 
 pub loop-at-preserved : goal.loop-at-preserved
 loop-at-preserved c =

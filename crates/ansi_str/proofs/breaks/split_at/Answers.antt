@@ -1,9 +1,9 @@
 -- The two sides of one place.
-use Rattle.std.proofs.Common.{◌≡◌, ◌∙◌, ◌∷◌, [], true, false, ℕ, List, length, sym, ap, subst}
+use Rattle.std.proofs.Common.{◌≡◌, ◌∙◌, ◌∷◌, ◌++◌, [], true, false, ℕ, List, length, sym, ap, subst}
 use Rattle.std.specs.Cow.{cow_str_bytes}
 use Rattle.ansi_scan.specs.Sequences.{joined}
 use Rattle.ansi_scan.specs.Pieces.{pieces}
-use Rattle.ansi_scan.specs.Attributes.{plain_attributes}
+use Rattle.ansi_scan.specs.Attributes.{Attributes, plain_attributes}
 use Rattle.ansi_scan.proofs.Existence.{ArePiecesOf-pieces}
 use Rattle.ansi_scan.proofs.Uniqueness.{ArePiecesOf-unique}
 use Rattle.ansi_str.specs.StyledText.{strip, has_escape, style_after_all}
@@ -23,7 +23,14 @@ through-cut-requires c =
 pub through-requires : goal.through-requires
 through-requires c = let rest = c.through-cut.result.rest.now in good-none (strip (pieces rest)) (length rest) (strip-fits rest)
 
--- a text without ESC has no style at the place
+-- a text without ESC has no style at the place, and none at its end
+plain-both : (rest left : List ℕ) (mid : ℕ) (style cut_style end_style : Attributes) → has_escape rest ≡ false → style ≡ plain_attributes
+    → cut_style ≡ style_after_all style (through_place mid (pieces rest)) → rest ≡ joined (through_place mid (pieces rest)) ++ left
+    → end_style ≡ style_after_all cut_style (through_place (length left) (pieces left)) → (cut_style ≡ plain_attributes) × (end_style ≡ plain_attributes)
+plain-both rest left mid style cut_style end_style gone plain opened parted ended =
+    let cut = opened ∙ plain-through mid rest style gone ∙ plain in
+    (cut, ended ∙ plain-through (length left) left cut_style (no_escape-behind rest (joined (through_place mid (pieces rest))) left parted gone) ∙ cut)
+
 pub returns-in_err-first-clause-answers : goal.returns-in_err-first-clause-answers
 returns-in_err-first-clause-answers c = λ gone.
     let from = c.start_of-start in
@@ -35,12 +42,10 @@ returns-in_err-first-clause-answers c = λ gone.
 pub returns-in_err-second-clause-answers : goal.returns-in_err-second-clause-answers
 returns-in_err-second-clause-answers c = λ gone.
     let from = c.start_of-start in
-    let cut = c.through-cut.result in
-    let none = ap has_escape from.ensures.rest ∙ gone in
-    let plain = c.through-cut.ensures.style ∙ plain-through c.args.mid from.result.rest.now from.result.style none ∙ from.ensures.style in
-    let none_left = no_escape-behind from.result.rest.now (joined (through_place c.args.mid (pieces from.result.rest.now))) cut.rest.now c.through-cut.ensures.slice none in
-    let plain_end = c.through.ensures.style ∙ plain-through (length cut.rest.now) cut.rest.now cut.style none_left ∙ plain in
-    let answered : false ≡ true = c.in_err-second.ensures.answers plain plain_end in
+    let cut = c.through-cut in
+    let plain = plain-both from.result.rest.now cut.result.rest.now c.args.mid from.result.style cut.result.style c.through.result.style (ap has_escape from.ensures.rest ∙ gone) from.ensures.style
+    cut.ensures.style cut.ensures.slice c.through.ensures.style in
+    let answered : false ≡ true = c.in_err-second.ensures.answers plain.0 plain.1 in
     cc answered
 
 pub returns-clause-parts : goal.returns-clause-parts
@@ -67,9 +72,7 @@ returns-clause-parts c = λ ps of_text.
 pub returns-clause-borrows : goal.returns-clause-borrows
 returns-clause-borrows c = λ gone.
     let from = c.start_of-start in
-    let cut = c.through-cut.result in
-    let none = ap has_escape from.ensures.rest ∙ gone in
-    let plain = c.through-cut.ensures.style ∙ plain-through c.args.mid from.result.rest.now from.result.style none ∙ from.ensures.style in
-    let none_left = no_escape-behind from.result.rest.now (joined (through_place c.args.mid (pieces from.result.rest.now))) cut.rest.now c.through-cut.ensures.slice none in
-    let plain_end = c.through.ensures.style ∙ plain-through (length cut.rest.now) cut.rest.now cut.style none_left ∙ plain in
-    (c.in_ok-first.ensures.borrows from.ensures.style plain, c.in_ok-second.ensures.borrows plain plain_end)
+    let cut = c.through-cut in
+    let plain = plain-both from.result.rest.now cut.result.rest.now c.args.mid from.result.style cut.result.style c.through.result.style (ap has_escape from.ensures.rest ∙ gone) from.ensures.style
+    cut.ensures.style cut.ensures.slice c.through.ensures.style in
+    (c.in_ok-first.ensures.borrows from.ensures.style plain.0, c.in_ok-second.ensures.borrows plain.0 plain.1)

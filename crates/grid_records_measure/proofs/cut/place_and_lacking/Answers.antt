@@ -1,5 +1,5 @@
 -- A block that fits wholly comes off the text; in one that does not the walk ends.
-use Rattle.std.proofs.Common.{rules, ◌≡◌, ◌≤◌, ◌<◌, ◌+◌, ◌-◌, ◌++◌, ◌∙◌, length, chars, encode_utf8_all, flat_map, List, ap, sym, subst, arith}
+use Rattle.std.proofs.Common.{rules, ◌≡◌, ◌≤◌, ◌<◌, ◌+◌, ◌-◌, ◌++◌, ◌∷◌, ◌∙◌, ℕ, length, chars, encode_utf8_all, flat_map, List, ap, sym, subst, arith}
 use Rattle.std.proofs.lemmas.Str.{chars-nil}
 use Rattle.ansi_scan.specs.Pieces.{pieces}
 use Rattle.ansi_str.specs.StyledText.{strip}
@@ -26,46 +26,37 @@ loop-block-init c =
       left = ap (behind_front width 0) all;
     }
 
+-- the text of the blocks that are left begins with that of the next
+next-shown : (blocks others : List Block) (block : Block) (shown : List ℕ) → blocks ≡ block ∷ others → shown ≡ text_of_block block → chars (flat_map text_of_block blocks) ≡ chars (shown ++ flat_map text_of_block others)
+next-shown blocks others block shown steps is = ap chars (ap (flat_map text_of_block) steps ∙ ap (λ bytes. bytes ++ flat_map text_of_block others) (sym is))
+
 pub overflow_add-place : goal.overflow_add-place
 overflow_add-place c =
     let width = c.args.width in
     let used = c.loop-block.used in
-    let text = c.args.text.now in
     let shown = c.text-shown.result.now in
-    let rest = flat_map text_of_block c.next.new.self in
-    let step = ap chars (ap (flat_map text_of_block) c.in-Some-block.ensures.steps ∙ ap (λ bytes. bytes ++ rest) (sym c.text-shown.ensures)) in
-    let here = fitting_front-longer width used shown rest c.text-shown.utf8 in
+    let step = next-shown c.loop-block.block-iterator c.next.new.self c.in-Some-block.block shown c.in-Some-block.ensures.steps c.text-shown.ensures in
+    let here = fitting_front-longer width used shown (flat_map text_of_block c.next.new.self) c.text-shown.utf8 in
     let left = ap (λ cs. length (encode_utf8_all (fitting_front width used cs))) step in
-    let all = fitting_front-fits width 0 (strip (pieces text)) (IsUtf8-shown_text text c.utf8.text) in
-    let fits : c.loop-block.place + c.fill-len.result.0 ≤ length text = omega (arith, here, left, all, strip-fits text, c.loop-block.invariant.place, c.fill-len.ensures.len) in
+    let all = fitting_front-fits width 0 (strip (pieces c.args.text.now)) (IsUtf8-shown_text c.args.text.now c.utf8.text) in
+    let fits : c.loop-block.place + c.fill-len.result.0 ≤ length c.args.text.now = omega (arith, here, left, all, strip-fits c.args.text.now, c.loop-block.invariant.place, c.fill-len.ensures.len) in
     search (rules, fits)
 
-pub returns-then-len-shown-clause-place : goal.returns-then-len-shown-clause-place
-returns-then-len-shown-clause-place c =
+pub returns-then-len-shown : goal.returns-then-len-shown
+returns-then-len-shown c =
     let width = c.args.width in
     let used = c.loop-block.used in
-    let text = c.args.text.now in
     let shown = c.text-shown.result.now in
-    let rest = flat_map text_of_block c.next.new.self in
-    let step = ap chars (ap (flat_map text_of_block) c.in-Some-block.ensures.steps ∙ ap (λ bytes. bytes ++ rest) (sym c.text-shown.ensures)) in
+    let step = next-shown c.loop-block.block-iterator c.next.new.self c.in-Some-block.block shown c.in-Some-block.ensures.steps c.text-shown.ensures in
     let short : length (encode_utf8_all (fitting_front width used (chars shown))) < length shown = omega (arith, c.if-len-shown.true, c.fill-len.ensures.len) in
-    let stop = stops-in width used shown rest c.text-shown.utf8 (some-left width used shown c.text-shown.utf8 short) in
+    let stop = stops-in width used shown (flat_map text_of_block c.next.new.self) c.text-shown.utf8 (some-left width used shown c.text-shown.utf8 short) in
     let kept = ap (λ cs. length (encode_utf8_all (fitting_front width used cs))) step ∙ ap (λ cs. length (encode_utf8_all cs)) stop.kept in
-    omega (arith, kept, c.loop-block.invariant.place, c.fill-len.ensures.len)
-
-pub returns-then-len-shown-clause-left : goal.returns-then-len-shown-clause-left
-returns-then-len-shown-clause-left c =
-    let width = c.args.width in
-    let used = c.loop-block.used in
-    let text = c.args.text.now in
-    let shown = c.text-shown.result.now in
-    let rest = flat_map text_of_block c.next.new.self in
-    let step = ap chars (ap (flat_map text_of_block) c.in-Some-block.ensures.steps ∙ ap (λ bytes. bytes ++ rest) (sym c.text-shown.ensures)) in
-    let short : length (encode_utf8_all (fitting_front width used (chars shown))) < length shown = omega (arith, c.if-len-shown.true, c.fill-len.ensures.len) in
-    let stop = stops-in width used shown rest c.text-shown.utf8 (some-left width used shown c.text-shown.utf8 short) in
     let columns = c.fill-len.ensures.columns ∙ sym stop.columns ∙ sym (ap (front_columns width used) step) ∙ c.loop-block.invariant.columns in
     let some = subst (λ left. 0 < length left) (sym (ap (behind_front width used) step) ∙ c.loop-block.invariant.left) stop.some in
-    ap (λ n. width - n) columns ∙ sym (lacking-some width (chars (strip (pieces text))) some)
+    record {
+      place = omega (arith, kept, c.loop-block.invariant.place, c.fill-len.ensures.len);
+      left = ap (λ n. width - n) columns ∙ sym (lacking-some width (chars (strip (pieces c.args.text.now))) some);
+    }
 
 pub loop-block-preserved : goal.loop-block-preserved
 loop-block-preserved c =
@@ -73,7 +64,7 @@ loop-block-preserved c =
     let used = c.loop-block.used in
     let shown = c.text-shown.result.now in
     let rest = flat_map text_of_block c.next.new.self in
-    let step = ap chars (ap (flat_map text_of_block) c.in-Some-block.ensures.steps ∙ ap (λ bytes. bytes ++ rest) (sym c.text-shown.ensures)) in
+    let step = next-shown c.loop-block.block-iterator c.next.new.self c.in-Some-block.block shown c.in-Some-block.ensures.steps c.text-shown.ensures in
     let long : length shown ≤ length (encode_utf8_all (fitting_front width used (chars shown))) = omega (arith, c.if-len-shown.false, c.fill-len.ensures.len) in
     let on = fits-on width used shown rest c.text-shown.utf8 (all-fit width used shown c.text-shown.utf8 long) in
     let columns = sym c.fill-len.ensures.columns in
