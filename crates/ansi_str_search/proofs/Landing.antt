@@ -43,6 +43,20 @@ some-map : (k : ℕ) (o : Option ℕ) → is_some (option_map (λ n. k + n) o) �
 some-map k None = refl
 some-map k (Some n) = refl
 
+-- what stands behind bytes of text is the same counted from their end
+module _ (rest : List ℕ) (k : ℕ) (within : k ≤ text_len rest) where
+  pub place-behind : (m : ℕ) → from_place (k + m) (pieces rest) ≡ from_place m (pieces (drop k rest))
+  place-behind m = from-from k m (pieces rest) ∙ ap (from_place m) (from-plain rest k within)
+
+  pub style-behind : (style : Attributes) (m : ℕ) → style_after_all style (through_place (k + m) (pieces rest)) ≡ style_after_all style (through_place m (pieces (drop k rest)))
+  style-behind style m =
+      style-through_split (k + m) style (pieces rest)
+      ∙ ap (λ ps. style_after_all (style_after_all style (before_place (k + m) (pieces rest))) (through_place 0 ps)) (place-behind m)
+      ∙ ap (λ s. style_after_all s (through_place 0 (from_place m (pieces (drop k rest))))) (style-before_sum k m style (pieces rest)
+      ∙ ap (λ s. style_after_all s (before_place m (from_place k (pieces rest)))) (style-plain rest k within style)
+      ∙ ap (λ ps. style_after_all style (before_place m ps)) (from-plain rest k within))
+      ∙ sym (style-through_split m style (pieces (drop k rest)))
+
 module _ (c : ℕ) (low : c < 128) (rest : List ℕ) (style : Attributes) (k : ℕ) (is_run : k ≡ prefix_len (is_other c) rest) where
   run-within : k ≤ text_len rest
   run-within = omega (arith, is_run, other_run c rest)
@@ -56,22 +70,10 @@ module _ (c : ℕ) (low : c < 128) (rest : List ℕ) (style : Attributes) (k : �
       ∙ ap (λ n. unwrap_or (option_map (λ m. k + m) (found_in c (drop k rest))) n) all
       ∙ unwrap-map k (length (strip (pieces (drop k rest)))) (found_in c (drop k rest))
 
-  run-place : (m : ℕ) → from_place (k + m) (pieces rest) ≡ from_place m (pieces (drop k rest))
-  run-place m = from-from k m (pieces rest) ∙ ap (from_place m) (from-plain rest k run-within)
-
-  run-style : (m : ℕ) → style_after_all style (through_place (k + m) (pieces rest)) ≡ style_after_all style (through_place m (pieces (drop k rest)))
-  run-style m =
-      style-through_split (k + m) style (pieces rest)
-      ∙ ap (λ ps. style_after_all (style_after_all style (before_place (k + m) (pieces rest))) (through_place 0 ps)) (run-place m)
-      ∙ ap (λ s. style_after_all s (through_place 0 (from_place m (pieces (drop k rest))))) (style-before_sum k m style (pieces rest)
-      ∙ ap (λ s. style_after_all s (before_place m (from_place k (pieces rest)))) (style-plain rest k run-within style)
-      ∙ ap (λ ps. style_after_all style (before_place m ps)) (from-plain rest k run-within))
-      ∙ sym (style-through_split m style (pieces (drop k rest)))
-
   pub SameLanding-run : (text : List ℕ) (text_style : Attributes) → SameLanding c rest style text text_style → SameLanding c (drop k rest) style text text_style
   SameLanding-run text text_style same = record {
-    there = ap from_text (sym (run-place (bytes_to c (drop k rest)))) ∙ ap (λ m. from_text (from_place m (pieces rest))) (sym run-bytes) ∙ same.there;
-    known = sym (run-style (bytes_to c (drop k rest))) ∙ ap (λ m. style_after_all style (through_place m (pieces rest))) (sym run-bytes) ∙ same.known;
+    there = ap from_text (sym (place-behind rest k run-within (bytes_to c (drop k rest)))) ∙ ap (λ m. from_text (from_place m (pieces rest))) (sym run-bytes) ∙ same.there;
+    known = sym (style-behind rest k run-within style (bytes_to c (drop k rest))) ∙ ap (λ m. style_after_all style (through_place m (pieces rest))) (sym run-bytes) ∙ same.known;
     found = sym (some-map k (found_in c (drop k rest))) ∙ ap is_some (sym (match-behind_others c low rest k is_run)) ∙ same.found;
   }
 

@@ -5,3 +5,4 @@ pub mod Stripped
 pub mod PlainTexts
 pub mod Shrunk
 pub mod Narrows
+mod Resizes

@@ -247,28 +247,6 @@ module _ (place : ℕ → ℕ) (least widths : List ℕ) (by : ℕ) (placing : I
   low : (i : ℕ) → i < n → w i ≤ most
   low i h = get_or-le-sum_by (λ (x : ℕ). x) widths i 0 h
 
-  total-most : shrunk_sum least widths by ≤ most
-  total-most =
-      let below : sum (floors least widths) ≤ sum_of w n = map-le (floor_of least widths) w n (λ i h. omega arith) in
-      let same = all-widths in
-      omega (arith, below, same)
-    where
-      from_columns : (xs : List ℕ) (a : ℕ) (f : ℕ → ℕ) → ((i : ℕ) → f (a + i) ≡ get_or xs i 0) → sum (map f (range_with_len a (length xs))) ≡ sum xs
-      from_columns [] a f same = refl
-      from_columns (x ∷ xs) a f same =
-          let here : f a ≡ x = (let z : a + 0 ≡ a = omega arith in ap f (sym z) ∙ same 0) in
-          let rest = from_columns xs (a + 1) f (λ i. let s : (a + 1) + i ≡ a + suc i = omega arith in ap f s ∙ same (suc i)) in
-          omega (arith, here, rest, sum-cons (f a) (map f (range_with_len (a + 1) (length xs))), sum-cons x xs)
-
-      all-widths : sum_of w n ≡ most
-      all-widths = from_columns widths 0 w (λ i. let z : 0 + i ≡ i = omega arith in ap w z)
-
-  abbrev total : ℕ
-  total = shrunk_sum least widths by
-
-  abbrev FormReaches : (ℕ → ℕ → List ℕ) → Type 0
-  FormReaches form = (number : ℕ) × (column : ℕ) × (number ≤ most) × (column ≤ n) × (sum (form number column) ≡ total)
-
   all-of : sum_of w n ≡ most
   all-of = from_columns widths 0 w (λ i. let z : 0 + i ≡ i = omega arith in ap w z) where
     from_columns : (xs : List ℕ) (a : ℕ) (f : ℕ → ℕ) → ((i : ℕ) → f (a + i) ≡ get_or xs i 0) → sum (map f (range_with_len a (length xs))) ≡ sum xs
@@ -277,6 +255,17 @@ module _ (place : ℕ → ℕ) (least widths : List ℕ) (by : ℕ) (placing : I
         let here : f a ≡ x = (let z : a + 0 ≡ a = omega arith in ap f (sym z) ∙ same 0) in
         let rest = from_columns xs (a + 1) f (λ i. let s : (a + 1) + i ≡ a + suc i = omega arith in ap f s ∙ same (suc i)) in
         omega (arith, here, rest, sum-cons (f a) (map f (range_with_len (a + 1) (length xs))), sum-cons x xs)
+
+  total-most : shrunk_sum least widths by ≤ most
+  total-most =
+      let below : sum (floors least widths) ≤ sum_of w n = map-le (floor_of least widths) w n (λ i h. omega arith) in
+      omega (arith, below, all-of)
+
+  abbrev total : ℕ
+  total = shrunk_sum least widths by
+
+  abbrev FormReaches : (ℕ → ℕ → List ℕ) → Type 0
+  FormReaches form = (number : ℕ) × (column : ℕ) × (number ≤ most) × (column ≤ n) × (sum (form number column) ≡ total)
 
   -- from all widths down to the floors
   above : (f : ℕ → ℕ) → ((i : ℕ) → i < n → f i ≡ w i) → total ≤ sum_of f n

@@ -107,7 +107,7 @@ module _ (style : Compact) (asked : Asked) (texts : List (List (List ℕ))) wher
 -- ---- the text
 
 -- a line feed more
-shown-ended : (frame : Frame) (bytes : List ℕ) (characters : List Styled) → ShowsHere bytes characters → ShowsHere (ended line_feed frame bytes) (ended (in_plain line_feed) frame characters)
+pub shown-ended : (frame : Frame) (bytes : List ℕ) (characters : List Styled) → ShowsHere bytes characters → ShowsHere (ended line_feed frame bytes) (ended (in_plain line_feed) frame characters)
 shown-ended frame bytes characters shows = step (line_count frame == 0) where
   step : (b : Bool) → ShowsHere (if b then [] else bytes ++ line_feed ∷ []) (if b then [] else characters ++ in_plain line_feed ∷ [])
   step true = ShowsHere-nothing

@@ -8,7 +8,7 @@ use Rattle.ansi_scan.proofs.Uniqueness.{pieces-ArePiecesOf}
 use Rattle.ansi_str.specs.StyledText.{IsClosed, styled}
 use Rattle.columns_asked.specs.declared.asked.Asked.{Asked}
 use Rattle.columns_asked.specs.Layout.{asked_frame, asked_items, asked_picture, asked_text, asked_widths, ended, heights_of, kept_cells, kept_texts, texts_in}
-use Rattle.columns_asked.proofs.Tables.{asked_widths-stripped, heights-kept, kept-styled, kept-whole, picture-kept, texts-in}
+use Rattle.columns_asked.proofs.Tables.{asked_widths-stripped, heights-kept, kept-styled, kept-whole, picture-kept, shown-ended, texts-in}
 use Rattle.columns_colors.specs.ColoredTables.{colored_items, colored_text}
 use Rattle.grid_config.specs.Colors.{Color}
 use Rattle.grid_config.specs.Compact.{Compact}
@@ -22,13 +22,6 @@ use Rattle.papergrid_colors.proofs.Pictures.{text-colored}
 use Rattle.papergrid_picture.specs.Frame.{Frame, frame_of, line_count}
 use Rattle.papergrid_picture.specs.Shown.{AreWholeTexts, IsBare, Shows, Styled, character_of, in_plain, styled_picture, styled_texts}
 use Rattle.papergrid_picture.proofs.Shown.{IsShown-feed, ShowsHere, ShowsHere-append, ShowsHere-character, ShowsHere-nothing}
-
--- a line feed more
-shown-ended : (frame : Frame) (bytes : List ℕ) (characters : List Styled) → ShowsHere bytes characters → ShowsHere (ended line_feed frame bytes) (ended (in_plain line_feed) frame characters)
-shown-ended frame bytes characters shows = step (line_count frame == 0) where
-  step : (b : Bool) → ShowsHere (if b then [] else bytes ++ line_feed ∷ []) (if b then [] else characters ++ in_plain line_feed ∷ [])
-  step true = ShowsHere-nothing
-  step false = ShowsHere-append bytes (line_feed ∷ []) characters (in_plain line_feed ∷ []) shows (subst (λ bytes. ShowsHere bytes (in_plain line_feed ∷ [])) (encode_ascii line_feed (lit< tt)) (ShowsHere-character line_feed IsShown-feed))
 
 characters-ended : (frame : Frame) (a b : List Styled) → map character_of a ≡ map character_of b → map character_of (ended (in_plain line_feed) frame a) ≡ map character_of (ended (in_plain line_feed) frame b)
 characters-ended frame a b same = step (line_count frame == 0) where

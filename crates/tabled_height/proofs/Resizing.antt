@@ -4,10 +4,13 @@ use Rattle.std.proofs.Math.Seq.{take-append_seam}
 use Rattle.std.proofs.lemmas.Bool.Decides.{nat_tests}
 use Rattle.std.specs.Prelude.{Result}
 use Rattle.grid_config_values.specs.declared.fault.Fault.{Fault}
+use Rattle.grid_config.specs.Colors.{Color}
 use Rattle.grid_config.specs.Looks.{look_of}
 use Rattle.grid_config.specs.Settings.{Settings}
+use Rattle.grid_config_values.specs.declared.position.Position.{Position}
+use Rattle.tabled_size_dimension.specs.Stored.{Stored}
 use Rattle.tabled_steps.specs.Outcomes.{MayRefuse}
-use Rattle.tabled_steps.specs.States.{Outcome, State, column_count}
+use Rattle.tabled_steps.specs.States.{Outcome, State, column_count, state_with}
 use Rattle.tabled_height.proofs.Giving.{may_follow}
 use Rattle.tabled_height.specs.Heights.{Estimate, estimate_with, estimated}
 use Rattle.tabled_height.specs.Steps.{Measured, Measuring, Resizes, WhereCells, has_no_cells}
@@ -50,3 +53,28 @@ module _ (measures : Measuring) (finds : ℕ → Estimate → Option (List ℕ) 
   pub resize_done : (heights : List ℕ) (lines : ℕ) (sizes : Option (List ℕ)) (new : State) → estimated s.look (column_count s.rows) s.rows ≡ Ok (estimate_with heights lines) →
       finds n (estimate_with heights lines) sizes → change sizes s ≡ new → Step s (Ok new)
   resize_done heights lines sizes new is found changed = resized (Ok new) (rw is (sizes, found, ap (λ (s : State). Ok s) changed))
+
+-- ---- the same of rows by what is counted, measured and estimated of them
+
+module _ (measures : Measuring) (finds : ℕ → Estimate → Option (List ℕ) → Type 0) (change : Option (List ℕ) → State → State) (rows : List (List (List ℕ))) (settings lent again : Settings) (colors : Position → Option Color) (sizes : Stored)
+    (count columns : ℕ) (counted : columns ≡ column_count rows) (many : count ≡ length rows) (some : 0 < count) (more : 0 < columns) (is_lent : lent ≡ settings) (is_again : again ≡ settings)
+    (n : ℕ) (measure : measures columns rows (look_of lent) (Ok n)) where
+  abbrev here : State
+  here = state_with rows (look_of settings) colors sizes
+
+  cells : has_no_cells here ≡ false
+  cells = some_cells rows (omega (arith, some, many)) (omega (arith, more, counted))
+
+  measured : measures (column_count rows) rows (look_of settings) (Ok n)
+  measured = measured_here measures rows columns (column_count rows) lent settings (Ok n) counted is_lent measure
+
+  same_estimate : estimated (look_of again) columns rows ≡ estimated (look_of settings) (column_count rows) rows
+  same_estimate = estimated_here rows columns (column_count rows) again settings counted is_again
+
+  pub rows_refused : (fault : Fault) → MayRefuse fault (λ outcome. estimated (look_of again) columns rows ≡ outcome) → MayRefuse fault (WhereCells (Measured measures (λ height. Resizes (finds height) change)) here)
+  rows_refused fault may =
+      resize_refused measures finds change here cells n measured fault (subst (λ (estimate : Result Estimate Fault). MayRefuse fault (λ outcome. estimate ≡ outcome)) same_estimate may)
+
+  pub rows_done : (heights : List ℕ) (lines : ℕ) (found : Option (List ℕ)) (new : State) → estimated (look_of again) columns rows ≡ Ok (estimate_with heights lines) →
+      finds n (estimate_with heights lines) found → change found here ≡ new → WhereCells (Measured measures (λ height. Resizes (finds height) change)) here (Ok new)
+  rows_done heights lines found new is finds_it changed = resize_done measures finds change here cells n measured heights lines found new (sym same_estimate ∙ is) finds_it changed

@@ -17,3 +17,4 @@ pub mod Bytes
 pub mod Unbroken
 pub mod CountedLines
 pub mod OneLine
+pub mod Repeated

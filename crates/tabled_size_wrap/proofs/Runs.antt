@@ -25,6 +25,14 @@ some-runs width used (u ∷ us) = by (has_room width used u)
 
 -- ---- the narrow units in front
 
+-- the first of units none of which is narrow is too wide
+pub first-wide : (width : ℕ) (wide : LineUnit) (behind : List LineUnit) → prefix_len (is_narrow width) (wide ∷ behind) ≡ 0 → width < wide.cost
+first-wide width wide behind none = by (is_narrow width wide) refl
+  where
+    by : (b : Bool) → is_narrow width wide ≡ b → width < wide.cost
+    by true e = let more : prefix_len (is_narrow width) (wide ∷ behind) ≡ suc (prefix_len (is_narrow width) behind) = ap (λ b. cond b (1 + prefix_len (is_narrow width) behind) 0) e ∙ omega arith in absurd (omega (arith, none, more))
+    by false e = grind (arith, nat_tests, e)
+
 pub front-cons : (width : ℕ) (u : LineUnit) (run : List LineUnit) → is_narrow width u ≡ true
     → (narrow_front width (u ∷ run) ≡ u ∷ narrow_front width run) × (from_wide width (u ∷ run) ≡ from_wide width run)
 front-cons width u run narrow =

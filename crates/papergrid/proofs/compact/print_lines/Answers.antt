@@ -1,10 +1,10 @@
-use Rattle.std.proofs.Common.{◌≡◌, ◌++◌, ◌⊎◌, Err, IfErr, IfOk, Ok, OnOk, inl, inr, string_bytes, subst, sym}
+use Rattle.std.proofs.Common.{◌≡◌, ◌++◌, Err, List, Ok, OnOk, Result, inl, inr, string_bytes, subst, sym, ℕ}
 use Rattle.std.proofs.lemmas.Result.{IfErr-weaker, IfOk-weaker}
-use Rattle.grid_config_values.specs.declared.fault.Fault.TheVariants.{Memory}
+use Rattle.grid_config_values.specs.declared.fault.Fault.{Fault}
 use Rattle.grid_config_spans.specs.Spans.{AreGood}
 use Rattle.grid_config.specs.Compact.{Compact, compact_of}
 use Rattle.grid_config.specs.Looks.{Look, compact_look, look_of}
-use Rattle.grid_config.specs.Settings.{Settings}
+use Rattle.grid_config.specs.Settings.{Settings, StartsWith, compact_start}
 use Rattle.grid_config.proofs.Looks.{same_look}
 use Rattle.papergrid_picture.specs.Fitting.{FitsAnswer}
 use Rattle.papergrid_picture.specs.Frame.{frame_of}
@@ -21,34 +21,25 @@ returns-clause-text g c =
     ++ table_text look (g.R.RecordTexts.rows c.args.records.now) (g.C.Colors.color c.args.colors.now) (sizes_of (g.D.Dimension.width c.args.dims.now) c.args.columns) (sizes_of one_line c.args.rows)))
     same c.print_fitting-outcome.ensures.text
 
+-- a table of one line a row fits where it does by good spans, since it has none
+flat-fits : (flattened : Compact) (settings : Settings) (rows : List (List (List ℕ))) (widths heights : List ℕ) (n m : ℕ) → StartsWith (compact_start flattened) settings
+    → (answer : Result (Unit {0}) Fault) → FitsAnswer (frame_of (look_of settings) widths heights) rows (AreGood settings.spans n m) answer → FitsAnswer (frame_of (compact_look flattened) widths heights) rows (Unit {0}) answer
+flat-fits flattened settings rows widths heights n m starts answer is =
+    let good : AreGood settings.spans n m = subst (λ spans. AreGood spans n m) (sym starts.spans) (none_good n m) in
+    subst (λ (look : Look). FitsAnswer (frame_of look widths heights) rows (Unit {0}) answer) (same_look flattened settings starts)
+    (answer-good (frame_of (look_of settings) widths heights) rows (AreGood settings.spans n m) good answer is)
+
 pub returns-clause-fits : goal.returns-clause-fits
 returns-clause-fits g c =
-    let flattened : Compact = flat (compact_of c.args.cfg.now) in
-    let settings : Settings = c.in_ok-settings.settings in
-    let same : look_of settings ≡ compact_look flattened = same_look flattened settings c.in_ok-settings.ensures in
-    let rows = g.R.RecordTexts.rows c.args.records.now in
-    let widths = sizes_of (g.D.Dimension.width c.args.dims.now) c.args.columns in
-    let heights = sizes_of one_line c.args.rows in
-    let Good = AreGood settings.spans c.args.rows c.args.columns in
-    let good : Good = subst (λ spans. AreGood spans c.args.rows c.args.columns) (sym c.in_ok-settings.ensures.spans) (none_good c.args.rows c.args.columns) in
-    subst (λ (look : Look). IfOk c.print_fitting-outcome.result (λ done. FitsAnswer (frame_of look widths heights) rows (Unit {0}) (Ok done))) same
-    (IfOk-weaker c.print_fitting-outcome.result (λ done. FitsAnswer (frame_of (look_of settings) widths heights) rows Good (Ok done)) (λ done. FitsAnswer (frame_of (look_of settings) widths heights) rows (Unit {0}) (Ok done))
-    (λ done is. answer-good (frame_of (look_of settings) widths heights) rows Good good (Ok done) is) c.print_fitting-outcome.ensures.fits)
+    let fits = flat-fits (flat (compact_of c.args.cfg.now)) c.in_ok-settings.settings (g.R.RecordTexts.rows c.args.records.now) (sizes_of (g.D.Dimension.width c.args.dims.now) c.args.columns) (sizes_of one_line c.args.rows) c.args.rows c.args.columns
+    c.in_ok-settings.ensures in
+    IfOk-weaker c.print_fitting-outcome.result _ _ (λ done is. fits (Ok done) is) c.print_fitting-outcome.ensures.fits
 
 pub returns-clause-fault : goal.returns-clause-fault
 returns-clause-fault g c =
-    let flattened : Compact = flat (compact_of c.args.cfg.now) in
-    let settings : Settings = c.in_ok-settings.settings in
-    let same : look_of settings ≡ compact_look flattened = same_look flattened settings c.in_ok-settings.ensures in
-    let rows = g.R.RecordTexts.rows c.args.records.now in
-    let widths = sizes_of (g.D.Dimension.width c.args.dims.now) c.args.columns in
-    let heights = sizes_of one_line c.args.rows in
-    let Good = AreGood settings.spans c.args.rows c.args.columns in
-    let good : Good = subst (λ spans. AreGood spans c.args.rows c.args.columns) (sym c.in_ok-settings.ensures.spans) (none_good c.args.rows c.args.columns) in
-    subst (λ (look : Look). IfErr c.print_fitting-outcome.result (λ fault. (fault ≡ Memory) ⊎ FitsAnswer (frame_of look widths heights) rows (Unit {0}) (Err fault))) same
-    (IfErr-weaker c.print_fitting-outcome.result (λ fault. (fault ≡ Memory) ⊎ FitsAnswer (frame_of (look_of settings) widths heights) rows Good (Err fault))
-    (λ fault. (fault ≡ Memory) ⊎ FitsAnswer (frame_of (look_of settings) widths heights) rows (Unit {0}) (Err fault))
-    (λ fault told. elim told [
+    let fits = flat-fits (flat (compact_of c.args.cfg.now)) c.in_ok-settings.settings (g.R.RecordTexts.rows c.args.records.now) (sizes_of (g.D.Dimension.width c.args.dims.now) c.args.columns) (sizes_of one_line c.args.rows) c.args.rows c.args.columns
+    c.in_ok-settings.ensures in
+    IfErr-weaker c.print_fitting-outcome.result _ _ (λ fault told. elim told [
       | inl memory ↦ inl memory
-      | inr is ↦ inr (answer-good (frame_of (look_of settings) widths heights) rows Good good (Err fault) is)
-    ]) c.print_fitting-outcome.ensures.fault)
+      | inr is ↦ inr (fits (Err fault) is)
+    ]) c.print_fitting-outcome.ensures.fault

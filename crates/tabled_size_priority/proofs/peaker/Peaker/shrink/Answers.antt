@@ -1,39 +1,31 @@
-use Rattle.std.proofs.Common.{suc, refl, sym, arith}
+use Rattle.std.proofs.Common.{◌≡◌, ◌<◌, ℕ, List, Option, length, suc, refl, sym, arith}
 use Rattle.std.specs.Prelude.{Some, None}
-use Rattle.tabled_size_priority.specs.Running.{IsShrunkBy}
+use Rattle.tabled_size_priority.specs.Running.{GoesOn, IsShrunkBy, OneAnswer, Stand, answered}
 use Rattle.tabled_size_priority.specs.Running.Ends.{all_taken, hopeless, nowhere}
 use Rattle.tabled_size_priority.specs.Laws.Runs.{IsShrunkSafely, answered_passes, answered_takes, shrunk_safely}
 use Rattle.tabled_size_priority.proofs.peaker.Peaker.shrink.Goals as goal
 
+-- one answer more that names a column
+one-more : {S : Type 0} (peaks : S → List ℕ → List ℕ → Option ℕ → S → Type 0) (least : List ℕ) (Before : Stand S → Type 0) (before now : Stand S) (column : ℕ) (after : S)
+    → Before before → GoesOn before → column < length before.widths → peaks before.priority least before.widths (Some column) after → answered least column after before ≡ now → OneAnswer peaks least Before now
+one-more peaks least Before before now column after so_far goes_on inside answer leads =
+    record { before = before; so_far = so_far; goes_on = goes_on; column = column; inside = inside; after = after; answer = answer; is_now = sym leads }
+
 pub loop-left-preserved-then-widths-column : goal.loop-left-preserved-then-widths-column
-loop-left-preserved-then-widths-column g c = (
-  suc c.loop-left.invariant.0,
-  record {
-    before = record { priority = c.loop-left.self; widths = c.loop-left.widths; left = c.loop-left.left; fruitless = c.loop-left.fruitless };
-    so_far = c.loop-left.invariant.1;
-    goes_on = record { some_left = c.loop-left-test.true; some_hope = c.if-fruitless-widths.true };
-    column = c.in-Some.column;
-    inside = c.if-column-widths.false;
-    after = c.peak.new.self;
-    answer = c.in-Some.ensures {u = tt};
-    is_now = sym (answered_takes c.args.least.now c.in-Some.column c.peak.new.self (record { priority = c.loop-left.self; widths = c.loop-left.widths; left = c.loop-left.left; fruitless = c.loop-left.fruitless }) c.if-widths-column.true);
-  },
-)
+loop-left-preserved-then-widths-column g c =
+    let before : Stand g.row.Self.Denot = record { priority = c.loop-left.self; widths = c.loop-left.widths; left = c.loop-left.left; fruitless = c.loop-left.fruitless } in (
+      suc c.loop-left.invariant.0,
+      one-more g.Self.Peaker.peaks c.args.least.now _ before _ c.in-Some.column c.peak.new.self c.loop-left.invariant.1 (record { some_left = c.loop-left-test.true; some_hope = c.if-fruitless-widths.true }) c.if-column-widths.false (c.in-Some.ensures {u = tt})
+          (answered_takes c.args.least.now c.in-Some.column c.peak.new.self before c.if-widths-column.true),
+    )
 
 pub loop-left-preserved : goal.loop-left-preserved
-loop-left-preserved g c = (
-  suc c.loop-left.invariant.0,
-  record {
-    before = record { priority = c.loop-left.self; widths = c.loop-left.widths; left = c.loop-left.left; fruitless = c.loop-left.fruitless };
-    so_far = c.loop-left.invariant.1;
-    goes_on = record { some_left = c.loop-left-test.true; some_hope = c.if-fruitless-widths.true };
-    column = c.in-Some.column;
-    inside = c.if-column-widths.false;
-    after = c.peak.new.self;
-    answer = c.in-Some.ensures {u = tt};
-    is_now = sym (answered_passes c.args.least.now c.in-Some.column c.peak.new.self (record { priority = c.loop-left.self; widths = c.loop-left.widths; left = c.loop-left.left; fruitless = c.loop-left.fruitless }) c.if-widths-column.false);
-  },
-)
+loop-left-preserved g c =
+    let before : Stand g.row.Self.Denot = record { priority = c.loop-left.self; widths = c.loop-left.widths; left = c.loop-left.left; fruitless = c.loop-left.fruitless } in (
+      suc c.loop-left.invariant.0,
+      one-more g.Self.Peaker.peaks c.args.least.now _ before _ c.in-Some.column c.peak.new.self c.loop-left.invariant.1 (record { some_left = c.loop-left-test.true; some_hope = c.if-fruitless-widths.true }) c.if-column-widths.false (c.in-Some.ensures {u = tt})
+          (answered_passes c.args.least.now c.in-Some.column c.peak.new.self before c.if-widths-column.false),
+    )
 
 pub returns-in_default : goal.returns-in_default
 returns-in_default g c =
