@@ -1,16 +1,21 @@
 //! Laws of the definitions, and texts worked by hand. The functions do nothing.
-ghost use Rattle.std.specs.Prelude.{◌≡◌, ◌≢◌, ◌<◌, ℕ, List, [], ◌∷◌, ◌++◌, IsUtf8, codes};
+ghost use Rattle.std.specs.Prelude.{◌≡◌, ◌≢◌, ◌<◌, ℕ, List, [], ◌∷◌, ◌++◌, IsUtf8, Some, codes};
 ghost use Rattle.std.specs.List.{AllByRecursion};
+ghost use Rattle.std.specs.declared.alloc.AllocError.{AllocError as Refused};
 ghost use Rattle.csv.specs.Reading.{records, strip_bom};
 ghost use Rattle.csv.specs.declared.parser.State.TheVariants as st;
 ghost use Rattle.basinmug_input.specs.Cleaning.{cleaned, cleaned_text};
-ghost use Rattle.basinmug_input.specs.Faults.{IsFaultOf, IsNotUtf8, IsReadable};
+ghost use Rattle.basinmug_input.specs.Faults.{IsFaultOf, IsNotUtf8, IsReadable, fault_text};
 ghost use Rattle.basinmug_input.specs.Files.{ending};
 ghost use Rattle.basinmug_input.specs.Places.{EndsInQuotes, field_at, line_at};
 ghost use Rattle.basinmug_input.specs.Reading.{all_read, read_of, settings};
 ghost use Rattle.basinmug_input.specs.Rows.{rows_in};
 ghost use Rattle.basinmug_input.specs.declared.fault.InputFault.{InputFault as Fault};
 ghost use Rattle.basinmug_input.specs.declared.fault.InputFault.TheVariants.{Memory, NotText};
+
+use crate::fault::InputFault;
+use std::alloc::{AllocError, AllocFailed};
+use std::fmt::Display;
 
 /// The records of a text are what is read of it byte by byte, which tells where each byte stands.
 pub fn records_are_what_is_read()
@@ -26,6 +31,13 @@ pub fn readable_texts_have_no_fault()
 pub fn texts_have_one_fault()
     ensures { (delimiter : ℕ) (text : List ℕ) (one other : Fault) → IsFaultOf (settings delimiter) text one → IsFaultOf (settings delimiter) text other →
         one ≢ Memory → other ≢ Memory → one ≡ other }
+{}
+
+/// A fault is printed in its own words, and a growth that was refused, or a value that was not pushed, is `Memory`.
+pub fn faults_are_printed_whole<T: Drop>()
+    ensures printed { (fault : Fault) → ⟦<InputFault as Display>⟧.output fault ≡ Some (fault_text fault) }
+    ensures of_memory { (given : Refused) (fault : Fault) → ⟦<InputFault as From<AllocError>>⟧.from_gives given fault → fault ≡ Memory }
+    ensures of_push { (given : _) (fault : Fault) → ⟦<InputFault as From<AllocFailed<T>>>⟧.from_gives given fault → fault ≡ Memory }
 {}
 
 /// Where the delimiter is ASCII, the fields of a text are texts: `NotText` then tells of bytes that are no text, and

@@ -4,6 +4,7 @@
 mod appearance;
 mod fault;
 mod glyphs;
+pub mod laws;
 mod lines;
 mod looks;
 mod narrowing;

@@ -1,0 +1,19 @@
+//! Laws of the definitions that the contracts cite. The functions do nothing.
+ghost use Rattle.std.specs.Prelude.{◌≡◌, Some};
+ghost use Rattle.basinmug_input.specs.declared.fault.InputFault.{InputFault as ReadingFault};
+ghost use Rattle.basinmug_picture.specs.declared.fault.PrintFault.{PrintFault as PrintingFault};
+ghost use Rattle.basinmug_run.specs.Faults.{of_input, of_print, run_fault_text};
+ghost use Rattle.basinmug_run.specs.declared.fault.RunFault.{RunFault as OneFault};
+
+use crate::fault::RunFault;
+use basinmug_input::InputFault;
+use basinmug_picture::PrintFault;
+use std::fmt::Display;
+
+/// A fault is printed in its own words; one of the text and one of printing are told by their own names, but that want
+/// of memory is `Memory`.
+pub fn faults_are_printed_whole()
+    ensures printed { (fault : OneFault) → ⟦<RunFault as Display>⟧.output fault ≡ Some (run_fault_text fault) }
+    ensures of_input { (given : ReadingFault) (fault : OneFault) → ⟦<RunFault as From<InputFault>>⟧.from_gives given fault → fault ≡ of_input given }
+    ensures of_print { (given : PrintingFault) (fault : OneFault) → ⟦<RunFault as From<PrintFault>>⟧.from_gives given fault → fault ≡ of_print given }
+{}
