@@ -4,7 +4,9 @@ pub mod Cells
 pub mod Columns
 pub mod Cut
 pub mod Ends
+pub mod GivenColors
 pub mod Kept
+pub mod KeptColors
 pub mod KeptEnds
 pub mod Least
 pub mod Listed

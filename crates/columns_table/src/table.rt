@@ -204,7 +204,7 @@ fn write_grid<R: ExactRecords + PeekableRecords, W: Write>(
 }
 
 // Writes these records in colours of their columns, as `write_table` does. Where none is given no line of a cell
-// asks for its colour, which saves some six steps each.
+// asks for its colour.
 fn write_lines<R: PeekableRecords, W: Write>(
     alloc: Global,
     records: &R,
@@ -221,7 +221,7 @@ fn write_lines<R: PeekableRecords, W: Write>(
     if colors.is_empty() {
         return write_table(alloc, records, settings, &NoColors, widths, heights, writer);
     }
-    let colors = ColumnColors { colors };
+    let colors = ColumnColors::new(alloc, colors, widths.len())?;
     write_table(alloc, records, settings, &colors, widths, heights, writer)
 }
 

@@ -2,4 +2,5 @@ mod PrintedGlyphs
 pub mod KeptLines
 pub mod PlainLines
 mod Spaces
+mod WrittenTexts
 pub mod EmptyRows

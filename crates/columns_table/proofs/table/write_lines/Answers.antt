@@ -7,6 +7,7 @@ use Rattle.grid_config_values.specs.declared.position.Position.{Position}
 use Rattle.grid_config.specs.Looks.{look_of}
 use Rattle.papergrid_picture.specs.Tables.{table_text}
 use Rattle.tabled_output.specs.Pieces.{Passes}
+use Rattle.tabled_output.proofs.WrittenPieces.{passes-none}
 use Rattle.columns_table.proofs.table.write_lines.Goals as goal
 
 abbrev no_color : Position → Option Color
@@ -21,3 +22,12 @@ returns-then-is_empty g c =
     let empty : length c.args.colors.now ≡ 0 = grind (arith, nat_tests, c.is_empty.ensures, c.if-is_empty.true) in
     subst (λ (colors : Position → Option Color). Passes g.W.Write.contents (table_text (look_of c.args.settings.now) (g.R.RecordTexts.rows c.args.records.now) colors c.args.widths.now c.args.heights.now) c.write_table.result [] c.args.writer.now c.write_table.new.writer)
     (none-given c.args.colors.now empty) c.write_table.ensures
+
+pub returns-in_err-colors : goal.returns-in_err-colors
+returns-in_err-colors g c =
+    passes-none g.W.Write.contents (table_text (look_of c.args.settings.now) (g.R.RecordTexts.rows c.args.records.now) (cell_color c.args.colors.now) c.args.widths.now c.args.heights.now) [] c.from_residual.result c.args.writer.now c.from_residual.ensures.0
+
+pub returns : goal.returns
+returns g c =
+    subst (λ (given : List (ℕ × Color)). Passes g.W.Write.contents (table_text (look_of c.args.settings.now) (g.R.RecordTexts.rows c.args.records.now) (cell_color given) c.args.widths.now c.args.heights.now) c.write_table-2.result [] c.args.writer.now c.write_table-2.new.writer)
+    c.in_ok-colors.ensures c.write_table-2.ensures

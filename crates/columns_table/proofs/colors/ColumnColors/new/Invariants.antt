@@ -1,0 +1,6 @@
+use Rattle.std.proofs.Common.{◌≡◌, length, take}
+use Rattle.columns_table.specs.KeptColors.{KeepsColors}
+use Rattle.columns_table.proofs.colors.ColumnColors.new.Given as goal
+
+abbrev pub invariant-loop-one : goal.invariant-loop-one
+invariant-loop-one l = KeepsColors (take l.one-index l.given) l.kept.items
