@@ -19,8 +19,9 @@ use Rattle.papergrid_picture.specs.Tables.{in_bytes}
 use Rattle.papergrid_picture.specs.Shown.{AreWholeTexts, KeepsLineEnds, Styled, character_of, in_items, in_plain, item_grid, styled_picture, styled_texts}
 use Rattle.papergrid_picture.proofs.Items.{Anything, colored-anyhow, shows-anything}
 use Rattle.papergrid_picture.proofs.Related.{All-append, All-get_or, related-items}
-use Rattle.papergrid_picture.proofs.Shown.{All-drop, All-take, line-shown}
+use Rattle.papergrid_picture.proofs.Shown.{All-drop, All-take}
 use Rattle.papergrid_colors.specs.ColoredPicture.{colored_picture, in_colors, line_in, opened_by}
+use Rattle.papergrid_colors.proofs.Cells.{line-shown}
 use Rattle.papergrid_colors.proofs.Pictures.{items-left}
 
 map-itself : (xs : List ℕ) → map (λ c. c) xs ≡ xs
@@ -52,7 +53,7 @@ module _ (look : Look) (rows : List (List (List ℕ))) (colors : Position → Op
       by None = refl
       by (Some color) =
           characters-from (opened_by color) plain_attributes (pieces ((in_bytes look rows).line cell k))
-          ∙ ap (map character_of) (line-shown look rows texts keeps cell k).shown
+          ∙ ap (map character_of) (line-shown look rows widths heights texts keeps cell k).shown
 
   left : (color : Option Color) (items : List Styled) → painted uncolored_items color items ≡ items
   left None items = refl

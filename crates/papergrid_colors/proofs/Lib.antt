@@ -1,6 +1,7 @@
 pub mod ClosedLines
 pub mod UncoloredGrids
 pub mod PaintedLines
+pub mod Cells
 pub mod Lines
 pub mod Pictures
 pub mod Characters

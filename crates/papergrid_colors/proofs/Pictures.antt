@@ -12,10 +12,11 @@ use Rattle.papergrid_picture.specs.Reading.{Reading, grid_items, painted}
 use Rattle.papergrid_picture.specs.Tables.{in_bytes, table_grid, table_text}
 use Rattle.papergrid_picture.specs.Shown.{AreWholeTexts, IsBare, IsShown, KeepsLineEnds, Shows, Styled, WritesNothing, character_of, in_items, in_plain, styled_texts}
 use Rattle.papergrid_picture.proofs.Related.{related-items}
-use Rattle.papergrid_picture.proofs.Shown.{IsShown-feed, IsShown-space, ShowsHere, ShowsHere-append, ShowsHere-character, ShowsHere-nothing, line-shown, measures-are}
+use Rattle.papergrid_picture.proofs.Shown.{IsShown-feed, IsShown-space, ShowsHere, ShowsHere-append, ShowsHere-character, ShowsHere-nothing}
 use Rattle.papergrid_colors.specs.ClosingColors.{AreClosing, IsClosing}
 use Rattle.papergrid_colors.specs.ColoredLines.{with_painted_lines}
 use Rattle.papergrid_colors.specs.ColoredPicture.{colored_picture, in_colors, line_in}
+use Rattle.papergrid_colors.proofs.Cells.{line-shown, measures-are}
 use Rattle.papergrid_colors.proofs.Lines.{ShowsHere-painted}
 use Rattle.papergrid_colors.proofs.PaintedLines.{grid_items-same}
 
@@ -49,10 +50,10 @@ module _ (look : Look) (rows : List (List (List ℕ))) (colors : Position → Op
     line-colored cell k = by (colors cell) (closing cell)
       where
         by : (color : Option Color) → IfSome color IsClosing → ShowsHere (painted (in_bytes look rows) color ((in_bytes look rows).line cell k)) (line_in color ((in_bytes look rows).line cell k) ((in_items character_of in_plain look (styled_texts rows)).line cell k))
-        by None is = line-shown look rows texts keeps cell k
+        by None is = line-shown look rows widths heights texts keeps cell k
         by (Some color) is =
             ShowsHere-painted color is look rows ((in_bytes look rows).line cell k) ((in_items character_of in_plain look (styled_texts rows)).line cell k)
-            (line-shown look rows texts keeps cell k)
+            (line-shown look rows widths heights texts keeps cell k)
 
     abbrev with_measures : (Position → List ℕ) → Grid
     with_measures measures = record { frame = frame_of look widths heights; measures = measures; text_color = λ _. None }
@@ -60,7 +61,7 @@ module _ (look : Look) (rows : List (List (List ℕ))) (colors : Position → Op
     in-lines : ShowsHere (grid_items first (table_grid look rows (λ _. None) widths heights)) (colored_picture look (styled_texts rows) rows colors widths heights)
     in-lines =
         subst (λ (measures : Position → List ℕ). ShowsHere (grid_items first (table_grid look rows (λ _. None) widths heights)) (grid_items second (with_measures measures)))
-        (λ n cell. measures-are look rows texts keeps cell n)
+        (λ n cell. measures-are look rows widths heights texts keeps cell n)
         (related-items ShowsHere ShowsHere-nothing ShowsHere-append first second WritesNothing paint-shown
         IsShown ShowsHere-character IsShown-space (table_grid look rows (λ _. None) widths heights)
         line-colored (λ _. tt) bare.shown bare.no_colors IsShown-feed)

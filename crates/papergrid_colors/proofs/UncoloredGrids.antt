@@ -8,7 +8,7 @@ use Rattle.grid_config_values.specs.declared.position.Position.{Position}
 use Rattle.grid_config_values.specs.Glyphs.{boundary_kind, crossing, in_row}
 use Rattle.grid_config.specs.Colors.{Color}
 use Rattle.papergrid_picture.specs.Frame.{Place, Boundary, Row, Outside, block_height, block_width, boundary_at, column_count, place, row_count, track_at}
-use Rattle.papergrid_picture.specs.Blocks.{Content, Fill, Glyph, TextLine, Grid, Part, blanks_above, block, fill, free_lines, text_line}
+use Rattle.papergrid_picture.specs.Blocks.{Content, Fill, Glyph, TextLine, Grid, Part, block, fill, free_above, text_line}
 use Rattle.papergrid_picture.specs.Picture.{PlacedPart, across, along, block_pieces, boundary_part, corner, laid, margin_line, parts_of, picture_line, pieces_at, row_part, seen, upright, blank}
 use Rattle.papergrid_picture.proofs.Items.{Anything, colored-anyhow, shows-anything}
 use Rattle.papergrid_picture.proofs.Related.{parts-hold}
@@ -62,16 +62,18 @@ module _ (grid : Grid) where
 
   block-uncolored : (cell : Position) (width height : ℕ) → map (map uncolored) (block grid cell width height) ≡ block bare_grid cell width height
   block-uncolored cell width height =
-      let padding = grid.frame.look.padding cell in
-      let color = grid.frame.look.padding_color cell in
+      let look = grid.frame.look in
+      let padding = look.padding cell in
+      let color = look.padding_color cell in
       let count = length (grid.measures cell) in
-      let above = blanks_above grid cell height in
+      let free = height - padding.top.size - count - padding.bottom.size in
+      let above = free_above (look.alignment_vertical cell) free in
       let line : ℕ → List Part = text_line grid cell width in
       let each : List Part → List Part = map uncolored in
       map-both each _ _ _ _ (map-replicate each padding.top.size (fill width padding.top.fill color.top ∷ []))
       (map-both each _ _ _ _ (map-replicate each above (line count))
       (map-both each _ _ _ _ (map-map each line (range_with_len 0 count))
-      (map-both each _ _ _ _ (map-replicate each (free_lines grid cell height - above) (line count))
+      (map-both each _ _ _ _ (map-replicate each (free - above) (line count))
       (map-replicate each padding.bottom.size (fill width padding.bottom.fill color.bottom ∷ [])))))
 
   block_pieces-uncolored : (cell : Position) (y : ℕ) → uncolored_pieces (block_pieces grid cell y) ≡ block_pieces bare_grid cell y

@@ -7,7 +7,7 @@ use Rattle.grid_config_values.specs.declared.sides.Indent.{Indent}
 use Rattle.grid_config_values.specs.Glyphs.{along_column, boundary_kind, crossing, in_row}
 use Rattle.grid_config.specs.Colors.{Color}
 use Rattle.papergrid_picture.specs.Frame.{Place, Boundary, Row, Outside, block_height, block_width, boundary_at, column_count, line_count, place, row_count, track_at}
-use Rattle.papergrid_picture.specs.Blocks.{Fill, Glyph, TextLine, Grid, Part, blanks, blanks_above, block, fill, free_left, free_lines, greatest, lines_of_text, padding_above, padding_below, text_line}
+use Rattle.papergrid_picture.specs.Blocks.{Fill, Glyph, TextLine, Grid, Part, block, fill, free_above, free_left, greatest, text_line}
 use Rattle.papergrid_picture.specs.Picture.{PlacedPart, across, along, block_pieces, boundary_part, corner, laid, margin_line, parts_of, picture_line, pieces_at, row_part, seen, upright, blank}
 use Rattle.papergrid_picture.specs.Reading.{Reading, continues, grid_items, is_shown, line_items, onto_runs, painted, part_items, run_items, runs_of}
 use Rattle.papergrid_picture.specs.Shown.{IsColoredBy, ShowsOnly}
@@ -51,18 +51,22 @@ pub block-all : (P : List Part → Type 0) (grid : Grid) (cell : Position) (widt
     → P (fill width (grid.frame.look.padding cell).bottom.fill (grid.frame.look.padding_color cell).bottom ∷ [])
     → ((k : ℕ) → P (text_line grid cell width k)) → (height : ℕ) → AllByRecursion P (block grid cell width height)
 block-all P grid cell width above_all below_all texts height =
-    let padding = grid.frame.look.padding cell in
-    let color = grid.frame.look.padding_color cell in
-    let line = text_line grid cell width in
+    let look = grid.frame.look in
+    let padding = look.padding cell in
+    let color = look.padding_color cell in
     let count = length (grid.measures cell) in
-    let lines = lines_of_text grid cell width in
-    let above = blanks_above grid cell height in
-    let below = free_lines grid cell height - above in
-    let behind = blanks grid cell width below ++ padding_below grid cell width in
-    All-append P (padding_above grid cell width) (blanks grid cell width above ++ (lines ++ behind)) (All-replicate P padding.top.size (fill width padding.top.fill color.top ∷ []) above_all)
-    (All-append P (blanks grid cell width above) (lines ++ behind) (All-replicate P above (line count) (texts count))
-    (All-append P lines behind (All-map P line texts (range_with_len 0 count))
-    (All-append P (blanks grid cell width below) (padding_below grid cell width) (All-replicate P below (line count) (texts count))
+    let free = height - padding.top.size - count - padding.bottom.size in
+    let above = free_above (look.alignment_vertical cell) free in
+    let line = text_line grid cell width in
+    let top = replicate padding.top.size (fill width padding.top.fill color.top ∷ []) in
+    let blanks = replicate above (line count) in
+    let lines = map line (range_with_len 0 count) in
+    let behind = replicate (free - above) (line count) in
+    let bottom = replicate padding.bottom.size (fill width padding.bottom.fill color.bottom ∷ []) in
+    All-append P top (blanks ++ (lines ++ (behind ++ bottom))) (All-replicate P padding.top.size (fill width padding.top.fill color.top ∷ []) above_all)
+    (All-append P blanks (lines ++ (behind ++ bottom)) (All-replicate P above (line count) (texts count))
+    (All-append P lines (behind ++ bottom) (All-map P line texts (range_with_len 0 count))
+    (All-append P behind bottom (All-replicate P (free - above) (line count) (texts count))
     (All-replicate P padding.bottom.size (fill width padding.bottom.fill color.bottom ∷ []) below_all))))
 
 -- ---- the parts of a picture

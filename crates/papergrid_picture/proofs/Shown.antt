@@ -262,34 +262,31 @@ whole-at rows texts cell =
     All-get_or IsWholeText (get_or rows cell.row []) cell.col [] (All-get_or (AllByRecursion IsWholeText) rows cell.row [] texts tt)
     (record { utf8 = IsUtf8-nil; whole = subst NoneBroken (sym pieces-nothing) tt })
 
-module _ (look : Look) (rows : List (List (List ℕ))) (cell : Position) where
-  cell-styled : get_or (get_or (styled_texts rows) cell.row []) cell.col [] ≡ styled_of (text_at rows cell)
-  cell-styled =
+module _ (look : Look) (rows : List (List (List ℕ))) (widths heights : List ℕ) (bare : IsBare look) (texts : AreWholeTexts rows) (keeps : KeepsLineEnds look) where
+  abbrev shown_rows : List (List (List Styled))
+  shown_rows = styled_texts rows
+
+  cell-styled : (cell : Position) → get_or (get_or shown_rows cell.row []) cell.col [] ≡ styled_of (text_at rows cell)
+  cell-styled cell =
       ap (λ row. get_or row cell.col []) (get_or-map (map styled_of) rows cell.row [])
       ∙ ap (get_or (map styled_of (get_or rows cell.row [])) cell.col) (sym (ap styled pieces-nothing))
       ∙ get_or-map styled_of (get_or rows cell.row []) cell.col []
 
-  -- the lines of the styled text of a cell
-  lines-are : lines_of character_of in_plain look (styled_texts rows) cell ≡ item_lines character_of (look.trim_vertical cell) (styled_of (text_at rows cell))
-  lines-are = ap (item_lines character_of (look.trim_vertical cell)) cell-styled
+  lines-are : (cell : Position) → lines_of character_of in_plain look shown_rows cell ≡ item_lines character_of (look.trim_vertical cell) (styled_of (text_at rows cell))
+  lines-are cell = ap (item_lines character_of (look.trim_vertical cell)) (cell-styled cell)
 
-module _ (look : Look) (rows : List (List (List ℕ))) (texts : AreWholeTexts rows) (keeps : KeepsLineEnds look) where
-  pub line-shown : (cell : Position) (k : ℕ) → ShowsHere ((in_bytes look rows).line cell k) ((in_items character_of in_plain look (styled_texts rows)).line cell k)
+  line-shown : (cell : Position) (k : ℕ) → ShowsHere ((in_bytes look rows).line cell k) ((in_items character_of in_plain look shown_rows).line cell k)
   line-shown cell k =
-      subst (λ (lines : List (List Styled)). ShowsHere ((in_bytes look rows).line cell k) (get_or lines k [])) (sym (lines-are look rows cell))
+      subst (λ (lines : List (List Styled)). ShowsHere ((in_bytes look rows).line cell k) (get_or lines k [])) (sym (lines-are cell))
       (subst (λ (trims : Bool). ShowsHere (get_or (cell_lines trims (look.trim_vertical cell) (text_at rows cell)) k []) (get_or (item_lines character_of (look.trim_vertical cell) (styled_of (text_at rows cell))) k [])) (sym (keeps cell))
       (cell_line-shown (text_at rows cell) (whole-at rows texts cell) (look.trim_vertical cell) k))
 
-  pub measures-are : (cell : Position) → cell_measures (look.trim_horizontal cell) (look.trim_vertical cell) (text_at rows cell)
-      ≡ map (λ line. measure (map character_of line)) (lines_of character_of in_plain look (styled_texts rows) cell)
+  measures-are : (cell : Position) → cell_measures (look.trim_horizontal cell) (look.trim_vertical cell) (text_at rows cell)
+      ≡ map (λ line. measure (map character_of line)) (lines_of character_of in_plain look shown_rows cell)
   measures-are cell =
       ap (λ trims. cell_measures trims (look.trim_vertical cell) (text_at rows cell)) (keeps cell)
       ∙ cell_measures-are (text_at rows cell) (whole-at rows texts cell) (look.trim_vertical cell)
-      ∙ ap (map (λ (line : List Styled). measure (map character_of line))) (sym (lines-are look rows cell))
-
-module _ (look : Look) (rows : List (List (List ℕ))) (widths heights : List ℕ) (bare : IsBare look) (texts : AreWholeTexts rows) (keeps : KeepsLineEnds look) where
-  abbrev shown_rows : List (List (List Styled))
-  shown_rows = styled_texts rows
+      ∙ ap (map (λ (line : List Styled). measure (map character_of line))) (sym (lines-are cell))
 
   abbrev with_measures : (Position → List ℕ) → Grid
   with_measures measures = record { frame = frame_of look widths heights; measures = measures; text_color = λ _. None }
@@ -308,10 +305,10 @@ module _ (look : Look) (rows : List (List (List ℕ))) (widths heights : List �
   pub text-shown : ShowsHere (table_text look rows (λ _. None) widths heights) (styled_picture look shown_rows widths heights)
   text-shown =
       subst (λ (measures : Position → List ℕ). ShowsHere (table_text look rows (λ _. None) widths heights) (grid_items (in_items character_of in_plain look shown_rows) (with_measures measures)))
-      (λ n cell. measures-are look rows texts keeps cell n)
+      (λ n cell. measures-are cell n)
       (related-items ShowsHere ShowsHere-nothing ShowsHere-append (in_bytes look rows) (in_items character_of in_plain look shown_rows) WritesNothing paint-shown
       IsShown ShowsHere-character IsShown-space (table_grid look rows (λ _. None) widths heights)
-      (line-shown look rows texts keeps) (λ _. tt) bare.shown bare.no_colors IsShown-feed)
+      line-shown (λ _. tt) bare.shown bare.no_colors IsShown-feed)
 
   pub table-shows : Shows (table_text look rows (λ _. None) widths heights) (styled_picture look (styled_texts rows) widths heights)
   table-shows =

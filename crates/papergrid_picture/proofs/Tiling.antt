@@ -18,7 +18,7 @@ use Rattle.grid_config_spans.specs.Rectangles.{Holds, IsInside}
 use Rattle.grid_config_spans.specs.Spans.{IsInTable}
 use Rattle.grid_config.specs.Colors.{Color}
 use Rattle.papergrid_picture.specs.Frame.{Tracks, thickness, boundary_at, track_at, stretch, Place, Boundary, Row, Outside, block_height, block_width, column_count, place, row_count, total_width}
-use Rattle.papergrid_picture.specs.Blocks.{Content, Fill, Glyph, Part, Grid, blanks, blanks_above, block, fill, free_above, free_left, free_lines, greatest, lines_of_text, padding_above, padding_below, text_line}
+use Rattle.papergrid_picture.specs.Blocks.{Content, Fill, Glyph, Part, Grid, block, fill, free_above, free_left, greatest, text_line}
 use Rattle.papergrid_picture.specs.Picture.{PlacedPart, across, along, at, blank, block_pieces, boundary_part, corner, edge, laid, margin_line, picture_line, pieces_at, row_part, seen, upright}
 use Rattle.papergrid_picture.specs.Tiling.{BeginsBehindMargin, HasGoodSpans, HasRoom, IsLineOf, ShowsBlock, ShowsPlace, Tiles}
 use Rattle.papergrid_picture.proofs.Frames.{boundary-behind, boundary-first, boundary-next, boundary-order, range-at, range_with_len-more}
@@ -57,24 +57,9 @@ among-greatest [] k = omega arith
 among-greatest (n ∷ ns) zero = omega arith
 among-greatest (n ∷ ns) (suc k) = omega (arith, among-greatest ns k)
 
--- a line that has room stands in it with its indent
-indented : (grid : Grid) (cell : Position) (width k : ℕ) →
-    let look = grid.frame.look in
-    let padding = look.padding cell in
-    let measure = slice_index (grid.measures cell) k in
-    let room = width - padding.left.size - padding.right.size in
-    let counted = cond (look.line_alignment cell) measure (greatest (grid.measures cell)) in
-    (measure ≤ room → free_left (look.alignment_horizontal cell) (room - counted) + measure ≤ room)
-indented grid cell width k fits =
-    let look = grid.frame.look in
-    let measure = slice_index (grid.measures cell) k in
-    let widest = greatest (grid.measures cell) in
-    let room = width - (look.padding cell).left.size - (look.padding cell).right.size in
-    by (look.line_alignment cell) widest room _ (among-greatest (grid.measures cell) k) fits (free_left-within (look.alignment_horizontal cell) (room - cond (look.line_alignment cell) measure widest))
-  where
-    by : (b : Bool) (w room indent : ℕ) → slice_index (grid.measures cell) k ≤ w → slice_index (grid.measures cell) k ≤ room → indent ≤ room - (cond b (slice_index (grid.measures cell) k) w) → indent + slice_index (grid.measures cell) k ≤ room
-    by true w room indent within fits bound = omega (arith, within, fits, bound)
-    by false w room indent within fits bound = omega (arith, within, fits, bound)
+either-counted : (b : Bool) (m w room : ℕ) (indent : ℕ) → m ≤ w → w ≤ room → indent ≤ room - (cond b m w) → indent + m ≤ room
+either-counted true m w room indent within fits bound = omega (arith, within, fits, bound)
+either-counted false m w room indent within fits bound = omega (arith, within, fits, bound)
 
 module _ (grid : Grid) (cell : Position) (width : ℕ) where
   abbrev IsWide : List Part → Type 0
@@ -89,9 +74,12 @@ module _ (grid : Grid) (cell : Position) (width : ℕ) where
       let look = grid.frame.look in
       let padding = look.padding cell in
       let measure = slice_index (grid.measures cell) k in
+      let widest = greatest (grid.measures cell) in
       let room = width - padding.left.size - padding.right.size in
-      let indent = free_left (look.alignment_horizontal cell) (room - cond (look.line_alignment cell) measure (greatest (grid.measures cell))) in
-      let both : indent + measure ≤ room = indented grid cell width k (omega (arith, fits, among-greatest (grid.measures cell) k)) in
+      let counted = cond (look.line_alignment cell) measure widest in
+      let indent = free_left (look.alignment_horizontal cell) (room - counted) in
+      let enough : widest ≤ room = omega (arith, fits) in
+      let both : indent + measure ≤ room = either-counted (look.line_alignment cell) measure widest room indent (among-greatest (grid.measures cell) k) enough (free_left-within (look.alignment_horizontal cell) (room - counted)) in
       let lined : padding.left.size + (indent + (measure + ((room - indent - measure) + (padding.right.size + 0)))) ≡ width = omega (arith, both, fits) in
       lined
 
@@ -101,26 +89,30 @@ module _ (grid : Grid) (cell : Position) (width : ℕ) where
   -- there are lines for the whole height
   pub block-high : (height : ℕ) → height ≤ length (block grid cell width height)
   block-high height =
-      let padding = grid.frame.look.padding cell in
-      let color = grid.frame.look.padding_color cell in
-      let line = text_line grid cell width in
+      let look = grid.frame.look in
+      let padding = look.padding cell in
+      let color = look.padding_color cell in
       let count = length (grid.measures cell) in
-      let lines = lines_of_text grid cell width in
-      let free = free_lines grid cell height in
-      let above = blanks_above grid cell height in
-      let behind = blanks grid cell width (free - above) ++ padding_below grid cell width in
+      let free = height - padding.top.size - count - padding.bottom.size in
+      let above = free_above (look.alignment_vertical cell) free in
+      let line = text_line grid cell width in
+      let top = replicate padding.top.size (fill width padding.top.fill color.top ∷ []) in
+      let blanks = replicate above (line count) in
+      let lines = map line (range_with_len 0 count) in
+      let behind = replicate (free - above) (line count) in
+      let bottom = replicate padding.bottom.size (fill width padding.bottom.fill color.bottom ∷ []) in
       omega (
         arith,
-        length-append (padding_above grid cell width) (blanks grid cell width above ++ (lines ++ behind)),
-        length-append (blanks grid cell width above) (lines ++ behind),
-        length-append lines behind,
-        length-append (blanks grid cell width (free - above)) (padding_below grid cell width),
+        length-append top (blanks ++ (lines ++ (behind ++ bottom))),
+        length-append blanks (lines ++ (behind ++ bottom)),
+        length-append lines (behind ++ bottom),
+        length-append behind bottom,
         length-replicate padding.top.size (fill width padding.top.fill color.top ∷ []),
         length-replicate above (line count),
         length-map-range_with_len line 0 count,
         length-replicate (free - above) (line count),
         length-replicate padding.bottom.size (fill width padding.bottom.fill color.bottom ∷ []),
-        free_above-within (grid.frame.look.alignment_vertical cell) free,
+        free_above-within (look.alignment_vertical cell) free,
       )
 
 pub All-inside : {A : Type 0} (P : A → Type 0) (xs : List A) (i : ℕ) (d : A) → i < length xs → AllByRecursion P xs → P (get_or xs i d)
@@ -628,9 +620,22 @@ module _ (grid : Grid) (spans : List (Position × Extent)) (good : HasGoodSpans 
 pub text_line-exact : (grid : Grid) (cell : Position) (width k a : ℕ) →
     let padding = grid.frame.look.padding cell in
     (Tiles a (laid a (text_line grid cell width k)) (a + width) ↔ (padding.left.size + slice_index (grid.measures cell) k + padding.right.size ≤ width))
-text_line-exact grid cell width k a = (
-  λ tiles. omega (arith, tiles.1.1.1.1.1),
-  λ fits.
-      let both = indented grid cell width k (omega (arith, fits)) in
-      (refl, (refl, (refl, (refl, (refl, omega (arith, both, fits)))))),
-)
+text_line-exact grid cell width k a =
+    let look = grid.frame.look in
+    let padding = look.padding cell in
+    let measure = slice_index (grid.measures cell) k in
+    let widest = greatest (grid.measures cell) in
+    let room = width - padding.left.size - padding.right.size in
+    let counted = cond (look.line_alignment cell) measure widest in
+    let indent = free_left (look.alignment_horizontal cell) (room - counted) in
+    let among = among-greatest (grid.measures cell) k in
+    let bound = free_left-within (look.alignment_horizontal cell) (room - counted) in (
+      λ tiles. omega (arith, tiles.1.1.1.1.1),
+      λ fits.
+          let both : indent + measure ≤ room = either-measured (look.line_alignment cell) measure widest room indent among (omega (arith, fits)) bound in
+          (refl, (refl, (refl, (refl, (refl, omega (arith, both, fits)))))),
+    )
+  where
+    either-measured : (b : Bool) (m w room indent : ℕ) → m ≤ w → m ≤ room → indent ≤ room - (cond b m w) → indent + m ≤ room
+    either-measured true m w room indent within fits bound = omega (arith, within, fits, bound)
+    either-measured false m w room indent within fits bound = omega (arith, within, fits, bound)

@@ -68,33 +68,18 @@ module _ (grid : Grid) (cell : Position) where
       ∷ fill (room - indent - measure) (look.justification cell) (look.justification_color cell)
       ∷ fill padding.right.size padding.right.fill padding_color.right ∷ []
 
-  -- the lines of padding above a text, and below it
-  abbrev pub padding_above : ℕ → List (List Part)
-  padding_above width = replicate (grid.frame.look.padding cell).top.size (fill width (grid.frame.look.padding cell).top.fill (grid.frame.look.padding_color cell).top ∷ [])
-
-  abbrev pub padding_below : ℕ → List (List Part)
-  padding_below width = replicate (grid.frame.look.padding cell).bottom.size (fill width (grid.frame.look.padding cell).bottom.fill (grid.frame.look.padding_color cell).bottom ∷ [])
-
-  -- how many lines of a rectangle neither padding nor text takes, and how many of them stand above the text
-  abbrev pub free_lines : ℕ → ℕ
-  free_lines height = height - (grid.frame.look.padding cell).top.size - length (grid.measures cell) - (grid.frame.look.padding cell).bottom.size
-
-  abbrev pub blanks_above : ℕ → ℕ
-  blanks_above height = free_above (grid.frame.look.alignment_vertical cell) (free_lines height)
-
-  -- the lines of the text, and as many blank lines as are asked for: a blank line is a line of empty text
-  abbrev pub lines_of_text : ℕ → List (List Part)
-  lines_of_text width = map (text_line width) (range_with_len 0 (length (grid.measures cell)))
-
-  abbrev pub blanks : ℕ → ℕ → List (List Part)
-  blanks width count = replicate count (text_line width (length (grid.measures cell)))
-
-  -- the block by its lines: padding, blank lines, the lines of the text, blank lines, padding. Where there are more lines than
-  -- the rectangle is high, its first ones are seen
+  -- the block by its lines: padding, blank lines, the lines of the text, blank lines, padding. A blank line is a line of empty
+  -- text. Where there are more lines than the rectangle is high, its first ones are seen
   abbrev pub block : ℕ → ℕ → List (List Part)
   block width height =
-      padding_above width
-      ++ (blanks width (blanks_above height)
-      ++ (lines_of_text width
-      ++ (blanks width (free_lines height - blanks_above height)
-      ++ padding_below width)))
+      let look = grid.frame.look in
+      let padding = look.padding cell in
+      let padding_color = look.padding_color cell in
+      let count = length (grid.measures cell) in
+      let free = height - padding.top.size - count - padding.bottom.size in
+      let above = free_above (look.alignment_vertical cell) free in
+      replicate padding.top.size (fill width padding.top.fill padding_color.top ∷ [])
+      ++ (replicate above (text_line width count)
+      ++ (map (text_line width) (range_with_len 0 count)
+      ++ (replicate (free - above) (text_line width count)
+      ++ replicate padding.bottom.size (fill width padding.bottom.fill padding_color.bottom ∷ []))))
