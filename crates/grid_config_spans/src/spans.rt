@@ -281,13 +281,16 @@ impl Spans {
         None
     }
 
-    // The first of the spans that begin at this place or after it.
+    // The first of the spans that begin at this place or after it. Where there are none it looks at nothing.
     fn next_from(&self, from: Position) -> Option<(Position, Extent)>
         ensures found { result ≡ find (begins_from from) self.now }
         ensures kept { IfSome result (λ span. lookup (same_place span.0) self.now ≡ Some span.1) }
         ensures ordered { IsStrictlySortedBy position_cmp (map (λ span. span.0) self.now) }
         ensures positive { ArePositive self.now }
     {
+        if self.is_empty() {
+            return None;
+        }
         match self.extents.range(from..).next() {
             Some((anchor, extent)) => Some((*anchor, *extent)),
             None => None,

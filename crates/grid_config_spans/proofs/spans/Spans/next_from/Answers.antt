@@ -1,10 +1,12 @@
-use Rattle.std.proofs.Common.{◌≡◌, ◌∙◌, List, Some, slice_index_or, subst, sym, arith}
+use Rattle.std.proofs.Common.{◌≡◌, ◌∙◌, List, [], Some, map, slice_index_or, subst, sym, arith}
 use Rattle.std.specs.List.{All}
+use Rattle.std.specs.List.Sorted.{IsStrictlySortedBy}
 use Rattle.std.specs.Map.{lookup}
 use Rattle.grid_config_values.specs.declared.position.Position.{Position}
-use Rattle.grid_config_values.specs.Order.{same_place}
+use Rattle.grid_config_values.specs.Order.{position_cmp, same_place}
 use Rattle.grid_config_spans.specs.declared.extent.Extent.{Extent}
 use Rattle.grid_config_spans.specs.Search.{begins_from}
+use Rattle.grid_config_spans.specs.Spans.{ArePositive, extent_at}
 use Rattle.grid_config_spans.proofs.Extents.{lookup_place}
 use Rattle.grid_config_spans.proofs.Owners.{found_in_head, found_in_none, same_range}
 use Rattle.grid_config_spans.proofs.spans.Spans.next_from.Goals as goal
@@ -24,3 +26,19 @@ returns-in-Some-clause-kept c =
 pub returns-in-None-clause-found : goal.returns-in-None-clause-found
 returns-in-None-clause-found c =
     rw (← c.self.view_is) (sym (found_in_none _ (begins_from c.args.from) (same_range c.args.from) c.self.inside.extents.entries (sym (c.range.ensures.between tt) ∙ c.in-None.ensures.steps.0)))
+
+nothing-sorted : IsStrictlySortedBy position_cmp []
+unfolding IsStrictlySortedBy
+nothing-sorted = tt
+
+pub returns-then-is_empty-clause-ordered : goal.returns-then-is_empty-clause-ordered
+returns-then-is_empty-clause-ordered c =
+    subst (λ (spans : List (Position × Extent)). IsStrictlySortedBy position_cmp (map (λ span. span.0) spans)) (sym (c.is_empty.ensures.0 c.if-is_empty.true)) nothing-sorted
+
+nothing-positive : ArePositive []
+unfolding extent_at
+nothing-positive place = (omega arith, omega arith)
+
+pub returns-then-is_empty-clause-positive : goal.returns-then-is_empty-clause-positive
+returns-then-is_empty-clause-positive c =
+    subst (λ (spans : List (Position × Extent)). ArePositive spans) (sym (c.is_empty.ensures.0 c.if-is_empty.true)) nothing-positive
