@@ -1,9 +1,9 @@
 -- Rows that are filled are equally long.
-use Rattle.std.proofs.Common.{◌≡◌, ◌∙◌, sym, ap, ℕ, ◌+◌, ◌-◌, ◌≤◌, List, [], ◌∷◌, Vec, arith, length, map, max, replicate, vec_items, vec_len}
-use Rattle.std.proofs.lemmas.List.{length-append, length-map, length-replicate}
+use Rattle.std.proofs.Common.{◌≡◌, ◌∙◌, sym, ap, refl, ℕ, zero, ◌+◌, ◌-◌, ◌<◌, ◌≤◌, List, [], ◌∷◌, ◌++◌, Vec, append-nil, arith, get_or, length, map, max, replicate, take, vec_items, vec_len}
+use Rattle.std.proofs.lemmas.List.{length-append, length-map, length-replicate, map_push, take_more}
 use Rattle.std.proofs.lemmas.List.Elements.{All-cons, All-head, All-map, All-nil, All-same, All-tail, All-weaker}
 use Rattle.std.specs.List.{All}
-use Rattle.grid_records_rows.specs.Sources.{AreEquallyLong}
+use Rattle.grid_records_rows.specs.Sources.{AreEquallyLong, columns_of}
 use Rattle.grid_records_traits.specs.Sources.{texts_of_rows}
 use Rattle.tabled_text.specs.Rows.{filled, filled_row, longest}
 
@@ -44,3 +44,51 @@ even_filled text cells rows same =
 -- cells of texts that are equally many in each row
 pub even_rows : {T Z : Type 0} (text : T → List ℕ) (cells : List (Vec T Z)) (rows : List (List (List ℕ))) (n : ℕ) → texts_of_rows text cells ≡ rows → All (λ row. length row ≡ n) rows → AreEquallyLong cells
 even_rows text cells rows n same wide = even_cells text cells n (All-same (λ (row : List (List ℕ)). length row ≡ n) (texts_of_rows text cells) rows same wide)
+
+-- ---- rows that are equally long are filled already
+
+longest-even : (first : List (List ℕ)) (rows : List (List (List ℕ))) (n : ℕ) → All (λ row. length row ≡ n) (first ∷ rows) → longest (first ∷ rows) ≡ n
+longest-even first [] n all =
+    let here = All-head (λ (row : List (List ℕ)). length row ≡ n) first [] all in
+    omega (arith, here)
+longest-even first (second ∷ rows) n all =
+    let here = All-head (λ (row : List (List ℕ)). length row ≡ n) first (second ∷ rows) all in
+    let others = longest-even second rows n (All-tail (λ (row : List (List ℕ)). length row ≡ n) first (second ∷ rows) all) in
+    omega (arith, here, others)
+
+full-row : (n : ℕ) (row : List (List ℕ)) → length row ≡ n → filled_row n row ≡ row
+full-row n row long =
+    let none : n - length row ≡ 0 = omega (arith, long) in
+    ap (λ k. row ++ replicate k []) none ∙ append-nil row
+
+full-rows : (n : ℕ) (rows : List (List (List ℕ))) → All (λ row. length row ≡ n) rows → map (filled_row n) rows ≡ rows
+full-rows n [] all = refl
+full-rows n (row ∷ rows) all =
+    ap (λ (it : List (List ℕ)). it ∷ map (filled_row n) rows) (full-row n row (All-head (λ (row : List (List ℕ)). length row ≡ n) row rows all))
+    ∙ ap (λ (its : List (List (List ℕ))). row ∷ its) (full-rows n rows (All-tail (λ (row : List (List ℕ)). length row ≡ n) row rows all))
+
+same-filled : (rows : List (List (List ℕ))) (n : ℕ) → All (λ row. length row ≡ n) rows → filled rows ≡ rows
+same-filled [] n all = refl
+same-filled (row ∷ rows) n all =
+    ap (λ k. map (filled_row k) (row ∷ rows)) (longest-even row rows n all) ∙ full-rows n (row ∷ rows) all
+
+pub filled-even : {T Z : Type 0} (text : T → List ℕ) (cells : List (Vec T Z)) → AreEquallyLong cells → filled (texts_of_rows text cells) ≡ texts_of_rows text cells
+filled-even text cells long =
+    let n = columns_of cells in
+    same-filled (texts_of_rows text cells) n
+    (All-map (λ (row : List (List ℕ)). length row ≡ n) (λ (row : Vec _ _). map text (vec_items row)) cells
+    (All-weaker (λ (row : Vec _ _). vec_len row ≡ n) (λ row. length (map text (vec_items row)) ≡ n) (λ row is. length-map (vec_items row) text ∙ sym row.ok.0 ∙ is) cells long))
+
+-- ---- the longest of rows with one more behind them
+
+longest-push : (rows : List (List (List ℕ))) (row : List (List ℕ)) → longest (rows ++ row ∷ []) ≡ max (longest rows) (length row)
+longest-push [] row = omega arith
+longest-push (first ∷ rows) row = omega (arith, longest-push rows row)
+
+pub longest-taken : {T Z : Type 0} (text : T → List ℕ) (rows : List (Vec T Z)) (index : ℕ) (row : Vec T Z) → index < length rows → row ≡ get_or rows index row
+    → longest (texts_of_rows text (take (index + 1) rows)) ≡ max (longest (texts_of_rows text (take index rows))) (length (vec_items row))
+longest-taken text rows index row inside is =
+    ap (λ taken. longest (texts_of_rows text taken)) (take_more rows index row inside ∙ ap (λ last. take index rows ++ last ∷ []) (sym is))
+    ∙ ap longest (map_push (λ (cells : Vec _ _). map text (vec_items cells)) (take index rows) row)
+    ∙ longest-push (texts_of_rows text (take index rows)) (map text (vec_items row))
+    ∙ ap (max (longest (texts_of_rows text (take index rows)))) (length-map (vec_items row) text)

@@ -8,6 +8,7 @@ ghost use Rattle.tabled_text.specs.Fields.{texts_of};
 ghost use Rattle.tabled_text.specs.Rows.{text_rows};
 
 mod named;
+mod of_cells;
 mod of_texts;
 
 use crate::cells::cells_of;

@@ -58,12 +58,7 @@ impl Table<Text> {
         requires { AreEquallyLong cells.items }
         ensures { state_of (λ text. text) result ≡ new_state (texts_of_rows (λ text. text) cells.items) }
     {
-        Table {
-            records: VecRecords::new(cells),
-            config: new_config(alloc),
-            dimension: CompleteDimension::default(),
-            alloc,
-        }
+        Table::of_even_cells(alloc, cells)
     }
 }
 
@@ -80,6 +75,19 @@ fn new_config(alloc: Global) -> ColoredConfig
 }
 
 impl<T: FromText> Table<T> {
+    // A new table of these cells.
+    pub(crate) fn of_even_cells(alloc: Global, cells: Vec<Vec<T>>) -> Table<T>
+        requires { AreEquallyLong cells.items }
+        ensures { state_of T.text result ≡ new_state (texts_of_rows T.text cells.items) }
+    {
+        Table {
+            records: VecRecords::new(cells),
+            config: new_config(alloc),
+            dimension: CompleteDimension::default(),
+            alloc,
+        }
+    }
+
     /// Changes the table by an option: one step, and after it the sizes that it leaves as they are stay
     /// kept, and no others. Refused as the step is, and as `Memory` where allocation fails, and then
     /// nothing has changed.
