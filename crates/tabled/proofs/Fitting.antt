@@ -1,11 +1,13 @@
 -- Why a table fits its sizes, or doesn't.
-use Rattle.std.proofs.Common.{◌≡◌, Bool, IsTrue, ◌↔◌, ℕ, zero, suc, ◌+◌, ◌<◌, ◌≤◌, ◌^◌, ◌⊎◌, inl, inr, List, [], ◌∷◌, Option, None, Result, Ok, Err, ap, sym, subst, refl, ◌∙◌, arith, length, get_or, slice_index, unwrap_or}
+use Rattle.std.proofs.Common.{◌≡◌, Bool, Bor, false, is_some, IsTrue, ◌↔◌, ℕ, zero, suc, ◌+◌, ◌<◌, ◌≤◌, ◌^◌, ◌⊎◌, inl, inr, List, [], ◌∷◌, Option, None, Some, Result, Ok, Err, ap, sym, subst, refl, ◌∙◌, arith, length, get_or, slice_index, unwrap_or}
+use Rattle.std.proofs.lemmas.Bool.{true≢false}
+use Rattle.std.specs.Option.{option_copied}
 use Rattle.std.proofs.lemmas.List.FromFn.{get_or-map-range_with_len, length-map-range_with_len}
 use Rattle.grid_config.specs.Colors.{Color}
 use Rattle.grid_config_values.specs.declared.fault.Fault.{Fault}
 use Rattle.grid_config_values.specs.declared.fault.Fault.TheVariants.{Memory, Range, Spans, Room}
 use Rattle.grid_config_values.specs.declared.position.Position.{Position}
-use Rattle.grid_config_spans.specs.Spans.{AreGood, extent_at}
+use Rattle.grid_config_spans.specs.Spans.{AreGood, ArePositive, extent_at}
 use Rattle.grid_config_spans.specs.declared.extent.Extent.{Extent}
 use Rattle.grid_config.specs.Looks.{look_of}
 use Rattle.grid_config.specs.Settings.{Settings}
@@ -18,10 +20,11 @@ use Rattle.grid_records_estimate.specs.Sizing.{Sizing, sizing_of}
 use Rattle.papergrid.specs.Grids.{grid_text}
 use Rattle.papergrid.specs.GridParts.{wanted_text}
 use Rattle.papergrid.specs.Place.{Place}
+use Rattle.papergrid_fits.proofs.Estimated.{none-too_wide}
 use Rattle.papergrid_fits.proofs.Ranges.{line_count-is, table_width-is}
 use Rattle.papergrid_fits.specs.Tables.{CanBeDrawn, IsFitsAnswer, column_tracks, row_tracks, sized}
 use Rattle.papergrid_picture.proofs.Frames.{boundary-bounded, boundary-next}
-use Rattle.papergrid_picture.specs.Fitting.{FitsAnswer, InRange, table_width}
+use Rattle.papergrid_picture.specs.Fitting.{FitsAnswer, InRange, first_too_wide, table_width}
 use Rattle.papergrid_picture.specs.Frame.{Frame, Tracks, line_count, track_at}
 use Rattle.tabled_size_dimension.specs.Sizes.{given_size}
 use Rattle.tabled_size_dimension.specs.Stored.{FilledPass, Stored, filled, stored_sizes}
@@ -37,6 +40,11 @@ module _ (spans : List (Position × Extent)) (rows columns : ℕ) where
 
   pub by_spans : SpansAreGood (extent_at spans) rows columns → AreGood spans rows columns
   by_spans good = record { inside = good.inside; apart = good.apart }
+
+-- widths that are not lent are not kept
+pub none-kept : (lent : Option (Bor (List ℕ))) (kept : Option (List ℕ)) → option_copied lent ≡ kept → is_some lent ≡ false → kept ≡ None
+none-kept None kept is lacks = sym is
+none-kept (Some widths) kept is lacks = absurd (true≢false lacks)
 
 -- whichever way it is said that spans are good
 same_answer : (frame : Frame) (rows : List (List (List ℕ))) (P Q : Type 0) → (P → Q) → (Q → P) → (answer : Result (Unit {0}) Fault) → FitsAnswer frame rows P answer → FitsAnswer frame rows Q answer
@@ -175,6 +183,26 @@ module _ (settings : Settings) (rows : List (List (List ℕ))) (colors : Positio
       ],
     )
   ]
+
+  -- ---- least widths leave room for each cell
+
+  no-cell-lacks : stored.widths ≡ None → ArePositive settings.spans → AreGood settings.spans (length rows) columns → first_too_wide (sized settings width height columns (length rows)) rows ≡ None
+  no-cell-lacks none positive good =
+      let natural : List ℕ = natural_widths (look_of settings) columns rows in
+      ap (λ (kept : Option (List ℕ)). first_too_wide (sized settings (slice_index (unwrap_or kept natural)) height columns (length rows)) rows) none
+      ∙ ap (λ (widths : List ℕ). first_too_wide (sized settings (slice_index widths) height columns (length rows)) rows) (sym (widths_by_look settings columns rows))
+      ∙ none-too_wide settings columns rows height positive good
+
+  pub least-fit : stored.widths ≡ None → ArePositive settings.spans → AreGood settings.spans (length rows) columns → InRange (drawn_frame state) → IsFit state (Ok tt)
+  least-fit none positive good range = (by_extent settings.spans (length rows) columns good, range, no-cell-lacks none positive good)
+
+  abbrev range_in : Stored → ℕ → ℕ → Type 0
+  range_in sizes n m = InRange (sized settings (given_size (stored_sizes sizes.widths)) (given_size (stored_sizes sizes.heights)) n m)
+
+  pub range-told : (sizes : Stored) (n m : ℕ) (answer : Bool) → sizes ≡ drawn_sizes state → n ≡ columns → m ≡ length rows → (IsTrue answer ↔ range_in sizes n m) → IsTrue answer ↔ InRange (drawn_frame state)
+  range-told sizes n m answer is wide many told =
+      subst (λ (m : ℕ). IsTrue answer ↔ range_in (drawn_sizes state) columns m) many
+      (subst (λ (n : ℕ). IsTrue answer ↔ range_in (drawn_sizes state) n m) wide (subst (λ (sizes : Stored). IsTrue answer ↔ range_in sizes n m) is told))
 
   -- ---- what `fits` answers, by other names of the same
 

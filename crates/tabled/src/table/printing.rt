@@ -1,15 +1,19 @@
 //! A table as a text.
-ghost use Rattle.std.specs.Prelude.{◌≡◌, ◌⊎◌, List, Err, IfErr, IfOk, Ok, OnOk, string_bytes};
+ghost use Rattle.std.specs.Prelude.{◌≡◌, ◌⊎◌, ◌↔◌, List, Err, IfErr, IfOk, IsTrue, Ok, OnOk, length, string_bytes};
 ghost use Rattle.ansi_scan.specs.Sequences.{ArePiecesOf, Piece};
 ghost use Rattle.ansi_str.specs.StyledText.{strip};
 ghost use Rattle.grid_config_values.specs.declared.fault.Fault.TheVariants.{Memory, Range as PassesMax};
-ghost use Rattle.grid_config_spans.specs.Spans.{ArePositive};
+ghost use Rattle.grid_config_spans.specs.Spans.{AreGood, ArePositive};
 ghost use Rattle.papergrid_colors.specs.ClosingColors.{ShowNothing};
+ghost use Rattle.papergrid_fits.specs.Tables.{sized};
 ghost use Rattle.papergrid_picture.specs.Fitting.{InRange};
 ghost use Rattle.papergrid_picture.specs.Shown.{AreWholeTexts, IsBare};
 ghost use Rattle.tabled.specs.Narrowed.{HasSettings};
 ghost use Rattle.tabled.specs.Printing.{IsFit, drawn_frame, drawn_sizes, printed};
 ghost use Rattle.tabled.specs.Tables.{state_of, state_under};
+ghost use Rattle.tabled_size_dimension.specs.Sizes.{given_size};
+ghost use Rattle.tabled_size_dimension.specs.Stored.{stored_sizes};
+ghost use Rattle.tabled_steps.specs.States.{column_count};
 ghost use Rattle.tabled_stripping.specs.Stripping.{stripped_state, uncolored_state};
 
 use crate::table::Table;
@@ -17,6 +21,7 @@ use grid_config::{Fault, SpannedConfig};
 use grid_records_estimate::Estimate;
 use grid_records_rows::FromText;
 use papergrid::{PeekableGrid, fits};
+use papergrid_fits::{total_height, total_width};
 use tabled_size_dimension::CompleteDimension;
 
 impl<T: FromText> Table<T> {
@@ -72,8 +77,27 @@ impl<T: FromText> Table<T> {
             return Err(Fault::Spans);
         }
         let sizes = self.drawn_sizes(config)?;
-        fits(&self.records, config, &sizes)?;
+        self.check_sizes(config, &sizes)?;
         Ok(sizes)
+    }
+
+    // Whether the table fits the sizes in which it is drawn under these settings, whose spans are good. The least
+    // widths leave room for each cell, so that under these no cell is looked at.
+    fn check_sizes(&self, config: &SpannedConfig, sizes: &CompleteDimension) -> Result<(), Fault>
+        requires positive { ArePositive config.now.spans }
+        requires good { let rows = (state_of T.text self.now).rows in AreGood config.now.spans (length rows) (column_count rows) }
+        requires drawn { sizes.now ≡ drawn_sizes (state_under T.text self.now config.now) }
+        ensures { IsFit (state_under T.text self.now config.now) result }
+    {
+        if self.dimension.get_widths().is_some() {
+            return fits(&self.records, config, sizes);
+        }
+        let (rows, columns) = (self.count_rows(), self.count_columns());
+        if are_in_range(config, sizes, rows, columns) {
+            Ok(())
+        } else {
+            Err(Fault::Range)
+        }
     }
 
     // The sizes that are kept, and the least in place of the others.
@@ -85,4 +109,20 @@ impl<T: FromText> Table<T> {
         sizes.estimate(self.alloc, &self.records, config)?;
         Ok(sizes)
     }
+}
+
+// Whether the columns of a line and the lines of a table of `rows` rows and `columns` columns are at most
+// `usize::MAX`. Without rows or columns there are none.
+fn are_in_range(
+    config: &SpannedConfig,
+    sizes: &CompleteDimension,
+    rows: usize,
+    columns: usize,
+) -> bool
+    ensures { IsTrue result ↔ InRange (sized config.now (given_size (stored_sizes sizes.now.widths)) (given_size (stored_sizes sizes.now.heights)) columns rows) }
+{
+    if rows == 0 || columns == 0 {
+        return true;
+    }
+    total_width(config, sizes, columns).is_some() && total_height(config, sizes, rows).is_some()
 }
