@@ -1,1 +1,2 @@
+mod Floors
 mod Sums

@@ -1,15 +1,14 @@
 -- What shrunk widths sum to.
-use Rattle.std.proofs.Common.{◌≡◌, ◌≤◌, ◌<◌, ◌-◌, ◌+◌, ℕ, Bool, false, List, [], ◌∷◌, length, map, max, min, sum, arith, ap, ◌∙◌, if◌then◌else◌}
-use Rattle.std.specs.Prelude.{slice_index_or}
+use Rattle.std.proofs.Common.{◌≡◌, ◌≤◌, ◌-◌, ℕ, Bool, List, length, max, min, sum, arith, ◌∙◌}
 use Rattle.std.specs.List.{enumerate_from}
 use Rattle.std.proofs.lemmas.List.{length-map}
 use Rattle.std.proofs.lemmas.List.FromFn.{length-enumerate_from}
 use Rattle.tabled_size_priority.specs.Choices.{IsShrunkByChoice}
 use Rattle.tabled_size_priority.specs.Laws.Runs.{floors-room}
-use Rattle.tabled_size_priority.specs.Shrinking.{floors as least_widths, room_of, shrunk_sum}
+use Rattle.tabled_size_priority.specs.Shrinking.{floors as least_widths, shrunk_sum}
 use Rattle.tabled_size_priority.specs.declared.choice.Choice.{Choice}
 use Rattle.tabled_size_priority.specs.declared.choice.Choice.TheVariants.{None, MinLeft, MinRight, MaxLeft, MaxRight, Left, Right}
-use Rattle.basinmug_columns.specs.Rooms.{first_floors, floors, least_room}
+use Rattle.basinmug_columns.specs.Rooms.{first_floor, first_floors, floors, least_room}
 
 shrunk-sum : (priority : Choice) (least : List ℕ) (by : ℕ) (widths sizes : List ℕ) → IsShrunkByChoice priority least by widths sizes → sum sizes ≡ shrunk_sum least widths by
 shrunk-sum None least by widths sizes is = is.sums
@@ -31,4 +30,4 @@ floors-length widths = length-map widths (λ width. min width least_room)
 
 pub first_floors-length : (numeric : List Bool) (widths : List ℕ) → length (first_floors numeric widths) ≡ length widths
 first_floors-length numeric widths =
-    length-map (enumerate_from 0 widths) (λ placed. if slice_index_or numeric placed.0 false then placed.1 else min placed.1 least_room) ∙ length-enumerate_from 0 widths
+    length-map (enumerate_from 0 widths) (λ placed. first_floor numeric placed.0 placed.1) ∙ length-enumerate_from 0 widths

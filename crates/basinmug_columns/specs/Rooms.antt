@@ -1,5 +1,5 @@
 -- The rooms of columns whose table is to be narrower: widths in columns of text and padding.
-use Rattle.std.specs.Prelude.{◌≡◌, ℕ, ◌-◌, min, Bool, false, List, map, slice_index_or, sum, if◌then◌else◌}
+use Rattle.std.specs.Prelude.{ℕ, ◌-◌, min, Bool, false, List, map, slice_index_or, sum, if◌then◌else◌}
 use Rattle.std.specs.List.{enumerate_from}
 use Rattle.tabled_size_priority.specs.Choices.{IsShrunkByChoice}
 use Rattle.tabled_size_priority.specs.declared.choice.Choice.{Choice}
@@ -12,10 +12,13 @@ least_room = 4
 abbrev pub floors : List ℕ → List ℕ
 floors widths = map (λ width. min width least_room) widths
 
--- what they keep while others can give: columns of numbers all
+-- what a column of this number and width keeps while others can give: one of numbers all
+abbrev pub first_floor : List Bool → ℕ → ℕ → ℕ
+first_floor numeric column width = if slice_index_or numeric column false then width else min width least_room
+
+-- the same of each column
 abbrev pub first_floors : List Bool → List ℕ → List ℕ
-first_floors numeric widths =
-    map (λ (placed : ℕ × ℕ). if slice_index_or numeric placed.0 false then placed.1 else min placed.1 least_room) (enumerate_from 0 widths)
+first_floors numeric widths = map (λ (placed : ℕ × ℕ). first_floor numeric placed.0 placed.1) (enumerate_from 0 widths)
 
 -- widths that are to be so many columns less together: first the columns give that aren't of numbers, as the priority
 -- says, and where that is not enough all of them

@@ -1,6 +1,6 @@
 //! The rooms of columns whose table is to be narrower.
 ghost use Rattle.std.specs.Prelude.{◌≡◌, ◌<◌, ◌^◌, IfOk, OnErr, OnOk, false, slice_index_or, sum};
-ghost use Rattle.basinmug_columns.specs.Rooms.{AreRooms, first_floors, floors};
+ghost use Rattle.basinmug_columns.specs.Rooms.{AreRooms, first_floor, first_floors, floors};
 
 use std::alloc::{AllocError, Global};
 use tabled_size_priority::Choice;
@@ -35,17 +35,22 @@ pub fn shrink_columns(
 fn first_floors(alloc: Global, widths: &[usize], numeric: &[bool]) -> Result<Vec<usize>, AllocError>
     ensures { IfOk result (λ made. made.items ≡ first_floors numeric.now widths.now) }
 {
-    widths
-        .iter()
-        .enumerate()
-        .map(|(column, width)| {
-            if is_numeric(numeric, column) {
-                *width
-            } else {
-                (*width).min(LEAST_ROOM)
-            }
-        })
-        .collect(alloc)
+    let mut kept = Vec::with_capacity(alloc, widths.len())?;
+    for column in 0..widths.len() {
+        kept.push(first_floor(numeric, column, widths[column]))?;
+    }
+    Ok(kept)
+}
+
+// What a column of this width keeps while others can give: one of numbers all.
+fn first_floor(numeric: &[bool], column: usize, width: usize) -> usize
+    ensures { result ≡ first_floor numeric.now column width }
+{
+    if is_numeric(numeric, column) {
+        width
+    } else {
+        width.min(LEAST_ROOM)
+    }
 }
 
 // Whether a column is of numbers; one of which nothing is said is not.
@@ -59,10 +64,11 @@ fn is_numeric(numeric: &[bool], column: usize) -> bool
 fn floors(alloc: Global, widths: &[usize]) -> Result<Vec<usize>, AllocError>
     ensures { IfOk result (λ made. made.items ≡ floors widths.now) }
 {
-    widths
-        .iter()
-        .map(|width| (*width).min(LEAST_ROOM))
-        .collect(alloc)
+    let mut kept = Vec::with_capacity(alloc, widths.len())?;
+    for width in widths {
+        kept.push((*width).min(LEAST_ROOM))?;
+    }
+    Ok(kept)
 }
 
 // The sum of widths that is in the range of `usize`.

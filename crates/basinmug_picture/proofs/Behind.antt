@@ -1,14 +1,19 @@
 -- A text that is written behind another.
-use Rattle.std.proofs.Common.{◌≡◌, ◌∙◌, ℕ, List, ◌++◌, Option, append_assoc, arith, ap, inl, inr, length, subst, sym}
-use Rattle.std.proofs.Math.Seq.{take-append_seam}
+use Rattle.std.proofs.Common.{◌≡◌, ◌∙◌, ◌+◌, ℕ, List, [], ◌++◌, Option, Result, Ok, Err, append-nil, append_assoc, arith, ap, inl, inr, length, subst, sym, take}
+use Rattle.std.proofs.Math.Seq.{take-append-add, take-append_seam}
+use Rattle.std.specs.Prelude.{IfErr, OnOk}
 use Rattle.std.proofs.lemmas.List.{take-append-le, take_all}
 use Rattle.std.proofs.lemmas.Bool.{cases_lt}
 use Rattle.std.specs.Io.KnownBytes.{Appends}
+use Rattle.tabled.specs.Writing.{HasNoText}
+use Rattle.tabled_compact.specs.declared.fault.BuildFault.{BuildFault}
 use Rattle.tabled_output.specs.Counts.{inner_of}
 use Rattle.tabled_output.specs.Streams.{AppendsFront}
 use Rattle.tabled_output.specs.declared.counted.Counted.{Counted}
-use Rattle.std.proofs.KnownBytes.{Appends-trans}
+use Rattle.std.proofs.KnownBytes.{Appends-nil, Appends-trans}
 use Rattle.tabled_output.proofs.WrittenPieces.{front-taken}
+use Rattle.basinmug_picture.specs.Printed.{IsLate}
+use Rattle.basinmug_picture.proofs.Fitted.{begun}
 
 -- a front of a text is one of a longer text
 pub front-of-more : (old new : Option (List ℕ)) (text more : List ℕ) → AppendsFront old new text → AppendsFront old new (text ++ more)
@@ -24,3 +29,48 @@ module _ {T : Type 0} (contents : T → Option (List ℕ)) (text more : List ℕ
       → AppendsFront (contents (inner_of a)) (contents (inner_of c)) (text ++ more)
   front-behind whole front rest taken is =
       front-taken contents (text ++ more) (text ++ front) rest a c (Appends-trans (contents (inner_of a)) (contents (inner_of b)) (contents (inner_of c)) text front whole taken) (append_assoc text front rest ∙ ap (λ l. text ++ l) is)
+
+-- all of a text is a front of it
+whole-front : (old new : Option (List ℕ)) (text : List ℕ) → Appends old new text → AppendsFront old new text
+whole-front old new text whole = (length text, subst (Appends old new) (sym (take_all (length text) text (omega arith))) whole)
+
+-- nothing is a front of any text
+pub no-front : (old : Option (List ℕ)) (text : List ℕ) → AppendsFront old old text
+no-front old text = (0, Appends-nil old)
+
+-- a front of what is behind a whole text
+pub front-behind-whole : (old mid new : Option (List ℕ)) (text more : List ℕ) → Appends old mid text → AppendsFront mid new more → AppendsFront old new (text ++ more)
+front-behind-whole old mid new text more whole (n, taken) =
+    (length text + n, subst (Appends old new) (sym (take-append-add text more n)) (Appends-trans old mid new text (take n more) whole taken))
+
+-- a text all of which was taken
+pub passed-whole : (old new : Option (List ℕ)) (text front : List ℕ) → Appends old new front → front ++ [] ≡ text → Appends old new text
+passed-whole old new text front taken is = subst (Appends old new) (sym (append-nil front) ∙ is) taken
+
+-- a front of a text was taken
+pub stopped-before : {T : Type 0} (contents : T → Option (List ℕ)) (text : List ℕ) (a b : Counted T) (front rest : List ℕ) → Appends (contents (inner_of a)) (contents (inner_of b)) front → front ++ rest ≡ text
+    → AppendsFront (contents (inner_of a)) (contents (inner_of b)) text
+stopped-before contents text a b front rest taken is = front-taken contents text front rest a b taken is
+
+pub err-any : {T E : Type 0} (r : Result T E) (P : E → Type 0) → ((e : E) → P e) → IfErr r P
+err-any (Ok x) P all = tt
+err-any (Err e) P all = all e
+
+-- what is written of a table that fits is a front of its text
+late-front : (r : Result (Unit {0}) BuildFault) (old new : Option (List ℕ)) (text : List ℕ) → OnOk r (Appends old new text) → IfErr r (λ fault. ¬ (HasNoText fault) → AppendsFront old new text) → IfErr r IsLate
+    → AppendsFront old new text
+late-front (Ok done) old new text whole front late = whole-front old new text whole
+late-front (Err fault) old new text whole front late = front (begun fault late)
+
+on-ok-map : {T E : Type 0} (r : Result T E) (P Q : Type 0) → (P → Q) → OnOk r P → OnOk r Q
+on-ok-map (Ok x) P Q to p = to p
+on-ok-map (Err e) P Q to p = tt
+
+module _ (r : Result (Unit {0}) BuildFault) (old mid new : Option (List ℕ)) (text more : List ℕ) (whole : Appends old mid text) where
+  -- what is written behind a whole text
+  pub all-behind : OnOk r (Appends mid new more) → OnOk r (Appends old new (text ++ more))
+  all-behind behind = on-ok-map r _ _ (λ it. Appends-trans old mid new text more whole it) behind
+
+  -- or a front of it, where the fault is one that comes when something is written
+  pub front-late : OnOk r (Appends mid new more) → IfErr r (λ fault. ¬ (HasNoText fault) → AppendsFront mid new more) → IfErr r IsLate → AppendsFront old new (text ++ more)
+  front-late behind front late = front-behind-whole old mid new text more whole (late-front r mid new more behind front late)

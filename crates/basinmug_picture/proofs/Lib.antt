@@ -1,6 +1,7 @@
 mod Mapped
 mod Missing
 mod Widths
+mod Fitted
 mod Behind
 pub mod Faults
 pub mod Written

@@ -10,12 +10,11 @@ use Rattle.tabled_list.specs.declared.setting.Setting.{Setting}
 use Rattle.tabled_steps.specs.States.{State}
 use Rattle.tabled_text.specs.Rows.{filled, text_rows}
 use Rattle.basinmug_options.specs.declared.options.Options.{Options}
-use Rattle.basinmug_options.specs.declared.options.Rules.{Rules}
-use Rattle.basinmug_picture.specs.Lines.{lines_text, more_line, rules_of}
+use Rattle.basinmug_picture.specs.Lines.{below, picture_text}
 use Rattle.basinmug_picture.specs.Names.{IsFirstMissing}
 use Rattle.basinmug_picture.specs.Pictures.{HasNoTable, IsMade, IsNotMade, IsTable, looks_of, missing_of, numeric_of}
 use Rattle.basinmug_picture.specs.Printed.{IsRefusal, IsTableFault, Prints, PrintsTable, shown, shown_rows, text_of}
-use Rattle.basinmug_picture.specs.Rows.{shown_count}
+use Rattle.basinmug_picture.specs.Rows.{has_header, shown_count}
 use Rattle.basinmug_picture.specs.declared.fault.PrintFault.{PrintFault}
 use Rattle.basinmug_picture.specs.declared.fault.PrintFault.TheVariants.{NoColumn, Table, Memory}
 use Rattle.basinmug_picture.specs.declared.printing.Shown.{Shown}
@@ -29,7 +28,7 @@ module _ (options : Options) (rows : List (List (List ℕ))) where
   -- as many rows as are shown
   pub length-shown : (items : List (Vec (String Global) Global)) (len : ℕ) → len ≡ length items → text_rows items ≡ shown_rows options rows → len ≡ shown options rows
   length-shown items len is are =
-      let below = shown-below options.header options.max_rows (length rows) in
+      let below = shown-below (has_header options) options.max_rows (length rows) in
       let taken : length (shown_rows options rows) ≡ min (shown options rows) (length rows) = length-take (shown options rows) rows in
       let all : len ≡ length (shown_rows options rows) = is ∙ sym (length-map items (λ row. map string_bytes (vec_items row))) ∙ ap length are in
       omega (arith, below, taken, all)
@@ -58,21 +57,24 @@ module _ (options : Options) (rows : List (List (List ℕ))) where
   refused-named (Ok it) named out = tt
   refused-named (Err fault) named out = refusal-named fault named out
 
-module _ (options : Options) (rows : List (List (List ℕ))) (settings : List Setting) (numeric : List Bool) (first : State) (rules : Rules) (count : ℕ) (line : List ℕ)
+module _ (options : Options) (rows : List (List (List ℕ))) (settings : List Setting) (numeric : List Bool) (first : State) (headed : Bool) (count : ℕ) (line : List ℕ)
     (P : (State → Type 0) → (Fault → Type 0) → (State → List ℕ) → Type 0) where
+  abbrev text_by : Bool → ℕ → List ℕ → State → List ℕ
+  text_by = picture_text options.look options.rules
+
   -- what holds of the table that is made holds of the table of the rows that are shown
-  pub printed-by : settings ≡ looks_of options (shown_rows options rows) → numeric ≡ numeric_of options.header (shown_rows options rows) → first ≡ new_state (filled (shown_rows options rows))
-      → rules ≡ rules_of options.look options.rules → count ≡ shown options rows → line ≡ more_line (length rows - shown options rows)
-      → P (IsMade options settings numeric first) (IsNotMade options settings numeric first) (lines_text rules options.header count line)
+  pub printed-by : settings ≡ looks_of options (shown_rows options rows) → numeric ≡ numeric_of (has_header options) (shown_rows options rows) → first ≡ new_state (filled (shown_rows options rows))
+      → headed ≡ has_header options → count ≡ shown options rows → line ≡ below options.look (length rows - shown options rows)
+      → P (IsMade options settings numeric first) (IsNotMade options settings numeric first) (text_by headed count line)
       → P (IsTable options (shown_rows options rows)) (HasNoTable options (shown_rows options rows)) (text_of options rows)
-  printed-by are numbers made ruled counted lined given =
+  printed-by are numbers made is_headed counted lined given =
       let rows_shown = shown_rows options rows in
       let all = looks_of options rows_shown in
-      let which = numeric_of options.header rows_shown in
-      let text = lines_text rules options.header count line in
+      let which = numeric_of (has_header options) rows_shown in
+      let text = text_by headed count line in
       let looked = subst (λ (it : List Setting). P (IsMade options it numeric first) (IsNotMade options it numeric first) text) are given in
       let numbered = subst (λ (it : List Bool). P (IsMade options all it first) (IsNotMade options all it first) text) numbers looked in
       let begun = subst (λ (it : State). P (IsMade options all which it) (IsNotMade options all which it) text) made numbered in
-      let by_rules = subst (λ (it : Rules). P (IsTable options rows_shown) (HasNoTable options rows_shown) (lines_text it options.header count line)) ruled begun in
-      let by_count = subst (λ (it : ℕ). P (IsTable options rows_shown) (HasNoTable options rows_shown) (lines_text (rules_of options.look options.rules) options.header it line)) counted by_rules in
-      subst (λ (it : List ℕ). P (IsTable options rows_shown) (HasNoTable options rows_shown) (lines_text (rules_of options.look options.rules) options.header (shown options rows) it)) lined by_count
+      let by_header = subst (λ (it : Bool). P (IsTable options rows_shown) (HasNoTable options rows_shown) (text_by it count line)) is_headed begun in
+      let by_count = subst (λ (it : ℕ). P (IsTable options rows_shown) (HasNoTable options rows_shown) (text_by (has_header options) it line)) counted by_header in
+      subst (λ (it : List ℕ). P (IsTable options rows_shown) (HasNoTable options rows_shown) (text_by (has_header options) (shown options rows) it)) lined by_count

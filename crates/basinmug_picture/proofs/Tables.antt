@@ -13,7 +13,7 @@ use Rattle.basinmug_options.specs.declared.options.Options.{Options}
 use Rattle.basinmug_picture.specs.Looks.{looks}
 use Rattle.basinmug_picture.specs.Narrowing.{IsNotNarrowed, Narrows}
 use Rattle.basinmug_picture.specs.Pictures.{IsMade, IsNotMade, looks_of, numeric_of}
-use Rattle.basinmug_picture.specs.Rows.{header_of, records_of}
+use Rattle.basinmug_picture.specs.Rows.{has_header, header_of, records_of}
 
 pub numeric-is : (header : Bool) (rows records : List (List (List ℕ))) (columns : ℕ) (numeric : List Bool) → numeric ≡ map (is_numeric records) (range_with_len 0 columns) → records ≡ records_of header rows → columns ≡ longest rows
     → numeric ≡ numeric_of header rows
@@ -21,10 +21,10 @@ numeric-is header rows records columns numeric is are count =
     is ∙ ap (λ (it : List (List (List ℕ))). map (is_numeric it) (range_with_len 0 columns)) are ∙ ap (λ n. map (is_numeric (records_of header rows)) (range_with_len 0 n)) count
 
 pub looks-are : (options : Options) (rows : List (List (List ℕ))) (header : List (List ℕ)) (numeric : List Bool) (settings : List Setting)
-    → settings ≡ looks options.look header numeric options.alignments.items options.colors.items → header ≡ header_of options.header rows → numeric ≡ numeric_of options.header rows → settings ≡ looks_of options rows
+    → settings ≡ looks options.look header numeric options.alignments.items options.colors.items → header ≡ header_of (has_header options) rows → numeric ≡ numeric_of (has_header options) rows → settings ≡ looks_of options rows
 looks-are options rows header numeric settings are head is =
     are ∙ ap (λ (it : List (List ℕ)). looks options.look it numeric options.alignments.items options.colors.items) head
-    ∙ ap (λ (it : List Bool). looks options.look (header_of options.header rows) it options.alignments.items options.colors.items) is
+    ∙ ap (λ (it : List Bool). looks options.look (header_of (has_header options) rows) it options.alignments.items options.colors.items) is
 
 module _ (options : Options) (settings list : List Setting) (numeric numbers : List Bool) (old look : State) where
   -- a table is made by its settings, and then by its width

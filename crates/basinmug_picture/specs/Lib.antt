@@ -3,6 +3,7 @@ pub mod Rows
 pub mod Names
 pub mod Looks
 pub mod Narrowing
+pub mod Documents
 pub mod Lines
 pub mod Pictures
 pub mod Printed

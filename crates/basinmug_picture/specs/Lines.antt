@@ -1,18 +1,14 @@
 -- Which lines of a picture are printed, and what stands below them.
-use Rattle.std.specs.Prelude.{ℕ, ◌==◌, ◌&&◌, ◌||◌, Bool, true, false, List, [], ◌++◌, codes, decimal, if◌then◌else◌}
+use Rattle.std.specs.Prelude.{ℕ, ◌==◌, ◌&&◌, ◌||◌, nat_lt, Bool, true, false, List, [], ◌++◌, codes, decimal, if◌then◌else◌}
 use Rattle.papergrid_print.specs.declared.wanted.Place.{Place}
 use Rattle.papergrid_print.specs.declared.wanted.Place.TheVariants.{Boundary, Row, Outside}
 use Rattle.tabled.specs.Writing.{wanted_lines}
 use Rattle.tabled_steps.specs.States.{State}
 use Rattle.basinmug_options.specs.declared.options.Look.{Look}
-use Rattle.basinmug_options.specs.declared.options.Look.TheVariants.{Markdown}
 use Rattle.basinmug_options.specs.declared.options.Rules.{Rules}
 use Rattle.basinmug_options.specs.declared.options.Rules.TheVariants.{Header, All, None}
-
--- the rules of a table in this look: in one of Markdown a line stands below the header alone
-abbrev pub rules_of : Look → Rules → Rules
-rules_of Markdown rules = Header
-rules_of _ rules = rules
+use Rattle.basinmug_picture.specs.Documents.{document_text}
+use Rattle.basinmug_picture.specs.Rows.{is_markdown}
 
 -- whether the line between rows of this number is printed
 abbrev pub is_inner_wanted : Rules → Bool → ℕ → Bool
@@ -33,6 +29,18 @@ more_line count =
     else if count == 1 then codes "(1 more row)\n"
     else codes "(" ++ (decimal count ++ codes " more rows)\n")
 
+-- the blank line before it in a document: without it the line would be a row of the table
+abbrev pub blank_line : Look → ℕ → List ℕ
+blank_line look count = if is_markdown look && nat_lt 0 count then codes "\n" else []
+
+-- what stands below a table in this look of which so many rows are left out
+abbrev pub below : Look → ℕ → List ℕ
+below look count = blank_line look count ++ more_line count
+
 -- the lines of a table of so many rows that are wanted, and then a text
 abbrev pub lines_text : Rules → Bool → ℕ → List ℕ → State → List ℕ
 lines_text rules header rows more s = wanted_lines (is_wanted rules header rows) s ++ more
+
+-- what is printed of a table in this look, and then a text
+abbrev pub picture_text : Look → Rules → Bool → ℕ → List ℕ → State → List ℕ
+picture_text look rules header rows more s = if is_markdown look then document_text more s else lines_text rules header rows more s

@@ -21,13 +21,9 @@ use Rattle.basinmug_options.specs.declared.options.Look.TheVariants.{Ascii, Mode
 abbrev pub rounded : Glyphs ℕ
 rounded = record modern { top_left = Some 0x256d; top_right = Some 0x256e; bottom_left = Some 0x2570; bottom_right = Some 0x256f }
 
--- the bars of a table of Markdown, and the dashes below its header
+-- the bars of a table of Markdown, whose rule below the header is no line of a look
 abbrev pub markdown : Glyphs ℕ
 markdown = record no_borders {
-  horizontal = Some 0x2d;
-  left_intersection = Some 0x7c;
-  right_intersection = Some 0x7c;
-  intersection = Some 0x7c;
   vertical = Some 0x7c;
   left = Some 0x7c;
   right = Some 0x7c;

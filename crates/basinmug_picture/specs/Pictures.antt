@@ -13,7 +13,7 @@ use Rattle.basinmug_options.specs.declared.options.Options.{Options}
 use Rattle.basinmug_picture.specs.Looks.{looks}
 use Rattle.basinmug_picture.specs.Names.{missing_names}
 use Rattle.basinmug_picture.specs.Narrowing.{IsNotNarrowed, IsRefusedIn, Narrows}
-use Rattle.basinmug_picture.specs.Rows.{header_of, records_of}
+use Rattle.basinmug_picture.specs.Rows.{has_header, header_of, records_of}
 
 -- which of the columns are of numbers
 abbrev pub numeric_of : Bool → List (List (List ℕ)) → List Bool
@@ -34,20 +34,20 @@ module _ (options : Options) (rows : List (List (List ℕ))) where
   -- the names of columns in the options that the header does not have, in turn
   abbrev pub missing_of : List (List ℕ)
   missing_of =
-      let header = header_of options.header rows in
+      let header = header_of (has_header options) rows in
       missing_names header options.alignments.items ++ missing_names header options.colors.items
 
   -- the settings before the table is made narrower
   abbrev pub looks_of : List Setting
-  looks_of = looks options.look (header_of options.header rows) (numeric_of options.header rows) options.alignments.items options.colors.items
+  looks_of = looks options.look (header_of (has_header options) rows) (numeric_of (has_header options) rows) options.alignments.items options.colors.items
 
   -- the table of the rows, the short ones filled with empty texts, after its settings
   abbrev pub IsTable : State → Type 0
-  IsTable = IsMade options looks_of (numeric_of options.header rows) (new_state (filled rows))
+  IsTable = IsMade options looks_of (numeric_of (has_header options) rows) (new_state (filled rows))
 
   -- there is no such table
   abbrev pub HasNoTable : Fault → Type 0
-  HasNoTable = IsNotMade options looks_of (numeric_of options.header rows) (new_state (filled rows))
+  HasNoTable = IsNotMade options looks_of (numeric_of (has_header options) rows) (new_state (filled rows))
 
 -- whether a table is wider than is asked
 abbrev pub is_wider : Option ℕ → State → Bool

@@ -2,17 +2,19 @@
 use Rattle.std.specs.Prelude.{◌≡◌, ◌⊎◌, ⊤, ℕ, ◌-◌, Bool, List, [], Option, Ok, length, take}
 use Rattle.std.specs.Io.KnownBytes.{Appends}
 use Rattle.grid_config_values.specs.declared.fault.Fault.{Fault}
+use Rattle.grid_config_values.specs.declared.fault.Fault.TheVariants.{Memory as NoMemory}
 use Rattle.tabled.specs.Printing.{IsFit}
 use Rattle.tabled.specs.Writing.{HasNoText}
 use Rattle.tabled_compact.specs.Building.{BuildRefusal}
-use Rattle.tabled_compact.specs.declared.fault.BuildFault.TheVariants.{Table as OfTable}
+use Rattle.tabled_compact.specs.declared.fault.BuildFault.{BuildFault}
+use Rattle.tabled_compact.specs.declared.fault.BuildFault.TheVariants.{Table as OfTable, Write, WriteZero}
 use Rattle.tabled_output.specs.Streams.{AppendsFront}
 use Rattle.tabled_steps.specs.States.{State}
 use Rattle.basinmug_options.specs.declared.options.Options.{Options}
-use Rattle.basinmug_picture.specs.Lines.{lines_text, more_line, rules_of}
+use Rattle.basinmug_picture.specs.Lines.{below, picture_text}
 use Rattle.basinmug_picture.specs.Names.{IsFirstMissing}
 use Rattle.basinmug_picture.specs.Pictures.{HasNoTable, IsTable, is_wider, missing_of}
-use Rattle.basinmug_picture.specs.Rows.{shown_count}
+use Rattle.basinmug_picture.specs.Rows.{has_header, shown_count}
 use Rattle.basinmug_picture.specs.declared.fault.PrintFault.{PrintFault}
 use Rattle.basinmug_picture.specs.declared.fault.PrintFault.TheVariants.{NoColumn, Table, Memory}
 
@@ -21,6 +23,12 @@ abbrev pub HasNothing : PrintFault → Type 0
 HasNothing (NoColumn name) = ⊤
 HasNothing (Table fault) = HasNoText fault
 HasNothing Memory = ⊥
+
+-- a fault that may come when a part of a table that fits is written
+abbrev pub IsLate : BuildFault → Type 0
+IsLate (OfTable fault) = fault ≡ NoMemory
+IsLate Write = ⊤
+IsLate WriteZero = ⊤
 
 -- a table that is made so is printed, by this text of it
 abbrev pub PrintsTable : (State → Type 0) → (State → List ℕ) → Option ℕ → Bool → Option (List ℕ) → Option (List ℕ) → Type 0
@@ -40,14 +48,14 @@ IsTableFault Makes NotMade Memory = ⊤
 module _ (options : Options) (rows : List (List (List ℕ))) where
   -- how many rows are shown, and which
   abbrev pub shown : ℕ
-  shown = shown_count options.header options.max_rows (length rows)
+  shown = shown_count (has_header options) options.max_rows (length rows)
 
   abbrev pub shown_rows : List (List (List ℕ))
   shown_rows = take shown rows
 
-  -- what is printed of their table: its lines that are wanted, and the line of the rows that are left out
+  -- what is printed of their table: its lines in this look, and how many rows are left out
   abbrev pub text_of : State → List ℕ
-  text_of = lines_text (rules_of options.look options.rules) options.header shown (more_line (length rows - shown))
+  text_of = picture_text options.look options.rules (has_header options) shown (below options.look (length rows - shown))
 
   -- the rows are printed as a table, in which each named column is
   abbrev pub Prints : Bool → Option (List ℕ) → Option (List ℕ) → Type 0

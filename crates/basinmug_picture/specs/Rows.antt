@@ -1,5 +1,17 @@
 -- The rows of a picture: a header, and records.
-use Rattle.std.specs.Prelude.{ℕ, ◌+◌, min, Bool, true, false, List, [], ◌∷◌, Option, None, Some, drop, if◌then◌else◌}
+use Rattle.std.specs.Prelude.{ℕ, ◌+◌, ◌||◌, min, Bool, true, false, List, [], ◌∷◌, Option, None, Some, drop, if◌then◌else◌}
+use Rattle.basinmug_options.specs.declared.options.Look.{Look}
+use Rattle.basinmug_options.specs.declared.options.Look.TheVariants.{Markdown}
+use Rattle.basinmug_options.specs.declared.options.Options.{Options}
+
+-- whether a look is that of a table in a document
+abbrev pub is_markdown : Look → Bool
+is_markdown Markdown = true
+is_markdown _ = false
+
+-- whether the first row is a header: where the options say so, and in a document always
+abbrev pub has_header : Options → Bool
+has_header options = options.header || is_markdown options.look
 
 -- how many rows the header takes
 abbrev pub header_rows : Bool → ℕ

@@ -31,15 +31,11 @@ fn rounded() -> Borders<char>
     borders
 }
 
-// Bars, and dashes below the header.
+// Bars; the rule below the header is no line of the look.
 fn markdown() -> Borders<char>
     ensures { result ≡ markdown }
 {
     let mut borders = Borders::empty();
-    borders.horizontal = Some('-');
-    borders.left_intersection = Some('|');
-    borders.right_intersection = Some('|');
-    borders.intersection = Some('|');
     borders.vertical = Some('|');
     borders.left = Some('|');
     borders.right = Some('|');

@@ -2,6 +2,7 @@
 #![tactic(auto)]
 
 mod appearance;
+mod documents;
 mod fault;
 mod glyphs;
 pub mod laws;

@@ -1,7 +1,8 @@
 //! Which lines of a picture are printed, and what stands below them.
 ghost use Rattle.std.specs.Prelude.{◌≡◌, IfOk, string_bytes};
-ghost use Rattle.basinmug_picture.specs.Lines.{is_inner_wanted, more_line, rules_of};
+ghost use Rattle.basinmug_picture.specs.Lines.{below, blank_line, is_inner_wanted, more_line};
 
+use crate::rows::is_markdown;
 use basinmug_options::{Look, Rules};
 use std::alloc::{AllocError, Global};
 use tabled::{Place, Wanted};
@@ -42,18 +43,30 @@ fn is_inner_wanted(rules: Rules, header: bool, boundary: usize) -> bool
     }
 }
 
-/// The rules of a table in this look: in one of Markdown a line stands below the header alone.
-pub(crate) fn rules_of(look: Look, rules: Rules) -> Rules
-    ensures { result ≡ rules_of look rules }
+/// What stands below a table in this look of which so many rows are left out: the line that says so, and in a document
+/// a blank line before it. Fails only where allocation fails.
+pub(crate) fn below(alloc: Global, look: Look, count: usize) -> Result<String, AllocError>
+    ensures { IfOk result (λ text. string_bytes text ≡ below look count) }
 {
-    match look {
-        Look::Markdown => Rules::Header,
-        Look::Ascii | Look::Modern | Look::Rounded | Look::Extended | Look::Empty => rules,
+    let mut text = String::from_str(alloc, blank_line(look, count))?;
+    let line = more_line(alloc, count)?;
+    text.push_str(line.as_str())?;
+    Ok(text)
+}
+
+// The blank line of a document, without which the line that follows would be a row of the table.
+fn blank_line(look: Look, count: usize) -> &'static str
+    ensures { result.now ≡ blank_line look count }
+{
+    if is_markdown(look) && count > 0 {
+        "\n"
+    } else {
+        ""
     }
 }
 
-/// The line that says how many rows are left out, where some are. Fails only where allocation fails.
-pub(crate) fn more_line(alloc: Global, count: usize) -> Result<String, AllocError>
+// The line that says how many rows are left out, where some are. Fails only where allocation fails.
+fn more_line(alloc: Global, count: usize) -> Result<String, AllocError>
     ensures { IfOk result (λ line. string_bytes line ≡ more_line count) }
 {
     match count {

@@ -9,20 +9,21 @@ ghost use Rattle.tabled_compact.specs.Building.{BuildRefusal};
 ghost use Rattle.tabled_output.specs.Counts.{FailsIff, OnlyWrites, TakesNothingIff, inner_of};
 ghost use Rattle.tabled_output.specs.Streams.{AppendsFront};
 ghost use Rattle.tabled_text.specs.Rows.{text_rows};
-ghost use Rattle.basinmug_picture.specs.Lines.{is_wanted, lines_text};
+ghost use Rattle.basinmug_picture.specs.Lines.{picture_text};
 ghost use Rattle.basinmug_picture.specs.Pictures.{IsMade, IsNotMade, is_wider};
 ghost use Rattle.basinmug_picture.specs.Printed.{HasNothing, IsRefusal, IsTableFault, Prints, PrintsTable, StopsIn, StopsInTable};
 ghost use Rattle.basinmug_picture.specs.Rows.{shown_count};
 
 use crate::appearance::{Appearance, appearance_of};
+use crate::documents::write_document;
 use crate::fault::PrintFault;
-use crate::lines::{RuledLines, more_line, rules_of};
+use crate::lines::{RuledLines, below};
 use crate::narrowing::{narrow_if_asked, run_settings};
-use crate::rows::shown_count;
-use basinmug_options::Options;
+use crate::rows::{has_header, is_markdown, shown_count};
+use basinmug_options::{Look, Options};
 use std::alloc::Global;
 use std::io::Write;
-use tabled::{BuildFault, Builder, Counted, Fault, Table};
+use tabled::{BuildFault, Builder, Counted, Fault, Table, Wanted};
 use tabled_output::write_piece;
 
 /// What there is to say of a picture that was printed.
@@ -32,9 +33,9 @@ pub struct Shown {
     pub wider: bool,
 }
 
-/// Prints rows as a table, of which the first is the header where the options say so: at most so many records, in
-/// the settings of `specs/Pictures.antt`, the lines between rows that are asked, and below them how many rows are
-/// left out. It gives up with `NoColumn` where a name is in no column of the header, and as a table that is
+/// Prints rows as a table, of which the first is the header where the options say so, and in a document always: at
+/// most so many records, in the settings of `specs/Pictures.antt`, the lines between rows that are asked, or in a
+/// document the rule below the header, and below them how many rows are left out. It gives up with `NoColumn` where a name is in no column of the header, and as a table that is
 /// written does; nothing is written before its table is made. Nothing is flushed.
 pub fn print<W: Write>(
     alloc: Global,
@@ -50,26 +51,27 @@ pub fn print<W: Write>(
     ensures write_zero { TakesNothingIff (IsErrOf result (PrintFault.Table BuildFault.WriteZero)) writer.old writer.new }
     ensures only_writes { OnlyWrites writer.old writer.new }
 {
-    let shown = shown_rows(rows, options);
+    let is_headed = has_header(options);
+    let shown = shown_rows(rows, is_headed, options.max_rows);
     let (rows, left_out) = shown;
     let lines = RuledLines {
-        rules: rules_of(options.look, options.rules),
-        header: options.header,
+        rules: options.rules,
+        header: is_headed,
         rows: rows.len(),
     };
-    let more = more_line(alloc, left_out)?;
+    let more = below(alloc, options.look, left_out)?;
     let texts = rows.as_slice();
     let appearance = appearance_of(alloc, texts, options)?;
     let builder = Builder::from_vec(rows);
     let mut table = Table::from_builder(builder)?;
-    let below = more.as_str();
+    let ending = more.as_str();
     let outcome = print_table(
         alloc,
         &mut table,
         &appearance,
         options,
         &lines,
-        below,
+        ending,
         writer,
     );
     drop(table);
@@ -77,18 +79,22 @@ pub fn print<W: Write>(
 }
 
 // The rows that are shown, and how many are left out.
-fn shown_rows(rows: Vec<Vec<String>>, options: &Options) -> (Vec<Vec<String>>, usize)
-    ensures rows { text_rows result.0.items ≡ take (shown_count options.now.header options.now.max_rows (length (text_rows rows.items))) (text_rows rows.items) }
-    ensures left_out { result.1 ≡ length (text_rows rows.items) - shown_count options.now.header options.now.max_rows (length (text_rows rows.items)) }
+fn shown_rows(
+    rows: Vec<Vec<String>>,
+    header: bool,
+    most: Option<usize>,
+) -> (Vec<Vec<String>>, usize)
+    ensures rows { text_rows result.0.items ≡ take (shown_count header most (length (text_rows rows.items))) (text_rows rows.items) }
+    ensures left_out { result.1 ≡ length (text_rows rows.items) - shown_count header most (length (text_rows rows.items)) }
 {
     let mut rows = rows;
-    let count = shown_count(options.header, options.max_rows, rows.len());
+    let count = shown_count(header, most, rows.len());
     let left_out = rows.len() - count;
     rows.truncate(count);
     (rows, left_out)
 }
 
-// Prints a table: its settings, its width, its lines that are wanted, and then a text. The table is lent, so that who
+// Prints a table: its settings, its width, its lines in its look, and then a text. The table is lent, so that who
 // made it drops it in one place.
 fn print_table<W: Write>(
     alloc: Global,
@@ -101,11 +107,11 @@ fn print_table<W: Write>(
 ) -> Result<Shown, PrintFault>
     ensures printed { IfOk result (λ shown. PrintsTable
         (IsMade options.now appearance.now.settings.items appearance.now.numeric.items (state_of (λ text. text) table.old))
-        (lines_text lines.now.rules lines.now.header lines.now.rows more.now) options.now.width
+        (picture_text options.now.look lines.now.rules lines.now.header lines.now.rows more.now) options.now.width
         shown.wider (W.contents (inner_of writer.old)) (W.contents (inner_of writer.new))) }
     ensures front { IfErr result (λ fault. ¬ (HasNothing fault) → StopsInTable
         (IsMade options.now appearance.now.settings.items appearance.now.numeric.items (state_of (λ text. text) table.old))
-        (lines_text lines.now.rules lines.now.header lines.now.rows more.now)
+        (picture_text options.now.look lines.now.rules lines.now.header lines.now.rows more.now)
         (W.contents (inner_of writer.old)) (W.contents (inner_of writer.new))) }
     ensures untouched { IfErr result (λ fault. HasNothing fault → writer.new ≡ writer.old) }
     ensures refused { IfErr result (IsTableFault
@@ -116,7 +122,7 @@ fn print_table<W: Write>(
     ensures only_writes { OnlyWrites writer.old writer.new }
 {
     let wider = make_table(alloc, table, appearance, options)?;
-    write_lines(table, lines, more, writer)?;
+    write_picture(alloc, table, options.look, lines, more, writer)?;
     Ok(Shown { wider })
 }
 
@@ -139,18 +145,20 @@ fn make_table(
     narrow_if_asked(alloc, table, numbers, options)
 }
 
-// Writes the lines of a table that are wanted, and then a text.
-fn write_lines<W: Write>(
+// Writes the lines of a table in this look, and then a text.
+fn write_picture<W: Write>(
+    alloc: Global,
     table: &Table,
+    look: Look,
     lines: &RuledLines,
     more: &str,
     writer: &mut Counted<W>,
 ) -> Result<(), BuildFault>
     ensures whole { OnOk result (Appends (W.contents (inner_of writer.old)) (W.contents (inner_of writer.new))
-        (wanted_lines (is_wanted lines.now.rules lines.now.header lines.now.rows) (state_of (λ text. text) table.now) ++ more.now)) }
+        (picture_text look lines.now.rules lines.now.header lines.now.rows more.now (state_of (λ text. text) table.now))) }
     ensures front { IfErr result (λ fault. ¬ (HasNoText fault) →
         AppendsFront (W.contents (inner_of writer.old)) (W.contents (inner_of writer.new))
-        (wanted_lines (is_wanted lines.now.rules lines.now.header lines.now.rows) (state_of (λ text. text) table.now) ++ more.now)) }
+        (picture_text look lines.now.rules lines.now.header lines.now.rows more.now (state_of (λ text. text) table.now))) }
     ensures untouched { IfErr result (λ fault. HasNoText fault → writer.new ≡ writer.old) }
     ensures fits { OnOk result (IsFit (state_of (λ text. text) table.now) (Ok tt)) }
     ensures table { IfErr result (BuildRefusal (IsFit (state_of (λ text. text) table.now) (Ok tt)) (IsFit (state_of (λ text. text) table.now))) }
@@ -158,7 +166,33 @@ fn write_lines<W: Write>(
     ensures write_zero { TakesNothingIff (IsErrOf result BuildFault.WriteZero) writer.old writer.new }
     ensures only_writes { OnlyWrites writer.old writer.new }
 {
-    table.build_lines(writer, lines)?;
+    if is_markdown(look) {
+        write_document(alloc, table, more, writer)
+    } else {
+        write_lines(table, lines, more, writer)
+    }
+}
+
+/// Writes the lines of a table that are wanted, and then a text. It gives up as `build_lines` does.
+pub(crate) fn write_lines<W: Write, K: Wanted>(
+    table: &Table,
+    wanted: &K,
+    more: &str,
+    writer: &mut Counted<W>,
+) -> Result<(), BuildFault>
+    ensures whole { OnOk result (Appends (W.contents (inner_of writer.old)) (W.contents (inner_of writer.new))
+        (wanted_lines (K.wants wanted.now) (state_of (λ text. text) table.now) ++ more.now)) }
+    ensures front { IfErr result (λ fault. ¬ (HasNoText fault) →
+        AppendsFront (W.contents (inner_of writer.old)) (W.contents (inner_of writer.new))
+        (wanted_lines (K.wants wanted.now) (state_of (λ text. text) table.now) ++ more.now)) }
+    ensures untouched { IfErr result (λ fault. HasNoText fault → writer.new ≡ writer.old) }
+    ensures fits { OnOk result (IsFit (state_of (λ text. text) table.now) (Ok tt)) }
+    ensures table { IfErr result (BuildRefusal (IsFit (state_of (λ text. text) table.now) (Ok tt)) (IsFit (state_of (λ text. text) table.now))) }
+    ensures write { FailsIff (IsErrOf result BuildFault.Write) writer.old writer.new }
+    ensures write_zero { TakesNothingIff (IsErrOf result BuildFault.WriteZero) writer.old writer.new }
+    ensures only_writes { OnlyWrites writer.old writer.new }
+{
+    table.build_lines(writer, wanted)?;
     write_piece(writer, more.as_bytes())?;
     Ok(())
 }

@@ -11,6 +11,7 @@ use Rattle.basinmug_input.specs.Faults.{IsFaultOf, IsReadable}
 use Rattle.basinmug_input.specs.Reading.{settings}
 use Rattle.basinmug_input.specs.Rows.{rows_in, text_in}
 use Rattle.basinmug_input.specs.declared.fault.InputFault.TheVariants.{Memory as NoMemoryToRead}
+use Rattle.basinmug_markdown.specs.Documents.{with_header}
 use Rattle.basinmug_markdown.specs.Escapes.{escaped}
 use Rattle.basinmug_options.specs.declared.options.Look.{Look}
 use Rattle.basinmug_options.specs.declared.options.Look.TheVariants.{Markdown}
@@ -23,10 +24,10 @@ use Rattle.basinmug_run.specs.declared.fault.RunFault.TheVariants.{Input, Print,
 
 -- ---- rows
 
--- the rows as cells of a table: those of Markdown are escaped
-abbrev pub cells_of : Look → List (List (List ℕ)) → List (List (List ℕ))
-cells_of Markdown rows = map (map escaped) rows
-cells_of _ rows = rows
+-- the rows as cells of a table, which have a header of their own or none: those of Markdown are escaped, and get one
+abbrev pub cells_of : Look → Bool → List (List (List ℕ)) → List (List (List ℕ))
+cells_of Markdown header rows = with_header header (map (map escaped) rows)
+cells_of _ header rows = rows
 
 -- the writer failed, or took nothing
 abbrev pub IsOfWriter : BuildFault → Type 0
@@ -53,13 +54,13 @@ module _ (options : Options) (rows : List (List (List ℕ))) where
 
   -- rows are printed as is asked: as records one below the other, or as a table
   abbrev pub PrintsRows : Bool → Option (List ℕ) → Option (List ℕ) → Type 0
-  PrintsRows wider old new = MatchBool options.expanded (PrintsRecords wider old new) (Prints options (cells_of options.look rows) wider old new)
+  PrintsRows wider old new = MatchBool options.expanded (PrintsRecords wider old new) (Prints options (cells_of options.look options.header rows) wider old new)
 
   abbrev pub StopsInRows : Option (List ℕ) → Option (List ℕ) → Type 0
-  StopsInRows old new = MatchBool options.expanded (StopsInRecords old new) (StopsIn options (cells_of options.look rows) old new)
+  StopsInRows old new = MatchBool options.expanded (StopsInRecords old new) (StopsIn options (cells_of options.look options.header rows) old new)
 
   abbrev pub IsRowsFault : PrintFault → Type 0
-  IsRowsFault fault = MatchBool options.expanded (IsRecordsFault fault) (IsPictureFault options (cells_of options.look rows) fault)
+  IsRowsFault fault = MatchBool options.expanded (IsRecordsFault fault) (IsPictureFault options (cells_of options.look options.header rows) fault)
 
 -- ---- a text
 

@@ -8,7 +8,7 @@ ghost use Rattle.basinmug_picture.specs.Printed.{HasNothing};
 ghost use Rattle.basinmug_run.specs.Runs.{IsOfWriter, IsRecordsFault, PrintsRecords, StopsInRecords, cells_of};
 
 use basinmug_expanded::records_text;
-use basinmug_markdown::markdown_cells;
+use basinmug_markdown::markdown_rows;
 use basinmug_options::{Look, Options};
 use basinmug_picture::{PrintFault, Shown};
 use std::alloc::{AllocError, Global};
@@ -16,16 +16,18 @@ use std::io::Write;
 use tabled_compact::BuildFault;
 use tabled_output::{Counted, write_piece};
 
-/// The rows as cells of a table in this look: those of Markdown are escaped. Fails only where allocation fails.
+/// The rows as cells of a table in this look: those of Markdown are escaped, and have a header. Fails only where
+/// allocation fails.
 pub(crate) fn cells_of(
     alloc: Global,
     rows: Vec<Vec<String>>,
     look: Look,
+    has_header: bool,
 ) -> Result<Vec<Vec<String>>, AllocError>
-    ensures { IfOk result (λ cells. text_rows cells.items ≡ cells_of look (text_rows rows.items)) }
+    ensures { IfOk result (λ cells. text_rows cells.items ≡ cells_of look has_header (text_rows rows.items)) }
 {
     match look {
-        Look::Markdown => markdown_cells(alloc, rows),
+        Look::Markdown => markdown_rows(alloc, rows, has_header),
         Look::Ascii | Look::Modern | Look::Rounded | Look::Extended | Look::Empty => Ok(rows),
     }
 }

@@ -63,6 +63,6 @@ fn print_rows<W: Write>(
     if options.expanded {
         return print_records(alloc, rows, options, writer);
     }
-    let cells = cells_of(alloc, rows, options.look)?;
+    let cells = cells_of(alloc, rows, options.look, options.header)?;
     print(alloc, cells, options, writer)
 }

@@ -1,5 +1,5 @@
-use Rattle.std.proofs.Common.{◌≡◌, ◌∙◌, ap, arith, length, sum, ◌≤◌}
-use Rattle.basinmug_columns.proofs.Sums.{first_floors-length, floors-length, shrunk-below}
+use Rattle.std.proofs.Common.{◌∙◌, ap, arith, length, sum, ◌≤◌}
+use Rattle.basinmug_columns.proofs.Sums.{first_floors-length, shrunk-below}
 use Rattle.basinmug_columns.proofs.rooms.shrink_columns.Goals as goal
 
 pub shrink-requires-clause-leasts : goal.shrink-requires-clause-leasts

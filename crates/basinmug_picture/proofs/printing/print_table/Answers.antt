@@ -22,37 +22,37 @@ returns-in_err-wider-clause-write g c = table-fails c.args.writer.now c.in_err-w
 pub returns-in_err-wider-clause-write_zero : goal.returns-in_err-wider-clause-write_zero
 returns-in_err-wider-clause-write_zero g c = table-takes c.args.writer.now c.in_err-wider.field-0.0 c.from_residual.result c.from_residual.ensures.1
 
-pub returns-in_err-write_lines-clause-front : goal.returns-in_err-write_lines-clause-front
-returns-in_err-write_lines-clause-front g c =
-    err-told c.from_residual-in_err-write_lines.result (of_build c.in_err-write_lines.field-0.0) _ c.from_residual-in_err-write_lines.ensures.1
-    (λ some. inr (state_of {T = List ℕ} (λ text. text) c.make_table.new.table, c.in_ok-wider.ensures.made, c.in_err-write_lines.ensures.front (something-written c.in_err-write_lines.field-0.0 some)))
+pub returns-in_err-write_picture-clause-front : goal.returns-in_err-write_picture-clause-front
+returns-in_err-write_picture-clause-front g c =
+    err-told c.from_residual-in_err-write_picture.result (of_build c.in_err-write_picture.field-0.0) _ c.from_residual-in_err-write_picture.ensures.1
+    (λ some. inr (state_of {T = List ℕ} (λ text. text) c.make_table.new.table, c.in_ok-wider.ensures.made, c.in_err-write_picture.ensures.front (something-written c.in_err-write_picture.field-0.0 some)))
 
-pub returns-in_err-write_lines-clause-untouched : goal.returns-in_err-write_lines-clause-untouched
-returns-in_err-write_lines-clause-untouched g c =
-    err-told c.from_residual-in_err-write_lines.result (of_build c.in_err-write_lines.field-0.0) _ c.from_residual-in_err-write_lines.ensures.1 (λ none. c.in_err-write_lines.ensures.untouched (nothing-written c.in_err-write_lines.field-0.0 none))
+pub returns-in_err-write_picture-clause-untouched : goal.returns-in_err-write_picture-clause-untouched
+returns-in_err-write_picture-clause-untouched g c =
+    err-told c.from_residual-in_err-write_picture.result (of_build c.in_err-write_picture.field-0.0) _ c.from_residual-in_err-write_picture.ensures.1 (λ none. c.in_err-write_picture.ensures.untouched (nothing-written c.in_err-write_picture.field-0.0 none))
 
-pub returns-in_err-write_lines-clause-refused : goal.returns-in_err-write_lines-clause-refused
-returns-in_err-write_lines-clause-refused g c =
+pub returns-in_err-write_picture-clause-refused : goal.returns-in_err-write_picture-clause-refused
+returns-in_err-write_picture-clause-refused g c =
     let options = c.args.options.now in
     let it = c.args.appearance.now in
     let old = state_of {T = List ℕ} (λ text. text) c.args.table.now in
-    err-told c.from_residual-in_err-write_lines.result (of_build c.in_err-write_lines.field-0.0) _ c.from_residual-in_err-write_lines.ensures.1
-    (refusal-by (IsMade options it.settings.items it.numeric.items old) (IsNotMade options it.settings.items it.numeric.items old) (state_of {T = List ℕ} (λ text. text) c.make_table.new.table) c.in_err-write_lines.field-0.0
-    c.in_ok-wider.ensures.made c.in_err-write_lines.ensures.table)
+    err-told c.from_residual-in_err-write_picture.result (of_build c.in_err-write_picture.field-0.0) _ c.from_residual-in_err-write_picture.ensures.1
+    (refusal-by (IsMade options it.settings.items it.numeric.items old) (IsNotMade options it.settings.items it.numeric.items old) (state_of {T = List ℕ} (λ text. text) c.make_table.new.table) c.in_err-write_picture.field-0.0
+    c.in_ok-wider.ensures.made c.in_err-write_picture.ensures.table)
 
-pub returns-in_err-write_lines-clause-write : goal.returns-in_err-write_lines-clause-write
-returns-in_err-write_lines-clause-write g c =
-    fails-told c.args.writer.now c.write_lines.new.writer c.in_err-write_lines.field-0.0 c.from_residual-in_err-write_lines.result c.write_lines.result c.from_residual-in_err-write_lines.ensures.1 c.in_err-write_lines.was c.write_lines.ensures.write
+pub returns-in_err-write_picture-clause-write : goal.returns-in_err-write_picture-clause-write
+returns-in_err-write_picture-clause-write g c =
+    fails-told c.args.writer.now c.write_picture.new.writer c.in_err-write_picture.field-0.0 c.from_residual-in_err-write_picture.result c.write_picture.result c.from_residual-in_err-write_picture.ensures.1 c.in_err-write_picture.was c.write_picture.ensures.write
 
-pub returns-in_err-write_lines-clause-write_zero : goal.returns-in_err-write_lines-clause-write_zero
-returns-in_err-write_lines-clause-write_zero g c =
-    takes-told c.args.writer.now c.write_lines.new.writer c.in_err-write_lines.field-0.0 c.from_residual-in_err-write_lines.result c.write_lines.result c.from_residual-in_err-write_lines.ensures.1 c.in_err-write_lines.was c.write_lines.ensures.write_zero
+pub returns-in_err-write_picture-clause-write_zero : goal.returns-in_err-write_picture-clause-write_zero
+returns-in_err-write_picture-clause-write_zero g c =
+    takes-told c.args.writer.now c.write_picture.new.writer c.in_err-write_picture.field-0.0 c.from_residual-in_err-write_picture.result c.write_picture.result c.from_residual-in_err-write_picture.ensures.1 c.in_err-write_picture.was c.write_picture.ensures.write_zero
 
 pub returns-clause-printed : goal.returns-clause-printed
 returns-clause-printed g c = (
   state_of {T = List ℕ} (λ text. text) c.make_table.new.table,
   c.in_ok-wider.ensures.made,
-  c.in_ok-write_lines.ensures.fits,
+  c.in_ok-write_picture.ensures.fits,
   c.in_ok-wider.ensures.wider,
-  c.in_ok-write_lines.ensures.whole,
+  c.in_ok-write_picture.ensures.whole,
 )

@@ -14,7 +14,7 @@ returns-then-options-clause-printed g c =
     let rows = text_rows c.args.rows.items in
     let old = g.W.Write.contents (inner_of c.args.writer.now) in
     let new = g.W.Write.contents (inner_of c.print_records.new.writer) in
-    ok-first options.expanded c.print_records.result (λ it. PrintsRecords options rows it.wider old new) (λ it. Prints options (cells_of options.look rows) it.wider old new) c.if-options.true c.print_records.ensures.printed
+    ok-first options.expanded c.print_records.result (λ it. PrintsRecords options rows it.wider old new) (λ it. Prints options (cells_of options.look options.header rows) it.wider old new) c.if-options.true c.print_records.ensures.printed
 
 pub returns-then-options-clause-front : goal.returns-then-options-clause-front
 returns-then-options-clause-front g c =
@@ -22,13 +22,13 @@ returns-then-options-clause-front g c =
     let rows = text_rows c.args.rows.items in
     let old = g.W.Write.contents (inner_of c.args.writer.now) in
     let new = g.W.Write.contents (inner_of c.print_records.new.writer) in
-    front-first options.expanded c.print_records.result (λ fault. ¬ (HasNothing fault)) (StopsInRecords options rows old new) (StopsIn options (cells_of options.look rows) old new) c.if-options.true c.print_records.ensures.front
+    front-first options.expanded c.print_records.result (λ fault. ¬ (HasNothing fault)) (StopsInRecords options rows old new) (StopsIn options (cells_of options.look options.header rows) old new) c.if-options.true c.print_records.ensures.front
 
 pub returns-then-options-clause-refused : goal.returns-then-options-clause-refused
 returns-then-options-clause-refused g c =
     let options = c.args.options.now in
     let rows = text_rows c.args.rows.items in
-    err-first options.expanded c.print_records.result (IsRecordsFault options rows) (IsRefusal options (cells_of options.look rows)) c.if-options.true c.print_records.ensures.refused
+    err-first options.expanded c.print_records.result (IsRecordsFault options rows) (IsRefusal options (cells_of options.look options.header rows)) c.if-options.true c.print_records.ensures.refused
 
 pub returns-clause-printed : goal.returns-clause-printed
 returns-clause-printed g c =
@@ -36,7 +36,7 @@ returns-clause-printed g c =
     let rows = text_rows c.args.rows.items in
     let old = g.W.Write.contents (inner_of c.args.writer.now) in
     let new = g.W.Write.contents (inner_of c.print.new.writer) in
-    ok-second options.expanded c.print.result (λ it. PrintsRecords options rows it.wider old new) (λ it. Prints options (cells_of options.look rows) it.wider old new) c.if-options.false
+    ok-second options.expanded c.print.result (λ it. PrintsRecords options rows it.wider old new) (λ it. Prints options (cells_of options.look options.header rows) it.wider old new) c.if-options.false
     (subst (λ (cells : List (List (List ℕ))). IfOk c.print.result (λ it. Prints options cells it.wider old new)) c.in_ok-cells.ensures c.print.ensures.printed)
 
 pub returns-clause-front : goal.returns-clause-front
@@ -45,12 +45,12 @@ returns-clause-front g c =
     let rows = text_rows c.args.rows.items in
     let old = g.W.Write.contents (inner_of c.args.writer.now) in
     let new = g.W.Write.contents (inner_of c.print.new.writer) in
-    front-second options.expanded c.print.result (λ fault. ¬ (HasNothing fault)) (StopsInRecords options rows old new) (StopsIn options (cells_of options.look rows) old new) c.if-options.false
+    front-second options.expanded c.print.result (λ fault. ¬ (HasNothing fault)) (StopsInRecords options rows old new) (StopsIn options (cells_of options.look options.header rows) old new) c.if-options.false
     (subst (λ (cells : List (List (List ℕ))). IfErr c.print.result (λ fault. ¬ (HasNothing fault) → StopsIn options cells old new)) c.in_ok-cells.ensures c.print.ensures.front)
 
 pub returns-clause-refused : goal.returns-clause-refused
 returns-clause-refused g c =
     let options = c.args.options.now in
     let rows = text_rows c.args.rows.items in
-    err-second options.expanded c.print.result (IsRecordsFault options rows) (IsRefusal options (cells_of options.look rows)) c.if-options.false
+    err-second options.expanded c.print.result (IsRecordsFault options rows) (IsRefusal options (cells_of options.look options.header rows)) c.if-options.false
     (subst (λ (cells : List (List (List ℕ))). IfErr c.print.result (IsRefusal options cells)) c.in_ok-cells.ensures c.print.ensures.refused)

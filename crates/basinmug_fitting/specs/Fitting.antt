@@ -1,0 +1,41 @@
+-- What a text becomes in a number of columns that its widest line passes: its lines are cut, or broken between words. A text
+-- is the list of its bytes.
+use Rattle.std.specs.Prelude.{ℕ, ◌-◌, ◌==◌, nat_lt, not, Bool, true, List, [], ◌∷◌, ◌++◌, chars, codes, map, if◌then◌else◌}
+use Rattle.std.specs.List.{filter, join_by, list_any}
+use Rattle.ansi_scan.specs.Pieces.{pieces}
+use Rattle.ansi_str.specs.StyledText.{strip}
+use Rattle.grid_records_measure.specs.TextLines.{line_width, text_lines}
+use Rattle.tabled_size_wrap.specs.Bytes.{cut_at, wrapped_text}
+
+-- lines with a line feed between each two
+abbrev pub joined : List (List ℕ) → List ℕ
+joined lines = join_by (λ line. line) (codes "\n") lines
+
+-- ---- cut
+
+-- U+2026, which stands behind what is cut
+abbrev pub ellipsis : List ℕ
+ellipsis = 0xe2 ∷ 0x80 ∷ 0xa6 ∷ []
+
+-- a line that fits stays, and a wider one is cut, with an ellipsis as its last column
+abbrev pub cut_line : ℕ → List ℕ → List ℕ
+cut_line room line = if nat_lt room (line_width line) then cut_at (room - 1) line ++ ellipsis else line
+
+abbrev pub cut_lines : ℕ → List ℕ → List ℕ
+cut_lines room text = joined (map (cut_line room) (text_lines text))
+
+-- ---- broken between words
+
+-- whether a line shows something but spaces
+abbrev pub is_seen : List ℕ → Bool
+is_seen line = list_any (λ c. not (c == 0x20)) (chars (strip (pieces line)))
+
+abbrev pub seen_if : Bool → List ℕ → List (List ℕ)
+seen_if seen line = if seen then line ∷ [] else []
+
+-- a line broken between words; of the lines that it is broken into those that show something
+abbrev pub broken_line : ℕ → List ℕ → List ℕ
+broken_line room line = joined (filter is_seen (text_lines (wrapped_text room true line)))
+
+abbrev pub wrap_words : ℕ → List ℕ → List ℕ
+wrap_words room text = joined (map (broken_line room) (text_lines text))

@@ -1,0 +1,8 @@
+//! What a text becomes in a column that has less room: it is cut line by line, or broken over lines between words.
+#![tactic(auto)]
+
+mod cutting;
+mod wrapping;
+
+pub use cutting::cut_lines;
+pub use wrapping::wrap_words;

@@ -1,0 +1,66 @@
+//! Texts that are broken over lines.
+ghost use Rattle.std.specs.Prelude.{◌≡◌, ◌++◌, ◌∷◌, [], IfOk, OnOk, if◌then◌else◌, map, string_bytes};
+ghost use Rattle.std.specs.List.{filter};
+ghost use Rattle.grid_records_measure.specs.TextLines.{text_lines};
+ghost use Rattle.basinmug_fitting.specs.Fitting.{broken_line, is_seen, seen_if, wrap_words};
+
+use ansi_str::stripped_chars;
+use grid_records_measure::get_lines;
+use std::alloc::{AllocError, Global};
+use tabled_size_wrap::wrap_styled;
+
+/// A text whose lines are broken at so many columns, between words where these fit. A line that would show nothing but
+/// the spaces at which it was broken is left out. Fails only where allocation fails.
+pub fn wrap_words(alloc: Global, text: &str, room: usize) -> Result<String, AllocError>
+    ensures { IfOk result (λ out. string_bytes out ≡ wrap_words room text.now) }
+{
+    let mut lines = Vec::new(alloc);
+    for line in get_lines(alloc, text) {
+        let line = line?;
+        lines.push(broken_line(alloc, &line, room)?)?;
+    }
+    lines.join(alloc, "\n")
+}
+
+// A line that is broken, over lines that show something; an empty text where none does.
+fn broken_line(alloc: Global, line: &str, room: usize) -> Result<String, AllocError>
+    ensures { IfOk result (λ out. string_bytes out ≡ broken_line room line.now) }
+{
+    let broken = wrap_styled(alloc, line, room, true)?;
+    let seen = seen_lines(alloc, &broken)?;
+    seen.join(alloc, "\n")
+}
+
+// The lines of a text that show something.
+fn seen_lines(alloc: Global, text: &str) -> Result<Vec<String>, AllocError>
+    ensures { IfOk result (λ seen. map string_bytes seen.items ≡ filter is_seen (text_lines text.now)) }
+{
+    let mut seen = Vec::new(alloc);
+    for line in get_lines(alloc, text) {
+        let line = line?;
+        push_if_seen(alloc, &mut seen, &line)?;
+    }
+    Ok(seen)
+}
+
+// Appends a line, if it shows something.
+fn push_if_seen(alloc: Global, seen: &mut Vec<String>, line: &str) -> Result<(), AllocError>
+    ensures { OnOk result (map string_bytes seen.new.items ≡ map string_bytes seen.old.items ++ seen_if (is_seen line.now) line.now) }
+{
+    if is_seen(line) {
+        seen.push(String::from_str(alloc, line)?)?;
+    }
+    Ok(())
+}
+
+// Whether a line shows something but spaces.
+fn is_seen(line: &str) -> bool
+    ensures { result ≡ is_seen line.now }
+{
+    for c in stripped_chars(line) {
+        if c != ' ' {
+            return true;
+        }
+    }
+    false
+}

@@ -1,0 +1,62 @@
+-- What is told when a part of a table that fits is written.
+use Rattle.std.proofs.Common.{◌≡◌, ◌∙◌, sym, Option, None, Some, Result, Ok, Err, inl, inr}
+use Rattle.std.specs.Prelude.{IfErr}
+use Rattle.grid_config_values.specs.declared.fault.Fault.{Fault}
+use Rattle.grid_config_values.specs.declared.fault.Fault.TheVariants.{Memory, Range, Spans, Room}
+use Rattle.grid_config_values.specs.declared.position.Position.{Position}
+use Rattle.papergrid_picture.specs.Picture.{at}
+use Rattle.tabled.specs.Printing.{IsFit}
+use Rattle.tabled.specs.Writing.{HasNoText}
+use Rattle.tabled_compact.specs.Building.{BuildRefusal, writing_fault}
+use Rattle.tabled_compact.specs.declared.fault.BuildFault.{BuildFault}
+use Rattle.tabled_compact.specs.declared.fault.BuildFault.TheVariants.{Table as OfTable, Write, WriteZero}
+use Rattle.tabled_output.specs.declared.writing.WriteFault.{WriteFault}
+use Rattle.tabled_output.specs.declared.writing.WriteFault.TheVariants.{Write as WriteFailed, WriteZero as WriterTookNothing}
+use Rattle.tabled_steps.specs.States.{State}
+use Rattle.basinmug_picture.specs.Printed.{IsLate}
+
+abbrev none-wide : Option Position
+none-wide = None
+
+-- a table fits or it does not
+fits-once : (s : State) (fault : Fault) → IsFit s (Ok tt) → ¬ (IsFit s (Err fault))
+fits-once s Memory fit out = out
+fits-once s Range fit out = out.1 fit.1
+fits-once s Spans fit out = out fit.0
+fits-once s (Room row column) fit out = let it : none-wide ≡ Some (at row column) = sym fit.2 ∙ out.2 in cc it
+
+late : (s : State) (fault : BuildFault) → IsFit s (Ok tt) → BuildRefusal (IsFit s (Ok tt)) (IsFit s) fault → IsLate fault
+late s (OfTable why) fit (inl is) = is
+late s (OfTable why) fit (inr out) = absurd (fits-once s why fit out)
+late s Write fit out = tt
+late s WriteZero fit out = tt
+
+pub late-told : (s : State) (r : Result (Unit {0}) BuildFault) → IsFit s (Ok tt) → IfErr r (BuildRefusal (IsFit s (Ok tt)) (IsFit s)) → IfErr r IsLate
+late-told s (Ok done) fit out = tt
+late-told s (Err fault) fit out = late s fault fit out
+
+refused : (s : State) (fault : BuildFault) → IsFit s (Ok tt) → IsLate fault → BuildRefusal (IsFit s (Ok tt)) (IsFit s) fault
+refused s (OfTable why) fit is = inl is
+refused s Write fit is = fit
+refused s WriteZero fit is = fit
+
+pub refused-late : (s : State) (r : Result (Unit {0}) BuildFault) → IsFit s (Ok tt) → IfErr r IsLate → IfErr r (BuildRefusal (IsFit s (Ok tt)) (IsFit s))
+refused-late s (Ok done) fit out = tt
+refused-late s (Err fault) fit out = refused s fault fit out
+
+-- something may be written before such a fault
+pub begun : (fault : BuildFault) → IsLate fault → ¬ (HasNoText fault)
+begun (OfTable Memory) is none = none
+begun (OfTable Range) is none = let it : Range ≡ Memory = is in cc it
+begun (OfTable Spans) is none = let it : Spans ≡ Memory = is in cc it
+begun (OfTable (Room row column)) is none = let it : Room row column ≡ Memory = is in cc it
+begun Write is none = none
+begun WriteZero is none = none
+
+pub never-nothing : (P : Type 0) (r : Result (Unit {0}) BuildFault) → IfErr r IsLate → IfErr r (λ fault. HasNoText fault → P)
+never-nothing P (Ok done) out = tt
+never-nothing P (Err fault) out = λ none. absurd (begun fault out none)
+
+pub late-writing : (fault : WriteFault) → IsLate (writing_fault fault)
+late-writing WriteFailed = tt
+late-writing WriterTookNothing = tt

@@ -1,0 +1,109 @@
+//! A table in a document: its header, the rule below it, and its records.
+ghost use Rattle.std.specs.Io.KnownBytes.{Appends};
+ghost use Rattle.std.specs.Prelude.{◌≡◌, IfErr, IfOk, IsErrOf, Ok, OnOk, string_bytes};
+ghost use Rattle.grid_config_values.specs.declared.fault.Fault.TheVariants.{Memory};
+ghost use Rattle.tabled.specs.Printing.{IsFit};
+ghost use Rattle.tabled.specs.Tables.{state_of};
+ghost use Rattle.tabled.specs.Writing.{HasNoText};
+ghost use Rattle.tabled_compact.specs.Building.{BuildRefusal};
+ghost use Rattle.tabled_output.specs.Counts.{FailsIff, OnlyWrites, TakesNothingIff, inner_of};
+ghost use Rattle.tabled_output.specs.Streams.{AppendsFront};
+ghost use Rattle.basinmug_picture.specs.Documents.{below_header, document_text, header_alignments, rule};
+ghost use Rattle.basinmug_picture.specs.Printed.{IsLate};
+
+use crate::printing::write_lines;
+use basinmug_markdown::delimiter_row;
+use grid_config::AlignmentHorizontal;
+use std::alloc::{AllocError, Global};
+use std::io::Write;
+use tabled::{BuildFault, Counted, Fault, Place, Position, Table, Wanted};
+use tabled_output::write_piece;
+
+/// A part of a table in a document.
+#[derive(Clone, Copy)]
+pub(crate) enum Part {
+    /// The first row.
+    Header,
+    /// The rows below it.
+    Records,
+}
+
+impl Wanted for Part {
+    ghost use Rattle.basinmug_picture.specs.Documents.{is_of};
+
+    ghost wants = { is_of };
+
+    fn is_wanted(&self, place: Place) -> bool {
+        match (self, place) {
+            (Part::Header, Place::Row(row)) => row == 0,
+            (Part::Records, Place::Row(row)) => row > 0,
+            (_, Place::Boundary(_) | Place::Outside) => false,
+        }
+    }
+}
+
+/// Writes a table as a document has it, and then a text: the lines of its header, the rule below it, the lines of its
+/// records. It gives up as `build_lines` does.
+pub(crate) fn write_document<W: Write>(
+    alloc: Global,
+    table: &Table,
+    more: &str,
+    writer: &mut Counted<W>,
+) -> Result<(), BuildFault>
+    ensures whole { OnOk result (Appends (W.contents (inner_of writer.old)) (W.contents (inner_of writer.new)) (document_text more.now (state_of (λ text. text) table.now))) }
+    ensures front { IfErr result (λ fault. ¬ (HasNoText fault) →
+        AppendsFront (W.contents (inner_of writer.old)) (W.contents (inner_of writer.new)) (document_text more.now (state_of (λ text. text) table.now))) }
+    ensures untouched { IfErr result (λ fault. HasNoText fault → writer.new ≡ writer.old) }
+    ensures fits { OnOk result (IsFit (state_of (λ text. text) table.now) (Ok tt)) }
+    ensures table { IfErr result (BuildRefusal (IsFit (state_of (λ text. text) table.now) (Ok tt)) (IsFit (state_of (λ text. text) table.now))) }
+    ensures write { FailsIff (IsErrOf result BuildFault.Write) writer.old writer.new }
+    ensures write_zero { TakesNothingIff (IsErrOf result BuildFault.WriteZero) writer.old writer.new }
+    ensures only_writes { OnlyWrites writer.old writer.new }
+{
+    table.build_lines(writer, &Part::Header)?;
+    write_below_header(alloc, table, more, writer)
+}
+
+// Writes the rule of a table that fits, the lines of its records, and then a text.
+fn write_below_header<W: Write>(
+    alloc: Global,
+    table: &Table,
+    more: &str,
+    writer: &mut Counted<W>,
+) -> Result<(), BuildFault>
+    requires fits { IsFit (state_of (λ text. text) table.now) (Ok tt) }
+    ensures whole { OnOk result (Appends (W.contents (inner_of writer.old)) (W.contents (inner_of writer.new)) (below_header more.now (state_of (λ text. text) table.now))) }
+    ensures front { AppendsFront (W.contents (inner_of writer.old)) (W.contents (inner_of writer.new)) (below_header more.now (state_of (λ text. text) table.now)) }
+    ensures late { IfErr result IsLate }
+    ensures write { FailsIff (IsErrOf result BuildFault.Write) writer.old writer.new }
+    ensures write_zero { TakesNothingIff (IsErrOf result BuildFault.WriteZero) writer.old writer.new }
+    ensures only_writes { OnlyWrites writer.old writer.new }
+{
+    let rule = rule_of(alloc, table)?;
+    write_piece(writer, rule.as_bytes())?;
+    write_lines(table, &Part::Records, more, writer)
+}
+
+// The rule below the header of a table that fits. Fails only where allocation fails.
+fn rule_of(alloc: Global, table: &Table) -> Result<String, Fault>
+    requires fits { IsFit (state_of (λ text. text) table.now) (Ok tt) }
+    ensures rule { IfOk result (λ text. string_bytes text ≡ rule (state_of (λ text. text) table.now)) }
+    ensures refused { IfErr result (λ fault. fault ≡ Memory) }
+{
+    let widths = table.widths()?;
+    let alignments = header_alignments(alloc, table)?;
+    Ok(delimiter_row(alloc, &alignments, &widths)?)
+}
+
+// Where the header's texts stand, column by column. Fails only where allocation fails.
+fn header_alignments(alloc: Global, table: &Table) -> Result<Vec<AlignmentHorizontal>, AllocError>
+    ensures { IfOk result (λ made. made.items ≡ header_alignments (state_of (λ text. text) table.now)) }
+{
+    let config = table.get_config().spanned();
+    let columns = table.count_columns();
+    let mut alignments = Vec::with_capacity(alloc, columns)?;
+    for column in 0..columns {
+        alignments.push(config.get_alignment_horizontal(Position::new(0, column)))?;
+    }
+    Ok(alignments)
+}
