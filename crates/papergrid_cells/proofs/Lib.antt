@@ -2,5 +2,4 @@ mod PrintedGlyphs
 pub mod KeptLines
 pub mod PlainLines
 mod Spaces
-mod WrittenTexts
 pub mod EmptyRows

@@ -1,21 +1,15 @@
 //! The line of a row of empty cells, over which the texts of a row are written.
-ghost use Rattle.std.specs.Prelude.{◌≡◌, ◌+◌, OnOk, length, string_bytes};
+ghost use Rattle.std.specs.Prelude.{◌≡◌, ◌+◌, ◌<◌, ◌^◌, OnOk, length, string_bytes};
 ghost use Rattle.std.specs.List.{replace_range};
-ghost use Rattle.std.specs.Option.{option_map};
-ghost use Rattle.grid_config.specs.Colors.{color_of};
-ghost use Rattle.papergrid_picture.specs.Tables.{in_color};
-ghost use Rattle.papergrid_cells.specs.Painting.{colored, prefix_of, suffix_of};
-ghost use Rattle.papergrid_cells.specs.Spaces.{HasSpaces};
+ghost use Rattle.std.specs.String.Boundary.{IsSplitPoint};
 
-use grid_config::ANSIStr;
 use std::alloc::AllocError;
 
-/// Where the text of a column may stand in the line of a row of empty cells: in `width` columns and the `shade`
-/// bytes of its colour, which begin `rest` bytes before the end of the line.
+/// Where the text of a column may stand in the line of a row of empty cells: in `width` columns, which
+/// begin `rest` bytes before the end of the line.
 #[derive(Clone, Copy)]
 pub struct Room {
     pub width: usize,
-    pub shade: usize,
     pub rest: usize,
 }
 
@@ -26,81 +20,13 @@ pub struct EmptyRow {
     pub rooms: Vec<Room>,
 }
 
-/// How many bytes a colour takes around this text: none where that is empty.
-#[inline(always)]
-pub fn shade_of(color: Option<ANSIStr<'_>>, text: &str) -> usize
-    ensures { result + length text.now ≡ length (colored (option_map color_of color.entry) text.now) }
-{
-    if text.is_empty() {
-        return 0;
-    }
-    color_len(color)
-}
-
-/// How many bytes a colour takes around any other text.
-#[inline(always)]
-pub fn color_len(color: Option<ANSIStr<'_>>) -> usize
-    ensures { result ≡ length (prefix_of (option_map color_of color.entry)) + length (suffix_of (option_map color_of color.entry)) }
-{
-    match color {
-        Some(color) => color.get_prefix().len() + color.get_suffix().len(),
-        None => 0,
-    }
-}
-
-/// Writes a text in its colour over as many spaces, from `start` on. Fails only where allocation fails.
-#[inline(always)]
-pub fn write_over(
-    out: &mut String,
-    start: usize,
-    text: &str,
-    color: Option<ANSIStr<'_>>,
-) -> Result<(), AllocError>
-    requires spaces { HasSpaces (string_bytes out.old) start (length (colored (option_map color_of color) text.now)) }
-    ensures { OnOk result (let shown = colored (option_map color_of color.entry) text.now in
-        string_bytes out.new ≡ replace_range (string_bytes out.old) start (start + length shown) shown) }
-{
-    let Some(color) = color else {
-        return write_plain(out, start, text);
-    };
-    if text.is_empty() {
-        return Ok(());
-    }
-    write_colored(out, start, text, color)
-}
-
-// The same in no colour.
+/// Writes a text over as many bytes, from `start` on. Fails only where allocation fails.
 // It stands apart, so that the compiler sees once for all that nothing behind the text moves.
 #[inline(never)]
-fn write_plain(out: &mut String, start: usize, text: &str) -> Result<(), AllocError>
-    requires spaces { HasSpaces (string_bytes out.old) start (length text.now) }
-    ensures { OnOk result (string_bytes out.new ≡ replace_range (string_bytes out.old) start (start + length text.now) text.now) }
-{
-    write_bytes(out, start, text)
-}
-
-// The same in this colour.
-#[inline(never)]
-fn write_colored(
-    out: &mut String,
-    start: usize,
-    text: &str,
-    color: ANSIStr<'_>,
-) -> Result<(), AllocError>
-    requires spaces { HasSpaces (string_bytes out.old) start (length (in_color (color_of color) text.now)) }
-    ensures { OnOk result (let shown = in_color (color_of color.entry) text.now in
-        string_bytes out.new ≡ replace_range (string_bytes out.old) start (start + length shown) shown) }
-{
-    let (prefix, suffix) = (color.get_prefix(), color.get_suffix());
-    write_bytes(out, start, prefix)?;
-    write_bytes(out, start + prefix.len(), text)?;
-    write_bytes(out, start + prefix.len() + text.len(), suffix)
-}
-
-// Writes these bytes over as many spaces.
-#[inline(always)]
-fn write_bytes(out: &mut String, start: usize, text: &str) -> Result<(), AllocError>
-    requires spaces { HasSpaces (string_bytes out.old) start (length text.now) }
+pub fn write_over(out: &mut String, start: usize, text: &str) -> Result<(), AllocError>
+    requires range { start + length text.now < 2 ^ 64 }
+    requires start { IsSplitPoint (string_bytes out.old) start }
+    requires end { IsSplitPoint (string_bytes out.old) (start + length text.now) }
     ensures { OnOk result (string_bytes out.new ≡ replace_range (string_bytes out.old) start (start + length text.now) text.now) }
 {
     out.replace_range(start..start + text.len(), text)

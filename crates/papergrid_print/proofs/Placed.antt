@@ -1,7 +1,7 @@
 -- Texts in their columns show what the picture shows, where all cells of a table have the same settings but for their
 -- alignment.
-use Rattle.std.proofs.Common.{◌≡◌, ℕ, ◌+◌, ◌<◌, List, ◌++◌, Option, None, Some, drop, get_or, length, refl, ap, subst, ◌∙◌, append_assoc}
-use Rattle.std.specs.Prelude.{⊤, MatchOption, slice_index}
+use Rattle.std.proofs.Common.{◌≡◌, ℕ, ◌+◌, ◌<◌, List, ◌++◌, Option, drop, get_or, length, refl, ap, subst, ◌∙◌, append_assoc}
+use Rattle.std.specs.Prelude.{slice_index}
 use Rattle.grid_config.specs.Colors.{Color}
 use Rattle.grid_config_values.specs.declared.position.Position.{Position}
 use Rattle.grid_config.specs.Looks.{look_of}
@@ -9,8 +9,7 @@ use Rattle.grid_records_traits.specs.Cells.{HasLineCount, HasWidth, IsLineAt}
 use Rattle.grid_records_traits.specs.Rows.{text_at}
 use Rattle.papergrid_picture.specs.Blocks.{greatest}
 use Rattle.papergrid_picture.specs.Picture.{at}
-use Rattle.papergrid_cells.specs.Flat.{AreFlat, AreFlatRows, IsEmptyRow, IsSomeEmptyRow, Standing, empty_from, joint_behind, joints_of, placed, standing_of}
-use Rattle.papergrid_cells.specs.declared.empty_row.EmptyRow.{EmptyRow}
+use Rattle.papergrid_cells.specs.Flat.{AreFlat, AreFlatRows, Standing, empty_from, joint_behind, joints_of, placed, standing_of}
 use Rattle.papergrid_cells.specs.declared.flat.FlatRows.{FlatRows}
 use Rattle.papergrid_print.specs.FlatSheets.{first_placed, row_front}
 use Rattle.papergrid_print.specs.Sheets.{Sheet, bytes_of, grid_of}
@@ -36,18 +35,13 @@ module _ (sheet : Sheet) (flat : AreFlat sheet.settings) (pos : Position) (stand
 
 -- ---- the line of a row of empty cells
 
--- that for some colours is one
-pub some-empty : (rows : FlatRows) (widths shades : List ℕ) (made : Option EmptyRow) → MatchOption made ⊤ (IsEmptyRow rows widths shades) → MatchOption made ⊤ (IsSomeEmptyRow rows widths)
-some-empty rows widths shades None is = is
-some-empty rows widths shades (Some empty) is = (shades, is)
-
 -- one column more: a text is written over its room
-module _ (sheet : Sheet) (flat : AreFlat sheet.settings) (rows : FlatRows) (are : AreFlatRows (look_of sheet.settings) (length sheet.widths) rows) (shades : List ℕ) (i j : ℕ) (begin : List ℕ) where
+module _ (sheet : Sheet) (flat : AreFlat sheet.settings) (rows : FlatRows) (are : AreFlatRows (look_of sheet.settings) (length sheet.widths) rows) (i j : ℕ) (begin : List ℕ) where
   abbrev stands_own : Standing
   stands_own = standing_of rows ((look_of sheet.settings).alignment_horizontal (at i j))
 
   abbrev behind_front : ℕ → List ℕ
-  behind_front k = empty_from (joints_of rows) shades (length sheet.widths) k (drop k sheet.widths)
+  behind_front k = empty_from (joints_of rows) (length sheet.widths) k (drop k sheet.widths)
 
   pub written-more : {new : List ℕ} (shown : List ℕ) → i < length sheet.heights → j < length sheet.widths → get_or sheet.heights i 0 ≡ 1
       → shown ≡ first_placed sheet stands_own (at i j)

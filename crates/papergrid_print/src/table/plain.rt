@@ -4,7 +4,7 @@ ghost use Rattle.grid_config.specs.Looks.{look_of};
 ghost use Rattle.grid_records_traits.specs.PlainTexts.{plain_texts};
 ghost use Rattle.grid_records_traits.specs.Rows.{row_at};
 ghost use Rattle.papergrid_picture.specs.Frame.{Row, track_at};
-ghost use Rattle.papergrid_cells.specs.Flat.{AreFlat, AreFlatRows, HasEmptyRow, IsSomeEmptyRow};
+ghost use Rattle.papergrid_cells.specs.Flat.{AreFlat, AreFlatRows, HasEmptyRow, IsEmptyRow};
 ghost use Rattle.papergrid_print.specs.FlatSheets.{row_front};
 ghost use Rattle.papergrid_print.specs.Sheets.{line_at, row_tracks, table_sheet};
 
@@ -12,7 +12,7 @@ use super::Table;
 use crate::colors::Colors;
 use grid_config_values::Position;
 use grid_records_traits::{PeekableRecords, PlainRow};
-use papergrid_cells::{EmptyRow, FlatRows, shade_of, write_over};
+use papergrid_cells::{EmptyRow, FlatRows, write_over};
 use std::alloc::AllocError;
 
 impl<'a, R: PeekableRecords, C: Colors> Table<'a, R, C> {
@@ -77,7 +77,7 @@ impl<'a, R: PeekableRecords, C: Colors> Table<'a, R, C> {
     }
 
     // The same by the line of a row of empty cells: each text is written over its room there, up to the
-    // first that takes other columns than bytes, or has no room, or none for its colour alone.
+    // first that is in a colour, takes other than its bytes, or has no room.
     #[inline(always)]
     fn push_over(
         &self,
@@ -93,7 +93,7 @@ impl<'a, R: PeekableRecords, C: Colors> Table<'a, R, C> {
         requires high { slice_index self.now.heights.now i ≡ 1 }
         requires columns { 0 < length self.now.widths.now }
         requires cells { plain_texts cells ≡ row_at (R.rows self.now.records.now) i }
-        requires empty { IsSomeEmptyRow flat.now self.now.widths.now empty.now }
+        requires empty { IsEmptyRow flat.now self.now.widths.now empty.now }
         ensures front { IfOk result (λ column. string_bytes out.new ≡ string_bytes out.old ++ row_front (table_sheet R.rows C.color self.now) i column) }
         ensures inside { IfOk result (λ column. column ≤ length self.now.widths.now) }
     {
@@ -105,13 +105,12 @@ impl<'a, R: PeekableRecords, C: Colors> Table<'a, R, C> {
             let color = self.colors.get_color(pos);
             let start = out.len() - room.rest;
             let width = cell.text.len();
-            let shade = shade_of(color, cell.text);
-            if room.shade != shade || cell.width != width || room.width < width {
+            if color.is_some() || cell.width != width || room.width < width {
                 out.truncate(start);
                 return Ok(j);
             }
             let indent = flat.indent(self.cfg, pos, room.width - width);
-            write_over(out, start + indent, cell.text, color)?;
+            write_over(out, start + indent, cell.text)?;
         }
         Ok(columns)
     }
