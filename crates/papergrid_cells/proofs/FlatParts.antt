@@ -8,7 +8,7 @@ use Rattle.grid_config_values.specs.Glyphs.{BoundaryKind, First, Between, Last, 
 use Rattle.grid_config.specs.Colors.{color_of}
 use Rattle.grid_config.specs.Looks.{Look, look_of}
 use Rattle.grid_config.specs.Settings.{Settings}
-use Rattle.papergrid_picture.specs.Blocks.{greatest}
+use Rattle.papergrid_picture.specs.Blocks.{free_left, greatest}
 use Rattle.papergrid_picture.specs.Picture.{blank}
 use Rattle.papergrid_cells.specs.BlockLines.{alone_bytes, text_of}
 use Rattle.papergrid_cells.specs.Boundaries.{upright_bytes}
@@ -87,7 +87,14 @@ module _ (settings : Settings) (flat : AreFlat settings) where
   -- the line of a text between its paddings
   text-line-is : (cell : OpenCell) (k : ℕ) → alone_bytes own_look cell (Text k) ≡ left_padding own_look cell.pos
       ++ (placed (standing own_look cell.pos) cell.width (slice_index (measures_of cell.lines) k) (greatest (measures_of cell.lines)) (option_map color_of cell.color) (text_of cell k) ++ right_padding own_look cell.pos)
-  text-line-is cell k = five _ _ _ _ _ refl refl refl refl refl
+  text-line-is cell k =
+      let look = own_look in
+      let pos = cell.pos in
+      let room = cell.width - (look.padding pos).left.size - (look.padding pos).right.size in
+      let measure = slice_index (measures_of cell.lines) k in
+      let indent = free_left (look.alignment_horizontal pos) (room - (cond (look.line_alignment pos) measure (greatest (measures_of cell.lines)))) in
+      let free : ℕ → List ℕ = λ n. colored (look.justification_color pos) (fill_bytes (look.justification pos) n) in
+      five (left_padding look pos) (free indent) (colored (option_map color_of cell.color) (text_of cell k)) (free (room - indent - measure)) (right_padding look pos) refl refl refl refl refl
 
   -- both are the boundary before a cell and its line
   pub part-is : (columns : ℕ) (rows : FlatRows) (cell : OpenCell) (k : ℕ) → AreFlatRows own_look columns rows → cell.pos.col < columns
