@@ -1,10 +1,10 @@
 -- A column of a row, by what rows have in common.
-use Rattle.std.proofs.Common.{◌≡◌, ℕ, ◌+◌, ◌-◌, ◌<◌, true, false, cond, List, [], ◌++◌, refl, ap, sym, ◌∙◌, arith, append_assoc, append-nil, string_bytes}
+use Rattle.std.proofs.Common.{◌≡◌, ℕ, ◌-◌, ◌<◌, true, false, cond, List, [], ◌++◌, refl, ap, sym, ◌∙◌, arith, append_assoc, append-nil, string_bytes}
 use Rattle.std.specs.Prelude.{◌==◌, slice_index, unwrap_or}
 use Rattle.std.specs.Option.{option_map}
 use Rattle.std.proofs.lemmas.Bool.Decides.{nat_tests}
 use Rattle.grid_config_values.specs.declared.position.Position.{Position}
-use Rattle.grid_config_values.specs.Glyphs.{BoundaryKind, First, Between, Last, boundary_kind, has_column_boundary, in_row}
+use Rattle.grid_config_values.specs.Glyphs.{First, Between, Last, boundary_kind, has_column_boundary, in_row}
 use Rattle.grid_config.specs.Colors.{color_of}
 use Rattle.grid_config.specs.Looks.{Look, look_of}
 use Rattle.grid_config.specs.Settings.{Settings}

@@ -1,5 +1,5 @@
 -- Rows of one line show what the picture shows, where all cells of a table have the same settings but for their alignment.
-use Rattle.std.proofs.Common.{◌≡◌, ℕ, zero, suc, ◌+◌, ◌-◌, ◌<◌, ◌≤◌, true, false, cond, List, [], ◌∷◌, ◌++◌, Option, length, map, max, take, get_or, refl, ap, sym, ◌∙◌, arith, append_assoc, append-nil, string_bytes}
+use Rattle.std.proofs.Common.{◌≡◌, ℕ, zero, suc, ◌+◌, ◌-◌, ◌<◌, ◌≤◌, true, false, cond, List, [], ◌∷◌, ◌++◌, Option, length, map, max, take, get_or, refl, ap, sym, ◌∙◌, arith, append_assoc, string_bytes}
 use Rattle.std.specs.Prelude.{◌==◌, nat_lt, slice_index, unwrap_or}
 use Rattle.std.proofs.lemmas.Bool.Decides.{nat_tests}
 use Rattle.std.proofs.lemmas.List.Concat.{flat_map-append}
@@ -17,7 +17,7 @@ use Rattle.grid_records_traits.proofs.TextAnswers.{line_of_text, line_width_of_t
 use Rattle.grid_config_values.specs.declared.alignment.AlignmentVertical.{AlignmentVertical}
 use Rattle.grid_config_values.specs.declared.alignment.AlignmentVertical.TheVariants.{Top, Center as Middle, Bottom}
 use Rattle.grid_config_values.specs.declared.position.Position.{Position}
-use Rattle.grid_config_values.specs.Glyphs.{BoundaryKind, First, Between, Last, along_column, boundary_kind, crossing, has_column_boundary, in_row}
+use Rattle.grid_config_values.specs.Glyphs.{BoundaryKind, along_column, boundary_kind, crossing, has_column_boundary, in_row}
 use Rattle.grid_config_spans.specs.declared.extent.Extent.{Extent}
 use Rattle.grid_config_spans.specs.Owners.{owner}
 use Rattle.grid_config_spans.specs.Spans.{extent_at, single}
@@ -31,7 +31,7 @@ use Rattle.papergrid_picture.specs.Reading.{line_items, painted, part_items}
 use Rattle.papergrid_picture.proofs.Frames.{boundary-behind, boundary-next}
 use Rattle.papergrid_cells.specs.BlockLines.{kind_at, line_kind, line_parts}
 use Rattle.papergrid_cells.specs.Boundaries.{upright_bytes}
-use Rattle.papergrid_cells.specs.Flat.{AreFlat, AreFlatRows, Standing, behind_boundary, first_cell, left_margin, left_padding, placed, right_margin, right_padding, spaced_text, standing, standing_of}
+use Rattle.papergrid_cells.specs.Flat.{AreFlat, AreFlatRows, behind_boundary, first_cell, left_margin, left_padding, placed, right_margin, right_padding, spaced_text, standing, standing_of}
 use Rattle.papergrid_print.specs.FlatSheets.{first_placed, row_front}
 use Rattle.papergrid_cells.specs.Painting.{colored, fill_bytes}
 use Rattle.papergrid_print.specs.Sheets.{GoesOn, Sheet, bytes_of, grid_of, line_at, plain_bytes, row_tracks}
