@@ -1,5 +1,5 @@
 -- Spans of some cells, set one after the other.
-use Rattle.std.proofs.Common.{◌≡◌, ◌||◌, ◌==◌, ℕ, Bool, true, false, cond, List, [], ◌∷◌, length, Option, Ok, Err, refl, ap, sym, ◌∙◌, arith}
+use Rattle.std.proofs.Common.{◌≡◌, ◌≢◌, ◌||◌, ◌==◌, ℕ, Bool, true, false, cond, List, [], ◌∷◌, length, Option, Ok, Err, refl, ap, sym, ◌∙◌, arith}
 use Rattle.std.proofs.Math.Path.{fun_ext}
 use Rattle.std.proofs.lemmas.Bool.Decides.{nat_tests}
 use Rattle.grid_config_values.specs.Entities.{covered_positions}
@@ -47,6 +47,10 @@ module _ (change : Extent → Extent) (again : (extent : Extent) → change (cha
 twice : (of : Tracks) (n : ℕ) (extent : Extent) → taking of n (taking of n extent) ≡ taking of n extent
 twice Columns n extent = refl
 twice Rows n extent = refl
+
+-- what is not 0 is told apart from it
+pub not-zero : (n : ℕ) → n ≢ 0 → (n == 0) ≡ false
+not-zero n some = grind (arith, nat_tests, some)
 
 -- the step of a span, by settings in which it is set at each place
 pub spanned_state : (span : Span) (at : Entity) (rows : List (List (List ℕ))) (colors : Position → Option Color) (sizes : Stored) (old changed : Settings) (m n : ℕ) → m ≡ length rows → n ≡ column_count rows → (span_size span == 0) ≡ false →
