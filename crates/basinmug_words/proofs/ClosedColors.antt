@@ -22,17 +22,34 @@ listed-closes : (list : List ℕ) (color : Color) → listed_colors list ≡ Som
 listed-closes list color is = (subst (λ (given : Option (List (ℕ × Color))). IfSome given (AllByRecursion (λ item. IsClosing item.1))) is (lists-close list)).0
 
 names-close : AllByRecursion (λ (row : List ℕ × Color). IsClosing row.1) named_colors
-names-close =
-    (listed-closes (codes "0=black") (sequences (codes "\u{1b}[30m") (codes "\u{1b}[39m")) refl,
-    (listed-closes (codes "0=red") (sequences (codes "\u{1b}[31m") (codes "\u{1b}[39m")) refl,
-    (listed-closes (codes "0=green") (sequences (codes "\u{1b}[32m") (codes "\u{1b}[39m")) refl,
-    (listed-closes (codes "0=yellow") (sequences (codes "\u{1b}[33m") (codes "\u{1b}[39m")) refl,
-    (listed-closes (codes "0=blue") (sequences (codes "\u{1b}[34m") (codes "\u{1b}[39m")) refl,
-    (listed-closes (codes "0=magenta") (sequences (codes "\u{1b}[35m") (codes "\u{1b}[39m")) refl,
-    (listed-closes (codes "0=cyan") (sequences (codes "\u{1b}[36m") (codes "\u{1b}[39m")) refl,
-    (listed-closes (codes "0=white") (sequences (codes "\u{1b}[37m") (codes "\u{1b}[39m")) refl,
-    (listed-closes (codes "0=bold") (sequences (codes "\u{1b}[1m") (codes "\u{1b}[22m")) refl,
-    (listed-closes (codes "0=underline") (sequences (codes "\u{1b}[4m") (codes "\u{1b}[24m")) refl, tt))))))))))
+names-close = (
+  listed-closes (codes "0=black") (sequences (codes "\u{1b}[30m") (codes "\u{1b}[39m")) refl,
+  (
+    listed-closes (codes "0=red") (sequences (codes "\u{1b}[31m") (codes "\u{1b}[39m")) refl,
+    (
+      listed-closes (codes "0=green") (sequences (codes "\u{1b}[32m") (codes "\u{1b}[39m")) refl,
+      (
+        listed-closes (codes "0=yellow") (sequences (codes "\u{1b}[33m") (codes "\u{1b}[39m")) refl,
+        (
+          listed-closes (codes "0=blue") (sequences (codes "\u{1b}[34m") (codes "\u{1b}[39m")) refl,
+          (
+            listed-closes (codes "0=magenta") (sequences (codes "\u{1b}[35m") (codes "\u{1b}[39m")) refl,
+            (
+              listed-closes (codes "0=cyan") (sequences (codes "\u{1b}[36m") (codes "\u{1b}[39m")) refl,
+              (
+                listed-closes (codes "0=white") (sequences (codes "\u{1b}[37m") (codes "\u{1b}[39m")) refl,
+                (
+                  listed-closes (codes "0=bold") (sequences (codes "\u{1b}[1m") (codes "\u{1b}[22m")) refl,
+                  (listed-closes (codes "0=underline") (sequences (codes "\u{1b}[4m") (codes "\u{1b}[24m")) refl, tt),
+                ),
+              ),
+            ),
+          ),
+        ),
+      ),
+    ),
+  ),
+)
 
 found-closes : (rows : List (List ℕ × Color)) (test : List ℕ × Color → Bool) → AllByRecursion (λ (row : List ℕ × Color). IsClosing row.1) rows
     → IfSome (option_map (λ (row : List ℕ × Color). row.1) (find test rows)) IsClosing
