@@ -5,7 +5,8 @@ ghost use Rattle.basinmug_expanded.specs.Records.{ended, first_rows, left_out, m
 /// Rows behind the names of their fields, of which the short ones are filled.
 pub fn names_by_hand()
     ensures header { named_rows true ((codes "a" ∷ codes "b" ∷ []) ∷ (codes "1" ∷ []) ∷ []) ≡ (codes "a" ∷ codes "b" ∷ []) ∷ (codes "1" ∷ [] ∷ []) ∷ [] }
-    ensures numbers { named_rows false ((codes "x" ∷ []) ∷ (codes "y" ∷ codes "z" ∷ []) ∷ []) ≡ (codes "0" ∷ codes "1" ∷ []) ∷ (codes "x" ∷ [] ∷ []) ∷ (codes "y" ∷ codes "z" ∷ []) ∷ [] }
+    ensures numbers { named_rows false ((codes "x" ∷ []) ∷ (codes "y" ∷ codes "z" ∷ []) ∷ [])
+        ≡ (codes "0" ∷ codes "1" ∷ []) ∷ (codes "x" ∷ [] ∷ []) ∷ (codes "y" ∷ codes "z" ∷ []) ∷ [] }
     ensures no_rows { named_rows false [] ≡ [] }
 {}
 
