@@ -15,11 +15,12 @@ ghost use Rattle.basinmug_picture.specs.Printed.{HasNothing, IsRefusal, IsTableF
 ghost use Rattle.basinmug_picture.specs.Rows.{shown_count};
 
 use crate::appearance::{Appearance, appearance_of};
+use crate::cells::cells_of;
 use crate::documents::write_document;
 use crate::fault::PrintFault;
 use crate::lines::{RuledLines, below};
 use crate::narrowing::{narrow_if_asked, run_settings};
-use crate::rows::{has_header, is_markdown, shown_count};
+use crate::rows::{is_markdown, shown_count};
 use basinmug_options::{Look, Options};
 use std::alloc::Global;
 use std::io::Write;
@@ -33,10 +34,11 @@ pub struct Shown {
     pub wider: bool,
 }
 
-/// Prints rows as a table, of which the first is the header where the options say so, and in a document always: at
-/// most so many records, in the settings of `specs/Pictures.antt`, the lines between rows that are asked, or in a
-/// document the rule below the header, and below them how many rows are left out. It gives up with `NoColumn` where a name is in no column of the header, and as a table that is
-/// written does; nothing is written before its table is made. Nothing is flushed.
+/// Prints rows as a table, of which the first is the header where the options say so: at most so many records, in the
+/// settings of `specs/Pictures.antt`, the lines between rows that are asked, and below them how many rows are left out. A
+/// document always has a header, which is empty where the rows have none, and the rule below it; it is never broken, so
+/// that it is as wide as its text whatever is asked. It gives up with `NoColumn` where a name is in no column of the
+/// header, and as a table that is written does; nothing is written before its table is made. Nothing is flushed.
 pub fn print<W: Write>(
     alloc: Global,
     rows: Vec<Vec<String>>,
@@ -44,25 +46,25 @@ pub fn print<W: Write>(
     writer: &mut Counted<W>,
 ) -> Result<Shown, PrintFault>
     ensures printed { IfOk result (λ shown. Prints options.now (text_rows rows.items) shown.wider (W.contents (inner_of writer.old)) (W.contents (inner_of writer.new))) }
-    ensures front { IfErr result (λ fault. ¬ (HasNothing fault) → StopsIn options.now (text_rows rows.items) (W.contents (inner_of writer.old)) (W.contents (inner_of writer.new))) }
+    ensures front { IfErr result (λ fault. ¬ (HasNothing fault) → StopsIn options.now (text_rows rows.items) fault (W.contents (inner_of writer.old)) (W.contents (inner_of writer.new))) }
     ensures untouched { IfErr result (λ fault. HasNothing fault → writer.new ≡ writer.old) }
     ensures refused { IfErr result (IsRefusal options.now (text_rows rows.items)) }
     ensures write { FailsIff (IsErrOf result (PrintFault.Table BuildFault.Write)) writer.old writer.new }
     ensures write_zero { TakesNothingIff (IsErrOf result (PrintFault.Table BuildFault.WriteZero)) writer.old writer.new }
     ensures only_writes { OnlyWrites writer.old writer.new }
 {
-    let is_headed = has_header(options);
-    let shown = shown_rows(rows, is_headed, options.max_rows);
+    let shown = shown_rows(rows, options.header, options.max_rows);
     let (rows, left_out) = shown;
     let lines = RuledLines {
         rules: options.rules,
-        header: is_headed,
+        header: options.header,
         rows: rows.len(),
     };
     let more = below(alloc, options.look, left_out)?;
     let texts = rows.as_slice();
     let appearance = appearance_of(alloc, texts, options)?;
-    let builder = Builder::from_vec(rows);
+    let cells = cells_of(alloc, rows, options.look, options.header)?;
+    let builder = Builder::from_vec(cells);
     let mut table = Table::from_builder(builder)?;
     let ending = more.as_str();
     let outcome = print_table(
@@ -112,7 +114,7 @@ fn print_table<W: Write>(
     ensures front { IfErr result (λ fault. ¬ (HasNothing fault) → StopsInTable
         (IsMade options.now appearance.now.settings.items appearance.now.numeric.items (state_of (λ text. text) table.old))
         (picture_text options.now.look lines.now.rules lines.now.header lines.now.rows more.now)
-        (W.contents (inner_of writer.old)) (W.contents (inner_of writer.new))) }
+        fault (W.contents (inner_of writer.old)) (W.contents (inner_of writer.new))) }
     ensures untouched { IfErr result (λ fault. HasNothing fault → writer.new ≡ writer.old) }
     ensures refused { IfErr result (IsTableFault
         (IsMade options.now appearance.now.settings.items appearance.now.numeric.items (state_of (λ text. text) table.old))

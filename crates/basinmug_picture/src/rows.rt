@@ -1,16 +1,9 @@
 //! The rows of a picture: a header, and records.
 ghost use Rattle.std.specs.Prelude.{◌≡◌, map, string_bytes};
 ghost use Rattle.tabled_text.specs.Rows.{longest, text_rows};
-ghost use Rattle.basinmug_picture.specs.Rows.{has_header, header_of, header_rows, is_markdown, records_of, shown_count};
+ghost use Rattle.basinmug_picture.specs.Rows.{header_of, header_rows, is_markdown, records_of, shown_count};
 
-use basinmug_options::{Look, Options};
-
-/// Whether the first row is a header: where the options say so, and in a document always.
-pub(crate) fn has_header(options: &Options) -> bool
-    ensures { result ≡ has_header options.now }
-{
-    options.header || is_markdown(options.look)
-}
+use basinmug_options::Look;
 
 /// Whether a look is that of a table in a document.
 pub(crate) fn is_markdown(look: Look) -> bool

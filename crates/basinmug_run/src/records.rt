@@ -1,36 +1,19 @@
-//! Records one below the other, and cells of Markdown: the texts of rows that are no cells of a terminal's table.
+//! Records one below the other.
 ghost use Rattle.std.specs.Io.KnownBytes.{Appends};
 ghost use Rattle.std.specs.Prelude.{◌≡◌, IfErr, IfOk, IsErrOf, OnOk};
 ghost use Rattle.tabled_output.specs.Counts.{FailsIff, OnlyWrites, TakesNothingIff, inner_of};
 ghost use Rattle.tabled_output.specs.Streams.{AppendsFront};
 ghost use Rattle.tabled_text.specs.Rows.{text_rows};
 ghost use Rattle.basinmug_picture.specs.Printed.{HasNothing};
-ghost use Rattle.basinmug_run.specs.Runs.{IsOfWriter, IsRecordsFault, PrintsRecords, StopsInRecords, cells_of};
+ghost use Rattle.basinmug_run.specs.Runs.{IsOfWriter, IsRecordsFault, PrintsRecords, StopsInRecords};
 
 use basinmug_expanded::records_text;
-use basinmug_markdown::markdown_rows;
-use basinmug_options::{Look, Options};
+use basinmug_options::Options;
 use basinmug_picture::{PrintFault, Shown};
-use std::alloc::{AllocError, Global};
+use std::alloc::Global;
 use std::io::Write;
 use tabled_compact::BuildFault;
 use tabled_output::{Counted, write_piece};
-
-/// The rows as cells of a table in this look: those of Markdown are escaped, and have a header. Fails only where
-/// allocation fails.
-pub(crate) fn cells_of(
-    alloc: Global,
-    rows: Vec<Vec<String>>,
-    look: Look,
-    has_header: bool,
-) -> Result<Vec<Vec<String>>, AllocError>
-    ensures { IfOk result (λ cells. text_rows cells.items ≡ cells_of look has_header (text_rows rows.items)) }
-{
-    match look {
-        Look::Markdown => markdown_rows(alloc, rows, has_header),
-        Look::Ascii | Look::Modern | Look::Rounded | Look::Extended | Look::Empty => Ok(rows),
-    }
-}
 
 /// Prints rows as records one below the other, which no width narrows. Refused as `Table(Table(Range))` where a line
 /// is wider than can be counted, and as `Memory` where allocation fails, and then nothing is written; else the writer

@@ -3,3 +3,4 @@ pub mod Commands
 pub mod OneMore
 pub mod ColumnsMet
 pub mod NotNamed
+mod ClosedColors

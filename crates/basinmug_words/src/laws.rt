@@ -1,12 +1,15 @@
 //! Command lines worked by hand: what the command makes of their words. The functions do nothing.
-ghost use Rattle.std.specs.Prelude.{◌≡◌, ◌∷◌, [], Some, None, codes};
+ghost use Rattle.std.specs.Prelude.{◌≡◌, ◌∷◌, ℕ, List, [], Option, Some, None, codes};
+ghost use Rattle.std.specs.List.{AllByRecursion};
+ghost use Rattle.papergrid_colors.specs.ClosingColors.{IsClosing};
 ghost use Rattle.clap.specs.declared.error.kind.ErrorKind.TheVariants.{ArgumentConflict, DisplayHelp, DisplayVersion, InvalidValue, UnknownArgument};
 ghost use Rattle.columns_color_list.specs.Names.{sequences};
-ghost use Rattle.basinmug_words.specs.Asking.{alignments_asked, colors_asked, delimiter_asked, file_asked, refusal_of, rows_asked, table_width, width_asked};
+ghost use Rattle.basinmug_words.specs.Asking.{IsRead, alignments_asked, colors_asked, delimiter_asked, file_asked, refusal_of, rows_asked, table_width, width_asked};
 ghost use Rattle.basinmug_words.specs.Command.{IsBasinmug};
 ghost use Rattle.basinmug_words.specs.Lists.{Numbered, Titled};
 ghost use Rattle.command_options.specs.Names.{named};
 ghost use Rattle.basinmug_words.specs.Names.{looks, priorities, rules};
+ghost use Rattle.basinmug_words.specs.declared.words.Plan.{Plan as Read};
 ghost use Rattle.basinmug_words.specs.Worked.{Finds, Gives, basinmug_by_hand};
 
 use crate::words::WidthAsked;
@@ -91,4 +94,9 @@ pub fn values_that_are_none()
     ensures too_great { alignments_asked (Some (codes "4294967296=left")) ≡ None }
     ensures first { refusal_of (λ _. Some (codes "x")) ≡ Some (codes "basinmug: bad number of rows") }
     ensures none { refusal_of (λ _. None) ≡ None }
+{}
+
+/// Each colour that is read for a run clears what it sets.
+pub fn colors_that_are_read_close()
+    ensures { (given : List ℕ → Option (List ℕ)) (plan : Read) → IsRead given plan → AllByRecursion (λ pair. IsClosing pair.1) plan.options.colors.items }
 {}

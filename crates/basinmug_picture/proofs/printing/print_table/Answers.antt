@@ -3,7 +3,7 @@ use Rattle.std.proofs.Common.{inr, ℕ, List}
 use Rattle.tabled.specs.Tables.{state_of}
 use Rattle.basinmug_picture.specs.Faults.{of_build, of_table}
 use Rattle.basinmug_picture.specs.Pictures.{IsMade, IsNotMade}
-use Rattle.basinmug_picture.proofs.Faults.{no-table, nothing-written, refusal-by, something-written}
+use Rattle.basinmug_picture.proofs.Faults.{fits-before, no-table, nothing-written, refusal-by, something-written}
 use Rattle.basinmug_picture.proofs.Narrowed.{err-told}
 use Rattle.basinmug_picture.proofs.Written.{fails-told, table-fails, table-takes, takes-told}
 use Rattle.basinmug_picture.proofs.printing.print_table.Goals as goal
@@ -25,7 +25,12 @@ returns-in_err-wider-clause-write_zero g c = table-takes c.args.writer.now c.in_
 pub returns-in_err-write_picture-clause-front : goal.returns-in_err-write_picture-clause-front
 returns-in_err-write_picture-clause-front g c =
     err-told c.from_residual-in_err-write_picture.result (of_build c.in_err-write_picture.field-0.0) _ c.from_residual-in_err-write_picture.ensures.1
-    (λ some. inr (state_of {T = List ℕ} (λ text. text) c.make_table.new.table, c.in_ok-wider.ensures.made, c.in_err-write_picture.ensures.front (something-written c.in_err-write_picture.field-0.0 some)))
+    (λ some. inr (
+      state_of {T = List ℕ} (λ text. text) c.make_table.new.table,
+      c.in_ok-wider.ensures.made,
+      fits-before (state_of {T = List ℕ} (λ text. text) c.make_table.new.table) c.in_err-write_picture.field-0.0 some c.in_err-write_picture.ensures.table,
+      c.in_err-write_picture.ensures.front (something-written c.in_err-write_picture.field-0.0 some),
+    ))
 
 pub returns-in_err-write_picture-clause-untouched : goal.returns-in_err-write_picture-clause-untouched
 returns-in_err-write_picture-clause-untouched g c =

@@ -22,7 +22,7 @@ pub returns-in_err-write_text-clause-front : goal.returns-in_err-write_text-clau
 returns-in_err-write_text-clause-front g c =
     let options = c.args.options.now in
     let text = subst (λ (it : List ℕ). IsRecordsText options.header options.max_rows (text_rows c.args.rows.items) it) (sym c.as_str.ensures.value) c.in_ok-text.ensures.text in
-    err-told c.from_residual-in_err-write_text.result (of_build c.in_err-write_text.field-0.0) _ c.from_residual-in_err-write_text.ensures.1 (λ some. inr (c.as_str.result.now, text, c.in_err-write_text.ensures.front))
+    err-told c.from_residual-in_err-write_text.result (of_build c.in_err-write_text.field-0.0) _ c.from_residual-in_err-write_text.ensures.1 (λ some. inr (c.in_ok-text.ensures.fits, (c.as_str.result.now, text, c.in_err-write_text.ensures.front)))
 
 pub returns-in_err-write_text-clause-untouched : goal.returns-in_err-write_text-clause-untouched
 returns-in_err-write_text-clause-untouched g c =
@@ -32,7 +32,7 @@ returns-in_err-write_text-clause-untouched g c =
 pub returns-in_err-write_text-clause-refused : goal.returns-in_err-write_text-clause-refused
 returns-in_err-write_text-clause-refused g c =
     err-told c.from_residual-in_err-write_text.result (of_build c.in_err-write_text.field-0.0) _ c.from_residual-in_err-write_text.ensures.1
-    (by-writer c.args.options.now (text_rows c.args.rows.items) c.in_err-write_text.field-0.0 c.in_err-write_text.ensures.refused)
+    (by-writer c.args.options.now (text_rows c.args.rows.items) c.in_err-write_text.field-0.0 c.in_ok-text.ensures.fits c.in_err-write_text.ensures.refused)
 
 pub returns-in_err-write_text-clause-write : goal.returns-in_err-write_text-clause-write
 returns-in_err-write_text-clause-write g c =
@@ -46,6 +46,7 @@ pub returns-clause-printed : goal.returns-clause-printed
 returns-clause-printed g c =
     let options = c.args.options.now in (
       refl,
+      c.in_ok-text.ensures.fits,
       (
         c.as_str.result.now,
         subst (λ (it : List ℕ). IsRecordsText options.header options.max_rows (text_rows c.args.rows.items) it) (sym c.as_str.ensures.value) c.in_ok-text.ensures.text,
