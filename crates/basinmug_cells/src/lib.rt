@@ -1,0 +1,9 @@
+//! Cells of a table that borrow their texts where they can.
+#![tactic(auto)]
+
+mod field;
+pub mod laws;
+mod texts;
+
+pub use field::{Field, Plain};
+pub use texts::{fields_of, texts_of};
