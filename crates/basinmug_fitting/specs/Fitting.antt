@@ -17,9 +17,13 @@ joined lines = join_by (λ line. line) (codes "\n") lines
 abbrev pub ellipsis : List ℕ
 ellipsis = 0xe2 ∷ 0x80 ∷ 0xa6 ∷ []
 
--- a line that fits stays, and a wider one is cut, with an ellipsis as its last column
+-- a line that is wider than so many columns: an ellipsis is the last of them; no columns have nothing
+abbrev pub shortened : ℕ → List ℕ → List ℕ
+shortened room line = if room == 0 then [] else cut_at (room - 1) line ++ ellipsis
+
+-- a line that fits stays, and a wider one is cut
 abbrev pub cut_line : ℕ → List ℕ → List ℕ
-cut_line room line = if nat_lt room (line_width line) then cut_at (room - 1) line ++ ellipsis else line
+cut_line room line = if nat_lt room (line_width line) then shortened room line else line
 
 abbrev pub cut_lines : ℕ → List ℕ → List ℕ
 cut_lines room text = joined (map (cut_line room) (text_lines text))

@@ -1,13 +1,13 @@
 //! Texts that are cut line by line.
 ghost use Rattle.std.specs.Prelude.{◌≡◌, IfOk, string_bytes};
-ghost use Rattle.basinmug_fitting.specs.Fitting.{cut_line, cut_lines};
+ghost use Rattle.basinmug_fitting.specs.Fitting.{cut_line, cut_lines, shortened};
 
 use grid_records_measure::{get_line_width, get_lines};
 use std::alloc::{AllocError, Global};
 use tabled_size_wrap::cut_styled;
 
 /// A text whose lines fit so many columns: a line that fits stays, and a wider one is cut, with an ellipsis as its last
-/// column. Fails only where allocation fails.
+/// column. In no columns nothing of a wider line is left. Fails only where allocation fails.
 pub fn cut_lines(alloc: Global, text: &str, room: usize) -> Result<String, AllocError>
     ensures { IfOk result (λ out. string_bytes out ≡ cut_lines room text.now) }
 {
@@ -26,7 +26,17 @@ fn cut_line(alloc: Global, line: &str, room: usize) -> Result<String, AllocError
     if get_line_width(line) <= room {
         return String::from_str(alloc, line);
     }
-    let cut = cut_styled(alloc, line, room.saturating_sub(1))?;
+    shortened(alloc, line, room)
+}
+
+// A line that is wider than so many columns, cut to them.
+fn shortened(alloc: Global, line: &str, room: usize) -> Result<String, AllocError>
+    ensures { IfOk result (λ out. string_bytes out ≡ shortened room line.now) }
+{
+    if room == 0 {
+        return Ok(String::new(alloc));
+    }
+    let cut = cut_styled(alloc, line, room - 1)?;
     let mut out = String::from_str(alloc, &cut)?;
     out.push_str("…")?;
     Ok(out)

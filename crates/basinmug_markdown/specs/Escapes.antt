@@ -1,6 +1,9 @@
 -- A text as a cell of a table of Markdown (GitHub Flavored Markdown, "Tables"): a bar would end the cell and a line feed
 -- the table, and a backslash before a bar takes the bar's meaning. A text is the list of its bytes.
 use Rattle.std.specs.Prelude.{ℕ, ◌==◌, List, chars, codes, encode_utf8, flat_map, if◌then◌else◌}
+use Rattle.ansi_scan.specs.Joining.{is_text_kind}
+use Rattle.ansi_scan.specs.Pieces.{pieces}
+use Rattle.ansi_scan.specs.Sequences.{Piece}
 
 -- a character, or what stands for it
 abbrev pub escaped_char : ℕ → List ℕ
@@ -10,6 +13,14 @@ escaped_char c =
     else if c == 0x0a then codes "<br>"
     else encode_utf8 c
 
--- a text, each of its characters escaped
+-- the bytes of characters outside sequences
+abbrev pub escaped_text : List ℕ → List ℕ
+escaped_text characters = flat_map escaped_char characters
+
+-- a piece of a text: a sequence stays as it is
+abbrev pub escaped_piece : Piece → List ℕ
+escaped_piece piece = if is_text_kind piece.kind then escaped_text (chars piece.bytes) else piece.bytes
+
+-- a text
 abbrev pub escaped : List ℕ → List ℕ
-escaped text = flat_map escaped_char (chars text)
+escaped text = flat_map escaped_piece (pieces text)

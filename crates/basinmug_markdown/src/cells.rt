@@ -1,13 +1,15 @@
 //! Texts whose bars, backslashes and line feeds are escaped.
-ghost use Rattle.std.specs.Prelude.{◌≡◌, ◌++◌, IfOk, OnOk, map, string_bytes};
+ghost use Rattle.std.specs.Prelude.{◌≡◌, ◌++◌, IfOk, OnOk, chars, map, string_bytes};
 ghost use Rattle.tabled_text.specs.Rows.{text_rows};
 ghost use Rattle.basinmug_markdown.specs.Documents.{with_header};
-ghost use Rattle.basinmug_markdown.specs.Escapes.{escaped, escaped_char};
+ghost use Rattle.basinmug_markdown.specs.Escapes.{escaped, escaped_char, escaped_text};
 
+use ansi_scan::{Kind, scan};
 use std::alloc::{AllocError, Global};
 
 /// The rows, with each text as a cell of a table of Markdown: a backslash before each bar and each backslash, and
-/// `<br>` for each line feed. Fails only where allocation fails.
+/// `<br>` for each line feed, but none of this in an escape sequence, which stays as it is. Fails only where
+/// allocation fails.
 pub fn markdown_cells(alloc: Global, rows: Vec<Vec<String>>) -> Result<Vec<Vec<String>>, AllocError>
     ensures { IfOk result (λ cells. text_rows cells.items ≡ map (map escaped) (text_rows rows.items)) }
 {
@@ -40,24 +42,38 @@ fn escaped_row(alloc: Global, row: Vec<String>) -> Result<Vec<String>, AllocErro
 {
     let mut out = Vec::with_capacity(alloc, row.len())?;
     for text in row {
-        out.push(escaped_text(alloc, text.as_str())?)?;
+        out.push(escaped(alloc, text.as_str())?)?;
     }
     Ok(out)
 }
 
-// A text, each of its characters escaped.
-fn escaped_text(alloc: Global, text: &str) -> Result<String, AllocError>
+// A text, each of its characters escaped but those of its sequences.
+fn escaped(alloc: Global, text: &str) -> Result<String, AllocError>
     ensures { IfOk result (λ out. string_bytes out ≡ escaped text.now) }
 {
     let mut out = String::with_capacity(alloc, text.len())?;
-    for c in text.chars() {
-        push_escaped(&mut out, c)?;
+    for item in scan(text) {
+        let bytes = &text[item.start..item.end];
+        match item.kind {
+            Kind::Text => push_escaped(&mut out, bytes)?,
+            _ => out.push_str(bytes)?,
+        }
     }
     Ok(out)
 }
 
+// Appends a text without sequences, each of its characters escaped.
+fn push_escaped(out: &mut String, text: &str) -> Result<(), AllocError>
+    ensures { OnOk result (string_bytes out.new ≡ string_bytes out.old ++ escaped_text (chars text.now)) }
+{
+    for c in text.chars() {
+        push_escaped_char(out, c)?;
+    }
+    Ok(())
+}
+
 // Appends a character, or its escape.
-fn push_escaped(out: &mut String, c: char) -> Result<(), AllocError>
+fn push_escaped_char(out: &mut String, c: char) -> Result<(), AllocError>
     ensures { OnOk result (string_bytes out.new ≡ string_bytes out.old ++ escaped_char c) }
 {
     match c {

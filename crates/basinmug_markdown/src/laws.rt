@@ -5,7 +5,7 @@ ghost use Rattle.grid_config_values.specs.declared.alignment.AlignmentHorizontal
 ghost use Rattle.basinmug_markdown.specs.Documents.{delimiter_row, with_header};
 ghost use Rattle.basinmug_markdown.specs.Escapes.{escaped};
 
-/// Each kind of escape, and what stays.
+/// Each kind of escape, and what stays: a bar in a sequence, as that of a link's address, does.
 pub fn escapes_by_hand()
     ensures nothing { escaped [] ≡ [] }
     ensures plain { escaped (codes "a b<c") ≡ codes "a b<c" }
@@ -13,6 +13,7 @@ pub fn escapes_by_hand()
     ensures backslash { escaped (codes "c\\d") ≡ codes "c\\\\d" }
     ensures both { escaped (codes "\\|") ≡ codes "\\\\\\|" }
     ensures lines { escaped (codes "two\nlines\n") ≡ codes "two<br>lines<br>" }
+    ensures sequence { escaped (0x1b ∷ codes "]8;;a|b" ++ 0x07 ∷ codes "c|d") ≡ 0x1b ∷ codes "]8;;a|b" ++ 0x07 ∷ codes "c\\|d" }
     ensures past_ascii { escaped (0xe6 ∷ 0xbc ∷ 0xa2 ∷ codes "|") ≡ 0xe6 ∷ 0xbc ∷ 0xa2 ∷ codes "\\|" }
 {}
 

@@ -10,7 +10,7 @@ use Rattle.tabled_compact.specs.declared.fault.BuildFault.{BuildFault}
 use Rattle.tabled_compact.specs.declared.fault.BuildFault.TheVariants.{Table as OfTable, Write, WriteZero}
 use Rattle.tabled_steps.specs.States.{State}
 use Rattle.basinmug_picture.specs.Faults.{of_build, of_table}
-use Rattle.basinmug_picture.specs.Printed.{HasNothing, IsTableFault}
+use Rattle.basinmug_picture.specs.Printed.{FitsBefore, HasNothing, IsTableFault}
 use Rattle.basinmug_picture.specs.declared.fault.PrintFault.TheVariants.{Table, Memory}
 
 module _ (Makes : State → Type 0) (NotMade : Fault → Type 0) where
@@ -18,20 +18,29 @@ module _ (Makes : State → Type 0) (NotMade : Fault → Type 0) where
   pub no-table : (fault : Fault) → (fault ≡ OutOfMemory) ⊎ NotMade fault → IsTableFault Makes NotMade (of_table fault)
   no-table OutOfMemory out = tt
   no-table Range (inl is) = absurd (let it : Range ≡ OutOfMemory = is in cc it)
-  no-table Range (inr out) = inl (Range, refl, out)
+  no-table Range (inr out) = (inl (Range, refl, out), λ is. let it : OfTable Range ≡ OfTable OutOfMemory = is in cc it)
   no-table Spans (inl is) = absurd (let it : Spans ≡ OutOfMemory = is in cc it)
-  no-table Spans (inr out) = inl (Spans, refl, out)
+  no-table Spans (inr out) = (inl (Spans, refl, out), λ is. let it : OfTable Spans ≡ OfTable OutOfMemory = is in cc it)
   no-table (Room row column) (inl is) = absurd (let it : Room row column ≡ OutOfMemory = is in cc it)
-  no-table (Room row column) (inr out) = inl (Room row column, refl, out)
+  no-table (Room row column) (inr out) = (inl (Room row column, refl, out), λ is. let it : OfTable (Room row column) ≡ OfTable OutOfMemory = is in cc it)
 
   -- a table that is made is not written
   pub refusal-by : (s : State) (fault : BuildFault) → Makes s → BuildRefusal (IsFit s (Ok tt)) (IsFit s) fault → IsTableFault Makes NotMade (of_build fault)
   refusal-by s (OfTable OutOfMemory) made out = tt
-  refusal-by s (OfTable Range) made out = inr (s, made, out)
-  refusal-by s (OfTable Spans) made out = inr (s, made, out)
-  refusal-by s (OfTable (Room row column)) made out = inr (s, made, out)
-  refusal-by s Write made out = inr (s, made, out)
-  refusal-by s WriteZero made out = inr (s, made, out)
+  refusal-by s (OfTable Range) made out = (inr (s, made, out), λ is. let it : OfTable Range ≡ OfTable OutOfMemory = is in cc it)
+  refusal-by s (OfTable Spans) made out = (inr (s, made, out), λ is. let it : OfTable Spans ≡ OfTable OutOfMemory = is in cc it)
+  refusal-by s (OfTable (Room row column)) made out = (inr (s, made, out), λ is. let it : OfTable (Room row column) ≡ OfTable OutOfMemory = is in cc it)
+  refusal-by s Write made out = (inr (s, made, out), λ is. let it : Write ≡ OfTable OutOfMemory = is in cc it)
+  refusal-by s WriteZero made out = (inr (s, made, out), λ is. let it : WriteZero ≡ OfTable OutOfMemory = is in cc it)
+
+-- a table of which a front is written fits, but where memory ran out
+pub fits-before : (s : State) (fault : BuildFault) → ¬ (HasNothing (of_build fault)) → BuildRefusal (IsFit s (Ok tt)) (IsFit s) fault → FitsBefore (of_build fault) s
+fits-before s (OfTable OutOfMemory) some out = tt
+fits-before s (OfTable Range) some out = absurd (some tt)
+fits-before s (OfTable Spans) some out = absurd (some tt)
+fits-before s (OfTable (Room row column)) some out = absurd (some tt)
+fits-before s Write some out = out
+fits-before s WriteZero some out = out
 
 pub write-named : (fault : BuildFault) → of_build fault ≡ Table Write → fault ≡ Write
 write-named (OfTable OutOfMemory) is = absurd (let it : Memory ≡ Table Write = is in cc it)

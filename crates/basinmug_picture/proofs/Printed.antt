@@ -1,20 +1,21 @@
 -- What is printed of rows, by what is printed of their table.
-use Rattle.std.proofs.Common.{◌≡◌, ◌∙◌, ◌≤◌, ◌-◌, ap, subst, sym, ℕ, List, [], Bool, Option, None, Some, Result, Ok, Err, arith, length, map, min}
-use Rattle.std.specs.Prelude.{IfErr, IfOk, Vec, string_bytes, vec_items}
+use Rattle.std.proofs.Common.{◌≡◌, ◌∙◌, ◌≤◌, ◌-◌, ap, subst, sym, ℕ, List, [], Bool, Option, None, Some, Result, Ok, Err, arith, inl, inr, length, map, min}
+use Rattle.std.specs.Prelude.{IfErr, IfOk, Vec, vec_items}
 use Rattle.std.specs.declared.alloc.Global.{Global}
-use Rattle.std.specs.declared.string.String.{String}
+use Rattle.basinmug_cells.specs.Fields.{field_rows, field_text}
+use Rattle.basinmug_cells.specs.declared.field.Field.{Field}
 use Rattle.std.proofs.lemmas.List.{length-map, length-take}
 use Rattle.grid_config_values.specs.declared.fault.Fault.{Fault}
 use Rattle.tabled.specs.Tables.{new_state}
 use Rattle.tabled_list.specs.declared.setting.Setting.{Setting}
 use Rattle.tabled_steps.specs.States.{State}
-use Rattle.tabled_text.specs.Rows.{filled, text_rows}
+use Rattle.tabled_text.specs.Rows.{filled}
 use Rattle.basinmug_options.specs.declared.options.Options.{Options}
 use Rattle.basinmug_picture.specs.Lines.{below, picture_text}
 use Rattle.basinmug_picture.specs.Names.{IsFirstMissing}
 use Rattle.basinmug_picture.specs.Pictures.{HasNoTable, IsMade, IsNotMade, IsTable, looks_of, missing_of, numeric_of}
-use Rattle.basinmug_picture.specs.Printed.{IsRefusal, IsTableFault, Prints, PrintsTable, shown, shown_rows, text_of}
-use Rattle.basinmug_picture.specs.Rows.{has_header, shown_count}
+use Rattle.basinmug_picture.specs.Printed.{HasNothing, IsRefusal, IsTableFault, Prints, PrintsTable, StopsIn, StopsInTable, shown, shown_rows, text_of}
+use Rattle.basinmug_picture.specs.Rows.{cells_of, shown_count}
 use Rattle.basinmug_picture.specs.declared.fault.PrintFault.{PrintFault}
 use Rattle.basinmug_picture.specs.declared.fault.PrintFault.TheVariants.{NoColumn, Table, Memory}
 use Rattle.basinmug_picture.specs.declared.printing.Shown.{Shown}
@@ -26,11 +27,11 @@ shown-below header (Some most) rows = omega arith
 
 module _ (options : Options) (rows : List (List (List ℕ))) where
   -- as many rows as are shown
-  pub length-shown : (items : List (Vec (String Global) Global)) (len : ℕ) → len ≡ length items → text_rows items ≡ shown_rows options rows → len ≡ shown options rows
+  pub length-shown : (items : List (Vec Field Global)) (len : ℕ) → len ≡ length items → field_rows items ≡ shown_rows options rows → len ≡ shown options rows
   length-shown items len is are =
-      let below = shown-below (has_header options) options.max_rows (length rows) in
+      let below = shown-below options.header options.max_rows (length rows) in
       let taken : length (shown_rows options rows) ≡ min (shown options rows) (length rows) = length-take (shown options rows) rows in
-      let all : len ≡ length (shown_rows options rows) = is ∙ sym (length-map items (λ row. map string_bytes (vec_items row))) ∙ ap length are in
+      let all : len ≡ length (shown_rows options rows) = is ∙ sym (length-map items (λ row. map field_text (vec_items row))) ∙ ap length are in
       omega (arith, below, taken, all)
 
   -- a name that is missing
@@ -52,29 +53,39 @@ module _ (options : Options) (rows : List (List (List ℕ))) where
   refusal-named (Table fault) named out = (named, out)
   refusal-named Memory named out = tt
 
+  -- a front of it is written, and each named column is in it
+  begins-named : (fault : PrintFault) (old new : Option (List ℕ)) → missing_of options (shown_rows options rows) ≡ [] → StopsInTable (IsTable options (shown_rows options rows)) (text_of options rows) fault old new
+      → StopsIn options rows fault old new
+  begins-named fault old new named (inl none) = inl none
+  begins-named fault old new named (inr front) = inr (named, front)
+
+  pub stops-named : (r : Result Shown PrintFault) (old new : Option (List ℕ)) → missing_of options (shown_rows options rows) ≡ []
+      → IfErr r (λ fault. ¬ (HasNothing fault) → StopsInTable (IsTable options (shown_rows options rows)) (text_of options rows) fault old new) → IfErr r (λ fault. ¬ (HasNothing fault) → StopsIn options rows fault old new)
+  stops-named (Ok it) old new named stops = tt
+  stops-named (Err fault) old new named stops = λ some. begins-named fault old new named (stops some)
+
   pub refused-named : (r : Result Shown PrintFault) → missing_of options (shown_rows options rows) ≡ []
       → IfErr r (IsTableFault (IsTable options (shown_rows options rows)) (HasNoTable options (shown_rows options rows))) → IfErr r (IsRefusal options rows)
   refused-named (Ok it) named out = tt
   refused-named (Err fault) named out = refusal-named fault named out
 
-module _ (options : Options) (rows : List (List (List ℕ))) (settings : List Setting) (numeric : List Bool) (first : State) (headed : Bool) (count : ℕ) (line : List ℕ)
+module _ (options : Options) (rows : List (List (List ℕ))) (settings : List Setting) (numeric : List Bool) (first : State) (count : ℕ) (line : List ℕ)
     (P : (State → Type 0) → (Fault → Type 0) → (State → List ℕ) → Type 0) where
   abbrev text_by : Bool → ℕ → List ℕ → State → List ℕ
   text_by = picture_text options.look options.rules
 
   -- what holds of the table that is made holds of the table of the rows that are shown
-  pub printed-by : settings ≡ looks_of options (shown_rows options rows) → numeric ≡ numeric_of (has_header options) (shown_rows options rows) → first ≡ new_state (filled (shown_rows options rows))
-      → headed ≡ has_header options → count ≡ shown options rows → line ≡ below options.look (length rows - shown options rows)
-      → P (IsMade options settings numeric first) (IsNotMade options settings numeric first) (text_by headed count line)
+  pub printed-by : settings ≡ looks_of options (shown_rows options rows) → numeric ≡ numeric_of options.header (shown_rows options rows) → first ≡ new_state (filled (cells_of options.look options.header (shown_rows options rows)))
+      → count ≡ shown options rows → line ≡ below options.look (length rows - shown options rows)
+      → P (IsMade options settings numeric first) (IsNotMade options settings numeric first) (text_by options.header count line)
       → P (IsTable options (shown_rows options rows)) (HasNoTable options (shown_rows options rows)) (text_of options rows)
-  printed-by are numbers made is_headed counted lined given =
+  printed-by are numbers made counted lined given =
       let rows_shown = shown_rows options rows in
       let all = looks_of options rows_shown in
-      let which = numeric_of (has_header options) rows_shown in
-      let text = text_by headed count line in
+      let which = numeric_of options.header rows_shown in
+      let text = text_by options.header count line in
       let looked = subst (λ (it : List Setting). P (IsMade options it numeric first) (IsNotMade options it numeric first) text) are given in
       let numbered = subst (λ (it : List Bool). P (IsMade options all it first) (IsNotMade options all it first) text) numbers looked in
       let begun = subst (λ (it : State). P (IsMade options all which it) (IsNotMade options all which it) text) made numbered in
-      let by_header = subst (λ (it : Bool). P (IsTable options rows_shown) (HasNoTable options rows_shown) (text_by it count line)) is_headed begun in
-      let by_count = subst (λ (it : ℕ). P (IsTable options rows_shown) (HasNoTable options rows_shown) (text_by (has_header options) it line)) counted by_header in
-      subst (λ (it : List ℕ). P (IsTable options rows_shown) (HasNoTable options rows_shown) (text_by (has_header options) (shown options rows) it)) lined by_count
+      let by_count = subst (λ (it : ℕ). P (IsTable options rows_shown) (HasNoTable options rows_shown) (text_by options.header it line)) counted begun in
+      subst (λ (it : List ℕ). P (IsTable options rows_shown) (HasNoTable options rows_shown) (text_by options.header (shown options rows) it)) lined by_count

@@ -12,8 +12,8 @@ use Rattle.basinmug_numbers.specs.Columns.{is_numeric}
 use Rattle.basinmug_options.specs.declared.options.Options.{Options}
 use Rattle.basinmug_picture.specs.Looks.{looks}
 use Rattle.basinmug_picture.specs.Narrowing.{IsNotNarrowed, Narrows}
-use Rattle.basinmug_picture.specs.Pictures.{IsMade, IsNotMade, looks_of, numeric_of}
-use Rattle.basinmug_picture.specs.Rows.{has_header, header_of, records_of}
+use Rattle.basinmug_picture.specs.Pictures.{IsMade, IsNotMade, looks_of, narrowed_to, numeric_of}
+use Rattle.basinmug_picture.specs.Rows.{header_of, records_of}
 
 pub numeric-is : (header : Bool) (rows records : List (List (List ℕ))) (columns : ℕ) (numeric : List Bool) → numeric ≡ map (is_numeric records) (range_with_len 0 columns) → records ≡ records_of header rows → columns ≡ longest rows
     → numeric ≡ numeric_of header rows
@@ -21,34 +21,34 @@ numeric-is header rows records columns numeric is are count =
     is ∙ ap (λ (it : List (List (List ℕ))). map (is_numeric it) (range_with_len 0 columns)) are ∙ ap (λ n. map (is_numeric (records_of header rows)) (range_with_len 0 n)) count
 
 pub looks-are : (options : Options) (rows : List (List (List ℕ))) (header : List (List ℕ)) (numeric : List Bool) (settings : List Setting)
-    → settings ≡ looks options.look header numeric options.alignments.items options.colors.items → header ≡ header_of (has_header options) rows → numeric ≡ numeric_of (has_header options) rows → settings ≡ looks_of options rows
+    → settings ≡ looks options.look header numeric options.alignments.items options.colors.items → header ≡ header_of options.header rows → numeric ≡ numeric_of options.header rows → settings ≡ looks_of options rows
 looks-are options rows header numeric settings are head is =
     are ∙ ap (λ (it : List (List ℕ)). looks options.look it numeric options.alignments.items options.colors.items) head
-    ∙ ap (λ (it : List Bool). looks options.look (header_of (has_header options) rows) it options.alignments.items options.colors.items) is
+    ∙ ap (λ (it : List Bool). looks options.look (header_of options.header rows) it options.alignments.items options.colors.items) is
 
 module _ (options : Options) (settings list : List Setting) (numeric numbers : List Bool) (old look : State) where
   -- a table is made by its settings, and then by its width
   pub made-by : list ≡ settings → numbers ≡ numeric → Runs list old look → (new : State) (r : Result Bool Fault)
-      → OnOk r (MatchOption options.width (new ≡ look) (λ width. Narrows options.truncate options.priority numbers width look new)) → OnOk r (IsMade options settings numeric old new)
+      → OnOk r (MatchOption (narrowed_to options) (new ≡ look) (λ width. Narrows options.truncate options.priority numbers width look new)) → OnOk r (IsMade options settings numeric old new)
   made-by listed numbered run new (Err fault) narrowed = tt
   made-by listed numbered run new (Ok wider) narrowed = (
     look,
     subst (λ (it : List Setting). Runs it old look) listed run,
-    subst (λ (it : List Bool). MatchOption options.width (new ≡ look) (λ width. Narrows options.truncate options.priority it width look new)) numbered narrowed,
+    subst (λ (it : List Bool). MatchOption (narrowed_to options) (new ≡ look) (λ width. Narrows options.truncate options.priority it width look new)) numbered narrowed,
   )
 
   not-made : list ≡ settings → numbers ≡ numeric → Runs list old look → (fault : Fault)
-      → (fault ≡ OutOfMemory) ⊎ MatchOption options.width ⊥ (λ width. IsNotNarrowed options.truncate options.priority numbers width look fault) → (fault ≡ OutOfMemory) ⊎ IsNotMade options settings numeric old fault
+      → (fault ≡ OutOfMemory) ⊎ MatchOption (narrowed_to options) ⊥ (λ width. IsNotNarrowed options.truncate options.priority numbers width look fault) → (fault ≡ OutOfMemory) ⊎ IsNotMade options settings numeric old fault
   not-made listed numbered run fault (inl is) = inl is
   not-made listed numbered run fault (inr out) = inr (inr (
     look,
     subst (λ (it : List Setting). Runs it old look) listed run,
-    subst (λ (it : List Bool). MatchOption options.width ⊥ (λ width. IsNotNarrowed options.truncate options.priority it width look fault)) numbered out,
+    subst (λ (it : List Bool). MatchOption (narrowed_to options) ⊥ (λ width. IsNotNarrowed options.truncate options.priority it width look fault)) numbered out,
   ))
 
   -- it is not made, since it is not made narrower
   pub not-made-by : list ≡ settings → numbers ≡ numeric → Runs list old look → (r : Result Bool Fault)
-      → IfErr r (λ fault. (fault ≡ OutOfMemory) ⊎ MatchOption options.width ⊥ (λ width. IsNotNarrowed options.truncate options.priority numbers width look fault))
+      → IfErr r (λ fault. (fault ≡ OutOfMemory) ⊎ MatchOption (narrowed_to options) ⊥ (λ width. IsNotNarrowed options.truncate options.priority numbers width look fault))
       → IfErr r (λ fault. (fault ≡ OutOfMemory) ⊎ IsNotMade options settings numeric old fault)
   not-made-by listed numbered run (Ok wider) out = tt
   not-made-by listed numbered run (Err fault) out = not-made listed numbered run fault out

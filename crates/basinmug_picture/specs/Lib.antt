@@ -2,6 +2,7 @@ pub mod Faults
 pub mod Rows
 pub mod Names
 pub mod Looks
+pub mod Fitting
 pub mod Narrowing
 pub mod Documents
 pub mod Lines

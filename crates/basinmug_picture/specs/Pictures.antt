@@ -1,5 +1,5 @@
 -- The table of some rows, and what is printed of it.
-use Rattle.std.specs.Prelude.{◌≡◌, ◌⊎◌, ℕ, nat_lt, Bool, false, List, ◌++◌, MatchOption, Option, None, Some, map}
+use Rattle.std.specs.Prelude.{◌≡◌, ◌⊎◌, ℕ, nat_lt, Bool, false, List, ◌++◌, MatchOption, Option, None, Some, if◌then◌else◌, map}
 use Rattle.std.specs.List.{range_with_len}
 use Rattle.grid_config_values.specs.declared.fault.Fault.{Fault}
 use Rattle.tabled.specs.Tables.{new_state}
@@ -13,41 +13,45 @@ use Rattle.basinmug_options.specs.declared.options.Options.{Options}
 use Rattle.basinmug_picture.specs.Looks.{looks}
 use Rattle.basinmug_picture.specs.Names.{missing_names}
 use Rattle.basinmug_picture.specs.Narrowing.{IsNotNarrowed, IsRefusedIn, Narrows}
-use Rattle.basinmug_picture.specs.Rows.{has_header, header_of, records_of}
+use Rattle.basinmug_picture.specs.Rows.{cells_of, header_of, is_markdown, records_of}
 
 -- which of the columns are of numbers
 abbrev pub numeric_of : Bool → List (List (List ℕ)) → List Bool
 numeric_of header rows = map (is_numeric (records_of header rows)) (range_with_len 0 (longest rows))
 
+-- how wide a table may be: a document is never broken, and is as wide as its text
+abbrev pub narrowed_to : Options → Option ℕ
+narrowed_to options = if is_markdown options.look then None else options.width
+
 -- a table after these settings, made narrower where a width is asked; of its columns these are of numbers
 abbrev pub IsMade : Options → List Setting → List Bool → State → State → Type 0
 IsMade options settings numeric old new =
-    (look : State) × Runs settings old look × MatchOption options.width (new ≡ look) (λ width. Narrows options.truncate options.priority numeric width look new)
+    (look : State) × Runs settings old look × MatchOption (narrowed_to options) (new ≡ look) (λ width. Narrows options.truncate options.priority numeric width look new)
 
 -- its settings are refused, or it is not made narrower
 abbrev pub IsNotMade : Options → List Setting → List Bool → State → Fault → Type 0
 IsNotMade options settings numeric old fault =
     IsRefusedIn settings old fault
-    ⊎ ((look : State) × Runs settings old look × MatchOption options.width ⊥ (λ width. IsNotNarrowed options.truncate options.priority numeric width look fault))
+    ⊎ ((look : State) × Runs settings old look × MatchOption (narrowed_to options) ⊥ (λ width. IsNotNarrowed options.truncate options.priority numeric width look fault))
 
 module _ (options : Options) (rows : List (List (List ℕ))) where
   -- the names of columns in the options that the header does not have, in turn
   abbrev pub missing_of : List (List ℕ)
   missing_of =
-      let header = header_of (has_header options) rows in
+      let header = header_of options.header rows in
       missing_names header options.alignments.items ++ missing_names header options.colors.items
 
   -- the settings before the table is made narrower
   abbrev pub looks_of : List Setting
-  looks_of = looks options.look (header_of (has_header options) rows) (numeric_of (has_header options) rows) options.alignments.items options.colors.items
+  looks_of = looks options.look (header_of options.header rows) (numeric_of options.header rows) options.alignments.items options.colors.items
 
-  -- the table of the rows, the short ones filled with empty texts, after its settings
+  -- the table of the rows as cells, the short ones filled with empty texts, after its settings
   abbrev pub IsTable : State → Type 0
-  IsTable = IsMade options looks_of (numeric_of (has_header options) rows) (new_state (filled rows))
+  IsTable = IsMade options looks_of (numeric_of options.header rows) (new_state (filled (cells_of options.look options.header rows)))
 
   -- there is no such table
   abbrev pub HasNoTable : Fault → Type 0
-  HasNoTable = IsNotMade options looks_of (numeric_of (has_header options) rows) (new_state (filled rows))
+  HasNoTable = IsNotMade options looks_of (numeric_of options.header rows) (new_state (filled (cells_of options.look options.header rows)))
 
 -- whether a table is wider than is asked
 abbrev pub is_wider : Option ℕ → State → Bool

@@ -1,5 +1,5 @@
 -- What a call that prints rows leaves in a writer, and why it gives up.
-use Rattle.std.specs.Prelude.{◌≡◌, ◌⊎◌, ⊤, ℕ, ◌-◌, Bool, List, [], Option, Ok, length, take}
+use Rattle.std.specs.Prelude.{◌≡◌, ◌≢◌, ◌⊎◌, ⊤, ℕ, ◌-◌, Bool, List, [], Option, Ok, length, take}
 use Rattle.std.specs.Io.KnownBytes.{Appends}
 use Rattle.grid_config_values.specs.declared.fault.Fault.{Fault}
 use Rattle.grid_config_values.specs.declared.fault.Fault.TheVariants.{Memory as NoMemory}
@@ -14,7 +14,7 @@ use Rattle.basinmug_options.specs.declared.options.Options.{Options}
 use Rattle.basinmug_picture.specs.Lines.{below, picture_text}
 use Rattle.basinmug_picture.specs.Names.{IsFirstMissing}
 use Rattle.basinmug_picture.specs.Pictures.{HasNoTable, IsTable, is_wider, missing_of}
-use Rattle.basinmug_picture.specs.Rows.{has_header, shown_count}
+use Rattle.basinmug_picture.specs.Rows.{shown_count}
 use Rattle.basinmug_picture.specs.declared.fault.PrintFault.{PrintFault}
 use Rattle.basinmug_picture.specs.declared.fault.PrintFault.TheVariants.{NoColumn, Table, Memory}
 
@@ -34,36 +34,47 @@ IsLate WriteZero = ⊤
 abbrev pub PrintsTable : (State → Type 0) → (State → List ℕ) → Option ℕ → Bool → Option (List ℕ) → Option (List ℕ) → Type 0
 PrintsTable Makes text width wider old new = (s : State) × Makes s × IsFit s (Ok tt) × (wider ≡ is_wider width s) × Appends old new (text s)
 
--- nothing of it is written, or a front
-abbrev pub StopsInTable : (State → Type 0) → (State → List ℕ) → Option (List ℕ) → Option (List ℕ) → Type 0
-StopsInTable Makes text old new = Appends old new [] ⊎ ((s : State) × Makes s × AppendsFront old new (text s))
+-- a table of which a front is written before such a fault fits; where memory ran out, that may not have been told yet
+abbrev pub FitsBefore : PrintFault → State → Type 0
+FitsBefore (NoColumn name) s = ⊥
+FitsBefore (Table fault) s = IsFit s (Ok tt)
+FitsBefore Memory s = ⊤
 
--- why it is not printed: it is not made, or it has no text, or the writer gave up; want of memory may always be
+-- a front of the text of such a table is written
+abbrev pub BeginsTable : (State → Type 0) → (State → List ℕ) → PrintFault → Option (List ℕ) → Option (List ℕ) → Type 0
+BeginsTable Makes text fault old new = (s : State) × Makes s × FitsBefore fault s × AppendsFront old new (text s)
+
+-- nothing of it is written, or a front
+abbrev pub StopsInTable : (State → Type 0) → (State → List ℕ) → PrintFault → Option (List ℕ) → Option (List ℕ) → Type 0
+StopsInTable Makes text fault old new = Appends old new [] ⊎ BeginsTable Makes text fault old new
+
+-- why it is not printed: it is not made, or it has no text, or the writer gave up; want of memory may always be, by its own name
 abbrev pub IsTableFault : (State → Type 0) → (Fault → Type 0) → PrintFault → Type 0
 IsTableFault Makes NotMade (NoColumn name) = ⊥
 IsTableFault Makes NotMade (Table fault) =
-    ((why : Fault) × (fault ≡ OfTable why) × NotMade why) ⊎ ((s : State) × Makes s × BuildRefusal (IsFit s (Ok tt)) (IsFit s) fault)
+    (((why : Fault) × (fault ≡ OfTable why) × NotMade why) ⊎ ((s : State) × Makes s × BuildRefusal (IsFit s (Ok tt)) (IsFit s) fault))
+    × (fault ≢ OfTable NoMemory)
 IsTableFault Makes NotMade Memory = ⊤
 
 module _ (options : Options) (rows : List (List (List ℕ))) where
   -- how many rows are shown, and which
   abbrev pub shown : ℕ
-  shown = shown_count (has_header options) options.max_rows (length rows)
+  shown = shown_count options.header options.max_rows (length rows)
 
   abbrev pub shown_rows : List (List (List ℕ))
   shown_rows = take shown rows
 
   -- what is printed of their table: its lines in this look, and how many rows are left out
   abbrev pub text_of : State → List ℕ
-  text_of = picture_text options.look options.rules (has_header options) shown (below options.look (length rows - shown))
+  text_of = picture_text options.look options.rules options.header shown (below options.look (length rows - shown))
 
   -- the rows are printed as a table, in which each named column is
   abbrev pub Prints : Bool → Option (List ℕ) → Option (List ℕ) → Type 0
   Prints wider old new = (missing_of options shown_rows ≡ []) × PrintsTable (IsTable options shown_rows) text_of options.width wider old new
 
-  -- nothing of it is written, or a front
-  abbrev pub StopsIn : Option (List ℕ) → Option (List ℕ) → Type 0
-  StopsIn = StopsInTable (IsTable options shown_rows) text_of
+  -- nothing of it is written; or a front, where each named column is in it
+  abbrev pub StopsIn : PrintFault → Option (List ℕ) → Option (List ℕ) → Type 0
+  StopsIn fault old new = Appends old new [] ⊎ ((missing_of options shown_rows ≡ []) × BeginsTable (IsTable options shown_rows) text_of fault old new)
 
   -- why it is not printed: a name is missing, of which the first is told; and else the fault of the table
   abbrev pub IsRefusal : PrintFault → Type 0

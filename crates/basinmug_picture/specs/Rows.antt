@@ -1,17 +1,14 @@
 -- The rows of a picture: a header, and records.
-use Rattle.std.specs.Prelude.{ℕ, ◌+◌, ◌||◌, min, Bool, true, false, List, [], ◌∷◌, Option, None, Some, drop, if◌then◌else◌}
+use Rattle.std.specs.Prelude.{ℕ, ◌+◌, min, Bool, true, false, List, [], ◌∷◌, Option, None, Some, drop, if◌then◌else◌, map}
+use Rattle.basinmug_markdown.specs.Documents.{with_header}
+use Rattle.basinmug_markdown.specs.Escapes.{escaped}
 use Rattle.basinmug_options.specs.declared.options.Look.{Look}
 use Rattle.basinmug_options.specs.declared.options.Look.TheVariants.{Markdown}
-use Rattle.basinmug_options.specs.declared.options.Options.{Options}
 
 -- whether a look is that of a table in a document
 abbrev pub is_markdown : Look → Bool
 is_markdown Markdown = true
 is_markdown _ = false
-
--- whether the first row is a header: where the options say so, and in a document always
-abbrev pub has_header : Options → Bool
-has_header options = options.header || is_markdown options.look
 
 -- how many rows the header takes
 abbrev pub header_rows : Bool → ℕ
@@ -31,3 +28,7 @@ header_of true (row ∷ rows) = row
 -- the rows below it
 abbrev pub records_of : Bool → List (List (List ℕ)) → List (List (List ℕ))
 records_of header rows = drop (header_rows header) rows
+
+-- the rows as cells of a table, which have a header of their own or none: those of a document are escaped, and get one
+abbrev pub cells_of : Look → Bool → List (List (List ℕ)) → List (List (List ℕ))
+cells_of look header rows = if is_markdown look then with_header header (map (map escaped) rows) else rows

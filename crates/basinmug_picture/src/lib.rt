@@ -2,8 +2,10 @@
 #![tactic(auto)]
 
 mod appearance;
+mod cells;
 mod documents;
 mod fault;
+mod fitting;
 mod glyphs;
 pub mod laws;
 mod lines;

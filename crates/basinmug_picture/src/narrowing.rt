@@ -1,45 +1,53 @@
 //! A table that is made narrower.
-ghost use Rattle.std.specs.Prelude.{◌≡◌, ◌++◌, ◌⊎◌, nat_lt, IfErr, IfOk, List, MatchOption, OnOk, length, slice_index};
+ghost use Rattle.std.specs.Prelude.{◌≡◌, ◌++◌, ◌⊎◌, false, nat_lt, IfErr, IfOk, MatchOption, OnOk};
 ghost use Rattle.grid_config_values.specs.declared.fault.Fault.TheVariants.{Memory};
 ghost use Rattle.tabled.specs.Tables.{state_of};
 ghost use Rattle.tabled.specs.Totals.{drawn_width};
 ghost use Rattle.tabled_list.specs.Lists.{Runs};
-ghost use Rattle.basinmug_picture.specs.Narrowing.{FitFirst, FitIfLess, FitsColumn, IsNotNarrowed, IsRefusedIn, Narrows};
-ghost use Rattle.basinmug_picture.specs.Pictures.{is_wider};
+ghost use Rattle.basinmug_cells.specs.Fields.{field_text};
+ghost use Rattle.basinmug_picture.specs.Fitting.{trimmed_if, trims, with_fitted_texts};
+ghost use Rattle.basinmug_picture.specs.Narrowing.{IsNotNarrowed, IsRefusedIn, Narrows};
+ghost use Rattle.basinmug_picture.specs.Pictures.{is_wider, narrowed_to};
 
+use crate::fitting::{Fitting, fit_texts, size_at};
+use crate::rows::is_markdown;
+use basinmug_cells::Field;
 use basinmug_columns::shrink_columns;
 use basinmug_options::Options;
 use std::alloc::{AllocError, Global};
-use tabled::{Amount, Choice, Entity, Fault, Setting, SuffixLimit, Table};
+use tabled::{Choice, Entity, Fault, Setting, Table};
 
-/// Makes a table narrower where a width is asked. Answers whether it is wider than asked.
+/// Makes a table narrower where a width is asked; a document keeps its own. Answers whether it is wider than asked.
 pub(crate) fn narrow_if_asked(
     alloc: Global,
-    table: &mut Table,
+    table: &mut Table<Field<'_>>,
     numeric: &[bool],
     options: &Options,
 ) -> Result<bool, Fault>
-    ensures narrowed { OnOk result (MatchOption options.now.width (state_of (λ text. text) table.new ≡ state_of (λ text. text) table.old)
-        (λ width. Narrows options.now.truncate options.now.priority numeric.now width (state_of (λ text. text) table.old)
-        (state_of (λ text. text) table.new))) }
-    ensures wider { IfOk result (λ wider. wider ≡ is_wider options.now.width (state_of (λ text. text) table.new)) }
+    ensures narrowed { OnOk result (MatchOption (narrowed_to options.now) (state_of field_text table.new ≡ state_of field_text table.old)
+        (λ width. Narrows options.now.truncate options.now.priority numeric.now width (state_of field_text table.old)
+        (state_of field_text table.new))) }
+    ensures wider { IfOk result (λ wider. wider ≡ is_wider options.now.width (state_of field_text table.new)) }
     ensures refused { IfErr result (λ fault. (fault ≡ Memory)
-        ⊎ MatchOption options.now.width ⊥
-        (λ width. IsNotNarrowed options.now.truncate options.now.priority numeric.now width (state_of (λ text. text) table.old) fault)) }
+        ⊎ MatchOption (narrowed_to options.now) ⊥
+        (λ width. IsNotNarrowed options.now.truncate options.now.priority numeric.now width (state_of field_text table.old) fault)) }
 {
-    match options.width {
-        None => Ok(false),
-        Some(width) => narrow(
-            alloc,
-            table,
-            numeric,
-            Narrowing {
-                width,
-                truncate: options.truncate,
-                priority: options.priority,
-            },
-        ),
+    let Some(width) = options.width else {
+        return Ok(false);
+    };
+    if is_markdown(options.look) {
+        return passes(table, width);
     }
+    narrow(
+        alloc,
+        table,
+        numeric,
+        Narrowing {
+            width,
+            truncate: options.truncate,
+            priority: options.priority,
+        },
+    )
 }
 
 // How a table is made narrower: to this width, in columns, by cutting texts or by breaking them over lines.
@@ -53,13 +61,13 @@ struct Narrowing {
 // Makes a table as narrow as is asked, or as far as its columns give. Answers whether it is wider than asked.
 fn narrow(
     alloc: Global,
-    table: &mut Table,
+    table: &mut Table<Field<'_>>,
     numeric: &[bool],
     asked: Narrowing,
 ) -> Result<bool, Fault>
-    ensures narrowed { OnOk result (Narrows asked.truncate asked.priority numeric.now asked.width (state_of (λ text. text) table.old) (state_of (λ text. text) table.new)) }
-    ensures wider { IfOk result (λ wider. wider ≡ nat_lt asked.width (drawn_width (state_of (λ text. text) table.new))) }
-    ensures refused { IfErr result (λ fault. (fault ≡ Memory) ⊎ IsNotNarrowed asked.truncate asked.priority numeric.now asked.width (state_of (λ text. text) table.old) fault) }
+    ensures narrowed { OnOk result (Narrows asked.truncate asked.priority numeric.now asked.width (state_of field_text table.old) (state_of field_text table.new)) }
+    ensures wider { IfOk result (λ wider. wider ≡ nat_lt asked.width (drawn_width (state_of field_text table.new))) }
+    ensures refused { IfErr result (λ fault. (fault ≡ Memory) ⊎ IsNotNarrowed asked.truncate asked.priority numeric.now asked.width (state_of field_text table.old) fault) }
 {
     let total = table.total_width()?;
     if total <= asked.width {
@@ -75,17 +83,32 @@ fn narrow(
         total - asked.width,
         asked.priority,
     )?;
-    let after = rooms.as_slice();
-    let settings = fitting_settings(alloc, before, after, asked.truncate)?;
-    let list = settings.as_slice();
-    run_settings(table, list)?;
+    let fitting = Fitting {
+        widths: before,
+        rooms: rooms.as_slice(),
+        truncate: asked.truncate,
+    };
+    fit_columns(alloc, table, &fitting)?;
     passes(table, asked.width)
 }
 
+// Fits the texts of a table to the rooms of its columns, and trims their lines.
+fn fit_columns(alloc: Global, table: &mut Table<Field<'_>>, fitting: &Fitting<'_>) -> Result<(), Fault>
+    ensures fitted { OnOk result (Runs (trims fitting.now.truncate fitting.now.widths.now fitting.now.rooms.now)
+        (with_fitted_texts fitting.now.truncate fitting.now.widths.now fitting.now.rooms.now (state_of field_text table.old)) (state_of field_text table.new)) }
+    ensures refused { IfErr result (λ fault. (fault ≡ Memory) ⊎ IsRefusedIn (trims fitting.now.truncate fitting.now.widths.now fitting.now.rooms.now)
+        (with_fitted_texts fitting.now.truncate fitting.now.widths.now fitting.now.rooms.now (state_of field_text table.old)) fault) }
+{
+    let settings = trims(alloc, fitting)?;
+    fit_texts(table, fitting)?;
+    let list = settings.as_slice();
+    run_settings(table, list)
+}
+
 /// Runs settings on a table. Refused as the first of them that is.
-pub(crate) fn run_settings(table: &mut Table, settings: &[Setting]) -> Result<(), Fault>
-    ensures run { OnOk result (Runs settings.now (state_of (λ text. text) table.old) (state_of (λ text. text) table.new)) }
-    ensures refused { IfErr result (IsRefusedIn settings.now (state_of (λ text. text) table.old)) }
+pub(crate) fn run_settings(table: &mut Table<Field<'_>>, settings: &[Setting]) -> Result<(), Fault>
+    ensures run { OnOk result (Runs settings.now (state_of field_text table.old) (state_of field_text table.new)) }
+    ensures refused { IfErr result (IsRefusedIn settings.now (state_of field_text table.old)) }
 {
     match table.with_list(settings) {
         Ok(()) => Ok(()),
@@ -94,8 +117,8 @@ pub(crate) fn run_settings(table: &mut Table, settings: &[Setting]) -> Result<()
 }
 
 // Whether a table is wider than this.
-fn passes(table: &Table, width: usize) -> Result<bool, Fault>
-    ensures wider { IfOk result (λ wider. wider ≡ nat_lt width (drawn_width (state_of (λ text. text) table.now))) }
+fn passes(table: &Table<Field<'_>>, width: usize) -> Result<bool, Fault>
+    ensures wider { IfOk result (λ wider. wider ≡ nat_lt width (drawn_width (state_of field_text table.now))) }
     ensures refused { IfErr result (λ fault. fault ≡ Memory) }
 {
     match table.total_width() {
@@ -105,76 +128,44 @@ fn passes(table: &Table, width: usize) -> Result<bool, Fault>
     }
 }
 
-// The settings that fit the columns to their rooms.
-fn fitting_settings(
+// The settings that trim the lines of the columns whose texts were broken.
+fn trims(alloc: Global, fitting: &Fitting<'_>) -> Result<Vec<Setting>, AllocError>
+    ensures { IfOk result (λ settings. settings.items ≡ trims fitting.now.truncate fitting.now.widths.now fitting.now.rooms.now) }
+{
+    if fitting.truncate {
+        return Ok(Vec::new(alloc));
+    }
+    broken_trims(alloc, fitting.widths, fitting.rooms)
+}
+
+// The same where texts are broken.
+fn broken_trims(
     alloc: Global,
     widths: &[usize],
     rooms: &[usize],
-    truncate: bool,
 ) -> Result<Vec<Setting>, AllocError>
-    ensures { IfOk result (λ settings. FitFirst truncate widths.now rooms.now (length widths.now) settings.items) }
+    ensures { IfOk result (λ settings. settings.items ≡ trims false widths.now rooms.now) }
 {
     let mut settings = Vec::new(alloc);
     for column in 0..widths.len() {
-        let room = room_at(rooms, column);
-        push_if_less(alloc, &mut settings, column, widths[column], room, truncate)?;
+        let is_broken = size_at(rooms, column) < size_at(widths, column);
+        push_trims_if(&mut settings, is_broken, column)?;
     }
     Ok(settings)
 }
 
-// The room of a column.
-fn room_at(rooms: &[usize], column: usize) -> usize
-    ensures { result ≡ slice_index rooms.now column }
-{
-    rooms.get(column).copied().unwrap_or(0)
-}
-
-// The settings of a column of this width, which has less room or not.
-fn push_if_less(
-    alloc: Global,
+// The settings that trim the lines of a column, if its texts were broken.
+fn push_trims_if(
     settings: &mut Vec<Setting>,
+    is_broken: bool,
     column: usize,
-    width: usize,
-    room: usize,
-    truncate: bool,
 ) -> Result<(), AllocError>
-    ensures { OnOk result ((own : List Setting) × (settings.new.items ≡ settings.old.items ++ own) × FitIfLess truncate column width room own) }
+    ensures { OnOk result (settings.new.items ≡ settings.old.items ++ trimmed_if is_broken column) }
 {
-    if room < width {
-        push_fitting(alloc, settings, column, room, truncate)?;
+    if is_broken {
+        let at = Entity::Column(column);
+        settings.push(Setting::TrimHorizontal(at, true))?;
+        settings.push(Setting::LineAlignment(at, true))?;
     }
-    Ok(())
-}
-
-// The settings that fit a column to its room.
-fn push_fitting(
-    alloc: Global,
-    settings: &mut Vec<Setting>,
-    column: usize,
-    room: usize,
-    truncate: bool,
-) -> Result<(), AllocError>
-    ensures { OnOk result ((own : List Setting) × (settings.new.items ≡ settings.old.items ++ own) × FitsColumn truncate column room own) }
-{
-    let at = Entity::Column(column);
-    let width = Amount::Exact(room.saturating_sub(2));
-    if truncate {
-        settings.push(Setting::CellTruncate {
-            at,
-            width,
-            suffix: String::from_str(alloc, "…")?,
-            limit: SuffixLimit::Cut,
-            multiline: true,
-            try_color: false,
-        })?;
-        return Ok(());
-    }
-    settings.push(Setting::CellWrap {
-        at,
-        width,
-        keep_words: true,
-    })?;
-    settings.push(Setting::TrimHorizontal(at, true))?;
-    settings.push(Setting::LineAlignment(at, true))?;
     Ok(())
 }

@@ -1,16 +1,11 @@
 //! The rows of a picture: a header, and records.
-ghost use Rattle.std.specs.Prelude.{◌≡◌, map, string_bytes};
-ghost use Rattle.tabled_text.specs.Rows.{longest, text_rows};
-ghost use Rattle.basinmug_picture.specs.Rows.{has_header, header_of, header_rows, is_markdown, records_of, shown_count};
+ghost use Rattle.std.specs.Prelude.{◌≡◌, map};
+ghost use Rattle.tabled_text.specs.Rows.{longest};
+ghost use Rattle.basinmug_cells.specs.Fields.{field_rows, field_text};
+ghost use Rattle.basinmug_picture.specs.Rows.{header_of, header_rows, is_markdown, records_of, shown_count};
 
-use basinmug_options::{Look, Options};
-
-/// Whether the first row is a header: where the options say so, and in a document always.
-pub(crate) fn has_header(options: &Options) -> bool
-    ensures { result ≡ has_header options.now }
-{
-    options.header || is_markdown(options.look)
-}
+use basinmug_cells::Field;
+use basinmug_options::Look;
 
 /// Whether a look is that of a table in a document.
 pub(crate) fn is_markdown(look: Look) -> bool
@@ -40,8 +35,8 @@ fn header_rows(header: bool) -> usize
 }
 
 /// The texts of the header, where there is one.
-pub(crate) fn header_of(header: bool, rows: &[Vec<String>]) -> &[String]
-    ensures { map string_bytes result.now ≡ header_of header (text_rows rows.now) }
+pub(crate) fn header_of<'a>(header: bool, rows: &'a [Vec<Field<'a>>]) -> &'a [Field<'a>]
+    ensures { map field_text result.now ≡ header_of header (field_rows rows.now) }
 {
     if !header {
         return &[];
@@ -53,8 +48,8 @@ pub(crate) fn header_of(header: bool, rows: &[Vec<String>]) -> &[String]
 }
 
 /// The rows below the header.
-pub(crate) fn records_of(header: bool, rows: &[Vec<String>]) -> &[Vec<String>]
-    ensures { text_rows result.now ≡ records_of header (text_rows rows.now) }
+pub(crate) fn records_of<'a>(header: bool, rows: &'a [Vec<Field<'a>>]) -> &'a [Vec<Field<'a>>]
+    ensures { field_rows result.now ≡ records_of header (field_rows rows.now) }
 {
     let from = header_rows(header);
     if from <= rows.len() {
@@ -65,8 +60,8 @@ pub(crate) fn records_of(header: bool, rows: &[Vec<String>]) -> &[Vec<String>]
 }
 
 /// How many texts the longest row has.
-pub(crate) fn longest_row(rows: &[Vec<String>]) -> usize
-    ensures { result ≡ longest (text_rows rows.now) }
+pub(crate) fn longest_row(rows: &[Vec<Field<'_>>]) -> usize
+    ensures { result ≡ longest (field_rows rows.now) }
 {
     let mut most = 0;
     for row in rows {

@@ -2,10 +2,6 @@
 use Rattle.std.proofs.Common.{◌≡◌, sym, subst, Bool, true, false, Result, Ok, Err}
 use Rattle.std.specs.Prelude.{IfErr, IfOk, MatchBool}
 
-pub either : (b : Bool) (P Q : Type 0) → P → Q → MatchBool b P Q
-either true P Q p q = p
-either false P Q p q = q
-
 pub first : (b : Bool) (P Q : Type 0) → b ≡ true → P → MatchBool b P Q
 first b P Q is p = subst (λ (it : Bool). MatchBool it P Q) (sym is) p
 
@@ -30,10 +26,10 @@ module _ {T E : Type 0} (b : Bool) where
   err-second (Err e) P Q is q = second b (P e) (Q e) is q
 
   -- under a premise
-  pub front-first : (r : Result T E) (Some : E → Type 0) (P Q : Type 0) → b ≡ true → IfErr r (λ it. Some it → P) → IfErr r (λ it. Some it → MatchBool b P Q)
+  pub front-first : (r : Result T E) (Some P Q : E → Type 0) → b ≡ true → IfErr r (λ it. Some it → P it) → IfErr r (λ it. Some it → MatchBool b (P it) (Q it))
   front-first (Ok x) Some P Q is p = tt
-  front-first (Err e) Some P Q is p = λ some. first b P Q is (p some)
+  front-first (Err e) Some P Q is p = λ some. first b (P e) (Q e) is (p some)
 
-  pub front-second : (r : Result T E) (Some : E → Type 0) (P Q : Type 0) → b ≡ false → IfErr r (λ it. Some it → Q) → IfErr r (λ it. Some it → MatchBool b P Q)
+  pub front-second : (r : Result T E) (Some P Q : E → Type 0) → b ≡ false → IfErr r (λ it. Some it → Q it) → IfErr r (λ it. Some it → MatchBool b (P it) (Q it))
   front-second (Ok x) Some P Q is q = tt
-  front-second (Err e) Some P Q is q = λ some. second b P Q is (q some)
+  front-second (Err e) Some P Q is q = λ some. second b (P e) (Q e) is (q some)

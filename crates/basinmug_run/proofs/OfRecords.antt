@@ -12,7 +12,7 @@ use Rattle.basinmug_expanded.specs.Records.{record_table}
 use Rattle.basinmug_options.specs.declared.options.Options.{Options}
 use Rattle.basinmug_picture.specs.Faults.{of_build, of_table}
 use Rattle.basinmug_picture.specs.Printed.{HasNothing}
-use Rattle.basinmug_run.specs.Runs.{IsOfWriter, IsRecordsFault}
+use Rattle.basinmug_run.specs.Runs.{HaveText, IsOfWriter, IsRecordsFault}
 
 -- a fault of writing is the writer's
 pub of-writer : (fault : WriteFault) → IsOfWriter (writing_fault fault)
@@ -26,10 +26,10 @@ no-nothing Write is out = out
 no-nothing WriteZero is out = out
 
 module _ (options : Options) (rows : List (List (List ℕ))) where
-  pub by-writer : (fault : BuildFault) → IsOfWriter fault → IsRecordsFault options rows (of_build fault)
-  by-writer (OfTable fault) is = absurd is
-  by-writer Write is = tt
-  by-writer WriteZero is = tt
+  pub by-writer : (fault : BuildFault) → HaveText options rows → IsOfWriter fault → IsRecordsFault options rows (of_build fault)
+  by-writer (OfTable fault) have is = absurd is
+  by-writer Write have is = have
+  by-writer WriteZero have is = have
 
   -- the records have no text
   pub too-wide : (fault : Fault) → (fault ≡ OutOfMemory) ⊎ ((fault ≡ Range) × IsTooWide (record_table options.header options.max_rows rows)) → IsRecordsFault options rows (of_table fault)

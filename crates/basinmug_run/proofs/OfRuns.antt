@@ -1,5 +1,5 @@
 -- Faults of a text and of its rows as faults of a run.
-use Rattle.std.proofs.Common.{◌≡◌, ◌∙◌, ap, inl, sym, ℕ, List, Option, Result, Ok, Err}
+use Rattle.std.proofs.Common.{◌≡◌, ◌∙◌, ap, inl, inr, sym, ℕ, List, Option, Result, Ok, Err}
 use Rattle.std.specs.Prelude.{IsErrAnd, IsErrOf}
 use Rattle.std.proofs.KnownBytes.{Appends-nil}
 use Rattle.tabled_compact.specs.declared.fault.BuildFault.TheVariants.{Write, WriteZero}
@@ -16,14 +16,9 @@ use Rattle.basinmug_picture.specs.declared.fault.PrintFault.{PrintFault}
 use Rattle.basinmug_picture.specs.declared.fault.PrintFault.TheVariants.{NoColumn, Table, Memory as NoMemoryToPrint}
 use Rattle.basinmug_picture.proofs.Written.{fails-alike, same-fails, same-takes, takes-alike}
 use Rattle.basinmug_run.specs.Faults.{of_input, of_print}
-use Rattle.basinmug_run.specs.Runs.{HasNothing, IsRefusal, IsRowsFault, StopsInRows}
+use Rattle.basinmug_run.specs.Runs.{HasNothing, IsRefusal, IsRowsFault, StopsInRows, StopsInText}
 use Rattle.basinmug_run.specs.declared.fault.RunFault.{RunFault}
 use Rattle.basinmug_run.specs.declared.fault.RunFault.TheVariants.{Input, Print, Memory}
-use Rattle.basinmug_run.proofs.Chosen.{either}
-
--- where nothing is written, it is a front
-pub stops-at-once : (options : Options) (rows : List (List (List ℕ))) (old : Option (List ℕ)) → StopsInRows options rows old old
-stops-at-once options rows old = either options.expanded _ _ (inl (Appends-nil old)) (inl (Appends-nil old))
 
 module _ (delimiter : ℕ) (bytes : List ℕ) (options : Options) where
   -- a text without records
@@ -38,6 +33,20 @@ module _ (delimiter : ℕ) (bytes : List ℕ) (options : Options) where
   not-printed (NoColumn name) read is = (read, is, λ same. let it : NoColumn name ≡ NoMemoryToPrint = same in cc it)
   not-printed (Table fault) read is = (read, is, λ same. let it : Table fault ≡ NoMemoryToPrint = same in cc it)
   not-printed NoMemoryToPrint read is = tt
+
+  -- where nothing is read, nothing is written
+  pub stops-unread : (fault : InputFault) (old : Option (List ℕ)) → ¬ (HasNothing (of_input fault)) → StopsInText delimiter bytes options (of_input fault) old old
+  stops-unread (NotText line field) old some = absurd (some tt)
+  stops-unread (Quote line) old some = absurd (some tt)
+  stops-unread (Escape line field) old some = absurd (some tt)
+  stops-unread NoMemoryToRead old some = inl (Appends-nil old)
+
+  -- a front of what is printed of the rows
+  pub stops-printed : (fault : PrintFault) (old new : Option (List ℕ)) → IsReadable (settings delimiter) (text_in bytes) → StopsInRows options (rows_in delimiter bytes) fault old new
+      → StopsInText delimiter bytes options (of_print fault) old new
+  stops-printed (NoColumn name) old new read stops = (read, stops)
+  stops-printed (Table fault) old new read stops = (read, stops)
+  stops-printed NoMemoryToPrint old new read stops = inr (read, stops)
 
 -- before which faults nothing is written
 pub nothing-printed : (fault : PrintFault) → HasNothing (of_print fault) → HasNothingPrinted fault

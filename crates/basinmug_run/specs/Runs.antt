@@ -1,5 +1,5 @@
 -- What a run of a text leaves in a writer, and why it gives up.
-use Rattle.std.specs.Prelude.{◌≡◌, ◌≢◌, ◌⊎◌, ⊤, ℕ, Bool, false, List, [], MatchBool, Option, map}
+use Rattle.std.specs.Prelude.{◌≡◌, ◌≢◌, ◌⊎◌, ⊤, ℕ, Bool, false, List, [], MatchBool, Option}
 use Rattle.std.specs.Io.KnownBytes.{Appends}
 use Rattle.grid_config_values.specs.declared.fault.Fault.TheVariants.{Range}
 use Rattle.tabled_compact.specs.declared.fault.BuildFault.{BuildFault}
@@ -11,10 +11,6 @@ use Rattle.basinmug_input.specs.Faults.{IsFaultOf, IsReadable}
 use Rattle.basinmug_input.specs.Reading.{settings}
 use Rattle.basinmug_input.specs.Rows.{rows_in, text_in}
 use Rattle.basinmug_input.specs.declared.fault.InputFault.TheVariants.{Memory as NoMemoryToRead}
-use Rattle.basinmug_markdown.specs.Documents.{with_header}
-use Rattle.basinmug_markdown.specs.Escapes.{escaped}
-use Rattle.basinmug_options.specs.declared.options.Look.{Look}
-use Rattle.basinmug_options.specs.declared.options.Look.TheVariants.{Markdown}
 use Rattle.basinmug_options.specs.declared.options.Options.{Options}
 use Rattle.basinmug_picture.specs.Printed.{HasNothing as HasNothingPrinted, IsRefusal as IsPictureFault, Prints, StopsIn}
 use Rattle.basinmug_picture.specs.declared.fault.PrintFault.{PrintFault}
@@ -24,11 +20,6 @@ use Rattle.basinmug_run.specs.declared.fault.RunFault.TheVariants.{Input, Print,
 
 -- ---- rows
 
--- the rows as cells of a table, which have a header of their own or none: those of Markdown are escaped, and get one
-abbrev pub cells_of : Look → Bool → List (List (List ℕ)) → List (List (List ℕ))
-cells_of Markdown header rows = with_header header (map (map escaped) rows)
-cells_of _ header rows = rows
-
 -- the writer failed, or took nothing
 abbrev pub IsOfWriter : BuildFault → Type 0
 IsOfWriter (OfTable fault) = ⊥
@@ -36,31 +27,38 @@ IsOfWriter Write = ⊤
 IsOfWriter WriteZero = ⊤
 
 module _ (options : Options) (rows : List (List (List ℕ))) where
+  -- no line of the records is wider than can be counted
+  abbrev pub HaveText : Type 0
+  HaveText = ¬ (IsTooWide (record_table options.header options.max_rows rows))
+
+  abbrev pub IsText : List ℕ → Type 0
+  IsText = IsRecordsText options.header options.max_rows rows
+
   -- rows are printed as records one below the other, which are never wider than asked
   abbrev pub PrintsRecords : Bool → Option (List ℕ) → Option (List ℕ) → Type 0
-  PrintsRecords wider old new = (wider ≡ false) × ((text : List ℕ) × IsRecordsText options.header options.max_rows rows text × Appends old new text)
+  PrintsRecords wider old new = (wider ≡ false) × HaveText × ((text : List ℕ) × IsText text × Appends old new text)
 
   -- nothing of them is written, or a front
   abbrev pub StopsInRecords : Option (List ℕ) → Option (List ℕ) → Type 0
-  StopsInRecords old new = Appends old new [] ⊎ ((text : List ℕ) × IsRecordsText options.header options.max_rows rows text × AppendsFront old new text)
+  StopsInRecords old new = Appends old new [] ⊎ (HaveText × ((text : List ℕ) × IsText text × AppendsFront old new text))
 
-  -- why they are not printed: a line is wider than can be counted, or the writer gave up; want of memory may always be
+  -- why they are not printed: a line is wider than can be counted, or else the writer gave up; want of memory may always be
   abbrev pub IsRecordsFault : PrintFault → Type 0
   IsRecordsFault (NoColumn name) = ⊥
   IsRecordsFault (Table (OfTable fault)) = (fault ≡ Range) × IsTooWide (record_table options.header options.max_rows rows)
-  IsRecordsFault (Table Write) = ⊤
-  IsRecordsFault (Table WriteZero) = ⊤
+  IsRecordsFault (Table Write) = HaveText
+  IsRecordsFault (Table WriteZero) = HaveText
   IsRecordsFault NoMemoryToPrint = ⊤
 
   -- rows are printed as is asked: as records one below the other, or as a table
   abbrev pub PrintsRows : Bool → Option (List ℕ) → Option (List ℕ) → Type 0
-  PrintsRows wider old new = MatchBool options.expanded (PrintsRecords wider old new) (Prints options (cells_of options.look options.header rows) wider old new)
+  PrintsRows wider old new = MatchBool options.expanded (PrintsRecords wider old new) (Prints options rows wider old new)
 
-  abbrev pub StopsInRows : Option (List ℕ) → Option (List ℕ) → Type 0
-  StopsInRows old new = MatchBool options.expanded (StopsInRecords old new) (StopsIn options (cells_of options.look options.header rows) old new)
+  abbrev pub StopsInRows : PrintFault → Option (List ℕ) → Option (List ℕ) → Type 0
+  StopsInRows fault old new = MatchBool options.expanded (StopsInRecords old new) (StopsIn options rows fault old new)
 
   abbrev pub IsRowsFault : PrintFault → Type 0
-  IsRowsFault fault = MatchBool options.expanded (IsRecordsFault fault) (IsPictureFault options (cells_of options.look options.header rows) fault)
+  IsRowsFault fault = MatchBool options.expanded (IsRecordsFault fault) (IsPictureFault options rows fault)
 
 -- ---- a text
 
@@ -76,3 +74,10 @@ abbrev pub IsRefusal : ℕ → List ℕ → Options → RunFault → Type 0
 IsRefusal delimiter bytes options (Input fault) = IsFaultOf (settings delimiter) (text_in bytes) fault × (fault ≢ NoMemoryToRead)
 IsRefusal delimiter bytes options (Print fault) = IsReadable (settings delimiter) (text_in bytes) × IsRowsFault options (rows_in delimiter bytes) fault × (fault ≢ NoMemoryToPrint)
 IsRefusal delimiter bytes options Memory = ⊤
+
+-- nothing is written; or a front of what is printed of the rows of a readable text
+abbrev pub StopsInText : ℕ → List ℕ → Options → RunFault → Option (List ℕ) → Option (List ℕ) → Type 0
+StopsInText delimiter bytes options (Input fault) old new = ⊥
+StopsInText delimiter bytes options (Print fault) old new = IsReadable (settings delimiter) (text_in bytes) × StopsInRows options (rows_in delimiter bytes) fault old new
+StopsInText delimiter bytes options Memory old new =
+    Appends old new [] ⊎ (IsReadable (settings delimiter) (text_in bytes) × StopsInRows options (rows_in delimiter bytes) NoMemoryToPrint old new)

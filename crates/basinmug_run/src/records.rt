@@ -1,55 +1,40 @@
-//! Records one below the other, and cells of Markdown: the texts of rows that are no cells of a terminal's table.
+//! Records one below the other.
 ghost use Rattle.std.specs.Io.KnownBytes.{Appends};
 ghost use Rattle.std.specs.Prelude.{◌≡◌, IfErr, IfOk, IsErrOf, OnOk};
 ghost use Rattle.tabled_output.specs.Counts.{FailsIff, OnlyWrites, TakesNothingIff, inner_of};
 ghost use Rattle.tabled_output.specs.Streams.{AppendsFront};
-ghost use Rattle.tabled_text.specs.Rows.{text_rows};
+ghost use Rattle.basinmug_cells.specs.Fields.{field_rows};
 ghost use Rattle.basinmug_picture.specs.Printed.{HasNothing};
-ghost use Rattle.basinmug_run.specs.Runs.{IsOfWriter, IsRecordsFault, PrintsRecords, StopsInRecords, cells_of};
+ghost use Rattle.basinmug_run.specs.Runs.{IsOfWriter, IsRecordsFault, PrintsRecords, StopsInRecords};
 
+use basinmug_cells::{Field, texts_of};
 use basinmug_expanded::records_text;
-use basinmug_markdown::markdown_rows;
-use basinmug_options::{Look, Options};
+use basinmug_options::Options;
 use basinmug_picture::{PrintFault, Shown};
-use std::alloc::{AllocError, Global};
+use std::alloc::Global;
 use std::io::Write;
 use tabled_compact::BuildFault;
 use tabled_output::{Counted, write_piece};
-
-/// The rows as cells of a table in this look: those of Markdown are escaped, and have a header. Fails only where
-/// allocation fails.
-pub(crate) fn cells_of(
-    alloc: Global,
-    rows: Vec<Vec<String>>,
-    look: Look,
-    has_header: bool,
-) -> Result<Vec<Vec<String>>, AllocError>
-    ensures { IfOk result (λ cells. text_rows cells.items ≡ cells_of look has_header (text_rows rows.items)) }
-{
-    match look {
-        Look::Markdown => markdown_rows(alloc, rows, has_header),
-        Look::Ascii | Look::Modern | Look::Rounded | Look::Extended | Look::Empty => Ok(rows),
-    }
-}
 
 /// Prints rows as records one below the other, which no width narrows. Refused as `Table(Table(Range))` where a line
 /// is wider than can be counted, and as `Memory` where allocation fails, and then nothing is written; else the writer
 /// gave up.
 pub(crate) fn print_records<W: Write>(
     alloc: Global,
-    rows: Vec<Vec<String>>,
+    rows: Vec<Vec<Field<'_>>>,
     options: &Options,
     writer: &mut Counted<W>,
 ) -> Result<Shown, PrintFault>
-    ensures printed { IfOk result (λ shown. PrintsRecords options.now (text_rows rows.items) shown.wider (W.contents (inner_of writer.old)) (W.contents (inner_of writer.new))) }
-    ensures front { IfErr result (λ fault. ¬ (HasNothing fault) → StopsInRecords options.now (text_rows rows.items) (W.contents (inner_of writer.old)) (W.contents (inner_of writer.new))) }
+    ensures printed { IfOk result (λ shown. PrintsRecords options.now (field_rows rows.entry.items) shown.wider (W.contents (inner_of writer.old)) (W.contents (inner_of writer.new))) }
+    ensures front { IfErr result (λ fault. ¬ (HasNothing fault) → StopsInRecords options.now (field_rows rows.entry.items) (W.contents (inner_of writer.old)) (W.contents (inner_of writer.new))) }
     ensures untouched { IfErr result (λ fault. HasNothing fault → writer.new ≡ writer.old) }
-    ensures refused { IfErr result (IsRecordsFault options.now (text_rows rows.items)) }
+    ensures refused { IfErr result (IsRecordsFault options.now (field_rows rows.entry.items)) }
     ensures write { FailsIff (IsErrOf result (PrintFault.Table BuildFault.Write)) writer.old writer.new }
     ensures write_zero { TakesNothingIff (IsErrOf result (PrintFault.Table BuildFault.WriteZero)) writer.old writer.new }
     ensures only_writes { OnlyWrites writer.old writer.new }
 {
-    let text = records_text(alloc, rows, options.header, options.max_rows)?;
+    let texts = texts_of(alloc, rows)?;
+    let text = records_text(alloc, texts, options.header, options.max_rows)?;
     write_text(text.as_str(), writer)?;
     Ok(Shown { wider: false })
 }

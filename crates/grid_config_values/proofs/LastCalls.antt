@@ -1,8 +1,7 @@
 -- The last of some calls, and what it decides.
 use Rattle.std.proofs.Common.{◌≡◌, ◌≢◌, ◌<◌, ◌≤◌, ◌+◌, ℕ, zero, suc, true, false, Bool, IsTrue, List, [], ◌∷◌, ◌++◌}
-use Rattle.std.proofs.Common.{◌⊎◌, inl, inr, Option, None, Some, length, take, drop, slice_index_or, refl, ap, sym, subst, ◌∙◌, arith, if◌then◌else◌, cond}
+use Rattle.std.proofs.Common.{◌⊎◌, inl, inr, Option, None, Some, length, take, drop, slice_index_or, refl, ap, sym, subst, ◌∙◌, arith, cond}
 use Rattle.std.specs.List.{All, slice_get}
-use Rattle.std.specs.BTreeMap.{BTreeMap, Updates, get}
 use Rattle.std.specs.Option.{option_cmp}
 use Rattle.std.specs.Ordering.{is_eq, is_lt, nat_cmp, ord_max}
 use Rattle.std.proofs.lemmas.Option.{slice_get_within, get_or_from_slice_get, slice_get-get_or}
@@ -14,7 +13,7 @@ use Rattle.grid_config_values.specs.contracts.entity.EntityOrd.TheImpl.{ghosts a
 use Rattle.grid_config_values.specs.declared.entity.Entity.{Entity}
 use Rattle.grid_config_values.specs.declared.entity.Entity.TheVariants.{Global, Column, Row, Cell}
 use Rattle.grid_config_values.specs.declared.position.Position.{Position}
-use Rattle.grid_config_values.specs.LastCalls.{IsFor, IsLast, IsLastFor, IsLastOf}
+use Rattle.grid_config_values.specs.LastCalls.{IsFor, IsLast, IsLastFor, IsLastOf, Marks}
 use Rattle.grid_config_values.specs.Entities.{covers}
 use Rattle.grid_config_values.specs.Settings.{value_after}
 use Rattle.grid_config_values.proofs.Settings.{covered_by_none, covered_last}
@@ -104,15 +103,6 @@ not_true : (b : Bool) → (IsTrue b → ⊥) → b ≡ false
 not_true true never = absurd (never refl)
 not_true false never = refl
 
--- there is none for all cells as long as none is added
-pub none_for_all : (place : ℕ) (entity : Entity) (old new : BTreeMap Entity ℕ) → Updates order.cmp old new entity (Some place) → entity ≢ Global →
-    get order.cmp old Global ≡ None → get order.cmp new Global ≡ None
-none_for_all place entity old new updates some before = updates.0 Global ∙ by_test (is_eq (order.cmp entity Global)) refl
-  where
-    by_test : (b : Bool) → is_eq (order.cmp entity Global) ≡ b → (if b then Some place else get order.cmp old Global) ≡ None
-    by_test true is = absurd (some (same_entity entity Global is))
-    by_test false is = before
-
 module _ {T : Type 0} where
   -- a call stays where it stands
   call_kept : (calls more : List (Entity × T)) (j : ℕ) (call : Entity × T) → slice_get calls j ≡ Some call → slice_get (calls ++ more) j ≡ Some call
@@ -156,15 +146,25 @@ module _ {T : Type 0} where
     }
 
   -- what is known of a call that is added is where the last of each entity stands
-  pub newest_added : (calls : List (Entity × T)) (added : Entity × T) (old new : BTreeMap Entity ℕ) → Updates order.cmp old new added.0 (Some (length calls)) →
-      ((entity : Entity) → IsLastOf calls entity (get order.cmp old entity)) → (entity : Entity) → IsLastOf (calls ++ added ∷ []) entity (get order.cmp new entity)
-  newest_added calls added old new updates before entity =
-      rw (updates.0 entity) (by_test (is_eq (order.cmp added.0 entity)) refl)
+  pub newest_added : (calls : List (Entity × T)) (added : Entity × T) (old new : Entity → Option ℕ) → Marks old new added.0 (length calls) →
+      ((entity : Entity) → IsLastOf calls entity (old entity)) → (entity : Entity) → IsLastOf (calls ++ added ∷ []) entity (new entity)
+  newest_added calls added old new marks before entity = by_test (is_eq (order.cmp added.0 entity)) refl
     where
-      by_test : (b : Bool) → is_eq (order.cmp added.0 entity) ≡ b → IsLastOf (calls ++ added ∷ []) entity (if b then Some (length calls) else get order.cmp old entity)
-      by_test true is = last_added calls added (λ other. other ≡ entity) (same_entity added.0 entity is)
-      by_test false is = last_kept calls added (λ other. other ≡ entity) (get order.cmp old entity) (before entity)
-          (λ same. absurd (let yes : is_eq (order.cmp added.0 entity) ≡ true = subst (λ (e : Entity). is_eq (order.cmp added.0 e) ≡ true) same (itself added.0) in cc))
+      by_test : (b : Bool) → is_eq (order.cmp added.0 entity) ≡ b → IsLastOf (calls ++ added ∷ []) entity (new entity)
+      by_test true is =
+          let same = same_entity added.0 entity is in
+          subst (λ (e : Entity). IsLastOf (calls ++ added ∷ []) e (new e)) same
+          (rw marks.marked (last_added calls added (λ other. other ≡ added.0) refl))
+      by_test false is =
+          let other : added.0 ≢ entity = λ same. absurd (let yes : is_eq (order.cmp added.0 entity) ≡ true = subst (λ (e : Entity). is_eq (order.cmp added.0 e) ≡ true) same (itself added.0) in cc) in
+          rw (marks.others entity other) (last_kept calls added (λ other. other ≡ entity) (old entity) (before entity) other)
+
+  -- no calls have none that is last
+  pub last_of_none : (Is : Entity → Type 0) → IsLast {T = T} [] Is None
+  last_of_none Is = record {
+    such = λ k is. absurd (let never : None ≡ Some k = is in cc);
+    last = λ j entity at it. absurd (let never : None ≡ Some (entity, at.0) = at.1 in cc);
+  }
 
   -- where there is none at the name of all cells, no call is for these
   pub none_is_for_all : (calls : List (Entity × T)) (place : Option ℕ) → IsLastOf calls Global place → place ≡ None → (j : ℕ) → IsFor calls j Global → ⊥

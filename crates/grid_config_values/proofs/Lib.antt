@@ -1,5 +1,6 @@
 pub mod Settings
 mod LastCalls
+mod MarkedPlaces
 pub mod Rectangles
 pub mod Boundaries
 pub mod Equality

@@ -6,21 +6,21 @@ ghost use Rattle.grid_config_values.specs.Settings.{value_after};
 
 use crate::clone_in::CloneIn;
 use crate::entity::Entity;
+use crate::newest::Newest;
 use crate::position::Position;
 use std::alloc::{AllocError, Global};
-use std::collections::BTreeMap;
 use std::marker::Model;
 
 // So many calls are looked at one by one in less time than three look-ups of the index take.
 const FEW: usize = 16;
 
 /// The calls that set a value for some of the cells, the oldest first. A look for the last one that
-/// covers a cell takes steps by the logarithm of their number.
+/// covers a cell takes the same few steps however many there are.
 #[derive(Debug, Drop)]
 pub(crate) struct Calls<T> {
     calls: Vec<(Entity, T)>,
     // where in them the newest of each entity stands
-    newest: BTreeMap<Entity, usize>,
+    newest: Newest,
 }
 
 impl<T> Model for Calls<T> {
@@ -43,7 +43,7 @@ impl<T: Drop> Calls<T> {
     {
         Calls {
             calls: Vec::new(alloc),
-            newest: BTreeMap::new(alloc),
+            newest: Newest::new(alloc),
         }
     }
 
@@ -70,13 +70,11 @@ impl<T: Drop> Calls<T> {
     {
         let place = self.calls.len();
         self.calls.push((entity, value))?;
-        match self.newest.insert(entity, place) {
-            Ok(_) => Ok(()),
-            Err(_) => {
-                self.calls.pop();
-                Err(AllocError)
-            }
+        if let Err(refused) = self.newest.insert(entity, place) {
+            self.calls.pop();
+            return Err(refused);
         }
+        Ok(())
     }
 
     /// The value of the last call that covers the cell at this place, or else this one.
@@ -96,18 +94,10 @@ impl<T: Drop> Calls<T> {
     fn last_for(&self, pos: Position) -> Option<usize>
         ensures { IsLastFor self.now pos result }
     {
-        let column = self.place_of(Entity::Column(pos.col));
-        let row = self.place_of(Entity::Row(pos.row));
-        let cell = self.place_of(Entity::Cell(pos.row, pos.col));
+        let column = self.newest.of_column(pos.col);
+        let row = self.newest.of_row(pos.row);
+        let cell = self.newest.of_cell(pos);
         column.max(row).max(cell)
-    }
-
-    // Where the newest call for this entity stands.
-    fn place_of(&self, entity: Entity) -> Option<usize>
-        ensures last { IsLastOf self.now entity result }
-        ensures some { (j : ℕ) → IsFor self.now j EveryCell → ⊥ }
-    {
-        self.newest.get(&entity).copied()
     }
 }
 

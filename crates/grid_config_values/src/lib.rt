@@ -11,6 +11,7 @@ mod entity_map;
 mod fault;
 mod formatting;
 pub mod laws;
+mod newest;
 mod position;
 mod sides;
 

@@ -1,32 +1,19 @@
--- Short texts, by their characters.
+-- Each is computed.
 use Rattle.std.proofs.Common.{refl}
+use Rattle.std.proofs.Math.Utf8.{encode}
 use Rattle.std.specs.Str.{chars}
+use Rattle.ansi_scan.specs.Pieces.{at_escape, control_from, escape_from, first_pieces, leading_piece, opened, pieces, sequence_front, string_from}
 use Rattle.basinmug_markdown.proofs.laws.escapes_by_hand.Goals as goal
 
-pub returns-clause-nothing : goal.returns-clause-nothing
-unfolding chars lib.Utf8.encode
-returns-clause-nothing c = refl
-
-pub returns-clause-plain : goal.returns-clause-plain
-unfolding chars lib.Utf8.encode
-returns-clause-plain c = refl
-
-pub returns-clause-bar : goal.returns-clause-bar
-unfolding chars lib.Utf8.encode
-returns-clause-bar c = refl
-
-pub returns-clause-backslash : goal.returns-clause-backslash
-unfolding chars lib.Utf8.encode
-returns-clause-backslash c = refl
-
-pub returns-clause-both : goal.returns-clause-both
-unfolding chars lib.Utf8.encode
-returns-clause-both c = refl
-
-pub returns-clause-lines : goal.returns-clause-lines
-unfolding chars lib.Utf8.encode
-returns-clause-lines c = refl
-
-pub returns-clause-past_ascii : goal.returns-clause-past_ascii
-unfolding chars lib.Utf8.encode
-returns-clause-past_ascii c = refl
+pub returns : goal.returns
+unfolding chars encode at_escape control_from escape_from first_pieces leading_piece opened pieces sequence_front string_from
+returns c = record {
+  nothing = refl;
+  plain = refl;
+  bar = refl;
+  backslash = refl;
+  both = refl;
+  lines = refl;
+  sequence = refl;
+  past_ascii = refl;
+}

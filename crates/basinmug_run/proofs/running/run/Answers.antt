@@ -7,13 +7,13 @@ use Rattle.basinmug_picture.proofs.Narrowed.{err-told}
 use Rattle.basinmug_run.specs.Faults.{of_input, of_print}
 use Rattle.basinmug_run.specs.Runs.{IsRowsFault, PrintsRows, StopsInRows}
 use Rattle.basinmug_input.specs.Rows.{rows_in}
-use Rattle.basinmug_run.proofs.OfRuns.{fails-told, input-fails, input-takes, not-printed, not-read, nothing-printed, something-printed, stops-at-once, takes-told}
+use Rattle.basinmug_run.proofs.OfRuns.{fails-told, input-fails, input-takes, not-printed, not-read, nothing-printed, something-printed, stops-printed, stops-unread, takes-told}
 use Rattle.basinmug_run.proofs.running.run.Goals as goal
 
 pub returns-in_err-rows-clause-front : goal.returns-in_err-rows-clause-front
 returns-in_err-rows-clause-front g c =
     err-told c.from_residual.result (of_input c.in_err-rows.field-0.0) _ c.from_residual.ensures.1
-    (λ some. stops-at-once c.args.options.now (rows_in c.args.delimiter c.args.bytes.now) (g.W.Write.contents (inner_of c.args.writer.now)))
+    (stops-unread c.args.delimiter c.args.bytes.now c.args.options.now c.in_err-rows.field-0.0 (g.W.Write.contents (inner_of c.args.writer.now)))
 
 pub returns-in_err-rows-clause-refused : goal.returns-in_err-rows-clause-refused
 returns-in_err-rows-clause-refused g c =
@@ -27,9 +27,13 @@ returns-in_err-rows-clause-write_zero g c = input-takes c.args.writer.now c.args
 
 pub returns-in_err-shown-clause-front : goal.returns-in_err-shown-clause-front
 returns-in_err-shown-clause-front g c =
-    err-told c.from_residual-in_err-shown.result (of_print c.in_err-shown.field-0.0) _ c.from_residual-in_err-shown.ensures.1
-    (λ some. subst (λ (it : List (List (List ℕ))). StopsInRows c.args.options.now it (g.W.Write.contents (inner_of c.args.writer.now)) (g.W.Write.contents (inner_of c.print_rows.new.writer))) c.in_ok-rows.ensures.rows
-    (c.in_err-shown.ensures.front (something-printed c.in_err-shown.field-0.0 some)))
+    let old = g.W.Write.contents (inner_of c.args.writer.now) in
+    let new = g.W.Write.contents (inner_of c.print_rows.new.writer) in
+    let options = c.args.options.now in
+    let fault = c.in_err-shown.field-0.0 in
+    err-told c.from_residual-in_err-shown.result (of_print fault) _ c.from_residual-in_err-shown.ensures.1
+    (λ some. stops-printed c.args.delimiter c.args.bytes.now options fault old new c.in_ok-rows.ensures.readable
+    (subst (λ (it : List (List (List ℕ))). StopsInRows options it fault old new) c.in_ok-rows.ensures.rows (c.in_err-shown.ensures.front (something-printed fault some))))
 
 pub returns-in_err-shown-clause-untouched : goal.returns-in_err-shown-clause-untouched
 returns-in_err-shown-clause-untouched g c =
