@@ -1,21 +1,12 @@
 //! A cell that is a part of a text, or has a text of its own.
 ghost use Rattle.std.specs.Prelude.{◌≡◌, IfOk, MatchOption, false, string_bytes, true};
 ghost use Rattle.grid_records_measure.specs.Measures.{are_printable};
-ghost use Rattle.grid_records_traits.specs.PlainRows.{IsPlainText};
 ghost use Rattle.basinmug_cells.specs.Fields.{field_text};
 
-use grid_records_measure::is_printable;
+use crate::plain::{Plain, printable};
 use grid_records_rows::{Cell, FromText, Text};
 use std::alloc::{AllocError, Global};
 use std::borrow::CowStr;
-
-/// A text of one line, and the columns that it takes. It borrows the text.
-#[derive(Clone, Copy)]
-pub struct Plain<'a> {
-    text: &'a str,
-    width: usize,
-    ghost plain: { IsPlainText text.now width },
-}
 
 /// A cell: a part of a text, which is one line of it, or a text of its own. What either measures is known, and is not
 /// found again.
@@ -33,13 +24,10 @@ impl<'a> Field<'a> {
     pub fn printable(text: &'a str) -> Option<Field<'a>>
         ensures { MatchOption result (are_printable text.now ≡ false) (λ field. (field_text field ≡ text.now) × (are_printable text.now ≡ true)) }
     {
-        if !is_printable(text) {
-            return None;
+        match printable(text) {
+            Some(part) => Some(Field::Part(part)),
+            None => None,
         }
-        Some(Field::Part(Plain {
-            text,
-            width: text.len(),
-        }))
     }
 
     /// A cell with this text of its own, which is measured. Fails only where allocation fails.

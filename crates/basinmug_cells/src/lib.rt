@@ -3,7 +3,9 @@
 
 mod field;
 pub mod laws;
+mod plain;
 mod texts;
 
-pub use field::{Field, Plain};
+pub use field::Field;
+pub use plain::Plain;
 pub use texts::{fields_of, texts_of};

@@ -27,11 +27,7 @@ pub fn numeric_columns<C: Cell>(
 }
 
 // Whether a column is of numbers. Its cells below the first that is neither blank nor a number are not read.
-fn is_numeric<C: Cell>(
-    alloc: Global,
-    records: &[Vec<C>],
-    column: usize,
-) -> Result<bool, AllocError>
+fn is_numeric<C: Cell>(alloc: Global, records: &[Vec<C>], column: usize) -> Result<bool, AllocError>
     ensures { IfOk result (λ answer. answer ≡ is_numeric (texts_of_rows C.text records.now) column) }
 {
     let mut found = false;

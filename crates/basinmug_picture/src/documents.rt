@@ -98,7 +98,10 @@ fn rule_of(alloc: Global, table: &Table<Field<'_>>) -> Result<String, Fault>
 }
 
 // Where the header's texts stand, column by column. Fails only where allocation fails.
-fn header_alignments(alloc: Global, table: &Table<Field<'_>>) -> Result<Vec<AlignmentHorizontal>, AllocError>
+fn header_alignments(
+    alloc: Global,
+    table: &Table<Field<'_>>,
+) -> Result<Vec<AlignmentHorizontal>, AllocError>
     ensures { IfOk result (λ made. made.items ≡ header_alignments (state_of field_text table.now)) }
 {
     let config = table.get_config().spanned();

@@ -100,12 +100,7 @@ fn fitted_cell<R: PeekableRecords>(
 }
 
 // What a text that is wider than so many columns becomes.
-fn fitted_text(
-    alloc: Global,
-    text: &str,
-    room: usize,
-    truncate: bool,
-) -> Result<String, AllocError>
+fn fitted_text(alloc: Global, text: &str, room: usize, truncate: bool) -> Result<String, AllocError>
     ensures { IfOk result (λ out. string_bytes out ≡ fitted_text truncate room text.now) }
 {
     if truncate {

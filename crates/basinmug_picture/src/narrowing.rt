@@ -93,7 +93,11 @@ fn narrow(
 }
 
 // Fits the texts of a table to the rooms of its columns, and trims their lines.
-fn fit_columns(alloc: Global, table: &mut Table<Field<'_>>, fitting: &Fitting<'_>) -> Result<(), Fault>
+fn fit_columns(
+    alloc: Global,
+    table: &mut Table<Field<'_>>,
+    fitting: &Fitting<'_>,
+) -> Result<(), Fault>
     ensures fitted { OnOk result (Runs (trims fitting.now.truncate fitting.now.widths.now fitting.now.rooms.now)
         (with_fitted_texts fitting.now.truncate fitting.now.widths.now fitting.now.rooms.now (state_of field_text table.old)) (state_of field_text table.new)) }
     ensures refused { IfErr result (λ fault. (fault ≡ Memory) ⊎ IsRefusedIn (trims fitting.now.truncate fitting.now.widths.now fitting.now.rooms.now)
