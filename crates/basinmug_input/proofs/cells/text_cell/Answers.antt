@@ -1,6 +1,5 @@
 -- Printable ASCII is sound, and is shown as it is.
-use Rattle.std.proofs.Common.{◌≡◌, ◌∙◌, sym}
-use Rattle.basinmug_input.specs.Cleaning.{cleaned}
+use Rattle.std.proofs.Common.{◌∙◌, sym}
 use Rattle.basinmug_input.proofs.Graphic.{printable-cleaned, printable-whole}
 use Rattle.basinmug_input.proofs.cells.text_cell.Goals as goal
 
