@@ -32,7 +32,10 @@ fn main(rt: HostRuntime) -> ExitCode {
     match read_words(rt.alloc(), &words) {
         Ok(Asked::Run(plan)) => show(&rt, plan),
         Ok(Asked::Help(text)) => ended(&rt, None, tell(&rt, &text)),
-        Ok(Asked::Faulty(text)) => faulty(&rt, &text),
+        Ok(Asked::Faulty(text)) => match said_of(&rt, &words, &text) {
+            Ok(said) => faulty(&rt, &said),
+            Err(error) => ended(&rt, None, Err(error.into())),
+        },
         Err(error) => ended(&rt, None, Err(error.into())),
     }
 }
@@ -155,6 +158,19 @@ fn say(rt: &HostRuntime, line: Result<String, AllocError>) {
         Ok(shown) => eprintln!(rt; "basinmug: {shown}"),
         Err(_) => eprintln!(rt; "basinmug: out of memory"),
     };
+}
+
+// What is said of words that are at fault: it is said of the words as `visible` shows them, so that nothing in one moves
+// a terminal's cursor. Should these not be at fault, it is the text itself, in one line.
+fn said_of(rt: &HostRuntime, words: &[String], text: &str) -> Result<String, AllocError> {
+    let mut shown = Vec::new(rt.alloc());
+    for word in words {
+        shown.push(visible(rt.alloc(), word.as_str())?)?;
+    }
+    match read_words(rt.alloc(), &shown)? {
+        Asked::Faulty(said) => Ok(said),
+        Asked::Run(_) | Asked::Help(_) => visible(rt.alloc(), text),
+    }
 }
 
 // Words that are at fault. What the parser says of them ends in a line feed, and what is said of a value in none.

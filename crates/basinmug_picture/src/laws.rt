@@ -1,10 +1,25 @@
 //! Laws of the definitions that the contracts cite. The functions do nothing.
-ghost use Rattle.std.specs.Prelude.{◌≡◌, Some};
+ghost use Rattle.std.specs.Io.KnownBytes.{Appends};
+ghost use Rattle.std.specs.Prelude.{◌≡◌, ◌≤◌, ◌∷◌, ◌++◌, ℕ, [], codes, false, true, List, None, Option, Some};
 ghost use Rattle.std.specs.declared.alloc.AllocError.{AllocError as Refused};
 ghost use Rattle.grid_config_values.specs.declared.fault.Fault.{Fault as TableFault};
 ghost use Rattle.tabled_compact.specs.declared.fault.BuildFault.{BuildFault as BuildingFault};
 ghost use Rattle.tabled_compact.specs.declared.fault.BuildFault.TheVariants.{Table as OfTable};
+ghost use Rattle.grid_config_values.specs.declared.entity.Entity.TheVariants.{Column};
+ghost use Rattle.tabled.specs.Tables.{new_state};
+ghost use Rattle.tabled.specs.Totals.{drawn_width};
+ghost use Rattle.tabled_list.specs.Lists.{Runs};
+ghost use Rattle.tabled_list.specs.declared.setting.Setting.TheVariants.{LineAlignment, TrimHorizontal};
+ghost use Rattle.tabled_steps.specs.States.{State};
+ghost use Rattle.tabled_text.specs.Rows.{filled};
+ghost use Rattle.basinmug_options.specs.declared.options.Look.TheVariants.{Markdown, Rounded};
+ghost use Rattle.basinmug_options.specs.declared.options.Options.{Options as Asked};
 ghost use Rattle.basinmug_picture.specs.Faults.{of_build, print_fault_text};
+ghost use Rattle.basinmug_picture.specs.Fitting.{fitted, trims};
+ghost use Rattle.basinmug_picture.specs.Lines.{below, more_line};
+ghost use Rattle.basinmug_picture.specs.Pictures.{IsTable, looks_of};
+ghost use Rattle.basinmug_picture.specs.Printed.{Prints, shown_rows, text_of};
+ghost use Rattle.basinmug_picture.specs.Rows.{cells_of, is_markdown, shown_count};
 ghost use Rattle.basinmug_picture.specs.declared.fault.PrintFault.{PrintFault as OneFault};
 ghost use Rattle.basinmug_picture.specs.declared.fault.PrintFault.TheVariants.{Memory};
 
@@ -21,4 +36,37 @@ pub fn faults_are_printed_whole<T: Drop>()
     ensures of_table { (given : TableFault) (fault : OneFault) → ⟦<PrintFault as From<Fault>>⟧.from_gives given fault → fault ≡ of_build (OfTable given) }
     ensures of_memory { (given : Refused) (fault : OneFault) → ⟦<PrintFault as From<AllocError>>⟧.from_gives given fault → fault ≡ Memory }
     ensures of_push { (given : _) (fault : OneFault) → ⟦<PrintFault as From<AllocFailed<T>>>⟧.from_gives given fault → fault ≡ Memory }
+{}
+
+/// What is told to be no wider than asked is the text of a table that is at most so wide.
+pub fn tables_are_as_wide_as_is_told()
+    ensures { (options : Asked) (rows : List (List (List ℕ))) (width : ℕ) (old new : Option (List ℕ)) → options.width ≡ Some width → Prints options rows false old new →
+        (s : State) × IsTable options (shown_rows options rows) s × (drawn_width s ≤ width) × Appends old new (text_of options rows s) }
+{}
+
+/// The table of a document is the table of its cells after its looks alone, whatever width is asked.
+pub fn documents_are_never_broken()
+    ensures { (options : Asked) (rows : List (List (List ℕ))) (s : State) → is_markdown options.look ≡ true → IsTable options rows s →
+        Runs (looks_of options rows) (new_state (filled (cells_of options.look options.header rows))) s }
+{}
+
+/// How many rows are shown, and what stands below them.
+pub fn counts_by_hand()
+    ensures with_header { shown_count true (Some 1) 3 ≡ 2 }
+    ensures without_header { shown_count false (Some 1) 3 ≡ 1 }
+    ensures few { shown_count true (Some 7) 3 ≡ 3 }
+    ensures all { shown_count true None 3 ≡ 3 }
+    ensures no_row { more_line 0 ≡ [] }
+    ensures one_row { below Rounded 1 ≡ codes "(1 more row)\n" }
+    ensures three_rows { more_line 3 ≡ codes "(3 more rows)\n" }
+    ensures of_document { below Markdown 1 ≡ codes "\n(1 more row)\n" }
+    ensures whole_document { below Markdown 0 ≡ [] }
+{}
+
+/// Texts that stay, and whose lines are trimmed: of two columns that take nine and four, and have five and four.
+pub fn rooms_by_hand()
+    ensures room { fitted true (9 ∷ 4 ∷ []) (5 ∷ 4 ∷ []) 1 (codes "too long") ≡ None }
+    ensures no_column { fitted true (9 ∷ 4 ∷ []) (5 ∷ 4 ∷ []) 2 (codes "too long") ≡ None }
+    ensures broken { trims false (9 ∷ 4 ∷ []) (5 ∷ 4 ∷ []) ≡ TrimHorizontal (Column 0) true ∷ LineAlignment (Column 0) true ∷ [] }
+    ensures cut { trims true (9 ∷ 4 ∷ []) (5 ∷ 4 ∷ []) ≡ [] }
 {}

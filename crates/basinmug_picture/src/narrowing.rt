@@ -32,22 +32,30 @@ pub(crate) fn narrow_if_asked(
         ⊎ MatchOption (narrowed_to options.now) ⊥
         (λ width. IsNotNarrowed options.now.truncate options.now.priority numeric.now width (state_of field_text table.old) fault)) }
 {
-    let Some(width) = options.width else {
-        return Ok(false);
-    };
-    if is_markdown(options.look) {
-        return passes(table, width);
+    match narrowed_to(options) {
+        None => is_wider(table, options.width),
+        Some(width) => narrow(
+            alloc,
+            table,
+            numeric,
+            Narrowing {
+                width,
+                truncate: options.truncate,
+                priority: options.priority,
+            },
+        ),
     }
-    narrow(
-        alloc,
-        table,
-        numeric,
-        Narrowing {
-            width,
-            truncate: options.truncate,
-            priority: options.priority,
-        },
-    )
+}
+
+// How wide a table may be: a document is never broken.
+fn narrowed_to(options: &Options) -> Option<usize>
+    ensures { result ≡ narrowed_to options.now }
+{
+    if is_markdown(options.look) {
+        None
+    } else {
+        options.width
+    }
 }
 
 // How a table is made narrower: to this width, in columns, by cutting texts or by breaking them over lines.
@@ -117,6 +125,17 @@ pub(crate) fn run_settings(table: &mut Table<Field<'_>>, settings: &[Setting]) -
     match table.with_list(settings) {
         Ok(()) => Ok(()),
         Err((_, fault)) => Err(fault),
+    }
+}
+
+// Whether a table is wider than is asked.
+fn is_wider(table: &Table<Field<'_>>, asked: Option<usize>) -> Result<bool, Fault>
+    ensures wider { IfOk result (λ wider. wider ≡ is_wider asked (state_of field_text table.now)) }
+    ensures refused { IfErr result (λ fault. fault ≡ Memory) }
+{
+    match asked {
+        None => Ok(false),
+        Some(width) => passes(table, width),
     }
 }
 

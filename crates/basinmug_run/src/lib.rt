@@ -7,7 +7,14 @@ mod messages;
 mod records;
 mod running;
 
-pub use basinmug_picture::Shown;
+pub use basinmug_input::InputFault;
+pub use basinmug_options::{ColumnName, Look, Options, Rules};
+pub use basinmug_picture::{PrintFault, Shown};
 pub use fault::RunFault;
+pub use grid_config_colors::ANSIBuf;
+pub use grid_config_values::{AlignmentHorizontal, Fault};
 pub use messages::visible;
 pub use running::run;
+pub use tabled_compact::BuildFault;
+pub use tabled_output::Counted;
+pub use tabled_size_priority::Choice;

@@ -4,6 +4,7 @@
 mod boxes;
 mod changed;
 mod commas;
+mod delimited;
 mod grid;
 mod kept;
 mod line;
@@ -15,6 +16,7 @@ mod styled;
 mod tables;
 mod totals;
 
+use basinmug_run::{Counted, RunFault};
 use grid_config::Fault;
 use std::io::{Eprint, Print};
 use std::process::ExitCode;
@@ -26,7 +28,7 @@ const WORDS: &str = "parser 214\nlayout 96\n表 3\n";
 /// Prints what each caller makes, the pages of standard input last. Its status is 1 where an allocation
 /// fails, a table is refused, or the pages are, these with a line on standard error.
 fn main(rt: HostRuntime) -> ExitCode {
-    if print(&rt).is_err() {
+    if print(&rt).is_err() || records(&rt).is_err() {
         return ExitCode::FAILURE;
     }
     match pager::paged(&rt) {
@@ -45,7 +47,14 @@ fn print(rt: &HostRuntime) -> Result<(), Fault> {
     grids(rt)?;
     let _ = println!(rt; "\n== Tables\n");
     tables::print(rt)?;
-    let _ = println!(rt; "== Pages of standard input\n");
+    Ok(())
+}
+
+fn records(rt: &HostRuntime) -> Result<(), RunFault> {
+    let _ = println!(rt; "== Records of a delimited text\n");
+    let mut output = Counted::new(rt.stdout());
+    delimited::prices(rt.alloc(), &mut output)?;
+    let _ = println!(rt; "\n== Pages of standard input\n");
     Ok(())
 }
 
