@@ -3,3 +3,4 @@ pub mod KeptLines
 pub mod PlainLines
 mod Spaces
 pub mod EmptyRows
+pub mod FlatParts

@@ -1,5 +1,5 @@
--- Rows of one line, where the cells of a table have the same settings but for their alignment: what stands between their
--- texts is the same in each.
+-- Rows, where the cells of a table have the same settings but for their alignment: what stands between their texts is the
+-- same in each.
 use Rattle.std.specs.Prelude.{◌≡◌, ⊤, ℕ, ◌+◌, ◌-◌, ◌==◌, Bool, false, List, [], ◌∷◌, ◌++◌, Option, MatchOption, None, drop, length, string_bytes, if◌then◌else◌}
 use Rattle.std.specs.Option.{option_map}
 use Rattle.grid_config_values.specs.declared.alignment.AlignmentHorizontal.{AlignmentHorizontal}
@@ -88,12 +88,15 @@ module _ (look : Look) where
   abbrev pub right_padding : Position → List ℕ
   right_padding cell = colored (look.padding_color cell).right (fill_bytes (look.padding cell).right.fill (look.padding cell).right.size)
 
-  -- what stands before the first line, between two, and after the last, how lines stand in their columns, and the alignment
-  -- of all cells where it is told
+  -- what stands before the first line, between two, and after the last; the boundary and the padding before a line, and the
+  -- padding after it; how lines stand in their columns, and the alignment of all cells where it is told
   pub record AreFlatRows (columns : ℕ) (rows : FlatRows) : Type 0 where
     pub front : string_bytes rows.front ≡ left_margin ++ (upright_bytes look 0 columns ++ left_padding first_cell)
     pub between : spaced_text rows.between ≡ right_padding first_cell ++ (upright_bytes look 1 columns ++ left_padding first_cell)
     pub back : spaced_text rows.back ≡ right_padding first_cell ++ (upright_bytes look columns columns ++ right_margin)
+    pub first_head : string_bytes rows.first_head ≡ upright_bytes look 0 columns ++ left_padding first_cell
+    pub head : string_bytes rows.head ≡ upright_bytes look 1 columns ++ left_padding first_cell
+    pub tail : spaced_text rows.tail ≡ right_padding first_cell
     pub standing : standing_of rows (look.alignment_horizontal first_cell) ≡ standing look first_cell
     pub alignment : MatchOption rows.alignment ⊤ (λ one. (cell : Position) → look.alignment_horizontal cell ≡ one)
 
@@ -104,6 +107,10 @@ module _ (look : Look) where
 -- what stands after the text in column j of `columns`
 abbrev pub behind_text : FlatRows → ℕ → ℕ → List ℕ
 behind_text rows j columns = if j + 1 == columns then spaced_text rows.back else spaced_text rows.between
+
+-- the boundary before column j, and the padding of its cell
+abbrev pub head_bytes : FlatRows → ℕ → List ℕ
+head_bytes rows j = if j == 0 then string_bytes rows.first_head else string_bytes rows.head
 
 -- ---- the line of a row of empty cells
 

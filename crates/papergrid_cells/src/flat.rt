@@ -1,16 +1,18 @@
-//! Rows of one line, where all cells of a table have the same settings but for their alignment: what stands
-//! between their texts is made once.
+//! Rows, where all cells of a table have the same settings but for their alignment: what stands between their
+//! texts is made once.
 ghost use Rattle.std.specs.Prelude.{◌≡◌, ⊤, ◌<◌, ◌++◌, ℕ, IfOk, IfSome, IsSome, IsTrue, MatchOption, None, OnOk, length, string_bytes};
 ghost use Rattle.std.specs.Option.{option_map};
 ghost use Rattle.grid_config.specs.Looks.{Look, look_of};
 ghost use Rattle.grid_config.specs.Colors.{color_of};
 ghost use Rattle.grid_config_values.specs.declared.position.Position.{Position as Cell};
 ghost use Rattle.papergrid_picture.specs.Blocks.{free_left};
+ghost use Rattle.papergrid_cells.specs.BlockLines.{alone_bytes};
 ghost use Rattle.papergrid_cells.specs.Boundaries.{upright_bytes};
-ghost use Rattle.papergrid_cells.specs.Flat.{AreFlat, AreFlatRows, HasEmptyRow, IsEmptyRow, behind_text, empty_from, joints_of, placed, room_in, rooms_from, spaced_text, standing_of};
+ghost use Rattle.papergrid_cells.specs.Flat.{AreFlat, AreFlatRows, HasEmptyRow, IsEmptyRow, behind_text, empty_from, head_bytes, joints_of, placed, room_in, rooms_from, spaced_text, standing_of};
 ghost use Rattle.papergrid_cells.specs.Painting.{colored, fill_bytes};
+ghost use Rattle.papergrid_cells.specs.declared.block.BlockLine.TheVariants.{Text};
 
-use crate::block::{borrowed, free_left, push_indent};
+use crate::block::{OpenCell, borrowed, free_left, push_indent};
 use crate::empty_row::{EmptyRow, Room};
 use crate::glyphs::push_upright;
 use crate::painting::{push_fill, push_text};
@@ -22,14 +24,18 @@ use std::alloc::{AllocError, Global};
 // The cell whose settings stand for those of all cells.
 const FIRST: Position = Position { row: 0, col: 0 };
 
-/// What rows of one line have in common: what stands before the first text, between two, and after the
-/// last, how texts stand in their columns, the alignment of all cells where they have but one, and where it
-/// was made the line of a row of empty cells.
+/// What rows have in common: what stands in a line before the first text, between two, and after the last;
+/// what stands before a text in the first column and in each other one, and after it, in a line whose cells are
+/// appended one by one; how texts stand in their columns, the alignment of all cells where they have but one, and
+/// where it was made the line of a row of empty cells.
 #[derive(Drop)]
 pub struct FlatRows<'a> {
     pub front: String,
     pub between: Spaced,
     pub back: Spaced,
+    pub first_head: String,
+    pub head: String,
+    pub tail: Spaced,
     pub left: usize,
     pub right: usize,
     pub fill: char,
@@ -73,10 +79,16 @@ impl<'a> FlatRows<'a> {
         let front = joint(alloc, cfg, before, 0, columns, left)?;
         let between = spaced_joint(alloc, cfg, right, 1, columns, left)?;
         let back = spaced_joint(alloc, cfg, right, columns, columns, behind)?;
+        let first_head = head(alloc, cfg, 0, columns, left)?;
+        let head = head(alloc, cfg, 1, columns, left)?;
+        let tail = tail(alloc, right)?;
         Ok(FlatRows {
             front,
             between,
             back,
+            first_head,
+            head,
+            tail,
             left: padding.left.size,
             right: padding.right.size,
             fill: cfg.get_justification(FIRST),
@@ -215,13 +227,81 @@ impl<'a> FlatRows<'a> {
             ++ (placed (standing_of self.now ((look_of cfg.now).alignment_horizontal pos)) width measure widest (option_map color_of color.entry) line.now
             ++ behind_text self.now pos.col columns)) }
     {
+        let behind = self.behind(pos.col, columns);
+        self.push_placed(out, cfg, pos, width, measure, widest, color, line, behind)
+    }
+
+    /// Appends the boundary before the column of this cell, one of `columns`, and the line of its text with this
+    /// number, between its paddings, in a table of these settings, for which the rows were made. Fails only where
+    /// allocation fails.
+    pub fn push_part(
+        &self,
+        out: &mut String,
+        cfg: &SpannedConfig,
+        cell: &OpenCell<'_>,
+        columns: usize,
+        k: usize,
+    ) -> Result<(), AllocError>
+        requires flat { AreFlat cfg.now }
+        requires made { AreFlatRows (look_of cfg.now) columns self.now }
+        requires column { cell.now.pos.col < columns }
+        ensures { OnOk result (string_bytes out.new ≡ string_bytes out.old ++ (upright_bytes (look_of cfg.now) cell.now.pos.col columns ++ alone_bytes (look_of cfg.now) cell.now (Text k))) }
+    {
+        let lines = &cell.lines;
+        let (measure, widest) = (lines.width(k), lines.widest());
+        out.push_str(self.head_of(cell.pos.col))?;
+        self.push_placed(
+            out,
+            cfg,
+            cell.pos,
+            cell.width,
+            measure,
+            widest,
+            cell.color,
+            lines.text(k),
+            &self.tail,
+        )
+    }
+
+    // What stands before a text in this column, where its cell is appended alone.
+    #[inline(always)]
+    fn head_of(&self, column: usize) -> &str
+        ensures { result.now ≡ head_bytes self.now column }
+    {
+        if column == 0 {
+            &self.first_head
+        } else {
+            &self.head
+        }
+    }
+
+    // Appends a line that measures `measure` to a column that is `width` wide, by the alignment of its cell,
+    // and what stands after it; `widest` is what the widest line of the cell measures.
+    #[inline(always)]
+    fn push_placed(
+        &self,
+        out: &mut String,
+        cfg: &SpannedConfig,
+        pos: Position,
+        width: usize,
+        measure: usize,
+        widest: usize,
+        color: Option<ANSIStr<'_>>,
+        line: &str,
+        behind: &Spaced,
+    ) -> Result<(), AllocError>
+        requires { (columns : ℕ) × AreFlatRows (look_of cfg.now) columns self.now }
+        ensures { OnOk result (string_bytes out.new ≡ string_bytes out.old
+            ++ (placed (standing_of self.now ((look_of cfg.now).alignment_horizontal pos)) width measure widest (option_map color_of color.entry) line.now
+            ++ spaced_text behind.now)) }
+    {
         let room = self.room(width);
         let aligned = if self.line_alignment { measure } else { widest };
         let indent = self.indent(cfg, pos, room.saturating_sub(aligned));
         let rest = room.saturating_sub(indent).saturating_sub(measure);
         push_fill(out, self.fill, indent, self.fill_color)?;
         push_text(out, line, color)?;
-        self.push_rest(out, rest, self.behind(pos.col, columns))
+        self.push_rest(out, rest, behind)
     }
 
     // Appends what is free after a text, and what stands after that.
@@ -273,6 +353,31 @@ impl<'a> Blank<'a> {
     {
         Blank { indent, color }
     }
+}
+
+// What stands on column boundary `j`, and the padding after it.
+fn head(
+    alloc: Global,
+    cfg: &SpannedConfig,
+    j: usize,
+    columns: usize,
+    left: Blank<'_>,
+) -> Result<String, AllocError>
+    ensures { IfOk result (λ text. string_bytes text ≡ upright_bytes (look_of cfg.now) j columns ++ colored left.entry.color.now (fill_bytes left.entry.indent.now.fill left.entry.indent.now.size)) }
+{
+    let mut text = String::new(alloc);
+    push_upright(&mut text, cfg, j, columns)?;
+    push_indent(&mut text, left.indent, left.color)?;
+    Ok(text)
+}
+
+// A padding, to be appended after spaces.
+fn tail(alloc: Global, right: Blank<'_>) -> Result<Spaced, AllocError>
+    ensures { IfOk result (λ made. spaced_text made ≡ colored right.entry.color.now (fill_bytes right.entry.indent.now.fill right.entry.indent.now.size)) }
+{
+    let mut text = String::new(alloc);
+    push_indent(&mut text, right.indent, right.color)?;
+    Spaced::new(alloc, &text)
 }
 
 // What stands on column boundary `j`, between two blanks.

@@ -1,5 +1,5 @@
 -- Rows of one line show what the picture shows, where all cells of a table have the same settings but for their alignment.
-use Rattle.std.proofs.Common.{◌≡◌, ℕ, zero, suc, ◌+◌, ◌-◌, ◌<◌, ◌≤◌, true, false, cond, List, [], ◌∷◌, ◌++◌, Option, length, map, max, take, get_or, refl, ap, sym, ◌∙◌, arith, append_assoc, append-nil, string_bytes}
+use Rattle.std.proofs.Common.{◌≡◌, ℕ, zero, suc, ◌+◌, ◌-◌, ◌<◌, ◌≤◌, true, false, cond, List, [], ◌∷◌, ◌++◌, Option, length, map, max, take, get_or, refl, ap, sym, ◌∙◌, arith, append_assoc, string_bytes}
 use Rattle.std.specs.Prelude.{◌==◌, nat_lt, slice_index, unwrap_or}
 use Rattle.std.proofs.lemmas.Bool.Decides.{nat_tests}
 use Rattle.std.proofs.lemmas.List.Concat.{flat_map-append}
@@ -17,7 +17,7 @@ use Rattle.grid_records_traits.proofs.TextAnswers.{line_of_text, line_width_of_t
 use Rattle.grid_config_values.specs.declared.alignment.AlignmentVertical.{AlignmentVertical}
 use Rattle.grid_config_values.specs.declared.alignment.AlignmentVertical.TheVariants.{Top, Center as Middle, Bottom}
 use Rattle.grid_config_values.specs.declared.position.Position.{Position}
-use Rattle.grid_config_values.specs.Glyphs.{BoundaryKind, First, Between, Last, along_column, boundary_kind, crossing, has_column_boundary, in_row}
+use Rattle.grid_config_values.specs.Glyphs.{BoundaryKind, along_column, boundary_kind, crossing, has_column_boundary, in_row}
 use Rattle.grid_config_spans.specs.declared.extent.Extent.{Extent}
 use Rattle.grid_config_spans.specs.Owners.{owner}
 use Rattle.grid_config_spans.specs.Spans.{extent_at, single}
@@ -31,13 +31,14 @@ use Rattle.papergrid_picture.specs.Reading.{line_items, painted, part_items}
 use Rattle.papergrid_picture.proofs.Frames.{boundary-behind, boundary-next}
 use Rattle.papergrid_cells.specs.BlockLines.{kind_at, line_kind, line_parts}
 use Rattle.papergrid_cells.specs.Boundaries.{upright_bytes}
-use Rattle.papergrid_cells.specs.Flat.{AreFlat, AreFlatRows, Standing, behind_boundary, first_cell, left_margin, left_padding, placed, right_margin, right_padding, spaced_text, standing, standing_of}
+use Rattle.papergrid_cells.specs.Flat.{AreFlat, AreFlatRows, behind_boundary, first_cell, left_margin, left_padding, placed, right_margin, right_padding, spaced_text, standing, standing_of}
 use Rattle.papergrid_print.specs.FlatSheets.{first_placed, row_front}
 use Rattle.papergrid_cells.specs.Painting.{colored, fill_bytes}
 use Rattle.papergrid_print.specs.Sheets.{GoesOn, Sheet, bytes_of, grid_of, line_at, plain_bytes, row_tracks}
 use Rattle.papergrid_cells.specs.declared.block.BlockLine.TheVariants.{Text, Below, Outside}
 use Rattle.papergrid_cells.specs.declared.block.OpenCell.{OpenCell}
 use Rattle.papergrid_cells.specs.declared.flat.FlatRows.{FlatRows}
+use Rattle.papergrid_cells.proofs.FlatParts.{between-kind, five, left-same, right-same, standing-own}
 use Rattle.papergrid_cells.proofs.KeptLines.{map-same}
 use Rattle.papergrid_print.proofs.LinesShown.{block-line, painted-bare, parts_of-append, parts_of-laid, row-line, row_start, row_start-more, upright-bytes}
 
@@ -97,27 +98,8 @@ one-width text count width counted one has = λ ps of_text. has ps of_text ∙ b
 
 -- ---- a part of a row
 
-five : (a b c d e : List ℕ) {v w x y z : List ℕ} → v ≡ a → w ≡ b → x ≡ c → y ≡ d → z ≡ e → v ++ (w ++ (x ++ (y ++ (z ++ [])))) ≡ a ++ ((b ++ (c ++ d)) ++ e)
-five a b c d e {v} {w} {x} {y} {z} first second third fourth fifth =
-    ap (λ l. l ++ (w ++ (x ++ (y ++ (z ++ []))))) first
-    ∙ (ap (λ l. a ++ (l ++ (x ++ (y ++ (z ++ []))))) second
-    ∙ (ap (λ l. a ++ (b ++ (l ++ (y ++ (z ++ []))))) third
-    ∙ (ap (λ l. a ++ (b ++ (c ++ (l ++ (z ++ []))))) fourth
-    ∙ (ap (λ l. a ++ (b ++ (c ++ (d ++ (l ++ []))))) fifth
-    ∙ (ap (λ l. a ++ (b ++ (c ++ (d ++ l)))) (append-nil e)
-    ∙ regroup)))))
-  where
-    regroup : a ++ (b ++ (c ++ (d ++ e))) ≡ a ++ ((b ++ (c ++ d)) ++ e)
-    regroup = simp append_assoc
-
 regrouped : (b m s u l p r v : List ℕ) → ((b ++ (m ++ (s ++ (u ++ l)))) ++ p) ++ (r ++ v) ≡ b ++ (m ++ ((s ++ (u ++ (l ++ (p ++ r)))) ++ v))
 regrouped b m s u l p r v = simp append_assoc
-
-between-kind : (i n : ℕ) → 0 < i → i < n → boundary_kind i n ≡ Between
-between-kind i n some below =
-    let first : (i == 0) ≡ false = grind (arith, nat_tests, some) in
-    let last : (i == n) ≡ false = grind (arith, nat_tests, below) in
-    ap (λ b. cond b First (cond (i == n) Last Between)) first ∙ ap (λ b. cond b Last Between) last
 
 extent-none : (pos : Position) → extent_at [] pos ≡ single
 unfolding extent_at
@@ -224,33 +206,6 @@ module _ (sheet : Sheet) (flat : AreFlat sheet.settings) where
   abbrev text_of : Position → List ℕ
   text_of pos = text_at sheet.rows pos
 
-  -- how a cell's text stands, by what rows of one line have in common and the cell's alignment
-  pub standing-own : (rows : FlatRows) (pos : Position) → AreFlatRows (look sheet) (length sheet.widths) rows
-      → standing_of rows ((look sheet).alignment_horizontal pos) ≡ standing (look sheet) pos
-  standing-own rows pos are =
-      ap (λ (s : Standing). record {
-        left = s.left;
-        right = s.right;
-        fill = s.fill;
-        fill_color = s.fill_color;
-        alignment = (look sheet).alignment_horizontal pos;
-        line_alignment = s.line_alignment;
-      }) are.standing
-      ∙ (λ t. record {
-        left = (flat.uniform.padding first_cell pos t).left.size;
-        right = (flat.uniform.padding first_cell pos t).right.size;
-        fill = flat.uniform.justification first_cell pos t;
-        fill_color = flat.uniform.justification_color first_cell pos t;
-        alignment = (look sheet).alignment_horizontal pos;
-        line_alignment = flat.uniform.line_alignment first_cell pos t;
-      })
-
-  left-same : (pos : Position) → left_padding (look sheet) pos ≡ left_padding (look sheet) first_cell
-  left-same pos = λ t. colored (flat.uniform.padding_color pos first_cell t).left (fill_bytes (flat.uniform.padding pos first_cell t).left.fill (flat.uniform.padding pos first_cell t).left.size)
-
-  right-same : (pos : Position) → right_padding (look sheet) pos ≡ right_padding (look sheet) first_cell
-  right-same pos = λ t. colored (flat.uniform.padding_color pos first_cell t).right (fill_bytes (flat.uniform.padding pos first_cell t).right.fill (flat.uniform.padding pos first_cell t).right.size)
-
   measures-at : (pos : Position) → (grid_of sheet).measures pos ≡ map line_measure (shown_lines (pieces (text_of pos)))
   measures-at pos =
       ap (λ h. cell_measures h ((look sheet).trim_vertical pos) (text_of pos)) (flat.uniform.trim_horizontal pos first_cell ∙ flat.trim_horizontal)
@@ -345,8 +300,8 @@ module _ (sheet : Sheet) (flat : AreFlat sheet.settings) where
       let inner : plain_bytes sheet (parts_of down) ≡ left_padding (look sheet) first_cell ++ (first_placed sheet (standing (look sheet) pos) pos ++ right_padding (look sheet) first_cell) =
       ap (plain_bytes sheet) (block-first i j row column one)
       ∙ (line-bytes pos (get_or sheet.widths j 0)
-      ∙ (ap (λ n. n ++ (first_placed sheet (standing (look sheet) pos) pos ++ right_padding (look sheet) pos)) (left-same pos)
-      ∙ ap (λ n. left_padding (look sheet) first_cell ++ (first_placed sheet (standing (look sheet) pos) pos ++ n)) (right-same pos))) in
+      ∙ (ap (λ n. n ++ (first_placed sheet (standing (look sheet) pos) pos ++ right_padding (look sheet) pos)) (left-same sheet.settings flat pos)
+      ∙ ap (λ n. left_padding (look sheet) first_cell ++ (first_placed sheet (standing (look sheet) pos) pos ++ n)) (right-same sheet.settings flat pos))) in
       ap (λ (cell : Position). plain_bytes sheet (parts_of (cond (cell.col == j) (up ++ block_pieces grid cell y) []))) (seen-own sheet flat.single i j)
       ∙ (ap (λ b. plain_bytes sheet (parts_of (cond b (up ++ down) []))) here
       ∙ (ap (plain_bytes sheet) (parts_of-append up down)
@@ -374,7 +329,7 @@ module _ (sheet : Sheet) (flat : AreFlat sheet.settings) where
       let start : flat_start sheet i j ≡ M ++ (S ++ (U ++ L)) = ap (λ b. M ++ (S ++ (U ++ cond b (right_margin (look sheet)) L))) here in
       let next : row_start sheet i y (j + 1) ≡ S ++ (U ++ (L ++ (P ++ R))) = sym (row_start-more sheet i y j) ∙ ap (λ l. S ++ l) (flat-part i j row column high) in
       behind
-      ∙ (ap (λ l. l ++ cond (j + 1 == C) (spaced_text rows.back) (spaced_text rows.between)) (printed ∙ (ap (λ s. out ++ first_placed sheet s (at i j)) (standing-own rows (at i j) are) ∙ ap (λ l. l ++ P) (before ∙ ap (λ l. begin ++ l) start)))
+      ∙ (ap (λ l. l ++ cond (j + 1 == C) (spaced_text rows.back) (spaced_text rows.between)) (printed ∙ (ap (λ s. out ++ first_placed sheet s (at i j)) (standing-own sheet.settings flat (length sheet.widths) rows (at i j) are) ∙ ap (λ l. l ++ P) (before ∙ ap (λ l. begin ++ l) start)))
       ∙ (ap (λ l. ((begin ++ (M ++ (S ++ (U ++ L)))) ++ P) ++ l) (flat-behind sheet j rows column are)
       ∙ (regrouped begin M S U L P R (V ++ B)
       ∙ ap (λ l. begin ++ (M ++ (l ++ (V ++ B)))) (sym next))))

@@ -15,6 +15,8 @@ ghost use Rattle.grid_config.specs.Looks.{look_of};
 ghost use Rattle.ansi_str.specs.StyledText.{has_escape};
 ghost use Rattle.grid_records_traits.specs.Cells.{HasLineCount, HasLineWidth, HasWidth};
 ghost use Rattle.grid_records_traits.specs.Rows.{text_at};
+ghost use Rattle.papergrid_cells.specs.BlockLines.{alone_bytes};
+ghost use Rattle.papergrid_cells.specs.Boundaries.{upright_bytes};
 ghost use Rattle.papergrid_cells.specs.Flat.{AreFlat, AreFlatRows, AreMadeFor, HasEmptyRow, behind_text, standing_of};
 ghost use Rattle.papergrid_print.specs.FlatSheets.{IsBetween, first_placed};
 ghost use Rattle.papergrid_cells.specs.Painting.{colored, fill_bytes, glyph_part};
@@ -29,8 +31,8 @@ use grid_config::{ANSIBuf, SpannedConfig};
 use grid_config_values::{Indent, Position};
 use grid_records_traits::PeekableRecords;
 use papergrid_cells::{
-    FlatRows, GlyphRun, OpenCell, are_flat, block_line, push_along, push_behind, push_blank,
-    push_block_line, push_corner, push_glyphs, push_indent, push_upright, read_cell,
+    BlockLine, FlatRows, GlyphRun, OpenCell, are_flat, block_line, push_along, push_behind,
+    push_blank, push_block_line, push_corner, push_glyphs, push_indent, push_upright, read_cell,
 };
 use std::alloc::{AllocError, Global};
 
@@ -49,16 +51,42 @@ pub(crate) struct Table<'a, R: PeekableRecords, C: Colors> {
 }
 
 impl<'a, R: PeekableRecords, C: Colors> Table<'a, R, C> {
+    // Appends boundary `j`, and this line of the cell in column `j`: by what was made once, where it was.
+    #[inline(always)]
+    fn push_cell_part(
+        &self,
+        out: &mut String,
+        flat: &Option<FlatRows<'a>>,
+        cell: &OpenCell<'a>,
+        j: usize,
+        line: BlockLine,
+    ) -> Result<(), AllocError>
+        requires made { AreMadeFor self.now.cfg.now self.now.widths.now flat.now }
+        requires column { j < length self.now.widths.now }
+        ensures { OnOk result (string_bytes out.new ≡ string_bytes out.old ++ (upright_bytes (look_of self.now.cfg.now) j (length self.now.widths.now) ++ alone_bytes (look_of self.now.cfg.now) cell.now line)) }
+    {
+        let columns = self.widths.len();
+        if let (Some(flat), BlockLine::Text(k)) = (flat, line) {
+            if cell.pos.col == j {
+                return flat.push_part(out, self.cfg, cell, columns, k);
+            }
+        }
+        push_upright(out, self.cfg, j, columns)?;
+        push_block_line(out, self.cfg, cell, line)
+    }
+
     // Appends boundary `j` and column `j` of line `y`, which shows row `i`.
     fn push_row_part(
         &self,
         out: &mut String,
+        flat: &Option<FlatRows<'a>>,
         owners: &[SeenCell],
         cells: &[Option<OpenCell<'a>>],
         i: usize,
         j: usize,
         y: usize,
     ) -> Result<(), AllocError>
+        requires made { AreMadeFor self.now.cfg.now self.now.widths.now flat.now }
         requires seen { AreSeen self.now.cfg.now.spans (length self.now.widths.now) i owners.now }
         requires is_open { IsOpen (table_sheet R.rows C.color self.now) i cells.now }
         requires wide { length cells.now ≡ length self.now.widths.now }
@@ -68,13 +96,12 @@ impl<'a, R: PeekableRecords, C: Colors> Table<'a, R, C> {
         if kept_at(owners, i, j).col != j {
             return Ok(());
         }
-        push_upright(out, self.cfg, j, self.widths.len())?;
         match &cells[j] {
             Some(cell) => {
                 let line = block_line(self.cfg, cell, y.saturating_sub(cell.top));
-                push_block_line(out, self.cfg, cell, line)
+                self.push_cell_part(out, flat, cell, j, line)
             }
-            None => Ok(()),
+            None => push_upright(out, self.cfg, j, self.widths.len()),
         }
     }
 
@@ -82,11 +109,13 @@ impl<'a, R: PeekableRecords, C: Colors> Table<'a, R, C> {
     fn push_row_line(
         &self,
         out: &mut String,
+        flat: &Option<FlatRows<'a>>,
         owners: &[SeenCell],
         cells: &[Option<OpenCell<'a>>],
         i: usize,
         y: usize,
     ) -> Result<(), AllocError>
+        requires made { AreMadeFor self.now.cfg.now self.now.widths.now flat.now }
         requires seen { AreSeen self.now.cfg.now.spans (length self.now.widths.now) i owners.now }
         requires is_open { IsOpen (table_sheet R.rows C.color self.now) i cells.now }
         requires wide { length cells.now ≡ length self.now.widths.now }
@@ -97,7 +126,7 @@ impl<'a, R: PeekableRecords, C: Colors> Table<'a, R, C> {
         let colors = self.cfg.get_margin_color();
         push_indent(out, &margin.left, &colors.left)?;
         for j in 0..columns {
-            self.push_row_part(out, owners, cells, i, j, y)?;
+            self.push_row_part(out, flat, owners, cells, i, j, y)?;
         }
         push_upright(out, self.cfg, columns, columns)?;
         push_indent(out, &margin.right, &colors.right)
@@ -199,11 +228,13 @@ impl<'a, R: PeekableRecords, C: Colors> Table<'a, R, C> {
     fn push_row(
         &self,
         out: &mut String,
+        flat: &Option<FlatRows<'a>>,
         owners: &[SeenCell],
         cells: &[Option<OpenCell<'a>>],
         i: usize,
         y: usize,
     ) -> Result<usize, AllocError>
+        requires made { AreMadeFor self.now.cfg.now self.now.widths.now flat.now }
         requires seen { AreSeen self.now.cfg.now.spans (length self.now.widths.now) i owners.now }
         requires is_open { IsOpen (table_sheet R.rows C.color self.now) i cells.now }
         requires wide { length cells.now ≡ length self.now.widths.now }
@@ -217,7 +248,7 @@ impl<'a, R: PeekableRecords, C: Colors> Table<'a, R, C> {
         let end = y + self.heights[i];
         for line in y..end {
             push_feed(out, line)?;
-            self.push_row_line(out, owners, cells, i, line)?;
+            self.push_row_line(out, flat, owners, cells, i, line)?;
         }
         Ok(end)
     }
@@ -438,7 +469,7 @@ impl<'a, R: PeekableRecords, C: Colors> Table<'a, R, C> {
             }
         }
         self.open_row(alloc, owners, cells, i, y)?;
-        self.push_row(out, owners, cells, i, y)
+        self.push_row(out, flat, owners, cells, i, y)
     }
 
     // Appends the lines of a margin, from line `y` of the table on. Each takes `width` columns.

@@ -82,11 +82,13 @@ impl<'a, R: PeekableRecords, C: Colors> Table<'a, R, C> {
         writer: &mut Counted<W>,
         line: &mut String,
         wanted: &K,
+        flat: &Option<FlatRows<'a>>,
         owners: &[SeenCell],
         cells: &[Option<OpenCell<'a>>],
         i: usize,
         y: usize,
     ) -> Result<usize, Stop>
+        requires made { AreMadeFor self.now.cfg.now self.now.widths.now flat.now }
         requires seen { AreSeen self.now.cfg.now.spans (length self.now.widths.now) i owners.now }
         requires is_open { IsOpen (table_sheet R.rows C.color self.now) i cells.now }
         requires wide { length cells.now ≡ length self.now.widths.now }
@@ -105,7 +107,7 @@ impl<'a, R: PeekableRecords, C: Colors> Table<'a, R, C> {
             return Ok(end);
         }
         for k in y..end {
-            self.push_row_line(line, owners, cells, i, k)?;
+            self.push_row_line(line, flat, owners, cells, i, k)?;
             pass_ended(writer, line)?;
         }
         Ok(end)
@@ -185,7 +187,7 @@ impl<'a, R: PeekableRecords, C: Colors> Table<'a, R, C> {
             }
         }
         self.open_row(alloc, owners, cells, i, y)?;
-        self.choose_row(writer, line, wanted, owners, cells, i, y)
+        self.choose_row(writer, line, wanted, flat, owners, cells, i, y)
     }
 
     // Writes the lines of a margin, from line `y` of the table on, where they are wanted. Each takes `width`

@@ -141,7 +141,7 @@ impl<'a, R: PeekableRecords, C: Colors> Table<'a, R, C> {
         }
         let owners = self.seen_in_row(alloc, i)?;
         let cells = self.cells_at(alloc, &owners, i, start, i + 1)?;
-        self.push_row_line(out, &owners, &cells, i, y)
+        self.push_row_line(out, &None, &owners, &cells, i, y)
     }
 
     // Appends line `y`, which shows the last row boundary or the bottom margin; the rows end before line

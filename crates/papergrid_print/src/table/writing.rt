@@ -60,11 +60,13 @@ impl<'a, R: PeekableRecords, C: Colors> Table<'a, R, C> {
         &self,
         writer: &mut Counted<W>,
         buffer: &mut String,
+        flat: &Option<FlatRows<'a>>,
         owners: &[SeenCell],
         cells: &[Option<OpenCell<'a>>],
         i: usize,
         y: usize,
     ) -> Result<Result<usize, WriteFault>, AllocError>
+        requires made { AreMadeFor self.now.cfg.now self.now.widths.now flat.now }
         requires seen { AreSeen self.now.cfg.now.spans (length self.now.widths.now) i owners.now }
         requires is_open { IsOpen (table_sheet R.rows C.color self.now) i cells.now }
         requires wide { length cells.now ≡ length self.now.widths.now }
@@ -79,7 +81,7 @@ impl<'a, R: PeekableRecords, C: Colors> Table<'a, R, C> {
         let end = y + self.heights[i];
         for line in y..end {
             push_feed(buffer, line)?;
-            self.push_row_line(buffer, owners, cells, i, line)?;
+            self.push_row_line(buffer, flat, owners, cells, i, line)?;
             if let Err(fault) = pass_line(writer, buffer) {
                 return Ok(Err(fault));
             }
@@ -128,7 +130,7 @@ impl<'a, R: PeekableRecords, C: Colors> Table<'a, R, C> {
             }
         }
         self.open_row(alloc, owners, cells, i, y)?;
-        self.write_row(writer, buffer, owners, cells, i, y)
+        self.write_row(writer, buffer, flat, owners, cells, i, y)
     }
 
     // Writes the lines of a margin, from line `y` of the table on. Each takes `width` columns.

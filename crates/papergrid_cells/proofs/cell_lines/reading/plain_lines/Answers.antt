@@ -1,6 +1,5 @@
 -- One line more is read, with what it measures.
-use Rattle.std.proofs.Common.{◌≡◌, ◌∙◌, ◌∷◌, [], ◌++◌, List, Option, false, ℕ, append-nil, ap, map, refl, subst, sym}
-use Rattle.std.specs.Borrow.{Bor}
+use Rattle.std.proofs.Common.{◌≡◌, ◌∙◌, ◌++◌, List, false, ℕ, append-nil, ap, map, refl, subst, sym}
 use Rattle.std.specs.Cow.{cow_str_bytes}
 use Rattle.std.specs.List.{slice_split}
 use Rattle.std.proofs.lemmas.List.{map-append}

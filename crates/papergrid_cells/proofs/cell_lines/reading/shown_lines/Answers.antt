@@ -1,5 +1,5 @@
 -- One line more is read.
-use Rattle.std.proofs.Common.{◌≡◌, ◌∙◌, ◌++◌, List, false, append-nil, ap, map, refl, subst, sym}
+use Rattle.std.proofs.Common.{◌≡◌, ◌∙◌, ◌++◌, false, append-nil, ap, map, refl, subst, sym}
 use Rattle.std.specs.List.{slice_split}
 use Rattle.ansi_scan.specs.Pieces.{pieces}
 use Rattle.ansi_str.specs.StyledText.{has_escape}
