@@ -2,23 +2,24 @@
 use Rattle.std.proofs.Common.{◌≡◌, ◌∙◌, ◌<◌, ℕ, zero, suc, Bool, true, List, [], ◌∷◌, refl, ap, arith, append-nil, chars, flat_map}
 use Rattle.std.proofs.lemmas.Bool.Decides.{nat_tests}
 use Rattle.std.proofs.lemmas.Str.{IsUtf8-from_ascii, chars-IsAscii, encodes-chars}
+use Rattle.std.specs.Int.{is_in_range}
 use Rattle.std.specs.List.{list_all}
 use Rattle.std.specs.Prelude.{◌&&◌, slice_index}
 use Rattle.std.specs.Str.{IsAscii}
 use Rattle.ansi_scan.specs.Sequences.{ArePiecesOf, EachStands, IsWhole, NoneBroken, Piece, is_not_escape, joined}
 use Rattle.ansi_scan.specs.declared.items.Kind.TheVariants as kind
 use Rattle.ansi_scan.proofs.Uniqueness.{pieces-ArePiecesOf}
+use Rattle.grid_records_measure.specs.Measures.{are_printable}
 use Rattle.basinmug_input.specs.Cleaning.{cleaned, cleaned_piece, cleaned_text, stays}
-use Rattle.basinmug_input.specs.Unquoted.{is_printable}
 use Rattle.basinmug_input.proofs.Cleans.{both, stay-shown}
 
-plain : (b : ℕ) → is_printable b ≡ true → is_not_escape b ≡ true
+plain : (b : ℕ) → is_in_range 0x20 0x7E b ≡ true → is_not_escape b ≡ true
 plain b h = grind (arith, nat_tests)
 
-pub all-plain : (text : List ℕ) → list_all is_printable text ≡ true → list_all is_not_escape text ≡ true
+pub all-plain : (text : List ℕ) → are_printable text ≡ true → list_all is_not_escape text ≡ true
 all-plain [] h = refl
 all-plain (b ∷ text) h =
-    let each = both (is_printable b) (list_all is_printable text) h in
+    let each = both (is_in_range 0x20 0x7E b) (are_printable text) h in
     ap (λ (t : Bool). t && list_all is_not_escape text) (plain b each.0) ∙ all-plain text each.1
 
 -- its pieces: it is one, where it has any bytes
@@ -30,47 +31,47 @@ only-joins : (text : List ℕ) → joined (only text) ≡ text
 only-joins [] = refl
 only-joins (b ∷ text) = append-nil (b ∷ text)
 
-only-stands : (text : List ℕ) → list_all is_printable text ≡ true → EachStands (only text)
+only-stands : (text : List ℕ) → are_printable text ≡ true → EachStands (only text)
 only-stands [] h = tt
 only-stands (b ∷ text) h = (record { some = omega arith; plain = all-plain (b ∷ text) h; ends = tt }, tt)
 
-only-of : (text : List ℕ) → list_all is_printable text ≡ true → ArePiecesOf text (only text)
+only-of : (text : List ℕ) → are_printable text ≡ true → ArePiecesOf text (only text)
 only-of text h = record { joins = only-joins text; stand = only-stands text h }
 
 no-broken : (text : List ℕ) → NoneBroken (only text)
 no-broken [] = tt
 no-broken (b ∷ text) = (λ e. cc e, tt)
 
-pub printable-whole : (text : List ℕ) → list_all is_printable text ≡ true → IsWhole text
+pub printable-whole : (text : List ℕ) → are_printable text ≡ true → IsWhole text
 printable-whole text h = record { pieces = only text; of_text = only-of text h; none_broken = no-broken text }
 
 -- ---- its characters are its bytes, and each stays
 
-low : (b : ℕ) → is_printable b ≡ true → b < 128
+low : (b : ℕ) → is_in_range 0x20 0x7E b ≡ true → b < 128
 low b h = grind (arith, nat_tests)
 
-each-low : (text : List ℕ) (i : ℕ) → list_all is_printable text ≡ true → slice_index text i < 128
+each-low : (text : List ℕ) (i : ℕ) → are_printable text ≡ true → slice_index text i < 128
 each-low [] i h = omega arith
-each-low (b ∷ text) zero h = low b (both (is_printable b) (list_all is_printable text) h).0
-each-low (b ∷ text) (suc i) h = each-low text i (both (is_printable b) (list_all is_printable text) h).1
+each-low (b ∷ text) zero h = low b (both (is_in_range 0x20 0x7E b) (are_printable text) h).0
+each-low (b ∷ text) (suc i) h = each-low text i (both (is_in_range 0x20 0x7E b) (are_printable text) h).1
 
-stays-here : (b : ℕ) → is_printable b ≡ true → stays b ≡ true
+stays-here : (b : ℕ) → is_in_range 0x20 0x7E b ≡ true → stays b ≡ true
 stays-here b h = grind (arith, nat_tests)
 
-all-stay : (text : List ℕ) → list_all is_printable text ≡ true → list_all stays text ≡ true
+all-stay : (text : List ℕ) → are_printable text ≡ true → list_all stays text ≡ true
 all-stay [] h = refl
 all-stay (b ∷ text) h =
-    let each = both (is_printable b) (list_all is_printable text) h in
+    let each = both (is_in_range 0x20 0x7E b) (are_printable text) h in
     ap (λ (t : Bool). t && list_all stays text) (stays-here b each.0) ∙ all-stay text each.1
 
-shown-itself : (text : List ℕ) → list_all is_printable text ≡ true → cleaned_text (chars text) ≡ text
+shown-itself : (text : List ℕ) → are_printable text ≡ true → cleaned_text (chars text) ≡ text
 shown-itself text h =
     let ascii : IsAscii text = λ i. each-low text i h in
     stay-shown (chars text) (ap (list_all stays) (chars-IsAscii text ascii) ∙ all-stay text h) ∙ encodes-chars text (IsUtf8-from_ascii text ascii)
 
-only-cleaned : (text : List ℕ) → list_all is_printable text ≡ true → flat_map cleaned_piece (only text) ≡ text
+only-cleaned : (text : List ℕ) → are_printable text ≡ true → flat_map cleaned_piece (only text) ≡ text
 only-cleaned [] h = refl
 only-cleaned (b ∷ text) h = append-nil (cleaned_text (chars (b ∷ text))) ∙ shown-itself (b ∷ text) h
 
-pub printable-cleaned : (text : List ℕ) → list_all is_printable text ≡ true → cleaned text ≡ text
+pub printable-cleaned : (text : List ℕ) → are_printable text ≡ true → cleaned text ≡ text
 printable-cleaned text h = ap (flat_map cleaned_piece) (pieces-ArePiecesOf text (only text) (only-of text h)) ∙ only-cleaned text h

@@ -1,14 +1,15 @@
 -- Fields and rows, one after the other.
 use Rattle.std.proofs.Common.{◌≡◌, ◌∙◌, ◌+◌, ◌<◌, ◌≤◌, ℕ, zero, suc, Bool, true, false, List, [], ◌∷◌, ◌++◌, Some, None, Result, Ok, Err, length, get_or, drop, sym, ap, subst, arith}
 use Rattle.std.specs.List.{AllByRecursion}
-use Rattle.std.specs.Prelude.{OnOk, Vec, if◌then◌else◌, map, string_bytes, vec_items}
-use Rattle.std.specs.declared.string.String.{String}
+use Rattle.std.specs.Prelude.{OnOk, Vec, if◌then◌else◌, map, vec_items}
 use Rattle.std.proofs.lemmas.List.{get_or_at, length-append, map_push}
 use Rattle.ansi_scan.specs.Sequences.{EachStands, IsFirstBroken, Piece, joined}
 use Rattle.ansi_scan.proofs.Uniqueness.{Stands-some}
 use Rattle.csv.specs.Reading.{is_bom, records, strip_bom}
 use Rattle.csv.specs.Records.{field_at}
 use Rattle.csv.specs.declared.parser.Config.{Config}
+use Rattle.basinmug_cells.specs.Fields.{field_text}
+use Rattle.basinmug_cells.specs.declared.field.Field.{Field}
 use Rattle.basinmug_input.specs.Faults.{HasFirstFlaw}
 use Rattle.basinmug_input.specs.Places.{IsReadAs, field_at as field_of_byte, line_at}
 use Rattle.basinmug_input.specs.Reading.{HasByte}
@@ -35,13 +36,13 @@ all-push P [] x all here = (here, tt)
 all-push P (y ∷ xs) x all here = (all.0, all-push P xs x all.1 here)
 
 -- one field more
-pub row-push : {Z : Type 0} (fields : List (List ℕ)) (here : List ℕ) (old new : Vec (String Z) Z) (cell : String Z) → IsRowOf fields old
-    → vec_items new ≡ vec_items old ++ cell ∷ [] → IsSound here → string_bytes cell ≡ cleaned here → IsRowOf (fields ++ here ∷ []) new
+pub row-push : {Z : Type 0} (fields : List (List ℕ)) (here : List ℕ) (old new : Vec Field Z) (cell : Field) → IsRowOf fields old
+    → vec_items new ≡ vec_items old ++ cell ∷ [] → IsSound here → field_text cell ≡ cleaned here → IsRowOf (fields ++ here ∷ []) new
 row-push fields here old new cell row grown sound shown = record {
   sound = all-push IsSound fields here row.sound sound;
-  texts = ap (map string_bytes) grown
-      ∙ map_push string_bytes (vec_items old) cell
-      ∙ ap (λ (texts : List (List ℕ)). texts ++ string_bytes cell ∷ []) row.texts
+  texts = ap (map field_text) grown
+      ∙ map_push field_text (vec_items old) cell
+      ∙ ap (λ (texts : List (List ℕ)). texts ++ field_text cell ∷ []) row.texts
       ∙ ap (λ (text : List ℕ). map cleaned fields ++ text ∷ []) shown
       ∙ sym (map_push cleaned fields here);
 }

@@ -7,8 +7,7 @@ use Rattle.std.proofs.lemmas.List.Sums.{prefix_len-le-length, prefix_len_passes,
 use Rattle.std.proofs.lemmas.Str.{IsCharBoundary-after_ascii, IsCharBoundary-before_ascii, IsCharBoundary-end}
 use Rattle.std.specs.Str.{IsCharBoundary}
 use Rattle.std.specs.List.{AllByRecursion, list_all, list_any, prefix_len}
-use Rattle.std.specs.Prelude.{◌==◌, ◌||◌, not, IsUtf8, Vec, if◌then◌else◌, map, string_bytes, vec_items}
-use Rattle.std.specs.declared.string.String.{String}
+use Rattle.std.specs.Prelude.{◌==◌, ◌||◌, not, IsUtf8, Vec, if◌then◌else◌, map, vec_items}
 use Rattle.ansi_scan.proofs.Runs.{list_all-take_run, prefix_len-fail, prefix_len-pass}
 use Rattle.csv.proofs.ReadFacts.{part-rest, run-copies}
 use Rattle.csv.specs.Machine.{Read, Runs, after_end, carriage_return, field_after, fields_after, in_field, is_end, line_feed, next_record, start_field, step}
@@ -18,10 +17,12 @@ use Rattle.csv.specs.declared.parser.Config.{Config}
 use Rattle.csv.specs.declared.parser.State.{State}
 use Rattle.csv.specs.declared.parser.State.TheVariants as st
 use Rattle.csv.specs.declared.parser.Terminator.TheVariants as term
+use Rattle.basinmug_cells.specs.Fields.{field_rows, field_text}
+use Rattle.basinmug_cells.specs.declared.field.Field.{Field}
 use Rattle.basinmug_input.specs.Reading.{settings}
 use Rattle.basinmug_input.specs.Cleaning.{cleaned}
 use Rattle.basinmug_input.specs.Flaws.{IsSound}
-use Rattle.basinmug_input.specs.Rows.{IsRowOf, text_rows}
+use Rattle.basinmug_input.specs.Rows.{IsRowOf}
 use Rattle.basinmug_input.specs.Unquoted.{AreRowsOf, is_line_end, is_of_field, parts, quote}
 use Rattle.basinmug_input.proofs.Cleans.{both, neither}
 use Rattle.basinmug_input.proofs.Rows.{all-push}
@@ -332,13 +333,13 @@ unfolding next_record
 none-left d = refl
 
 -- one record more
-pub rows-push : {Z : Type 0} (raw : List (List (List ℕ))) (here : List (List ℕ)) (old new : List (Vec (String Z) Z)) (row : Vec (String Z) Z) → AreRowsOf raw old
+pub rows-push : {Z : Type 0} (raw : List (List (List ℕ))) (here : List (List ℕ)) (old new : List (Vec Field Z)) (row : Vec Field Z) → AreRowsOf raw old
     → new ≡ old ++ row ∷ [] → IsRowOf here row → AreRowsOf (raw ++ here ∷ []) new
 rows-push raw here old new row rows grown has = record {
   sound = all-push (AllByRecursion IsSound) raw here rows.sound has.sound;
-  texts = ap text_rows grown
-      ∙ map_push (λ row. map string_bytes (vec_items row)) old row
-      ∙ ap (λ (rows : List (List (List ℕ))). rows ++ map string_bytes (vec_items row) ∷ []) rows.texts
+  texts = ap field_rows grown
+      ∙ map_push (λ row. map field_text (vec_items row)) old row
+      ∙ ap (λ (rows : List (List (List ℕ))). rows ++ map field_text (vec_items row) ∷ []) rows.texts
       ∙ ap (λ (texts : List (List ℕ)). map (map cleaned) raw ++ texts ∷ []) has.texts
       ∙ sym (map_push (map cleaned) raw here);
 }

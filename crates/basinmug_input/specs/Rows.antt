@@ -1,9 +1,10 @@
 -- The rows of bytes, as they are meant and as the code holds them, and what is wrong with the first field that has a flaw.
-use Rattle.std.specs.Prelude.{◌≡◌, ℕ, List, ◌∷◌, ◌++◌, Vec, length, map, string_bytes, vec_items}
+use Rattle.std.specs.Prelude.{◌≡◌, ℕ, List, ◌∷◌, ◌++◌, Vec, length, map, vec_items}
 use Rattle.std.specs.List.{AllByRecursion}
-use Rattle.std.specs.declared.string.String.{String}
 use Rattle.csv.specs.Reading.{records, strip_bom}
 use Rattle.csv.specs.declared.parser.Config.{Config}
+use Rattle.basinmug_cells.specs.Fields.{field_text}
+use Rattle.basinmug_cells.specs.declared.field.Field.{Field}
 use Rattle.basinmug_input.specs.Cleaning.{cleaned}
 use Rattle.basinmug_input.specs.Faults.{IsText}
 use Rattle.basinmug_input.specs.Flaws.{HasFlaw, IsSound}
@@ -18,14 +19,10 @@ text_in bytes = strip_bom bytes
 abbrev pub rows_in : ℕ → List ℕ → List (List (List ℕ))
 rows_in delimiter bytes = map (map cleaned) (records (settings delimiter) (text_in bytes))
 
--- the bytes of the texts of rows
-abbrev pub text_rows : {Z : Type 0} → List (Vec (String Z) Z) → List (List (List ℕ))
-text_rows rows = map (λ row. map string_bytes (vec_items row)) rows
-
 -- these fields are sound, and the row has them as a table shows them
-pub record IsRowOf {Z : Type 0} (fields : List (List ℕ)) (row : Vec (String Z) Z) : Type 0 where
+pub record IsRowOf {Z : Type 0} (fields : List (List ℕ)) (row : Vec Field Z) : Type 0 where
   pub sound : AllByRecursion IsSound fields
-  pub texts : map string_bytes (vec_items row) ≡ map cleaned fields
+  pub texts : map field_text (vec_items row) ≡ map cleaned fields
 
 -- the first of these fields that isn't sound has this flaw
 pub record HasFlawed (fields : List (List ℕ)) (flawed : Flawed) : Type 0 where

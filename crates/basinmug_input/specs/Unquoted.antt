@@ -1,25 +1,21 @@
 -- A text without quotes: what parts its fields, and a record of it.
 use Rattle.std.specs.Prelude.{◌≡◌, ◌<◌, ◌≤◌, ◌==◌, ◌||◌, not, ℕ, Bool, false, List, [], Some, Vec, drop, length, slice_index}
-use Rattle.std.specs.Int.{is_in_range}
 use Rattle.std.specs.List.{AllByRecursion, list_any}
 use Rattle.std.specs.Prelude.{map}
 use Rattle.std.specs.Str.{IsCharBoundary}
-use Rattle.std.specs.declared.string.String.{String}
 use Rattle.csv.specs.Machine.{carriage_return, line_feed, next_record}
 use Rattle.csv.specs.declared.parser.State.{State}
 use Rattle.csv.specs.declared.parser.State.TheVariants as st
+use Rattle.basinmug_cells.specs.Fields.{field_rows}
+use Rattle.basinmug_cells.specs.declared.field.Field.{Field}
 use Rattle.basinmug_input.specs.Cleaning.{cleaned}
 use Rattle.basinmug_input.specs.Flaws.{IsSound}
 use Rattle.basinmug_input.specs.Reading.{settings}
-use Rattle.basinmug_input.specs.Rows.{IsRowOf, text_rows}
+use Rattle.basinmug_input.specs.Rows.{IsRowOf}
 
 -- U+0022 QUOTATION MARK
 abbrev pub quote : ℕ
 quote = 0x22
-
--- a graphic character of ASCII, or a space
-abbrev pub is_printable : ℕ → Bool
-is_printable byte = is_in_range 0x20 0x7E byte
 
 -- CARRIAGE RETURN or LINE FEED
 abbrev pub is_line_end : ℕ → Bool
@@ -45,7 +41,7 @@ pub record BeginsRecord (text : List ℕ) (at : ℕ) : Type 0 where
   pub no_line_end : is_line_end (slice_index text at) ≡ false
 
 -- the record that begins at `at` ends at `end`, where the next is looked for, and the row has its fields, which are sound
-pub record IsRecordAt {Z : Type 0} (delimiter : ℕ) (text : List ℕ) (at end : ℕ) (row : Vec (String Z) Z) : Type 0 where
+pub record IsRecordAt {Z : Type 0} (delimiter : ℕ) (text : List ℕ) (at end : ℕ) (row : Vec Field Z) : Type 0 where
   pub fields : List (List ℕ)
   pub state : State
   pub left : List ℕ
@@ -57,6 +53,6 @@ pub record IsRecordAt {Z : Type 0} (delimiter : ℕ) (text : List ℕ) (at end :
   pub boundary : IsCharBoundary text end
 
 -- these records are sound, and the rows have them as a table shows them
-pub record AreRowsOf {Z : Type 0} (raw : List (List (List ℕ))) (rows : List (Vec (String Z) Z)) : Type 0 where
+pub record AreRowsOf {Z : Type 0} (raw : List (List (List ℕ))) (rows : List (Vec Field Z)) : Type 0 where
   pub sound : AllByRecursion (AllByRecursion IsSound) raw
-  pub texts : text_rows rows ≡ map (map cleaned) raw
+  pub texts : field_rows rows ≡ map (map cleaned) raw

@@ -1,12 +1,14 @@
-//! The text of a field as a table shows it.
+//! The cell of a field as a table shows it.
 ghost use Rattle.std.specs.Prelude.{◌≡◌, ◌+◌, ◌<◌, ◌==◌, ◌&&◌, ◌++◌, [], not, if◌then◌else◌, IfOk, OnOk, MatchResult, string_bytes, chars};
 ghost use Rattle.std.specs.List.{list_all};
 ghost use Rattle.csv.specs.Machine.{carriage_return, line_feed};
+ghost use Rattle.basinmug_cells.specs.Fields.{field_text};
 ghost use Rattle.basinmug_input.specs.Cleaning.{cleaned, cleaned_text, is_control, shown, stays};
 ghost use Rattle.basinmug_input.specs.Flaws.{HasFlaw, IsSound};
-ghost use Rattle.basinmug_input.specs.Unquoted.{is_printable};
 
 use ansi_scan::{Kind, first_broken, scan};
+use basinmug_cells::Field;
+use grid_records_measure::is_printable;
 use simdutf8::compat;
 use std::alloc::{AllocError, Global};
 
@@ -25,38 +27,45 @@ pub(crate) enum Flaw {
     Escape { byte: usize },
 }
 
-/// The text of a field as a table shows it, or what is wrong with the field.
-pub(crate) fn cell_of(alloc: Global, field: &[u8]) -> Result<Result<String, Flaw>, AllocError>
-    ensures { IfOk result (λ read. MatchResult read (λ cell. IsSound field.now × (string_bytes cell ≡ cleaned field.now)) (HasFlaw field.now)) }
+/// The cell of a field as a table shows it, with a text of its own, or what is wrong with the field.
+pub(crate) fn cell_of<'a>(
+    alloc: Global,
+    field: &[u8],
+) -> Result<Result<Field<'a>, Flaw>, AllocError>
+    ensures { IfOk result (λ read. MatchResult read (λ cell. IsSound field.now × (field_text cell ≡ cleaned field.now)) (HasFlaw field.now)) }
 {
     match compat::from_utf8(field) {
-        Ok(text) => text_cell(alloc, text),
+        Ok(text) => own_cell(alloc, text),
         Err(error) => Ok(Err(Flaw::NotText {
             byte: error.valid_up_to(),
         })),
     }
 }
 
-/// The same of a field that is text. Printable ASCII is copied as it is.
-pub(crate) fn text_cell(alloc: Global, text: &str) -> Result<Result<String, Flaw>, AllocError>
-    ensures { IfOk result (λ read. MatchResult read (λ cell. IsSound text.now × (string_bytes cell ≡ cleaned text.now)) (HasFlaw text.now)) }
+/// The same of a field that is text. Printable ASCII is borrowed, since a table shows it as it is.
+pub(crate) fn text_cell<'a>(
+    alloc: Global,
+    text: &'a str,
+) -> Result<Result<Field<'a>, Flaw>, AllocError>
+    ensures { IfOk result (λ read. MatchResult read (λ cell. IsSound text.now × (field_text cell ≡ cleaned text.now)) (HasFlaw text.now)) }
 {
-    if is_printable(text) {
-        return Ok(Ok(String::from_str(alloc, text)?));
-    }
-    match first_broken(text) {
-        Some(byte) => Ok(Err(Flaw::Escape { byte })),
-        None => Ok(Ok(cleaned(alloc, text)?)),
+    match Field::printable(text) {
+        Some(cell) => Ok(Ok(cell)),
+        None => own_cell(alloc, text),
     }
 }
 
-// Whether each byte of a text is printable ASCII.
-fn is_printable(text: &str) -> bool
-    ensures { result ≡ list_all is_printable text.now }
+// The same, with a text of its own. Printable ASCII is copied as it is.
+fn own_cell<'a>(alloc: Global, text: &str) -> Result<Result<Field<'a>, Flaw>, AllocError>
+    ensures { IfOk result (λ read. MatchResult read (λ cell. IsSound text.now × (field_text cell ≡ cleaned text.now)) (HasFlaw text.now)) }
 {
-    text.as_bytes()
-        .iter()
-        .all(|byte| matches!(*byte, b' '..=b'~'))
+    if is_printable(text) {
+        return Ok(Ok(Field::own(alloc, String::from_str(alloc, text)?)?));
+    }
+    match first_broken(text) {
+        Some(byte) => Ok(Err(Flaw::Escape { byte })),
+        None => Ok(Ok(Field::own(alloc, cleaned(alloc, text)?)?)),
+    }
 }
 
 // A text with its control characters made visible; its sequences stay as they are.

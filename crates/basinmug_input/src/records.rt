@@ -1,25 +1,32 @@
-//! From bytes to rows of texts.
+//! From bytes to rows of cells.
 ghost use Rattle.std.specs.Prelude.{◌≡◌, IfErr, IfOk, IsUtf8, MatchResult, OnOk};
 ghost use Rattle.csv.specs.Reading.{error_kind, is_bom};
 ghost use Rattle.csv.specs.Records.{fields_of};
+ghost use Rattle.basinmug_cells.specs.Fields.{field_rows};
 ghost use Rattle.basinmug_input.specs.Faults.{IsFaultOf, IsReadable, IsText};
 ghost use Rattle.basinmug_input.specs.Places.{EndsInQuotes};
 ghost use Rattle.basinmug_input.specs.Reading.{IsOfMemory, settings};
-ghost use Rattle.basinmug_input.specs.Rows.{HasFlawed, IsFirstFlawed, IsRowOf, rows_in, text_in, text_rows};
+ghost use Rattle.basinmug_input.specs.Rows.{HasFlawed, IsFirstFlawed, IsRowOf, rows_in, text_in};
 
 use crate::cells::{Flaw, cell_of};
 use crate::fault::InputFault;
 use crate::places::{field_of, line_of, open_quote, place_of};
 use crate::unquoted::{is_unquoted, unquoted_rows};
+use basinmug_cells::Field;
 use csv::{ByteRecord, Error, ReaderBuilder};
 use simdutf8::compat;
 use std::alloc::{AllocError, Global};
 
 /// The rows of a text in which the byte `delimiter` parts fields, or why it has none: its records (RFC 4180, section 2, as
 /// `csv` reads it; of any lengths), each field with its control characters made visible. A byte order mark at the front
-/// isn't read. Faults come in the order of `InputFault`, and tell where they stand.
-pub fn rows_of(alloc: Global, bytes: &[u8], delimiter: u8) -> Result<Vec<Vec<String>>, InputFault>
-    ensures rows { IfOk result (λ rows. text_rows rows.items ≡ rows_in delimiter bytes.now) }
+/// isn't read. A cell borrows its text where no quote stands in the whole and the field is printable ASCII; another
+/// has a text of its own. Faults come in the order of `InputFault`, and tell where they stand.
+pub fn rows_of<'a>(
+    alloc: Global,
+    bytes: &'a [u8],
+    delimiter: u8,
+) -> Result<Vec<Vec<Field<'a>>>, InputFault>
+    ensures rows { IfOk result (λ rows. field_rows rows.items ≡ rows_in delimiter bytes.now) }
     ensures readable { OnOk result (IsReadable (settings delimiter) (text_in bytes.now)) }
     ensures fault { IfErr result (IsFaultOf (settings delimiter) (text_in bytes.now)) }
 {
@@ -83,9 +90,13 @@ fn check_quotes(text: &[u8], delimiter: u8) -> Result<(), InputFault>
 }
 
 // The records of bytes that are text, with each quote closed.
-fn read_rows(alloc: Global, bytes: &[u8], delimiter: u8) -> Result<Vec<Vec<String>>, InputFault>
+fn read_rows<'a>(
+    alloc: Global,
+    bytes: &[u8],
+    delimiter: u8,
+) -> Result<Vec<Vec<Field<'a>>>, InputFault>
     requires { IsText (settings delimiter) (text_in bytes.now) }
-    ensures rows { IfOk result (λ rows. text_rows rows.items ≡ rows_in delimiter bytes.now) }
+    ensures rows { IfOk result (λ rows. field_rows rows.items ≡ rows_in delimiter bytes.now) }
     ensures readable { OnOk result (IsReadable (settings delimiter) (text_in bytes.now)) }
     ensures fault { IfErr result (IsFaultOf (settings delimiter) (text_in bytes.now)) }
 {
@@ -131,7 +142,10 @@ struct Flawed {
 }
 
 // The fields of a record as a table shows them, or the first that can't be shown.
-fn row_of(alloc: Global, given: &ByteRecord) -> Result<Result<Vec<String>, Flawed>, AllocError>
+fn row_of<'a>(
+    alloc: Global,
+    given: &ByteRecord,
+) -> Result<Result<Vec<Field<'a>>, Flawed>, AllocError>
     ensures { IfOk result (λ read. MatchResult read (IsRowOf (fields_of given.now)) (HasFlawed (fields_of given.now))) }
 {
     let mut row = Vec::with_capacity(alloc, given.len())?;

@@ -1,5 +1,5 @@
 //! Texts without quotes. Such a text is read field by field: each byte but those between fields joins its field, so
-//! that no machine is walked, and a field is copied once.
+//! that no machine is walked, and a field that is printable ASCII is not copied.
 ghost use Rattle.std.specs.List.{prefix_len};
 ghost use Rattle.std.specs.Prelude.{◌≡◌, ◌≤◌, IfOk, IfSome, IsTrue, length};
 ghost use Rattle.csv.specs.Reading.{records};
@@ -8,6 +8,7 @@ ghost use Rattle.basinmug_input.specs.Unquoted.{AreRowsOf, BeginsRecord, IsRecor
 
 use crate::cells::text_cell;
 use crate::progress::QUOTE;
+use basinmug_cells::Field;
 use std::alloc::{AllocError, Global};
 
 /// Whether no quote stands in a text, and what parts its fields is a character.
@@ -18,11 +19,11 @@ pub(crate) fn is_unquoted(text: &[u8], delimiter: u8) -> bool
 }
 
 /// The rows of a text without quotes; none where a field has a flaw.
-pub(crate) fn unquoted_rows(
+pub(crate) fn unquoted_rows<'a>(
     alloc: Global,
-    text: &str,
+    text: &'a str,
     delimiter: u8,
-) -> Result<Option<Vec<Vec<String>>>, AllocError>
+) -> Result<Option<Vec<Vec<Field<'a>>>>, AllocError>
     requires { IsUnquoted delimiter text.now }
     ensures { IfOk result (λ read. IfSome read (λ rows. AreRowsOf (records (settings delimiter) text.now) rows.items)) }
 {
@@ -43,13 +44,13 @@ pub(crate) fn unquoted_rows(
 
 // The row of the record that begins at a byte, and where the record ends; none where a field has a flaw. Room is made
 // for so many fields.
-fn unquoted_row(
+fn unquoted_row<'a>(
     alloc: Global,
-    text: &str,
+    text: &'a str,
     delimiter: u8,
     at: usize,
     width: usize,
-) -> Result<Option<(Vec<String>, usize)>, AllocError>
+) -> Result<Option<(Vec<Field<'a>>, usize)>, AllocError>
     requires text { IsUnquoted delimiter text.now }
     requires begins { BeginsRecord text.now at }
     ensures { IfOk result (λ read. IfSome read (λ found. IsRecordAt delimiter text.now at found.1 found.0)) }

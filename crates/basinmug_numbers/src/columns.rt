@@ -1,22 +1,23 @@
 //! Which columns are of numbers.
-ghost use Rattle.std.specs.Prelude.{◌≡◌, IfOk, map, string_bytes};
+ghost use Rattle.std.specs.Prelude.{◌≡◌, IfOk, map};
 ghost use Rattle.std.specs.List.{range_with_len};
-ghost use Rattle.tabled_text.specs.Rows.{text_rows};
+ghost use Rattle.grid_records_traits.specs.Sources.{texts_of_rows};
 ghost use Rattle.basinmug_numbers.specs.Columns.{cell, content, content_kind, is_numeric};
 
 use crate::numbers::is_number;
 use ansi_str::AnsiStr;
+use grid_records_traits::Cell;
 use std::alloc::{AllocError, Global};
 
 /// For each of so many columns whether it is of numbers in these records: each of its cells shows a number, or
 /// nothing but white space, and one shows a number. A cell that a record lacks shows nothing. Fails only where
 /// allocation fails.
-pub fn numeric_columns(
+pub fn numeric_columns<C: Cell>(
     alloc: Global,
-    records: &[Vec<String>],
+    records: &[Vec<C>],
     columns: usize,
 ) -> Result<Vec<bool>, AllocError>
-    ensures { IfOk result (λ numeric. numeric.items ≡ map (is_numeric (text_rows records.now)) (range_with_len 0 columns)) }
+    ensures { IfOk result (λ numeric. numeric.items ≡ map (is_numeric (texts_of_rows C.text records.now)) (range_with_len 0 columns)) }
 {
     let mut numeric = Vec::with_capacity(alloc, columns)?;
     for column in 0..columns {
@@ -26,8 +27,8 @@ pub fn numeric_columns(
 }
 
 // Whether a column is of numbers. Its cells below the first that is neither blank nor a number are not read.
-fn is_numeric(alloc: Global, records: &[Vec<String>], column: usize) -> Result<bool, AllocError>
-    ensures { IfOk result (λ answer. answer ≡ is_numeric (text_rows records.now) column) }
+fn is_numeric<C: Cell>(alloc: Global, records: &[Vec<C>], column: usize) -> Result<bool, AllocError>
+    ensures { IfOk result (λ answer. answer ≡ is_numeric (texts_of_rows C.text records.now) column) }
 {
     let mut found = false;
     for record in records {
@@ -71,11 +72,11 @@ fn kind_of(text: &str) -> Content
 }
 
 // The cell of a record in a column; an empty text where the record is shorter.
-fn cell(row: &[String], column: usize) -> &str
-    ensures { result.now ≡ cell column (map string_bytes row.now) }
+fn cell<C: Cell>(row: &[C], column: usize) -> &str
+    ensures { result.now ≡ cell column (map C.text row.now) }
 {
     match row.get(column) {
-        Some(text) => text.as_str(),
+        Some(cell) => cell.text(),
         None => "",
     }
 }

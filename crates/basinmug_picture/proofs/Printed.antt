@@ -1,14 +1,15 @@
 -- What is printed of rows, by what is printed of their table.
 use Rattle.std.proofs.Common.{◌≡◌, ◌∙◌, ◌≤◌, ◌-◌, ap, subst, sym, ℕ, List, [], Bool, Option, None, Some, Result, Ok, Err, arith, inl, inr, length, map, min}
-use Rattle.std.specs.Prelude.{IfErr, IfOk, Vec, string_bytes, vec_items}
+use Rattle.std.specs.Prelude.{IfErr, IfOk, Vec, vec_items}
 use Rattle.std.specs.declared.alloc.Global.{Global}
-use Rattle.std.specs.declared.string.String.{String}
+use Rattle.basinmug_cells.specs.Fields.{field_rows, field_text}
+use Rattle.basinmug_cells.specs.declared.field.Field.{Field}
 use Rattle.std.proofs.lemmas.List.{length-map, length-take}
 use Rattle.grid_config_values.specs.declared.fault.Fault.{Fault}
 use Rattle.tabled.specs.Tables.{new_state}
 use Rattle.tabled_list.specs.declared.setting.Setting.{Setting}
 use Rattle.tabled_steps.specs.States.{State}
-use Rattle.tabled_text.specs.Rows.{filled, text_rows}
+use Rattle.tabled_text.specs.Rows.{filled}
 use Rattle.basinmug_options.specs.declared.options.Options.{Options}
 use Rattle.basinmug_picture.specs.Lines.{below, picture_text}
 use Rattle.basinmug_picture.specs.Names.{IsFirstMissing}
@@ -26,11 +27,11 @@ shown-below header (Some most) rows = omega arith
 
 module _ (options : Options) (rows : List (List (List ℕ))) where
   -- as many rows as are shown
-  pub length-shown : (items : List (Vec (String Global) Global)) (len : ℕ) → len ≡ length items → text_rows items ≡ shown_rows options rows → len ≡ shown options rows
+  pub length-shown : (items : List (Vec Field Global)) (len : ℕ) → len ≡ length items → field_rows items ≡ shown_rows options rows → len ≡ shown options rows
   length-shown items len is are =
       let below = shown-below options.header options.max_rows (length rows) in
       let taken : length (shown_rows options rows) ≡ min (shown options rows) (length rows) = length-take (shown options rows) rows in
-      let all : len ≡ length (shown_rows options rows) = is ∙ sym (length-map items (λ row. map string_bytes (vec_items row))) ∙ ap length are in
+      let all : len ≡ length (shown_rows options rows) = is ∙ sym (length-map items (λ row. map field_text (vec_items row))) ∙ ap length are in
       omega (arith, below, taken, all)
 
   -- a name that is missing

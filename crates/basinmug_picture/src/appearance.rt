@@ -1,12 +1,13 @@
 //! What a table looks like before it is made narrower.
 ghost use Rattle.std.specs.Prelude.{◌≡◌, [], IfErr, IfOk, OnOk};
-ghost use Rattle.tabled_text.specs.Rows.{text_rows};
+ghost use Rattle.basinmug_cells.specs.Fields.{field_rows};
 ghost use Rattle.basinmug_picture.specs.Names.{IsFirstMissing};
 ghost use Rattle.basinmug_picture.specs.Pictures.{looks_of, missing_of, numeric_of};
 
 use crate::fault::PrintFault;
 use crate::looks::looks;
 use crate::rows::{header_of, longest_row, records_of};
+use basinmug_cells::Field;
 use basinmug_numbers::numeric_columns;
 use basinmug_options::Options;
 use std::alloc::Global;
@@ -24,13 +25,13 @@ pub(crate) struct Appearance {
 /// `Memory` where allocation fails.
 pub(crate) fn appearance_of(
     alloc: Global,
-    rows: &[Vec<String>],
+    rows: &[Vec<Field<'_>>],
     options: &Options,
 ) -> Result<Appearance, PrintFault>
-    ensures settings { IfOk result (λ it. it.settings.items ≡ looks_of options.now (text_rows rows.now)) }
-    ensures numeric { IfOk result (λ it. it.numeric.items ≡ numeric_of options.now.header (text_rows rows.now)) }
-    ensures named { OnOk result (missing_of options.now (text_rows rows.now) ≡ []) }
-    ensures refused { IfErr result (IsFirstMissing (missing_of options.now (text_rows rows.now))) }
+    ensures settings { IfOk result (λ it. it.settings.items ≡ looks_of options.now (field_rows rows.now)) }
+    ensures numeric { IfOk result (λ it. it.numeric.items ≡ numeric_of options.now.header (field_rows rows.now)) }
+    ensures named { OnOk result (missing_of options.now (field_rows rows.now) ≡ []) }
+    ensures refused { IfErr result (IsFirstMissing (missing_of options.now (field_rows rows.now))) }
 {
     let header = header_of(options.header, rows);
     let records = records_of(options.header, rows);

@@ -8,10 +8,12 @@ ghost use Rattle.tabled.specs.Writing.{HasNoText};
 ghost use Rattle.tabled_compact.specs.Building.{BuildRefusal};
 ghost use Rattle.tabled_output.specs.Counts.{FailsIff, OnlyWrites, TakesNothingIff, inner_of};
 ghost use Rattle.tabled_output.specs.Streams.{AppendsFront};
+ghost use Rattle.basinmug_cells.specs.Fields.{field_text};
 ghost use Rattle.basinmug_picture.specs.Documents.{below_header, document_text, header_alignments, rule};
 ghost use Rattle.basinmug_picture.specs.Printed.{IsLate};
 
 use crate::printing::write_lines;
+use basinmug_cells::Field;
 use basinmug_markdown::delimiter_row;
 use grid_config::AlignmentHorizontal;
 use std::alloc::{AllocError, Global};
@@ -46,16 +48,16 @@ impl Wanted for Part {
 /// records. It gives up as `build_lines` does.
 pub(crate) fn write_document<W: Write>(
     alloc: Global,
-    table: &Table,
+    table: &Table<Field<'_>>,
     more: &str,
     writer: &mut Counted<W>,
 ) -> Result<(), BuildFault>
-    ensures whole { OnOk result (Appends (W.contents (inner_of writer.old)) (W.contents (inner_of writer.new)) (document_text more.now (state_of (λ text. text) table.now))) }
+    ensures whole { OnOk result (Appends (W.contents (inner_of writer.old)) (W.contents (inner_of writer.new)) (document_text more.now (state_of field_text table.now))) }
     ensures front { IfErr result (λ fault. ¬ (HasNoText fault) →
-        AppendsFront (W.contents (inner_of writer.old)) (W.contents (inner_of writer.new)) (document_text more.now (state_of (λ text. text) table.now))) }
+        AppendsFront (W.contents (inner_of writer.old)) (W.contents (inner_of writer.new)) (document_text more.now (state_of field_text table.now))) }
     ensures untouched { IfErr result (λ fault. HasNoText fault → writer.new ≡ writer.old) }
-    ensures fits { OnOk result (IsFit (state_of (λ text. text) table.now) (Ok tt)) }
-    ensures table { IfErr result (BuildRefusal (IsFit (state_of (λ text. text) table.now) (Ok tt)) (IsFit (state_of (λ text. text) table.now))) }
+    ensures fits { OnOk result (IsFit (state_of field_text table.now) (Ok tt)) }
+    ensures table { IfErr result (BuildRefusal (IsFit (state_of field_text table.now) (Ok tt)) (IsFit (state_of field_text table.now))) }
     ensures write { FailsIff (IsErrOf result BuildFault.Write) writer.old writer.new }
     ensures write_zero { TakesNothingIff (IsErrOf result BuildFault.WriteZero) writer.old writer.new }
     ensures only_writes { OnlyWrites writer.old writer.new }
@@ -67,13 +69,13 @@ pub(crate) fn write_document<W: Write>(
 // Writes the rule of a table that fits, the lines of its records, and then a text.
 fn write_below_header<W: Write>(
     alloc: Global,
-    table: &Table,
+    table: &Table<Field<'_>>,
     more: &str,
     writer: &mut Counted<W>,
 ) -> Result<(), BuildFault>
-    requires fits { IsFit (state_of (λ text. text) table.now) (Ok tt) }
-    ensures whole { OnOk result (Appends (W.contents (inner_of writer.old)) (W.contents (inner_of writer.new)) (below_header more.now (state_of (λ text. text) table.now))) }
-    ensures front { AppendsFront (W.contents (inner_of writer.old)) (W.contents (inner_of writer.new)) (below_header more.now (state_of (λ text. text) table.now)) }
+    requires fits { IsFit (state_of field_text table.now) (Ok tt) }
+    ensures whole { OnOk result (Appends (W.contents (inner_of writer.old)) (W.contents (inner_of writer.new)) (below_header more.now (state_of field_text table.now))) }
+    ensures front { AppendsFront (W.contents (inner_of writer.old)) (W.contents (inner_of writer.new)) (below_header more.now (state_of field_text table.now)) }
     ensures late { IfErr result IsLate }
     ensures write { FailsIff (IsErrOf result BuildFault.Write) writer.old writer.new }
     ensures write_zero { TakesNothingIff (IsErrOf result BuildFault.WriteZero) writer.old writer.new }
@@ -85,9 +87,9 @@ fn write_below_header<W: Write>(
 }
 
 // The rule below the header of a table that fits. Fails only where allocation fails.
-fn rule_of(alloc: Global, table: &Table) -> Result<String, Fault>
-    requires fits { IsFit (state_of (λ text. text) table.now) (Ok tt) }
-    ensures rule { IfOk result (λ text. string_bytes text ≡ rule (state_of (λ text. text) table.now)) }
+fn rule_of(alloc: Global, table: &Table<Field<'_>>) -> Result<String, Fault>
+    requires fits { IsFit (state_of field_text table.now) (Ok tt) }
+    ensures rule { IfOk result (λ text. string_bytes text ≡ rule (state_of field_text table.now)) }
     ensures refused { IfErr result (λ fault. fault ≡ Memory) }
 {
     let widths = table.widths()?;
@@ -96,8 +98,11 @@ fn rule_of(alloc: Global, table: &Table) -> Result<String, Fault>
 }
 
 // Where the header's texts stand, column by column. Fails only where allocation fails.
-fn header_alignments(alloc: Global, table: &Table) -> Result<Vec<AlignmentHorizontal>, AllocError>
-    ensures { IfOk result (λ made. made.items ≡ header_alignments (state_of (λ text. text) table.now)) }
+fn header_alignments(
+    alloc: Global,
+    table: &Table<Field<'_>>,
+) -> Result<Vec<AlignmentHorizontal>, AllocError>
+    ensures { IfOk result (λ made. made.items ≡ header_alignments (state_of field_text table.now)) }
 {
     let config = table.get_config().spanned();
     let columns = table.count_columns();

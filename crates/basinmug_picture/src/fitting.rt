@@ -5,8 +5,10 @@ ghost use Rattle.grid_config_values.specs.declared.fault.Fault.TheVariants.{Memo
 ghost use Rattle.grid_records_traits.specs.Rows.{text_at};
 ghost use Rattle.tabled.specs.Tables.{state_of};
 ghost use Rattle.tabled_steps.specs.Changes.{changing};
+ghost use Rattle.basinmug_cells.specs.Fields.{field_text};
 ghost use Rattle.basinmug_picture.specs.Fitting.{fitted, fitted_in, fitted_text, with_fitted_texts};
 
+use basinmug_cells::Field;
 use basinmug_fitting::{cut_lines, wrap_words};
 use grid_config::ColoredConfig;
 use grid_records_rows::{FromText, Text, VecRecords};
@@ -65,9 +67,9 @@ impl<'a, T: FromText> CellOption<VecRecords<T>, ColoredConfig> for Fitting<'a> {
 }
 
 /// Fits each text of a table. It keeps no sizes then. Fails only where allocation fails.
-pub(crate) fn fit_texts(table: &mut Table, fitting: &Fitting<'_>) -> Result<(), Fault>
-    ensures fitted { OnOk result (state_of (λ text. text) table.new
-        ≡ with_fitted_texts fitting.now.truncate fitting.now.widths.now fitting.now.rooms.now (state_of (λ text. text) table.old)) }
+pub(crate) fn fit_texts(table: &mut Table<Field<'_>>, fitting: &Fitting<'_>) -> Result<(), Fault>
+    ensures fitted { OnOk result (state_of field_text table.new
+        ≡ with_fitted_texts fitting.now.truncate fitting.now.widths.now fitting.now.rooms.now (state_of field_text table.old)) }
     ensures refused { IfErr result (λ fault. fault ≡ Memory) }
 {
     table.set_cells(Entity::Global, fitting)

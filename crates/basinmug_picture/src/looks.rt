@@ -1,10 +1,12 @@
 //! The settings of a table before it is made narrower.
-ghost use Rattle.std.specs.Prelude.{◌≡◌, ◌++◌, ◌∷◌, [], IfErr, IfOk, OnOk, map, string_bytes};
+ghost use Rattle.std.specs.Prelude.{◌≡◌, ◌++◌, ◌∷◌, [], IfErr, IfOk, OnOk, map};
+ghost use Rattle.basinmug_cells.specs.Fields.{field_text};
 ghost use Rattle.basinmug_picture.specs.Looks.{alignments, colors, looks, numbers_right, right_if};
 ghost use Rattle.basinmug_picture.specs.Names.{IsFirstMissing, missing_names};
 
 use crate::fault::PrintFault;
 use crate::glyphs::glyphs_of;
+use basinmug_cells::Field;
 use basinmug_columns::column_number;
 use basinmug_options::{ColumnName, Options};
 use grid_config::{ANSIBuf, AlignmentHorizontal};
@@ -15,13 +17,13 @@ use tabled::{Entity, Setting};
 /// first name that the header does not have, and as `Memory` where allocation fails.
 pub(crate) fn looks(
     alloc: Global,
-    header: &[String],
+    header: &[Field<'_>],
     numeric: &[bool],
     options: &Options,
 ) -> Result<Vec<Setting>, PrintFault>
-    ensures settings { IfOk result (λ settings. settings.items ≡ looks options.now.look (map string_bytes header.now) numeric.now options.now.alignments.items options.now.colors.items) }
-    ensures named { OnOk result (missing_names (map string_bytes header.now) options.now.alignments.items ++ missing_names (map string_bytes header.now) options.now.colors.items ≡ []) }
-    ensures refused { IfErr result (IsFirstMissing (missing_names (map string_bytes header.now) options.now.alignments.items ++ missing_names (map string_bytes header.now) options.now.colors.items)) }
+    ensures settings { IfOk result (λ settings. settings.items ≡ looks options.now.look (map field_text header.now) numeric.now options.now.alignments.items options.now.colors.items) }
+    ensures named { OnOk result (missing_names (map field_text header.now) options.now.alignments.items ++ missing_names (map field_text header.now) options.now.colors.items ≡ []) }
+    ensures refused { IfErr result (IsFirstMissing (missing_names (map field_text header.now) options.now.alignments.items ++ missing_names (map field_text header.now) options.now.colors.items)) }
 {
     let mut settings = Vec::new(alloc);
     settings.push(Setting::Borders(glyphs_of(options.look)))?;
@@ -62,12 +64,12 @@ fn push_right_if(
 fn push_alignments(
     alloc: Global,
     settings: &mut Vec<Setting>,
-    header: &[String],
+    header: &[Field<'_>],
     pairs: &[(ColumnName, AlignmentHorizontal)],
 ) -> Result<(), PrintFault>
-    ensures settings { OnOk result (settings.new.items ≡ settings.old.items ++ alignments (map string_bytes header.now) pairs.now) }
-    ensures named { OnOk result (missing_names (map string_bytes header.now) pairs.now ≡ []) }
-    ensures refused { IfErr result (IsFirstMissing (missing_names (map string_bytes header.now) pairs.now)) }
+    ensures settings { OnOk result (settings.new.items ≡ settings.old.items ++ alignments (map field_text header.now) pairs.now) }
+    ensures named { OnOk result (missing_names (map field_text header.now) pairs.now ≡ []) }
+    ensures refused { IfErr result (IsFirstMissing (missing_names (map field_text header.now) pairs.now)) }
 {
     for (name, alignment) in pairs {
         let column = number_of(alloc, header, name)?;
@@ -80,12 +82,12 @@ fn push_alignments(
 fn push_colors(
     alloc: Global,
     settings: &mut Vec<Setting>,
-    header: &[String],
+    header: &[Field<'_>],
     pairs: &[(ColumnName, ANSIBuf)],
 ) -> Result<(), PrintFault>
-    ensures settings { OnOk result (settings.new.items ≡ settings.old.items ++ colors (map string_bytes header.now) pairs.now) }
-    ensures named { OnOk result (missing_names (map string_bytes header.now) pairs.now ≡ []) }
-    ensures refused { IfErr result (IsFirstMissing (missing_names (map string_bytes header.now) pairs.now)) }
+    ensures settings { OnOk result (settings.new.items ≡ settings.old.items ++ colors (map field_text header.now) pairs.now) }
+    ensures named { OnOk result (missing_names (map field_text header.now) pairs.now ≡ []) }
+    ensures refused { IfErr result (IsFirstMissing (missing_names (map field_text header.now) pairs.now)) }
 {
     for (name, color) in pairs {
         let column = number_of(alloc, header, name)?;
@@ -99,9 +101,9 @@ ghost use Rattle.basinmug_columns.specs.Names.{column_number};
 ghost use Rattle.basinmug_picture.specs.Names.{missing};
 
 // The number of a named column. Refused as `NoColumn` where the header has no such text.
-fn number_of(alloc: Global, header: &[String], name: &ColumnName) -> Result<usize, PrintFault>
-    ensures number { IfOk result (λ number. column_number (map string_bytes header.now) name.now ≡ Some number) }
-    ensures refused { IfErr result (IsFirstMissing (missing (map string_bytes header.now) name.now)) }
+fn number_of(alloc: Global, header: &[Field<'_>], name: &ColumnName) -> Result<usize, PrintFault>
+    ensures number { IfOk result (λ number. column_number (map field_text header.now) name.now ≡ Some number) }
+    ensures refused { IfErr result (IsFirstMissing (missing (map field_text header.now) name.now)) }
 {
     match (column_number(alloc, header, name)?, name) {
         (Some(number), _) => Ok(number),

@@ -4,12 +4,14 @@ ghost use Rattle.grid_config_values.specs.declared.fault.Fault.TheVariants.{Memo
 ghost use Rattle.tabled.specs.Tables.{state_of};
 ghost use Rattle.tabled.specs.Totals.{drawn_width};
 ghost use Rattle.tabled_list.specs.Lists.{Runs};
+ghost use Rattle.basinmug_cells.specs.Fields.{field_text};
 ghost use Rattle.basinmug_picture.specs.Fitting.{trimmed_if, trims, with_fitted_texts};
 ghost use Rattle.basinmug_picture.specs.Narrowing.{IsNotNarrowed, IsRefusedIn, Narrows};
 ghost use Rattle.basinmug_picture.specs.Pictures.{is_wider, narrowed_to};
 
 use crate::fitting::{Fitting, fit_texts, size_at};
 use crate::rows::is_markdown;
+use basinmug_cells::Field;
 use basinmug_columns::shrink_columns;
 use basinmug_options::Options;
 use std::alloc::{AllocError, Global};
@@ -18,17 +20,17 @@ use tabled::{Choice, Entity, Fault, Setting, Table};
 /// Makes a table narrower where a width is asked; a document keeps its own. Answers whether it is wider than asked.
 pub(crate) fn narrow_if_asked(
     alloc: Global,
-    table: &mut Table,
+    table: &mut Table<Field<'_>>,
     numeric: &[bool],
     options: &Options,
 ) -> Result<bool, Fault>
-    ensures narrowed { OnOk result (MatchOption (narrowed_to options.now) (state_of (λ text. text) table.new ≡ state_of (λ text. text) table.old)
-        (λ width. Narrows options.now.truncate options.now.priority numeric.now width (state_of (λ text. text) table.old)
-        (state_of (λ text. text) table.new))) }
-    ensures wider { IfOk result (λ wider. wider ≡ is_wider options.now.width (state_of (λ text. text) table.new)) }
+    ensures narrowed { OnOk result (MatchOption (narrowed_to options.now) (state_of field_text table.new ≡ state_of field_text table.old)
+        (λ width. Narrows options.now.truncate options.now.priority numeric.now width (state_of field_text table.old)
+        (state_of field_text table.new))) }
+    ensures wider { IfOk result (λ wider. wider ≡ is_wider options.now.width (state_of field_text table.new)) }
     ensures refused { IfErr result (λ fault. (fault ≡ Memory)
         ⊎ MatchOption (narrowed_to options.now) ⊥
-        (λ width. IsNotNarrowed options.now.truncate options.now.priority numeric.now width (state_of (λ text. text) table.old) fault)) }
+        (λ width. IsNotNarrowed options.now.truncate options.now.priority numeric.now width (state_of field_text table.old) fault)) }
 {
     match narrowed_to(options) {
         None => is_wider(table, options.width),
@@ -67,13 +69,13 @@ struct Narrowing {
 // Makes a table as narrow as is asked, or as far as its columns give. Answers whether it is wider than asked.
 fn narrow(
     alloc: Global,
-    table: &mut Table,
+    table: &mut Table<Field<'_>>,
     numeric: &[bool],
     asked: Narrowing,
 ) -> Result<bool, Fault>
-    ensures narrowed { OnOk result (Narrows asked.truncate asked.priority numeric.now asked.width (state_of (λ text. text) table.old) (state_of (λ text. text) table.new)) }
-    ensures wider { IfOk result (λ wider. wider ≡ nat_lt asked.width (drawn_width (state_of (λ text. text) table.new))) }
-    ensures refused { IfErr result (λ fault. (fault ≡ Memory) ⊎ IsNotNarrowed asked.truncate asked.priority numeric.now asked.width (state_of (λ text. text) table.old) fault) }
+    ensures narrowed { OnOk result (Narrows asked.truncate asked.priority numeric.now asked.width (state_of field_text table.old) (state_of field_text table.new)) }
+    ensures wider { IfOk result (λ wider. wider ≡ nat_lt asked.width (drawn_width (state_of field_text table.new))) }
+    ensures refused { IfErr result (λ fault. (fault ≡ Memory) ⊎ IsNotNarrowed asked.truncate asked.priority numeric.now asked.width (state_of field_text table.old) fault) }
 {
     let total = table.total_width()?;
     if total <= asked.width {
@@ -99,11 +101,15 @@ fn narrow(
 }
 
 // Fits the texts of a table to the rooms of its columns, and trims their lines.
-fn fit_columns(alloc: Global, table: &mut Table, fitting: &Fitting<'_>) -> Result<(), Fault>
+fn fit_columns(
+    alloc: Global,
+    table: &mut Table<Field<'_>>,
+    fitting: &Fitting<'_>,
+) -> Result<(), Fault>
     ensures fitted { OnOk result (Runs (trims fitting.now.truncate fitting.now.widths.now fitting.now.rooms.now)
-        (with_fitted_texts fitting.now.truncate fitting.now.widths.now fitting.now.rooms.now (state_of (λ text. text) table.old)) (state_of (λ text. text) table.new)) }
+        (with_fitted_texts fitting.now.truncate fitting.now.widths.now fitting.now.rooms.now (state_of field_text table.old)) (state_of field_text table.new)) }
     ensures refused { IfErr result (λ fault. (fault ≡ Memory) ⊎ IsRefusedIn (trims fitting.now.truncate fitting.now.widths.now fitting.now.rooms.now)
-        (with_fitted_texts fitting.now.truncate fitting.now.widths.now fitting.now.rooms.now (state_of (λ text. text) table.old)) fault) }
+        (with_fitted_texts fitting.now.truncate fitting.now.widths.now fitting.now.rooms.now (state_of field_text table.old)) fault) }
 {
     let settings = trims(alloc, fitting)?;
     fit_texts(table, fitting)?;
@@ -112,9 +118,9 @@ fn fit_columns(alloc: Global, table: &mut Table, fitting: &Fitting<'_>) -> Resul
 }
 
 /// Runs settings on a table. Refused as the first of them that is.
-pub(crate) fn run_settings(table: &mut Table, settings: &[Setting]) -> Result<(), Fault>
-    ensures run { OnOk result (Runs settings.now (state_of (λ text. text) table.old) (state_of (λ text. text) table.new)) }
-    ensures refused { IfErr result (IsRefusedIn settings.now (state_of (λ text. text) table.old)) }
+pub(crate) fn run_settings(table: &mut Table<Field<'_>>, settings: &[Setting]) -> Result<(), Fault>
+    ensures run { OnOk result (Runs settings.now (state_of field_text table.old) (state_of field_text table.new)) }
+    ensures refused { IfErr result (IsRefusedIn settings.now (state_of field_text table.old)) }
 {
     match table.with_list(settings) {
         Ok(()) => Ok(()),
@@ -123,8 +129,8 @@ pub(crate) fn run_settings(table: &mut Table, settings: &[Setting]) -> Result<()
 }
 
 // Whether a table is wider than is asked.
-fn is_wider(table: &Table, asked: Option<usize>) -> Result<bool, Fault>
-    ensures wider { IfOk result (λ wider. wider ≡ is_wider asked (state_of (λ text. text) table.now)) }
+fn is_wider(table: &Table<Field<'_>>, asked: Option<usize>) -> Result<bool, Fault>
+    ensures wider { IfOk result (λ wider. wider ≡ is_wider asked (state_of field_text table.now)) }
     ensures refused { IfErr result (λ fault. fault ≡ Memory) }
 {
     match asked {
@@ -134,8 +140,8 @@ fn is_wider(table: &Table, asked: Option<usize>) -> Result<bool, Fault>
 }
 
 // Whether a table is wider than this.
-fn passes(table: &Table, width: usize) -> Result<bool, Fault>
-    ensures wider { IfOk result (λ wider. wider ≡ nat_lt width (drawn_width (state_of (λ text. text) table.now))) }
+fn passes(table: &Table<Field<'_>>, width: usize) -> Result<bool, Fault>
+    ensures wider { IfOk result (λ wider. wider ≡ nat_lt width (drawn_width (state_of field_text table.now))) }
     ensures refused { IfErr result (λ fault. fault ≡ Memory) }
 {
     match table.total_width() {

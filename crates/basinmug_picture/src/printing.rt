@@ -8,7 +8,7 @@ ghost use Rattle.tabled.specs.Writing.{HasNoText, wanted_lines};
 ghost use Rattle.tabled_compact.specs.Building.{BuildRefusal};
 ghost use Rattle.tabled_output.specs.Counts.{FailsIff, OnlyWrites, TakesNothingIff, inner_of};
 ghost use Rattle.tabled_output.specs.Streams.{AppendsFront};
-ghost use Rattle.tabled_text.specs.Rows.{text_rows};
+ghost use Rattle.basinmug_cells.specs.Fields.{field_rows, field_text};
 ghost use Rattle.basinmug_picture.specs.Lines.{picture_text};
 ghost use Rattle.basinmug_picture.specs.Pictures.{IsMade, IsNotMade, is_wider};
 ghost use Rattle.basinmug_picture.specs.Printed.{HasNothing, IsRefusal, IsTableFault, Prints, PrintsTable, StopsIn, StopsInTable};
@@ -21,10 +21,11 @@ use crate::fault::PrintFault;
 use crate::lines::{RuledLines, below};
 use crate::narrowing::{narrow_if_asked, run_settings};
 use crate::rows::{is_markdown, shown_count};
+use basinmug_cells::Field;
 use basinmug_options::{Look, Options};
 use std::alloc::Global;
 use std::io::Write;
-use tabled::{BuildFault, Builder, Counted, Fault, Table, Wanted};
+use tabled::{BuildFault, Counted, Fault, Table, Wanted};
 use tabled_output::write_piece;
 
 /// What there is to say of a picture that was printed.
@@ -41,14 +42,14 @@ pub struct Shown {
 /// header, and as a table that is written does; nothing is written before its table is made. Nothing is flushed.
 pub fn print<W: Write>(
     alloc: Global,
-    rows: Vec<Vec<String>>,
+    rows: Vec<Vec<Field<'_>>>,
     options: &Options,
     writer: &mut Counted<W>,
 ) -> Result<Shown, PrintFault>
-    ensures printed { IfOk result (λ shown. Prints options.now (text_rows rows.items) shown.wider (W.contents (inner_of writer.old)) (W.contents (inner_of writer.new))) }
-    ensures front { IfErr result (λ fault. ¬ (HasNothing fault) → StopsIn options.now (text_rows rows.items) fault (W.contents (inner_of writer.old)) (W.contents (inner_of writer.new))) }
+    ensures printed { IfOk result (λ shown. Prints options.now (field_rows rows.entry.items) shown.wider (W.contents (inner_of writer.old)) (W.contents (inner_of writer.new))) }
+    ensures front { IfErr result (λ fault. ¬ (HasNothing fault) → StopsIn options.now (field_rows rows.entry.items) fault (W.contents (inner_of writer.old)) (W.contents (inner_of writer.new))) }
     ensures untouched { IfErr result (λ fault. HasNothing fault → writer.new ≡ writer.old) }
-    ensures refused { IfErr result (IsRefusal options.now (text_rows rows.items)) }
+    ensures refused { IfErr result (IsRefusal options.now (field_rows rows.entry.items)) }
     ensures write { FailsIff (IsErrOf result (PrintFault.Table BuildFault.Write)) writer.old writer.new }
     ensures write_zero { TakesNothingIff (IsErrOf result (PrintFault.Table BuildFault.WriteZero)) writer.old writer.new }
     ensures only_writes { OnlyWrites writer.old writer.new }
@@ -64,8 +65,7 @@ pub fn print<W: Write>(
     let texts = rows.as_slice();
     let appearance = appearance_of(alloc, texts, options)?;
     let cells = cells_of(alloc, rows, options.look, options.header)?;
-    let builder = Builder::from_vec(cells);
-    let mut table = Table::from_builder(builder)?;
+    let mut table = Table::from_cells(alloc, cells)?;
     let ending = more.as_str();
     let outcome = print_table(
         alloc,
@@ -81,13 +81,13 @@ pub fn print<W: Write>(
 }
 
 // The rows that are shown, and how many are left out.
-fn shown_rows(
-    rows: Vec<Vec<String>>,
+fn shown_rows<'a>(
+    rows: Vec<Vec<Field<'a>>>,
     header: bool,
     most: Option<usize>,
-) -> (Vec<Vec<String>>, usize)
-    ensures rows { text_rows result.0.items ≡ take (shown_count header most (length (text_rows rows.items))) (text_rows rows.items) }
-    ensures left_out { result.1 ≡ length (text_rows rows.items) - shown_count header most (length (text_rows rows.items)) }
+) -> (Vec<Vec<Field<'a>>>, usize)
+    ensures rows { field_rows result.0.items ≡ take (shown_count header most (length (field_rows rows.entry.items))) (field_rows rows.entry.items) }
+    ensures left_out { result.1 ≡ length (field_rows rows.entry.items) - shown_count header most (length (field_rows rows.entry.items)) }
 {
     let mut rows = rows;
     let count = shown_count(header, most, rows.len());
@@ -100,7 +100,7 @@ fn shown_rows(
 // made it drops it in one place.
 fn print_table<W: Write>(
     alloc: Global,
-    table: &mut Table,
+    table: &mut Table<Field<'_>>,
     appearance: &Appearance,
     options: &Options,
     lines: &RuledLines,
@@ -108,17 +108,17 @@ fn print_table<W: Write>(
     writer: &mut Counted<W>,
 ) -> Result<Shown, PrintFault>
     ensures printed { IfOk result (λ shown. PrintsTable
-        (IsMade options.now appearance.now.settings.items appearance.now.numeric.items (state_of (λ text. text) table.old))
+        (IsMade options.now appearance.now.settings.items appearance.now.numeric.items (state_of field_text table.old))
         (picture_text options.now.look lines.now.rules lines.now.header lines.now.rows more.now) options.now.width
         shown.wider (W.contents (inner_of writer.old)) (W.contents (inner_of writer.new))) }
     ensures front { IfErr result (λ fault. ¬ (HasNothing fault) → StopsInTable
-        (IsMade options.now appearance.now.settings.items appearance.now.numeric.items (state_of (λ text. text) table.old))
+        (IsMade options.now appearance.now.settings.items appearance.now.numeric.items (state_of field_text table.old))
         (picture_text options.now.look lines.now.rules lines.now.header lines.now.rows more.now)
         fault (W.contents (inner_of writer.old)) (W.contents (inner_of writer.new))) }
     ensures untouched { IfErr result (λ fault. HasNothing fault → writer.new ≡ writer.old) }
     ensures refused { IfErr result (IsTableFault
-        (IsMade options.now appearance.now.settings.items appearance.now.numeric.items (state_of (λ text. text) table.old))
-        (IsNotMade options.now appearance.now.settings.items appearance.now.numeric.items (state_of (λ text. text) table.old))) }
+        (IsMade options.now appearance.now.settings.items appearance.now.numeric.items (state_of field_text table.old))
+        (IsNotMade options.now appearance.now.settings.items appearance.now.numeric.items (state_of field_text table.old))) }
     ensures write { FailsIff (IsErrOf result (PrintFault.Table BuildFault.Write)) writer.old writer.new }
     ensures write_zero { TakesNothingIff (IsErrOf result (PrintFault.Table BuildFault.WriteZero)) writer.old writer.new }
     ensures only_writes { OnlyWrites writer.old writer.new }
@@ -131,15 +131,15 @@ fn print_table<W: Write>(
 // Sets what a table looks like, and makes it narrower where a width is asked. Answers whether it is wider than asked.
 fn make_table(
     alloc: Global,
-    table: &mut Table,
+    table: &mut Table<Field<'_>>,
     appearance: &Appearance,
     options: &Options,
 ) -> Result<bool, Fault>
     ensures made { OnOk result (IsMade options.now appearance.now.settings.items appearance.now.numeric.items
-        (state_of (λ text. text) table.old) (state_of (λ text. text) table.new)) }
-    ensures wider { IfOk result (λ wider. wider ≡ is_wider options.now.width (state_of (λ text. text) table.new)) }
+        (state_of field_text table.old) (state_of field_text table.new)) }
+    ensures wider { IfOk result (λ wider. wider ≡ is_wider options.now.width (state_of field_text table.new)) }
     ensures refused { IfErr result (λ fault. (fault ≡ Memory) ⊎ IsNotMade options.now
-        appearance.now.settings.items appearance.now.numeric.items (state_of (λ text. text) table.old) fault) }
+        appearance.now.settings.items appearance.now.numeric.items (state_of field_text table.old) fault) }
 {
     let list = appearance.settings.as_slice();
     run_settings(table, list)?;
@@ -150,20 +150,20 @@ fn make_table(
 // Writes the lines of a table in this look, and then a text.
 fn write_picture<W: Write>(
     alloc: Global,
-    table: &Table,
+    table: &Table<Field<'_>>,
     look: Look,
     lines: &RuledLines,
     more: &str,
     writer: &mut Counted<W>,
 ) -> Result<(), BuildFault>
     ensures whole { OnOk result (Appends (W.contents (inner_of writer.old)) (W.contents (inner_of writer.new))
-        (picture_text look lines.now.rules lines.now.header lines.now.rows more.now (state_of (λ text. text) table.now))) }
+        (picture_text look lines.now.rules lines.now.header lines.now.rows more.now (state_of field_text table.now))) }
     ensures front { IfErr result (λ fault. ¬ (HasNoText fault) →
         AppendsFront (W.contents (inner_of writer.old)) (W.contents (inner_of writer.new))
-        (picture_text look lines.now.rules lines.now.header lines.now.rows more.now (state_of (λ text. text) table.now))) }
+        (picture_text look lines.now.rules lines.now.header lines.now.rows more.now (state_of field_text table.now))) }
     ensures untouched { IfErr result (λ fault. HasNoText fault → writer.new ≡ writer.old) }
-    ensures fits { OnOk result (IsFit (state_of (λ text. text) table.now) (Ok tt)) }
-    ensures table { IfErr result (BuildRefusal (IsFit (state_of (λ text. text) table.now) (Ok tt)) (IsFit (state_of (λ text. text) table.now))) }
+    ensures fits { OnOk result (IsFit (state_of field_text table.now) (Ok tt)) }
+    ensures table { IfErr result (BuildRefusal (IsFit (state_of field_text table.now) (Ok tt)) (IsFit (state_of field_text table.now))) }
     ensures write { FailsIff (IsErrOf result BuildFault.Write) writer.old writer.new }
     ensures write_zero { TakesNothingIff (IsErrOf result BuildFault.WriteZero) writer.old writer.new }
     ensures only_writes { OnlyWrites writer.old writer.new }
@@ -177,19 +177,19 @@ fn write_picture<W: Write>(
 
 /// Writes the lines of a table that are wanted, and then a text. It gives up as `build_lines` does.
 pub(crate) fn write_lines<W: Write, K: Wanted>(
-    table: &Table,
+    table: &Table<Field<'_>>,
     wanted: &K,
     more: &str,
     writer: &mut Counted<W>,
 ) -> Result<(), BuildFault>
     ensures whole { OnOk result (Appends (W.contents (inner_of writer.old)) (W.contents (inner_of writer.new))
-        (wanted_lines (K.wants wanted.now) (state_of (λ text. text) table.now) ++ more.now)) }
+        (wanted_lines (K.wants wanted.now) (state_of field_text table.now) ++ more.now)) }
     ensures front { IfErr result (λ fault. ¬ (HasNoText fault) →
         AppendsFront (W.contents (inner_of writer.old)) (W.contents (inner_of writer.new))
-        (wanted_lines (K.wants wanted.now) (state_of (λ text. text) table.now) ++ more.now)) }
+        (wanted_lines (K.wants wanted.now) (state_of field_text table.now) ++ more.now)) }
     ensures untouched { IfErr result (λ fault. HasNoText fault → writer.new ≡ writer.old) }
-    ensures fits { OnOk result (IsFit (state_of (λ text. text) table.now) (Ok tt)) }
-    ensures table { IfErr result (BuildRefusal (IsFit (state_of (λ text. text) table.now) (Ok tt)) (IsFit (state_of (λ text. text) table.now))) }
+    ensures fits { OnOk result (IsFit (state_of field_text table.now) (Ok tt)) }
+    ensures table { IfErr result (BuildRefusal (IsFit (state_of field_text table.now) (Ok tt)) (IsFit (state_of field_text table.now))) }
     ensures write { FailsIff (IsErrOf result BuildFault.Write) writer.old writer.new }
     ensures write_zero { TakesNothingIff (IsErrOf result BuildFault.WriteZero) writer.old writer.new }
     ensures only_writes { OnlyWrites writer.old writer.new }

@@ -1,9 +1,11 @@
 //! The rows of a picture: a header, and records.
-ghost use Rattle.std.specs.Prelude.{◌≡◌, map, string_bytes};
-ghost use Rattle.tabled_text.specs.Rows.{longest, text_rows};
+ghost use Rattle.std.specs.Prelude.{◌≡◌, map};
+ghost use Rattle.tabled_text.specs.Rows.{longest};
+ghost use Rattle.grid_records_traits.specs.Sources.{texts_of_rows};
 ghost use Rattle.basinmug_picture.specs.Rows.{header_of, header_rows, is_markdown, records_of, shown_count};
 
 use basinmug_options::Look;
+use grid_records_traits::Cell;
 
 /// Whether a look is that of a table in a document.
 pub(crate) fn is_markdown(look: Look) -> bool
@@ -33,8 +35,8 @@ fn header_rows(header: bool) -> usize
 }
 
 /// The texts of the header, where there is one.
-pub(crate) fn header_of(header: bool, rows: &[Vec<String>]) -> &[String]
-    ensures { map string_bytes result.now ≡ header_of header (text_rows rows.now) }
+pub(crate) fn header_of<C: Cell>(header: bool, rows: &[Vec<C>]) -> &[C]
+    ensures { map C.text result.now ≡ header_of header (texts_of_rows C.text rows.now) }
 {
     if !header {
         return &[];
@@ -46,8 +48,8 @@ pub(crate) fn header_of(header: bool, rows: &[Vec<String>]) -> &[String]
 }
 
 /// The rows below the header.
-pub(crate) fn records_of(header: bool, rows: &[Vec<String>]) -> &[Vec<String>]
-    ensures { text_rows result.now ≡ records_of header (text_rows rows.now) }
+pub(crate) fn records_of<C: Cell>(header: bool, rows: &[Vec<C>]) -> &[Vec<C>]
+    ensures { texts_of_rows C.text result.now ≡ records_of header (texts_of_rows C.text rows.now) }
 {
     let from = header_rows(header);
     if from <= rows.len() {
@@ -58,8 +60,8 @@ pub(crate) fn records_of(header: bool, rows: &[Vec<String>]) -> &[Vec<String>]
 }
 
 /// How many texts the longest row has.
-pub(crate) fn longest_row(rows: &[Vec<String>]) -> usize
-    ensures { result ≡ longest (text_rows rows.now) }
+pub(crate) fn longest_row<C: Cell>(rows: &[Vec<C>]) -> usize
+    ensures { result ≡ longest (texts_of_rows C.text rows.now) }
 {
     let mut most = 0;
     for row in rows {

@@ -1,15 +1,20 @@
 //! Records one below the other.
 ghost use Rattle.std.specs.Io.KnownBytes.{Appends};
-ghost use Rattle.std.specs.Prelude.{◌≡◌, IfErr, IfOk, IsErrOf, OnOk};
+ghost use Rattle.std.specs.Prelude.{◌≡◌, ◌⊎◌, IfErr, IfOk, IsErrOf, OnOk, string_bytes};
+ghost use Rattle.grid_config_values.specs.declared.fault.Fault.TheVariants.{Memory as NoMemory, Range};
+ghost use Rattle.tabled_expanded.specs.Expanded.{IsTooWide};
 ghost use Rattle.tabled_output.specs.Counts.{FailsIff, OnlyWrites, TakesNothingIff, inner_of};
 ghost use Rattle.tabled_output.specs.Streams.{AppendsFront};
-ghost use Rattle.tabled_text.specs.Rows.{text_rows};
+ghost use Rattle.basinmug_expanded.specs.Records.{IsRecordsText, record_table};
+ghost use Rattle.basinmug_cells.specs.Fields.{field_rows};
 ghost use Rattle.basinmug_picture.specs.Printed.{HasNothing};
 ghost use Rattle.basinmug_run.specs.Runs.{IsOfWriter, IsRecordsFault, PrintsRecords, StopsInRecords};
 
+use basinmug_cells::{Field, texts_of};
 use basinmug_expanded::records_text;
 use basinmug_options::Options;
 use basinmug_picture::{PrintFault, Shown};
+use grid_config_values::Fault;
 use std::alloc::Global;
 use std::io::Write;
 use tabled_compact::BuildFault;
@@ -20,21 +25,36 @@ use tabled_output::{Counted, write_piece};
 /// gave up.
 pub(crate) fn print_records<W: Write>(
     alloc: Global,
-    rows: Vec<Vec<String>>,
+    rows: Vec<Vec<Field<'_>>>,
     options: &Options,
     writer: &mut Counted<W>,
 ) -> Result<Shown, PrintFault>
-    ensures printed { IfOk result (λ shown. PrintsRecords options.now (text_rows rows.items) shown.wider (W.contents (inner_of writer.old)) (W.contents (inner_of writer.new))) }
-    ensures front { IfErr result (λ fault. ¬ (HasNothing fault) → StopsInRecords options.now (text_rows rows.items) (W.contents (inner_of writer.old)) (W.contents (inner_of writer.new))) }
+    ensures printed { IfOk result (λ shown. PrintsRecords options.now (field_rows rows.entry.items) shown.wider (W.contents (inner_of writer.old)) (W.contents (inner_of writer.new))) }
+    ensures front { IfErr result (λ fault. ¬ (HasNothing fault) → StopsInRecords options.now (field_rows rows.entry.items) (W.contents (inner_of writer.old)) (W.contents (inner_of writer.new))) }
     ensures untouched { IfErr result (λ fault. HasNothing fault → writer.new ≡ writer.old) }
-    ensures refused { IfErr result (IsRecordsFault options.now (text_rows rows.items)) }
+    ensures refused { IfErr result (IsRecordsFault options.now (field_rows rows.entry.items)) }
     ensures write { FailsIff (IsErrOf result (PrintFault.Table BuildFault.Write)) writer.old writer.new }
     ensures write_zero { TakesNothingIff (IsErrOf result (PrintFault.Table BuildFault.WriteZero)) writer.old writer.new }
     ensures only_writes { OnlyWrites writer.old writer.new }
 {
-    let text = records_text(alloc, rows, options.header, options.max_rows)?;
+    let text = text_of(alloc, rows, options.header, options.max_rows)?;
     write_text(text.as_str(), writer)?;
     Ok(Shown { wider: false })
+}
+
+// The text of rows of cells as records, as `records_text` has it of rows of texts.
+fn text_of(
+    alloc: Global,
+    rows: Vec<Vec<Field<'_>>>,
+    header: bool,
+    max_rows: Option<usize>,
+) -> Result<String, Fault>
+    ensures text { IfOk result (λ text. IsRecordsText header max_rows (field_rows rows.entry.items) (string_bytes text)) }
+    ensures fits { OnOk result (¬ IsTooWide (record_table header max_rows (field_rows rows.entry.items))) }
+    ensures refused { IfErr result (λ fault. (fault ≡ NoMemory) ⊎ ((fault ≡ Range) × IsTooWide (record_table header max_rows (field_rows rows.entry.items)))) }
+{
+    let texts = texts_of(alloc, rows)?;
+    records_text(alloc, texts, header, max_rows)
 }
 
 // Writes a text.

@@ -1,7 +1,7 @@
 //! From bytes to a writer: the rows, and their table.
 ghost use Rattle.std.specs.Prelude.{◌≡◌, IfErr, IfOk, IsErrOf, OnOk};
 ghost use Rattle.tabled_output.specs.Counts.{FailsIff, OnlyWrites, TakesNothingIff, inner_of};
-ghost use Rattle.tabled_text.specs.Rows.{text_rows};
+ghost use Rattle.basinmug_cells.specs.Fields.{field_rows};
 ghost use Rattle.basinmug_input.specs.Faults.{IsReadable};
 ghost use Rattle.basinmug_input.specs.Reading.{settings};
 ghost use Rattle.basinmug_input.specs.Rows.{rows_in, text_in};
@@ -10,6 +10,7 @@ ghost use Rattle.basinmug_run.specs.Runs.{HasNothing, IsRefusal, IsRowsFault, Pr
 
 use crate::fault::RunFault;
 use crate::records::print_records;
+use basinmug_cells::Field;
 use basinmug_input::rows_of;
 use basinmug_options::Options;
 use basinmug_picture::{PrintFault, Shown, print};
@@ -47,15 +48,15 @@ pub fn run<W: Write>(
 // Prints rows as a table, or one below the other.
 fn print_rows<W: Write>(
     alloc: Global,
-    rows: Vec<Vec<String>>,
+    rows: Vec<Vec<Field<'_>>>,
     options: &Options,
     writer: &mut Counted<W>,
 ) -> Result<Shown, PrintFault>
-    ensures printed { IfOk result (λ shown. PrintsRows options.now (text_rows rows.items) shown.wider (W.contents (inner_of writer.old)) (W.contents (inner_of writer.new))) }
+    ensures printed { IfOk result (λ shown. PrintsRows options.now (field_rows rows.entry.items) shown.wider (W.contents (inner_of writer.old)) (W.contents (inner_of writer.new))) }
     ensures front { IfErr result (λ fault. ¬ (HasNothingPrinted fault) →
-        StopsInRows options.now (text_rows rows.items) fault (W.contents (inner_of writer.old)) (W.contents (inner_of writer.new))) }
+        StopsInRows options.now (field_rows rows.entry.items) fault (W.contents (inner_of writer.old)) (W.contents (inner_of writer.new))) }
     ensures untouched { IfErr result (λ fault. HasNothingPrinted fault → writer.new ≡ writer.old) }
-    ensures refused { IfErr result (IsRowsFault options.now (text_rows rows.items)) }
+    ensures refused { IfErr result (IsRowsFault options.now (field_rows rows.entry.items)) }
     ensures write { FailsIff (IsErrOf result (PrintFault.Table BuildFault.Write)) writer.old writer.new }
     ensures write_zero { TakesNothingIff (IsErrOf result (PrintFault.Table BuildFault.WriteZero)) writer.old writer.new }
     ensures only_writes { OnlyWrites writer.old writer.new }

@@ -1,8 +1,7 @@
 use Rattle.std.proofs.Common.{◌≡◌, drop, map}
-use Rattle.std.specs.Prelude.{string_bytes}
 use Rattle.std.specs.List.{position_from}
 use Rattle.basinmug_columns.specs.Names.{shows}
 use Rattle.basinmug_columns.proofs.names.column_of_text.Given as goal
 
 abbrev pub invariant-loop-column : goal.invariant-loop-column
-invariant-loop-column l = position_from (shows l.name) 0 (map string_bytes l.header) ≡ position_from (shows l.name) l.column (map string_bytes (drop l.column l.header))
+invariant-loop-column g l = position_from (shows l.name) 0 (map g.C.Cell.text l.header) ≡ position_from (shows l.name) l.column (map g.C.Cell.text (drop l.column l.header))

@@ -1,13 +1,10 @@
 -- Printable ASCII is sound, and is shown as it is.
-use Rattle.std.proofs.Common.{rules, ◌≡◌, ◌∙◌, sym}
-use Rattle.basinmug_input.specs.Cleaning.{cleaned}
+use Rattle.std.proofs.Common.{◌∙◌, sym}
 use Rattle.basinmug_input.proofs.Graphic.{printable-cleaned, printable-whole}
 use Rattle.basinmug_input.proofs.cells.text_cell.Goals as goal
 
-pub returns-then-is_printable : goal.returns-then-is_printable
-returns-then-is_printable c =
+pub returns-in-Some : goal.returns-in-Some
+returns-in-Some c =
     let text = c.args.text.now in
-    let all = sym c.is_printable.ensures ∙ c.if-is_printable.true in
-    let whole = printable-whole text all in
-    let same : cleaned text ≡ text = printable-cleaned text all in
-    search (rules, whole, same)
+    let all = c.in-Some.ensures.1 in
+    ((c.utf8.text, printable-whole text all), c.in-Some.ensures.0 ∙ sym (printable-cleaned text all))

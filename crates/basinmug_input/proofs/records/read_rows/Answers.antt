@@ -1,5 +1,5 @@
 -- One record more is read, as the reader's contract says.
-use Rattle.std.proofs.Common.{◌≡◌, Bor, List, ℕ, ◌∙◌, ◌∷◌, ◌++◌, [], Some, sym, refl, ap, subst, inl, inr, length, map, vec_items, string_bytes, Option, false, true}
+use Rattle.std.proofs.Common.{◌≡◌, Bor, List, ℕ, ◌∙◌, ◌∷◌, ◌++◌, [], Some, sym, refl, ap, subst, inl, inr, length, map, vec_items, Option, false, true}
 use Rattle.std.proofs.lemmas.List.{length-map, map_push}
 use Rattle.std.specs.List.{AllByRecursion}
 use Rattle.csv.specs.Reading.{ExplainsRead, is_flexible, Reached, strip_bom}
@@ -8,6 +8,7 @@ use Rattle.csv.specs.declared.error.ErrorKind.{ErrorKind}
 use Rattle.csv.specs.declared.error.ErrorKind.TheVariants as kind
 use Rattle.csv.specs.declared.reader.Reader.{Reader}
 use Rattle.std.proofs.lemmas.Bool.{false≢true}
+use Rattle.basinmug_cells.specs.Fields.{field_rows, field_text}
 use Rattle.basinmug_input.specs.Reading.{IsOfMemory}
 use Rattle.csv.specs.declared.parser.Config.{Config}
 use Rattle.csv.specs.declared.parser.State.TheVariants as st
@@ -15,7 +16,7 @@ use Rattle.csv.proofs.ReadFacts.{rows-end, rows-more}
 use Rattle.basinmug_input.specs.Cleaning.{cleaned}
 use Rattle.basinmug_input.specs.Flaws.{IsSound}
 use Rattle.basinmug_input.specs.Reading.{settings}
-use Rattle.basinmug_input.specs.Rows.{IsFirstFlawed, text_rows}
+use Rattle.basinmug_input.specs.Rows.{IsFirstFlawed}
 use Rattle.basinmug_input.proofs.ReadRecords.{records-go_on, records-only}
 use Rattle.basinmug_input.proofs.Rows.{all-push}
 use Rattle.basinmug_input.proofs.records.read_rows.Goals as goal
@@ -33,7 +34,7 @@ loop-init c =
       raw = [];
       source = made.source;
       reached = (sym made.state, refl);
-      texts = ap text_rows c.new-rows.ensures.items;
+      texts = ap field_rows c.new-rows.ensures.items;
       sound = tt;
     }
 
@@ -74,7 +75,7 @@ fault_of-requires c =
       after = after;
       of_text = of_text;
       sound = known.sound;
-      place = c.len.ensures ∙ c.loop.rows.ok.0 ∙ sym (length-map c.loop.rows.items (λ row. map string_bytes (vec_items row))) ∙ ap length known.texts ∙ length-map known.raw (map cleaned);
+      place = c.len.ensures ∙ c.loop.rows.ok.0 ∙ sym (length-map c.loop.rows.items (λ row. map field_text (vec_items row))) ∙ ap length known.texts ∙ length-map known.raw (map cleaned);
       flaw = rw c.in-Err-2.is at c.in_ok-row.ensures;
     } in
     subst (λ (of : List ℕ). IsFirstFlawed cfg of c.len.result c.in-Err-2.flawed) (sym c.without_mark.ensures) first
@@ -97,9 +98,9 @@ loop-preserved c =
       raw = known.raw ++ here ∷ [];
       source = source;
       reached = reached;
-      texts = ap text_rows c.in_ok-push-in-Ok-2.ensures.items
-          ∙ map_push (λ row. map string_bytes (vec_items row)) c.loop.rows.items c.in-Ok-2.row
-          ∙ ap (λ (rows : List (List (List ℕ))). rows ++ map string_bytes (vec_items c.in-Ok-2.row) ∷ []) known.texts
+      texts = ap field_rows c.in_ok-push-in-Ok-2.ensures.items
+          ∙ map_push (λ row. map field_text (vec_items row)) c.loop.rows.items c.in-Ok-2.row
+          ∙ ap (λ (rows : List (List (List ℕ))). rows ++ map field_text (vec_items c.in-Ok-2.row) ∷ []) known.texts
           ∙ ap (λ (texts : List (List ℕ)). map (map cleaned) known.raw ++ texts ∷ []) row.texts
           ∙ sym (map_push (map cleaned) known.raw here);
       sound = all-push (AllByRecursion IsSound) known.raw here known.sound row.sound;

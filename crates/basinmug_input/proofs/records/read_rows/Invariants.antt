@@ -4,10 +4,10 @@ use Rattle.std.specs.List.{AllByRecursion}
 use Rattle.csv.specs.Reading.{Reached, Ready, is_flexible, reader_config, reader_state, reader_trim, source_of, strip_bom}
 use Rattle.csv.specs.declared.parser.State.TheVariants as st
 use Rattle.csv.specs.declared.reader.Trim.TheVariants as trim
+use Rattle.basinmug_cells.specs.Fields.{field_rows}
 use Rattle.basinmug_input.specs.Cleaning.{cleaned}
 use Rattle.basinmug_input.specs.Flaws.{IsSound}
 use Rattle.basinmug_input.specs.Reading.{settings}
-use Rattle.basinmug_input.specs.Rows.{text_rows}
 use Rattle.basinmug_input.proofs.records.read_rows.Given as goal
 
 abbrev pub invariant-loop : goal.invariant-loop
@@ -20,6 +20,6 @@ invariant-loop l = record {
   raw : List (List (List ℕ));
   source : source_of (λ s. Some s.now) l.reader ≡ Some left;
   reached : Reached (settings l.delimiter) st.StartRecord (strip_bom l.bytes) raw (reader_state l.reader) left;
-  texts : text_rows l.rows.items ≡ map (map cleaned) raw;
+  texts : field_rows l.rows.items ≡ map (map cleaned) raw;
   sound : AllByRecursion (AllByRecursion IsSound) raw;
 }

@@ -1,8 +1,9 @@
 -- One field more is shown, or has a flaw.
-use Rattle.std.proofs.Common.{◌≡◌, ◌∙◌, ◌+◌, ◌<◌, ◌≤◌, ◌∷◌, ◌++◌, ℕ, List, [], length, take, drop, get_or, map, string_bytes, vec_len, sym, ap, subst, arith}
+use Rattle.std.proofs.Common.{◌≡◌, ◌∙◌, ◌+◌, ◌<◌, ◌≤◌, ◌∷◌, ◌++◌, ℕ, List, [], length, take, drop, get_or, map, vec_len, sym, ap, subst, arith}
 use Rattle.std.proofs.lemmas.List.{drop_more, length-take-le, map_push, take-append-drop, take_all, take_more}
 use Rattle.std.specs.List.{AllByRecursion}
 use Rattle.csv.specs.Records.{field_at, fields_of}
+use Rattle.basinmug_cells.specs.Fields.{field_text}
 use Rattle.basinmug_input.specs.Cleaning.{cleaned}
 use Rattle.basinmug_input.specs.Flaws.{HasFlaw, IsSound}
 use Rattle.basinmug_input.specs.Rows.{IsRowOf}
@@ -15,7 +16,7 @@ loop-field-init c =
     record {
       few = omega (arith, none);
       row = subst (λ n. IsRowOf (take n (fields_of c.args.given.now)) c.in_ok-row.row) (sym none)
-          (record { sound = tt; texts = ap (map string_bytes) c.in_ok-row.ensures.items });
+          (record { sound = tt; texts = ap (map field_text) c.in_ok-row.ensures.items });
     }
 
 pub loop-field-smaller : goal.loop-field-smaller
@@ -44,9 +45,9 @@ loop-field-preserved c =
       few = omega (arith, below, more);
       row = subst (λ k. IsRowOf (take k fields) new) (sym more) (record {
         sound = subst (AllByRecursion IsSound) (sym first) (all-push IsSound (take n fields) f known.sound read.0);
-        texts = ap (map string_bytes) c.in_ok-push-in-Ok.ensures.items
-            ∙ map_push string_bytes old.items c.in-Ok.cell
-            ∙ ap (λ (texts : List (List ℕ)). texts ++ string_bytes c.in-Ok.cell ∷ []) known.texts
+        texts = ap (map field_text) c.in_ok-push-in-Ok.ensures.items
+            ∙ map_push field_text old.items c.in-Ok.cell
+            ∙ ap (λ (texts : List (List ℕ)). texts ++ field_text c.in-Ok.cell ∷ []) known.texts
             ∙ ap (λ (text : List ℕ). map cleaned (take n fields) ++ text ∷ []) read.1
             ∙ sym (map_push cleaned (take n fields) f)
             ∙ ap (map cleaned) (sym first);

@@ -1,8 +1,9 @@
 -- One field more is read, or the last.
-use Rattle.std.proofs.Common.{◌≡◌, ◌∙◌, ◌+◌, ◌-◌, ◌<◌, ◌≤◌, ℕ, false, true, List, [], ◌∷◌, ◌++◌, length, map, string_bytes, take, drop, get_or, sym, ap, subst, arith}
+use Rattle.std.proofs.Common.{◌≡◌, ◌∙◌, ◌+◌, ◌-◌, ◌<◌, ◌≤◌, ℕ, false, true, List, [], ◌∷◌, ◌++◌, length, map, take, drop, get_or, sym, ap, subst, arith}
 use Rattle.std.proofs.lemmas.Bool.{eq-eqb, ne_eqb}
 use Rattle.std.proofs.lemmas.Str.{IsCharBoundary-after_ascii}
 use Rattle.std.specs.Prelude.{◌==◌}
+use Rattle.basinmug_cells.specs.Fields.{field_text}
 use Rattle.basinmug_input.specs.Rows.{IsRowOf}
 use Rattle.basinmug_input.proofs.Rows.{row-push}
 use Rattle.basinmug_input.proofs.WithoutQuotes.{Ends, boundary-behind, ends-above, ends-at_end, ends-at_line, field-bytes, goes-on, reads-first}
@@ -13,7 +14,7 @@ pub loop-start-init : goal.loop-start-init
 loop-start-init c = record {
   fields = [];
   read = reads-first c.args.delimiter c.args.text.now c.args.at c.requires.begins.within c.requires.text.no_quotes c.requires.begins.no_line_end;
-  row = record { sound = tt; texts = ap (map string_bytes) c.in_ok-row.ensures.items };
+  row = record { sound = tt; texts = ap (map field_text) c.in_ok-row.ensures.items };
   above = omega arith;
   within = c.requires.begins.boundary.0;
   boundary = c.requires.begins.boundary;

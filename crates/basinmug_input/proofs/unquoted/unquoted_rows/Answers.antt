@@ -7,8 +7,8 @@ use Rattle.csv.proofs.ReadFacts.{reached-more}
 use Rattle.csv.specs.Machine.{next_record}
 use Rattle.csv.specs.Reading.{Reached}
 use Rattle.csv.specs.declared.parser.State.TheVariants as st
+use Rattle.basinmug_cells.specs.Fields.{field_rows}
 use Rattle.basinmug_input.specs.Reading.{settings}
-use Rattle.basinmug_input.specs.Rows.{text_rows}
 use Rattle.basinmug_input.specs.Unquoted.{AreRowsOf, is_line_end}
 use Rattle.basinmug_input.proofs.ReadRecords.{records-only}
 use Rattle.basinmug_input.proofs.WithoutQuotes.{IsBehind, behind-here, line_ends-bytes, none-left, rows-push}
@@ -29,7 +29,7 @@ loop-at-init c =
       left = text;
       reached = (refl, refl);
       next = first.next;
-      rows = record { sound = tt; texts = ap text_rows c.new-rows.ensures.items };
+      rows = record { sound = tt; texts = ap field_rows c.new-rows.ensures.items };
       within = first.within;
       boundary = first.boundary;
       no_line_end = first.no_line_end;

@@ -2,12 +2,13 @@
 use Rattle.std.proofs.Common.{◌≡◌, List, ℕ}
 use Rattle.grid_config_values.specs.declared.fault.Fault.TheVariants.{Memory}
 use Rattle.tabled.specs.Tables.{state_of}
+use Rattle.basinmug_cells.specs.Fields.{field_text}
 use Rattle.basinmug_picture.proofs.Narrowed.{err-told}
 use Rattle.basinmug_picture.proofs.Widths.{only-memory}
 use Rattle.basinmug_picture.proofs.documents.rule_of.Goals as goal
 
 pub returns-in_err-widths-clause-refused : goal.returns-in_err-widths-clause-refused
 returns-in_err-widths-clause-refused c =
-    let s = state_of {T = List ℕ} (λ text. text) c.args.table.now in
+    let s = state_of field_text c.args.table.now in
     err-told c.from_residual.result c.in_err-widths.field-0.0 (λ fault. fault ≡ Memory) c.from_residual.ensures.1
     (only-memory s c.in_err-widths.field-0.0 c.requires.fits.1 c.in_err-widths.ensures.refused)

@@ -5,6 +5,7 @@ use Rattle.tabled.specs.Writing.{wanted_lines}
 use Rattle.tabled_compact.specs.Building.{writing_fault}
 use Rattle.tabled_compact.specs.declared.fault.BuildFault.TheVariants.{Table as OfTable}
 use Rattle.tabled_output.specs.Counts.{inner_of}
+use Rattle.basinmug_cells.specs.Fields.{field_text}
 use Rattle.basinmug_picture.specs.Documents.{is_of, rule}
 use Rattle.basinmug_picture.specs.Printed.{IsLate}
 use Rattle.basinmug_picture.specs.declared.documents.Part.TheVariants.{Records}
@@ -21,7 +22,7 @@ returns-in_err-rule-clause-late g c = err-told c.from_residual.result (OfTable c
 
 pub returns-in_err-write_piece-clause-front : goal.returns-in_err-write_piece-clause-front
 returns-in_err-write_piece-clause-front g c =
-    let s = state_of {T = List ℕ} (λ text. text) c.args.table.now in
+    let s = state_of field_text c.args.table.now in
     let stopped = c.in_err-write_piece.ensures.stopped in
     front-of-more (g.W.Write.contents (inner_of c.args.writer.now)) (g.W.Write.contents (inner_of c.write_piece.new.writer)) (rule s) (wanted_lines (is_of Records) s ++ c.args.more.now)
     (stopped-before g.W.Write.contents (rule s) c.args.writer.now c.write_piece.new.writer stopped.bytes.0 stopped.bytes.1 stopped.bytes.2
@@ -33,7 +34,7 @@ returns-in_err-write_piece-clause-late g c =
 
 pub returns-clause-whole : goal.returns-clause-whole
 returns-clause-whole g c =
-    let s = state_of {T = List ℕ} (λ text. text) c.args.table.now in
+    let s = state_of field_text c.args.table.now in
     let passed = c.in_ok-write_piece.ensures.passed.bytes in
     all-behind c.write_lines.result (g.W.Write.contents (inner_of c.args.writer.now)) (g.W.Write.contents (inner_of c.write_piece.new.writer)) (g.W.Write.contents (inner_of c.write_lines.new.writer))
     (rule s) (wanted_lines (is_of Records) s ++ c.args.more.now)
@@ -41,7 +42,7 @@ returns-clause-whole g c =
 
 pub returns-clause-front : goal.returns-clause-front
 returns-clause-front g c =
-    let s = state_of {T = List ℕ} (λ text. text) c.args.table.now in
+    let s = state_of field_text c.args.table.now in
     let passed = c.in_ok-write_piece.ensures.passed.bytes in
     front-late c.write_lines.result (g.W.Write.contents (inner_of c.args.writer.now)) (g.W.Write.contents (inner_of c.write_piece.new.writer)) (g.W.Write.contents (inner_of c.write_lines.new.writer))
     (rule s) (wanted_lines (is_of Records) s ++ c.args.more.now)
@@ -49,4 +50,4 @@ returns-clause-front g c =
     (late-told s c.write_lines.result c.requires.fits c.write_lines.ensures.table)
 
 pub returns-clause-late : goal.returns-clause-late
-returns-clause-late g c = late-told (state_of {T = List ℕ} (λ text. text) c.args.table.now) c.write_lines.result c.requires.fits c.write_lines.ensures.table
+returns-clause-late g c = late-told (state_of field_text c.args.table.now) c.write_lines.result c.requires.fits c.write_lines.ensures.table

@@ -1,5 +1,5 @@
 use Rattle.std.proofs.Common.{ap, map}
-use Rattle.std.specs.Prelude.{string_bytes}
+use Rattle.basinmug_cells.specs.Fields.{field_text}
 use Rattle.basinmug_picture.specs.Names.{missing_names}
 use Rattle.basinmug_picture.proofs.Missing.{first-alike, first-of-more}
 use Rattle.basinmug_picture.proofs.Narrowed.{err-told}
@@ -7,7 +7,7 @@ use Rattle.basinmug_picture.proofs.looks.looks.Goals as goal
 
 pub returns-in_err-push_alignments-clause-refused : goal.returns-in_err-push_alignments-clause-refused
 returns-in_err-push_alignments-clause-refused c =
-    let header = map string_bytes c.args.header.now in
+    let header = map field_text c.args.header.now in
     let colored = missing_names header c.args.options.now.colors.items in
     err-told c.from_residual-in_err-push_alignments.result c.in_err-push_alignments.field-0.0 _ c.from_residual-in_err-push_alignments.ensures.1
     (first-of-more (missing_names header c.args.options.now.alignments.items) colored c.in_err-push_alignments.field-0.0

@@ -1,6 +1,6 @@
 -- The first name that is missing.
 use Rattle.std.proofs.Common.{map}
-use Rattle.std.specs.Prelude.{string_bytes}
+use Rattle.basinmug_cells.specs.Fields.{field_text}
 use Rattle.basinmug_picture.proofs.Missing.{first-at}
 use Rattle.basinmug_picture.proofs.Narrowed.{err-told}
 use Rattle.basinmug_picture.proofs.looks.push_colors.Goals as goal
@@ -8,4 +8,4 @@ use Rattle.basinmug_picture.proofs.looks.push_colors.Goals as goal
 pub returns-in_err-column-clause-refused : goal.returns-in_err-column-clause-refused
 returns-in_err-column-clause-refused c =
     err-told c.from_residual.result c.in_err-column.field-0.0 _ c.from_residual.ensures.1
-    (first-at (map string_bytes c.args.header.now) c.args.pairs.now c.loop-name.name-index c.loop-name-item.result c.in_err-column.field-0.0 c.loop-name-test.true c.loop-name-item.is c.loop-name.invariant.named c.in_err-column.ensures.refused)
+    (first-at (map field_text c.args.header.now) c.args.pairs.now c.loop-name.name-index c.loop-name-item.result c.in_err-column.field-0.0 c.loop-name-test.true c.loop-name-item.is c.loop-name.invariant.named c.in_err-column.ensures.refused)

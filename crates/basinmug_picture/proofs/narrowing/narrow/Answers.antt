@@ -2,6 +2,7 @@
 use Rattle.std.proofs.Common.{◌≡◌, ◌∙◌, ℕ, List, ◌++◌, drop, inr, length, take}
 use Rattle.tabled.specs.Tables.{state_of}
 use Rattle.tabled_list.specs.Lists.{Runs}
+use Rattle.basinmug_cells.specs.Fields.{field_text}
 use Rattle.basinmug_picture.specs.Fitting.{trims, with_fitted_texts}
 use Rattle.basinmug_picture.specs.Narrowing.{IsRefusedIn}
 use Rattle.basinmug_picture.proofs.Narrowed.{are-asked, err-told, not-fitted, narrows-by, of-widths, on-ok, written_back}
@@ -9,8 +10,8 @@ use Rattle.basinmug_picture.proofs.narrowing.narrow.Goals as goal
 
 pub returns-clause-narrowed : goal.returns-clause-narrowed
 returns-clause-narrowed c =
-    let old = state_of {T = List ℕ} (λ text. text) c.args.table.now in
-    let new = state_of {T = List ℕ} (λ text. text) c.fit_columns.new.table in
+    let old = state_of field_text c.args.table.now in
+    let new = state_of field_text c.fit_columns.new.table in
     let truncate = c.args.asked.truncate in
     let priority = c.args.asked.priority in
     let numeric = c.args.numeric.now in
@@ -29,7 +30,7 @@ returns-clause-narrowed c =
 
 pub returns-in_err-fit_columns-clause-refused : goal.returns-in_err-fit_columns-clause-refused
 returns-in_err-fit_columns-clause-refused c =
-    let old = state_of {T = List ℕ} (λ text. text) c.args.table.now in
+    let old = state_of field_text c.args.table.now in
     let truncate = c.args.asked.truncate in
     let priority = c.args.asked.priority in
     let numeric = c.args.numeric.now in

@@ -3,7 +3,8 @@ use Rattle.std.proofs.Common.{◌≡◌, ◌∙◌, ap, subst, ℕ, List, []}
 use Rattle.std.specs.Prelude.{IfErr, IfOk}
 use Rattle.tabled.specs.Tables.{new_state, state_of}
 use Rattle.tabled_output.specs.Counts.{inner_of}
-use Rattle.tabled_text.specs.Rows.{filled, text_rows}
+use Rattle.tabled_text.specs.Rows.{filled}
+use Rattle.basinmug_cells.specs.Fields.{field_rows, field_text}
 use Rattle.basinmug_picture.specs.Lines.{below}
 use Rattle.basinmug_picture.specs.Names.{IsFirstMissing}
 use Rattle.basinmug_picture.specs.Pictures.{looks_of, missing_of, numeric_of}
@@ -17,19 +18,19 @@ use Rattle.basinmug_picture.proofs.printing.print.Goals as goal
 pub returns-in_err-appearance-clause-refused : goal.returns-in_err-appearance-clause-refused
 returns-in_err-appearance-clause-refused g c =
     let options = c.args.options.now in
-    let rows = text_rows c.args.rows.items in
+    let rows = field_rows c.args.rows.items in
     let fault = c.in_err-appearance.field-0.0 in
-    let are = ap text_rows c.as_slice-texts.ensures.value ∙ c.shown_rows-shown.ensures.rows in
+    let are = ap field_rows c.as_slice-texts.ensures.value ∙ c.shown_rows-shown.ensures.rows in
     err-told c.from_residual-in_err-appearance.result fault _ c.from_residual-in_err-appearance.ensures.1
     (no-column options rows fault (subst (λ (it : List (List (List ℕ))). IsFirstMissing (missing_of options it) fault) are c.in_err-appearance.ensures.refused))
 
 pub returns-in_err-appearance-clause-write : goal.returns-in_err-appearance-clause-write
 returns-in_err-appearance-clause-write g c =
-    named-fails c.args.writer.now (missing_of c.args.options.now (text_rows c.as_slice-texts.result.now)) c.in_err-appearance.field-0.0 c.from_residual-in_err-appearance.result c.from_residual-in_err-appearance.ensures.1 c.in_err-appearance.ensures.refused
+    named-fails c.args.writer.now (missing_of c.args.options.now (field_rows c.as_slice-texts.result.now)) c.in_err-appearance.field-0.0 c.from_residual-in_err-appearance.result c.from_residual-in_err-appearance.ensures.1 c.in_err-appearance.ensures.refused
 
 pub returns-in_err-appearance-clause-write_zero : goal.returns-in_err-appearance-clause-write_zero
 returns-in_err-appearance-clause-write_zero g c =
-    named-takes c.args.writer.now (missing_of c.args.options.now (text_rows c.as_slice-texts.result.now)) c.in_err-appearance.field-0.0 c.from_residual-in_err-appearance.result c.from_residual-in_err-appearance.ensures.1 c.in_err-appearance.ensures.refused
+    named-takes c.args.writer.now (missing_of c.args.options.now (field_rows c.as_slice-texts.result.now)) c.in_err-appearance.field-0.0 c.from_residual-in_err-appearance.result c.from_residual-in_err-appearance.ensures.1 c.in_err-appearance.ensures.refused
 
 pub returns-in_err-table-clause-write : goal.returns-in_err-table-clause-write
 returns-in_err-table-clause-write g c = table-fails c.args.writer.now c.in_err-table.field-0.0 c.from_residual-in_err-table.result c.from_residual-in_err-table.ensures.1
@@ -40,19 +41,19 @@ returns-in_err-table-clause-write_zero g c = table-takes c.args.writer.now c.in_
 pub returns-clause-printed : goal.returns-clause-printed
 returns-clause-printed g c =
     let options = c.args.options.now in
-    let rows = text_rows c.args.rows.items in
+    let rows = field_rows c.args.rows.items in
     let made = c.in_ok-appearance.appearance in
     let shown = c.shown_rows-shown.ensures.rows in
-    let are = ap text_rows c.as_slice-texts.ensures.value ∙ shown in
+    let are = ap field_rows c.as_slice-texts.ensures.value ∙ shown in
     let result = c.print_table-outcome.result in
     let before = g.W.Write.contents (inner_of c.args.writer.now) in
     let after = g.W.Write.contents (inner_of c.print_table-outcome.new.writer) in
     with-names options rows result before after (subst (λ (it : List (List (List ℕ))). missing_of options it ≡ []) are c.in_ok-appearance.ensures.named)
-    (printed-by options rows made.settings.items made.numeric.items (state_of {T = List ℕ} (λ text. text) c.in_ok-table.table) c.len.result c.as_str-ending.result.now
+    (printed-by options rows made.settings.items made.numeric.items (state_of field_text c.in_ok-table.table) c.len.result c.as_str-ending.result.now
     (λ Makes NotMade text. IfOk result (λ shown. PrintsTable Makes text options.width shown.wider before after))
     (c.in_ok-appearance.ensures.settings ∙ ap (looks_of options) are)
     (c.in_ok-appearance.ensures.numeric ∙ ap (numeric_of options.header) are)
-    (c.in_ok-table.ensures.table ∙ ap (λ (it : List (List (List ℕ))). new_state (filled it)) (c.from_vec-builder.ensures ∙ c.in_ok-cells.ensures ∙ ap (cells_of options.look options.header) shown))
+    (c.in_ok-table.ensures.table ∙ ap (λ (it : List (List (List ℕ))). new_state (filled it)) (c.in_ok-cells.ensures ∙ ap (cells_of options.look options.header) shown))
     (length-shown options rows c.shown_rows-shown.result.0.items c.len.result (c.len.ensures ∙ c.shown_rows-shown.result.0.ok.0) shown)
     (c.as_str-ending.ensures.value ∙ c.in_ok-more.ensures ∙ ap (below options.look) c.shown_rows-shown.ensures.left_out)
     c.print_table-outcome.ensures.printed)
@@ -60,18 +61,18 @@ returns-clause-printed g c =
 pub returns-clause-front : goal.returns-clause-front
 returns-clause-front g c =
     let options = c.args.options.now in
-    let rows = text_rows c.args.rows.items in
+    let rows = field_rows c.args.rows.items in
     let made = c.in_ok-appearance.appearance in
     let shown = c.shown_rows-shown.ensures.rows in
-    let are = ap text_rows c.as_slice-texts.ensures.value ∙ shown in
+    let are = ap field_rows c.as_slice-texts.ensures.value ∙ shown in
     let before = g.W.Write.contents (inner_of c.args.writer.now) in
     let after = g.W.Write.contents (inner_of c.print_table-outcome.new.writer) in
     stops-named options rows c.print_table-outcome.result before after (subst (λ (it : List (List (List ℕ))). missing_of options it ≡ []) are c.in_ok-appearance.ensures.named)
-    (printed-by options rows made.settings.items made.numeric.items (state_of {T = List ℕ} (λ text. text) c.in_ok-table.table) c.len.result c.as_str-ending.result.now
+    (printed-by options rows made.settings.items made.numeric.items (state_of field_text c.in_ok-table.table) c.len.result c.as_str-ending.result.now
     (λ Makes NotMade text. IfErr c.print_table-outcome.result (λ fault. ¬ (HasNothing fault) → StopsInTable Makes text fault before after))
     (c.in_ok-appearance.ensures.settings ∙ ap (looks_of options) are)
     (c.in_ok-appearance.ensures.numeric ∙ ap (numeric_of options.header) are)
-    (c.in_ok-table.ensures.table ∙ ap (λ (it : List (List (List ℕ))). new_state (filled it)) (c.from_vec-builder.ensures ∙ c.in_ok-cells.ensures ∙ ap (cells_of options.look options.header) shown))
+    (c.in_ok-table.ensures.table ∙ ap (λ (it : List (List (List ℕ))). new_state (filled it)) (c.in_ok-cells.ensures ∙ ap (cells_of options.look options.header) shown))
     (length-shown options rows c.shown_rows-shown.result.0.items c.len.result (c.len.ensures ∙ c.shown_rows-shown.result.0.ok.0) shown)
     (c.as_str-ending.ensures.value ∙ c.in_ok-more.ensures ∙ ap (below options.look) c.shown_rows-shown.ensures.left_out)
     c.print_table-outcome.ensures.front)
@@ -79,17 +80,17 @@ returns-clause-front g c =
 pub returns-clause-refused : goal.returns-clause-refused
 returns-clause-refused g c =
     let options = c.args.options.now in
-    let rows = text_rows c.args.rows.items in
+    let rows = field_rows c.args.rows.items in
     let made = c.in_ok-appearance.appearance in
     let shown = c.shown_rows-shown.ensures.rows in
-    let are = ap text_rows c.as_slice-texts.ensures.value ∙ shown in
+    let are = ap field_rows c.as_slice-texts.ensures.value ∙ shown in
     let result = c.print_table-outcome.result in
     refused-named options rows result (subst (λ (it : List (List (List ℕ))). missing_of options it ≡ []) are c.in_ok-appearance.ensures.named)
-    (printed-by options rows made.settings.items made.numeric.items (state_of {T = List ℕ} (λ text. text) c.in_ok-table.table) c.len.result c.as_str-ending.result.now
+    (printed-by options rows made.settings.items made.numeric.items (state_of field_text c.in_ok-table.table) c.len.result c.as_str-ending.result.now
     (λ Makes NotMade text. IfErr result (IsTableFault Makes NotMade))
     (c.in_ok-appearance.ensures.settings ∙ ap (looks_of options) are)
     (c.in_ok-appearance.ensures.numeric ∙ ap (numeric_of options.header) are)
-    (c.in_ok-table.ensures.table ∙ ap (λ (it : List (List (List ℕ))). new_state (filled it)) (c.from_vec-builder.ensures ∙ c.in_ok-cells.ensures ∙ ap (cells_of options.look options.header) shown))
+    (c.in_ok-table.ensures.table ∙ ap (λ (it : List (List (List ℕ))). new_state (filled it)) (c.in_ok-cells.ensures ∙ ap (cells_of options.look options.header) shown))
     (length-shown options rows c.shown_rows-shown.result.0.items c.len.result (c.len.ensures ∙ c.shown_rows-shown.result.0.ok.0) shown)
     (c.as_str-ending.ensures.value ∙ c.in_ok-more.ensures ∙ ap (below options.look) c.shown_rows-shown.ensures.left_out)
     c.print_table-outcome.ensures.refused)

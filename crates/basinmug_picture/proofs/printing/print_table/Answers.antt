@@ -1,6 +1,7 @@
 -- What is printed of a table, and what comes of a refusal.
 use Rattle.std.proofs.Common.{inr, ℕ, List}
 use Rattle.tabled.specs.Tables.{state_of}
+use Rattle.basinmug_cells.specs.Fields.{field_text}
 use Rattle.basinmug_picture.specs.Faults.{of_build, of_table}
 use Rattle.basinmug_picture.specs.Pictures.{IsMade, IsNotMade}
 use Rattle.basinmug_picture.proofs.Faults.{fits-before, no-table, nothing-written, refusal-by, something-written}
@@ -12,7 +13,7 @@ pub returns-in_err-wider-clause-refused : goal.returns-in_err-wider-clause-refus
 returns-in_err-wider-clause-refused g c =
     let options = c.args.options.now in
     let it = c.args.appearance.now in
-    let old = state_of {T = List ℕ} (λ text. text) c.args.table.now in
+    let old = state_of field_text c.args.table.now in
     err-told c.from_residual.result (of_table c.in_err-wider.field-0.0) _ c.from_residual.ensures.1
     (no-table (IsMade options it.settings.items it.numeric.items old) (IsNotMade options it.settings.items it.numeric.items old) c.in_err-wider.field-0.0 c.in_err-wider.ensures.refused)
 
@@ -26,9 +27,9 @@ pub returns-in_err-write_picture-clause-front : goal.returns-in_err-write_pictur
 returns-in_err-write_picture-clause-front g c =
     err-told c.from_residual-in_err-write_picture.result (of_build c.in_err-write_picture.field-0.0) _ c.from_residual-in_err-write_picture.ensures.1
     (λ some. inr (
-      state_of {T = List ℕ} (λ text. text) c.make_table.new.table,
+      state_of field_text c.make_table.new.table,
       c.in_ok-wider.ensures.made,
-      fits-before (state_of {T = List ℕ} (λ text. text) c.make_table.new.table) c.in_err-write_picture.field-0.0 some c.in_err-write_picture.ensures.table,
+      fits-before (state_of field_text c.make_table.new.table) c.in_err-write_picture.field-0.0 some c.in_err-write_picture.ensures.table,
       c.in_err-write_picture.ensures.front (something-written c.in_err-write_picture.field-0.0 some),
     ))
 
@@ -40,9 +41,9 @@ pub returns-in_err-write_picture-clause-refused : goal.returns-in_err-write_pict
 returns-in_err-write_picture-clause-refused g c =
     let options = c.args.options.now in
     let it = c.args.appearance.now in
-    let old = state_of {T = List ℕ} (λ text. text) c.args.table.now in
+    let old = state_of field_text c.args.table.now in
     err-told c.from_residual-in_err-write_picture.result (of_build c.in_err-write_picture.field-0.0) _ c.from_residual-in_err-write_picture.ensures.1
-    (refusal-by (IsMade options it.settings.items it.numeric.items old) (IsNotMade options it.settings.items it.numeric.items old) (state_of {T = List ℕ} (λ text. text) c.make_table.new.table) c.in_err-write_picture.field-0.0
+    (refusal-by (IsMade options it.settings.items it.numeric.items old) (IsNotMade options it.settings.items it.numeric.items old) (state_of field_text c.make_table.new.table) c.in_err-write_picture.field-0.0
     c.in_ok-wider.ensures.made c.in_err-write_picture.ensures.table)
 
 pub returns-in_err-write_picture-clause-write : goal.returns-in_err-write_picture-clause-write
@@ -55,7 +56,7 @@ returns-in_err-write_picture-clause-write_zero g c =
 
 pub returns-clause-printed : goal.returns-clause-printed
 returns-clause-printed g c = (
-  state_of {T = List ℕ} (λ text. text) c.make_table.new.table,
+  state_of field_text c.make_table.new.table,
   c.in_ok-wider.ensures.made,
   c.in_ok-write_picture.ensures.fits,
   c.in_ok-wider.ensures.wider,

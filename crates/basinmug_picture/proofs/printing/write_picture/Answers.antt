@@ -7,6 +7,7 @@ use Rattle.tabled_compact.specs.declared.fault.BuildFault.{BuildFault}
 use Rattle.tabled_output.specs.Counts.{inner_of}
 use Rattle.tabled_output.specs.Streams.{AppendsFront}
 use Rattle.tabled_steps.specs.States.{State}
+use Rattle.basinmug_cells.specs.Fields.{field_text}
 use Rattle.basinmug_options.specs.declared.options.Look.{Look}
 use Rattle.basinmug_options.specs.declared.options.Rules.{Rules}
 use Rattle.basinmug_picture.specs.Documents.{document_text}
@@ -31,10 +32,10 @@ pub returns-then-is_markdown-clause-front : goal.returns-then-is_markdown-clause
 returns-then-is_markdown-clause-front g c =
     let lines = c.args.lines.now in
     document-front c.write_document.result (g.W.Write.contents (inner_of c.args.writer.now)) (g.W.Write.contents (inner_of c.write_document.new.writer)) c.args.look lines.rules lines.header lines.rows c.args.more.now
-    (state_of {T = List ℕ} (λ text. text) c.args.table.now) (sym c.is_markdown.ensures ∙ c.if-is_markdown.true) c.write_document.ensures.front
+    (state_of field_text c.args.table.now) (sym c.is_markdown.ensures ∙ c.if-is_markdown.true) c.write_document.ensures.front
 
 pub returns-else-is_markdown-clause-front : goal.returns-else-is_markdown-clause-front
 returns-else-is_markdown-clause-front g c =
     let lines = c.args.lines.now in
     table-front c.write_lines.result (g.W.Write.contents (inner_of c.args.writer.now)) (g.W.Write.contents (inner_of c.write_lines.new.writer)) c.args.look lines.rules lines.header lines.rows c.args.more.now
-    (state_of {T = List ℕ} (λ text. text) c.args.table.now) (sym c.is_markdown.ensures ∙ c.if-is_markdown.false) c.write_lines.ensures.front
+    (state_of field_text c.args.table.now) (sym c.is_markdown.ensures ∙ c.if-is_markdown.false) c.write_lines.ensures.front

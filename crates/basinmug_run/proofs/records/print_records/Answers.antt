@@ -1,6 +1,6 @@
 -- The text of records, and what comes of a refusal.
 use Rattle.std.proofs.Common.{inr, refl, subst, sym, List, ℕ}
-use Rattle.tabled_text.specs.Rows.{text_rows}
+use Rattle.basinmug_cells.specs.Fields.{field_rows}
 use Rattle.basinmug_expanded.specs.Records.{IsRecordsText}
 use Rattle.basinmug_picture.specs.Faults.{of_build, of_table}
 use Rattle.basinmug_picture.proofs.Narrowed.{err-told}
@@ -10,7 +10,7 @@ use Rattle.basinmug_run.proofs.records.print_records.Goals as goal
 
 pub returns-in_err-text-clause-refused : goal.returns-in_err-text-clause-refused
 returns-in_err-text-clause-refused g c =
-    err-told c.from_residual.result (of_table c.in_err-text.field-0.0) _ c.from_residual.ensures.1 (too-wide c.args.options.now (text_rows c.args.rows.items) c.in_err-text.field-0.0 c.in_err-text.ensures.refused)
+    err-told c.from_residual.result (of_table c.in_err-text.field-0.0) _ c.from_residual.ensures.1 (too-wide c.args.options.now (field_rows c.args.rows.items) c.in_err-text.field-0.0 c.in_err-text.ensures.refused)
 
 pub returns-in_err-text-clause-write : goal.returns-in_err-text-clause-write
 returns-in_err-text-clause-write g c = table-fails c.args.writer.now c.in_err-text.field-0.0 c.from_residual.result c.from_residual.ensures.1
@@ -21,7 +21,7 @@ returns-in_err-text-clause-write_zero g c = table-takes c.args.writer.now c.in_e
 pub returns-in_err-write_text-clause-front : goal.returns-in_err-write_text-clause-front
 returns-in_err-write_text-clause-front g c =
     let options = c.args.options.now in
-    let text = subst (λ (it : List ℕ). IsRecordsText options.header options.max_rows (text_rows c.args.rows.items) it) (sym c.as_str.ensures.value) c.in_ok-text.ensures.text in
+    let text = subst (λ (it : List ℕ). IsRecordsText options.header options.max_rows (field_rows c.args.rows.items) it) (sym c.as_str.ensures.value) c.in_ok-text.ensures.text in
     err-told c.from_residual-in_err-write_text.result (of_build c.in_err-write_text.field-0.0) _ c.from_residual-in_err-write_text.ensures.1 (λ some. inr (c.in_ok-text.ensures.fits, (c.as_str.result.now, text, c.in_err-write_text.ensures.front)))
 
 pub returns-in_err-write_text-clause-untouched : goal.returns-in_err-write_text-clause-untouched
@@ -32,7 +32,7 @@ returns-in_err-write_text-clause-untouched g c =
 pub returns-in_err-write_text-clause-refused : goal.returns-in_err-write_text-clause-refused
 returns-in_err-write_text-clause-refused g c =
     err-told c.from_residual-in_err-write_text.result (of_build c.in_err-write_text.field-0.0) _ c.from_residual-in_err-write_text.ensures.1
-    (by-writer c.args.options.now (text_rows c.args.rows.items) c.in_err-write_text.field-0.0 c.in_ok-text.ensures.fits c.in_err-write_text.ensures.refused)
+    (by-writer c.args.options.now (field_rows c.args.rows.items) c.in_err-write_text.field-0.0 c.in_ok-text.ensures.fits c.in_err-write_text.ensures.refused)
 
 pub returns-in_err-write_text-clause-write : goal.returns-in_err-write_text-clause-write
 returns-in_err-write_text-clause-write g c =
@@ -49,7 +49,7 @@ returns-clause-printed g c =
       c.in_ok-text.ensures.fits,
       (
         c.as_str.result.now,
-        subst (λ (it : List ℕ). IsRecordsText options.header options.max_rows (text_rows c.args.rows.items) it) (sym c.as_str.ensures.value) c.in_ok-text.ensures.text,
+        subst (λ (it : List ℕ). IsRecordsText options.header options.max_rows (field_rows c.args.rows.items) it) (sym c.as_str.ensures.value) c.in_ok-text.ensures.text,
         c.in_ok-write_text.ensures.whole,
       ),
     )

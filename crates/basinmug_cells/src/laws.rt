@@ -1,0 +1,12 @@
+//! Laws of the definitions that the contracts cite. The functions do nothing.
+ghost use Rattle.std.specs.Prelude.{◌≡◌};
+ghost use Rattle.basinmug_cells.specs.Fields.{field_text};
+ghost use Rattle.basinmug_cells.specs.declared.field.Field.{Field as OneField};
+
+use crate::field::Field;
+use grid_records_rows::Cell;
+
+/// A cell's text is that of its contract.
+pub fn fields_have_their_texts<'a>()
+    ensures { (field : OneField) → ⟦<Field<'a> as Cell>⟧.text field ≡ field_text field }
+{}
