@@ -114,8 +114,8 @@ impl ColoredConfig {
         &mut self.config
     }
 
-    /// Sets the colour of cells, for the cells of the entity. Fails only where allocation fails, and then nothing
-    /// has changed; for all cells never.
+    /// Sets the colour of cells, for the cells of the entity. Fails only as [`EntityMap::insert`] does, and then
+    /// nothing has changed; for all cells never.
     pub fn set_color(&mut self, entity: Entity, color: ANSIBuf) -> Result<(), Fault>
         ensures set { OnOk result (SetsCovered self.old.colors self.new.colors entity (Some color)) }
         ensures refused { OnErr result (IsUnchanged self.old.colors self.new.colors) }

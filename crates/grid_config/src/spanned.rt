@@ -181,7 +181,7 @@ impl SpannedConfig {
         &self.whole.borders_color
     }
 
-    /// Sets the padding of cells, for the cells of the entity. Fails only where allocation fails, and then
+    /// Sets the padding of cells, for the cells of the entity. Fails only as [`EntityMap::insert`] does, and then
     /// nothing has changed; for all cells never.
     pub fn set_padding(&mut self, entity: Entity, value: Sides<Indent>) -> Result<(), Fault>
         ensures set { OnOk result (SetsCovered self.old.padding self.new.padding entity value) }
@@ -201,7 +201,7 @@ impl SpannedConfig {
         self.cells.padding.get(pos)
     }
 
-    /// Sets the colours of cells' paddings, for the cells of the entity. Fails only where allocation fails, and
+    /// Sets the colours of cells' paddings, for the cells of the entity. Fails only as [`EntityMap::insert`] does, and
     /// then nothing has changed; for all cells never.
     pub fn set_padding_color(
         &mut self,
@@ -225,8 +225,8 @@ impl SpannedConfig {
         self.cells.padding_color.get(pos)
     }
 
-    /// Sets where cells' texts stand between their left and right padding, for the cells of the entity.
-    /// Fails only where allocation fails, and then nothing has changed; for all cells never.
+    /// Sets where cells' texts stand between their left and right padding, for the cells of the entity. Fails only as
+    /// [`EntityMap::insert`] does, and then nothing has changed; for all cells never.
     pub fn set_alignment_horizontal(
         &mut self,
         entity: Entity,
@@ -249,8 +249,8 @@ impl SpannedConfig {
         *self.cells.alignment_horizontal.get(pos)
     }
 
-    /// Sets where cells' texts stand between their top and bottom padding, for the cells of the entity.
-    /// Fails only where allocation fails, and then nothing has changed; for all cells never.
+    /// Sets where cells' texts stand between their top and bottom padding, for the cells of the entity. Fails only as
+    /// [`EntityMap::insert`] does, and then nothing has changed; for all cells never.
     pub fn set_alignment_vertical(
         &mut self,
         entity: Entity,
@@ -273,8 +273,8 @@ impl SpannedConfig {
         *self.cells.alignment_vertical.get(pos)
     }
 
-    /// Sets whether each line of a cell is aligned by itself, for the cells of the entity. Fails only
-    /// where allocation fails, and then nothing has changed; for all cells never.
+    /// Sets whether each line of a cell is aligned by itself, for the cells of the entity. Fails only as
+    /// [`EntityMap::insert`] does, and then nothing has changed; for all cells never.
     pub fn set_line_alignment(&mut self, entity: Entity, value: bool) -> Result<(), Fault>
         ensures set { OnOk result (SetsCovered self.old.line_alignment self.new.line_alignment entity value) }
         ensures refused { OnErr result (IsUnchanged self.old.line_alignment self.new.line_alignment) }
@@ -293,8 +293,8 @@ impl SpannedConfig {
         *self.cells.line_alignment.get(pos)
     }
 
-    /// Sets whether white space at the ends of cells' lines is left out, for the cells of the entity.
-    /// Fails only where allocation fails, and then nothing has changed; for all cells never.
+    /// Sets whether white space at the ends of cells' lines is left out, for the cells of the entity. Fails only as
+    /// [`EntityMap::insert`] does, and then nothing has changed; for all cells never.
     pub fn set_trim_horizontal(&mut self, entity: Entity, value: bool) -> Result<(), Fault>
         ensures set { OnOk result (SetsCovered self.old.trim_horizontal self.new.trim_horizontal entity value) }
         ensures refused { OnErr result (IsUnchanged self.old.trim_horizontal self.new.trim_horizontal) }
@@ -313,8 +313,8 @@ impl SpannedConfig {
         *self.cells.trim_horizontal.get(pos)
     }
 
-    /// Sets whether blank lines at the ends of cells' texts are left out, for the cells of the entity.
-    /// Fails only where allocation fails, and then nothing has changed; for all cells never.
+    /// Sets whether blank lines at the ends of cells' texts are left out, for the cells of the entity. Fails only as
+    /// [`EntityMap::insert`] does, and then nothing has changed; for all cells never.
     pub fn set_trim_vertical(&mut self, entity: Entity, value: bool) -> Result<(), Fault>
         ensures set { OnOk result (SetsCovered self.old.trim_vertical self.new.trim_vertical entity value) }
         ensures refused { OnErr result (IsUnchanged self.old.trim_vertical self.new.trim_vertical) }
@@ -333,8 +333,8 @@ impl SpannedConfig {
         *self.cells.trim_vertical.get(pos)
     }
 
-    /// Sets what fills the columns that cells' lines leave free, for the cells of the entity. Fails
-    /// only where allocation fails, and then nothing has changed; for all cells never.
+    /// Sets what fills the columns that cells' lines leave free, for the cells of the entity. Fails only as
+    /// [`EntityMap::insert`] does, and then nothing has changed; for all cells never.
     pub fn set_justification(&mut self, entity: Entity, value: char) -> Result<(), Fault>
         ensures set { OnOk result (SetsCovered self.old.justification self.new.justification entity value) }
         ensures refused { OnErr result (IsUnchanged self.old.justification self.new.justification) }
@@ -353,7 +353,7 @@ impl SpannedConfig {
         *self.cells.justification.get(pos)
     }
 
-    /// Sets the colour of that fill, for the cells of the entity. Fails only where allocation fails, and then
+    /// Sets the colour of that fill, for the cells of the entity. Fails only as [`EntityMap::insert`] does, and then
     /// nothing has changed; for all cells never.
     pub fn set_justification_color(
         &mut self,

@@ -62,7 +62,7 @@ impl<T: Drop> Calls<T> {
         self.calls.clear();
     }
 
-    /// Adds a call, as the newest. Fails only where allocation fails; then nothing has changed.
+    /// Adds a call, as the newest. Fails only where allocation fails or a map is full; then nothing has changed.
     pub(crate) fn push(&mut self, entity: Entity, value: T) -> Result<(), AllocError>
         requires { entity ≢ EveryCell }
         ensures ok { OnOk result (self.new ≡ self.old ++ (entity, value) ∷ []) }
