@@ -5,6 +5,7 @@ ghost use Rattle.basinmug_cells.specs.Fields.{field_text};
 
 use crate::plain::{Plain, printable};
 use grid_records_rows::{Cell, FromText, Text};
+use grid_records_traits::PlainCell;
 use std::alloc::{AllocError, Global};
 use std::borrow::CowStr;
 
@@ -84,6 +85,16 @@ impl<'a> Cell for Field<'a> {
         match self {
             Field::Part(part) => (1, part.width),
             Field::Own(text) => text.dimension(),
+        }
+    }
+
+    fn plain(&self) -> Option<PlainCell<'_>> {
+        match self {
+            Field::Part(part) => Some(PlainCell {
+                text: part.text,
+                width: part.width,
+            }),
+            Field::Own(text) => text.plain(),
         }
     }
 }

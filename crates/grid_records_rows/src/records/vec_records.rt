@@ -13,6 +13,7 @@ use crate::records::{
 use grid_config_values::Position;
 use grid_records_measure::{count_lines, get_text_width};
 pub use grid_records_traits::Cell;
+use grid_records_traits::PlainCell;
 pub use grid_records_traits::records::cell;
 use std::alloc::{AllocError, Global};
 use std::borrow::CowStr;
@@ -153,6 +154,10 @@ impl<T: Cell> PeekableRecords for VecRecords<T> {
             Some(cell) => cell.line_width(line),
             None => "".line_width(line),
         }
+    }
+
+    fn plain_cell(&self, pos: Position) -> Option<PlainCell<'_>> {
+        self.cell(pos)?.plain()
     }
 }
 

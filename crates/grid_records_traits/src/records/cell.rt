@@ -1,10 +1,12 @@
 //! A cell with a text.
-ghost use Rattle.std.specs.Prelude.{◌≡◌, ℕ, List, IfOk, IsOk, false, string_bytes};
+ghost use Rattle.std.specs.Prelude.{◌≡◌, ℕ, List, IfOk, IfSome, IsOk, false, string_bytes};
 ghost use Rattle.std.specs.Cow.{IsOwnedStr, cow_str_bytes};
 ghost use Rattle.grid_records_measure.specs.StyledText.{has_escape};
 ghost use Rattle.grid_records_traits.specs.Cells.{HasLineCount, HasLineWidth, HasWidth, IsLineAt, text_or_empty};
+ghost use Rattle.grid_records_traits.specs.PlainRows.{IsPlainText};
 
 use crate::lines::{line_of, line_width_of};
+use crate::records::plain_row::PlainCell;
 use grid_records_measure::{count_lines, get_text_dimension, get_text_width};
 use std::alloc::{AllocError, Global};
 use std::borrow::CowStr;
@@ -55,6 +57,15 @@ pub trait Cell: Drop {
     {
         line_width_of(self.text(), index)
     }
+
+    /// The text and its columns, where it is known that it is one line, which is all of it: `None` says
+    /// nothing. Does not allocate.
+    fn plain(&self) -> Option<PlainCell<'_>>
+        ensures text { IfSome result (λ cell. cell.text.now ≡ text self.now) }
+        ensures plain { IfSome result (λ cell. IsPlainText cell.text.now cell.width) }
+    {
+        None
+    }
 }
 
 impl<'a> Cell for &'a str {
@@ -99,6 +110,10 @@ impl<'a, C: Cell> Cell for &'a C {
 
     fn line_width(&self, index: usize) -> usize {
         C::line_width(self, index)
+    }
+
+    fn plain(&self) -> Option<PlainCell<'_>> {
+        C::plain(self)
     }
 }
 

@@ -6,6 +6,7 @@ mod kept_lines;
 
 use crate::records::vec_records::Cell;
 use grid_records_measure::{get_text_dimension, is_printable};
+use grid_records_traits::PlainCell;
 use kept_lines::{KeptLines, keep_lines};
 use std::alloc::{AllocError, Global};
 use std::borrow::CowStr;
@@ -126,6 +127,16 @@ impl Cell for Text {
 
     fn dimension(&self) -> (usize, usize) {
         (self.kept_count(), self.width)
+    }
+
+    fn plain(&self) -> Option<PlainCell<'_>> {
+        if self.lines.is_some() {
+            return None;
+        }
+        Some(PlainCell {
+            text: self.text.as_str(),
+            width: self.width,
+        })
     }
 }
 
