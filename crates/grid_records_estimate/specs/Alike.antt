@@ -1,7 +1,9 @@
 -- When two sizings say the same of each cell, and when they give each table the same sizes.
-use Rattle.std.specs.Prelude.{◌≡◌, ℕ, List}
+use Rattle.std.specs.Prelude.{◌≡◌, ℕ, List, []}
 use Rattle.grid_config_spans.specs.Spans.{extent_at}
 use Rattle.grid_config_values.specs.declared.position.Position.{Position}
+use Rattle.grid_config_values.specs.declared.sides.Indent.{Indent}
+use Rattle.grid_config_values.specs.declared.sides.Sides.{Sides}
 use Rattle.grid_records_estimate.specs.Sizes.{height_total, table_heights, table_widths, width_total}
 use Rattle.grid_records_estimate.specs.Sizing.{Sizing}
 
@@ -19,3 +21,8 @@ pub record HaveSameSizes (a b : Sizing) : Type 0 where
   pub heights : (columns : ℕ) (rows : List (List (List ℕ))) → table_heights a columns rows ≡ table_heights b columns rows
   pub whole_width : (columns : ℕ) (rows : List (List (List ℕ))) → width_total a columns rows ≡ width_total b columns rows
   pub whole_height : (columns : ℕ) (rows : List (List (List ℕ))) → height_total a columns rows ≡ height_total b columns rows
+
+-- each cell has this padding, and none spans several columns or rows
+pub record HasOnePadding (sizing : Sizing) (padding : Sides Indent) : Type 0 where
+  pub paddings : (place : Position) → sizing.padding place ≡ padding
+  pub spans : sizing.spans ≡ []

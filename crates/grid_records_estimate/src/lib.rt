@@ -6,6 +6,7 @@ mod dimension;
 mod estimate;
 pub mod laws;
 mod need;
+mod one_padding;
 mod reading;
 mod shares;
 mod sizing;

@@ -7,6 +7,7 @@ ghost use Rattle.grid_records_estimate.specs.Reading.{HasRead, IsReading, Placed
 
 use crate::collector::Collector;
 use crate::need::Need;
+use crate::one_padding::OnePadding;
 use crate::sizing::Sizing;
 use grid_config::Position;
 use grid_records_traits::{Cell, Records};
@@ -27,6 +28,16 @@ pub(crate) fn read<R: Records, S: Sizing>(
     records: R,
     cfg: &S,
 ) -> Result<Reading, AllocError>
+    ensures { IfOk result (λ reading. IsReading (S.sizing cfg.now) (R.columns records) (R.rows records) reading) }
+{
+    match cfg.one_padding() {
+        Some(padding) => read_by(alloc, records, &OnePadding::new(cfg, padding)),
+        None => read_by(alloc, records, cfg),
+    }
+}
+
+// Reads a table by settings that are looked up for each cell.
+fn read_by<R: Records, S: Sizing>(alloc: Global, records: R, cfg: &S) -> Result<Reading, AllocError>
     ensures { IfOk result (λ reading. IsReading (S.sizing cfg.now) (R.columns records) (R.rows records) reading) }
 {
     let columns = records.count_columns();

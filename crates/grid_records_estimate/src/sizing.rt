@@ -1,7 +1,8 @@
 //! The settings that the sizes of a table follow from.
-ghost use Rattle.std.specs.Prelude.{◌≡◌, ◌<◌};
+ghost use Rattle.std.specs.Prelude.{◌≡◌, ◌<◌, IfSome};
 ghost use Rattle.grid_config.specs.Compact.{compact_of};
 ghost use Rattle.grid_config.specs.Spans.{extent_at};
+ghost use Rattle.grid_records_estimate.specs.Alike.{HasOnePadding};
 ghost use Rattle.grid_records_estimate.specs.Sizing.{Sizing as TableSizing, compact_sizing, is_visible, sizing_of};
 
 use grid_config::{Borders, CompactConfig, Indent, Position, Sides, SpannedConfig};
@@ -30,6 +31,14 @@ pub trait Sizing {
         ensures value { result ≡ (extent_at (sizing self.now).spans pos).rows }
         ensures some { 0 < result };
 
+    /// The padding of all cells, where it is known that they have one, and that none spans several columns or
+    /// rows: `None` says nothing.
+    fn one_padding(&self) -> Option<&Sides<Indent>>
+        ensures { IfSome result (λ padding. HasOnePadding (sizing self.now) padding.now) }
+    {
+        None
+    }
+
     /// The margin round the table.
     fn margin(&self) -> &Sides<Indent>
         ensures { result.now ≡ (sizing self.now).margin };
@@ -56,6 +65,13 @@ impl Sizing for SpannedConfig {
 
     fn rows(&self, pos: Position) -> usize {
         self.get_row_span(pos).unwrap_or(1)
+    }
+
+    fn one_padding(&self) -> Option<&Sides<Indent>> {
+        if !self.has_no_spans() || !self.is_uniform_but_alignment() {
+            return None;
+        }
+        Some(self.get_padding(Position { row: 0, col: 0 }))
     }
 
     fn margin(&self) -> &Sides<Indent> {

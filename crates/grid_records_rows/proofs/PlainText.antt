@@ -1,5 +1,5 @@
 -- A text of printable ASCII is its only line, and each of its bytes takes a column.
-use Rattle.std.proofs.Common.{◌≡◌, ◌∙◌, ℕ, Bool, true, false, List, [], ◌∷◌, All, ap, arith, length, max, refl, sym}
+use Rattle.std.proofs.Common.{◌≡◌, ◌∙◌, ℕ, Bool, true, false, List, [], ◌∷◌, All, ap, arith, length, max, refl, subst, sym}
 use Rattle.std.specs.Int.{is_in_range}
 use Rattle.std.specs.Prelude.{◌==◌, ◌||◌}
 use Rattle.std.proofs.lemmas.Bool.{and_parts}
@@ -15,7 +15,9 @@ use Rattle.ansi_str_text.proofs.Stripping.{strip-without_escape}
 use Rattle.grid_records_measure.specs.Measures.{are_printable}
 use Rattle.grid_records_measure.specs.TextLines.{is_line_feed, line_measure, shown_lines, text_height, text_lines, widest}
 use Rattle.grid_records_measure.proofs.PrintableWidth.{measure-printable}
-use Rattle.grid_records_traits.specs.Cells.{HasWidth}
+use Rattle.grid_records_traits.proofs.TextAnswers.{HasLineCount-text_lines, IsLineAt-text_lines}
+use Rattle.grid_records_traits.specs.Cells.{HasLineCount, HasWidth, IsLineAt, line_at}
+use Rattle.grid_records_traits.specs.PlainRows.{IsPlainText}
 use Rattle.grid_records_rows.proofs.KeptLines.{only_plain}
 
 no_escape-here : (b : ℕ) → is_in_range 0x20 0x7E b ≡ true → (b == escape) ≡ false
@@ -49,3 +51,11 @@ pub printable-width : (text : List ℕ) → are_printable text ≡ true → HasW
 printable-width text h = λ pieces are.
     let alone : max (line_measure text) 0 ≡ line_measure text = omega arith in
     sym (ap widest (shown text pieces h are) ∙ alone ∙ measure-printable text h)
+
+-- a text that is its only line is plain
+pub only_line-plain : (text : List ℕ) (width : ℕ) → text_lines text ≡ text ∷ [] → HasWidth text width → IsPlainText text width
+only_line-plain text width one wide = (
+  subst (HasLineCount text) (ap length one) (HasLineCount-text_lines text),
+  wide,
+  subst (IsLineAt text 0) (ap (λ lines. line_at lines 0) one) (IsLineAt-text_lines text 0),
+)

@@ -130,13 +130,13 @@ impl Cell for Text {
     }
 
     fn plain(&self) -> Option<PlainCell<'_>> {
-        if self.lines.is_some() {
-            return None;
+        match &self.lines {
+            Some(_) => None,
+            None => Some(PlainCell {
+                text: self.text.as_str(),
+                width: self.width,
+            }),
         }
-        Some(PlainCell {
-            text: self.text.as_str(),
-            width: self.width,
-        })
     }
 }
 

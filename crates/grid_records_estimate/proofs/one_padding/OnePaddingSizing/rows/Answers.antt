@@ -1,0 +1,7 @@
+use Rattle.std.proofs.Common.{refl}
+use Rattle.grid_config_spans.specs.Spans.{extent_at}
+use Rattle.grid_records_estimate.proofs.one_padding.OnePaddingSizing.rows.Goals as goal
+
+pub returns-clause-value : goal.returns-clause-value
+unfolding extent_at
+returns-clause-value c = refl
