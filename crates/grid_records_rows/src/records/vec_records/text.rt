@@ -132,10 +132,10 @@ impl Cell for Text {
     fn plain(&self) -> Option<PlainCell<'_>> {
         match &self.lines {
             Some(_) => None,
-            None => Some(PlainCell {
-                text: self.text.as_str(),
-                width: self.width,
-            }),
+            None => {
+                let (text, width) = (self.text.as_str(), self.width);
+                Some(PlainCell { text, width })
+            }
         }
     }
 }

@@ -12,4 +12,4 @@ pub returns-in-None-clause-plain : goal.returns-in-None-clause-plain
 returns-in-None-clause-plain c =
     let text = string_bytes c.self.inside.text in
     let kept : text_lines text ≡ text ∷ [] = subst (λ (lines : Option (Box KeptLines Global)). AreKept text lines) c.in-None.is c.self.invariant.0 in
-    subst (λ (bytes : List ℕ). IsPlainText bytes c.self.inside.width) (sym c.as_str.ensures.value) (only_line-plain text c.self.inside.width kept c.self.invariant.1)
+    subst (λ (bytes : List ℕ). IsPlainText bytes c.self.inside.width) (sym c.as_str-text.ensures.value) (only_line-plain text c.self.inside.width kept c.self.invariant.1)
