@@ -227,8 +227,13 @@ impl<'a> FlatRows<'a> {
             ++ (placed (standing_of self.now ((look_of cfg.now).alignment_horizontal pos)) width measure widest (option_map color_of color.entry) line.now
             ++ behind_text self.now pos.col columns)) }
     {
-        let behind = self.behind(pos.col, columns);
-        self.push_placed(out, cfg, pos, width, measure, widest, color, line, behind)
+        let room = self.room(width);
+        let aligned = if self.line_alignment { measure } else { widest };
+        let indent = self.indent(cfg, pos, room.saturating_sub(aligned));
+        let rest = room.saturating_sub(indent).saturating_sub(measure);
+        push_fill(out, self.fill, indent, self.fill_color)?;
+        push_text(out, line, color)?;
+        self.push_rest(out, rest, self.behind(pos.col, columns))
     }
 
     /// Appends the boundary before the column of this cell, one of `columns`, and the line of its text with this
@@ -250,17 +255,13 @@ impl<'a> FlatRows<'a> {
         let lines = &cell.lines;
         let (measure, widest) = (lines.width(k), lines.widest());
         out.push_str(self.head_of(cell.pos.col))?;
-        self.push_placed(
-            out,
-            cfg,
-            cell.pos,
-            cell.width,
-            measure,
-            widest,
-            cell.color,
-            lines.text(k),
-            &self.tail,
-        )
+        let room = self.room(cell.width);
+        let shown = if self.line_alignment { measure } else { widest };
+        let before = self.indent(cfg, cell.pos, room.saturating_sub(shown));
+        let free = room.saturating_sub(before).saturating_sub(measure);
+        push_fill(out, self.fill, before, self.fill_color)?;
+        push_text(out, lines.text(k), cell.color)?;
+        self.push_rest(out, free, &self.tail)
     }
 
     // What stands before a text in this column, where its cell is appended alone.
@@ -273,35 +274,6 @@ impl<'a> FlatRows<'a> {
         } else {
             &self.head
         }
-    }
-
-    // Appends a line that measures `measure` to a column that is `width` wide, by the alignment of its cell,
-    // and what stands after it; `widest` is what the widest line of the cell measures.
-    #[inline(always)]
-    fn push_placed(
-        &self,
-        out: &mut String,
-        cfg: &SpannedConfig,
-        pos: Position,
-        width: usize,
-        measure: usize,
-        widest: usize,
-        color: Option<ANSIStr<'_>>,
-        line: &str,
-        behind: &Spaced,
-    ) -> Result<(), AllocError>
-        requires { (columns : ℕ) × AreFlatRows (look_of cfg.now) columns self.now }
-        ensures { OnOk result (string_bytes out.new ≡ string_bytes out.old
-            ++ (placed (standing_of self.now ((look_of cfg.now).alignment_horizontal pos)) width measure widest (option_map color_of color.entry) line.now
-            ++ spaced_text behind.now)) }
-    {
-        let room = self.room(width);
-        let aligned = if self.line_alignment { measure } else { widest };
-        let indent = self.indent(cfg, pos, room.saturating_sub(aligned));
-        let rest = room.saturating_sub(indent).saturating_sub(measure);
-        push_fill(out, self.fill, indent, self.fill_color)?;
-        push_text(out, line, color)?;
-        self.push_rest(out, rest, behind)
     }
 
     // Appends what is free after a text, and what stands after that.
