@@ -1,34 +1,32 @@
 -- The line of a row of empty cells, and what stands in it where texts are written over its rooms.
 use Rattle.std.proofs.Common.{◌≡◌, ℕ, zero, suc, ◌+◌, ◌-◌, ◌<◌, ◌≤◌, Bool, true, false, cond, List, [], ◌∷◌, ◌++◌, Option, None, Some, drop, take, get_or, length, refl, ap, sym, subst, ◌∙◌, arith, append_assoc, replicate, string_bytes}
-use Rattle.std.specs.Prelude.{◌==◌, is_some}
+use Rattle.std.specs.Prelude.{◌==◌}
 use Rattle.std.specs.List.{replace_range}
 use Rattle.std.specs.Option.{option_map}
 use Rattle.std.specs.Str.{IsCharBoundary, IsUtf8}
 use Rattle.std.specs.String.Boundary.{IsSplitPoint}
-use Rattle.std.proofs.Math.Seq.{drop-append_seam, take-append_seam}
+use Rattle.std.proofs.Math.Seq.{take-append_seam}
 use Rattle.std.proofs.lemmas.List.{at_drop_more, length-append, length-replicate, replicate-append-replicate}
 use Rattle.std.proofs.lemmas.Str.{IsCharBoundary-at_seam, IsUtf8-append, IsUtf8-drop, IsUtf8-nil, IsUtf8-string_bytes}
-use Rattle.ansi_str_search.proofs.Finds.{IsUtf8-byte}
-use Rattle.grid_config.specs.Colors.{color_of}
+use Rattle.grid_config.specs.Colors.{Color, color_of}
 use Rattle.grid_config_values.specs.declared.alignment.AlignmentHorizontal.{AlignmentHorizontal}
 use Rattle.grid_config_values.specs.declared.alignment.AlignmentHorizontal.TheVariants.{Left, Center, Right}
 use Rattle.papergrid_picture.specs.Blocks.{free_left}
+use Rattle.papergrid_picture.specs.Tables.{in_color}
 use Rattle.papergrid_cells.specs.Flat.{Joints, empty_from, joint_behind, joints_of, placed, room_in, rooms_from, spaced_text, standing_of}
-use Rattle.papergrid_cells.specs.Painting.{colored, fill_bytes}
+use Rattle.papergrid_cells.specs.Painting.{colored, fill_bytes, prefix_of, suffix_of}
+use Rattle.papergrid_cells.specs.Spaces.{HasSpaces}
 use Rattle.papergrid_cells.specs.declared.empty_row.Room.{Room}
 use Rattle.papergrid_cells.specs.declared.flat.FlatRows.{FlatRows}
 use Rattle.papergrid_cells.specs.declared.spaced.Spaced.{Spaced}
 use Rattle.papergrid_cells.proofs.PrintedGlyphs.{spaces-filled}
+use Rattle.papergrid_cells.proofs.WrittenTexts.{spaces, spaces-begin, spaces-end, spaces-inside, spaces-over, utf8-spaces}
 
 abbrev fill : ℕ → List ℕ
 fill n = fill_bytes 0x20 n
 
 pub length-fill : (n : ℕ) → length (fill n) ≡ n
 length-fill n = ap (λ l. length l) (spaces-filled n) ∙ length-replicate n 0x20
-
-utf8-spaces : (n : ℕ) → IsUtf8 (replicate n 0x20)
-utf8-spaces zero = IsUtf8-nil
-utf8-spaces (suc n) = IsUtf8-append (0x20 ∷ []) (replicate n 0x20) (IsUtf8-byte 0x20 (omega arith)) (utf8-spaces n)
 
 utf8-fill : (n : ℕ) → IsUtf8 (fill n)
 utf8-fill n = subst IsUtf8 (sym (spaces-filled n)) (utf8-spaces n)
@@ -38,46 +36,55 @@ utf8-spaced spaced = IsUtf8-drop (string_bytes spaced.text) spaced.spaces (IsUtf
 
 -- ---- its rooms
 
-module _ (joints : Joints) (columns : ℕ) where
+module _ (joints : Joints) (shades : List ℕ) (columns : ℕ) where
+  abbrev room_of : List ℕ → ℕ → ℕ
+  room_of widths j = room_in joints (get_or widths j 0)
+
   pub empty-more : (j : ℕ) (widths : List ℕ) → j < length widths
-      → empty_from joints columns j (drop j widths) ≡ fill (room_in joints (get_or widths j 0)) ++ (joint_behind joints j columns ++ empty_from joints columns (j + 1) (drop (j + 1) widths))
-  empty-more j widths inside = at_drop_more (empty_from joints columns j) widths j 0 inside
+      → empty_from joints shades columns j (drop j widths)
+      ≡ fill (get_or shades j 0) ++ (fill (room_of widths j) ++ (joint_behind joints j columns ++ empty_from joints shades columns (j + 1) (drop (j + 1) widths)))
+  empty-more j widths inside = at_drop_more (empty_from joints shades columns j) widths j 0 inside
 
   pub length-more : (j : ℕ) (widths : List ℕ) → j < length widths
-      → length (empty_from joints columns j (drop j widths)) ≡ room_in joints (get_or widths j 0) + (length (joint_behind joints j columns) + length (empty_from joints columns (j + 1) (drop (j + 1) widths)))
+      → length (empty_from joints shades columns j (drop j widths))
+      ≡ get_or shades j 0 + (room_of widths j + (length (joint_behind joints j columns) + length (empty_from joints shades columns (j + 1) (drop (j + 1) widths))))
   length-more j widths inside =
-      let room = room_in joints (get_or widths j 0) in
+      let shade = get_or shades j 0 in
+      let room = room_of widths j in
       let joint = joint_behind joints j columns in
-      let tail = empty_from joints columns (j + 1) (drop (j + 1) widths) in
-      let all : length (empty_from joints columns j (drop j widths)) ≡ length (fill room ++ (joint ++ tail)) = ap (λ l. length l) (empty-more j widths inside) in
-      omega (arith, all, length-append (fill room) (joint ++ tail), length-append joint tail, length-fill room)
+      let tail = empty_from joints shades columns (j + 1) (drop (j + 1) widths) in
+      let all : length (empty_from joints shades columns j (drop j widths)) ≡ length (fill shade ++ (fill room ++ (joint ++ tail))) = ap (λ l. length l) (empty-more j widths inside) in
+      omega (arith, all, length-append (fill shade) (fill room ++ (joint ++ tail)), length-append (fill room) (joint ++ tail), length-append joint tail, length-fill shade, length-fill room)
+
+  -- the room in column j, where these widths are left from column k on
+  abbrev room_at : ℕ → ℕ → List ℕ → List ℕ → Room
+  room_at j k widths left = record { width = room_of widths k; shade = get_or shades j 0; rest = length (empty_from joints shades columns j left) }
 
   pub rooms-more : (j : ℕ) (widths : List ℕ) → j < length widths
-      → rooms_from joints columns j (drop j widths)
-      ≡ record { width = room_in joints (get_or widths j 0); rest = length (empty_from joints columns j (drop j widths)) } ∷ rooms_from joints columns (j + 1) (drop (j + 1) widths)
+      → rooms_from joints shades columns j (drop j widths) ≡ room_at j j widths (drop j widths) ∷ rooms_from joints shades columns (j + 1) (drop (j + 1) widths)
   rooms-more j widths inside =
-      at_drop_more (rooms_from joints columns j) widths j 0 inside
-      ∙ ap (λ n. record { width = room_in joints (get_or widths j 0); rest = n } ∷ rooms_from joints columns (j + 1) (drop (j + 1) widths)) (ap (λ l. length l) (sym (empty-more j widths inside)))
+      at_drop_more (rooms_from joints shades columns j) widths j 0 inside
+      ∙ ap (λ n. record { width = room_of widths j; shade = get_or shades j 0; rest = n } ∷ rooms_from joints shades columns (j + 1) (drop (j + 1) widths)) (ap (λ l. length l) (sym (empty-more j widths inside)))
 
   pub room-at : (j k : ℕ) (widths : List ℕ) (default : Room) → k < length widths
-      → get_or (rooms_from joints columns j widths) k default ≡ record { width = room_in joints (get_or widths k 0); rest = length (empty_from joints columns (j + k) (drop k widths)) }
+      → get_or (rooms_from joints shades columns j widths) k default ≡ room_at (j + k) k widths (drop k widths)
   room-at j k [] default inside = absurd (omega (arith, inside))
   room-at j zero (width ∷ widths) default inside =
       let same : j ≡ j + 0 = omega arith in
-      ap (λ n. record { width = room_in joints width; rest = length (empty_from joints columns n (width ∷ widths)) }) same
+      ap (λ n. room_at n 0 (width ∷ widths) (width ∷ widths)) same
   room-at j (suc k) (width ∷ widths) default inside =
       let same : (j + 1) + k ≡ j + suc k = omega arith in
       room-at (j + 1) k widths default (omega (arith, inside))
-      ∙ ap (λ n. record { width = room_in joints (get_or widths k 0); rest = length (empty_from joints columns n (drop k widths)) }) same
+      ∙ ap (λ n. room_at n k widths (drop k widths)) same
 
   pub room-of : (k : ℕ) (widths : List ℕ) (default : Room) → k < length widths
-      → get_or (rooms_from joints columns 0 widths) k default ≡ record { width = room_in joints (get_or widths k 0); rest = length (empty_from joints columns k (drop k widths)) }
+      → get_or (rooms_from joints shades columns 0 widths) k default ≡ room_at k k widths (drop k widths)
   room-of k widths default inside =
       let same : 0 + k ≡ k = omega arith in
       room-at 0 k widths default inside
-      ∙ ap (λ n. record { width = room_in joints (get_or widths k 0); rest = length (empty_from joints columns n (drop k widths)) }) same
+      ∙ ap (λ n. room_at n k widths (drop k widths)) same
 
-  pub length-rooms : (j : ℕ) (widths : List ℕ) → length (rooms_from joints columns j widths) ≡ length widths
+  pub length-rooms : (j : ℕ) (widths : List ℕ) → length (rooms_from joints shades columns j widths) ≡ length widths
   length-rooms j [] = refl
   length-rooms j (width ∷ widths) = ap suc (length-rooms (j + 1) widths)
 
@@ -85,85 +92,14 @@ module _ (joints : Joints) (columns : ℕ) where
     pub utf8-behind : (j : ℕ) → IsUtf8 (joint_behind joints j columns)
     utf8-behind j = elim (j + 1 == columns) as (λ b. IsUtf8 (cond b joints.back joints.between)) [ true ↦ back | false ↦ between ]
 
-    pub utf8-empty : (j : ℕ) (widths : List ℕ) → IsUtf8 (empty_from joints columns j widths)
+    pub utf8-empty : (j : ℕ) (widths : List ℕ) → IsUtf8 (empty_from joints shades columns j widths)
     utf8-empty j [] = IsUtf8-nil
     utf8-empty j (width ∷ widths) =
-        IsUtf8-append (fill (room_in joints width)) _ (utf8-fill (room_in joints width))
-        (IsUtf8-append (joint_behind joints j columns) _ (utf8-behind j) (utf8-empty (j + 1) widths))
+        IsUtf8-append (fill (get_or shades j 0)) _ (utf8-fill (get_or shades j 0))
+        (IsUtf8-append (fill (room_in joints width)) _ (utf8-fill (room_in joints width))
+        (IsUtf8-append (joint_behind joints j columns) _ (utf8-behind j) (utf8-empty (j + 1) widths)))
 
 -- ---- a text over some of the spaces of a room
-
-module _ (before after : List ℕ) (room indent width : ℕ) (fits : indent + width ≤ room) {all : List ℕ} (are : all ≡ before ++ (fill room ++ after)) where
-  abbrev rest : ℕ
-  rest = room - indent - width
-
-  parted : fill room ≡ fill indent ++ (fill width ++ fill rest)
-  parted =
-      let sum : room ≡ indent + (width + rest) = omega (arith, fits) in
-      ap fill sum
-      ∙ (spaces-filled (indent + (width + rest))
-      ∙ (sym (replicate-append-replicate indent (width + rest) 0x20)
-      ∙ (ap (λ l. replicate indent 0x20 ++ l) (sym (replicate-append-replicate width rest 0x20))
-      ∙ (ap (λ l. l ++ (replicate width 0x20 ++ replicate rest 0x20)) (sym (spaces-filled indent))
-      ∙ (ap (λ l. fill indent ++ (l ++ replicate rest 0x20)) (sym (spaces-filled width))
-      ∙ ap (λ l. fill indent ++ (fill width ++ l)) (sym (spaces-filled rest)))))))
-
-  all-parts : all ≡ before ++ ((fill indent ++ (fill width ++ fill rest)) ++ after)
-  all-parts = are ∙ ap (λ l. before ++ (l ++ after)) parted
-
-  front : all ≡ (before ++ fill indent) ++ (fill width ++ (fill rest ++ after))
-  front = all-parts ∙ regroup
-    where
-      regroup : before ++ ((fill indent ++ (fill width ++ fill rest)) ++ after) ≡ (before ++ fill indent) ++ (fill width ++ (fill rest ++ after))
-      regroup = simp append_assoc
-
-  behind : all ≡ (before ++ (fill indent ++ fill width)) ++ (fill rest ++ after)
-  behind = all-parts ∙ regroup
-    where
-      regroup : before ++ ((fill indent ++ (fill width ++ fill rest)) ++ after) ≡ (before ++ (fill indent ++ fill width)) ++ (fill rest ++ after)
-      regroup = simp append_assoc
-
-  length-front : length (before ++ fill indent) ≡ length before + indent
-  length-front = omega (arith, length-append before (fill indent), length-fill indent)
-
-  length-behind : length (before ++ (fill indent ++ fill width)) ≡ length before + indent + width
-  length-behind = omega (arith, length-append before (fill indent ++ fill width), length-append (fill indent) (fill width), length-fill indent, length-fill width)
-
-  module _ (start : ℕ) (begins : start ≡ length before + indent) where
-    start-is : length (before ++ fill indent) ≡ start
-    start-is = omega (arith, length-front, begins)
-
-    end-is : length (before ++ (fill indent ++ fill width)) ≡ start + width
-    end-is = omega (arith, length-behind, begins)
-
-    pub over : (text : List ℕ) → replace_range all start (start + width) text ≡ before ++ ((fill indent ++ (text ++ fill rest)) ++ after)
-    over text =
-        let first : take start all ≡ before ++ fill indent =
-        ap (λ n. take n all) (sym start-is) ∙ (ap (take (length (before ++ fill indent))) front ∙ take-append_seam (before ++ fill indent) (fill width ++ (fill rest ++ after))) in
-        let last : drop (start + width) all ≡ fill rest ++ after =
-        ap (λ n. drop n all) (sym end-is) ∙ (ap (drop (length (before ++ (fill indent ++ fill width)))) behind ∙ drop-append_seam (before ++ (fill indent ++ fill width)) (fill rest ++ after)) in
-        ap (λ l. (l ++ text) ++ drop (start + width) all) first
-        ∙ (ap (λ l. ((before ++ fill indent) ++ text) ++ l) last
-        ∙ regroup text)
-      where
-        regroup : (text : List ℕ) → ((before ++ fill indent) ++ text) ++ (fill rest ++ after) ≡ before ++ ((fill indent ++ (text ++ fill rest)) ++ after)
-        regroup text = simp append_assoc
-
-    split-at : (n : ℕ) → IsCharBoundary all n → IsSplitPoint all n
-    split-at n boundary = (boundary.0, λ some. boundary.1)
-
-    module _ (utf8 : IsUtf8 after) where
-      pub split-start : IsSplitPoint all start
-      split-start =
-          split-at start (subst (IsCharBoundary all) start-is
-          (IsCharBoundary-at_seam all (before ++ fill indent) (fill width ++ (fill rest ++ after)) front
-          (IsUtf8-append (fill width) _ (utf8-fill width) (IsUtf8-append (fill rest) after (utf8-fill rest) utf8))))
-
-      pub split-end : IsSplitPoint all (start + width)
-      split-end =
-          split-at (start + width) (subst (IsCharBoundary all) end-is
-          (IsCharBoundary-at_seam all (before ++ (fill indent ++ fill width)) (fill rest ++ after) behind
-          (IsUtf8-append (fill rest) after (utf8-fill rest) utf8)))
 
 free_left-within : (alignment : AlignmentHorizontal) (free : ℕ) → free_left alignment free ≤ free
 free_left-within Left free = omega arith
@@ -174,20 +110,84 @@ free_left-within Right free = omega arith
 pub none-left : (alignment : AlignmentHorizontal) (free : ℕ) → free ≡ 0 → 0 ≡ free_left alignment free
 none-left alignment free none = omega (arith, free_left-within alignment free, none)
 
--- ---- the same by what is kept of a room
+-- spaces for a colour and for a text in it
+joined : (shade room : ℕ) → fill shade ++ fill room ≡ spaces (shade + room)
+joined shade room =
+    ap (λ l. l ++ fill room) (spaces-filled shade)
+    ∙ (ap (λ l. spaces shade ++ l) (spaces-filled room)
+    ∙ replicate-append-replicate shade room 0x20)
 
-module _ (rows : FlatRows) (widths before : List ℕ) (j : ℕ) (inside : j < length widths) {all : List ℕ}
-    (are : all ≡ before ++ empty_from (joints_of rows) (length widths) j (drop j widths))
-    (rooms : List Room) (kept : rooms ≡ rooms_from (joints_of rows) (length widths) 0 widths) (room : Room) (found : room ≡ get_or rooms j room)
+-- spaces before, for and after a text
+parted : (all indent width rest : ℕ) → all ≡ indent + (width + rest) → spaces all ≡ spaces indent ++ (spaces width ++ spaces rest)
+parted all indent width rest sum =
+    ap spaces sum
+    ∙ (sym (replicate-append-replicate indent (width + rest) 0x20)
+    ∙ ap (λ l. spaces indent ++ l) (sym (replicate-append-replicate width rest 0x20)))
+
+-- a text that takes `width` columns of a room, and with its colour `bytes` bytes
+module _ (line : List ℕ) (start shade room : ℕ) (has : HasSpaces line start (shade + room)) (alignment : AlignmentHorizontal)
+    (width : ℕ) (fits : width ≤ room) (indent : ℕ) (is : indent ≡ free_left alignment (room - width)) (bytes : ℕ) (takes : bytes ≡ shade + width) where
+  both : indent + width ≤ room
+  both = omega (arith, fits, is, free_left-within alignment (room - width))
+
+  abbrev behind : ℕ
+  behind = room - indent - width
+
+  pub spaced : line ≡ (has.before ++ spaces indent) ++ (spaces bytes ++ (spaces behind ++ has.after))
+  spaced =
+      has.parts
+      ∙ (ap (λ l. has.before ++ (l ++ has.after)) (parted (shade + room) indent bytes behind (omega (arith, both, takes)))
+      ∙ regroup has.before (spaces indent) (spaces bytes) (spaces behind) has.after)
+    where
+      regroup : (a b c d e : List ℕ) → a ++ ((b ++ (c ++ d)) ++ e) ≡ (a ++ b) ++ (c ++ (d ++ e))
+      regroup a b c d e = simp append_assoc
+
+  abbrev pub text-spaces : HasSpaces line (start + indent) bytes
+  text-spaces = record {
+    before = has.before ++ spaces indent;
+    after = spaces behind ++ has.after;
+    parts = spaced;
+    place = omega (arith, has.place, length-append has.before (spaces indent), length-replicate {A = ℕ} indent 0x20);
+    text = IsUtf8-append (spaces behind) has.after (utf8-spaces behind) has.text;
+  }
+
+  pub text-inside : start + indent + bytes ≤ length line
+  text-inside = spaces-inside line (start + indent) bytes text-spaces
+
+  pub text-begin : IsSplitPoint line (start + indent)
+  text-begin = spaces-begin line (start + indent) bytes text-spaces
+
+  pub text-end : IsSplitPoint line (start + indent + bytes)
+  text-end = spaces-end line (start + indent) bytes text-spaces
+
+  pub text-over : (text : List ℕ) → replace_range line (start + indent) (start + indent + bytes) text
+      ≡ has.before ++ ((fill indent ++ (text ++ fill behind)) ++ has.after)
+  text-over text =
+      spaces-over line (start + indent) bytes text-spaces text
+      ∙ (ap (λ l. (has.before ++ l) ++ (text ++ (spaces behind ++ has.after))) (sym (spaces-filled indent))
+      ∙ (ap (λ l. (has.before ++ fill indent) ++ (text ++ (l ++ has.after))) (sym (spaces-filled behind))
+      ∙ regroup has.before (fill indent) text (fill behind) has.after))
+    where
+      regroup : (a b c d e : List ℕ) → (a ++ b) ++ (c ++ (d ++ e)) ≡ a ++ ((b ++ (c ++ d)) ++ e)
+      regroup a b c d e = simp append_assoc
+
+-- ---- the room of a column
+
+module _ (rows : FlatRows) (widths shades before : List ℕ) (j : ℕ) (inside : j < length widths) {all : List ℕ}
+    (are : all ≡ before ++ empty_from (joints_of rows) shades (length widths) j (drop j widths))
+    (rooms : List Room) (kept : rooms ≡ rooms_from (joints_of rows) shades (length widths) 0 widths) (room : Room) (found : room ≡ get_or rooms j room)
     (len : ℕ) (counted : len ≡ length all) where
   abbrev tail_from : ℕ → List ℕ
-  tail_from k = empty_from (joints_of rows) (length widths) k (drop k widths)
+  tail_from k = empty_from (joints_of rows) shades (length widths) k (drop k widths)
 
-  room-is : room ≡ record { width = room_in (joints_of rows) (get_or widths j 0); rest = length (tail_from j) }
-  room-is = found ∙ (ap (λ rooms. get_or rooms j room) kept ∙ room-of (joints_of rows) (length widths) j widths room inside)
+  room-is : room ≡ record { width = room_in (joints_of rows) (get_or widths j 0); shade = get_or shades j 0; rest = length (tail_from j) }
+  room-is = found ∙ (ap (λ rooms. get_or rooms j room) kept ∙ room-of (joints_of rows) shades (length widths) j widths room inside)
 
   pub room-wide : room.width ≡ room_in (joints_of rows) (get_or widths j 0)
   room-wide = ap (λ (r : Room). r.width) room-is
+
+  shaded : room.shade ≡ get_or shades j 0
+  shaded = ap (λ (r : Room). r.shade) room-is
 
   left : room.rest ≡ length (tail_from j)
   left = ap (λ (r : Room). r.rest) room-is
@@ -201,16 +201,16 @@ module _ (rows : FlatRows) (widths before : List ℕ) (j : ℕ) (inside : j < le
   pub rest-inside : room.rest ≤ len
   rest-inside = omega (arith, all-long)
 
-  begin-is : len - room.rest ≡ length before
+  pub begin-is : len - room.rest ≡ length before
   begin-is = omega (arith, all-long)
 
   utf8-from : (k : ℕ) → IsUtf8 (tail_from k)
-  utf8-from k = utf8-empty (joints_of rows) (length widths) (utf8-spaced rows.between) (utf8-spaced rows.back) k (drop k widths)
+  utf8-from k = utf8-empty (joints_of rows) shades (length widths) (utf8-spaced rows.between) (utf8-spaced rows.back) k (drop k widths)
 
-  utf8-after : IsUtf8 after_room
+  pub utf8-after : IsUtf8 after_room
   utf8-after =
       IsUtf8-append (joint_behind (joints_of rows) j (length widths)) (tail_from (j + 1))
-      (utf8-behind (joints_of rows) (length widths) (utf8-spaced rows.between) (utf8-spaced rows.back) j) (utf8-from (j + 1))
+      (utf8-behind (joints_of rows) shades (length widths) (utf8-spaced rows.between) (utf8-spaced rows.back) j) (utf8-from (j + 1))
 
   pub split-begin : IsSplitPoint all (len - room.rest)
   split-begin =
@@ -220,34 +220,43 @@ module _ (rows : FlatRows) (widths before : List ℕ) (j : ℕ) (inside : j < le
   pub taken : take (len - room.rest) all ≡ before
   taken = ap (λ n. take n all) begin-is ∙ (ap (take (length before)) are ∙ take-append_seam before (tail_from j))
 
-  parts : all ≡ before ++ (fill room.width ++ after_room)
-  parts = are ∙ (ap (λ l. before ++ l) (empty-more (joints_of rows) (length widths) j widths inside) ∙ ap (λ n. before ++ (fill n ++ after_room)) (sym room-wide))
+  pub parts : all ≡ before ++ (spaces (room.shade + room.width) ++ after_room)
+  parts =
+      are
+      ∙ (ap (λ l. before ++ l) (empty-more (joints_of rows) shades (length widths) j widths inside)
+      ∙ (ap (λ n. before ++ (fill (get_or shades j 0) ++ (fill n ++ after_room))) (sym room-wide)
+      ∙ (ap (λ n. before ++ (fill n ++ (fill room.width ++ after_room))) (sym shaded)
+      ∙ (ap (λ l. before ++ l) (sym (append_assoc (fill room.shade) (fill room.width) after_room))
+      ∙ ap (λ l. before ++ (l ++ after_room)) (joined room.shade room.width)))))
 
-  module _ (alignment : AlignmentHorizontal) (width : ℕ) (fits : width ≤ room.width) (indent : ℕ) (is : indent ≡ free_left alignment (room.width - width)) where
-    both : indent + width ≤ room.width
-    both = omega (arith, fits, is, free_left-within alignment (room.width - width))
-
-    begins : len - room.rest + indent ≡ length before + indent
-    begins = omega (arith, begin-is)
-
-    pub split-text : IsSplitPoint all (len - room.rest + indent)
-    split-text = split-start before after_room room.width indent width both parts (len - room.rest + indent) begins utf8-after
-
-    pub split-behind : IsSplitPoint all (len - room.rest + indent + width)
-    split-behind = split-end before after_room room.width indent width both parts (len - room.rest + indent) begins utf8-after
-
-    pub text-inside : len - room.rest + indent + width ≤ len
-    text-inside = omega (arith, split-behind.0, counted)
-
-    pub text-over : (text : List ℕ) → replace_range all (len - room.rest + indent) (len - room.rest + indent + width) text
-        ≡ before ++ ((fill indent ++ (text ++ fill (room.width - indent - width))) ++ after_room)
-    text-over text = over before after_room room.width indent width both parts (len - room.rest + indent) begins text
+  -- the spaces of the room
+  abbrev pub room-spaces : HasSpaces all (len - room.rest) (room.shade + room.width)
+  room-spaces = record {
+    before = before;
+    after = after_room;
+    parts = parts;
+    place = begin-is;
+    text = utf8-after;
+  }
 
 -- ---- what such a text shows
 
-pub none-of : {X : Type 0} (kept : Option X) → is_some kept ≡ false → kept ≡ None
-none-of None none = refl
-none-of (Some x) none = absurd (cc)
+-- nothing is shown in no colour
+pub none-shown : (color : Option Color) (text : List ℕ) → length text ≡ 0 → colored color text ≡ []
+none-shown None [] none = refl
+none-shown (Some color) [] none = refl
+none-shown color (byte ∷ text) none = absurd (omega (arith, none))
+
+pub some-shown : (color : Color) (text : List ℕ) → 0 < length text → colored (Some color) text ≡ in_color color text
+some-shown color [] some = absurd (omega (arith, some))
+some-shown color (byte ∷ text) some = refl
+
+-- a text in a colour takes the bytes of both
+pub shown-long : (color : Option Color) (text : List ℕ) → 0 < length text → length (prefix_of color) + length (suffix_of color) + length text ≡ length (colored color text)
+shown-long color [] some = absurd (omega (arith, some))
+shown-long None (byte ∷ text) some = omega arith
+shown-long (Some color) (byte ∷ text) some =
+    omega (arith, length-append color.prefix ((byte ∷ text) ++ color.suffix), length-append (byte ∷ text) color.suffix)
 
 module _ (rows : FlatRows) (alignment : AlignmentHorizontal) (spaced : rows.fill ≡ 0x20) (bare : rows.fill_color ≡ None) where
   abbrev indent_of : ℕ → ℕ → ℕ
@@ -257,11 +266,11 @@ module _ (rows : FlatRows) (alignment : AlignmentHorizontal) (spaced : rows.fill
   same true n = refl
   same false n = refl
 
-  pub placed-plain : (column width : ℕ) (text : List ℕ) → placed (standing_of rows alignment) column width width None text
-      ≡ fill (indent_of (room_in (joints_of rows) column) width) ++ (text ++ fill (room_in (joints_of rows) column - indent_of (room_in (joints_of rows) column) width - width))
-  placed-plain column width text =
+  pub placed-plain : (column width : ℕ) (color : Option Color) (text : List ℕ) → placed (standing_of rows alignment) column width width color text
+      ≡ fill (indent_of (room_in (joints_of rows) column) width) ++ (colored color text ++ fill (room_in (joints_of rows) column - indent_of (room_in (joints_of rows) column) width - width))
+  placed-plain column width color text =
       let room = room_in (joints_of rows) column in
       ap (λ n. colored (option_map color_of rows.fill_color) (fill_bytes rows.fill (free_left alignment (room - n)))
-      ++ (text ++ colored (option_map color_of rows.fill_color) (fill_bytes rows.fill (room - free_left alignment (room - n) - width)))) (same rows.line_alignment width)
-      ∙ (ap (λ c. colored (option_map color_of c) (fill_bytes rows.fill (indent_of room width)) ++ (text ++ colored (option_map color_of c) (fill_bytes rows.fill (room - indent_of room width - width)))) bare
-      ∙ ap (λ n. fill_bytes n (indent_of room width) ++ (text ++ fill_bytes n (room - indent_of room width - width))) spaced)
+      ++ (colored color text ++ colored (option_map color_of rows.fill_color) (fill_bytes rows.fill (room - free_left alignment (room - n) - width)))) (same rows.line_alignment width)
+      ∙ (ap (λ c. colored (option_map color_of c) (fill_bytes rows.fill (indent_of room width)) ++ (colored color text ++ colored (option_map color_of c) (fill_bytes rows.fill (room - indent_of room width - width)))) bare
+      ∙ ap (λ n. fill_bytes n (indent_of room width) ++ (colored color text ++ fill_bytes n (room - indent_of room width - width))) spaced)

@@ -33,6 +33,15 @@ five a b c d e {v} {w} {x} {y} {z} first second third fourth fifth =
     regroup : a ++ (b ++ (c ++ (d ++ e))) ≡ a ++ ((b ++ (c ++ d)) ++ e)
     regroup = simp append_assoc
 
+-- five texts that are appended, the three in the middle as one
+pub appended : (out a b c d e : List ℕ) {one two three four : List ℕ} → one ≡ out ++ a → two ≡ one ++ b → three ≡ two ++ c → four ≡ three ++ (d ++ e)
+    → four ≡ out ++ (a ++ ((b ++ (c ++ d)) ++ e))
+appended out a b c d e first second third fourth =
+    fourth ∙ (ap (λ l. l ++ (d ++ e)) (third ∙ ap (λ l. l ++ c) (second ∙ ap (λ l. l ++ b) first)) ∙ regroup)
+  where
+    regroup : (((out ++ a) ++ b) ++ c) ++ (d ++ e) ≡ out ++ (a ++ ((b ++ (c ++ d)) ++ e))
+    regroup = simp append_assoc
+
 -- boundaries between two columns or rows are of one kind
 pub between-kind : (i n : ℕ) → 0 < i → i < n → boundary_kind i n ≡ Between
 between-kind i n some below =

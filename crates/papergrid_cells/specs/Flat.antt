@@ -1,6 +1,6 @@
 -- Rows, where the cells of a table have the same settings but for their alignment: what stands between their texts is the
 -- same in each.
-use Rattle.std.specs.Prelude.{◌≡◌, ⊤, ℕ, ◌+◌, ◌-◌, ◌==◌, Bool, false, List, [], ◌∷◌, ◌++◌, Option, MatchOption, None, drop, length, string_bytes, if◌then◌else◌}
+use Rattle.std.specs.Prelude.{◌≡◌, ⊤, ℕ, ◌+◌, ◌-◌, ◌==◌, Bool, false, List, [], ◌∷◌, ◌++◌, Option, MatchOption, None, drop, length, slice_index, string_bytes, if◌then◌else◌}
 use Rattle.std.specs.Option.{option_map}
 use Rattle.grid_config_values.specs.declared.alignment.AlignmentHorizontal.{AlignmentHorizontal}
 use Rattle.grid_config_values.specs.declared.position.Position.{Position}
@@ -133,26 +133,34 @@ module _ (joints : Joints) where
   abbrev pub joint_behind : ℕ → ℕ → List ℕ
   joint_behind j columns = if j + 1 == columns then joints.back else joints.between
 
-  -- the line from the room in column j of `columns` on, where these widths are left: spaces, and what stands after them
-  abbrev pub empty_from : ℕ → ℕ → List ℕ → List ℕ
-  empty_from columns j [] = []
-  empty_from columns j (width ∷ widths) = fill_bytes 0x20 (room_in width) ++ (joint_behind j columns ++ empty_from columns (j + 1) widths)
+  module _ (shades : List ℕ) where
+    -- the line from the room in column j of `columns` on, where these widths are left: spaces for the bytes of a colour and for
+    -- the text in it, and what stands after them
+    abbrev pub empty_from : ℕ → ℕ → List ℕ → List ℕ
+    empty_from columns j [] = []
+    empty_from columns j (width ∷ widths) =
+        fill_bytes 0x20 (slice_index shades j) ++ (fill_bytes 0x20 (room_in width) ++ (joint_behind j columns ++ empty_from columns (j + 1) widths))
 
-  -- the rooms in it
-  abbrev pub rooms_from : ℕ → ℕ → List ℕ → List Room
-  rooms_from columns j [] = []
-  rooms_from columns j (width ∷ widths) =
-      record { width = room_in width; rest = length (empty_from columns j (width ∷ widths)) } ∷ rooms_from columns (j + 1) widths
+    -- the rooms in it
+    abbrev pub rooms_from : ℕ → ℕ → List ℕ → List Room
+    rooms_from columns j [] = []
+    rooms_from columns j (width ∷ widths) =
+        record { width = room_in width; shade = slice_index shades j; rest = length (empty_from columns j (width ∷ widths)) } ∷ rooms_from columns (j + 1) widths
 
--- the line of a row of empty cells in columns of these widths, where spaces in no colour fill what texts leave free
-pub record IsEmptyRow (rows : FlatRows) (widths : List ℕ) (empty : EmptyRow) : Type 0 where
+-- the line of a row of empty cells in columns of these widths, whose texts stand in colours of so many bytes, where spaces in no
+-- colour fill what texts leave free
+pub record IsEmptyRow (rows : FlatRows) (widths shades : List ℕ) (empty : EmptyRow) : Type 0 where
   pub fill : rows.fill ≡ 0x20
   pub color : rows.fill_color ≡ None
-  pub line : string_bytes empty.line ≡ string_bytes rows.front ++ empty_from (joints_of rows) (length widths) 0 widths
-  pub rooms : empty.rooms.items ≡ rooms_from (joints_of rows) (length widths) 0 widths
+  pub line : string_bytes empty.line ≡ string_bytes rows.front ++ empty_from (joints_of rows) shades (length widths) 0 widths
+  pub rooms : empty.rooms.items ≡ rooms_from (joints_of rows) shades (length widths) 0 widths
+
+-- the same in some colours
+abbrev pub IsSomeEmptyRow : FlatRows → List ℕ → EmptyRow → Type 0
+IsSomeEmptyRow rows widths empty = (shades : List ℕ) × IsEmptyRow rows widths shades empty
 
 abbrev pub HasEmptyRow : List ℕ → FlatRows → Type 0
-HasEmptyRow widths rows = MatchOption rows.empty ⊤ (IsEmptyRow rows widths)
+HasEmptyRow widths rows = MatchOption rows.empty ⊤ (IsSomeEmptyRow rows widths)
 
 -- rows of one line that were made for a table with these settings and columns of these widths, where its settings allow it
 abbrev pub AreMadeFor : Settings → List ℕ → Option FlatRows → Type 0

@@ -1,15 +1,21 @@
 //! The line of a row of empty cells, over which the texts of a row are written.
-ghost use Rattle.std.specs.Prelude.{◌≡◌, ◌+◌, ◌<◌, ◌^◌, OnOk, length, string_bytes};
+ghost use Rattle.std.specs.Prelude.{◌≡◌, ◌+◌, ◌<◌, ◌^◌, OnOk, Some, length, string_bytes};
 ghost use Rattle.std.specs.List.{replace_range};
+ghost use Rattle.std.specs.Option.{option_map};
 ghost use Rattle.std.specs.String.Boundary.{IsSplitPoint};
+ghost use Rattle.grid_config.specs.Colors.{color_of};
+ghost use Rattle.papergrid_cells.specs.Painting.{colored, prefix_of, suffix_of};
+ghost use Rattle.papergrid_cells.specs.Spaces.{HasSpaces};
 
+use grid_config::ANSIStr;
 use std::alloc::AllocError;
 
-/// Where the text of a column may stand in the line of a row of empty cells: in `width` columns, which
-/// begin `rest` bytes before the end of the line.
+/// Where the text of a column may stand in the line of a row of empty cells: in `width` columns and the `shade`
+/// bytes of its colour, which begin `rest` bytes before the end of the line.
 #[derive(Clone, Copy)]
 pub struct Room {
     pub width: usize,
+    pub shade: usize,
     pub rest: usize,
 }
 
@@ -18,6 +24,28 @@ pub struct Room {
 pub struct EmptyRow {
     pub line: String,
     pub rooms: Vec<Room>,
+}
+
+/// How many bytes a colour takes around a text that is not empty.
+#[inline(always)]
+pub fn color_len(color: Option<ANSIStr<'_>>) -> usize
+    ensures { result ≡ length (prefix_of (option_map color_of color.entry)) + length (suffix_of (option_map color_of color.entry)) }
+{
+    match color {
+        Some(color) => color.get_prefix().len() + color.get_suffix().len(),
+        None => 0,
+    }
+}
+
+/// How many bytes this colour takes around this text: none where that is empty.
+#[inline(always)]
+pub fn shade_of(color: ANSIStr<'_>, text: &str) -> usize
+    ensures { result + length text.now ≡ length (colored (Some (color_of color.entry)) text.now) }
+{
+    if text.is_empty() {
+        return 0;
+    }
+    color_len(Some(color))
 }
 
 /// Writes a text over as many bytes, from `start` on. Fails only where allocation fails.
@@ -30,4 +58,25 @@ pub fn write_over(out: &mut String, start: usize, text: &str) -> Result<(), Allo
     ensures { OnOk result (string_bytes out.new ≡ replace_range (string_bytes out.old) start (start + length text.now) text.now) }
 {
     out.replace_range(start..start + text.len(), text)
+}
+
+/// Writes a text in this colour over as many spaces, from `start` on. Fails only where allocation fails.
+#[inline(never)]
+pub fn write_colored(
+    out: &mut String,
+    start: usize,
+    text: &str,
+    color: ANSIStr<'_>,
+) -> Result<(), AllocError>
+    requires spaces { HasSpaces (string_bytes out.old) start (length (colored (Some (color_of color)) text.now)) }
+    ensures { OnOk result (let shown = colored (Some (color_of color.entry)) text.now in
+        string_bytes out.new ≡ replace_range (string_bytes out.old) start (start + length shown) shown) }
+{
+    if text.is_empty() {
+        return Ok(());
+    }
+    let (prefix, suffix) = (color.get_prefix(), color.get_suffix());
+    write_over(out, start, prefix)?;
+    write_over(out, start + prefix.len(), text)?;
+    write_over(out, start + prefix.len() + text.len(), suffix)
 }

@@ -1,6 +1,6 @@
 //! Rows, where all cells of a table have the same settings but for their alignment: what stands between their
 //! texts is made once.
-ghost use Rattle.std.specs.Prelude.{◌≡◌, ⊤, ◌<◌, ◌++◌, ℕ, IfOk, IfSome, IsSome, IsTrue, MatchOption, None, OnOk, length, string_bytes};
+ghost use Rattle.std.specs.Prelude.{◌≡◌, ⊤, ◌<◌, ◌++◌, ℕ, IfOk, IfSome, IsSome, IsTrue, MatchOption, None, OnOk, length, slice_index, string_bytes};
 ghost use Rattle.std.specs.Option.{option_map};
 ghost use Rattle.grid_config.specs.Looks.{Look, look_of};
 ghost use Rattle.grid_config.specs.Colors.{color_of};
@@ -8,14 +8,14 @@ ghost use Rattle.grid_config_values.specs.declared.position.Position.{Position a
 ghost use Rattle.papergrid_picture.specs.Blocks.{free_left};
 ghost use Rattle.papergrid_cells.specs.BlockLines.{alone_bytes};
 ghost use Rattle.papergrid_cells.specs.Boundaries.{upright_bytes};
-ghost use Rattle.papergrid_cells.specs.Flat.{AreFlat, AreFlatRows, HasEmptyRow, IsEmptyRow, behind_text, empty_from, head_bytes, joints_of, placed, room_in, rooms_from, spaced_text, standing_of};
+ghost use Rattle.papergrid_cells.specs.Flat.{AreFlat, AreFlatRows, IsEmptyRow, behind_text, empty_from, head_bytes, joints_of, placed, room_in, rooms_from, spaced_text, standing_of};
 ghost use Rattle.papergrid_cells.specs.Painting.{colored, fill_bytes};
 ghost use Rattle.papergrid_cells.specs.declared.block.BlockLine.TheVariants.{Text};
 
 use crate::block::{OpenCell, borrowed, free_left, push_indent};
 use crate::empty_row::{EmptyRow, Room};
 use crate::glyphs::push_upright;
-use crate::painting::{push_fill, push_text};
+use crate::painting::{push_fill, push_repeated, push_text};
 use crate::spaced::Spaced;
 use grid_config::{ANSIBuf, ANSIStr, SpannedConfig};
 use grid_config_values::{AlignmentHorizontal, Indent, Position};
@@ -99,40 +99,57 @@ impl<'a> FlatRows<'a> {
         })
     }
 
-    /// The same with the line of a row of empty cells, for columns of these widths, where spaces in no
-    /// colour fill what texts leave free. Fails only where allocation fails.
-    pub fn with_empty_row(self, alloc: Global, widths: &[usize]) -> Result<FlatRows<'a>, AllocError>
+    /// The same with the line of a row of empty cells, for columns of these widths, in which texts stand in
+    /// colours of so many bytes, where spaces in no colour fill what texts leave free. Fails only where
+    /// allocation fails.
+    pub fn with_empty_row(
+        self,
+        alloc: Global,
+        widths: &[usize],
+        shades: &[usize],
+    ) -> Result<FlatRows<'a>, AllocError>
         ensures rows { IfOk result (λ rows. (look : Look) (columns : ℕ) → AreFlatRows look columns self.entry → AreFlatRows look columns rows) }
-        ensures empty { IfOk result (λ rows. HasEmptyRow widths.now rows) }
+        ensures empty { IfOk result (λ rows. MatchOption rows.empty ⊤ (IsEmptyRow rows widths.now shades.now)) }
         ensures made { IfOk result (λ rows. rows.fill ≡ 0x20 → rows.fill_color ≡ None → IsSome rows.empty) }
     {
         let mut rows = self;
-        rows.empty = rows.empty_row(alloc, widths)?;
+        rows.empty = rows.empty_row(alloc, widths, shades)?;
         Ok(rows)
     }
 
     // The line of a row of empty cells.
-    fn empty_row(&self, alloc: Global, widths: &[usize]) -> Result<Option<EmptyRow>, AllocError>
-        ensures row { IfOk result (λ row. MatchOption row ⊤ (IsEmptyRow self.now widths.now)) }
+    fn empty_row(
+        &self,
+        alloc: Global,
+        widths: &[usize],
+        shades: &[usize],
+    ) -> Result<Option<EmptyRow>, AllocError>
+        ensures row { IfOk result (λ row. MatchOption row ⊤ (IsEmptyRow self.now widths.now shades.now)) }
         ensures made { IfOk result (λ row. self.now.fill ≡ 0x20 → self.now.fill_color ≡ None → IsSome row) }
     {
         if self.fill != ' ' || self.fill_color.is_some() {
             return Ok(None);
         }
-        let line = self.empty_line(alloc, widths)?;
+        let line = self.empty_line(alloc, widths, shades)?;
         let rest = line.len() - self.front.len();
-        let rooms = self.rooms(alloc, widths, rest)?;
+        let rooms = self.rooms(alloc, widths, shades, rest)?;
         Ok(Some(EmptyRow { line, rooms }))
     }
 
     // Its bytes.
-    fn empty_line(&self, alloc: Global, widths: &[usize]) -> Result<String, AllocError>
-        ensures { IfOk result (λ line. string_bytes line ≡ string_bytes self.now.front ++ empty_from (joints_of self.now) (length widths.now) 0 widths.now) }
+    fn empty_line(
+        &self,
+        alloc: Global,
+        widths: &[usize],
+        shades: &[usize],
+    ) -> Result<String, AllocError>
+        ensures { IfOk result (λ line. string_bytes line ≡ string_bytes self.now.front ++ empty_from (joints_of self.now) shades.now (length widths.now) 0 widths.now) }
     {
         let mut line = String::new(alloc);
         line.push_str(&self.front)?;
         for j in 0..widths.len() {
             let room = self.room(widths[j]);
+            push_repeated(&mut line, ' ', number_at(shades, j))?;
             self.behind(j, widths.len()).push_behind(&mut line, room)?;
         }
         Ok(line)
@@ -143,16 +160,17 @@ impl<'a> FlatRows<'a> {
         &self,
         alloc: Global,
         widths: &[usize],
+        shades: &[usize],
         mut rest: usize,
     ) -> Result<Vec<Room>, AllocError>
-        requires { rest ≡ length (empty_from (joints_of self.now) (length widths.now) 0 widths.now) }
-        ensures { IfOk result (λ rooms. rooms.items ≡ rooms_from (joints_of self.now) (length widths.now) 0 widths.now) }
+        requires { rest ≡ length (empty_from (joints_of self.now) shades.now (length widths.now) 0 widths.now) }
+        ensures { IfOk result (λ rooms. rooms.items ≡ rooms_from (joints_of self.now) shades.now (length widths.now) 0 widths.now) }
     {
         let mut rooms = Vec::new(alloc);
         for j in 0..widths.len() {
-            let width = self.room(widths[j]);
-            rooms.push(Room { width, rest })?;
-            rest = rest - width - self.behind(j, widths.len()).len();
+            let (width, shade) = (self.room(widths[j]), number_at(shades, j));
+            rooms.push(Room { width, shade, rest })?;
+            rest = rest - shade - width - self.behind(j, widths.len()).len();
         }
         Ok(rooms)
     }
@@ -227,8 +245,13 @@ impl<'a> FlatRows<'a> {
             ++ (placed (standing_of self.now ((look_of cfg.now).alignment_horizontal pos)) width measure widest (option_map color_of color.entry) line.now
             ++ behind_text self.now pos.col columns)) }
     {
-        let behind = self.behind(pos.col, columns);
-        self.push_placed(out, cfg, pos, width, measure, widest, color, line, behind)
+        let room = self.room(width);
+        let aligned = if self.line_alignment { measure } else { widest };
+        let indent = self.indent(cfg, pos, room.saturating_sub(aligned));
+        let rest = room.saturating_sub(indent).saturating_sub(measure);
+        push_fill(out, self.fill, indent, self.fill_color)?;
+        push_text(out, line, color)?;
+        self.push_rest(out, rest, self.behind(pos.col, columns))
     }
 
     /// Appends the boundary before the column of this cell, one of `columns`, and the line of its text with this
@@ -250,17 +273,13 @@ impl<'a> FlatRows<'a> {
         let lines = &cell.lines;
         let (measure, widest) = (lines.width(k), lines.widest());
         out.push_str(self.head_of(cell.pos.col))?;
-        self.push_placed(
-            out,
-            cfg,
-            cell.pos,
-            cell.width,
-            measure,
-            widest,
-            cell.color,
-            lines.text(k),
-            &self.tail,
-        )
+        let room = self.room(cell.width);
+        let shown = if self.line_alignment { measure } else { widest };
+        let before = self.indent(cfg, cell.pos, room.saturating_sub(shown));
+        let free = room.saturating_sub(before).saturating_sub(measure);
+        push_fill(out, self.fill, before, self.fill_color)?;
+        push_text(out, lines.text(k), cell.color)?;
+        self.push_rest(out, free, &self.tail)
     }
 
     // What stands before a text in this column, where its cell is appended alone.
@@ -275,35 +294,6 @@ impl<'a> FlatRows<'a> {
         }
     }
 
-    // Appends a line that measures `measure` to a column that is `width` wide, by the alignment of its cell,
-    // and what stands after it; `widest` is what the widest line of the cell measures.
-    #[inline(always)]
-    fn push_placed(
-        &self,
-        out: &mut String,
-        cfg: &SpannedConfig,
-        pos: Position,
-        width: usize,
-        measure: usize,
-        widest: usize,
-        color: Option<ANSIStr<'_>>,
-        line: &str,
-        behind: &Spaced,
-    ) -> Result<(), AllocError>
-        requires { (columns : ℕ) × AreFlatRows (look_of cfg.now) columns self.now }
-        ensures { OnOk result (string_bytes out.new ≡ string_bytes out.old
-            ++ (placed (standing_of self.now ((look_of cfg.now).alignment_horizontal pos)) width measure widest (option_map color_of color.entry) line.now
-            ++ spaced_text behind.now)) }
-    {
-        let room = self.room(width);
-        let aligned = if self.line_alignment { measure } else { widest };
-        let indent = self.indent(cfg, pos, room.saturating_sub(aligned));
-        let rest = room.saturating_sub(indent).saturating_sub(measure);
-        push_fill(out, self.fill, indent, self.fill_color)?;
-        push_text(out, line, color)?;
-        self.push_rest(out, rest, behind)
-    }
-
     // Appends what is free after a text, and what stands after that.
     #[inline(always)]
     fn push_rest(&self, out: &mut String, rest: usize, behind: &Spaced) -> Result<(), AllocError>
@@ -314,6 +304,16 @@ impl<'a> FlatRows<'a> {
         }
         push_fill(out, self.fill, rest, self.fill_color)?;
         behind.push_behind(out, 0)
+    }
+}
+
+// The number at this place, and 0 after the last.
+fn number_at(numbers: &[usize], index: usize) -> usize
+    ensures { result ≡ slice_index numbers.now index }
+{
+    match numbers.get(index) {
+        Some(number) => *number,
+        None => 0,
     }
 }
 

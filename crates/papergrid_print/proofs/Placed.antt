@@ -1,18 +1,25 @@
 -- Texts in their columns show what the picture shows, where all cells of a table have the same settings but for their
 -- alignment.
-use Rattle.std.proofs.Common.{◌≡◌, ℕ, ◌+◌, ◌<◌, List, ◌++◌, Option, drop, get_or, length, refl, ap, subst, ◌∙◌, append_assoc}
-use Rattle.std.specs.Prelude.{slice_index}
+use Rattle.std.proofs.Common.{◌≡◌, ℕ, ◌+◌, ◌-◌, ◌<◌, ◌≤◌, List, ◌++◌, Option, None, Some, drop, get_or, length, refl, ap, subst, sym, ◌∙◌, append_assoc}
+use Rattle.std.specs.Prelude.{⊤, MatchOption, slice_index}
+use Rattle.std.specs.List.{replace_range}
 use Rattle.grid_config.specs.Colors.{Color}
+use Rattle.grid_config_values.specs.declared.alignment.AlignmentHorizontal.{AlignmentHorizontal}
 use Rattle.grid_config_values.specs.declared.position.Position.{Position}
 use Rattle.grid_config.specs.Looks.{look_of}
 use Rattle.grid_records_traits.specs.Cells.{HasLineCount, HasWidth, IsLineAt}
+use Rattle.grid_records_traits.specs.PlainRows.{IsPlainText}
 use Rattle.grid_records_traits.specs.Rows.{text_at}
-use Rattle.papergrid_picture.specs.Blocks.{greatest}
+use Rattle.papergrid_picture.specs.Blocks.{free_left, greatest}
 use Rattle.papergrid_picture.specs.Picture.{at}
-use Rattle.papergrid_cells.specs.Flat.{AreFlat, AreFlatRows, Standing, empty_from, joint_behind, joints_of, placed, standing_of}
+use Rattle.papergrid_cells.specs.Flat.{AreFlat, AreFlatRows, IsEmptyRow, IsSomeEmptyRow, Standing, empty_from, joint_behind, joints_of, placed, standing_of}
+use Rattle.papergrid_cells.specs.Painting.{colored, fill_bytes}
+use Rattle.papergrid_cells.specs.declared.empty_row.EmptyRow.{EmptyRow}
+use Rattle.papergrid_cells.specs.declared.empty_row.Room.{Room}
 use Rattle.papergrid_cells.specs.declared.flat.FlatRows.{FlatRows}
-use Rattle.papergrid_print.specs.FlatSheets.{first_placed, row_front}
+use Rattle.papergrid_print.specs.FlatSheets.{HasRoom, IsWritten, first_placed, row_front}
 use Rattle.papergrid_print.specs.Sheets.{Sheet, bytes_of, grid_of}
+use Rattle.papergrid_cells.proofs.EmptyRows.{placed-plain, text-over}
 use Rattle.papergrid_print.proofs.Flat.{flat-more, line-is, measured, one-width, widest-is}
 
 -- ---- a text that is its own first line, in its column
@@ -33,28 +40,56 @@ module _ (sheet : Sheet) (flat : AreFlat sheet.settings) (pos : Position) (stand
       ∙ (ap (λ n. placed stands column (slice_index measures 0) n color line) (widest-is sheet flat pos width own_width)
       ∙ ap (λ c. placed stands column (slice_index measures 0) (greatest measures) c line) shade))
 
+-- ---- such a text over its room
+
+module _ (sheet : Sheet) (flat : AreFlat sheet.settings) (rows : FlatRows) (pos : Position) (room : Room) (start : ℕ) (bytes : List ℕ) (has : HasRoom sheet rows pos room start bytes) where
+  abbrev alignment_own : AlignmentHorizontal
+  alignment_own = (look_of sheet.settings).alignment_horizontal pos
+
+  pub cell-shown : (text : List ℕ) (width indent : ℕ) (color : Option Color) → text ≡ text_at sheet.rows pos → IsPlainText text width → color ≡ sheet.colors pos
+      → indent ≡ free_left alignment_own (room.width - width)
+      → fill_bytes 0x20 indent ++ (colored color text ++ fill_bytes 0x20 (room.width - indent - width)) ≡ first_placed sheet (standing_of rows alignment_own) pos
+  cell-shown text width indent color own plain shade is =
+      ap (λ n. fill_bytes 0x20 n ++ (colored color text ++ fill_bytes 0x20 (room.width - n - width))) is
+      ∙ (ap (λ n. fill_bytes 0x20 (free_left alignment_own (n - width)) ++ (colored color text ++ fill_bytes 0x20 (n - free_left alignment_own (n - width) - width))) has.width
+      ∙ (sym (placed-plain rows alignment_own has.fill has.color (slice_index sheet.widths pos.col) width color text)
+      ∙ plain-placed sheet flat pos (standing_of rows alignment_own) text width color own plain.0 plain.1 plain.2 shade))
+
+  -- what stands there once the text is written
+  pub cell-written : (text : List ℕ) (width indent : ℕ) (color : Option Color) → text ≡ text_at sheet.rows pos → IsPlainText text width → color ≡ sheet.colors pos
+      → width ≤ room.width → indent ≡ free_left alignment_own (room.width - width) → length (colored color text) ≡ room.shade + width
+      → {new : List ℕ} → new ≡ replace_range bytes (start + indent) (start + indent + length (colored color text)) (colored color text)
+      → IsWritten sheet rows pos room start bytes new
+  cell-written text width indent color own plain shade fits is takes written = λ spaces.
+      written
+      ∙ (text-over bytes start room.shade room.width spaces alignment_own width fits indent is (length (colored color text)) takes (colored color text)
+      ∙ ap (λ l. spaces.before ++ (l ++ spaces.after)) (cell-shown text width indent color own plain shade is))
+
 -- ---- the line of a row of empty cells
 
+-- that for some colours is one
+pub some-empty : (rows : FlatRows) (widths shades : List ℕ) (made : Option EmptyRow) → MatchOption made ⊤ (IsEmptyRow rows widths shades) → MatchOption made ⊤ (IsSomeEmptyRow rows widths)
+some-empty rows widths shades None is = is
+some-empty rows widths shades (Some empty) is = (shades, is)
+
 -- one column more: a text is written over its room
-module _ (sheet : Sheet) (flat : AreFlat sheet.settings) (rows : FlatRows) (are : AreFlatRows (look_of sheet.settings) (length sheet.widths) rows) (i j : ℕ) (begin : List ℕ) where
+module _ (sheet : Sheet) (flat : AreFlat sheet.settings) (rows : FlatRows) (are : AreFlatRows (look_of sheet.settings) (length sheet.widths) rows) (shades : List ℕ) (i j : ℕ) (begin : List ℕ) where
   abbrev stands_own : Standing
   stands_own = standing_of rows ((look_of sheet.settings).alignment_horizontal (at i j))
 
   abbrev behind_front : ℕ → List ℕ
-  behind_front k = empty_from (joints_of rows) (length sheet.widths) k (drop k sheet.widths)
+  behind_front k = empty_from (joints_of rows) shades (length sheet.widths) k (drop k sheet.widths)
 
-  pub written-more : {new : List ℕ} (shown : List ℕ) → i < length sheet.heights → j < length sheet.widths → get_or sheet.heights i 0 ≡ 1
-      → shown ≡ first_placed sheet stands_own (at i j)
-      → new ≡ (begin ++ row_front sheet i j) ++ (shown ++ (joint_behind (joints_of rows) j (length sheet.widths) ++ behind_front (j + 1)))
+  pub written-more : {new : List ℕ} → i < length sheet.heights → j < length sheet.widths → get_or sheet.heights i 0 ≡ 1
+      → new ≡ (begin ++ row_front sheet i j) ++ (first_placed sheet stands_own (at i j) ++ (joint_behind (joints_of rows) j (length sheet.widths) ++ behind_front (j + 1)))
       → new ≡ (begin ++ row_front sheet i (j + 1)) ++ behind_front (j + 1)
-  written-more {new} shown row column high is made =
+  written-more {new} row column high made =
       let front = begin ++ row_front sheet i j in
       let joint = joint_behind (joints_of rows) j (length sheet.widths) in
       let placed_text = first_placed sheet stands_own (at i j) in
       made
-      ∙ (ap (λ l. front ++ (l ++ (joint ++ behind_front (j + 1)))) is
       ∙ (regroup front placed_text joint (behind_front (j + 1))
-      ∙ ap (λ l. l ++ behind_front (j + 1)) (flat-more sheet flat i j rows begin row column high are refl refl refl)))
+      ∙ ap (λ l. l ++ behind_front (j + 1)) (flat-more sheet flat i j rows begin row column high are refl refl refl))
     where
       regroup : (a b c d : List ℕ) → a ++ (b ++ (c ++ d)) ≡ ((a ++ b) ++ c) ++ d
       regroup a b c d = simp append_assoc

@@ -18,7 +18,7 @@ ghost use Rattle.grid_records_traits.specs.Rows.{text_at};
 ghost use Rattle.papergrid_cells.specs.BlockLines.{alone_bytes};
 ghost use Rattle.papergrid_cells.specs.Boundaries.{upright_bytes};
 ghost use Rattle.papergrid_cells.specs.Flat.{AreFlat, AreFlatRows, AreMadeFor, HasEmptyRow, behind_text, standing_of};
-ghost use Rattle.papergrid_print.specs.FlatSheets.{IsBetween, first_placed};
+ghost use Rattle.papergrid_print.specs.FlatSheets.{IsBetween, first_placed, shades_in};
 ghost use Rattle.papergrid_cells.specs.Painting.{colored, fill_bytes, glyph_part};
 ghost use Rattle.papergrid_print.specs.Seen.{AreSeen, AreSeenAbove, AreSeenOn};
 ghost use Rattle.papergrid_print.specs.Sheets.{GoesOn, IsOpen, IsPrintable, ShowsCell, bytes_of, grid_of, feed_before, line_at, lines_of, place_line, plain_bytes, row_tracks, table_sheet};
@@ -31,8 +31,9 @@ use grid_config::{ANSIBuf, SpannedConfig};
 use grid_config_values::{Indent, Position};
 use grid_records_traits::PeekableRecords;
 use papergrid_cells::{
-    BlockLine, FlatRows, GlyphRun, OpenCell, are_flat, block_line, push_along, push_behind,
-    push_blank, push_block_line, push_corner, push_glyphs, push_indent, push_upright, read_cell,
+    BlockLine, FlatRows, GlyphRun, OpenCell, are_flat, block_line, color_len, push_along,
+    push_behind, push_blank, push_block_line, push_corner, push_glyphs, push_indent, push_upright,
+    read_cell,
 };
 use std::alloc::{AllocError, Global};
 
@@ -354,7 +355,21 @@ impl<'a, R: PeekableRecords, C: Colors> Table<'a, R, C> {
         if self.heights.len() < MANY_ROWS {
             return Ok(Some(rows));
         }
-        Ok(Some(rows.with_empty_row(alloc, self.widths)?))
+        let shades = self.shades(alloc)?;
+        Ok(Some(rows.with_empty_row(alloc, self.widths, &shades)?))
+    }
+
+    // How many bytes the colour of each column takes, by its cell in the second row: the first is often a
+    // heading in a colour of its own.
+    fn shades(&self, alloc: Global) -> Result<Vec<usize>, AllocError>
+        ensures { IfOk result (λ shades. shades.items ≡ shades_in (C.color self.now.colors.now) 1 (length self.now.widths.now)) }
+    {
+        let mut shades = Vec::new(alloc);
+        for j in 0..self.widths.len() {
+            let color = self.colors.get_color(Position::new(1, j));
+            shades.push(color_len(color))?;
+        }
+        Ok(shades)
     }
 
     // Appends the first line of the cell at this place, and what stands after it.

@@ -1,18 +1,21 @@
 //! The line of a row of cells that are each one line, which is its whole text.
-ghost use Rattle.std.specs.Prelude.{◌≡◌, ◌++◌, ◌<◌, ◌≤◌, IfOk, OnOk, length, slice_index, string_bytes};
+ghost use Rattle.std.specs.Prelude.{◌≡◌, ◌++◌, ◌<◌, ◌≤◌, IfOk, OnOk, Some, false, length, slice_index, string_bytes, true};
+ghost use Rattle.grid_config.specs.Colors.{color_of};
 ghost use Rattle.grid_config.specs.Looks.{look_of};
+ghost use Rattle.grid_records_traits.specs.PlainRows.{IsPlainText};
 ghost use Rattle.grid_records_traits.specs.PlainTexts.{plain_texts};
-ghost use Rattle.grid_records_traits.specs.Rows.{row_at};
+ghost use Rattle.grid_records_traits.specs.Rows.{row_at, text_at};
 ghost use Rattle.papergrid_picture.specs.Frame.{Row, track_at};
-ghost use Rattle.papergrid_cells.specs.Flat.{AreFlat, AreFlatRows, HasEmptyRow, IsEmptyRow};
-ghost use Rattle.papergrid_print.specs.FlatSheets.{row_front};
+ghost use Rattle.papergrid_cells.specs.Flat.{AreFlat, AreFlatRows, HasEmptyRow, IsSomeEmptyRow};
+ghost use Rattle.papergrid_print.specs.FlatSheets.{HasRoom, IsWritten, row_front};
 ghost use Rattle.papergrid_print.specs.Sheets.{line_at, row_tracks, table_sheet};
 
 use super::Table;
 use crate::colors::Colors;
+use grid_config::ANSIStr;
 use grid_config_values::Position;
-use grid_records_traits::{PeekableRecords, PlainRow};
-use papergrid_cells::{EmptyRow, FlatRows, write_over};
+use grid_records_traits::{PeekableRecords, PlainCell, PlainRow};
+use papergrid_cells::{EmptyRow, FlatRows, Room, shade_of, write_colored, write_over};
 use std::alloc::AllocError;
 
 impl<'a, R: PeekableRecords, C: Colors> Table<'a, R, C> {
@@ -77,7 +80,7 @@ impl<'a, R: PeekableRecords, C: Colors> Table<'a, R, C> {
     }
 
     // The same by the line of a row of empty cells: each text is written over its room there, up to the
-    // first that is in a colour, takes other than its bytes, or has no room.
+    // first that takes other than its bytes, or has no room, or none for its colour alone.
     #[inline(always)]
     fn push_over(
         &self,
@@ -93,7 +96,7 @@ impl<'a, R: PeekableRecords, C: Colors> Table<'a, R, C> {
         requires high { slice_index self.now.heights.now i ≡ 1 }
         requires columns { 0 < length self.now.widths.now }
         requires cells { plain_texts cells ≡ row_at (R.rows self.now.records.now) i }
-        requires empty { IsEmptyRow flat.now self.now.widths.now empty.now }
+        requires empty { IsSomeEmptyRow flat.now self.now.widths.now empty.now }
         ensures front { IfOk result (λ column. string_bytes out.new ≡ string_bytes out.old ++ row_front (table_sheet R.rows C.color self.now) i column) }
         ensures inside { IfOk result (λ column. column ≤ length self.now.widths.now) }
     {
@@ -101,17 +104,75 @@ impl<'a, R: PeekableRecords, C: Colors> Table<'a, R, C> {
         let columns = self.widths.len();
         for j in 0..columns {
             let (cell, room) = (cells.cell(j), empty.rooms[j]);
-            let pos = Position::new(i, j);
-            let color = self.colors.get_color(pos);
             let start = out.len() - room.rest;
-            let width = cell.text.len();
-            if color.is_some() || cell.width != width || room.width < width {
+            if !self.write_cell(out, flat, cell, room, start, Position::new(i, j))? {
                 out.truncate(start);
                 return Ok(j);
             }
-            let indent = flat.indent(self.cfg, pos, room.width - width);
-            write_over(out, start + indent, cell.text)?;
         }
         Ok(columns)
+    }
+
+    // Writes the text of this cell over its room, which begins at `start`, where it takes its bytes, has room,
+    // and its colour takes as many bytes as are kept for one. Says whether it did.
+    #[inline(always)]
+    fn write_cell(
+        &self,
+        out: &mut String,
+        flat: &FlatRows<'a>,
+        cell: PlainCell<'_>,
+        room: Room,
+        start: usize,
+        pos: Position,
+    ) -> Result<bool, AllocError>
+        requires flat { AreFlat self.now.cfg.now }
+        requires made { AreFlatRows (look_of self.now.cfg.now) (length self.now.widths.now) flat.now }
+        requires text { cell.text.now ≡ text_at (R.rows self.now.records.now) pos }
+        requires plain { IsPlainText cell.text.now cell.width }
+        requires room { HasRoom (table_sheet R.rows C.color self.now) flat.now pos room start (string_bytes out.old) }
+        ensures written { IfOk result (λ written. written ≡ true → IsWritten (table_sheet R.rows C.color self.now) flat.now pos room start (string_bytes out.old) (string_bytes out.new)) }
+        ensures stays { IfOk result (λ written. written ≡ false → string_bytes out.new ≡ string_bytes out.old) }
+    {
+        if let Some(color) = self.colors.get_color(pos) {
+            return self.write_colored_cell(out, flat, cell, room, start, pos, color);
+        }
+        let width = cell.text.len();
+        if room.shade != 0 || cell.width != width || room.width < width {
+            return Ok(false);
+        }
+        let indent = flat.indent(self.cfg, pos, room.width - width);
+        write_over(out, start + indent, cell.text)?;
+        Ok(true)
+    }
+
+    // The same where the cell has this colour.
+    #[inline(always)]
+    fn write_colored_cell(
+        &self,
+        out: &mut String,
+        flat: &FlatRows<'a>,
+        cell: PlainCell<'_>,
+        room: Room,
+        start: usize,
+        pos: Position,
+        color: ANSIStr<'_>,
+    ) -> Result<bool, AllocError>
+        requires flat { AreFlat self.now.cfg.now }
+        requires made { AreFlatRows (look_of self.now.cfg.now) (length self.now.widths.now) flat.now }
+        requires text { cell.text.now ≡ text_at (R.rows self.now.records.now) pos }
+        requires plain { IsPlainText cell.text.now cell.width }
+        requires color { Some (color_of color) ≡ C.color self.now.colors.now pos }
+        requires room { HasRoom (table_sheet R.rows C.color self.now) flat.now pos room start (string_bytes out.old) }
+        ensures written { IfOk result (λ written. written ≡ true → IsWritten (table_sheet R.rows C.color self.now) flat.now pos room start (string_bytes out.old) (string_bytes out.new)) }
+        ensures stays { IfOk result (λ written. written ≡ false → string_bytes out.new ≡ string_bytes out.old) }
+    {
+        let width = cell.text.len();
+        let shade = shade_of(color, cell.text);
+        if room.shade != shade || cell.width != width || room.width < width {
+            return Ok(false);
+        }
+        let before = flat.indent(self.cfg, pos, room.width - width);
+        write_colored(out, start + before, cell.text, color)?;
+        Ok(true)
     }
 }
