@@ -8,23 +8,27 @@ PREFIX ?= /usr/local
 
 # A run asks only whether anything is newer than the program; what else is made of them names all source files, and the
 # tests that are refused memory, as programs.
-ifneq ($(filter-out run help,$(or $(MAKECMDGOALS),run)),)
+ifneq ($(filter-out run show help,$(or $(MAKECMDGOALS),run)),)
 SOURCES := $(shell tools/sources)
 TESTS := $(foreach crate,$(shell sed 's/[ \#].*//' tests/memory/tests | sort -u),crates/$(crate)/out/$(crate)_tests)
 endif
 # The words of the program: `make run WORDS='--width 60'`.
 WORDS ?=
 # Standard input is taken as it comes and not opened anew.
+COMMA := ,
 FROM = $(if $(filter /dev/stdin -,$(INPUT)),,< '$(INPUT)')
 
 # No rule of make's own makes a source file; so it looks for none.
 MAKEFLAGS += --no-builtin-rules
 .NOTPARALLEL:
-.PHONY: run build built lib test check fmt bench soak attack install install-program install-library dist clean help
+.PHONY: run show build built lib test check fmt bench soak attack install install-program install-library dist clean help
 
 # Where the program is not built, this is a run of a minute that is checked, and not proved.
 run:                ## print the table of INPUT (INPUT=/dev/stdin reads standard input) as WORDS ask
 	@tools/try $(WORDS) $(FROM)
+
+show:               ## print INPUT, a CSV or TSV file, by basinmug, as WORDS ask
+	@PROGRAM=basinmug tools/try $(if $(filter %.csv,$(INPUT)),--delimiter '$(COMMA)') $(WORDS) $(FROM)
 
 build: $(PROGRAM) $(BASINMUG) ## prove and build both programs, which takes an hour at first
 

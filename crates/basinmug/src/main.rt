@@ -160,9 +160,13 @@ fn say(rt: &HostRuntime, line: Result<String, AllocError>) {
     };
 }
 
-// What is said of words that are at fault: it is said of the words as `visible` shows them, so that nothing in one moves
-// a terminal's cursor. Should these not be at fault, it is the text itself, in one line.
+// What is said of words that are at fault. What is said of a value names none, and is said as it is. The parser names
+// words, so it is said of the words as `visible` shows them, and nothing in one moves a terminal's cursor. Should these
+// not be at fault, it is the text itself, in one line.
 fn said_of(rt: &HostRuntime, words: &[String], text: &str) -> Result<String, AllocError> {
+    if !text.ends_with('\n') {
+        return String::from_str(rt.alloc(), text);
+    }
     let mut shown = Vec::new(rt.alloc());
     for word in words {
         shown.push(visible(rt.alloc(), word.as_str())?)?;

@@ -1,2 +1,3 @@
+mod Between
 mod Floors
 mod Sums

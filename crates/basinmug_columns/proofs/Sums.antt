@@ -10,7 +10,7 @@ use Rattle.tabled_size_priority.specs.declared.choice.Choice.{Choice}
 use Rattle.tabled_size_priority.specs.declared.choice.Choice.TheVariants.{None, MinLeft, MinRight, MaxLeft, MaxRight, Left, Right}
 use Rattle.basinmug_columns.specs.Rooms.{first_floor, first_floors, floors, least_room}
 
-shrunk-sum : (priority : Choice) (least : List ℕ) (by : ℕ) (widths sizes : List ℕ) → IsShrunkByChoice priority least by widths sizes → sum sizes ≡ shrunk_sum least widths by
+pub shrunk-sum : (priority : Choice) (least : List ℕ) (by : ℕ) (widths sizes : List ℕ) → IsShrunkByChoice priority least by widths sizes → sum sizes ≡ shrunk_sum least widths by
 shrunk-sum None least by widths sizes is = is.sums
 shrunk-sum MinLeft least by widths sizes is = is.sums
 shrunk-sum MinRight least by widths sizes is = is.sums

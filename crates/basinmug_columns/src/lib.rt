@@ -1,6 +1,7 @@
 //! Columns by what they are called, and the rooms that they have in a table that is to be narrower.
 #![tactic(auto)]
 
+mod laws;
 mod names;
 mod rooms;
 

@@ -2,6 +2,7 @@
 #![tactic(auto)]
 
 mod cutting;
+mod laws;
 mod wrapping;
 
 pub use cutting::cut_lines;

@@ -1,5 +1,5 @@
 -- The line of a row of empty cells, and what stands in it where texts are written over its rooms.
-use Rattle.std.proofs.Common.{◌≡◌, ℕ, zero, suc, ◌+◌, ◌-◌, ◌<◌, ◌≤◌, Bool, true, false, cond, List, [], ◌∷◌, ◌++◌, Option, None, Some, drop, take, get_or, length, refl, ap, sym, subst, ◌∙◌, arith, append_assoc, replicate, string_bytes}
+use Rattle.std.proofs.Common.{◌≡◌, ℕ, zero, suc, ◌+◌, ◌-◌, ◌<◌, ◌≤◌, Bool, true, false, cond, List, [], ◌∷◌, ◌++◌, Option, None, Some, drop, take, get_or, length, refl, ap, sym, subst, ◌∙◌, arith, append_assoc, string_bytes}
 use Rattle.std.specs.Prelude.{◌==◌}
 use Rattle.std.specs.List.{replace_range}
 use Rattle.std.specs.Option.{option_map}

@@ -7,6 +7,7 @@ mod extents;
 pub mod laws;
 mod lines;
 mod print;
+mod row_cells;
 mod seen;
 mod single;
 mod stop;

@@ -12,8 +12,8 @@ ghost use Rattle.papergrid_picture.specs.Picture.{boundary_part, parts_of, row_p
 ghost use Rattle.papergrid_picture.specs.Blocks.{Part};
 ghost use Rattle.papergrid_picture.specs.Reading.{line_items};
 ghost use Rattle.grid_config.specs.Looks.{look_of};
-ghost use Rattle.ansi_str.specs.StyledText.{has_escape};
-ghost use Rattle.grid_records_traits.specs.Cells.{HasLineCount, HasLineWidth, HasWidth};
+ghost use Rattle.grid_records_traits.specs.Cells.{HasLineWidth, HasWidth};
+ghost use Rattle.grid_records_traits.specs.PlainRows.{IsPlainText};
 ghost use Rattle.grid_records_traits.specs.Rows.{text_at};
 ghost use Rattle.papergrid_cells.specs.BlockLines.{alone_bytes};
 ghost use Rattle.papergrid_cells.specs.Boundaries.{upright_bytes};
@@ -25,11 +25,12 @@ ghost use Rattle.papergrid_print.specs.Sheets.{GoesOn, IsOpen, IsPrintable, Show
 
 use crate::colors::Colors;
 use crate::extents::{Axis, stretch, thickness};
+use crate::row_cells::RecordRow;
 use crate::seen::{SeenCell, kept_at};
 use ansi_str::AnsiStr;
 use grid_config::{ANSIBuf, SpannedConfig};
 use grid_config_values::{Indent, Position};
-use grid_records_traits::PeekableRecords;
+use grid_records_traits::{PeekableRecords, PlainCell};
 use papergrid_cells::{
     BlockLine, FlatRows, GlyphRun, OpenCell, are_flat, block_line, color_len, push_along,
     push_behind, push_blank, push_block_line, push_corner, push_glyphs, push_indent, push_upright,
@@ -390,12 +391,13 @@ impl<'a, R: PeekableRecords, C: Colors> Table<'a, R, C> {
         let (records, columns) = (self.records, self.widths.len());
         let width = self.widths[pos.col];
         let color = self.colors.get_color(pos);
-        let widest = records.get_width(pos);
-        if let Some(text) = plain_line(records, pos) {
+        if let Some(cell) = plain_line(records, pos) {
+            let measure = cell.width;
             return flat.push_line(
-                out, self.cfg, pos, columns, width, widest, widest, color, text,
+                out, self.cfg, pos, columns, width, measure, measure, color, cell.text,
             );
         }
+        let widest = records.get_width(pos);
         let measure = first_width(records, pos, widest);
         let line = records.get_line(alloc, pos, 0)?;
         flat.push_line(
@@ -423,8 +425,12 @@ impl<'a, R: PeekableRecords, C: Colors> Table<'a, R, C> {
             return self.push_plain_line(out, flat, cells, i);
         }
         let columns = self.widths.len();
-        out.push_str(flat.front())?;
-        for j in 0..columns {
+        let cells = RecordRow {
+            records: self.records,
+            row: i,
+        };
+        let first = self.push_front(out, flat, &cells, i)?;
+        for j in first..columns {
             self.push_first_line(alloc, out, flat, Position::new(i, j))?;
         }
         Ok(())
@@ -666,12 +672,14 @@ fn row_extent(cfg: &SpannedConfig, pos: Position) -> usize
     cfg.get_row_span(pos).unwrap_or(1)
 }
 
-// The text of the cell at this place, where it is one line without sequences.
-fn plain_line<R: PeekableRecords>(records: &R, pos: Position) -> Option<&str>
-    ensures text { IfSome result (λ text. text.now ≡ text_at (R.rows records.now) pos) }
-    ensures one { IfSome result (λ _. HasLineCount (text_at (R.rows records.now) pos) 1) }
-    ensures plain { IfSome result (λ text. has_escape text.now ≡ false) }
+// The cell at this place, where it is one line that is its whole text: it is known to be, or has no sequences.
+fn plain_line<R: PeekableRecords>(records: &R, pos: Position) -> Option<PlainCell<'_>>
+    ensures text { IfSome result (λ cell. cell.text.now ≡ text_at (R.rows records.now) pos) }
+    ensures plain { IfSome result (λ cell. IsPlainText cell.text.now cell.width) }
 {
+    if let Some(cell) = records.plain_cell(pos) {
+        return Some(cell);
+    }
     if records.count_lines(pos) != 1 {
         return None;
     }
@@ -679,7 +687,8 @@ fn plain_line<R: PeekableRecords>(records: &R, pos: Position) -> Option<&str>
     if text.ansi_has_any() {
         return None;
     }
-    Some(text)
+    let width = records.get_width(pos);
+    Some(PlainCell { text, width })
 }
 
 // How many columns the first line of the cell at this place takes, whose widest takes `widest`.

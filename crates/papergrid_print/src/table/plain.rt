@@ -1,5 +1,5 @@
-//! The line of a row of cells that are each one line, which is its whole text.
-ghost use Rattle.std.specs.Prelude.{◌≡◌, ◌++◌, ◌<◌, ◌≤◌, IfOk, OnOk, Some, false, length, slice_index, string_bytes, true};
+//! The line of a row whose cells are each one line, which is its whole text, or the first of them are.
+ghost use Rattle.std.specs.Prelude.{◌≡◌, ◌++◌, ◌<◌, ◌≤◌, IfOk, IfSome, OnOk, Some, false, length, slice_index, string_bytes, true};
 ghost use Rattle.grid_config.specs.Colors.{color_of};
 ghost use Rattle.grid_config.specs.Looks.{look_of};
 ghost use Rattle.grid_records_traits.specs.PlainRows.{IsPlainText};
@@ -12,6 +12,7 @@ ghost use Rattle.papergrid_print.specs.Sheets.{line_at, row_tracks, table_sheet}
 
 use super::Table;
 use crate::colors::Colors;
+use crate::row_cells::RowCells;
 use grid_config::ANSIStr;
 use grid_config_values::Position;
 use grid_records_traits::{PeekableRecords, PlainCell, PlainRow};
@@ -38,7 +39,7 @@ impl<'a, R: PeekableRecords, C: Colors> Table<'a, R, C> {
         ensures { OnOk result (string_bytes out.new ≡ string_bytes out.old ++ line_at (table_sheet R.rows C.color self.now) (Row i) (track_at (row_tracks (table_sheet R.rows C.color self.now)) i)) }
     {
         let columns = self.widths.len();
-        let first = self.push_front(out, flat, cells, i)?;
+        let first = self.push_front(out, flat, &cells, i)?;
         for j in first..columns {
             let (cell, pos) = (cells.cell(j), Position::new(i, j));
             let (width, measure) = (self.widths[j], cell.width);
@@ -50,14 +51,14 @@ impl<'a, R: PeekableRecords, C: Colors> Table<'a, R, C> {
         Ok(())
     }
 
-    // Appends what stands before the text in the column that is returned, or the line, where that is the
-    // number of columns.
+    /// Appends what stands before the text in the column that is returned, or the line, where that is the
+    /// number of columns.
     #[inline(always)]
-    fn push_front(
+    pub(super) fn push_front<K: RowCells>(
         &self,
         out: &mut String,
         flat: &FlatRows<'a>,
-        cells: PlainRow<'_>,
+        cells: &K,
         i: usize,
     ) -> Result<usize, AllocError>
         requires flat { AreFlat self.now.cfg.now }
@@ -65,7 +66,7 @@ impl<'a, R: PeekableRecords, C: Colors> Table<'a, R, C> {
         requires row { i < length self.now.heights.now }
         requires high { slice_index self.now.heights.now i ≡ 1 }
         requires columns { 0 < length self.now.widths.now }
-        requires cells { plain_texts cells ≡ row_at (R.rows self.now.records.now) i }
+        requires cells { K.texts cells.now ≡ row_at (R.rows self.now.records.now) i }
         requires empty { HasEmptyRow self.now.widths.now flat.now }
         ensures front { IfOk result (λ column. string_bytes out.new ≡ string_bytes out.old ++ row_front (table_sheet R.rows C.color self.now) i column) }
         ensures inside { IfOk result (λ column. column ≤ length self.now.widths.now) }
@@ -79,15 +80,16 @@ impl<'a, R: PeekableRecords, C: Colors> Table<'a, R, C> {
         }
     }
 
-    // The same by the line of a row of empty cells: each text is written over its room there, up to the
-    // first that takes other than its bytes, or has no room, or none for its colour alone.
+    // The same by the line of a row of empty cells: each text is written over its room there, up to the first
+    // that is not known to be one line, takes other than its bytes, or has no room, or none for its colour
+    // alone.
     #[inline(always)]
-    fn push_over(
+    fn push_over<K: RowCells>(
         &self,
         out: &mut String,
         flat: &FlatRows<'a>,
         empty: &EmptyRow,
-        cells: PlainRow<'_>,
+        cells: &K,
         i: usize,
     ) -> Result<usize, AllocError>
         requires flat { AreFlat self.now.cfg.now }
@@ -95,7 +97,7 @@ impl<'a, R: PeekableRecords, C: Colors> Table<'a, R, C> {
         requires row { i < length self.now.heights.now }
         requires high { slice_index self.now.heights.now i ≡ 1 }
         requires columns { 0 < length self.now.widths.now }
-        requires cells { plain_texts cells ≡ row_at (R.rows self.now.records.now) i }
+        requires cells { K.texts cells.now ≡ row_at (R.rows self.now.records.now) i }
         requires empty { IsSomeEmptyRow flat.now self.now.widths.now empty.now }
         ensures front { IfOk result (λ column. string_bytes out.new ≡ string_bytes out.old ++ row_front (table_sheet R.rows C.color self.now) i column) }
         ensures inside { IfOk result (λ column. column ≤ length self.now.widths.now) }
@@ -113,26 +115,29 @@ impl<'a, R: PeekableRecords, C: Colors> Table<'a, R, C> {
         Ok(columns)
     }
 
-    // Writes the text of this cell over its room, which begins at `start`, where it takes its bytes, has room,
-    // and its colour takes as many bytes as are kept for one. Says whether it did.
+    // Writes the text of this cell over its room, which begins at `start`, where the cell is known, takes its
+    // bytes, has room, and its colour takes as many bytes as are kept for one. Says whether it did.
     #[inline(always)]
     fn write_cell(
         &self,
         out: &mut String,
         flat: &FlatRows<'a>,
-        cell: PlainCell<'_>,
+        cell: Option<PlainCell<'_>>,
         room: Room,
         start: usize,
         pos: Position,
     ) -> Result<bool, AllocError>
         requires flat { AreFlat self.now.cfg.now }
         requires made { AreFlatRows (look_of self.now.cfg.now) (length self.now.widths.now) flat.now }
-        requires text { cell.text.now ≡ text_at (R.rows self.now.records.now) pos }
-        requires plain { IsPlainText cell.text.now cell.width }
+        requires text { IfSome cell (λ cell. cell.text.now ≡ text_at (R.rows self.now.records.now) pos) }
+        requires plain { IfSome cell (λ cell. IsPlainText cell.text.now cell.width) }
         requires room { HasRoom (table_sheet R.rows C.color self.now) flat.now pos room start (string_bytes out.old) }
         ensures written { IfOk result (λ written. written ≡ true → IsWritten (table_sheet R.rows C.color self.now) flat.now pos room start (string_bytes out.old) (string_bytes out.new)) }
         ensures stays { IfOk result (λ written. written ≡ false → string_bytes out.new ≡ string_bytes out.old) }
     {
+        let Some(cell) = cell else {
+            return Ok(false);
+        };
         if let Some(color) = self.colors.get_color(pos) {
             return self.write_colored_cell(out, flat, cell, room, start, pos, color);
         }

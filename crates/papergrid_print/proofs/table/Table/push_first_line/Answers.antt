@@ -1,17 +1,14 @@
-use Rattle.std.proofs.Common.{◌++◌, ℕ, List, get_or, length, string_bytes, ap, sym, subst, ◌∙◌}
+use Rattle.std.proofs.Common.{◌++◌, get_or, length, string_bytes, ap, ◌∙◌}
 use Rattle.std.proofs.lemmas.Result.{on_ok_weaker}
 use Rattle.std.specs.Option.{option_map}
 use Rattle.std.specs.Cow.{cow_str_bytes}
 use Rattle.grid_config.specs.Colors.{color_of}
 use Rattle.grid_config.specs.Looks.{look_of}
-use Rattle.grid_records_traits.specs.Cells.{HasLineCount, HasWidth}
-use Rattle.grid_records_traits.specs.Rows.{text_at}
 use Rattle.papergrid_picture.specs.Blocks.{greatest}
 use Rattle.papergrid_cells.specs.Flat.{behind_text, placed, standing_of}
 use Rattle.papergrid_print.specs.Sheets.{bytes_of, grid_of, table_sheet}
 use Rattle.std.specs.Prelude.{slice_index}
 use Rattle.papergrid_print.proofs.Flat.{line-is, measured, widest-is}
-use Rattle.papergrid_cells.proofs.PlainLines.{plain-line}
 use Rattle.papergrid_print.proofs.Placed.{plain-placed}
 use Rattle.papergrid_print.proofs.table.Table.push_first_line.Goals as goal
 
@@ -38,14 +35,11 @@ returns-in-Some g c =
     let pos = c.args.pos in
     let out = string_bytes c.args.out.now in
     let behind = behind_text c.args.flat.now pos.col (length c.args.self.now.widths.now) in
-    let widest = c.get_width-widest.result in
     let color = option_map color_of c.get_color-color.result in
     let stands = standing_of c.args.flat.now ((look_of c.args.self.now.cfg.now).alignment_horizontal pos) in
-    let own = text_at sheet.rows pos in
-    let same = c.in-Some.ensures.text in
-    let counted : HasLineCount c.in-Some.text.now 1 = subst (λ (t : List ℕ). HasLineCount t 1) (sym same) c.in-Some.ensures.one in
-    let has : HasWidth c.in-Some.text.now widest = subst (λ (t : List ℕ). HasWidth t widest) (sym same) c.get_width-widest.ensures in
+    let cell = c.in-Some.cell in
+    let plain = c.in-Some.ensures.plain in
     on_ok_weaker c.push_line.result
     (λ last. last
-    ∙ ap (λ shown. out ++ (shown ++ behind)) (plain-placed sheet c.requires.flat pos stands c.in-Some.text.now widest color same counted has (plain-line c.in-Some.text.now c.in-Some.ensures.plain counted) c.get_color-color.ensures))
+    ∙ ap (λ shown. out ++ (shown ++ behind)) (plain-placed sheet c.requires.flat pos stands cell.text.now cell.width color c.in-Some.ensures.text plain.0 plain.1 plain.2 c.get_color-color.ensures))
     c.push_line.ensures

@@ -5,13 +5,11 @@ use Rattle.papergrid_cells.specs.Flat.{Standing, behind_text, standing_of}
 use Rattle.papergrid_print.specs.FlatSheets.{first_placed}
 use Rattle.papergrid_picture.specs.Picture.{at}
 use Rattle.papergrid_print.specs.Sheets.{table_sheet}
-use Rattle.papergrid_print.proofs.Flat.{flat-begins, flat-ends, flat-more}
+use Rattle.papergrid_print.proofs.Flat.{flat-ends, flat-more}
 use Rattle.papergrid_print.proofs.table.Table.push_flat_line.Goals as goal
 
 pub loop-j-init : goal.loop-j-init
-loop-j-init g c =
-    let sheet = (table_sheet g.R.RecordTexts.rows g.C.Colors.color c.args.self.now) in
-    c.in_ok-push_str.ensures.bytes ∙ ap (λ l. string_bytes c.args.out.now ++ l) (c.front.ensures ∙ flat-begins sheet c.args.i c.args.flat.now c.requires.columns c.requires.made)
+loop-j-init g c = c.in_ok-first.ensures.front
 
 pub loop-j-preserved : goal.loop-j-preserved
 loop-j-preserved g c =
@@ -27,5 +25,5 @@ loop-j-preserved g c =
 pub returns : goal.returns
 returns g c =
     let sheet = (table_sheet g.R.RecordTexts.rows g.C.Colors.color c.args.self.now) in
-    let end : c.loop-j.j ≡ length c.args.self.now.widths.now = omega (arith, c.loop-j-test.false, c.loop-j.auto.j-end) in
+    let end : c.loop-j.j ≡ length c.args.self.now.widths.now = omega (arith, c.loop-j-test.false, c.loop-j.auto.j-end, c.in_ok-first.ensures.inside) in
     c.loop-j.invariant ∙ ap (λ l. string_bytes c.args.out.now ++ l) (flat-ends sheet c.args.i c.loop-j.j end)

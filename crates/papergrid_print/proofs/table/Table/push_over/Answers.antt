@@ -1,6 +1,7 @@
 use Rattle.std.proofs.Common.{◌≡◌, ◌-◌, ◌++◌, [], List, length, string_bytes, take, ap, subst, sym, ◌∙◌, append-nil, arith, ℕ}
 use Rattle.std.specs.Prelude.{slice_index, slice_index_or}
 use Rattle.std.proofs.lemmas.List.{at_drop_all}
+use Rattle.std.proofs.lemmas.Option.{IfSome_then}
 use Rattle.std.specs.String.Boundary.{IsSplitPoint}
 use Rattle.grid_config.specs.Looks.{look_of}
 use Rattle.grid_config_values.specs.declared.position.Position.{Position}
@@ -24,10 +25,8 @@ overflow_sub-start g c =
 pub write_cell-requires-clause-text : goal.write_cell-requires-clause-text
 write_cell-requires-clause-text g c =
     let rows = g.R.RecordTexts.rows c.args.self.now.records.now in
-    c.cell-cell.ensures.text ∙ (ap (λ texts. slice_index_or texts c.loop-j.j []) c.requires.cells ∙ ap (text_at rows) (sym c.new.ensures))
-
-pub write_cell-requires-clause-plain : goal.write_cell-requires-clause-plain
-write_cell-requires-clause-plain g c = (c.cell-cell.ensures.lines, c.cell-cell.ensures.width, c.cell-cell.ensures.line)
+    IfSome_then c.cell-cell.result c.cell-cell.ensures.text
+    (λ cell is. is ∙ (ap (λ texts. slice_index_or texts c.loop-j.j []) c.requires.cells ∙ ap (text_at rows) (sym c.new.ensures)))
 
 pub write_cell-requires-clause-room : goal.write_cell-requires-clause-room
 write_cell-requires-clause-room g c =
