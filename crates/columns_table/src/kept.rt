@@ -10,8 +10,9 @@ ghost use Rattle.columns_table.specs.Rows.{cell_texts, row_texts_of};
 
 use crate::cell_row::CellRow;
 use crate::rows::Rows;
+use ansi_str::AnsiStr;
 use columns_asked::{Asked, MeasuredText, resized_line};
-use grid_records_traits::Cell;
+use grid_records_traits::{Cell, PlainCell};
 use std::alloc::{AllocError, Global};
 use std::borrow::CowStr;
 
@@ -67,6 +68,14 @@ impl<'a> Cell for KeptCell<'a> {
 
     fn dimension(&self) -> (usize, usize) {
         (self.lines, self.width)
+    }
+
+    fn plain(&self) -> Option<PlainCell<'_>> {
+        let (text, width) = (self.text(), self.width);
+        if self.lines != 1 || text.ansi_has_any() {
+            return None;
+        }
+        Some(PlainCell { text, width })
     }
 }
 
