@@ -14,8 +14,8 @@ TESTS := $(foreach crate,$(shell sed 's/[ \#].*//' tests/memory/tests | sort -u)
 endif
 # The words of the program: `make run WORDS='--width 60'`.
 WORDS ?=
-# Standard input is taken as it comes and not opened anew.
 COMMA := ,
+# Standard input is taken as it comes and not opened anew.
 FROM = $(if $(filter /dev/stdin -,$(INPUT)),,< '$(INPUT)')
 
 # No rule of make's own makes a source file; so it looks for none.
