@@ -34,7 +34,7 @@ pub trait AnsiStr {
         ensures parts { (pieces : List Piece) (matches : List ℕ) → ArePiecesOf (text self.now) pieces →
             AreMatches pattern.now (strip pieces) matches →
             result.parts ≡ styled_parts pieces (split_bounds pattern.now (strip pieces) matches) }
-        ensures may_refuse { result.may_refuse ≡ has_escape (text self.now) }
+        ensures can_fail { result.can_fail ≡ has_escape (text self.now) }
         ensures count { length result.parts ≤ length (text self.now) + 2 };
 
     /// What `ansi_cut` returns where the bounds are good, else none. Bounds are places in the text without

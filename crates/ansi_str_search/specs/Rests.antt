@@ -14,9 +14,9 @@ abbrev pub parts_of : Option Rest → List (List ℕ)
 parts_of None = []
 parts_of (Some rest) = rest_parts rest
 
-abbrev pub may_refuse : Option Rest → Bool
-may_refuse None = false
-may_refuse (Some rest) = rest.styled
+abbrev pub can_fail : Option Rest → Bool
+can_fail None = false
+can_fail (Some rest) = rest.styled
 
 abbrev pub what_is_left : Option Rest → PartsLeft
-what_is_left rest = record { parts = parts_of rest; may_refuse = may_refuse rest }
+what_is_left rest = record { parts = parts_of rest; can_fail = can_fail rest }

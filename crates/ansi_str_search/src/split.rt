@@ -34,7 +34,7 @@ impl<'a> AnsiSplit<'a> {
         ensures parts { (pieces : List Piece) (matches : List ℕ) → ArePiecesOf text.now pieces →
             AreMatches pattern.now (strip pieces) matches →
             result.parts ≡ styled_parts pieces (split_bounds pattern.now (strip pieces) matches) }
-        ensures may_refuse { result.may_refuse ≡ has_escape text.now }
+        ensures can_fail { result.can_fail ≡ has_escape text.now }
         ensures count { length result.parts ≤ length text.now + 2 }
     {
         AnsiSplit {

@@ -83,7 +83,7 @@ fn starts_of(mut counts: Vec<usize>) -> Vec<usize>
 impl<'a> RecordTexts for PlacedRows<'a> {
     ghost rows = { λ rows. placed_texts rows.starts.items rows.cells };
 
-    ghost may_refuse = { λ _. false };
+    ghost can_fail = { λ _. false };
 }
 
 impl<'a> RecordColumns for PlacedRows<'a> {

@@ -84,8 +84,8 @@ fn collect_row<C: Cell, I: Iterator<Item = Result<C, AllocError>>, S: Sizing>(
     requires can { I.can_next cells }
     requires ends { IsFinite (I.remaining cells) }
     requires room { row < usize.MAX }
-    ensures { (texts : List (List ℕ)) (may_refuse : Bool) (before : List Placed) →
-        GivesTexts I.can_next I.remaining I.next_gives C.text may_refuse cells texts → HasRead (S.sizing cfg.now) widths.old heights.old before →
+    ensures { (texts : List (List ℕ)) (can_fail : Bool) (before : List Placed) →
+        GivesTexts I.can_next I.remaining I.next_gives C.text can_fail cells texts → HasRead (S.sizing cfg.now) widths.old heights.old before →
         OnOk result (HasRead (S.sizing cfg.now) widths.new heights.new (before ++ row_cells row 0 texts)) }
 {
     let mut column = 0usize;

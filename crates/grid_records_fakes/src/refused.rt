@@ -34,7 +34,7 @@ impl RefusedRows {
 impl RecordTexts for RefusedRows {
     ghost rows = { λ s. replicate s.left (replicate s.columns letter) };
 
-    ghost may_refuse = { λ _. true };
+    ghost can_fail = { λ _. true };
 }
 
 impl IntoRecords for RefusedRows {
@@ -46,7 +46,7 @@ impl IntoRecords for RefusedRows {
 
     ghost rows_left = { λ s. replicate s.left (replicate s.columns letter) };
 
-    ghost may_refuse_left = { λ _. true };
+    ghost can_fail_left = { λ _. true };
 
     ghost gives = { λ s. record {
       can_next = tt;

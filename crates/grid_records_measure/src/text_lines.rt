@@ -37,7 +37,7 @@ fn line_feeds(text: &str) -> usize
 /// fails only where allocation fails, and no line comes after that.
 pub fn get_lines<'a>(alloc: Global, text: &'a str) -> Lines<'a>
     ensures lines { (pieces : List Piece) → ArePiecesOf text.now pieces → AreLinesOf pieces result.parts }
-    ensures may_refuse { result.may_refuse ≡ has_escape text.now }
+    ensures can_fail { result.can_fail ≡ has_escape text.now }
     ensures count { (pieces : List Piece) → ArePiecesOf text.now pieces → length result.parts ≡ length (shown_lines pieces) }
     ensures text { result.parts ≡ text_lines text.now }
 {

@@ -55,7 +55,7 @@ pub fn truncated_texts_are_cuts()
 /// so that both follow from the texts, also after one was set. They refuse no cell.
 pub fn vectors_count_what_they_hold<T: Cell>()
     ensures columns { (records : Vectors T) → ⟦<VecRecords<T> as RecordColumns>⟧.columns records ≡ length (row_at (⟦<VecRecords<T> as RecordTexts>⟧.rows records) 0) }
-    ensures refuses_none { (records : Vectors T) → ⟦<VecRecords<T> as RecordTexts>⟧.may_refuse records ≡ false }
+    ensures refuses_none { (records : Vectors T) → ⟦<VecRecords<T> as RecordTexts>⟧.can_fail records ≡ false }
     ensures hint { (records : Vectors T) → ⟦<VecRecords<T> as Records>⟧.hint records ≡ Some (length (⟦<VecRecords<T> as RecordTexts>⟧.rows records)) }
 {}
 
@@ -67,7 +67,7 @@ pub fn empty_records_are_compared_and_cloned_whole()
     ensures comes { (source : Blank) → ⟦<EmptyRecords as Clone>⟧.is_infallible source }
     ensures at_first { (begun : Blank) → ⟦<EmptyRecords as Default>⟧.is_default begun → ⟦<EmptyRecords as RecordTexts>⟧.rows begun ≡ [] }
     ensures at_first_columns { (begun : Blank) → ⟦<EmptyRecords as Default>⟧.is_default begun → ⟦<EmptyRecords as RecordColumns>⟧.columns begun ≡ 0 }
-    ensures refuses_none { (records : Blank) → ⟦<EmptyRecords as RecordTexts>⟧.may_refuse records ≡ false }
+    ensures refuses_none { (records : Blank) → ⟦<EmptyRecords as RecordTexts>⟧.can_fail records ≡ false }
 {}
 
 /// After its end an iterator over rows of empty texts has none left; no more are left than are still to come.

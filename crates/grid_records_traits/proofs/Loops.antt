@@ -52,8 +52,8 @@ one_more (Err _ ∷ xs) cell never = absurd never
 pub cells_more : {C E : Type 0} (xs : List (Result C E)) (x : Result C E) (cell : C) → AreCells xs → x ≡ Ok cell → AreCells (xs ++ x ∷ [])
 cells_more xs x cell are was = subst (λ v. AreCells (xs ++ v ∷ [])) (sym was) (one_more xs cell are)
 
-module _ {S C E : Type 0} (steps : S → Option (Result C E) → S → Type 0) (text : C → List ℕ) (may_refuse : Bool) where
-  next_cell : (xs : List (Result C E)) (row : List (List ℕ)) (s t u : S) (cell : C) → GivesCells steps text may_refuse s row → Yields steps s xs t → AreCells xs → steps t (Some (Ok cell)) u →
+module _ {S C E : Type 0} (steps : S → Option (Result C E) → S → Type 0) (text : C → List ℕ) (can_fail : Bool) where
+  next_cell : (xs : List (Result C E)) (row : List (List ℕ)) (s t u : S) (cell : C) → GivesCells steps text can_fail s row → Yields steps s xs t → AreCells xs → steps t (Some (Ok cell)) u →
       drop (length xs) row ≡ text cell ∷ drop (length (xs ++ Ok cell ∷ [])) row
   next_cell [] [] s t u cell gives same are step = absurd (gives (Ok cell) u (subst (λ v. steps v (Some (Ok cell)) u) (sym same) step))
   next_cell [] (wanted ∷ row) s t u cell gives same are step =
@@ -63,21 +63,21 @@ module _ {S C E : Type 0} (steps : S → Option (Result C E) → S → Type 0) (
   next_cell (Ok other ∷ xs) (wanted ∷ row) s t u cell gives led are step = next_cell xs row led.0 t u cell (gives.1 other led.0 led.1).1 led.2 are step
   next_cell (Err _ ∷ xs) row s t u cell gives led never step = absurd never
 
-  no_cell : (xs : List (Result C E)) (row : List (List ℕ)) (s t u : S) → GivesCells steps text may_refuse s row → Yields steps s xs t → AreCells xs → steps t None u → drop (length xs) row ≡ []
+  no_cell : (xs : List (Result C E)) (row : List (List ℕ)) (s t u : S) → GivesCells steps text can_fail s row → Yields steps s xs t → AreCells xs → steps t None u → drop (length xs) row ≡ []
   no_cell [] [] s t u gives same are step = refl
   no_cell [] (wanted ∷ row) s t u gives same are step = absurd (gives.0 u (subst (λ v. steps v None u) (sym same) step))
   no_cell (Ok other ∷ xs) [] s t u gives led are step = absurd (gives (Ok other) led.0 led.1)
   no_cell (Ok other ∷ xs) (wanted ∷ row) s t u gives led are step = no_cell xs row led.0 t u (gives.1 other led.0 led.1).1 led.2 are step
   no_cell (Err _ ∷ xs) row s t u gives led never step = absurd never
 
-module _ {S C E : Type 0} {can : S → Type 0} {left : S → Count} {steps : S → Option (Result C E) → S → Type 0} {text : C → List ℕ} {may_refuse : Bool} {s : S} {row : List (List ℕ)} where
+module _ {S C E : Type 0} {can : S → Type 0} {left : S → Count} {steps : S → Option (Result C E) → S → Type 0} {text : C → List ℕ} {can_fail : Bool} {s : S} {row : List (List ℕ)} where
   -- a loop over the cells of a row has taken xs, and now takes a cell
-  pub next_text : (xs : List (Result C E)) (x : Result C E) (cell : C) (r t u : S) → GivesTexts can left steps text may_refuse s row → r ≡ s → Yields steps r xs t → AreCells xs → steps t (Some x) u → x ≡ Ok cell →
+  pub next_text : (xs : List (Result C E)) (x : Result C E) (cell : C) (r t u : S) → GivesTexts can left steps text can_fail s row → r ≡ s → Yields steps r xs t → AreCells xs → steps t (Some x) u → x ≡ Ok cell →
       drop (length xs) row ≡ text cell ∷ drop (length (xs ++ x ∷ [])) row
   next_text xs x cell r t u gives same led are step was =
       subst (λ v. drop (length xs) row ≡ text cell ∷ drop (length (xs ++ v ∷ [])) row) (sym was)
-      (next_cell steps text may_refuse xs row s t u cell gives.each (subst (λ v. Yields steps v xs t) same led) are (subst (λ v. steps t (Some v) u) was step))
+      (next_cell steps text can_fail xs row s t u cell gives.each (subst (λ v. Yields steps v xs t) same led) are (subst (λ v. steps t (Some v) u) was step))
 
   -- it has taken xs, and no more comes: none is left
-  pub none_text : (xs : List (Result C E)) (r t u : S) → GivesTexts can left steps text may_refuse s row → r ≡ s → Yields steps r xs t → AreCells xs → steps t None u → drop (length xs) row ≡ []
-  none_text xs r t u gives same led are step = no_cell steps text may_refuse xs row s t u gives.each (subst (λ v. Yields steps v xs t) same led) are step
+  pub none_text : (xs : List (Result C E)) (r t u : S) → GivesTexts can left steps text can_fail s row → r ≡ s → Yields steps r xs t → AreCells xs → steps t None u → drop (length xs) row ≡ []
+  none_text xs r t u gives same led are step = no_cell steps text can_fail xs row s t u gives.each (subst (λ v. Yields steps v xs t) same led) are step

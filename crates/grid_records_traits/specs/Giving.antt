@@ -22,27 +22,27 @@ pub record Gives {S A B : Type 0} (can : S → Type 0) (left : S → Count) (ste
 -- every run of calls from s returns a cell with each of the texts in order, and then `None`; where one may come, a
 -- refusal may stand in a cell's place, and it ends the row
 abbrev pub GivesCells : {S C E : Type 0} → (S → Option (Result C E) → S → Type 0) → (C → List ℕ) → Bool → S → List (List ℕ) → Type 0
-GivesCells steps text may_refuse s [] = HasEnded steps s
-GivesCells {S} {C} {E} steps text may_refuse s (wanted ∷ row) =
+GivesCells steps text can_fail s [] = HasEnded steps s
+GivesCells {S} {C} {E} steps text can_fail s (wanted ∷ row) =
     ((t : S) → ¬ (steps s None t))
-    × ((cell : C) (t : S) → steps s (Some (Ok cell)) t → (text cell ≡ wanted) × GivesCells steps text may_refuse t row)
-    × ((refusal : E) (t : S) → steps s (Some (Err refusal)) t → (may_refuse ≡ true) × HasEnded steps t)
+    × ((cell : C) (t : S) → steps s (Some (Ok cell)) t → (text cell ≡ wanted) × GivesCells steps text can_fail t row)
+    × ((refusal : E) (t : S) → steps s (Some (Err refusal)) t → (can_fail ≡ true) × HasEnded steps t)
 
 -- the iterator can be advanced, ends, and gives the cells of a row
-pub record GivesTexts {S C E : Type 0} (can : S → Type 0) (left : S → Count) (steps : S → Option (Result C E) → S → Type 0) (text : C → List ℕ) (may_refuse : Bool) (s : S) (row : List (List ℕ)) : Type 0 where
+pub record GivesTexts {S C E : Type 0} (can : S → Type 0) (left : S → Count) (steps : S → Option (Result C E) → S → Type 0) (text : C → List ℕ) (can_fail : Bool) (s : S) (row : List (List ℕ)) : Type 0 where
   pub can_next : can s
   pub ends : IsFinite (left s)
-  pub each : GivesCells steps text may_refuse s row
+  pub each : GivesCells steps text can_fail s row
 
 -- an iterator over rows gives iterators over cells, which give the cells of the rows
 abbrev pub GivesRows : {R S C E : Type 0} → Calls R S → Calls S (Result C E) → (C → List ℕ) → Bool → R → List (List (List ℕ)) → Type 0
-GivesRows of_rows of_cells text may_refuse r rows =
+GivesRows of_rows of_cells text can_fail r rows =
     Gives of_rows.can_next of_rows.remaining of_rows.next_gives
-    (GivesTexts of_cells.can_next of_cells.remaining of_cells.next_gives text may_refuse) r rows
+    (GivesTexts of_cells.can_next of_cells.remaining of_cells.next_gives text can_fail) r rows
 
 -- of the rows that were left the first is gone, and whether a cell may be refused stays
 abbrev pub HasPassedOne : List (List (List ℕ)) → Bool → List (List (List ℕ)) → Bool → Type 0
-HasPassedOne before may_refuse after may_refuse_then = (after ≡ drop 1 before) × (may_refuse_then ≡ may_refuse)
+HasPassedOne before can_fail after can_fail_then = (after ≡ drop 1 before) × (can_fail_then ≡ can_fail)
 
 -- a call returns the next cell, and refuses none
 abbrev pub AnswersCell : {S C E : Type 0} → (S → Option C → S → Type 0) → S → Option (Result C E) → S → Type 0

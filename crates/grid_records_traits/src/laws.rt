@@ -19,7 +19,7 @@ use crate::records::{Cell, RecordColumns, RecordTexts};
 /// A reference has the rows of the source that it refers to, and may refuse a cell where that may.
 pub fn references_have_the_same_rows<'a, R: RecordTexts + 'a>()
     ensures rows { (records : Bor R) → ⟦<&'a R as RecordTexts>⟧.rows records ≡ R.rows records.now }
-    ensures may_refuse { (records : Bor R) → ⟦<&'a R as RecordTexts>⟧.may_refuse records ≡ R.may_refuse records.now }
+    ensures can_fail { (records : Bor R) → ⟦<&'a R as RecordTexts>⟧.can_fail records ≡ R.can_fail records.now }
 {}
 
 /// A reference has as many columns as the source that it refers to.
@@ -67,9 +67,9 @@ pub fn sources_have_their_rows<'a, T: Cell + 'a, const C: usize, const R: usize>
     ensures slice { (rows : Bor (List (VecOf T))) → ⟦<&'a [Vec<T>] as RecordTexts>⟧.rows rows ≡ texts_of_rows T.text rows.now }
     ensures vector { (rows : VecOf (VecOf T)) → ⟦<Vec<Vec<T>> as RecordTexts>⟧.rows rows ≡ texts_of_rows T.text rows.items }
     ensures array { (rows : List (List T)) → ⟦<[[T; C]; R] as RecordTexts>⟧.rows rows ≡ map (map T.text) rows }
-    ensures slice_comes { (rows : Bor (List (VecOf T))) → ⟦<&'a [Vec<T>] as RecordTexts>⟧.may_refuse rows ≡ false }
-    ensures vector_comes { (rows : VecOf (VecOf T)) → ⟦<Vec<Vec<T>> as RecordTexts>⟧.may_refuse rows ≡ false }
-    ensures array_comes { (rows : List (List T)) → ⟦<[[T; C]; R] as RecordTexts>⟧.may_refuse rows ≡ false }
+    ensures slice_comes { (rows : Bor (List (VecOf T))) → ⟦<&'a [Vec<T>] as RecordTexts>⟧.can_fail rows ≡ false }
+    ensures vector_comes { (rows : VecOf (VecOf T)) → ⟦<Vec<Vec<T>> as RecordTexts>⟧.can_fail rows ≡ false }
+    ensures array_comes { (rows : List (List T)) → ⟦<[[T; C]; R] as RecordTexts>⟧.can_fail rows ≡ false }
 {}
 
 /// Rows that came from an iterator over them come in its order, each as an iterator over its cells; at the end they

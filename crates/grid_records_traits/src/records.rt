@@ -20,13 +20,13 @@ pub use plain_row::{PlainCell, PlainRow};
 pub trait RecordTexts {
     ghost rows: { Self → List (List (List ℕ)) };
 
-    ghost may_refuse: { Self → Bool };
+    ghost can_fail: { Self → Bool };
 }
 
 impl<'a, R: RecordTexts> RecordTexts for &'a R {
     ghost rows = { λ records. R.rows records.now };
 
-    ghost may_refuse = { λ records. R.may_refuse records.now };
+    ghost can_fail = { λ records. R.can_fail records.now };
 }
 
 /// Records with a column count.
@@ -55,7 +55,7 @@ pub trait Records: RecordColumns {
     /// The rows, each of as many cells as there are columns. A cell that a row lacks has an empty text.
     fn iter_rows(self) -> <Self::Iter as IntoRecords>::IterRows
         ensures { GivesRows Self.Iter.IterRows.Iterator Self.Iter.IterColumns.Iterator Self.Iter.Cell.text
-            (Self.RecordTexts.may_refuse self) result (fitted (Self.columns self) (Self.RecordTexts.rows self)) };
+            (Self.RecordTexts.can_fail self) result (fitted (Self.columns self) (Self.RecordTexts.rows self)) };
 
     /// How many rows there may be. It is a hint, and promises nothing of the rows.
     fn hint_count_rows(&self) -> Option<usize>

@@ -31,7 +31,7 @@ pub(crate) fn read<R: Records>(
 impl<T: Cell> RecordTexts for ReadRows<T> {
     ghost rows = { λ table. texts_of_rows T.text table.rows.items };
 
-    ghost may_refuse = { λ _. false };
+    ghost can_fail = { λ _. false };
 }
 
 impl<T: Cell> PeekableRecords for ReadRows<T> {

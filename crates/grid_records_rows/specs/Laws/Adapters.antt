@@ -99,21 +99,21 @@ gives_skipped {can = can} {left = left} {steps = steps} {tie = tie} {ys = ys} s 
     }
 
 -- the first cells of a row
-cells_taken : {S C E : Type 0} (steps : S → Option (Result C E) → S → Type 0) (text : C → List ℕ) (may_refuse : Bool) (n : ℕ) (s : Take S) (row : List (List ℕ)) → take_count s ≡ n →
-    GivesCells steps text may_refuse (take_source s) row → GivesCells (take_steps steps) text may_refuse s (take n row)
-cells_taken steps text may_refuse zero s row count gives = λ x t step. absurd (omega (arith, step.1, count))
-cells_taken steps text may_refuse (suc n) s [] count gives = λ x t step. gives x (take_source t) step.0
-cells_taken steps text may_refuse (suc n) s (wanted ∷ row) count gives = (
+cells_taken : {S C E : Type 0} (steps : S → Option (Result C E) → S → Type 0) (text : C → List ℕ) (can_fail : Bool) (n : ℕ) (s : Take S) (row : List (List ℕ)) → take_count s ≡ n →
+    GivesCells steps text can_fail (take_source s) row → GivesCells (take_steps steps) text can_fail s (take n row)
+cells_taken steps text can_fail zero s row count gives = λ x t step. absurd (omega (arith, step.1, count))
+cells_taken steps text can_fail (suc n) s [] count gives = λ x t step. gives x (take_source t) step.0
+cells_taken steps text can_fail (suc n) s (wanted ∷ row) count gives = (
   λ t step. gives.0 (take_source t) (step (omega (arith, count))),
-  λ cell t step. let next = gives.1 cell (take_source t) step.0 in (next.0, cells_taken steps text may_refuse n t row (omega (arith, count, step.1)) next.1),
+  λ cell t step. let next = gives.1 cell (take_source t) step.0 in (next.0, cells_taken steps text can_fail n t row (omega (arith, count, step.1)) next.1),
   λ refusal t step. let last = gives.2 refusal (take_source t) step.0 in (last.0, λ x u later. last.1 x (take_source u) later.0),
 )
 
-texts_taken : {S C E : Type 0} {can : S → Type 0} {left : S → Count} {steps : S → Option (Result C E) → S → Type 0} {text : C → List ℕ} {may_refuse : Bool} {row : List (List ℕ)} (s : Take S) (n : ℕ) →
-    take_count s ≡ n → GivesTexts can left steps text may_refuse (take_source s) row →
-    GivesTexts (λ s. can (take_source s)) (λ s. count_min (at_most (take_count s)) (left (take_source s))) (take_steps steps) text may_refuse s (take n row)
-texts_taken {steps = steps} {text = text} {may_refuse = may_refuse} {row = row} s n count gives =
-    record { can_next = gives.can_next; ends = tt; each = cells_taken steps text may_refuse n s row count gives.each }
+texts_taken : {S C E : Type 0} {can : S → Type 0} {left : S → Count} {steps : S → Option (Result C E) → S → Type 0} {text : C → List ℕ} {can_fail : Bool} {row : List (List ℕ)} (s : Take S) (n : ℕ) →
+    take_count s ≡ n → GivesTexts can left steps text can_fail (take_source s) row →
+    GivesTexts (λ s. can (take_source s)) (λ s. count_min (at_most (take_count s)) (left (take_source s))) (take_steps steps) text can_fail s (take n row)
+texts_taken {steps = steps} {text = text} {can_fail = can_fail} {row = row} s n count gives =
+    record { can_next = gives.can_next; ends = tt; each = cells_taken steps text can_fail n s row count gives.each }
 
 -- rows whose first cells are taken
 each_limited : {S Cells B : Type 0} (steps : S → Option Cells → S → Type 0) (tie : Cells → List B → Type 0) (wanted : Take Cells → List B → Type 0) (limit : ℕ) →
@@ -129,11 +129,11 @@ each_limited steps tie wanted limit follows s (texts ∷ rows) is gives = (
 )
 
 -- all rows of a source, of each the first cells
-pub limited_rows_give : {R S C E : Type 0} {row_can : R → Type 0} {row_left : R → Count} {can : S → Type 0} {left : S → Count} {may_refuse : Bool} {rows : List (List (List ℕ))}
+pub limited_rows_give : {R S C E : Type 0} {row_can : R → Type 0} {row_left : R → Count} {can : S → Type 0} {left : S → Count} {can_fail : Bool} {rows : List (List (List ℕ))}
     (row_steps : R → Option S → R → Type 0) (steps : S → Option (Result C E) → S → Type 0) (text : C → List ℕ) (s : LimitedRows R) →
-    Gives row_can row_left row_steps (GivesTexts can left steps text may_refuse) s.rows rows →
+    Gives row_can row_left row_steps (GivesTexts can left steps text can_fail) s.rows rows →
     Gives (λ s. row_can s.rows) (λ s. row_left s.rows) (GivesTaken row_steps)
-    (GivesTexts (λ cells. can (take_source cells)) (λ cells. count_min (at_most (take_count cells)) (left (take_source cells))) (take_steps steps) text may_refuse) s (map (take s.limit) rows)
+    (GivesTexts (λ cells. can (take_source cells)) (λ cells. count_min (at_most (take_count cells)) (left (take_source cells))) (take_steps steps) text can_fail) s (map (take s.limit) rows)
 limited_rows_give {rows = rows} row_steps steps text s gives =
     record {
       can_next = gives.can_next;

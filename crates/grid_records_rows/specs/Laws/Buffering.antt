@@ -16,47 +16,47 @@ use Rattle.grid_records_traits.specs.Sources.{items_left, texts_of_rows}
 use Rattle.grid_records_traits.specs.Laws.Given.{vec_gives, vec_goes, vec_stays, vec_stops}
 
 -- one of two iterators gives the cells that it gives
-module _ {S T C E : Type 0} (lefts : S → Option (Result C E) → S → Type 0) (rights : T → Option (Result C E) → T → Type 0) (text : C → List ℕ) (may_refuse : Bool) where
+module _ {S T C E : Type 0} (lefts : S → Option (Result C E) → S → Type 0) (rights : T → Option (Result C E) → T → Type 0) (text : C → List ℕ) (can_fail : Bool) where
   ended_left : (s : S) → HasEnded lefts s → HasEnded (either_steps lefts rights) (Left s)
   ended_left s gives = λ x t. elim t as (λ v. either_steps lefts rights (Left s) (Some x) v → ⊥) [ Left t ↦ λ step. gives x t step | Right _ ↦ λ never. never ]
 
   ended_right : (s : T) → HasEnded rights s → HasEnded (either_steps lefts rights) (Right s)
   ended_right s gives = λ x t. elim t as (λ v. either_steps lefts rights (Right s) (Some x) v → ⊥) [ Right t ↦ λ step. gives x t step | Left _ ↦ λ never. never ]
 
-  cells_left : (s : S) (row : List (List ℕ)) → GivesCells lefts text may_refuse s row → GivesCells (either_steps lefts rights) text may_refuse (Left s) row
+  cells_left : (s : S) (row : List (List ℕ)) → GivesCells lefts text can_fail s row → GivesCells (either_steps lefts rights) text can_fail (Left s) row
   cells_left s [] gives = ended_left s gives
   cells_left s (wanted ∷ row) gives = (
     λ t. elim t as (λ v. either_steps lefts rights (Left s) None v → ⊥) [ Left t ↦ λ step. gives.0 t step | Right _ ↦ λ never. never ],
-    λ cell t. elim t as (λ v. either_steps lefts rights (Left s) (Some (Ok cell)) v → (text cell ≡ wanted) × GivesCells (either_steps lefts rights) text may_refuse v row) [
+    λ cell t. elim t as (λ v. either_steps lefts rights (Left s) (Some (Ok cell)) v → (text cell ≡ wanted) × GivesCells (either_steps lefts rights) text can_fail v row) [
       | Left t ↦ λ step. let next = gives.1 cell t step in (next.0, cells_left t row next.1)
       | Right _ ↦ λ never. absurd never
     ],
-    λ refusal t. elim t as (λ v. either_steps lefts rights (Left s) (Some (Err refusal)) v → (may_refuse ≡ true) × HasEnded (either_steps lefts rights) v) [
+    λ refusal t. elim t as (λ v. either_steps lefts rights (Left s) (Some (Err refusal)) v → (can_fail ≡ true) × HasEnded (either_steps lefts rights) v) [
       | Left t ↦ λ step. let last = gives.2 refusal t step in (last.0, ended_left t last.1)
       | Right _ ↦ λ never. absurd never
     ],
   )
 
-  cells_right : (s : T) (row : List (List ℕ)) → GivesCells rights text may_refuse s row → GivesCells (either_steps lefts rights) text may_refuse (Right s) row
+  cells_right : (s : T) (row : List (List ℕ)) → GivesCells rights text can_fail s row → GivesCells (either_steps lefts rights) text can_fail (Right s) row
   cells_right s [] gives = ended_right s gives
   cells_right s (wanted ∷ row) gives = (
     λ t. elim t as (λ v. either_steps lefts rights (Right s) None v → ⊥) [ Right t ↦ λ step. gives.0 t step | Left _ ↦ λ never. never ],
-    λ cell t. elim t as (λ v. either_steps lefts rights (Right s) (Some (Ok cell)) v → (text cell ≡ wanted) × GivesCells (either_steps lefts rights) text may_refuse v row) [
+    λ cell t. elim t as (λ v. either_steps lefts rights (Right s) (Some (Ok cell)) v → (text cell ≡ wanted) × GivesCells (either_steps lefts rights) text can_fail v row) [
       | Right t ↦ λ step. let next = gives.1 cell t step in (next.0, cells_right t row next.1)
       | Left _ ↦ λ never. absurd never
     ],
-    λ refusal t. elim t as (λ v. either_steps lefts rights (Right s) (Some (Err refusal)) v → (may_refuse ≡ true) × HasEnded (either_steps lefts rights) v) [
+    λ refusal t. elim t as (λ v. either_steps lefts rights (Right s) (Some (Err refusal)) v → (can_fail ≡ true) × HasEnded (either_steps lefts rights) v) [
       | Right t ↦ λ step. let last = gives.2 refusal t step in (last.0, ended_right t last.1)
       | Left _ ↦ λ never. absurd never
     ],
   )
 
-  gives_left : {can : S → Type 0} {left : S → Count} {can_right : T → Type 0} {left_right : T → Count} (s : S) (row : List (List ℕ)) → GivesTexts can left lefts text may_refuse s row →
-      GivesTexts (λ s. MatchEither s can can_right) (either left left_right) (either_steps lefts rights) text may_refuse (Left s) row
+  gives_left : {can : S → Type 0} {left : S → Count} {can_right : T → Type 0} {left_right : T → Count} (s : S) (row : List (List ℕ)) → GivesTexts can left lefts text can_fail s row →
+      GivesTexts (λ s. MatchEither s can can_right) (either left left_right) (either_steps lefts rights) text can_fail (Left s) row
   gives_left s row gives = record { can_next = gives.can_next; ends = gives.ends; each = cells_left s row gives.each }
 
-  gives_right : {can : S → Type 0} {left : S → Count} {can_right : T → Type 0} {left_right : T → Count} (s : T) (row : List (List ℕ)) → GivesTexts can_right left_right rights text may_refuse s row →
-      GivesTexts (λ s. MatchEither s can can_right) (either left left_right) (either_steps lefts rights) text may_refuse (Right s) row
+  gives_right : {can : S → Type 0} {left : S → Count} {can_right : T → Type 0} {left_right : T → Count} (s : T) (row : List (List ℕ)) → GivesTexts can_right left_right rights text can_fail s row →
+      GivesTexts (λ s. MatchEither s can can_right) (either left left_right) (either_steps lefts rights) text can_fail (Right s) row
   gives_right s row gives = record { can_next = gives.can_next; ends = gives.ends; each = cells_right s row gives.each }
 
 -- kept rows come first
@@ -122,11 +122,11 @@ module _ {R S C E : Type 0} {can : R → Type 0} {left : R → Count} {steps : R
       let same : other ≡ it = cc is in
       subst (λ v. Gives can left steps (GivesTexts cell_can cell_left cell_steps text (refuses other)) v (rows other)) same (each other)
 
-  rest_can : {may_refuse : Bool} (zs : List (List (List ℕ))) (r : Option R) → ((it : R) → r ≡ Some it → Gives can left steps (GivesTexts cell_can cell_left cell_steps text may_refuse) it zs) → IfSome r can
+  rest_can : {can_fail : Bool} (zs : List (List (List ℕ))) (r : Option R) → ((it : R) → r ≡ Some it → Gives can left steps (GivesTexts cell_can cell_left cell_steps text can_fail) it zs) → IfSome r can
   rest_can zs None gives = tt
   rest_can zs (Some it) gives = (gives it refl).can_next
 
-  rest_ends : {may_refuse : Bool} (zs : List (List (List ℕ))) (r : Option R) → ((it : R) → r ≡ Some it → Gives can left steps (GivesTexts cell_can cell_left cell_steps text may_refuse) it zs) →
+  rest_ends : {can_fail : Bool} (zs : List (List (List ℕ))) (r : Option R) → ((it : R) → r ≡ Some it → Gives can left steps (GivesTexts cell_can cell_left cell_steps text can_fail) it zs) →
       IsFinite (of_rest left (at_most 0) r)
   rest_ends zs None gives = tt
   rest_ends zs (Some it) gives = (gives it refl).ends
@@ -145,16 +145,16 @@ pub buffered_rows_give : {T R K Cells Rest F : Type 0} (text : T → List ℕ) {
     (texts_of_rows text (items_left (inside (kept_of s))) ++ of_rest rest_rows [] (rest_of s))
 buffered_rows_give text {becomes = becomes} {rest_steps = rest_steps} {rest_cells = rest_cells} {rest_left = rest_left} inside cells_of kept_of rest_of became refuses rest_rows s rest =
     let zs = of_rest rest_rows [] (rest_of s) in
-    let may_refuse = of_rest refuses false (rest_of s) in
+    let can_fail = of_rest refuses false (rest_of s) in
     let of_it = rest_gives refuses rest_rows (rest_of s) rest in
     record {
       can_next = rest_can zs (rest_of s) of_it;
       ends = rest_ends zs (rest_of s) of_it;
       each = each_buffered (λ s r t. GivesCellsOf into_iter_steps becomes (inside s) r cells_of (inside t)) rest_steps kept_of rest_of _ _ _
-          (λ row y given. gives_left _ rest_cells text may_refuse row y given)
-          (λ row y given. gives_right _ rest_cells text may_refuse row y given)
+          (λ row y given. gives_left _ rest_cells text can_fail row y given)
+          (λ row y given. gives_right _ rest_cells text can_fail row y given)
           (λ s t ended row u step. vec_stays (inside s) (inside t) ended step.0 (inside u) step.1) s (texts_of_rows text (items_left (inside (kept_of s)))) zs
-          (vec_gives text (λ _. Unit {0}) (λ cells. at_most (into_iter_len (cells_of cells))) may_refuse (λ _. (tt, tt)) inside cells_of became (kept_of s))
+          (vec_gives text (λ _. Unit {0}) (λ cells. at_most (into_iter_len (cells_of cells))) can_fail (λ _. (tt, tt)) inside cells_of became (kept_of s))
           (λ it is. (of_it it is).each) (ap (of_rest rest_rows []));
     }
 

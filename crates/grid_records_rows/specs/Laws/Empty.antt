@@ -6,11 +6,11 @@ use Rattle.grid_records_rows.specs.declared.records.empty.EmptyCells.{EmptyCells
 use Rattle.grid_records_rows.specs.declared.records.empty.EmptyRows.{EmptyRows}
 
 -- n empty texts
-pub each_empty_text : (E : Type 0) (may_refuse : Bool) (n : ℕ) (s : EmptyCells) → s.left ≡ n →
-    GivesCells {C = Bor (List ℕ)} {E = E} (GivesEmptyText {E = E}) (λ text. text.now) may_refuse s (replicate n [])
-each_empty_text E may_refuse zero s is = λ answer t step. omega (arith, step.0, is)
-each_empty_text E may_refuse (suc n) s is =
-    (λ t step. omega (arith, step.0, is), λ text t step. (step.1, each_empty_text E may_refuse n t (omega (arith, step.0, is))), λ refusal t step. absurd step.1)
+pub each_empty_text : (E : Type 0) (can_fail : Bool) (n : ℕ) (s : EmptyCells) → s.left ≡ n →
+    GivesCells {C = Bor (List ℕ)} {E = E} (GivesEmptyText {E = E}) (λ text. text.now) can_fail s (replicate n [])
+each_empty_text E can_fail zero s is = λ answer t step. omega (arith, step.0, is)
+each_empty_text E can_fail (suc n) s is =
+    (λ t step. omega (arith, step.0, is), λ text t step. (step.1, each_empty_text E can_fail n t (omega (arith, step.0, is))), λ refusal t step. absurd step.1)
 
 -- n rows
 pub each_empty_row : (wanted : EmptyCells → List (List ℕ) → Type 0) (columns n : ℕ) →

@@ -27,7 +27,7 @@ fit-fitted_row (suc n) (text ∷ row) =
     let same : suc n - suc (length row) ≡ n - length row = omega arith in
     rw same (ap (λ v. text ∷ v) (fit-fitted_row n row))
 
-module _ {S C E : Type 0} (steps : S → Option (Result C E) → S → Type 0) (text : C → List ℕ) (may_refuse : Bool) where
+module _ {S C E : Type 0} (steps : S → Option (Result C E) → S → Type 0) (text : C → List ℕ) (can_fail : Bool) where
   One : Option S → Option C → Option S → Type 0
   One before answer after = FitsOne steps before answer after
 
@@ -47,10 +47,10 @@ module _ {S C E : Type 0} (steps : S → Option (Result C E) → S → Type 0) (
     rest : S
     is : after ≡ Some rest
     same : text_or_empty text answer ≡ wanted
-    gives : GivesCells steps text may_refuse rest row
+    gives : GivesCells steps text can_fail rest row
 
   goes : (before after : Option S) (answer : Option C) (it : S) (wanted : List ℕ) (row : List (List ℕ)) → before ≡ Some it →
-      GivesCells steps text may_refuse it (wanted ∷ row) → One before answer after → Goes answer after wanted row
+      GivesCells steps text can_fail it (wanted ∷ row) → One before answer after → Goes answer after wanted row
   unfolding One
   goes before after None it wanted row is gives step =
       let last = subst (λ v. MatchOption v (Unit {0}) (λ s. (t : S) × steps s None t)) is step.1 in
@@ -65,7 +65,7 @@ module _ {S C E : Type 0} (steps : S → Option (Result C E) → S → Type 0) (
   over s none (Ok cell) t step = omega (arith, step.0, none)
   over s none (Err refusal) t step = omega (arith, step.0, none)
 
-  blanks : (n : ℕ) (s : FittedCells S) → s.cells ≡ None → s.left ≡ n → GivesCells (FitsCell steps) (text_or_empty text) may_refuse s (replicate n [])
+  blanks : (n : ℕ) (s : FittedCells S) → s.cells ≡ None → s.left ≡ n → GivesCells (FitsCell steps) (text_or_empty text) can_fail s (replicate n [])
   unfolding One
   blanks zero s none left = over s left
   blanks (suc n) s none left = (
@@ -76,8 +76,8 @@ module _ {S C E : Type 0} (steps : S → Option (Result C E) → S → Type 0) (
     λ refusal t step. absurd (cc (none, step.4)),
   )
 
-  fits : (n : ℕ) (row : List (List ℕ)) (s : FittedCells S) (it : S) → s.cells ≡ Some it → s.left ≡ n → GivesCells steps text may_refuse it row →
-      GivesCells (FitsCell steps) (text_or_empty text) may_refuse s (fit n row)
+  fits : (n : ℕ) (row : List (List ℕ)) (s : FittedCells S) (it : S) → s.cells ≡ Some it → s.left ≡ n → GivesCells steps text can_fail it row →
+      GivesCells (FitsCell steps) (text_or_empty text) can_fail s (fit n row)
   unfolding One fit
   fits zero row s it is left gives = over s left
   fits (suc n) [] s it is left gives = (
@@ -101,13 +101,13 @@ module _ {S C E : Type 0} (steps : S → Option (Result C E) → S → Type 0) (
   )
 
   -- a row of which n cells are wanted
-  pub gives_fitted : {can : S → Type 0} {left : S → Count} (s : FittedCells S) (it : S) (n : ℕ) (row : List (List ℕ)) → s.cells ≡ Some it → s.left ≡ n → GivesTexts can left steps text may_refuse it row →
-      GivesTexts (λ s. IfSome s.cells can) (λ s. at_most s.left) (FitsCell steps) (text_or_empty text) may_refuse s (fitted_row n row)
+  pub gives_fitted : {can : S → Type 0} {left : S → Count} (s : FittedCells S) (it : S) (n : ℕ) (row : List (List ℕ)) → s.cells ≡ Some it → s.left ≡ n → GivesTexts can left steps text can_fail it row →
+      GivesTexts (λ s. IfSome s.cells can) (λ s. at_most s.left) (FitsCell steps) (text_or_empty text) can_fail s (fitted_row n row)
   gives_fitted {can} {left} s it n row is count gives =
       record {
         can_next = subst (λ v. IfSome v can) (sym is) gives.can_next;
         ends = tt;
-        each = subst (λ v. GivesCells (FitsCell steps) (text_or_empty text) may_refuse s v) (fit-fitted_row n row) (fits n row s it is count gives.each);
+        each = subst (λ v. GivesCells (FitsCell steps) (text_or_empty text) can_fail s v) (fit-fitted_row n row) (fits n row s it is count gives.each);
       }
 
 -- the rows of which n cells are wanted
@@ -126,14 +126,14 @@ each_fitted steps tie wanted n follows s (texts ∷ rows) is gives = (
 
 -- and where they are given, so are those
 pub gives_fitted_rows : {S Row C E : Type 0} (row_steps : S → Option Row → S → Type 0) (steps : Row → Option (Result C E) → Row → Type 0) (text : C → List ℕ)
-    {row_can : S → Type 0} {row_left : S → Count} {can : Row → Type 0} {left : Row → Count} {may_refuse : Bool} {rows : List (List (List ℕ))} (s : FittedRows S) →
-    Gives row_can row_left row_steps (GivesTexts can left steps text may_refuse) s.rows rows →
+    {row_can : S → Type 0} {row_left : S → Count} {can : Row → Type 0} {left : Row → Count} {can_fail : Bool} {rows : List (List (List ℕ))} (s : FittedRows S) →
+    Gives row_can row_left row_steps (GivesTexts can left steps text can_fail) s.rows rows →
     Gives (λ s. row_can s.rows) (λ s. row_left s.rows) (GivesFitted row_steps)
-    (GivesTexts (λ cells. IfSome cells.cells can) (λ cells. at_most cells.left) (FitsCell steps) (text_or_empty text) may_refuse) s (fitted s.columns rows)
-gives_fitted_rows row_steps steps text {may_refuse = may_refuse} {rows = rows} s gives =
+    (GivesTexts (λ cells. IfSome cells.cells can) (λ cells. at_most cells.left) (FitsCell steps) (text_or_empty text) can_fail) s (fitted s.columns rows)
+gives_fitted_rows row_steps steps text {can_fail = can_fail} {rows = rows} s gives =
     record {
       can_next = gives.can_next;
       ends = gives.ends;
       each = each_fitted row_steps _ _ s.columns
-          (λ row cells texts given is count. gives_fitted steps text may_refuse cells row s.columns texts is count given) s rows refl gives.each;
+          (λ row cells texts given is count. gives_fitted steps text can_fail cells row s.columns texts is count given) s rows refl gives.each;
     }

@@ -13,7 +13,7 @@ use Rattle.grid_records_rows.specs.declared.records.into_records.truncate_conten
 use Rattle.grid_records_rows.specs.declared.records.into_records.truncate_content.TruncatedCells.{TruncatedCells}
 use Rattle.grid_records_rows.specs.declared.records.into_records.truncate_content.TruncatedRows.{TruncatedRows}
 
-module _ {S C E D : Type 0} (steps : S → Option (Result C E) → S → Type 0) (text : C → List ℕ) (may_refuse : Bool) (width : D → ℕ → ℕ) where
+module _ {S C E D : Type 0} (steps : S → Option (Result C E) → S → Type 0) (text : C → List ℕ) (can_fail : Bool) (width : D → ℕ → ℕ) where
   -- the cell that came, of which this is left
   came : (s t : S) (given : Result C E) (cell : Truncated C) (w : ℕ) → steps s (Some given) t → IsTruncated text w given (Ok cell) →
       (whole : C) × steps s (Some (Ok whole)) t × (text_of_truncated text cell ≡ truncated_text w (text whole))
@@ -23,7 +23,7 @@ module _ {S C E D : Type 0} (steps : S → Option (Result C E) → S → Type 0)
   ended_truncated : (s : TruncatedCells S D) → s.cells ≡ None → HasEnded (GivesTruncated steps text width) s
   ended_truncated s none = λ answer t step. cc (none, step.1.3)
 
-  each_truncated : (d : D) (column : ℕ) (row : List (List ℕ)) (s : TruncatedCells S D) (it : S) → s.dimension ≡ d → s.column ≡ column → s.cells ≡ Some it → GivesCells steps text may_refuse it row →
+  each_truncated : (d : D) (column : ℕ) (row : List (List ℕ)) (s : TruncatedCells S D) (it : S) → s.dimension ≡ d → s.column ≡ column → s.cells ≡ Some it → GivesCells steps text can_fail it row →
       GivesCells (GivesTruncated steps text width) (text_of_truncated text) true s (truncated_row (width d) column row)
   each_truncated d column [] s it same at is gives = λ answer t step.
       let first : step.1.0 ≡ it = cc (is, step.1.3) in
@@ -44,7 +44,7 @@ module _ {S C E D : Type 0} (steps : S → Option (Result C E) → S → Type 0)
   )
 
   -- the cells of a row, from its first column on
-  gives_truncated : {can : S → Type 0} {left : S → Count} (d : D) (row : List (List ℕ)) (s : TruncatedCells S D) (it : S) → s.dimension ≡ d → s.column ≡ 0 → s.cells ≡ Some it → GivesTexts can left steps text may_refuse it row →
+  gives_truncated : {can : S → Type 0} {left : S → Count} (d : D) (row : List (List ℕ)) (s : TruncatedCells S D) (it : S) → s.dimension ≡ d → s.column ≡ 0 → s.cells ≡ Some it → GivesTexts can left steps text can_fail it row →
       GivesTexts (λ s. IfSome s.cells can) (λ s. of_rest left (at_most 0) s.cells) (GivesTruncated steps text width) (text_of_truncated text) true s (truncated_row (width d) 0 row)
   gives_truncated {can} {left} d row s it same at is gives = record {
     can_next = subst (λ v. IfSome v can) (sym is) gives.can_next;
@@ -69,18 +69,18 @@ each_truncated_row steps tie wanted width d follows s (texts ∷ rows) same give
 )
 
 -- all rows of a source, cut
-pub truncated_rows_give : {R S C E D : Type 0} {row_can : R → Type 0} {row_left : R → Count} {can : S → Type 0} {left : S → Count} {may_refuse : Bool} {rows : List (List (List ℕ))}
+pub truncated_rows_give : {R S C E D : Type 0} {row_can : R → Type 0} {row_left : R → Count} {can : S → Type 0} {left : S → Count} {can_fail : Bool} {rows : List (List (List ℕ))}
     (row_steps : R → Option S → R → Type 0) (steps : S → Option (Result C E) → S → Type 0) (text : C → List ℕ) (width : D → ℕ → ℕ) (s : TruncatedRows R D) →
-    Gives row_can row_left row_steps (GivesTexts can left steps text may_refuse) s.rows rows →
+    Gives row_can row_left row_steps (GivesTexts can left steps text can_fail) s.rows rows →
     Gives (λ s. row_can s.rows) (λ s. row_left s.rows) (GivesTruncatedRow row_steps)
     (GivesTexts (λ cells. IfSome cells.cells can) (λ cells. of_rest left (at_most 0) cells.cells) (GivesTruncated steps text width)
     (text_of_truncated text) true) s (truncated_rows (width s.dimension) rows)
-truncated_rows_give {may_refuse = may_refuse} {rows = rows} row_steps steps text width s gives =
+truncated_rows_give {can_fail = can_fail} {rows = rows} row_steps steps text width s gives =
     record {
       can_next = gives.can_next;
       ends = gives.ends;
       each = each_truncated_row row_steps _ _ (width s.dimension) s.dimension
-          (λ row cells texts given same at is. gives_truncated steps text may_refuse width s.dimension texts cells row same at is given) s rows refl gives.each;
+          (λ row cells texts given same at is. gives_truncated steps text can_fail width s.dimension texts cells row same at is given) s rows refl gives.each;
     }
 
 -- a text that measures at most `width` columns stays

@@ -31,7 +31,7 @@ impl EmptyRecords {
 impl RecordTexts for EmptyRecords {
     ghost rows = { λ s. replicate s.rows (replicate s.columns []) };
 
-    ghost may_refuse = { λ _. false };
+    ghost can_fail = { λ _. false };
 }
 
 impl IntoRecords for EmptyRecords {
@@ -43,7 +43,7 @@ impl IntoRecords for EmptyRecords {
 
     ghost rows_left = { λ s. replicate s.left (replicate s.columns []) };
 
-    ghost may_refuse_left = { λ _. false };
+    ghost can_fail_left = { λ _. false };
 
     ghost gives = { λ s. record {
       can_next = tt;

@@ -19,7 +19,7 @@ impl<I: IntoRecords> IterRecords<I> {
         ensures rows { ⟦<IterRecords<I> as RecordTexts>⟧.rows result ≡ I.RecordTexts.rows iter }
         ensures columns { ⟦<IterRecords<I> as RecordColumns>⟧.columns result ≡ count_columns }
         ensures hint { ⟦<IterRecords<I> as Records>⟧.hint result ≡ count_rows }
-        ensures refuses { ⟦<IterRecords<I> as RecordTexts>⟧.may_refuse result ≡ I.RecordTexts.may_refuse iter }
+        ensures refuses { ⟦<IterRecords<I> as RecordTexts>⟧.can_fail result ≡ I.RecordTexts.can_fail iter }
     {
         IterRecords {
             iter,
@@ -32,7 +32,7 @@ impl<I: IntoRecords> IterRecords<I> {
 impl<I: IntoRecords> RecordTexts for IterRecords<I> {
     ghost rows = { λ s. I.RecordTexts.rows s.iter };
 
-    ghost may_refuse = { λ s. I.RecordTexts.may_refuse s.iter };
+    ghost can_fail = { λ s. I.RecordTexts.can_fail s.iter };
 }
 
 impl<I: IntoRecords> IntoRecords for IterRecords<I> {
@@ -44,7 +44,7 @@ impl<I: IntoRecords> IntoRecords for IterRecords<I> {
 
     ghost rows_left = { I.rows_left };
 
-    ghost may_refuse_left = { I.may_refuse_left };
+    ghost can_fail_left = { I.can_fail_left };
 
     ghost gives = { I.gives };
 

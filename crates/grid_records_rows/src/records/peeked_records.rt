@@ -28,7 +28,7 @@ impl<'a, R: ExactRecords + PeekableRecords> PeekedRecords<'a, R> {
         ensures rows { ⟦<PeekedRecords<'a, R> as RecordTexts>⟧.rows result ≡ fitted (R.columns records.now) (R.rows records.now) }
         ensures columns { ⟦<PeekedRecords<'a, R> as RecordColumns>⟧.columns result ≡ R.columns records.now }
         ensures hint { ⟦<PeekedRecords<'a, R> as Records>⟧.hint result ≡ Some (length (R.rows records.now)) }
-        ensures refuses { ⟦<PeekedRecords<'a, R> as RecordTexts>⟧.may_refuse result ≡ false }
+        ensures refuses { ⟦<PeekedRecords<'a, R> as RecordTexts>⟧.can_fail result ≡ false }
     {
         PeekedRecords { records }
     }
@@ -37,7 +37,7 @@ impl<'a, R: ExactRecords + PeekableRecords> PeekedRecords<'a, R> {
 impl<'a, R: ExactRecords + PeekableRecords> RecordTexts for PeekedRecords<'a, R> {
     ghost rows = { λ s. fitted (R.columns s.records.now) (R.rows s.records.now) };
 
-    ghost may_refuse = { λ _. false };
+    ghost can_fail = { λ _. false };
 }
 
 impl<'a, R: ExactRecords + PeekableRecords> RecordColumns for PeekedRecords<'a, R> {
@@ -57,7 +57,7 @@ impl<'a, R: ExactRecords + PeekableRecords> IntoRecords for PeekedRecords<'a, R>
 
     ghost rows_left = { λ s. rows_from (R.rows s.records.now) s.columns s.row s.left };
 
-    ghost may_refuse_left = { λ _. false };
+    ghost can_fail_left = { λ _. false };
 
     ghost gives = { λ s. record {
       can_next = tt;

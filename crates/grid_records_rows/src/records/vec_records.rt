@@ -97,7 +97,7 @@ fn cells_again(alloc: Global, cells: &[Text]) -> Result<Vec<Text>, AllocError>
 impl<T: Cell> RecordTexts for VecRecords<T> {
     ghost rows = { λ records. texts_of_rows T.text records.rows.items };
 
-    ghost may_refuse = { λ _. false };
+    ghost can_fail = { λ _. false };
 }
 
 impl<T: Cell> RecordColumns for VecRecords<T> {

@@ -33,24 +33,24 @@ each_tied steps tie other follows s (y ∷ ys) gives =
     (gives.0, λ x t step. let next = gives.1 x t step in (follows x y next.0, each_tied steps tie other follows t ys next.1))
 
 -- cells that are given are answered
-pub each_answered : {S R C : Type 0} (E : Type 0) (steps : S → Option C → S → Type 0) (inside : R → S) (text : C → List ℕ) (may_refuse : Bool) (s : R) (row : List (List ℕ)) →
+pub each_answered : {S R C : Type 0} (E : Type 0) (steps : S → Option C → S → Type 0) (inside : R → S) (text : C → List ℕ) (can_fail : Bool) (s : R) (row : List (List ℕ)) →
     GivesEach steps (λ cell wanted. text cell ≡ wanted) (inside s) row →
-    GivesCells {E = E} (λ s r t. AnswersCell steps (inside s) r (inside t)) text may_refuse s row
-each_answered E steps inside text may_refuse s [] gives =
+    GivesCells {E = E} (λ s r t. AnswersCell steps (inside s) r (inside t)) text can_fail s row
+each_answered E steps inside text can_fail s [] gives =
     λ answer t. elim answer as (λ v. AnswersCell steps (inside s) (Some v) (inside t) → ⊥) [ Ok cell ↦ λ step. gives cell (inside t) step | Err _ ↦ λ never. never ]
-each_answered E steps inside text may_refuse s (wanted ∷ row) gives = (
+each_answered E steps inside text can_fail s (wanted ∷ row) gives = (
   λ t step. gives.0 (inside t) step,
-  λ cell t step. let next = gives.1 cell (inside t) step in (next.0, each_answered E steps inside text may_refuse t row next.1),
+  λ cell t step. let next = gives.1 cell (inside t) step in (next.0, each_answered E steps inside text can_fail t row next.1),
   λ refusal t never. absurd never,
 )
 
 -- an iterator that refuses none gives the cells of a row where its answers are they
-pub each_cell_given : {S C E : Type 0} (steps : S → Option (Result C E) → S → Type 0) (text : C → List ℕ) (may_refuse : Bool) (s : S) (row : List (List ℕ)) →
-    GivesEach steps (λ answer wanted. MatchResult answer (λ cell. text cell ≡ wanted) (λ _. ⊥)) s row → GivesCells steps text may_refuse s row
-each_cell_given steps text may_refuse s [] gives = gives
-each_cell_given steps text may_refuse s (wanted ∷ row) gives = (
+pub each_cell_given : {S C E : Type 0} (steps : S → Option (Result C E) → S → Type 0) (text : C → List ℕ) (can_fail : Bool) (s : S) (row : List (List ℕ)) →
+    GivesEach steps (λ answer wanted. MatchResult answer (λ cell. text cell ≡ wanted) (λ _. ⊥)) s row → GivesCells steps text can_fail s row
+each_cell_given steps text can_fail s [] gives = gives
+each_cell_given steps text can_fail s (wanted ∷ row) gives = (
   gives.0,
-  λ cell t step. let next = gives.1 (Ok cell) t step in (next.0, each_cell_given steps text may_refuse t row next.1),
+  λ cell t step. let next = gives.1 (Ok cell) t step in (next.0, each_cell_given steps text can_fail t row next.1),
   λ refusal t step. absurd (gives.1 (Err refusal) t step).0,
 )
 
@@ -69,18 +69,18 @@ each_becomes steps becomes inside cells_of tie wanted follows s (texts ∷ rows)
 
 -- the same, of rows whose cells are given
 pub each_given : {S R Row Cells I C : Type 0} (E : Type 0) (row_steps : S → Option Row → S → Type 0) (becomes : Row → I → Type 0) (inside : R → S) (cells_of : Cells → I)
-    (cell_steps : I → Option C → I → Type 0) (text : C → List ℕ) (can : Cells → Type 0) (left : Cells → Count) (may_refuse : Bool) (texts_of : Row → List (List ℕ)) →
+    (cell_steps : I → Option C → I → Type 0) (text : C → List ℕ) (can : Cells → Type 0) (left : Cells → Count) (can_fail : Bool) (texts_of : Row → List (List ℕ)) →
     ((cells : Cells) → can cells × IsFinite (left cells)) → ((row : Row) (it : I) → becomes row it → GivesEach cell_steps (λ cell wanted. text cell ≡ wanted) it (texts_of row)) →
     (s : R) (rows : List (List (List ℕ))) → GivesEach row_steps (λ row texts. texts_of row ≡ texts) (inside s) rows →
     GivesEach {A = Cells} (λ s r t. GivesCellsOf row_steps becomes (inside s) r cells_of (inside t))
-    (GivesTexts {E = E} can left (λ s r t. AnswersCell cell_steps (cells_of s) r (cells_of t)) text may_refuse) s rows
-each_given E row_steps becomes inside cells_of cell_steps text can left may_refuse texts_of ends cells_are =
+    (GivesTexts {E = E} can left (λ s r t. AnswersCell cell_steps (cells_of s) r (cells_of t)) text can_fail) s rows
+each_given E row_steps becomes inside cells_of cell_steps text can left can_fail texts_of ends cells_are =
     each_becomes row_steps becomes inside cells_of (λ row texts. texts_of row ≡ texts) _
     (λ row cells texts same became.
     record {
       can_next = (ends cells).0;
       ends = (ends cells).1;
-      each = each_answered E cell_steps cells_of text may_refuse cells texts (subst (λ v. GivesEach cell_steps (λ cell wanted. text cell ≡ wanted) (cells_of cells) v) same (cells_are row (cells_of cells) became));
+      each = each_answered E cell_steps cells_of text can_fail cells texts (subst (λ v. GivesEach cell_steps (λ cell wanted. text cell ≡ wanted) (cells_of cells) v) same (cells_are row (cells_of cells) became));
     })
 
 -- an iterator that shows the values that are left gives what f makes of them

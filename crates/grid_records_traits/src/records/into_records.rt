@@ -23,16 +23,16 @@ pub trait IntoRecords: RecordTexts {
     ghost rows_left: { Self.IterRows → List (List (List ℕ)) };
 
     /// Whether one of their cells may fail where allocation fails.
-    ghost may_refuse_left: { Self.IterRows → Bool };
+    ghost can_fail_left: { Self.IterRows → Bool };
 
     /// The rows.
     fn iter_rows(self) -> Self::IterRows
         ensures rows { rows_left result ≡ Self.rows self }
-        ensures refuses { may_refuse_left result ≡ Self.may_refuse self };
+        ensures refuses { can_fail_left result ≡ Self.can_fail self };
 
     /// At any time an iterator over rows gives those that it has left.
-    ghost gives: { (s : Self.IterRows) → GivesRows Self.IterRows.Iterator Self.IterColumns.Iterator Self.Cell.text (may_refuse_left s) s (rows_left s) };
+    ghost gives: { (s : Self.IterRows) → GivesRows Self.IterRows.Iterator Self.IterColumns.Iterator Self.Cell.text (can_fail_left s) s (rows_left s) };
 
     /// The row that it gave is left no more, and all others are.
-    ghost passes: { (s t : Self.IterRows) (cells : Self.IterColumns) → Self.IterRows.next_gives s (Some cells) t → HasPassedOne (rows_left s) (may_refuse_left s) (rows_left t) (may_refuse_left t) };
+    ghost passes: { (s t : Self.IterRows) (cells : Self.IterColumns) → Self.IterRows.next_gives s (Some cells) t → HasPassedOne (rows_left s) (can_fail_left s) (rows_left t) (can_fail_left t) };
 }

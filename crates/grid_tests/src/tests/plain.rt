@@ -20,7 +20,7 @@ pub(super) struct PlainRows<'a> {
 impl<'a> RecordTexts for PlainRows<'a> {
     ghost rows = { λ records. map plain_texts records.rows.now };
 
-    ghost may_refuse = { λ _. false };
+    ghost can_fail = { λ _. false };
 }
 
 impl<'a> RecordColumns for PlainRows<'a> {

@@ -6,14 +6,14 @@ use Rattle.grid_records_estimate.proofs.OneCellRead.{RowRead-all, RowRead-more, 
 use Rattle.grid_records_estimate.proofs.reading.collect_row.Goals as goal
 
 pub loop-cell-init : goal.loop-cell-init
-loop-cell-init g c = (tt, λ texts may_refuse before gives h. RowRead-none _ _ _ before c.args.row texts h)
+loop-cell-init g c = (tt, λ texts can_fail before gives h. RowRead-none _ _ _ before c.args.row texts h)
 
 pub loop-cell-preserved : goal.loop-cell-preserved
 loop-cell-preserved g c = (
   cells_more c.loop-cell.yielded c.in-Some.cell c.in_ok-cell.field-0 c.loop-cell.invariant.0 c.in_ok-cell.was,
-  λ texts may_refuse before gives h.
+  λ texts can_fail before gives h.
       let sizing = g.S.Sizing.sizing c.args.cfg.now in
-      let old = c.loop-cell.invariant.1 texts may_refuse before gives h in
+      let old = c.loop-cell.invariant.1 texts can_fail before gives h in
       let split = next_text c.loop-cell.yielded c.in-Some.cell c.in_ok-cell.field-0 _ c.loop-cell.cell-iterator c.next.new.self gives
       c.into_iter-cell-iterator.ensures.into_iter_gives c.loop-cell.yielded_by c.loop-cell.invariant.0 c.in-Some.ensures.steps c.in_ok-cell.was in
       let P : Position → Type 0 = λ pos. HasRead sizing c.collect_cell.new.widths c.collect_cell.new.heights ((before ++ old.done) ++ (pos, g.C.Cell.text c.in_ok-cell.field-0) ∷ []) in
@@ -23,7 +23,7 @@ loop-cell-preserved g c = (
 )
 
 pub returns : goal.returns
-returns g c = λ texts may_refuse before gives h.
+returns g c = λ texts can_fail before gives h.
     let none = none_text c.loop-cell.yielded _ c.loop-cell.cell-iterator c.next.new.self gives
     c.into_iter-cell-iterator.ensures.into_iter_gives c.loop-cell.yielded_by c.loop-cell.invariant.0 c.in-None.ensures.steps in
-    RowRead-all _ _ _ before c.args.row c.loop-cell.column _ texts (c.loop-cell.invariant.1 texts may_refuse before gives h) none
+    RowRead-all _ _ _ before c.args.row c.loop-cell.column _ texts (c.loop-cell.invariant.1 texts can_fail before gives h) none

@@ -35,7 +35,7 @@ impl<I: IntoRecords> BufRecords<I> {
     pub fn new(alloc: Global, records: I, count: usize) -> Result<BufRecords<I>, AllocError>
         ensures rows { IfOk result (λ out. ⟦<BufRecords<I> as RecordTexts>⟧.rows out ≡ I.RecordTexts.rows records) }
         ensures kept { IfOk result (λ out. ⟦<BufRecords<I> as KeptTexts>⟧.kept out ≡ take count (I.RecordTexts.rows records)) }
-        ensures refuses { IfOk result (λ out. IsTrue (⟦<BufRecords<I> as RecordTexts>⟧.may_refuse out) → IsTrue (I.RecordTexts.may_refuse records)) }
+        ensures refuses { IfOk result (λ out. IsTrue (⟦<BufRecords<I> as RecordTexts>⟧.can_fail out) → IsTrue (I.RecordTexts.can_fail records)) }
         ensures none { I.RecordTexts.rows records ≡ [] → IsOk result }
         ensures no_count { count ≡ 0 → IsOk result }
     {
@@ -64,7 +64,7 @@ impl<I: IntoRecords> BufRecords<I> {
 impl<I: IntoRecords> RecordTexts for BufRecords<I> {
     ghost rows = { λ s. texts_of_rows I.Cell.text s.kept.items ++ of_rest I.rows_left [] s.rest };
 
-    ghost may_refuse = { λ s. of_rest I.may_refuse_left false s.rest };
+    ghost can_fail = { λ s. of_rest I.can_fail_left false s.rest };
 }
 
 impl<I: IntoRecords> KeptTexts for BufRecords<I> {
@@ -80,13 +80,13 @@ impl<I: IntoRecords> IntoRecords for BufRecords<I> {
 
     ghost rows_left = { λ s. texts_of_rows I.Cell.text (items_left s.kept.0) ++ of_rest I.rows_left [] s.rest };
 
-    ghost may_refuse_left = { λ s. of_rest I.may_refuse_left false s.rest };
+    ghost can_fail_left = { λ s. of_rest I.can_fail_left false s.rest };
 
     ghost gives = { λ s. buffered_rows_give I.Cell.text (λ s. s.0) (λ cells. cells.0) (λ s. s.kept) (λ s. s.rest)
-        (λ row it became. all_items it _ became.0 (became.1 ∙ row.ok.0)) I.may_refuse_left I.rows_left s I.gives };
+        (λ row it became. all_items it _ became.0 (became.1 ∙ row.ok.0)) I.can_fail_left I.rows_left s I.gives };
 
     ghost passes = { λ s t cells step. passed_buffered I.Cell.text _ I.IterRows.next_gives (λ s. s.0)
-        (λ cells. cells.0) I.rows_left I.may_refuse_left I.passes s.kept t.kept s.rest t.rest cells step };
+        (λ cells. cells.0) I.rows_left I.can_fail_left I.passes s.kept t.kept s.rest t.rest cells step };
 
     fn iter_rows(self) -> BufferedRows<I::Cell, I::IterRows> {
         BufferedRows {
@@ -105,7 +105,7 @@ pub fn read_row<C: Cell, I: Iterator<Item = Result<C, AllocError>>>(
     requires can { I.can_next cells }
     requires ends { IsFinite (I.remaining cells) }
     ensures cells { IfOk result (λ row. Drains I.next_gives cells (map (λ cell. Ok cell) row.items)) }
-    ensures texts { IfOk result (λ row. (texts : List (List ℕ)) (may_refuse : Bool) → GivesTexts I.can_next I.remaining I.next_gives C.text may_refuse cells texts → map C.text row.items ≡ texts) }
+    ensures texts { IfOk result (λ row. (texts : List (List ℕ)) (can_fail : Bool) → GivesTexts I.can_next I.remaining I.next_gives C.text can_fail cells texts → map C.text row.items ≡ texts) }
 {
     let mut row = Vec::new(alloc);
     for cell in cells {

@@ -23,7 +23,7 @@ impl<I: IntoRecords> Fitted<I> {
     /// `columns` cells of each row. Does not allocate.
     pub fn new(records: I, columns: usize) -> Fitted<I>
         ensures rows { ⟦<Fitted<I> as RecordTexts>⟧.rows result ≡ fitted columns (I.RecordTexts.rows records) }
-        ensures refuses { ⟦<Fitted<I> as RecordTexts>⟧.may_refuse result ≡ I.RecordTexts.may_refuse records }
+        ensures refuses { ⟦<Fitted<I> as RecordTexts>⟧.can_fail result ≡ I.RecordTexts.can_fail records }
     {
         Fitted { records, columns }
     }
@@ -32,7 +32,7 @@ impl<I: IntoRecords> Fitted<I> {
 impl<I: IntoRecords> RecordTexts for Fitted<I> {
     ghost rows = { λ s. fitted s.columns (I.RecordTexts.rows s.records) };
 
-    ghost may_refuse = { λ s. I.RecordTexts.may_refuse s.records };
+    ghost can_fail = { λ s. I.RecordTexts.can_fail s.records };
 }
 
 impl<I: IntoRecords> IntoRecords for Fitted<I> {
@@ -44,7 +44,7 @@ impl<I: IntoRecords> IntoRecords for Fitted<I> {
 
     ghost rows_left = { λ s. fitted s.columns (I.rows_left s.rows) };
 
-    ghost may_refuse_left = { λ s. I.may_refuse_left s.rows };
+    ghost can_fail_left = { λ s. I.can_fail_left s.rows };
 
     ghost gives = { λ s. gives_fitted_rows I.IterRows.next_gives I.IterColumns.next_gives I.Cell.text s (I.gives s.rows) };
 

@@ -20,7 +20,7 @@ impl<I: IntoRecords> LimitColumns<I> {
     /// As many cells of each row of the source, or all where it has fewer. Does not allocate.
     pub fn new(records: I, limit: usize) -> LimitColumns<I>
         ensures rows { ⟦<LimitColumns<I> as RecordTexts>⟧.rows result ≡ map (take limit) (I.RecordTexts.rows records) }
-        ensures refuses { ⟦<LimitColumns<I> as RecordTexts>⟧.may_refuse result ≡ I.RecordTexts.may_refuse records }
+        ensures refuses { ⟦<LimitColumns<I> as RecordTexts>⟧.can_fail result ≡ I.RecordTexts.can_fail records }
     {
         LimitColumns { records, limit }
     }
@@ -29,7 +29,7 @@ impl<I: IntoRecords> LimitColumns<I> {
 impl<I: IntoRecords> RecordTexts for LimitColumns<I> {
     ghost rows = { λ s. map (take s.limit) (I.RecordTexts.rows s.records) };
 
-    ghost may_refuse = { λ s. I.RecordTexts.may_refuse s.records };
+    ghost can_fail = { λ s. I.RecordTexts.can_fail s.records };
 }
 
 impl<I: IntoRecords> IntoRecords for LimitColumns<I> {
@@ -41,7 +41,7 @@ impl<I: IntoRecords> IntoRecords for LimitColumns<I> {
 
     ghost rows_left = { λ s. map (take s.limit) (I.rows_left s.rows) };
 
-    ghost may_refuse_left = { λ s. I.may_refuse_left s.rows };
+    ghost can_fail_left = { λ s. I.can_fail_left s.rows };
 
     ghost gives = { λ s. limited_rows_give I.IterRows.next_gives I.IterColumns.next_gives I.Cell.text s (I.gives s.rows) };
 

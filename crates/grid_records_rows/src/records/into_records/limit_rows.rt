@@ -19,7 +19,7 @@ impl<I: IntoRecords> LimitRows<I> {
     /// As many rows of the source, or all where it has fewer. Does not allocate.
     pub fn new(records: I, limit: usize) -> LimitRows<I>
         ensures rows { ⟦<LimitRows<I> as RecordTexts>⟧.rows result ≡ take limit (I.RecordTexts.rows records) }
-        ensures refuses { ⟦<LimitRows<I> as RecordTexts>⟧.may_refuse result ≡ I.RecordTexts.may_refuse records }
+        ensures refuses { ⟦<LimitRows<I> as RecordTexts>⟧.can_fail result ≡ I.RecordTexts.can_fail records }
     {
         LimitRows { records, limit }
     }
@@ -28,7 +28,7 @@ impl<I: IntoRecords> LimitRows<I> {
 impl<I: IntoRecords> RecordTexts for LimitRows<I> {
     ghost rows = { λ s. take s.limit (I.RecordTexts.rows s.records) };
 
-    ghost may_refuse = { λ s. I.RecordTexts.may_refuse s.records };
+    ghost can_fail = { λ s. I.RecordTexts.can_fail s.records };
 }
 
 impl<I: IntoRecords> IntoRecords for LimitRows<I> {
@@ -40,7 +40,7 @@ impl<I: IntoRecords> IntoRecords for LimitRows<I> {
 
     ghost rows_left = { λ s. take (take_count s) (I.rows_left (take_source s)) };
 
-    ghost may_refuse_left = { λ s. I.may_refuse_left (take_source s) };
+    ghost can_fail_left = { λ s. I.can_fail_left (take_source s) };
 
     ghost gives = { λ s. gives_taken s (take_count s) refl refl (I.gives (take_source s)) };
 

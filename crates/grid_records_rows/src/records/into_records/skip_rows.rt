@@ -19,7 +19,7 @@ impl<I: IntoRecords> SkipRows<I> {
     /// The rows after the first `count`, or none where it has no more. Does not allocate.
     pub fn new(records: I, count: usize) -> SkipRows<I>
         ensures rows { ⟦<SkipRows<I> as RecordTexts>⟧.rows result ≡ drop count (I.RecordTexts.rows records) }
-        ensures refuses { ⟦<SkipRows<I> as RecordTexts>⟧.may_refuse result ≡ I.RecordTexts.may_refuse records }
+        ensures refuses { ⟦<SkipRows<I> as RecordTexts>⟧.can_fail result ≡ I.RecordTexts.can_fail records }
     {
         SkipRows { records, count }
     }
@@ -28,7 +28,7 @@ impl<I: IntoRecords> SkipRows<I> {
 impl<I: IntoRecords> RecordTexts for SkipRows<I> {
     ghost rows = { λ s. drop s.count (I.RecordTexts.rows s.records) };
 
-    ghost may_refuse = { λ s. I.RecordTexts.may_refuse s.records };
+    ghost can_fail = { λ s. I.RecordTexts.can_fail s.records };
 }
 
 impl<I: IntoRecords> IntoRecords for SkipRows<I> {
@@ -40,13 +40,13 @@ impl<I: IntoRecords> IntoRecords for SkipRows<I> {
 
     ghost rows_left = { λ s. drop (skip_count s) (I.rows_left (skip_source s)) };
 
-    ghost may_refuse_left = { λ s. I.may_refuse_left (skip_source s) };
+    ghost can_fail_left = { λ s. I.can_fail_left (skip_source s) };
 
     ghost gives = { λ s. gives_skipped s (skip_count s) refl refl (I.gives (skip_source s)) };
 
     ghost passes = { λ s t cells step. (
       passed_skipped I.IterRows.next_gives I.rows_left (λ s t cells step. (I.passes s t cells step).0) s t cells step,
-      refusing_skipped I.IterRows.next_gives I.may_refuse_left (λ s t cells step. (I.passes s t cells step).1) s t cells step,
+      refusing_skipped I.IterRows.next_gives I.can_fail_left (λ s t cells step. (I.passes s t cells step).1) s t cells step,
     ) };
 
     fn iter_rows(self) -> Skip<I::IterRows> {

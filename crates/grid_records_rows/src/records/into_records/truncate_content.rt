@@ -40,7 +40,7 @@ impl<I: IntoRecords, D: Dimension + Copy> TruncateContent<I, D> {
 impl<I: IntoRecords, D: Dimension + Copy> RecordTexts for TruncateContent<I, D> {
     ghost rows = { λ s. truncated_rows (D.width s.dimension) (I.RecordTexts.rows s.records) };
 
-    ghost may_refuse = { λ _. true };
+    ghost can_fail = { λ _. true };
 }
 
 impl<I: IntoRecords, D: Dimension + Copy> IntoRecords for TruncateContent<I, D> {
@@ -52,7 +52,7 @@ impl<I: IntoRecords, D: Dimension + Copy> IntoRecords for TruncateContent<I, D> 
 
     ghost rows_left = { λ s. truncated_rows (D.width s.dimension) (I.rows_left s.rows) };
 
-    ghost may_refuse_left = { λ _. true };
+    ghost can_fail_left = { λ _. true };
 
     ghost gives = { λ s. truncated_rows_give I.IterRows.next_gives I.IterColumns.next_gives I.Cell.text D.width s (I.gives s.rows) };
 

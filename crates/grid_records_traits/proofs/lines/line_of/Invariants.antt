@@ -6,5 +6,5 @@ abbrev pub invariant-loop-line : goal.invariant-loop-line
 invariant-loop-line l =
     record {
       sought : get_or l.line-iterator.parts l.before [] ≡ get_or l.initial.line-iterator.parts l.fn.index [];
-      refuses : IsTrue l.line-iterator.may_refuse → IsTrue l.initial.line-iterator.may_refuse;
+      refuses : IsTrue l.line-iterator.can_fail → IsTrue l.initial.line-iterator.can_fail;
     }

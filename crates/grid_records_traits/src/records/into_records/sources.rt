@@ -17,7 +17,7 @@ use std::{array, slice, vec};
 impl<'a, T: Cell> RecordTexts for &'a [Vec<T>] {
     ghost rows = { λ rows. texts_of_rows T.text rows.now };
 
-    ghost may_refuse = { λ _. false };
+    ghost can_fail = { λ _. false };
 }
 
 impl<'a, T: Cell> IntoRecords for &'a [Vec<T>] {
@@ -29,7 +29,7 @@ impl<'a, T: Cell> IntoRecords for &'a [Vec<T>] {
 
     ghost rows_left = { λ s. texts_of_rows T.text (iter_rest s.0) };
 
-    ghost may_refuse_left = { λ _. false };
+    ghost can_fail_left = { λ _. false };
 
     ghost gives = { λ s. record { can_next = tt; ends = tt; each = slice_gives T.text _ _ _ (λ _. (tt, tt)) (λ s. s.0) (λ cells. cells.0) (λ _ _ became. became.0) s } };
 
@@ -43,7 +43,7 @@ impl<'a, T: Cell> IntoRecords for &'a [Vec<T>] {
 impl<T: Cell> RecordTexts for Vec<Vec<T>> {
     ghost rows = { λ rows. texts_of_rows T.text rows.items };
 
-    ghost may_refuse = { λ _. false };
+    ghost can_fail = { λ _. false };
 }
 
 impl<T: Cell> IntoRecords for Vec<Vec<T>> {
@@ -55,7 +55,7 @@ impl<T: Cell> IntoRecords for Vec<Vec<T>> {
 
     ghost rows_left = { λ s. texts_of_rows T.text (items_left s.0) };
 
-    ghost may_refuse_left = { λ _. false };
+    ghost can_fail_left = { λ _. false };
 
     ghost gives = { λ s. record {
       can_next = tt;
@@ -74,7 +74,7 @@ impl<T: Cell> IntoRecords for Vec<Vec<T>> {
 impl<T: Cell, const C: usize, const R: usize> RecordTexts for [[T; C]; R] {
     ghost rows = { λ rows. map (λ row. map T.text row) rows };
 
-    ghost may_refuse = { λ _. false };
+    ghost can_fail = { λ _. false };
 }
 
 impl<T: Cell, const C: usize, const R: usize> IntoRecords for [[T; C]; R] {
@@ -86,7 +86,7 @@ impl<T: Cell, const C: usize, const R: usize> IntoRecords for [[T; C]; R] {
 
     ghost rows_left = { λ s. map (λ row. map T.text row) (array_into_iter_items s.0) };
 
-    ghost may_refuse_left = { λ _. false };
+    ghost can_fail_left = { λ _. false };
 
     ghost gives = { λ s. record { can_next = tt; ends = tt; each = array_gives T.text _ _ _ (λ _. (tt, tt)) (λ s. s.0) (λ cells. cells.0) (λ _ _ became. became.0) s } };
 

@@ -10,7 +10,7 @@ invariant-loop-cell g l =
     record {
       are : AreCells l.yielded;
       kept : l.yielded ≡ map (λ cell. Ok cell) l.row.items;
-      left : (texts : List (List ℕ)) (may_refuse : Bool) →
-          GivesTexts g.I.Iterator.can_next g.I.Iterator.remaining g.I.Iterator.next_gives g.C.Cell.text may_refuse l.fn.cells texts →
+      left : (texts : List (List ℕ)) (can_fail : Bool) →
+          GivesTexts g.I.Iterator.can_next g.I.Iterator.remaining g.I.Iterator.next_gives g.C.Cell.text can_fail l.fn.cells texts →
           map g.C.Cell.text l.row.items ++ drop (length l.yielded) texts ≡ texts;
     }

@@ -7,6 +7,6 @@ abbrev pub invariant-loop : goal.invariant-loop
 invariant-loop g l =
     record {
       rows : texts_of_rows g.I.Cell.Cell.text l.kept.items ++ g.I.IntoRecords.rows_left l.rest ≡ g.I.IntoRecords.rows_left l.initial.rest;
-      refuses : g.I.IntoRecords.may_refuse_left l.rest ≡ g.I.IntoRecords.may_refuse_left l.initial.rest;
+      refuses : g.I.IntoRecords.can_fail_left l.rest ≡ g.I.IntoRecords.can_fail_left l.initial.rest;
       count : length l.kept.items ≡ l.counter;
     }
