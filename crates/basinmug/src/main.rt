@@ -58,13 +58,13 @@ fn show(rt: &HostRuntime, plan: Plan) -> ExitCode {
         width,
         options,
     } = plan;
-    let outcome = shown(rt, file.as_deref(), delimiter, width, options);
+    let outcome = print_file(rt, file.as_deref(), delimiter, width, options);
     ended(rt, file.as_deref(), outcome)
 }
 
 // Prints the records of a file, with this byte between fields, or where there is none with that which the file's name
 // says. Where their table is wider than asked, standard error says so.
-fn shown(
+fn print_file(
     rt: &HostRuntime,
     file: Option<&str>,
     delimiter: Option<u8>,
@@ -107,9 +107,9 @@ fn table(rt: &HostRuntime, bytes: &[u8], delimiter: u8, options: &Options) -> Re
     let outcome = run(rt.alloc(), bytes, delimiter, options, &mut writer);
     let (mut output, rest) = writer.into_inner().into_parts();
     match outcome {
-        Ok(shown) => {
+        Ok(printed) => {
             write_all(&mut output, &rest)?;
-            Ok(shown.wider)
+            Ok(printed.wider)
         }
         Err(fault) => Err(flushed(fault, &output)),
     }
@@ -148,14 +148,14 @@ fn ended(rt: &HostRuntime, file: Option<&str>, outcome: Result<(), Fault>) -> Ex
     ExitCode::FAILURE
 }
 
-// Says a line on standard error. Names in it may hold anything: what would move a terminal's cursor is shown.
+// Says a line on standard error. Names in it may hold anything: what would move a terminal's cursor is made visible.
 fn say(rt: &HostRuntime, line: Result<String, AllocError>) {
-    let shown = match line {
+    let line = match line {
         Ok(line) => visible(rt.alloc(), line.as_str()),
         Err(error) => Err(error),
     };
-    let _ = match shown {
-        Ok(shown) => eprintln!(rt; "basinmug: {shown}"),
+    let _ = match line {
+        Ok(line) => eprintln!(rt; "basinmug: {line}"),
         Err(_) => eprintln!(rt; "basinmug: out of memory"),
     };
 }
@@ -167,11 +167,11 @@ fn said_of(rt: &HostRuntime, words: &[String], text: &str) -> Result<String, All
     if !text.ends_with('\n') {
         return String::from_str(rt.alloc(), text);
     }
-    let mut shown = Vec::new(rt.alloc());
+    let mut visible_words = Vec::new(rt.alloc());
     for word in words {
-        shown.push(visible(rt.alloc(), word.as_str())?)?;
+        visible_words.push(visible(rt.alloc(), word.as_str())?)?;
     }
-    match read_words(rt.alloc(), &shown)? {
+    match read_words(rt.alloc(), &visible_words)? {
         Asked::Faulty(said) => Ok(said),
         Asked::Run(_) | Asked::Help(_) => visible(rt.alloc(), text),
     }

@@ -43,7 +43,7 @@ fn column_of_text<C: Cell>(
 fn shows(alloc: Global, text: &str, name: &str) -> Result<bool, AllocError>
     ensures { IfOk result (λ answer. answer ≡ shows name.now text.now) }
 {
-    let shown = text.ansi_strip(alloc)?;
-    let answer = shown.as_str() == name;
+    let stripped = text.ansi_strip(alloc)?;
+    let answer = stripped.as_str() == name;
     Ok(answer)
 }

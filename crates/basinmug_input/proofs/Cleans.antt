@@ -8,39 +8,39 @@ use Rattle.std.specs.List.{list_all}
 use Rattle.std.specs.Prelude.{◌==◌, ◌&&◌, ◌||◌, not, encode_utf8, if◌then◌else◌, nat_lt}
 use Rattle.std.specs.Str.{encode_utf8_all}
 use Rattle.csv.specs.Machine.{carriage_return, line_feed}
-use Rattle.basinmug_input.specs.Cleaning.{begins_with_line_feed, cleaned_text, delete, is_c1, is_control, shown, stays, tab, without_returns}
+use Rattle.basinmug_input.specs.Cleaning.{begins_with_line_feed, cleaned_text, delete, is_c1, is_control, cleaned_char, stays, tab, without_returns}
 
 -- the carriage return that waits
 abbrev pub waiting : Bool → List ℕ
 waiting true = carriage_return ∷ []
 waiting false = []
 
-flat_map-if : (b : Bool) (c : ℕ) (cs : List ℕ) → flat_map shown ((if b then [] else c ∷ []) ++ cs) ≡ (if b then [] else shown c) ++ flat_map shown cs
+flat_map-if : (b : Bool) (c : ℕ) (cs : List ℕ) → flat_map cleaned_char ((if b then [] else c ∷ []) ++ cs) ≡ (if b then [] else cleaned_char c) ++ flat_map shown cs
 flat_map-if true c cs = refl
 flat_map-if false c cs = refl
 
 -- a character that comes when nothing waits
 coming : (b : Bool) (c : ℕ) (cs : List ℕ) → (c == carriage_return) ≡ b
-    → cleaned_text (c ∷ cs) ≡ (if b then [] else shown c) ++ cleaned_text (waiting b ++ cs)
+    → cleaned_text (c ∷ cs) ≡ (if b then [] else cleaned_char c) ++ cleaned_text (waiting b ++ cs)
 coming true c cs e = ap (λ x. cleaned_text (x ∷ cs)) (eqb-true c carriage_return e)
-coming false c cs e = ap (λ (b : Bool). flat_map shown ((if b && begins_with_line_feed cs then [] else c ∷ []) ++ without_returns cs)) e
+coming false c cs e = ap (λ (b : Bool). flat_map cleaned_char ((if b && begins_with_line_feed cs then [] else c ∷ []) ++ without_returns cs)) e
 
 -- the return that waits, before the next character
-behind_return : (b : Bool) (cs : List ℕ) → flat_map shown ((if b then [] else carriage_return ∷ []) ++ cs) ≡ (if true && not b then shown carriage_return else []) ++ flat_map shown cs
+behind_return : (b : Bool) (cs : List ℕ) → flat_map cleaned_char ((if b then [] else carriage_return ∷ []) ++ cs) ≡ (if true && not b then cleaned_char carriage_return else []) ++ flat_map shown cs
 behind_return true cs = refl
 behind_return false cs = refl
 
-pub next-shown : (waits : Bool) (c : ℕ) (cs : List ℕ)
+pub next-cleaned : (waits : Bool) (c : ℕ) (cs : List ℕ)
     → cleaned_text (waiting waits ++ c ∷ cs)
-    ≡ (if waits && not (c == line_feed) then shown carriage_return else []) ++ ((if c == carriage_return then [] else shown c) ++ cleaned_text (waiting (c == carriage_return) ++ cs))
-next-shown true c cs =
+    ≡ (if waits && not (c == line_feed) then cleaned_char carriage_return else []) ++ ((if c == carriage_return then [] else cleaned_char c) ++ cleaned_text (waiting (c == carriage_return) ++ cs))
+next-cleaned true c cs =
     behind_return (c == line_feed) (without_returns (c ∷ cs))
-    ∙ ap (λ (bytes : List ℕ). (if true && not (c == line_feed) then shown carriage_return else []) ++ bytes) (coming (c == carriage_return) c cs refl)
-next-shown false c cs = coming (c == carriage_return) c cs refl
+    ∙ ap (λ (bytes : List ℕ). (if true && not (c == line_feed) then cleaned_char carriage_return else []) ++ bytes) (coming (c == carriage_return) c cs refl)
+next-cleaned false c cs = coming (c == carriage_return) c cs refl
 
-pub end-shown : (waits : Bool) → cleaned_text (waiting waits ++ []) ≡ (if waits then shown carriage_return else [])
-end-shown true = append-nil (shown carriage_return)
-end-shown false = refl
+pub end-cleaned : (waits : Bool) → cleaned_text (waiting waits ++ []) ≡ (if waits then cleaned_char carriage_return else [])
+end-cleaned true = append-nil (cleaned_char carriage_return)
+end-cleaned false = refl
 
 or-left : (p q : Bool) → (not p || q) ≡ true → q ≡ false → p ≡ false
 or-left true true h none = none
@@ -56,11 +56,11 @@ both true q h = (refl, h)
 both false q h = cc h
 
 -- a character that stays is shown as it is
-stays-shown : (c : ℕ) → stays c ≡ true → (shown c ≡ encode_utf8 c) × ((c == carriage_return) ≡ false)
-stays-shown c h =
+stays-cleaned : (c : ℕ) → stays c ≡ true → (cleaned_char c ≡ encode_utf8 c) × ((c == carriage_return) ≡ false)
+stays-cleaned c h =
     elim (cases_Bool (c == line_feed)) [
       | inl is ↦
-          subst (λ x. (shown x ≡ encode_utf8 x) × ((x == carriage_return) ≡ false)) (sym (eqb-true c line_feed is)) (sym (encode_ascii line_feed (omega arith)), refl)
+          subst (λ x. (cleaned_char x ≡ encode_utf8 x) × ((x == carriage_return) ≡ false)) (sym (eqb-true c line_feed is)) (sym (encode_ascii line_feed (omega arith)), refl)
       | inr other ↦
           let none = neither (nat_lt c 0x20) (nat_lt 0x7e c && nat_lt c 0xa0) (or-left (is_control c) (c == line_feed) h other) in
           let low : 0x20 ≤ c = ltb-false c 0x20 none.0 in
@@ -70,11 +70,11 @@ stays-shown c h =
           (rw (other, no_tab, none.0, no_delete, no_c1) refl, ne_eqb c carriage_return (λ e. omega (arith, e, low)))
     ]
 
-pub stay-shown : (cs : List ℕ) → list_all stays cs ≡ true → cleaned_text cs ≡ encode_utf8_all cs
-stay-shown [] h = refl
-stay-shown (c ∷ cs) h =
+pub stay-cleaned : (cs : List ℕ) → list_all stays cs ≡ true → cleaned_text cs ≡ encode_utf8_all cs
+stay-cleaned [] h = refl
+stay-cleaned (c ∷ cs) h =
     let each = both (stays c) (list_all stays cs) h in
-    let here = stays-shown c each.0 in
+    let here = stays-cleaned c each.0 in
     coming false c cs here.1
     ∙ ap (λ (bytes : List ℕ). bytes ++ cleaned_text cs) here.0
-    ∙ ap (λ (bytes : List ℕ). encode_utf8 c ++ bytes) (stay-shown cs each.1)
+    ∙ ap (λ (bytes : List ℕ). encode_utf8 c ++ bytes) (stay-cleaned cs each.1)

@@ -11,7 +11,7 @@ use Rattle.ansi_scan.specs.declared.items.Kind.TheVariants as kind
 use Rattle.ansi_scan.proofs.Uniqueness.{pieces-ArePiecesOf}
 use Rattle.grid_records_measure.specs.Measures.{are_printable}
 use Rattle.basinmug_input.specs.Cleaning.{cleaned, cleaned_piece, cleaned_text, stays}
-use Rattle.basinmug_input.proofs.Cleans.{both, stay-shown}
+use Rattle.basinmug_input.proofs.Cleans.{both, stay-cleaned}
 
 plain : (b : ℕ) → is_in_range 0x20 0x7E b ≡ true → is_not_escape b ≡ true
 plain b h = grind (arith, nat_tests)
@@ -64,14 +64,14 @@ all-stay (b ∷ text) h =
     let each = both (is_in_range 0x20 0x7E b) (are_printable text) h in
     ap (λ (t : Bool). t && list_all stays text) (stays-here b each.0) ∙ all-stay text each.1
 
-shown-itself : (text : List ℕ) → are_printable text ≡ true → cleaned_text (chars text) ≡ text
-shown-itself text h =
+cleaned-itself : (text : List ℕ) → are_printable text ≡ true → cleaned_text (chars text) ≡ text
+cleaned-itself text h =
     let ascii : IsAscii text = λ i. each-low text i h in
-    stay-shown (chars text) (ap (list_all stays) (chars-IsAscii text ascii) ∙ all-stay text h) ∙ encodes-chars text (IsUtf8-from_ascii text ascii)
+    stay-cleaned (chars text) (ap (list_all stays) (chars-IsAscii text ascii) ∙ all-stay text h) ∙ encodes-chars text (IsUtf8-from_ascii text ascii)
 
 only-cleaned : (text : List ℕ) → are_printable text ≡ true → flat_map cleaned_piece (only text) ≡ text
 only-cleaned [] h = refl
-only-cleaned (b ∷ text) h = append-nil (cleaned_text (chars (b ∷ text))) ∙ shown-itself (b ∷ text) h
+only-cleaned (b ∷ text) h = append-nil (cleaned_text (chars (b ∷ text))) ∙ cleaned-itself (b ∷ text) h
 
 pub printable-cleaned : (text : List ℕ) → are_printable text ≡ true → cleaned text ≡ text
 printable-cleaned text h = ap (flat_map cleaned_piece) (pieces-ArePiecesOf text (only text) (only-of text h)) ∙ only-cleaned text h

@@ -26,16 +26,21 @@ is_c1 c = nat_lt 0x7f c && nat_lt c 0xa0
 abbrev pub is_control : ℕ → Bool
 is_control c = nat_lt c 0x20 || (nat_lt 0x7e c && nat_lt c 0xa0)
 
--- what a character becomes: a tab four spaces, another control character of C0 its picture, DELETE U+2421 SYMBOL FOR DELETE,
--- one of C1 U+FFFD REPLACEMENT CHARACTER; a line feed and all else stay
-abbrev pub shown : ℕ → List ℕ
-shown c =
-    if c == line_feed then line_feed ∷ []
-    else if c == tab then replicate 4 space
-    else if nat_lt c 0x20 then encode_utf8 (0x2400 + c)
+-- what a character becomes so that it moves nothing: one of C0 its picture (Unicode, Control Pictures), DELETE U+2421 SYMBOL FOR
+-- DELETE, one of C1 U+FFFD REPLACEMENT CHARACTER; others stay
+abbrev pub visible_char : ℕ → List ℕ
+visible_char c =
+    if nat_lt c 0x20 then encode_utf8 (0x2400 + c)
     else if c == delete then encode_utf8 0x2421
     else if is_c1 c then encode_utf8 0xfffd
     else encode_utf8 c
+
+-- what a character of a field becomes: a tab four spaces; a line feed stays, and all else is made visible
+abbrev pub cleaned_char : ℕ → List ℕ
+cleaned_char c =
+    if c == line_feed then line_feed ∷ []
+    else if c == tab then replicate 4 space
+    else visible_char c
 
 abbrev pub begins_with_line_feed : List ℕ → Bool
 begins_with_line_feed [] = false
@@ -48,7 +53,7 @@ without_returns (c ∷ cs) = (if (c == carriage_return) && begins_with_line_feed
 
 -- the bytes of characters outside sequences
 abbrev pub cleaned_text : List ℕ → List ℕ
-cleaned_text characters = flat_map shown (without_returns characters)
+cleaned_text characters = flat_map cleaned_char (without_returns characters)
 
 -- a piece of a text: a sequence stays as it is
 abbrev pub cleaned_piece : Piece → List ℕ

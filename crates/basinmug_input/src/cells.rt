@@ -3,9 +3,10 @@ ghost use Rattle.std.specs.Prelude.{◌≡◌, ◌+◌, ◌<◌, ◌==◌, ◌&&
 ghost use Rattle.std.specs.List.{list_all};
 ghost use Rattle.csv.specs.Machine.{carriage_return, line_feed};
 ghost use Rattle.basinmug_cells.specs.Fields.{field_text};
-ghost use Rattle.basinmug_input.specs.Cleaning.{cleaned, cleaned_text, is_control, shown, stays};
+ghost use Rattle.basinmug_input.specs.Cleaning.{cleaned, cleaned_text, cleaned_char, is_control, stays};
 ghost use Rattle.basinmug_input.specs.Flaws.{HasFlaw, IsSound};
 
+use crate::visible::push_visible;
 use ansi_scan::{Kind, first_broken, scan};
 use basinmug_cells::Field;
 use grid_records_measure::is_printable;
@@ -14,9 +15,6 @@ use std::alloc::{AllocError, Global};
 
 /// What a tab becomes.
 const TAB: &str = "    ";
-
-/// What a character of the second set of control characters becomes, which have no pictures: REPLACEMENT CHARACTER.
-const REPLACEMENT: char = '\u{fffd}';
 
 /// What is wrong with a field, and at which of its bytes.
 #[derive(Clone, Copy)]
@@ -90,7 +88,7 @@ fn push_cleaned(out: &mut String, text: &str) -> Result<(), AllocError>
     if stays(text) {
         return out.push_str(text);
     }
-    push_visible(out, text)
+    push_characters(out, text)
 }
 
 // Whether no character of a text is a control character other than a line feed.
@@ -108,7 +106,7 @@ fn is_control(c: char) -> bool
 }
 
 // Appends a text, character by character. A carriage return waits until the character behind it is known.
-fn push_visible(out: &mut String, text: &str) -> Result<(), AllocError>
+fn push_characters(out: &mut String, text: &str) -> Result<(), AllocError>
     ensures { OnOk result (string_bytes out.new ≡ string_bytes out.old ++ cleaned_text (chars text.now)) }
 {
     let mut waits = false;
@@ -118,49 +116,38 @@ fn push_visible(out: &mut String, text: &str) -> Result<(), AllocError>
         waits = c == '\r';
     }
     if waits {
-        return push_shown(out, '\r');
+        return push_cleaned_char(out, '\r');
     }
     Ok(())
 }
 
 // Appends the carriage return that waits, if one does, unless this character behind it is a line feed.
 fn push_return(out: &mut String, waits: bool, c: char) -> Result<(), AllocError>
-    ensures { OnOk result (string_bytes out.new ≡ string_bytes out.old ++ (if waits && not (c == line_feed) then shown carriage_return else [])) }
+    ensures { OnOk result (string_bytes out.new ≡ string_bytes out.old ++ (if waits && not (c == line_feed) then cleaned_char carriage_return else [])) }
 {
     if waits && c != '\n' {
-        return push_shown(out, '\r');
+        return push_cleaned_char(out, '\r');
     }
     Ok(())
 }
 
 // Appends a character, if it is no carriage return.
 fn push_other(out: &mut String, c: char) -> Result<(), AllocError>
-    ensures { OnOk result (string_bytes out.new ≡ string_bytes out.old ++ (if c == carriage_return then [] else shown c)) }
+    ensures { OnOk result (string_bytes out.new ≡ string_bytes out.old ++ (if c == carriage_return then [] else cleaned_char c)) }
 {
     if c == '\r' {
         return Ok(());
     }
-    push_shown(out, c)
+    push_cleaned_char(out, c)
 }
 
-// Appends what a character is shown as.
-fn push_shown(out: &mut String, c: char) -> Result<(), AllocError>
-    ensures { OnOk result (string_bytes out.new ≡ string_bytes out.old ++ shown c) }
+// Appends what a character becomes.
+fn push_cleaned_char(out: &mut String, c: char) -> Result<(), AllocError>
+    ensures { OnOk result (string_bytes out.new ≡ string_bytes out.old ++ cleaned_char c) }
 {
     match c {
         '\n' => out.push('\n'),
         '\t' => out.push_str(TAB),
-        '\u{7f}' => out.push('\u{2421}'),
-        '\u{80}'..='\u{9f}' => out.push(REPLACEMENT),
-        _ if c < ' ' => out.push(picture(c)),
-        _ => out.push(c),
+        _ => push_visible(out, c),
     }
-}
-
-// The picture of a control character of C0.
-fn picture(control: char) -> char
-    requires { control < 32 }
-    ensures { result ≡ 0x2400 + control }
-{
-    char::from_u32(0x2400 + control as u32).unwrap_or(REPLACEMENT)
 }

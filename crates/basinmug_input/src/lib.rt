@@ -9,7 +9,9 @@ mod places;
 mod progress;
 mod records;
 mod unquoted;
+mod visible;
 
 pub use fault::InputFault;
 pub use files::delimiter_for;
 pub use records::rows_of;
+pub use visible::push_visible;

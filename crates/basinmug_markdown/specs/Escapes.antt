@@ -6,21 +6,21 @@ use Rattle.ansi_scan.specs.Pieces.{pieces}
 use Rattle.ansi_scan.specs.Sequences.{Piece}
 
 -- a character, or what stands for it
-abbrev pub escaped_char : ℕ → List ℕ
-escaped_char c =
+abbrev pub markdown_char : ℕ → List ℕ
+markdown_char c =
     if c == 0x7c then codes "\\|"
     else if c == 0x5c then codes "\\\\"
     else if c == 0x0a then codes "<br>"
     else encode_utf8 c
 
 -- the bytes of characters outside sequences
-abbrev pub escaped_text : List ℕ → List ℕ
-escaped_text characters = flat_map escaped_char characters
+abbrev pub markdown_text : List ℕ → List ℕ
+markdown_text characters = flat_map markdown_char characters
 
 -- a piece of a text: a sequence stays as it is
-abbrev pub escaped_piece : Piece → List ℕ
-escaped_piece piece = if is_text_kind piece.kind then escaped_text (chars piece.bytes) else piece.bytes
+abbrev pub markdown_piece : Piece → List ℕ
+markdown_piece piece = if is_text_kind piece.kind then markdown_text (chars piece.bytes) else piece.bytes
 
 -- a text
-abbrev pub escaped : List ℕ → List ℕ
-escaped text = flat_map escaped_piece (pieces text)
+abbrev pub in_markdown : List ℕ → List ℕ
+in_markdown text = flat_map markdown_piece (pieces text)

@@ -3,18 +3,18 @@ ghost use Rattle.std.specs.Prelude.{◌≡◌, ◌∷◌, ◌++◌, [], codes};
 ghost use Rattle.std.specs.Prelude.{false, true};
 ghost use Rattle.grid_config_values.specs.declared.alignment.AlignmentHorizontal.TheVariants.{Left, Center, Right};
 ghost use Rattle.basinmug_markdown.specs.Documents.{delimiter_row, with_header};
-ghost use Rattle.basinmug_markdown.specs.Escapes.{escaped};
+ghost use Rattle.basinmug_markdown.specs.Escapes.{in_markdown};
 
 /// Each kind of escape, and what stays: a bar in a sequence, as that of a link's address, does.
 pub fn escapes_by_hand()
-    ensures nothing { escaped [] ≡ [] }
-    ensures plain { escaped (codes "a b<c") ≡ codes "a b<c" }
-    ensures bar { escaped (codes "a|b") ≡ codes "a\\|b" }
-    ensures backslash { escaped (codes "c\\d") ≡ codes "c\\\\d" }
-    ensures both { escaped (codes "\\|") ≡ codes "\\\\\\|" }
-    ensures lines { escaped (codes "two\nlines\n") ≡ codes "two<br>lines<br>" }
-    ensures sequence { escaped (0x1b ∷ codes "]8;;a|b" ++ 0x07 ∷ codes "c|d") ≡ 0x1b ∷ codes "]8;;a|b" ++ 0x07 ∷ codes "c\\|d" }
-    ensures past_ascii { escaped (0xe6 ∷ 0xbc ∷ 0xa2 ∷ codes "|") ≡ 0xe6 ∷ 0xbc ∷ 0xa2 ∷ codes "\\|" }
+    ensures nothing { in_markdown [] ≡ [] }
+    ensures plain { in_markdown (codes "a b<c") ≡ codes "a b<c" }
+    ensures bar { in_markdown (codes "a|b") ≡ codes "a\\|b" }
+    ensures backslash { in_markdown (codes "c\\d") ≡ codes "c\\\\d" }
+    ensures both { in_markdown (codes "\\|") ≡ codes "\\\\\\|" }
+    ensures lines { in_markdown (codes "two\nlines\n") ≡ codes "two<br>lines<br>" }
+    ensures sequence { in_markdown (0x1b ∷ codes "]8;;a|b" ++ 0x07 ∷ codes "c|d") ≡ 0x1b ∷ codes "]8;;a|b" ++ 0x07 ∷ codes "c\\|d" }
+    ensures past_ascii { in_markdown (0xe6 ∷ 0xbc ∷ 0xa2 ∷ codes "|") ≡ 0xe6 ∷ 0xbc ∷ 0xa2 ∷ codes "\\|" }
 {}
 
 /// A header of its own or an empty one, and what tells where columns of these widths stand.

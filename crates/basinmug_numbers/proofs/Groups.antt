@@ -4,7 +4,7 @@ use Rattle.std.specs.Prelude.{◌==◌}
 use Rattle.std.specs.Char.{is_ascii_digit}
 use Rattle.std.specs.List.{enumerate_from, list_all}
 use Rattle.basinmug_numbers.specs.Numbers.{comma, is_before_groups, is_grouped}
-use Rattle.basinmug_numbers.specs.Scans.{are_in_groups, is_grouped as is_grouped_from_end}
+use Rattle.basinmug_numbers.specs.Scans.{are_in_groups, is_in_groups}
 
 -- what a byte must be with so many behind it
 abbrev fits : ℕ → ℕ → Bool
@@ -74,7 +74,7 @@ apart false true false false = refl
 apart false false c rest = refl
 
 -- both ways tell the same
-pub grouped : (bytes : List ℕ) → is_grouped_from_end bytes ≡ is_grouped bytes
+pub grouped : (bytes : List ℕ) → is_in_groups bytes ≡ is_grouped bytes
 grouped bytes =
     ap₂ (λ (a b : Bool). a && b) (one_to_three (length bytes % 4) (omega arith)) (groups-from_end bytes)
     ∙ (sym (apart (length bytes % 4 == 1) (length bytes % 4 == 2) (length bytes % 4 == 3) (from_end bytes))

@@ -7,7 +7,7 @@ use Rattle.std.specs.List.{list_all, take_while}
 use Rattle.std.proofs.Math.Bool.{or-false}
 use Rattle.std.proofs.lemmas.List.Sums.{take_while-cons}
 use Rattle.basinmug_numbers.specs.Numbers.{are_digits, comma, followed_by, is_before_groups, is_digits, is_empty, is_end, is_exponent, is_exponent_mark, is_mantissa, is_number, is_one, is_percent, is_point, is_sign, is_sign_or_none, is_whole, or_nothing}
-use Rattle.basinmug_numbers.specs.Scans.{begins_with, behind, is_digit_or_comma, is_end as is_percent_or_none, is_fraction, is_tail, is_unsigned, is_whole_part, without_one}
+use Rattle.basinmug_numbers.specs.Scans.{begins_with, behind, is_digit_or_comma, is_percent_or_none, is_fraction, is_tail, is_unsigned, is_whole_part, without_one}
 use Rattle.basinmug_numbers.proofs.Groups.{grouped}
 use Rattle.basinmug_numbers.proofs.Parts.{behind-cons, followed-either, followed-longest, followed-one, followed-optional, followed-together, followed-without}
 

@@ -30,23 +30,23 @@ are_in_groups bytes =
     list_all (λ (placed : ℕ × ℕ). if (length bytes - placed.0) % 4 == 0 then placed.1 == comma else is_ascii_digit placed.1) (enumerate_from 0 bytes)
 
 -- digits in groups of three, of which the first may have fewer
-abbrev pub is_grouped : List ℕ → Bool
-is_grouped bytes = not (length bytes % 4 == 0) && are_in_groups bytes
+abbrev pub is_in_groups : List ℕ → Bool
+is_in_groups bytes = not (length bytes % 4 == 0) && are_in_groups bytes
 
 -- digits alone, or in groups
 abbrev pub is_whole_part : List ℕ → Bool
-is_whole_part bytes = list_all is_ascii_digit bytes || is_grouped bytes
+is_whole_part bytes = list_all is_ascii_digit bytes || is_in_groups bytes
 
 -- a percent sign, or nothing
-abbrev pub is_end : List ℕ → Bool
-is_end bytes = length (without_one is_percent bytes) == 0
+abbrev pub is_percent_or_none : List ℕ → Bool
+is_percent_or_none bytes = length (without_one is_percent bytes) == 0
 
 -- an exponent, which has a digit, or none, and then an end
 abbrev pub is_tail : List ℕ → Bool
 is_tail bytes =
     if begins_with is_exponent_mark bytes then
-    (let power = without_one is_sign (drop 1 bytes) in begins_with is_ascii_digit power && is_end (behind is_ascii_digit power))
-    else is_end bytes
+    (let power = without_one is_sign (drop 1 bytes) in begins_with is_ascii_digit power && is_percent_or_none (behind is_ascii_digit power))
+    else is_percent_or_none bytes
 
 -- a point and a front of digits, or none, and then a tail; there is a digit, before the point or behind it
 abbrev pub is_fraction : Bool → List ℕ → Bool

@@ -52,8 +52,8 @@ enum Content {
 fn content_of(alloc: Global, text: &str) -> Result<Content, AllocError>
     ensures { IfOk result (λ kind. kind ≡ content_kind (content text.now)) }
 {
-    let shown = text.ansi_strip(alloc)?;
-    let kind = kind_of(shown.as_str().trim());
+    let stripped = text.ansi_strip(alloc)?;
+    let kind = kind_of(stripped.as_str().trim());
     Ok(kind)
 }
 

@@ -8,9 +8,9 @@ ghost use Rattle.basinmug_numbers.specs.Scans.{
   begins_with,
   behind,
   is_digit_or_comma,
-  is_end,
+  is_percent_or_none,
   is_fraction,
-  is_grouped,
+  is_in_groups,
   is_tail,
   is_unsigned,
   is_whole_part,
@@ -59,7 +59,7 @@ fn digits_len(bytes: &[u8]) -> usize
 fn is_whole_part(bytes: &[u8]) -> bool
     ensures { result ≡ is_whole_part bytes.now }
 {
-    are_digits(bytes) || is_grouped(bytes)
+    are_digits(bytes) || is_in_groups(bytes)
 }
 
 fn are_digits(bytes: &[u8]) -> bool
@@ -69,8 +69,8 @@ fn are_digits(bytes: &[u8]) -> bool
 }
 
 // Commas stand just where groups of three digits end, counted from the end, and none in front.
-fn is_grouped(bytes: &[u8]) -> bool
-    ensures { result ≡ is_grouped bytes.now }
+fn is_in_groups(bytes: &[u8]) -> bool
+    ensures { result ≡ is_in_groups bytes.now }
 {
     bytes.len() % 4 != 0 && are_in_groups(bytes)
 }
@@ -108,15 +108,15 @@ fn is_tail(bytes: &[u8]) -> bool
     match bytes.first() {
         Some(b'e' | b'E') => {
             let power = without_sign(&bytes[1..]);
-            begins_with_digit(power) && is_end(behind_digits(power))
+            begins_with_digit(power) && is_percent_or_none(behind_digits(power))
         }
-        _ => is_end(bytes),
+        _ => is_percent_or_none(bytes),
     }
 }
 
 // A percent sign, or nothing.
-fn is_end(bytes: &[u8]) -> bool
-    ensures { result ≡ is_end bytes.now }
+fn is_percent_or_none(bytes: &[u8]) -> bool
+    ensures { result ≡ is_percent_or_none bytes.now }
 {
     match bytes.first() {
         Some(b'%') => bytes.len() == 1,

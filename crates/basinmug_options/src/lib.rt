@@ -3,4 +3,4 @@
 
 mod options;
 
-pub use options::{ColumnName, Look, Options, Rules};
+pub use options::{ColumnName, LineStyle, Options, Rules};

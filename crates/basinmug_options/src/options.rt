@@ -8,7 +8,7 @@ use tabled_size_priority::Choice;
 
 /// The lines of a table.
 #[derive(Clone, Copy, Debug, PartialEq, Eq)]
-pub enum Look {
+pub enum LineStyle {
     /// Of `-`, `|` and `+`.
     Ascii,
     /// Of box-drawing characters.
@@ -47,7 +47,7 @@ pub enum ColumnName {
 #[derive(Debug, Drop)]
 pub struct Options {
     /// The lines of the table.
-    pub look: Look,
+    pub line_style: LineStyle,
     /// Whether the first record is a header.
     pub header: bool,
     /// Between which rows a line stands.
@@ -73,7 +73,7 @@ impl Options {
     /// The defaults: round corners, a header with a line below it, as wide as its text, the widest column gives
     /// first, and nothing else. Does not allocate.
     pub fn new(alloc: Global) -> Options
-        ensures look { result.look ≡ Look.Rounded }
+        ensures line_style { result.line_style ≡ LineStyle.Rounded }
         ensures header { result.header ≡ true }
         ensures rules { result.rules ≡ Rules.Header }
         ensures width { result.width ≡ None }
@@ -85,7 +85,7 @@ impl Options {
         ensures max_rows { result.max_rows ≡ None }
     {
         Options {
-            look: Look::Rounded,
+            line_style: LineStyle::Rounded,
             header: true,
             rules: Rules::Header,
             width: None,

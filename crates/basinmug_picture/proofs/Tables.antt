@@ -10,9 +10,9 @@ use Rattle.tabled_steps.specs.States.{State}
 use Rattle.tabled_text.specs.Rows.{longest}
 use Rattle.basinmug_numbers.specs.Columns.{is_numeric}
 use Rattle.basinmug_options.specs.declared.options.Options.{Options}
-use Rattle.basinmug_picture.specs.Looks.{looks}
+use Rattle.basinmug_picture.specs.Settings.{settings_of}
 use Rattle.basinmug_picture.specs.Narrowing.{IsNotNarrowed, Narrows}
-use Rattle.basinmug_picture.specs.Pictures.{IsMade, IsNotMade, looks_of, narrowed_to, numeric_of}
+use Rattle.basinmug_picture.specs.Pictures.{IsMade, IsNotMade, asked_settings, narrowed_to, numeric_of}
 use Rattle.basinmug_picture.specs.Rows.{header_of, records_of}
 
 pub numeric-is : (header : Bool) (rows records : List (List (List ℕ))) (columns : ℕ) (numeric : List Bool) → numeric ≡ map (is_numeric records) (range_with_len 0 columns) → records ≡ records_of header rows → columns ≡ longest rows
@@ -20,35 +20,35 @@ pub numeric-is : (header : Bool) (rows records : List (List (List ℕ))) (column
 numeric-is header rows records columns numeric is are count =
     is ∙ ap (λ (it : List (List (List ℕ))). map (is_numeric it) (range_with_len 0 columns)) are ∙ ap (λ n. map (is_numeric (records_of header rows)) (range_with_len 0 n)) count
 
-pub looks-are : (options : Options) (rows : List (List (List ℕ))) (header : List (List ℕ)) (numeric : List Bool) (settings : List Setting)
-    → settings ≡ looks options.look header numeric options.alignments.items options.colors.items → header ≡ header_of options.header rows → numeric ≡ numeric_of options.header rows → settings ≡ looks_of options rows
-looks-are options rows header numeric settings are head is =
-    are ∙ ap (λ (it : List (List ℕ)). looks options.look it numeric options.alignments.items options.colors.items) head
-    ∙ ap (λ (it : List Bool). looks options.look (header_of options.header rows) it options.alignments.items options.colors.items) is
+pub settings-are : (options : Options) (rows : List (List (List ℕ))) (header : List (List ℕ)) (numeric : List Bool) (settings : List Setting)
+    → settings ≡ settings_of options.line_style header numeric options.alignments.items options.colors.items → header ≡ header_of options.header rows → numeric ≡ numeric_of options.header rows → settings ≡ asked_settings options rows
+settings-are options rows header numeric settings are head is =
+    are ∙ ap (λ (it : List (List ℕ)). settings_of options.line_style it numeric options.alignments.items options.colors.items) head
+    ∙ ap (λ (it : List Bool). settings_of options.line_style (header_of options.header rows) it options.alignments.items options.colors.items) is
 
-module _ (options : Options) (settings list : List Setting) (numeric numbers : List Bool) (old look : State) where
+module _ (options : Options) (settings list : List Setting) (numeric numbers : List Bool) (old after : State) where
   -- a table is made by its settings, and then by its width
-  pub made-by : list ≡ settings → numbers ≡ numeric → Runs list old look → (new : State) (r : Result Bool Fault)
-      → OnOk r (MatchOption (narrowed_to options) (new ≡ look) (λ width. Narrows options.truncate options.priority numbers width look new)) → OnOk r (IsMade options settings numeric old new)
+  pub made-by : list ≡ settings → numbers ≡ numeric → Runs list old after → (new : State) (r : Result Bool Fault)
+      → OnOk r (MatchOption (narrowed_to options) (new ≡ after) (λ width. Narrows options.truncate options.priority numbers width after new)) → OnOk r (IsMade options settings numeric old new)
   made-by listed numbered run new (Err fault) narrowed = tt
   made-by listed numbered run new (Ok wider) narrowed = (
-    look,
-    subst (λ (it : List Setting). Runs it old look) listed run,
-    subst (λ (it : List Bool). MatchOption (narrowed_to options) (new ≡ look) (λ width. Narrows options.truncate options.priority it width look new)) numbered narrowed,
+    after,
+    subst (λ (it : List Setting). Runs it old after) listed run,
+    subst (λ (it : List Bool). MatchOption (narrowed_to options) (new ≡ after) (λ width. Narrows options.truncate options.priority it width after new)) numbered narrowed,
   )
 
-  not-made : list ≡ settings → numbers ≡ numeric → Runs list old look → (fault : Fault)
-      → (fault ≡ OutOfMemory) ⊎ MatchOption (narrowed_to options) ⊥ (λ width. IsNotNarrowed options.truncate options.priority numbers width look fault) → (fault ≡ OutOfMemory) ⊎ IsNotMade options settings numeric old fault
+  not-made : list ≡ settings → numbers ≡ numeric → Runs list old after → (fault : Fault)
+      → (fault ≡ OutOfMemory) ⊎ MatchOption (narrowed_to options) ⊥ (λ width. IsNotNarrowed options.truncate options.priority numbers width after fault) → (fault ≡ OutOfMemory) ⊎ IsNotMade options settings numeric old fault
   not-made listed numbered run fault (inl is) = inl is
   not-made listed numbered run fault (inr out) = inr (inr (
-    look,
-    subst (λ (it : List Setting). Runs it old look) listed run,
-    subst (λ (it : List Bool). MatchOption (narrowed_to options) ⊥ (λ width. IsNotNarrowed options.truncate options.priority it width look fault)) numbered out,
+    after,
+    subst (λ (it : List Setting). Runs it old after) listed run,
+    subst (λ (it : List Bool). MatchOption (narrowed_to options) ⊥ (λ width. IsNotNarrowed options.truncate options.priority it width after fault)) numbered out,
   ))
 
   -- it is not made, since it is not made narrower
-  pub not-made-by : list ≡ settings → numbers ≡ numeric → Runs list old look → (r : Result Bool Fault)
-      → IfErr r (λ fault. (fault ≡ OutOfMemory) ⊎ MatchOption (narrowed_to options) ⊥ (λ width. IsNotNarrowed options.truncate options.priority numbers width look fault))
+  pub not-made-by : list ≡ settings → numbers ≡ numeric → Runs list old after → (r : Result Bool Fault)
+      → IfErr r (λ fault. (fault ≡ OutOfMemory) ⊎ MatchOption (narrowed_to options) ⊥ (λ width. IsNotNarrowed options.truncate options.priority numbers width after fault))
       → IfErr r (λ fault. (fault ≡ OutOfMemory) ⊎ IsNotMade options settings numeric old fault)
   not-made-by listed numbered run (Ok wider) out = tt
   not-made-by listed numbered run (Err fault) out = not-made listed numbered run fault out

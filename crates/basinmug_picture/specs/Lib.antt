@@ -1,7 +1,7 @@
 pub mod Faults
 pub mod Rows
 pub mod Names
-pub mod Looks
+pub mod Settings
 pub mod Fitting
 pub mod Narrowing
 pub mod Documents

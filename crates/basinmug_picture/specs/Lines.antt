@@ -4,7 +4,7 @@ use Rattle.papergrid_print.specs.declared.wanted.Place.{Place}
 use Rattle.papergrid_print.specs.declared.wanted.Place.TheVariants.{Boundary, Row, Outside}
 use Rattle.tabled.specs.Writing.{wanted_lines}
 use Rattle.tabled_steps.specs.States.{State}
-use Rattle.basinmug_options.specs.declared.options.Look.{Look}
+use Rattle.basinmug_options.specs.declared.options.LineStyle.{LineStyle}
 use Rattle.basinmug_options.specs.declared.options.Rules.{Rules}
 use Rattle.basinmug_options.specs.declared.options.Rules.TheVariants.{Header, All, None}
 use Rattle.basinmug_picture.specs.Documents.{document_text}
@@ -30,17 +30,17 @@ more_line count =
     else codes "(" ++ (decimal count ++ codes " more rows)\n")
 
 -- the blank line before it in a document: without it the line would be a row of the table
-abbrev pub blank_line : Look → ℕ → List ℕ
-blank_line look count = if is_markdown look && nat_lt 0 count then codes "\n" else []
+abbrev pub blank_line : LineStyle → ℕ → List ℕ
+blank_line line_style count = if is_markdown line_style && nat_lt 0 count then codes "\n" else []
 
--- what stands below a table in this look of which so many rows are left out
-abbrev pub below : Look → ℕ → List ℕ
-below look count = blank_line look count ++ more_line count
+-- what stands below a table of this style of which so many rows are left out
+abbrev pub below : LineStyle → ℕ → List ℕ
+below line_style count = blank_line line_style count ++ more_line count
 
 -- the lines of a table of so many rows that are wanted, and then a text
 abbrev pub lines_text : Rules → Bool → ℕ → List ℕ → State → List ℕ
 lines_text rules header rows more s = wanted_lines (is_wanted rules header rows) s ++ more
 
--- what is printed of a table in this look, and then a text
-abbrev pub picture_text : Look → Rules → Bool → ℕ → List ℕ → State → List ℕ
-picture_text look rules header rows more s = if is_markdown look then document_text more s else lines_text rules header rows more s
+-- what is printed of a table in this style, and then a text
+abbrev pub picture_text : LineStyle → Rules → Bool → ℕ → List ℕ → State → List ℕ
+picture_text line_style rules header rows more s = if is_markdown line_style then document_text more s else lines_text rules header rows more s

@@ -10,7 +10,7 @@ use Rattle.tabled_steps.specs.States.{State}
 use Rattle.tabled_text.specs.Rows.{filled, longest}
 use Rattle.basinmug_numbers.specs.Columns.{is_numeric}
 use Rattle.basinmug_options.specs.declared.options.Options.{Options}
-use Rattle.basinmug_picture.specs.Looks.{looks}
+use Rattle.basinmug_picture.specs.Settings.{settings_of}
 use Rattle.basinmug_picture.specs.Names.{missing_names}
 use Rattle.basinmug_picture.specs.Narrowing.{IsNotNarrowed, IsRefusedIn, Narrows}
 use Rattle.basinmug_picture.specs.Rows.{cells_of, header_of, is_markdown, records_of}
@@ -21,18 +21,18 @@ numeric_of header rows = map (is_numeric (records_of header rows)) (range_with_l
 
 -- how wide a table may be: a document is never broken, and is as wide as its text
 abbrev pub narrowed_to : Options → Option ℕ
-narrowed_to options = if is_markdown options.look then None else options.width
+narrowed_to options = if is_markdown options.line_style then None else options.width
 
 -- a table after these settings, made narrower where a width is asked; of its columns these are of numbers
 abbrev pub IsMade : Options → List Setting → List Bool → State → State → Type 0
 IsMade options settings numeric old new =
-    (look : State) × Runs settings old look × MatchOption (narrowed_to options) (new ≡ look) (λ width. Narrows options.truncate options.priority numeric width look new)
+    (after : State) × Runs settings old after × MatchOption (narrowed_to options) (new ≡ after) (λ width. Narrows options.truncate options.priority numeric width after new)
 
 -- its settings are refused, or it is not made narrower
 abbrev pub IsNotMade : Options → List Setting → List Bool → State → Fault → Type 0
 IsNotMade options settings numeric old fault =
     IsRefusedIn settings old fault
-    ⊎ ((look : State) × Runs settings old look × MatchOption (narrowed_to options) ⊥ (λ width. IsNotNarrowed options.truncate options.priority numeric width look fault))
+    ⊎ ((after : State) × Runs settings old after × MatchOption (narrowed_to options) ⊥ (λ width. IsNotNarrowed options.truncate options.priority numeric width after fault))
 
 module _ (options : Options) (rows : List (List (List ℕ))) where
   -- the names of columns in the options that the header does not have, in turn
@@ -42,16 +42,16 @@ module _ (options : Options) (rows : List (List (List ℕ))) where
       missing_names header options.alignments.items ++ missing_names header options.colors.items
 
   -- the settings before the table is made narrower
-  abbrev pub looks_of : List Setting
-  looks_of = looks options.look (header_of options.header rows) (numeric_of options.header rows) options.alignments.items options.colors.items
+  abbrev pub asked_settings : List Setting
+  asked_settings = settings_of options.line_style (header_of options.header rows) (numeric_of options.header rows) options.alignments.items options.colors.items
 
   -- the table of the rows as cells, the short ones filled with empty texts, after its settings
   abbrev pub IsTable : State → Type 0
-  IsTable = IsMade options looks_of (numeric_of options.header rows) (new_state (filled (cells_of options.look options.header rows)))
+  IsTable = IsMade options asked_settings (numeric_of options.header rows) (new_state (filled (cells_of options.line_style options.header rows)))
 
   -- there is no such table
   abbrev pub HasNoTable : Fault → Type 0
-  HasNoTable = IsNotMade options looks_of (numeric_of options.header rows) (new_state (filled (cells_of options.look options.header rows)))
+  HasNoTable = IsNotMade options asked_settings (numeric_of options.header rows) (new_state (filled (cells_of options.line_style options.header rows)))
 
 -- whether a table is wider than is asked
 abbrev pub is_wider : Option ℕ → State → Bool

@@ -58,15 +58,15 @@ IsTableFault Makes NotMade Memory = ⊤
 
 module _ (options : Options) (rows : List (List (List ℕ))) where
   -- how many rows are shown, and which
-  abbrev pub shown : ℕ
-  shown = shown_count options.header options.max_rows (length rows)
+  abbrev pub shown_len : ℕ
+  shown_len = shown_count options.header options.max_rows (length rows)
 
   abbrev pub shown_rows : List (List (List ℕ))
-  shown_rows = take shown rows
+  shown_rows = take shown_len rows
 
-  -- what is printed of their table: its lines in this look, and how many rows are left out
+  -- what is printed of their table: its lines in this style, and how many rows are left out
   abbrev pub text_of : State → List ℕ
-  text_of = picture_text options.look options.rules options.header shown (below options.look (length rows - shown))
+  text_of = picture_text options.line_style options.rules options.header shown_len (below options.line_style (length rows - shown_len))
 
   -- the rows are printed as a table, in which each named column is
   abbrev pub Prints : Bool → Option (List ℕ) → Option (List ℕ) → Type 0
@@ -77,7 +77,7 @@ module _ (options : Options) (rows : List (List (List ℕ))) where
   StopsIn fault old new = Appends old new [] ⊎ ((missing_of options shown_rows ≡ []) × BeginsTable (IsTable options shown_rows) text_of fault old new)
 
   -- why it is not printed: a name is missing, of which the first is told; and else the fault of the table
-  abbrev pub IsRefusal : PrintFault → Type 0
-  IsRefusal (NoColumn name) = IsFirstMissing (missing_of options shown_rows) (NoColumn name)
-  IsRefusal (Table fault) = (missing_of options shown_rows ≡ []) × IsTableFault (IsTable options shown_rows) (HasNoTable options shown_rows) (Table fault)
-  IsRefusal Memory = ⊤
+  abbrev pub IsPictureFault : PrintFault → Type 0
+  IsPictureFault (NoColumn name) = IsFirstMissing (missing_of options shown_rows) (NoColumn name)
+  IsPictureFault (Table fault) = (missing_of options shown_rows ≡ []) × IsTableFault (IsTable options shown_rows) (HasNoTable options shown_rows) (Table fault)
+  IsPictureFault Memory = ⊤

@@ -1,12 +1,12 @@
 -- The rows of a picture: a header, and records.
 use Rattle.std.specs.Prelude.{ℕ, ◌+◌, min, Bool, true, false, List, [], ◌∷◌, Option, None, Some, drop, if◌then◌else◌, map}
 use Rattle.basinmug_markdown.specs.Documents.{with_header}
-use Rattle.basinmug_markdown.specs.Escapes.{escaped}
-use Rattle.basinmug_options.specs.declared.options.Look.{Look}
-use Rattle.basinmug_options.specs.declared.options.Look.TheVariants.{Markdown}
+use Rattle.basinmug_markdown.specs.Escapes.{in_markdown}
+use Rattle.basinmug_options.specs.declared.options.LineStyle.{LineStyle}
+use Rattle.basinmug_options.specs.declared.options.LineStyle.TheVariants.{Markdown}
 
--- whether a look is that of a table in a document
-abbrev pub is_markdown : Look → Bool
+-- whether a style of lines is that of a table in a document
+abbrev pub is_markdown : LineStyle → Bool
 is_markdown Markdown = true
 is_markdown _ = false
 
@@ -30,5 +30,5 @@ abbrev pub records_of : Bool → List (List (List ℕ)) → List (List (List ℕ
 records_of header rows = drop (header_rows header) rows
 
 -- the rows as cells of a table, which have a header of their own or none: those of a document are escaped, and get one
-abbrev pub cells_of : Look → Bool → List (List (List ℕ)) → List (List (List ℕ))
-cells_of look header rows = if is_markdown look then with_header header (map (map escaped) rows) else rows
+abbrev pub cells_of : LineStyle → Bool → List (List (List ℕ)) → List (List (List ℕ))
+cells_of line_style header rows = if is_markdown line_style then with_header header (map (map in_markdown) rows) else rows

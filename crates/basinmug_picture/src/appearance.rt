@@ -2,11 +2,11 @@
 ghost use Rattle.std.specs.Prelude.{◌≡◌, [], IfErr, IfOk, OnOk};
 ghost use Rattle.basinmug_cells.specs.Fields.{field_rows};
 ghost use Rattle.basinmug_picture.specs.Names.{IsFirstMissing};
-ghost use Rattle.basinmug_picture.specs.Pictures.{looks_of, missing_of, numeric_of};
+ghost use Rattle.basinmug_picture.specs.Pictures.{asked_settings, missing_of, numeric_of};
 
 use crate::fault::PrintFault;
-use crate::looks::looks;
 use crate::rows::{header_of, longest_row, records_of};
+use crate::settings::settings_of;
 use basinmug_cells::Field;
 use basinmug_numbers::numeric_columns;
 use basinmug_options::Options;
@@ -21,14 +21,14 @@ pub(crate) struct Appearance {
 }
 
 /// What the table of rows looks like, of which the first is the header where the options say so; the texts are those of
-/// the input, which no look has escaped. Refused as `NoColumn` with the first name that the header does not have, and as
+/// the input, none of them escaped. Refused as `NoColumn` with the first name that the header does not have, and as
 /// `Memory` where allocation fails.
 pub(crate) fn appearance_of(
     alloc: Global,
     rows: &[Vec<Field<'_>>],
     options: &Options,
 ) -> Result<Appearance, PrintFault>
-    ensures settings { IfOk result (λ it. it.settings.items ≡ looks_of options.now (field_rows rows.now)) }
+    ensures settings { IfOk result (λ it. it.settings.items ≡ asked_settings options.now (field_rows rows.now)) }
     ensures numeric { IfOk result (λ it. it.numeric.items ≡ numeric_of options.now.header (field_rows rows.now)) }
     ensures named { OnOk result (missing_of options.now (field_rows rows.now) ≡ []) }
     ensures refused { IfErr result (IsFirstMissing (missing_of options.now (field_rows rows.now))) }
@@ -38,6 +38,6 @@ pub(crate) fn appearance_of(
     let longest = longest_row(rows);
     let numeric = numeric_columns(alloc, records, longest)?;
     let numbers = numeric.as_slice();
-    let settings = looks(alloc, header, numbers, options)?;
+    let settings = settings_of(alloc, header, numbers, options)?;
     Ok(Appearance { settings, numeric })
 }

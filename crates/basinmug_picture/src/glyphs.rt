@@ -1,21 +1,21 @@
-//! The lines of a table by the name of their look.
+//! The lines of a table by the name of their style.
 ghost use Rattle.std.specs.Prelude.{◌≡◌};
-ghost use Rattle.basinmug_picture.specs.Looks.{glyphs_of, markdown, rounded};
+ghost use Rattle.basinmug_picture.specs.Settings.{glyphs_of, markdown, rounded};
 
-use basinmug_options::Look;
+use basinmug_options::LineStyle;
 use tabled::{Borders, Style};
 
-/// The glyphs of a look.
-pub(crate) fn glyphs_of(look: Look) -> Borders<char>
-    ensures { result ≡ glyphs_of look }
+/// The glyphs of a style of lines.
+pub(crate) fn glyphs_of(line_style: LineStyle) -> Borders<char>
+    ensures { result ≡ glyphs_of line_style }
 {
-    match look {
-        Look::Ascii => Style::ascii().get_borders(),
-        Look::Modern => Style::modern().get_borders(),
-        Look::Rounded => rounded(),
-        Look::Extended => Style::extended().get_borders(),
-        Look::Markdown => markdown(),
-        Look::Empty => Borders::empty(),
+    match line_style {
+        LineStyle::Ascii => Style::ascii().get_borders(),
+        LineStyle::Modern => Style::modern().get_borders(),
+        LineStyle::Rounded => rounded(),
+        LineStyle::Extended => Style::extended().get_borders(),
+        LineStyle::Markdown => markdown(),
+        LineStyle::Empty => Borders::empty(),
     }
 }
 
@@ -31,7 +31,7 @@ fn rounded() -> Borders<char>
     borders
 }
 
-// Bars; the rule below the header is no line of the look.
+// Bars; the rule below the header is none of these lines.
 fn markdown() -> Borders<char>
     ensures { result ≡ markdown }
 {

@@ -12,12 +12,12 @@ ghost use Rattle.tabled_list.specs.Lists.{Runs};
 ghost use Rattle.tabled_list.specs.declared.setting.Setting.TheVariants.{LineAlignment, TrimHorizontal};
 ghost use Rattle.tabled_steps.specs.States.{State};
 ghost use Rattle.tabled_text.specs.Rows.{filled};
-ghost use Rattle.basinmug_options.specs.declared.options.Look.TheVariants.{Markdown, Rounded};
+ghost use Rattle.basinmug_options.specs.declared.options.LineStyle.TheVariants.{Markdown, Rounded};
 ghost use Rattle.basinmug_options.specs.declared.options.Options.{Options as Asked};
 ghost use Rattle.basinmug_picture.specs.Faults.{of_build, print_fault_text};
 ghost use Rattle.basinmug_picture.specs.Fitting.{fitted, trims};
 ghost use Rattle.basinmug_picture.specs.Lines.{below, more_line};
-ghost use Rattle.basinmug_picture.specs.Pictures.{IsTable, looks_of};
+ghost use Rattle.basinmug_picture.specs.Pictures.{IsTable, asked_settings};
 ghost use Rattle.basinmug_picture.specs.Printed.{Prints, shown_rows, text_of};
 ghost use Rattle.basinmug_picture.specs.Rows.{cells_of, is_markdown, shown_count};
 ghost use Rattle.basinmug_picture.specs.declared.fault.PrintFault.{PrintFault as OneFault};
@@ -44,10 +44,10 @@ pub fn tables_are_as_wide_as_is_told()
         (s : State) × IsTable options (shown_rows options rows) s × (drawn_width s ≤ width) × Appends old new (text_of options rows s) }
 {}
 
-/// The table of a document is the table of its cells after its looks alone, whatever width is asked.
+/// The table of a document is the table of its cells after its settings alone, whatever width is asked.
 pub fn documents_are_never_broken()
-    ensures { (options : Asked) (rows : List (List (List ℕ))) (s : State) → is_markdown options.look ≡ true → IsTable options rows s →
-        Runs (looks_of options rows) (new_state (filled (cells_of options.look options.header rows))) s }
+    ensures { (options : Asked) (rows : List (List (List ℕ))) (s : State) → is_markdown options.line_style ≡ true → IsTable options rows s →
+        Runs (asked_settings options rows) (new_state (filled (cells_of options.line_style options.header rows))) s }
 {}
 
 /// How many rows are shown, and what stands below them.

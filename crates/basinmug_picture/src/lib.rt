@@ -9,10 +9,10 @@ mod fitting;
 mod glyphs;
 pub mod laws;
 mod lines;
-mod looks;
 mod narrowing;
 mod printing;
 mod rows;
+mod settings;
 
 pub use fault::PrintFault;
-pub use printing::{Shown, print};
+pub use printing::{Printed, print};

@@ -3,7 +3,7 @@ ghost use Rattle.std.specs.Prelude.{◌≡◌, IfOk, string_bytes};
 ghost use Rattle.basinmug_picture.specs.Lines.{below, blank_line, is_inner_wanted, more_line};
 
 use crate::rows::is_markdown;
-use basinmug_options::{Look, Rules};
+use basinmug_options::{LineStyle, Rules};
 use std::alloc::{AllocError, Global};
 use tabled::{Place, Wanted};
 
@@ -43,22 +43,26 @@ fn is_inner_wanted(rules: Rules, header: bool, boundary: usize) -> bool
     }
 }
 
-/// What stands below a table in this look of which so many rows are left out: the line that says so, and in a document
+/// What stands below a table of this style of which so many rows are left out: the line that says so, and in a document
 /// a blank line before it. Fails only where allocation fails.
-pub(crate) fn below(alloc: Global, look: Look, count: usize) -> Result<String, AllocError>
-    ensures { IfOk result (λ text. string_bytes text ≡ below look count) }
+pub(crate) fn below(
+    alloc: Global,
+    line_style: LineStyle,
+    count: usize,
+) -> Result<String, AllocError>
+    ensures { IfOk result (λ text. string_bytes text ≡ below line_style count) }
 {
-    let mut text = String::from_str(alloc, blank_line(look, count))?;
+    let mut text = String::from_str(alloc, blank_line(line_style, count))?;
     let line = more_line(alloc, count)?;
     text.push_str(line.as_str())?;
     Ok(text)
 }
 
 // The blank line of a document, without which the line that follows would be a row of the table.
-fn blank_line(look: Look, count: usize) -> &'static str
-    ensures { result.now ≡ blank_line look count }
+fn blank_line(line_style: LineStyle, count: usize) -> &'static str
+    ensures { result.now ≡ blank_line line_style count }
 {
-    if is_markdown(look) && count > 0 {
+    if is_markdown(line_style) && count > 0 {
         "\n"
     } else {
         ""

@@ -51,7 +51,7 @@ pub(crate) fn narrow_if_asked(
 fn narrowed_to(options: &Options) -> Option<usize>
     ensures { result ≡ narrowed_to options.now }
 {
-    if is_markdown(options.look) {
+    if is_markdown(options.line_style) {
         None
     } else {
         options.width
@@ -97,7 +97,7 @@ fn narrow(
         truncate: asked.truncate,
     };
     fit_columns(alloc, table, &fitting)?;
-    passes(table, asked.width)
+    is_wider_than(table, asked.width)
 }
 
 // Fits the texts of a table to the rooms of its columns, and trims their lines.
@@ -135,12 +135,12 @@ fn is_wider(table: &Table<Field<'_>>, asked: Option<usize>) -> Result<bool, Faul
 {
     match asked {
         None => Ok(false),
-        Some(width) => passes(table, width),
+        Some(width) => is_wider_than(table, width),
     }
 }
 
 // Whether a table is wider than this.
-fn passes(table: &Table<Field<'_>>, width: usize) -> Result<bool, Fault>
+fn is_wider_than(table: &Table<Field<'_>>, width: usize) -> Result<bool, Fault>
     ensures wider { IfOk result (λ wider. wider ≡ nat_lt width (drawn_width (state_of field_text table.now))) }
     ensures refused { IfErr result (λ fault. fault ≡ Memory) }
 {

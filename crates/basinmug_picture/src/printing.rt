@@ -11,7 +11,7 @@ ghost use Rattle.tabled_output.specs.Streams.{AppendsFront};
 ghost use Rattle.basinmug_cells.specs.Fields.{field_rows, field_text};
 ghost use Rattle.basinmug_picture.specs.Lines.{picture_text};
 ghost use Rattle.basinmug_picture.specs.Pictures.{IsMade, IsNotMade, is_wider};
-ghost use Rattle.basinmug_picture.specs.Printed.{HasNothing, IsRefusal, IsTableFault, Prints, PrintsTable, StopsIn, StopsInTable};
+ghost use Rattle.basinmug_picture.specs.Printed.{HasNothing, IsPictureFault, IsTableFault, Prints, PrintsTable, StopsIn, StopsInTable};
 ghost use Rattle.basinmug_picture.specs.Rows.{shown_count};
 
 use crate::appearance::{Appearance, appearance_of};
@@ -22,7 +22,7 @@ use crate::lines::{RuledLines, below};
 use crate::narrowing::{narrow_if_asked, run_settings};
 use crate::rows::{is_markdown, shown_count};
 use basinmug_cells::Field;
-use basinmug_options::{Look, Options};
+use basinmug_options::{LineStyle, Options};
 use std::alloc::Global;
 use std::io::Write;
 use tabled::{BuildFault, Counted, Fault, Table, Wanted};
@@ -30,7 +30,7 @@ use tabled_output::write_piece;
 
 /// What there is to say of a picture that was printed.
 #[derive(Clone, Copy, Debug, PartialEq, Eq)]
-pub struct Shown {
+pub struct Printed {
     /// Whether the table is wider than was asked.
     pub wider: bool,
 }
@@ -45,11 +45,11 @@ pub fn print<W: Write>(
     rows: Vec<Vec<Field<'_>>>,
     options: &Options,
     writer: &mut Counted<W>,
-) -> Result<Shown, PrintFault>
-    ensures printed { IfOk result (λ shown. Prints options.now (field_rows rows.entry.items) shown.wider (W.contents (inner_of writer.old)) (W.contents (inner_of writer.new))) }
+) -> Result<Printed, PrintFault>
+    ensures printed { IfOk result (λ printed. Prints options.now (field_rows rows.entry.items) printed.wider (W.contents (inner_of writer.old)) (W.contents (inner_of writer.new))) }
     ensures front { IfErr result (λ fault. ¬ (HasNothing fault) → StopsIn options.now (field_rows rows.entry.items) fault (W.contents (inner_of writer.old)) (W.contents (inner_of writer.new))) }
     ensures untouched { IfErr result (λ fault. HasNothing fault → writer.new ≡ writer.old) }
-    ensures refused { IfErr result (IsRefusal options.now (field_rows rows.entry.items)) }
+    ensures refused { IfErr result (IsPictureFault options.now (field_rows rows.entry.items)) }
     ensures write { FailsIff (IsErrOf result (PrintFault.Table BuildFault.Write)) writer.old writer.new }
     ensures write_zero { TakesNothingIff (IsErrOf result (PrintFault.Table BuildFault.WriteZero)) writer.old writer.new }
     ensures only_writes { OnlyWrites writer.old writer.new }
@@ -61,10 +61,10 @@ pub fn print<W: Write>(
         header: options.header,
         rows: rows.len(),
     };
-    let more = below(alloc, options.look, left_out)?;
+    let more = below(alloc, options.line_style, left_out)?;
     let texts = rows.as_slice();
     let appearance = appearance_of(alloc, texts, options)?;
-    let cells = cells_of(alloc, rows, options.look, options.header)?;
+    let cells = cells_of(alloc, rows, options.line_style, options.header)?;
     let mut table = Table::from_cells(alloc, cells)?;
     let ending = more.as_str();
     let outcome = print_table(
@@ -96,7 +96,7 @@ fn shown_rows<'a>(
     (rows, left_out)
 }
 
-// Prints a table: its settings, its width, its lines in its look, and then a text. The table is lent, so that who
+// Prints a table: its settings, its width, its lines in their style, and then a text. The table is lent, so that who
 // made it drops it in one place.
 fn print_table<W: Write>(
     alloc: Global,
@@ -106,14 +106,14 @@ fn print_table<W: Write>(
     lines: &RuledLines,
     more: &str,
     writer: &mut Counted<W>,
-) -> Result<Shown, PrintFault>
-    ensures printed { IfOk result (λ shown. PrintsTable
+) -> Result<Printed, PrintFault>
+    ensures printed { IfOk result (λ printed. PrintsTable
         (IsMade options.now appearance.now.settings.items appearance.now.numeric.items (state_of field_text table.old))
-        (picture_text options.now.look lines.now.rules lines.now.header lines.now.rows more.now) options.now.width
-        shown.wider (W.contents (inner_of writer.old)) (W.contents (inner_of writer.new))) }
+        (picture_text options.now.line_style lines.now.rules lines.now.header lines.now.rows more.now) options.now.width
+        printed.wider (W.contents (inner_of writer.old)) (W.contents (inner_of writer.new))) }
     ensures front { IfErr result (λ fault. ¬ (HasNothing fault) → StopsInTable
         (IsMade options.now appearance.now.settings.items appearance.now.numeric.items (state_of field_text table.old))
-        (picture_text options.now.look lines.now.rules lines.now.header lines.now.rows more.now)
+        (picture_text options.now.line_style lines.now.rules lines.now.header lines.now.rows more.now)
         fault (W.contents (inner_of writer.old)) (W.contents (inner_of writer.new))) }
     ensures untouched { IfErr result (λ fault. HasNothing fault → writer.new ≡ writer.old) }
     ensures refused { IfErr result (IsTableFault
@@ -124,8 +124,8 @@ fn print_table<W: Write>(
     ensures only_writes { OnlyWrites writer.old writer.new }
 {
     let wider = make_table(alloc, table, appearance, options)?;
-    write_picture(alloc, table, options.look, lines, more, writer)?;
-    Ok(Shown { wider })
+    write_picture(alloc, table, options.line_style, lines, more, writer)?;
+    Ok(Printed { wider })
 }
 
 // Sets what a table looks like, and makes it narrower where a width is asked. Answers whether it is wider than asked.
@@ -147,20 +147,20 @@ fn make_table(
     narrow_if_asked(alloc, table, numbers, options)
 }
 
-// Writes the lines of a table in this look, and then a text.
+// Writes the lines of a table in this style, and then a text.
 fn write_picture<W: Write>(
     alloc: Global,
     table: &Table<Field<'_>>,
-    look: Look,
+    line_style: LineStyle,
     lines: &RuledLines,
     more: &str,
     writer: &mut Counted<W>,
 ) -> Result<(), BuildFault>
     ensures whole { OnOk result (Appends (W.contents (inner_of writer.old)) (W.contents (inner_of writer.new))
-        (picture_text look lines.now.rules lines.now.header lines.now.rows more.now (state_of field_text table.now))) }
+        (picture_text line_style lines.now.rules lines.now.header lines.now.rows more.now (state_of field_text table.now))) }
     ensures front { IfErr result (λ fault. ¬ (HasNoText fault) →
         AppendsFront (W.contents (inner_of writer.old)) (W.contents (inner_of writer.new))
-        (picture_text look lines.now.rules lines.now.header lines.now.rows more.now (state_of field_text table.now))) }
+        (picture_text line_style lines.now.rules lines.now.header lines.now.rows more.now (state_of field_text table.now))) }
     ensures untouched { IfErr result (λ fault. HasNoText fault → writer.new ≡ writer.old) }
     ensures fits { OnOk result (IsFit (state_of field_text table.now) (Ok tt)) }
     ensures table { IfErr result (BuildRefusal (IsFit (state_of field_text table.now) (Ok tt)) (IsFit (state_of field_text table.now))) }
@@ -168,7 +168,7 @@ fn write_picture<W: Write>(
     ensures write_zero { TakesNothingIff (IsErrOf result BuildFault.WriteZero) writer.old writer.new }
     ensures only_writes { OnlyWrites writer.old writer.new }
 {
-    if is_markdown(look) {
+    if is_markdown(line_style) {
         write_document(alloc, table, more, writer)
     } else {
         write_lines(table, lines, more, writer)

@@ -4,16 +4,20 @@ ghost use Rattle.tabled_text.specs.Rows.{longest};
 ghost use Rattle.grid_records_traits.specs.Sources.{texts_of_rows};
 ghost use Rattle.basinmug_picture.specs.Rows.{header_of, header_rows, is_markdown, records_of, shown_count};
 
-use basinmug_options::Look;
+use basinmug_options::LineStyle;
 use grid_records_traits::Cell;
 
-/// Whether a look is that of a table in a document.
-pub(crate) fn is_markdown(look: Look) -> bool
-    ensures { result ≡ is_markdown look }
+/// Whether a style of lines is that of a table in a document.
+pub(crate) fn is_markdown(line_style: LineStyle) -> bool
+    ensures { result ≡ is_markdown line_style }
 {
-    match look {
-        Look::Markdown => true,
-        Look::Ascii | Look::Modern | Look::Rounded | Look::Extended | Look::Empty => false,
+    match line_style {
+        LineStyle::Markdown => true,
+        LineStyle::Ascii
+        | LineStyle::Modern
+        | LineStyle::Rounded
+        | LineStyle::Extended
+        | LineStyle::Empty => false,
     }
 }
 

@@ -16,20 +16,20 @@ use Rattle.basinmug_picture.specs.declared.fault.PrintFault.{PrintFault}
 use Rattle.basinmug_picture.specs.declared.fault.PrintFault.TheVariants.{NoColumn, Table, Memory as NoMemoryToPrint}
 use Rattle.basinmug_picture.proofs.Written.{fails-alike, same-fails, same-takes, takes-alike}
 use Rattle.basinmug_run.specs.Faults.{of_input, of_print}
-use Rattle.basinmug_run.specs.Runs.{HasNothing, IsRefusal, IsRowsFault, StopsInRows, StopsInText}
+use Rattle.basinmug_run.specs.Runs.{HasNothing, IsRunFault, IsRowsFault, StopsInRows, StopsInText}
 use Rattle.basinmug_run.specs.declared.fault.RunFault.{RunFault}
 use Rattle.basinmug_run.specs.declared.fault.RunFault.TheVariants.{Input, Print, Memory}
 
 module _ (delimiter : ℕ) (bytes : List ℕ) (options : Options) where
   -- a text without records
-  pub not-read : (fault : InputFault) → IsFaultOf (settings delimiter) (text_in bytes) fault → IsRefusal delimiter bytes options (of_input fault)
+  pub not-read : (fault : InputFault) → IsFaultOf (settings delimiter) (text_in bytes) fault → IsRunFault delimiter bytes options (of_input fault)
   not-read (NotText line field) is = (is, λ same. let it : NotText line field ≡ NoMemoryToRead = same in cc it)
   not-read (Quote line) is = (is, λ same. let it : Quote line ≡ NoMemoryToRead = same in cc it)
   not-read (Escape line field) is = (is, λ same. let it : Escape line field ≡ NoMemoryToRead = same in cc it)
   not-read NoMemoryToRead is = tt
 
   -- rows that are not printed
-  pub not-printed : (fault : PrintFault) → IsReadable (settings delimiter) (text_in bytes) → IsRowsFault options (rows_in delimiter bytes) fault → IsRefusal delimiter bytes options (of_print fault)
+  pub not-printed : (fault : PrintFault) → IsReadable (settings delimiter) (text_in bytes) → IsRowsFault options (rows_in delimiter bytes) fault → IsRunFault delimiter bytes options (of_print fault)
   not-printed (NoColumn name) read is = (read, is, λ same. let it : NoColumn name ≡ NoMemoryToPrint = same in cc it)
   not-printed (Table fault) read is = (read, is, λ same. let it : Table fault ≡ NoMemoryToPrint = same in cc it)
   not-printed NoMemoryToPrint read is = tt

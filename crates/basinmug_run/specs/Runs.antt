@@ -12,7 +12,7 @@ use Rattle.basinmug_input.specs.Reading.{settings}
 use Rattle.basinmug_input.specs.Rows.{rows_in, text_in}
 use Rattle.basinmug_input.specs.declared.fault.InputFault.TheVariants.{Memory as NoMemoryToRead}
 use Rattle.basinmug_options.specs.declared.options.Options.{Options}
-use Rattle.basinmug_picture.specs.Printed.{HasNothing as HasNothingPrinted, IsRefusal as IsPictureFault, Prints, StopsIn}
+use Rattle.basinmug_picture.specs.Printed.{HasNothing as HasNothingPrinted, IsPictureFault, Prints, StopsIn}
 use Rattle.basinmug_picture.specs.declared.fault.PrintFault.{PrintFault}
 use Rattle.basinmug_picture.specs.declared.fault.PrintFault.TheVariants.{NoColumn, Table, Memory as NoMemoryToPrint}
 use Rattle.basinmug_run.specs.declared.fault.RunFault.{RunFault}
@@ -70,10 +70,10 @@ HasNothing Memory = ⊥
 
 -- why a text in which this byte parts fields is not printed: it is not readable, and of its faults the first is told; or it
 -- is, and its rows are not printed; want of memory may always be, by its own name
-abbrev pub IsRefusal : ℕ → List ℕ → Options → RunFault → Type 0
-IsRefusal delimiter bytes options (Input fault) = IsFaultOf (settings delimiter) (text_in bytes) fault × (fault ≢ NoMemoryToRead)
-IsRefusal delimiter bytes options (Print fault) = IsReadable (settings delimiter) (text_in bytes) × IsRowsFault options (rows_in delimiter bytes) fault × (fault ≢ NoMemoryToPrint)
-IsRefusal delimiter bytes options Memory = ⊤
+abbrev pub IsRunFault : ℕ → List ℕ → Options → RunFault → Type 0
+IsRunFault delimiter bytes options (Input fault) = IsFaultOf (settings delimiter) (text_in bytes) fault × (fault ≢ NoMemoryToRead)
+IsRunFault delimiter bytes options (Print fault) = IsReadable (settings delimiter) (text_in bytes) × IsRowsFault options (rows_in delimiter bytes) fault × (fault ≢ NoMemoryToPrint)
+IsRunFault delimiter bytes options Memory = ⊤
 
 -- nothing is written; or a front of what is printed of the rows of a readable text
 abbrev pub StopsInText : ℕ → List ℕ → Options → RunFault → Option (List ℕ) → Option (List ℕ) → Type 0

@@ -8,8 +8,8 @@ mod records;
 mod running;
 
 pub use basinmug_input::InputFault;
-pub use basinmug_options::{ColumnName, Look, Options, Rules};
-pub use basinmug_picture::{PrintFault, Shown};
+pub use basinmug_options::{ColumnName, LineStyle, Options, Rules};
+pub use basinmug_picture::{PrintFault, Printed};
 pub use fault::RunFault;
 pub use grid_config_colors::ANSIBuf;
 pub use grid_config_values::{AlignmentHorizontal, Fault};

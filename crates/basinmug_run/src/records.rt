@@ -13,7 +13,7 @@ ghost use Rattle.basinmug_run.specs.Runs.{IsOfWriter, IsRecordsFault, PrintsReco
 use basinmug_cells::{Field, texts_of};
 use basinmug_expanded::records_text;
 use basinmug_options::Options;
-use basinmug_picture::{PrintFault, Shown};
+use basinmug_picture::{PrintFault, Printed};
 use grid_config_values::Fault;
 use std::alloc::Global;
 use std::io::Write;
@@ -28,8 +28,8 @@ pub(crate) fn print_records<W: Write>(
     rows: Vec<Vec<Field<'_>>>,
     options: &Options,
     writer: &mut Counted<W>,
-) -> Result<Shown, PrintFault>
-    ensures printed { IfOk result (λ shown. PrintsRecords options.now (field_rows rows.entry.items) shown.wider (W.contents (inner_of writer.old)) (W.contents (inner_of writer.new))) }
+) -> Result<Printed, PrintFault>
+    ensures printed { IfOk result (λ printed. PrintsRecords options.now (field_rows rows.entry.items) printed.wider (W.contents (inner_of writer.old)) (W.contents (inner_of writer.new))) }
     ensures front { IfErr result (λ fault. ¬ (HasNothing fault) → StopsInRecords options.now (field_rows rows.entry.items) (W.contents (inner_of writer.old)) (W.contents (inner_of writer.new))) }
     ensures untouched { IfErr result (λ fault. HasNothing fault → writer.new ≡ writer.old) }
     ensures refused { IfErr result (IsRecordsFault options.now (field_rows rows.entry.items)) }
@@ -39,7 +39,7 @@ pub(crate) fn print_records<W: Write>(
 {
     let text = text_of(alloc, rows, options.header, options.max_rows)?;
     write_text(text.as_str(), writer)?;
-    Ok(Shown { wider: false })
+    Ok(Printed { wider: false })
 }
 
 // The text of rows of cells as records, as `records_text` has it of rows of texts.

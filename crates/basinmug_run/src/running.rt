@@ -6,14 +6,14 @@ ghost use Rattle.basinmug_input.specs.Faults.{IsReadable};
 ghost use Rattle.basinmug_input.specs.Reading.{settings};
 ghost use Rattle.basinmug_input.specs.Rows.{rows_in, text_in};
 ghost use Rattle.basinmug_picture.specs.Printed.{HasNothing as HasNothingPrinted};
-ghost use Rattle.basinmug_run.specs.Runs.{HasNothing, IsRefusal, IsRowsFault, PrintsRows, StopsInRows, StopsInText};
+ghost use Rattle.basinmug_run.specs.Runs.{HasNothing, IsRunFault, IsRowsFault, PrintsRows, StopsInRows, StopsInText};
 
 use crate::fault::RunFault;
 use crate::records::print_records;
 use basinmug_cells::Field;
 use basinmug_input::rows_of;
 use basinmug_options::Options;
-use basinmug_picture::{PrintFault, Shown, print};
+use basinmug_picture::{PrintFault, Printed, print};
 use std::alloc::Global;
 use std::io::Write;
 use tabled_compact::BuildFault;
@@ -29,20 +29,20 @@ pub fn run<W: Write>(
     delimiter: u8,
     options: &Options,
     writer: &mut Counted<W>,
-) -> Result<Shown, RunFault>
+) -> Result<Printed, RunFault>
     ensures readable { OnOk result (IsReadable (settings delimiter) (text_in bytes.now)) }
-    ensures printed { IfOk result (λ shown. PrintsRows options.now (rows_in delimiter bytes.now) shown.wider (W.contents (inner_of writer.old)) (W.contents (inner_of writer.new))) }
+    ensures printed { IfOk result (λ printed. PrintsRows options.now (rows_in delimiter bytes.now) printed.wider (W.contents (inner_of writer.old)) (W.contents (inner_of writer.new))) }
     ensures front { IfErr result (λ fault. ¬ (HasNothing fault) →
         StopsInText delimiter bytes.now options.now fault (W.contents (inner_of writer.old)) (W.contents (inner_of writer.new))) }
     ensures untouched { IfErr result (λ fault. HasNothing fault → writer.new ≡ writer.old) }
-    ensures refused { IfErr result (IsRefusal delimiter bytes.now options.now) }
+    ensures refused { IfErr result (IsRunFault delimiter bytes.now options.now) }
     ensures write { FailsIff (IsErrOf result (RunFault.Print (PrintFault.Table BuildFault.Write))) writer.old writer.new }
     ensures write_zero { TakesNothingIff (IsErrOf result (RunFault.Print (PrintFault.Table BuildFault.WriteZero))) writer.old writer.new }
     ensures only_writes { OnlyWrites writer.old writer.new }
 {
     let rows = rows_of(alloc, bytes, delimiter)?;
-    let shown = print_rows(alloc, rows, options, writer)?;
-    Ok(shown)
+    let printed = print_rows(alloc, rows, options, writer)?;
+    Ok(printed)
 }
 
 // Prints rows as a table, or one below the other.
@@ -51,8 +51,8 @@ fn print_rows<W: Write>(
     rows: Vec<Vec<Field<'_>>>,
     options: &Options,
     writer: &mut Counted<W>,
-) -> Result<Shown, PrintFault>
-    ensures printed { IfOk result (λ shown. PrintsRows options.now (field_rows rows.entry.items) shown.wider (W.contents (inner_of writer.old)) (W.contents (inner_of writer.new))) }
+) -> Result<Printed, PrintFault>
+    ensures printed { IfOk result (λ printed. PrintsRows options.now (field_rows rows.entry.items) printed.wider (W.contents (inner_of writer.old)) (W.contents (inner_of writer.new))) }
     ensures front { IfErr result (λ fault. ¬ (HasNothingPrinted fault) →
         StopsInRows options.now (field_rows rows.entry.items) fault (W.contents (inner_of writer.old)) (W.contents (inner_of writer.new))) }
     ensures untouched { IfErr result (λ fault. HasNothingPrinted fault → writer.new ≡ writer.old) }

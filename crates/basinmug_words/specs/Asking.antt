@@ -9,13 +9,13 @@ use Rattle.columns_color_list.specs.Listed.{column_of, named as color_named}
 use Rattle.grid_config_colors.specs.Colors.{Color}
 use Rattle.grid_config_values.specs.declared.alignment.AlignmentHorizontal.{AlignmentHorizontal}
 use Rattle.tabled_size_priority.specs.declared.choice.Choice.TheVariants.{MaxRight}
-use Rattle.basinmug_options.specs.declared.options.Look.{Look}
-use Rattle.basinmug_options.specs.declared.options.Look.TheVariants.{Rounded, Markdown}
+use Rattle.basinmug_options.specs.declared.options.LineStyle.{LineStyle}
+use Rattle.basinmug_options.specs.declared.options.LineStyle.TheVariants.{Rounded, Markdown}
 use Rattle.basinmug_options.specs.declared.options.Rules.TheVariants.{Header as BelowHeader}
 use Rattle.basinmug_words.specs.Command.{IsBasinmug}
 use Rattle.basinmug_words.specs.Lists.{Column, listed, seen_items}
 use Rattle.command_options.specs.Names.{named}
-use Rattle.basinmug_words.specs.Names.{alignment_named, looks, priorities, rules}
+use Rattle.basinmug_words.specs.Names.{alignment_named, line_styles, priorities, rules}
 use Rattle.basinmug_words.specs.declared.words.Asked.{Asked}
 use Rattle.basinmug_words.specs.declared.words.Asked.TheVariants.{Run, Help, Faulty}
 use Rattle.basinmug_words.specs.declared.words.Plan.{Plan}
@@ -66,18 +66,18 @@ abbrev pub width_asked : Option Text → Option WidthAsked
 width_asked None = Some Environment
 width_asked (Some text) = width_named text
 
--- the width of a table that looks so: one of Markdown has none, and is asked for none
-abbrev pub width_for : Look → WidthAsked → Option WidthAsked
+-- the width of a table that line_styles so: one of Markdown has none, and is asked for none
+abbrev pub width_for : LineStyle → WidthAsked → Option WidthAsked
 width_for Markdown (Columns width) = None
 width_for Markdown asked = Some AnyWidth
-width_for look asked = Some asked
+width_for line_style asked = Some asked
 
-abbrev pub look_asked : Option Text → Look
-look_asked = named looks Rounded
+abbrev pub line_style_asked : Option Text → LineStyle
+line_style_asked = named line_styles Rounded
 
 -- the width by the values of `--style` and `--width`
 abbrev pub table_width : Option Text → Option Text → Option WidthAsked
-table_width style width = option_and_then (width_for (look_asked style)) (width_asked width)
+table_width style width = option_and_then (width_for (line_style_asked style)) (width_asked width)
 
 -- the list that may be given; without it, nothing
 abbrev pub list_asked : {T : Type 0} → (Text → Option T) → Option Text → Option (List (Column × T))
@@ -95,7 +95,7 @@ pub record IsRead (given : Text → Option Text) (plan : Plan) : Type 0 where
   pub file : option_map string_bytes plan.file ≡ file_asked (given (codes "file"))
   pub delimiter : delimiter_asked (given (codes "delimiter")) ≡ Some plan.delimiter
   pub width : table_width (given (codes "style")) (given (codes "width")) ≡ Some plan.width
-  pub look : plan.options.look ≡ look_asked (given (codes "style"))
+  pub line_style : plan.options.line_style ≡ line_style_asked (given (codes "style"))
   pub header : plan.options.header ≡ not (is_set (given (codes "no-header")))
   pub rules : plan.options.rules ≡ named rules BelowHeader (given (codes "rules"))
   pub room : plan.options.width ≡ None

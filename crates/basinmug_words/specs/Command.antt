@@ -5,7 +5,7 @@ use Rattle.clap.specs.Words.{App, Rule, new_rule}
 use Rattle.clap.specs.declared.builder.action.ArgAction.TheVariants.{Set}
 use Rattle.clap.specs.declared.builder.value_parser.ValueParser.TheVariants.{String as AnyText}
 use Rattle.command_options.specs.Rules.{IsOfNames, flag_rule, text_rule}
-use Rattle.basinmug_words.specs.Names.{look_names, priority_names, rules_names}
+use Rattle.basinmug_words.specs.Names.{line_style_names, priority_names, rules_names}
 
 -- a word that belongs to no option
 abbrev pub file_rule : Rule
@@ -40,6 +40,6 @@ pub record IsBasinmug (command : App) : Type 0 where
   pub style : Rule
   pub rules : Rule
   pub priorities : IsOfNames (codes "priority") priority_names priority
-  pub styles : IsOfNames (codes "style") look_names style
+  pub styles : IsOfNames (codes "style") line_style_names style
   pub all_rules : IsOfNames (codes "rules") rules_names rules
   pub is : command ≡ basinmug_app priority style rules

@@ -1,8 +1,8 @@
 -- What the names of the command line stand for.
 use Rattle.std.specs.Prelude.{List, [], ◌∷◌, Option, codes}
 use Rattle.clap.specs.Words.{Text}
-use Rattle.basinmug_options.specs.declared.options.Look.{Look}
-use Rattle.basinmug_options.specs.declared.options.Look.TheVariants.{Ascii, Modern, Rounded, Extended, Markdown, Empty}
+use Rattle.basinmug_options.specs.declared.options.LineStyle.{LineStyle}
+use Rattle.basinmug_options.specs.declared.options.LineStyle.TheVariants.{Ascii, Modern, Rounded, Extended, Markdown, Empty}
 use Rattle.basinmug_options.specs.declared.options.Rules.{Rules}
 use Rattle.basinmug_options.specs.declared.options.Rules.TheVariants.{Header, All, None as NoRules}
 use Rattle.command_options.specs.Names.{found_in, names_of}
@@ -16,8 +16,8 @@ abbrev pub priorities : List (Text × Choice)
 priorities = (codes "max", MaxRight) ∷ (codes "none", InTurns) ∷ (codes "min", MinRight) ∷ (codes "left", Left) ∷ (codes "right", Right) ∷ []
 
 -- the lines of a table
-abbrev pub looks : List (Text × Look)
-looks =
+abbrev pub line_styles : List (Text × LineStyle)
+line_styles =
     (codes "rounded", Rounded)
     ∷ (codes "modern", Modern)
     ∷ (codes "ascii", Ascii)
@@ -40,8 +40,8 @@ alignment_named = found_in alignments
 abbrev pub priority_names : List Text
 priority_names = names_of priorities
 
-abbrev pub look_names : List Text
-look_names = names_of looks
+abbrev pub line_style_names : List Text
+line_style_names = names_of line_styles
 
 abbrev pub rules_names : List Text
 rules_names = names_of rules

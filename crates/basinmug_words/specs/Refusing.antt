@@ -24,6 +24,6 @@ refusal_text Color = codes "basinmug: bad color"
 refusal_text Memory = codes "basinmug: out of memory"
 
 -- the first that is at fault with the values; of memory they say nothing
-abbrev pub IsRefusal : (Text → Option Text) → Refusal → Type 0
-IsRefusal given Memory = ⊤
-IsRefusal given refusal = refusal_of given ≡ Some (refusal_text refusal)
+abbrev pub IsValueFault : (Text → Option Text) → Refusal → Type 0
+IsValueFault given Memory = ⊤
+IsValueFault given refusal = refusal_of given ≡ Some (refusal_text refusal)

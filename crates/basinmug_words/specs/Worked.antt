@@ -5,7 +5,7 @@ use Rattle.clap.specs.Words.{App, Kinds, Rule, Text, fault_of, first_of, matches
 use Rattle.clap.specs.declared.builder.value_parser.ValueParser.TheVariants.{Names}
 use Rattle.command_options.specs.Rules.{value_rule}
 use Rattle.basinmug_words.specs.Command.{basinmug_app}
-use Rattle.basinmug_words.specs.Names.{look_names, priority_names, rules_names}
+use Rattle.basinmug_words.specs.Names.{line_style_names, priority_names, rules_names}
 
 abbrev borrowed : {X : Type 0} → X → Bor X
 borrowed x = record { ref_ptr = (0, 0); now = x }
@@ -17,7 +17,7 @@ names_rule id names default = value_rule id (Names (borrowed (map borrowed names
 abbrev pub basinmug_by_hand : App
 basinmug_by_hand = basinmug_app
     (names_rule (codes "priority") priority_names (codes "max"))
-    (names_rule (codes "style") look_names (codes "rounded"))
+    (names_rule (codes "style") line_style_names (codes "rounded"))
     (names_rule (codes "rules") rules_names (codes "header"))
 
 -- the words after the program's name

@@ -3,7 +3,7 @@ ghost use Rattle.std.specs.Prelude.{◌≡◌, IfOk, codes, false};
 ghost use Rattle.clap.specs.Words.{app_of, rule_of};
 ghost use Rattle.command_options.specs.Rules.{IsOfNames, flag_rule, text_rule};
 ghost use Rattle.basinmug_words.specs.Command.{IsBasinmug, file_rule};
-ghost use Rattle.basinmug_words.specs.Names.{look_names, priority_names, rules_names};
+ghost use Rattle.basinmug_words.specs.Names.{line_style_names, priority_names, rules_names};
 
 use clap::builder::ValueParser;
 use clap::{Arg, ArgAction, Command};
@@ -24,7 +24,7 @@ const INPUT: &str = "Input";
 
 const WIDTH: &str = "Width";
 
-const LOOKS: &str = "Look";
+const LOOK: &str = "Look";
 
 const ROWS: &str = "Rows";
 
@@ -154,7 +154,7 @@ fn truncate<'a>(alloc: Global) -> Arg<'a>
 
 // The lines of the table.
 fn style<'a>(alloc: Global) -> Arg<'a>
-    ensures rule { IsOfNames (codes "style") look_names (rule_of result) }
+    ensures rule { IsOfNames (codes "style") line_style_names (rule_of result) }
     ensures global { result.global ≡ false }
 {
     Arg::new(alloc, "style")
@@ -163,7 +163,7 @@ fn style<'a>(alloc: Global) -> Arg<'a>
         .action(ArgAction::Set)
         .value_parser(STYLES.as_slice())
         .default_value("rounded")
-        .help_heading(LOOKS)
+        .help_heading(LOOK)
         .help("The table's lines; markdown takes no width")
 }
 
@@ -178,7 +178,7 @@ fn rules<'a>(alloc: Global) -> Arg<'a>
         .action(ArgAction::Set)
         .value_parser(RULES.as_slice())
         .default_value("header")
-        .help_heading(LOOKS)
+        .help_heading(LOOK)
         .help("Lines between rows: below the header, all or none")
 }
 
@@ -187,7 +187,7 @@ fn align<'a>(alloc: Global) -> Arg<'a>
     ensures rule { rule_of result ≡ text_rule (codes "align") }
     ensures global { result.global ≡ false }
 {
-    text(alloc, "align", "LIST").help_heading(LOOKS).help(
+    text(alloc, "align", "LIST").help_heading(LOOK).help(
         "Where texts stand: COLUMN=left, center or right, parted by commas [default: numbers at the right]",
     )
 }
@@ -197,7 +197,7 @@ fn color<'a>(alloc: Global) -> Arg<'a>
     ensures rule { rule_of result ≡ text_rule (codes "color") }
     ensures global { result.global ≡ false }
 {
-    text(alloc, "color", "LIST").help_heading(LOOKS).help(
+    text(alloc, "color", "LIST").help_heading(LOOK).help(
         "Colour columns: COLUMN=NAME, parted by commas [default: none]",
     )
 }

@@ -8,12 +8,12 @@ ghost use Rattle.basinmug_words.specs.Asking.{IsRead, alignments_asked, colors_a
 ghost use Rattle.basinmug_words.specs.Command.{IsBasinmug};
 ghost use Rattle.basinmug_words.specs.Lists.{Numbered, Titled};
 ghost use Rattle.command_options.specs.Names.{named};
-ghost use Rattle.basinmug_words.specs.Names.{looks, priorities, rules};
+ghost use Rattle.basinmug_words.specs.Names.{line_styles, priorities, rules};
 ghost use Rattle.basinmug_words.specs.declared.words.Plan.{Plan as Read};
 ghost use Rattle.basinmug_words.specs.Worked.{Finds, Gives, basinmug_by_hand};
 
 use crate::words::WidthAsked;
-use basinmug_options::{Look, Rules};
+use basinmug_options::{LineStyle, Rules};
 use grid_config_values::AlignmentHorizontal;
 use tabled_size_priority::Choice;
 
@@ -68,7 +68,7 @@ pub fn values_by_hand()
     ensures environment { table_width None None ≡ Some WidthAsked.Environment }
     ensures markdown { table_width (Some (codes "markdown")) None ≡ Some WidthAsked.None }
     ensures max { named priorities Choice.None (Some (codes "max")) ≡ Choice.MaxRight }
-    ensures look { named looks Look.Rounded (Some (codes "extended")) ≡ Look.Extended }
+    ensures line_style { named line_styles LineStyle.Rounded (Some (codes "extended")) ≡ LineStyle.Extended }
     ensures rules { named rules Rules.Header (Some (codes "none")) ≡ Rules.None }
     ensures red { colors_asked (Some (codes "1=red")) ≡ Some ((Numbered 1, sequences (codes "\u{1b}[31m") (codes "\u{1b}[39m")) ∷ []) }
     ensures no_list { alignments_asked None ≡ Some [] }

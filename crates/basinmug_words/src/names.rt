@@ -1,10 +1,10 @@
 //! What the names of the command line stand for.
 ghost use Rattle.std.specs.Prelude.{◌≡◌, ℕ, List, IfOk, Option, Some, option_map};
 ghost use Rattle.command_options.specs.Names.{named};
-ghost use Rattle.basinmug_words.specs.Names.{alignment_named, looks, priorities, rules};
+ghost use Rattle.basinmug_words.specs.Names.{alignment_named, line_styles, priorities, rules};
 ghost use Rattle.columns_color_list.specs.Listed.{named as color_of_name};
 
-use basinmug_options::{Look, Rules};
+use basinmug_options::{LineStyle, Rules};
 use columns_color_list::color_named;
 use grid_config_colors::ANSIBuf;
 use grid_config_values::AlignmentHorizontal;
@@ -25,26 +25,26 @@ pub fn priority_named(name: Option<&str>) -> Choice
 }
 
 /// The lines of this name; round corners where none is given.
-pub fn look_named(name: Option<&str>) -> Look
-    ensures { result ≡ named looks Look.Rounded (option_map (λ text. text.now) name.entry) }
+pub fn line_style_named(name: Option<&str>) -> LineStyle
+    ensures { result ≡ named line_styles LineStyle.Rounded (option_map (λ text. text.now) name.entry) }
 {
     match name {
-        Some(name) => look_of(name),
-        None => Look::Rounded,
+        Some(name) => line_style_of(name),
+        None => LineStyle::Rounded,
     }
 }
 
 // The lines of a name; round corners where it is none of the others.
-fn look_of(name: &str) -> Look
-    ensures { result ≡ named looks Look.Rounded (Some name.now) }
+fn line_style_of(name: &str) -> LineStyle
+    ensures { result ≡ named line_styles LineStyle.Rounded (Some name.now) }
 {
     match name {
-        "modern" => Look::Modern,
-        "ascii" => Look::Ascii,
-        "extended" => Look::Extended,
-        "markdown" => Look::Markdown,
-        "empty" => Look::Empty,
-        _ => Look::Rounded,
+        "modern" => LineStyle::Modern,
+        "ascii" => LineStyle::Ascii,
+        "extended" => LineStyle::Extended,
+        "markdown" => LineStyle::Markdown,
+        "empty" => LineStyle::Empty,
+        _ => LineStyle::Rounded,
     }
 }
 

@@ -18,13 +18,13 @@ ghost use Rattle.basinmug_words.specs.Asking.{
   width_for,
 };
 ghost use Rattle.basinmug_words.specs.Lists.{seen_items};
-ghost use Rattle.basinmug_words.specs.Refusing.{IsOfList, IsRefusal, Refuses};
+ghost use Rattle.basinmug_words.specs.Refusing.{IsOfList, IsValueFault, Refuses};
 
 use crate::command::command;
 use crate::lists::listed;
-use crate::names::{Named, look_named, priority_named, rules_named};
+use crate::names::{Named, line_style_named, priority_named, rules_named};
 use crate::refusal::Refusal;
-use basinmug_options::{ColumnName, Look, Options};
+use basinmug_options::{ColumnName, LineStyle, Options};
 use clap::error::ErrorKind;
 use clap::{ArgMatches, Error};
 use columns_color_list::column_of;
@@ -92,17 +92,17 @@ fn run_of(alloc: Global, matches: &ArgMatches<'_>) -> Result<Asked, AllocError>
 // What a run is asked by these values.
 fn plan_of(alloc: Global, matches: &ArgMatches<'_>) -> Result<Plan, Refusal>
     ensures read { IfOk result (IsRead (first_value (found_of matches.now))) }
-    ensures refused { IfErr result (IsRefusal (first_value (found_of matches.now))) }
+    ensures refused { IfErr result (IsValueFault (first_value (found_of matches.now))) }
 {
     let delimiter = delimiter(matches)?;
     let max_rows = max_rows(matches)?;
-    let look = look_named(matches.get_str("style"));
-    let width = width_for(look, width(matches)?)?;
+    let line_style = line_style_named(matches.get_str("style"));
+    let width = width_for(line_style, width(matches)?)?;
     let alignments = list_in(alloc, matches, "align", Refusal::Alignment)?;
     let colors = list_in(alloc, matches, "color", Refusal::Color)?;
     let file = file(alloc, matches)?;
     let options = Options {
-        look,
+        line_style,
         header: !is_set(matches, "no-header"),
         rules: rules_named(matches.get_str("rules")),
         width: None,
@@ -199,13 +199,13 @@ fn width(matches: &ArgMatches<'_>) -> Result<WidthAsked, Refusal>
     }
 }
 
-// The width of a table that looks so: one of Markdown has none.
-fn width_for(look: Look, asked: WidthAsked) -> Result<WidthAsked, Refusal>
-    ensures { Refuses (width_for look asked) Refusal.MarkdownWidth result }
+// The width of a table of this style: one of Markdown has none.
+fn width_for(line_style: LineStyle, asked: WidthAsked) -> Result<WidthAsked, Refusal>
+    ensures { Refuses (width_for line_style asked) Refusal.MarkdownWidth result }
 {
-    match (look, asked) {
-        (Look::Markdown, WidthAsked::Columns(_)) => Err(Refusal::MarkdownWidth),
-        (Look::Markdown, _) => Ok(WidthAsked::None),
+    match (line_style, asked) {
+        (LineStyle::Markdown, WidthAsked::Columns(_)) => Err(Refusal::MarkdownWidth),
+        (LineStyle::Markdown, _) => Ok(WidthAsked::None),
         _ => Ok(asked),
     }
 }

@@ -7,5 +7,5 @@ use Rattle.basinmug_columns.proofs.names.shows.Goals as goal
 
 pub returns : goal.returns
 returns c =
-    let stripped = c.in_ok-shown.ensures.strips _ (ArePiecesOf-pieces c.args.text.now) in
+    let stripped = c.in_ok-stripped.ensures.strips _ (ArePiecesOf-pieces c.args.text.now) in
     c.eq-answer.ensures ∙ ap (λ (text : List ℕ). pointwise nat_eq text c.args.name.now) (c.as_str.ensures.value ∙ stripped)

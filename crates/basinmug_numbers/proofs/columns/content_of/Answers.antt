@@ -7,5 +7,5 @@ use Rattle.basinmug_numbers.proofs.columns.content_of.Goals as goal
 
 pub returns : goal.returns
 returns c =
-    let stripped = c.in_ok-shown.ensures.strips _ (ArePiecesOf-pieces c.args.text.now) in
+    let stripped = c.in_ok-stripped.ensures.strips _ (ArePiecesOf-pieces c.args.text.now) in
     c.kind_of-kind.ensures ∙ ap content_kind (c.trim.ensures.trim ∙ ap trim (c.as_str.ensures.value ∙ stripped))

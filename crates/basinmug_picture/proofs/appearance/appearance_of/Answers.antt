@@ -1,14 +1,14 @@
 -- What a table looks like, by its rows.
 use Rattle.std.proofs.Common.{◌∙◌, map}
 use Rattle.basinmug_cells.specs.Fields.{field_rows, field_text}
-use Rattle.basinmug_picture.proofs.Tables.{looks-are, numeric-is}
+use Rattle.basinmug_picture.proofs.Tables.{settings-are, numeric-is}
 use Rattle.basinmug_picture.proofs.appearance.appearance_of.Goals as goal
 
 pub returns-clause-settings : goal.returns-clause-settings
 returns-clause-settings c =
     let options = c.args.options.now in
     let rows = field_rows c.args.rows.now in
-    looks-are options rows (map field_text c.header_of-header.result.now) c.as_slice-numbers.result.now c.in_ok-settings.settings.items c.in_ok-settings.ensures.settings
+    settings-are options rows (map field_text c.header_of-header.result.now) c.as_slice-numbers.result.now c.in_ok-settings.settings.items c.in_ok-settings.ensures.settings
     c.header_of-header.ensures
     (c.as_slice-numbers.ensures.value
     ∙ numeric-is options.header rows (field_rows c.records_of-records.result.now) c.longest_row-longest.result c.in_ok-numeric.numeric.items c.in_ok-numeric.ensures c.records_of-records.ensures c.longest_row-longest.ensures)

@@ -22,7 +22,7 @@ returns-clause-narrowed c =
     let after : List ℕ = c.as_slice.result.now in
     let are_widths = c.as_slice-before.ensures.value ∙ c.in_ok-widths.ensures.widths in
     let back : take rooms.len (shrunk ++ drop (length shrunk) rooms.items) ≡ shrunk = written_back rooms.items c.deref_mut.result.now shrunk rooms.len rooms.ok.0 c.deref_mut.ensures.value c.shrink_columns.auto.widths in
-    on-ok c.passes.result _
+    on-ok c.is_wider_than.result _
     (narrows-by truncate priority numeric asked total old c.in_ok-total.ensures.total c.if-total-asked.false after
     (are-asked truncate priority numeric asked total old c.in_ok-total.ensures.total c.deref_mut.result.now shrunk after (c.deref_mut.ensures.value ∙ c.in_ok-rooms.ensures.items ∙ are_widths) c.in_ok-shrink_columns.ensures.rooms (c.as_slice.ensures.value ∙ back))
     new

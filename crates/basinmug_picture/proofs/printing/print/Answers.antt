@@ -7,7 +7,7 @@ use Rattle.tabled_text.specs.Rows.{filled}
 use Rattle.basinmug_cells.specs.Fields.{field_rows, field_text}
 use Rattle.basinmug_picture.specs.Lines.{below}
 use Rattle.basinmug_picture.specs.Names.{IsFirstMissing}
-use Rattle.basinmug_picture.specs.Pictures.{looks_of, missing_of, numeric_of}
+use Rattle.basinmug_picture.specs.Pictures.{asked_settings, missing_of, numeric_of}
 use Rattle.basinmug_picture.specs.Printed.{HasNothing, IsTableFault, PrintsTable, StopsInTable}
 use Rattle.basinmug_picture.specs.Rows.{cells_of}
 use Rattle.basinmug_picture.proofs.Narrowed.{err-told}
@@ -50,12 +50,12 @@ returns-clause-printed g c =
     let after = g.W.Write.contents (inner_of c.print_table-outcome.new.writer) in
     with-names options rows result before after (subst (λ (it : List (List (List ℕ))). missing_of options it ≡ []) are c.in_ok-appearance.ensures.named)
     (printed-by options rows made.settings.items made.numeric.items (state_of field_text c.in_ok-table.table) c.len.result c.as_str-ending.result.now
-    (λ Makes NotMade text. IfOk result (λ shown. PrintsTable Makes text options.width shown.wider before after))
-    (c.in_ok-appearance.ensures.settings ∙ ap (looks_of options) are)
+    (λ Makes NotMade text. IfOk result (λ printed. PrintsTable Makes text options.width printed.wider before after))
+    (c.in_ok-appearance.ensures.settings ∙ ap (asked_settings options) are)
     (c.in_ok-appearance.ensures.numeric ∙ ap (numeric_of options.header) are)
-    (c.in_ok-table.ensures.table ∙ ap (λ (it : List (List (List ℕ))). new_state (filled it)) (c.in_ok-cells.ensures ∙ ap (cells_of options.look options.header) shown))
+    (c.in_ok-table.ensures.table ∙ ap (λ (it : List (List (List ℕ))). new_state (filled it)) (c.in_ok-cells.ensures ∙ ap (cells_of options.line_style options.header) shown))
     (length-shown options rows c.shown_rows-shown.result.0.items c.len.result (c.len.ensures ∙ c.shown_rows-shown.result.0.ok.0) shown)
-    (c.as_str-ending.ensures.value ∙ c.in_ok-more.ensures ∙ ap (below options.look) c.shown_rows-shown.ensures.left_out)
+    (c.as_str-ending.ensures.value ∙ c.in_ok-more.ensures ∙ ap (below options.line_style) c.shown_rows-shown.ensures.left_out)
     c.print_table-outcome.ensures.printed)
 
 pub returns-clause-front : goal.returns-clause-front
@@ -70,11 +70,11 @@ returns-clause-front g c =
     stops-named options rows c.print_table-outcome.result before after (subst (λ (it : List (List (List ℕ))). missing_of options it ≡ []) are c.in_ok-appearance.ensures.named)
     (printed-by options rows made.settings.items made.numeric.items (state_of field_text c.in_ok-table.table) c.len.result c.as_str-ending.result.now
     (λ Makes NotMade text. IfErr c.print_table-outcome.result (λ fault. ¬ (HasNothing fault) → StopsInTable Makes text fault before after))
-    (c.in_ok-appearance.ensures.settings ∙ ap (looks_of options) are)
+    (c.in_ok-appearance.ensures.settings ∙ ap (asked_settings options) are)
     (c.in_ok-appearance.ensures.numeric ∙ ap (numeric_of options.header) are)
-    (c.in_ok-table.ensures.table ∙ ap (λ (it : List (List (List ℕ))). new_state (filled it)) (c.in_ok-cells.ensures ∙ ap (cells_of options.look options.header) shown))
+    (c.in_ok-table.ensures.table ∙ ap (λ (it : List (List (List ℕ))). new_state (filled it)) (c.in_ok-cells.ensures ∙ ap (cells_of options.line_style options.header) shown))
     (length-shown options rows c.shown_rows-shown.result.0.items c.len.result (c.len.ensures ∙ c.shown_rows-shown.result.0.ok.0) shown)
-    (c.as_str-ending.ensures.value ∙ c.in_ok-more.ensures ∙ ap (below options.look) c.shown_rows-shown.ensures.left_out)
+    (c.as_str-ending.ensures.value ∙ c.in_ok-more.ensures ∙ ap (below options.line_style) c.shown_rows-shown.ensures.left_out)
     c.print_table-outcome.ensures.front)
 
 pub returns-clause-refused : goal.returns-clause-refused
@@ -88,9 +88,9 @@ returns-clause-refused g c =
     refused-named options rows result (subst (λ (it : List (List (List ℕ))). missing_of options it ≡ []) are c.in_ok-appearance.ensures.named)
     (printed-by options rows made.settings.items made.numeric.items (state_of field_text c.in_ok-table.table) c.len.result c.as_str-ending.result.now
     (λ Makes NotMade text. IfErr result (IsTableFault Makes NotMade))
-    (c.in_ok-appearance.ensures.settings ∙ ap (looks_of options) are)
+    (c.in_ok-appearance.ensures.settings ∙ ap (asked_settings options) are)
     (c.in_ok-appearance.ensures.numeric ∙ ap (numeric_of options.header) are)
-    (c.in_ok-table.ensures.table ∙ ap (λ (it : List (List (List ℕ))). new_state (filled it)) (c.in_ok-cells.ensures ∙ ap (cells_of options.look options.header) shown))
+    (c.in_ok-table.ensures.table ∙ ap (λ (it : List (List (List ℕ))). new_state (filled it)) (c.in_ok-cells.ensures ∙ ap (cells_of options.line_style options.header) shown))
     (length-shown options rows c.shown_rows-shown.result.0.items c.len.result (c.len.ensures ∙ c.shown_rows-shown.result.0.ok.0) shown)
-    (c.as_str-ending.ensures.value ∙ c.in_ok-more.ensures ∙ ap (below options.look) c.shown_rows-shown.ensures.left_out)
+    (c.as_str-ending.ensures.value ∙ c.in_ok-more.ensures ∙ ap (below options.line_style) c.shown_rows-shown.ensures.left_out)
     c.print_table-outcome.ensures.refused)

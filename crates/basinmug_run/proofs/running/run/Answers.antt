@@ -25,37 +25,37 @@ returns-in_err-rows-clause-write g c = input-fails c.args.writer.now c.args.writ
 pub returns-in_err-rows-clause-write_zero : goal.returns-in_err-rows-clause-write_zero
 returns-in_err-rows-clause-write_zero g c = input-takes c.args.writer.now c.args.writer.now c.in_err-rows.field-0.0 c.from_residual.result (Table WriteZero) c.from_residual.ensures.1
 
-pub returns-in_err-shown-clause-front : goal.returns-in_err-shown-clause-front
-returns-in_err-shown-clause-front g c =
+pub returns-in_err-printed-clause-front : goal.returns-in_err-printed-clause-front
+returns-in_err-printed-clause-front g c =
     let old = g.W.Write.contents (inner_of c.args.writer.now) in
     let new = g.W.Write.contents (inner_of c.print_rows.new.writer) in
     let options = c.args.options.now in
-    let fault = c.in_err-shown.field-0.0 in
-    err-told c.from_residual-in_err-shown.result (of_print fault) _ c.from_residual-in_err-shown.ensures.1
+    let fault = c.in_err-printed.field-0.0 in
+    err-told c.from_residual-in_err-printed.result (of_print fault) _ c.from_residual-in_err-printed.ensures.1
     (λ some. stops-printed c.args.delimiter c.args.bytes.now options fault old new c.in_ok-rows.ensures.readable
-    (subst (λ (it : List (List (List ℕ))). StopsInRows options it fault old new) c.in_ok-rows.ensures.rows (c.in_err-shown.ensures.front (something-printed fault some))))
+    (subst (λ (it : List (List (List ℕ))). StopsInRows options it fault old new) c.in_ok-rows.ensures.rows (c.in_err-printed.ensures.front (something-printed fault some))))
 
-pub returns-in_err-shown-clause-untouched : goal.returns-in_err-shown-clause-untouched
-returns-in_err-shown-clause-untouched g c =
-    err-told c.from_residual-in_err-shown.result (of_print c.in_err-shown.field-0.0) _ c.from_residual-in_err-shown.ensures.1 (λ none. c.in_err-shown.ensures.untouched (nothing-printed c.in_err-shown.field-0.0 none))
+pub returns-in_err-printed-clause-untouched : goal.returns-in_err-printed-clause-untouched
+returns-in_err-printed-clause-untouched g c =
+    err-told c.from_residual-in_err-printed.result (of_print c.in_err-printed.field-0.0) _ c.from_residual-in_err-printed.ensures.1 (λ none. c.in_err-printed.ensures.untouched (nothing-printed c.in_err-printed.field-0.0 none))
 
-pub returns-in_err-shown-clause-refused : goal.returns-in_err-shown-clause-refused
-returns-in_err-shown-clause-refused g c =
+pub returns-in_err-printed-clause-refused : goal.returns-in_err-printed-clause-refused
+returns-in_err-printed-clause-refused g c =
     let options = c.args.options.now in
-    let fault = c.in_err-shown.field-0.0 in
-    err-told c.from_residual-in_err-shown.result (of_print fault) _ c.from_residual-in_err-shown.ensures.1
+    let fault = c.in_err-printed.field-0.0 in
+    err-told c.from_residual-in_err-printed.result (of_print fault) _ c.from_residual-in_err-printed.ensures.1
     (not-printed c.args.delimiter c.args.bytes.now options fault c.in_ok-rows.ensures.readable
-    (subst (λ (it : List (List (List ℕ))). IsRowsFault options it fault) c.in_ok-rows.ensures.rows c.in_err-shown.ensures.refused))
+    (subst (λ (it : List (List (List ℕ))). IsRowsFault options it fault) c.in_ok-rows.ensures.rows c.in_err-printed.ensures.refused))
 
-pub returns-in_err-shown-clause-write : goal.returns-in_err-shown-clause-write
-returns-in_err-shown-clause-write g c =
-    fails-told c.args.writer.now c.print_rows.new.writer c.in_err-shown.field-0.0 c.from_residual-in_err-shown.result c.print_rows.result c.from_residual-in_err-shown.ensures.1 c.in_err-shown.was c.print_rows.ensures.write
+pub returns-in_err-printed-clause-write : goal.returns-in_err-printed-clause-write
+returns-in_err-printed-clause-write g c =
+    fails-told c.args.writer.now c.print_rows.new.writer c.in_err-printed.field-0.0 c.from_residual-in_err-printed.result c.print_rows.result c.from_residual-in_err-printed.ensures.1 c.in_err-printed.was c.print_rows.ensures.write
 
-pub returns-in_err-shown-clause-write_zero : goal.returns-in_err-shown-clause-write_zero
-returns-in_err-shown-clause-write_zero g c =
-    takes-told c.args.writer.now c.print_rows.new.writer c.in_err-shown.field-0.0 c.from_residual-in_err-shown.result c.print_rows.result c.from_residual-in_err-shown.ensures.1 c.in_err-shown.was c.print_rows.ensures.write_zero
+pub returns-in_err-printed-clause-write_zero : goal.returns-in_err-printed-clause-write_zero
+returns-in_err-printed-clause-write_zero g c =
+    takes-told c.args.writer.now c.print_rows.new.writer c.in_err-printed.field-0.0 c.from_residual-in_err-printed.result c.print_rows.result c.from_residual-in_err-printed.ensures.1 c.in_err-printed.was c.print_rows.ensures.write_zero
 
 pub returns-clause-printed : goal.returns-clause-printed
 returns-clause-printed g c =
-    subst (λ (it : List (List (List ℕ))). PrintsRows c.args.options.now it c.in_ok-shown.shown.wider (g.W.Write.contents (inner_of c.args.writer.now)) (g.W.Write.contents (inner_of c.print_rows.new.writer)))
-    c.in_ok-rows.ensures.rows c.in_ok-shown.ensures.printed
+    subst (λ (it : List (List (List ℕ))). PrintsRows c.args.options.now it c.in_ok-printed.printed.wider (g.W.Write.contents (inner_of c.args.writer.now)) (g.W.Write.contents (inner_of c.print_rows.new.writer)))
+    c.in_ok-rows.ensures.rows c.in_ok-printed.ensures.printed

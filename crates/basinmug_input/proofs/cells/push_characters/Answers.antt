@@ -5,9 +5,9 @@ use Rattle.std.specs.Str.Iter.{chars_rest}
 use Rattle.std.proofs.lemmas.List.{nil_from_length}
 use Rattle.std.proofs.lemmas.Str.{IsUtf8-past_char, chars_past_char, chars-nil}
 use Rattle.csv.specs.Machine.{carriage_return, line_feed}
-use Rattle.basinmug_input.specs.Cleaning.{cleaned_text, shown}
-use Rattle.basinmug_input.proofs.Cleans.{next-shown, waiting}
-use Rattle.basinmug_input.proofs.cells.push_visible.Goals as goal
+use Rattle.basinmug_input.specs.Cleaning.{cleaned_text, cleaned_char}
+use Rattle.basinmug_input.proofs.Cleans.{next-cleaned, waiting}
+use Rattle.basinmug_input.proofs.cells.push_characters.Goals as goal
 
 pub loop-c-preserved : goal.loop-c-preserved
 loop-c-preserved c =
@@ -16,8 +16,8 @@ loop-c-preserved c =
     let behind = chars_rest c.next.new.self in
     let x = c.in-Some.c in
     let out = string_bytes l.out in
-    let waits : List ℕ = if l.waits && not (x == line_feed) then shown carriage_return else [] in
-    let other : List ℕ = if x == carriage_return then [] else shown x in
+    let waits : List ℕ = if l.waits && not (x == line_feed) then cleaned_char carriage_return else [] in
+    let other : List ℕ = if x == carriage_return then [] else cleaned_char x in
     let more = cleaned_text (waiting (x == carriage_return) ++ chars behind) in
     record {
       goes = search rules;
@@ -25,7 +25,7 @@ loop-c-preserved c =
       left = ap (λ (bytes : List ℕ). bytes ++ more) (c.in_ok-push_other.ensures ∙ ap (λ (bytes : List ℕ). bytes ++ other) c.in_ok-push_return.ensures)
           ∙ append_assoc (out ++ waits) other more
           ∙ append_assoc out waits (other ++ more)
-          ∙ ap (λ (bytes : List ℕ). out ++ bytes) (sym (next-shown l.waits x (chars behind)))
+          ∙ ap (λ (bytes : List ℕ). out ++ bytes) (sym (next-cleaned l.waits x (chars behind)))
           ∙ ap (λ (cs : List ℕ). out ++ cleaned_text (waiting l.waits ++ cs)) (sym (chars_past_char before behind x l.invariant.text c.in-Some.ensures.steps.0))
           ∙ l.invariant.left;
     }

@@ -1,8 +1,8 @@
 use Rattle.std.proofs.Common.{◌∷◌, [], sym, codes}
 use Rattle.columns_color_list.proofs.NotNamed.{apart}
-use Rattle.basinmug_options.specs.declared.options.Look.TheVariants.{Rounded, Modern, Ascii, Extended, Markdown, Empty}
+use Rattle.basinmug_options.specs.declared.options.LineStyle.TheVariants.{Rounded, Modern, Ascii, Extended, Markdown, Empty}
 use Rattle.basinmug_words.proofs.NotNamed.{first_or_none}
-use Rattle.basinmug_words.proofs.names.look_of.Goals as goal
+use Rattle.basinmug_words.proofs.names.line_style_of.Goals as goal
 
 pub returns-in_default : goal.returns-in_default
 returns-in_default c =

@@ -1,8 +1,8 @@
 use Rattle.std.proofs.Common.{refl, false, ℕ}
 use Rattle.std.specs.Prelude.{slice_index_or}
-use Rattle.basinmug_picture.specs.Looks.{right_if}
+use Rattle.basinmug_picture.specs.Settings.{right_if}
 use Rattle.basinmug_picture.proofs.Mapped.{next_number}
-use Rattle.basinmug_picture.proofs.looks.push_numbers.Goals as goal
+use Rattle.basinmug_picture.proofs.settings.push_numbers.Goals as goal
 
 pub loop-column-preserved : goal.loop-column-preserved
 loop-column-preserved c =

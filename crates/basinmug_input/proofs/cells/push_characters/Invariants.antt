@@ -4,7 +4,7 @@ use Rattle.std.specs.Str.{IsUtf8}
 use Rattle.std.specs.Str.Iter.{chars_rest}
 use Rattle.basinmug_input.specs.Cleaning.{cleaned_text}
 use Rattle.basinmug_input.proofs.Cleans.{waiting}
-use Rattle.basinmug_input.proofs.cells.push_visible.Given as goal
+use Rattle.basinmug_input.proofs.cells.push_characters.Given as goal
 
 abbrev pub invariant-loop-c : goal.invariant-loop-c
 invariant-loop-c l =

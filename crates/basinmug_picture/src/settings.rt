@@ -1,7 +1,7 @@
 //! The settings of a table before it is made narrower.
 ghost use Rattle.std.specs.Prelude.{◌≡◌, ◌++◌, ◌∷◌, [], IfErr, IfOk, OnOk, map};
 ghost use Rattle.basinmug_cells.specs.Fields.{field_text};
-ghost use Rattle.basinmug_picture.specs.Looks.{alignments, colors, looks, numbers_right, right_if};
+ghost use Rattle.basinmug_picture.specs.Settings.{alignments, colors, settings_of, numbers_right, right_if};
 ghost use Rattle.basinmug_picture.specs.Names.{IsFirstMissing, missing_names};
 
 use crate::fault::PrintFault;
@@ -13,20 +13,20 @@ use grid_config::{ANSIBuf, AlignmentHorizontal};
 use std::alloc::{AllocError, Global};
 use tabled::{Entity, Setting};
 
-/// The lines of the look, numbers at the right, and what is asked of named columns. Refused as `NoColumn` with the
+/// The lines of the table, numbers at the right, and what is asked of named columns. Refused as `NoColumn` with the
 /// first name that the header does not have, and as `Memory` where allocation fails.
-pub(crate) fn looks(
+pub(crate) fn settings_of(
     alloc: Global,
     header: &[Field<'_>],
     numeric: &[bool],
     options: &Options,
 ) -> Result<Vec<Setting>, PrintFault>
-    ensures settings { IfOk result (λ settings. settings.items ≡ looks options.now.look (map field_text header.now) numeric.now options.now.alignments.items options.now.colors.items) }
+    ensures settings { IfOk result (λ settings. settings.items ≡ settings_of options.now.line_style (map field_text header.now) numeric.now options.now.alignments.items options.now.colors.items) }
     ensures named { OnOk result (missing_names (map field_text header.now) options.now.alignments.items ++ missing_names (map field_text header.now) options.now.colors.items ≡ []) }
     ensures refused { IfErr result (IsFirstMissing (missing_names (map field_text header.now) options.now.alignments.items ++ missing_names (map field_text header.now) options.now.colors.items)) }
 {
     let mut settings = Vec::new(alloc);
-    settings.push(Setting::Borders(glyphs_of(options.look)))?;
+    settings.push(Setting::Borders(glyphs_of(options.line_style)))?;
     push_numbers(&mut settings, numeric)?;
     push_alignments(alloc, &mut settings, header, &options.alignments)?;
     push_colors(alloc, &mut settings, header, &options.colors)?;

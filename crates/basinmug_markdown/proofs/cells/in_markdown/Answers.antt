@@ -9,8 +9,8 @@ use Rattle.ansi_scan.specs.Pieces.{pieces}
 use Rattle.ansi_scan.proofs.Existence.{ArePiecesOf-pieces}
 use Rattle.ansi_scan.proofs.Reading.{flat_map-placed}
 use Rattle.ansi_scan.proofs.Uniqueness.{ArePiecesOf-unique}
-use Rattle.basinmug_markdown.specs.Escapes.{escaped_piece}
-use Rattle.basinmug_markdown.proofs.cells.escaped.Goals as goal
+use Rattle.basinmug_markdown.specs.Escapes.{markdown_piece}
+use Rattle.basinmug_markdown.proofs.cells.in_markdown.Goals as goal
 
 pub returns : goal.returns
 returns c =
@@ -19,6 +19,6 @@ returns c =
     let done = YieldsList-end (YieldsList-from_first (λ x. x) items_left {s = c.into_iter-item-iterator.result} (items_left c.scan-item-items.result) (cc)) c.loop-item.yielded _ c.loop-item.yielded_by c.next.result c.next.new.self c.in-None.is c.next.ensures.steps in
     let yielded : c.loop-item.yielded ≡ placed 0 are.pieces = sym (map-id c.loop-item.yielded) ∙ done.0 ∙ are.at_places in
     c.loop-item.invariant
-    ∙ ap (λ (items : List Item). flat_map (λ item. escaped_piece (piece_at text item)) items) yielded
-    ∙ flat_map-placed escaped_piece text are.pieces are.of_text.joins
-    ∙ ap (flat_map escaped_piece) (ArePiecesOf-unique text are.pieces (pieces text) are.of_text (ArePiecesOf-pieces text))
+    ∙ ap (λ (items : List Item). flat_map (λ item. markdown_piece (piece_at text item)) items) yielded
+    ∙ flat_map-placed markdown_piece text are.pieces are.of_text.joins
+    ∙ ap (flat_map markdown_piece) (ArePiecesOf-unique text are.pieces (pieces text) are.of_text (ArePiecesOf-pieces text))

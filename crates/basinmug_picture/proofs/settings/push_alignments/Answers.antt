@@ -3,7 +3,7 @@ use Rattle.std.proofs.Common.{map}
 use Rattle.basinmug_cells.specs.Fields.{field_text}
 use Rattle.basinmug_picture.proofs.Missing.{first-at}
 use Rattle.basinmug_picture.proofs.Narrowed.{err-told}
-use Rattle.basinmug_picture.proofs.looks.push_colors.Goals as goal
+use Rattle.basinmug_picture.proofs.settings.push_alignments.Goals as goal
 
 pub returns-in_err-column-clause-refused : goal.returns-in_err-column-clause-refused
 returns-in_err-column-clause-refused c =

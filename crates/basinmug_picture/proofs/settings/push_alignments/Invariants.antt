@@ -1,8 +1,8 @@
 use Rattle.std.proofs.Common.{◌≡◌, ◌++◌, [], map, take}
 use Rattle.basinmug_cells.specs.Fields.{field_text}
-use Rattle.basinmug_picture.specs.Looks.{alignments}
+use Rattle.basinmug_picture.specs.Settings.{alignments}
 use Rattle.basinmug_picture.specs.Names.{missing_names}
-use Rattle.basinmug_picture.proofs.looks.push_alignments.Given as goal
+use Rattle.basinmug_picture.proofs.settings.push_alignments.Given as goal
 
 abbrev pub invariant-loop-name : goal.invariant-loop-name
 invariant-loop-name l = record {

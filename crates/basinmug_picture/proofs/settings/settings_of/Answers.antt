@@ -3,7 +3,7 @@ use Rattle.basinmug_cells.specs.Fields.{field_text}
 use Rattle.basinmug_picture.specs.Names.{missing_names}
 use Rattle.basinmug_picture.proofs.Missing.{first-alike, first-of-more}
 use Rattle.basinmug_picture.proofs.Narrowed.{err-told}
-use Rattle.basinmug_picture.proofs.looks.looks.Goals as goal
+use Rattle.basinmug_picture.proofs.settings.settings_of.Goals as goal
 
 pub returns-in_err-push_alignments-clause-refused : goal.returns-in_err-push_alignments-clause-refused
 returns-in_err-push_alignments-clause-refused c =

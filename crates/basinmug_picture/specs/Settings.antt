@@ -12,8 +12,8 @@ use Rattle.tabled_list.specs.declared.setting.Setting.{Setting}
 use Rattle.tabled_list.specs.declared.setting.Setting.TheVariants.{AlignHorizontal, Borders, Color}
 use Rattle.basinmug_columns.specs.Names.{column_number}
 use Rattle.basinmug_options.specs.declared.options.ColumnName.{ColumnName}
-use Rattle.basinmug_options.specs.declared.options.Look.{Look}
-use Rattle.basinmug_options.specs.declared.options.Look.TheVariants.{Ascii, Modern, Rounded, Extended, Markdown, Empty}
+use Rattle.basinmug_options.specs.declared.options.LineStyle.{LineStyle}
+use Rattle.basinmug_options.specs.declared.options.LineStyle.TheVariants.{Ascii, Modern, Rounded, Extended, Markdown, Empty}
 
 -- ---- lines
 
@@ -21,7 +21,7 @@ use Rattle.basinmug_options.specs.declared.options.Look.TheVariants.{Ascii, Mode
 abbrev pub rounded : Glyphs ℕ
 rounded = record modern { top_left = Some 0x256d; top_right = Some 0x256e; bottom_left = Some 0x2570; bottom_right = Some 0x256f }
 
--- the bars of a table of Markdown, whose rule below the header is no line of a look
+-- the bars of a table of Markdown, whose rule below the header is none of these lines
 abbrev pub markdown : Glyphs ℕ
 markdown = record no_borders {
   vertical = Some 0x7c;
@@ -29,7 +29,7 @@ markdown = record no_borders {
   right = Some 0x7c;
 }
 
-abbrev pub glyphs_of : Look → Glyphs ℕ
+abbrev pub glyphs_of : LineStyle → Glyphs ℕ
 glyphs_of Ascii = ascii
 glyphs_of Modern = modern
 glyphs_of Rounded = rounded
@@ -63,5 +63,5 @@ abbrev pub colors : List (List ℕ) → List (ColumnName × CellColor) → List 
 colors header pairs = flat_map (λ pair. colored_at (column_number header pair.0) pair.1) pairs
 
 -- all of these, one after the other, of which the last decides
-abbrev pub looks : Look → List (List ℕ) → List Bool → List (ColumnName × AlignmentHorizontal) → List (ColumnName × CellColor) → List Setting
-looks look header numeric aligned colored = (Borders (glyphs_of look) ∷ []) ++ numbers_right numeric ++ alignments header aligned ++ colors header colored
+abbrev pub settings_of : LineStyle → List (List ℕ) → List Bool → List (ColumnName × AlignmentHorizontal) → List (ColumnName × CellColor) → List Setting
+settings_of line_style header numeric aligned colored = (Borders (glyphs_of line_style) ∷ []) ++ numbers_right numeric ++ alignments header aligned ++ colors header colored
