@@ -21,8 +21,13 @@ pub enum Fault {
 }
 
 impl Fault {
+    ghost use Rattle.std.specs.Prelude.{◌≡◌};
+    ghost use Rattle.basinmug.specs.Faults.{is_of_input};
+
     /// Whether the input is at fault, so that its name is told.
-    pub fn is_of_input(&self) -> bool {
+    pub fn is_of_input(&self) -> bool
+        ensures { result ≡ is_of_input self.now }
+    {
         matches!(
             self,
             Fault::Open(_) | Fault::Read(_) | Fault::Run(RunFault::Input(_))
