@@ -15,7 +15,7 @@ abbrev pub waiting : Bool → List ℕ
 waiting true = carriage_return ∷ []
 waiting false = []
 
-flat_map-if : (b : Bool) (c : ℕ) (cs : List ℕ) → flat_map cleaned_char ((if b then [] else c ∷ []) ++ cs) ≡ (if b then [] else cleaned_char c) ++ flat_map shown cs
+flat_map-if : (b : Bool) (c : ℕ) (cs : List ℕ) → flat_map cleaned_char ((if b then [] else c ∷ []) ++ cs) ≡ (if b then [] else cleaned_char c) ++ flat_map cleaned_char cs
 flat_map-if true c cs = refl
 flat_map-if false c cs = refl
 
@@ -26,7 +26,7 @@ coming true c cs e = ap (λ x. cleaned_text (x ∷ cs)) (eqb-true c carriage_ret
 coming false c cs e = ap (λ (b : Bool). flat_map cleaned_char ((if b && begins_with_line_feed cs then [] else c ∷ []) ++ without_returns cs)) e
 
 -- the return that waits, before the next character
-behind_return : (b : Bool) (cs : List ℕ) → flat_map cleaned_char ((if b then [] else carriage_return ∷ []) ++ cs) ≡ (if true && not b then cleaned_char carriage_return else []) ++ flat_map shown cs
+behind_return : (b : Bool) (cs : List ℕ) → flat_map cleaned_char ((if b then [] else carriage_return ∷ []) ++ cs) ≡ (if true && not b then cleaned_char carriage_return else []) ++ flat_map cleaned_char cs
 behind_return true cs = refl
 behind_return false cs = refl
 
