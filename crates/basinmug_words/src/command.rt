@@ -7,7 +7,7 @@ ghost use Rattle.basinmug_words.specs.Names.{line_style_names, priority_names, r
 
 use clap::builder::ValueParser;
 use clap::{Arg, ArgAction, Command};
-use command_options::{flag, text};
+use command_options::{flag, one_of, text};
 use std::alloc::{AllocError, Global};
 
 static PRIORITIES: [&str; 5] = ["max", "none", "min", "left", "right"];
@@ -132,12 +132,7 @@ fn priority<'a>(alloc: Global) -> Arg<'a>
     ensures rule { IsOfNames (codes "priority") priority_names (rule_of result) }
     ensures global { result.global ≡ false }
 {
-    Arg::new(alloc, "priority")
-        .long("priority")
-        .value_name("PRIORITY")
-        .action(ArgAction::Set)
-        .value_parser(PRIORITIES.as_slice())
-        .default_value("max")
+    one_of(alloc, "priority", "PRIORITY", PRIORITIES.as_slice())
         .help_heading(WIDTH)
         .help("In a width: which column gives first; none: each in turn")
 }
@@ -157,12 +152,7 @@ fn style<'a>(alloc: Global) -> Arg<'a>
     ensures rule { IsOfNames (codes "style") line_style_names (rule_of result) }
     ensures global { result.global ≡ false }
 {
-    Arg::new(alloc, "style")
-        .long("style")
-        .value_name("STYLE")
-        .action(ArgAction::Set)
-        .value_parser(STYLES.as_slice())
-        .default_value("rounded")
+    one_of(alloc, "style", "STYLE", STYLES.as_slice())
         .help_heading(LOOK)
         .help("The table's lines; markdown takes no width")
 }
@@ -172,12 +162,7 @@ fn rules<'a>(alloc: Global) -> Arg<'a>
     ensures rule { IsOfNames (codes "rules") rules_names (rule_of result) }
     ensures global { result.global ≡ false }
 {
-    Arg::new(alloc, "rules")
-        .long("rules")
-        .value_name("RULES")
-        .action(ArgAction::Set)
-        .value_parser(RULES.as_slice())
-        .default_value("header")
+    one_of(alloc, "rules", "RULES", RULES.as_slice())
         .help_heading(LOOK)
         .help("Lines between rows: below the header, all or none")
 }

@@ -7,7 +7,7 @@ ghost use Rattle.columns_words.specs.Names.{priority_names, style_names};
 
 use clap::builder::ValueParser;
 use clap::{Arg, ArgAction, Command};
-use command_options::{flag, text};
+use command_options::{flag, one_of, text};
 use std::alloc::{AllocError, Global};
 
 static PRIORITIES: [&str; 5] = ["none", "min", "max", "left", "right"];
@@ -96,13 +96,9 @@ fn priority<'a>(alloc: Global) -> Arg<'a>
     ensures rule { IsOfNames (codes "priority") priority_names (rule_of result) }
     ensures global { result.global ≡ false }
 {
-    Arg::new(alloc, "priority")
-        .long("priority")
-        .value_name("PRIORITY")
-        .action(ArgAction::Set)
-        .value_parser(PRIORITIES.as_slice())
-        .default_value("none")
-        .help("With --width: which column gives first; none: each in turn")
+    one_of(alloc, "priority", "PRIORITY", PRIORITIES.as_slice()).help(
+        "With --width: which column gives first; none: each in turn",
+    )
 }
 
 // The glyphs.
@@ -110,13 +106,9 @@ fn style<'a>(alloc: Global) -> Arg<'a>
     ensures rule { IsOfNames (codes "style") style_names (rule_of result) }
     ensures global { result.global ≡ false }
 {
-    Arg::new(alloc, "style")
-        .long("style")
-        .value_name("STYLE")
-        .action(ArgAction::Set)
-        .value_parser(STYLES.as_slice())
-        .default_value("ascii")
-        .help("The table's lines: - | +, light, double, or none at all")
+    one_of(alloc, "style", "STYLE", STYLES.as_slice()).help(
+        "The table's lines: - | +, light, double, or none at all",
+    )
 }
 
 // Whether to print a streamed table.

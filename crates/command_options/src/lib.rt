@@ -3,4 +3,4 @@
 
 mod options;
 
-pub use options::{flag, text};
+pub use options::{flag, one_of, text};
