@@ -22,13 +22,10 @@ use tabled_size_priority::Choice;
 // How many reads without an end are too many.
 const READ_LIMIT: u64 = 1 << 40;
 
-/// Reads all text, cells between tabs and rows between line feeds, and writes it as a table with
-/// borders. Where it would pass the width that is asked, its columns give, and its cells are wrapped or
-/// cut to the room that is left; it never gets wider. Each line is written as soon as it is made, and no more
-/// than one is held, beside the input and the places of its cells. Each line of a cell stands in the colour of
-/// its column, which the last of several decides. `RunFault` says when it gives up. Before a
-/// fault of the reader or the input nothing is written; before one of the writer, or `Memory`, a front of the
-/// table may be. Nothing is flushed.
+/// Reads all text, cells between tabs and rows between line feeds, and writes it as a table with borders, in the
+/// width and the colours that are asked. The input and the places of its cells are held, and one line of the
+/// table. Before a fault of the reader or the input nothing is written; before one of the writer, or `Memory`, a
+/// front of the table may be.
 pub fn run<R: Read, W: Write>(
     alloc: Global,
     options: &Options,
@@ -43,8 +40,7 @@ pub fn run<R: Read, W: Write>(
     write_table(alloc, options, &bytes, writer)
 }
 
-/// The same in this style, as wide as the text and without colours: what `run` does with options of this
-/// style that have no width and no colours.
+/// What `run` does with options of this style that have no width and no colours.
 pub fn run_streamed<R: Read, W: Write>(
     alloc: Global,
     style: &CompactConfig,
