@@ -13,7 +13,7 @@ use Rattle.csv.specs.declared.parser.Action.TheVariants as act
 use Rattle.csv.specs.declared.parser.Config.{Config}
 use Rattle.csv.specs.declared.parser.State.{State}
 use Rattle.basinmug_input.specs.Faults.{HasFirstFlaw, IsFaultOf}
-use Rattle.basinmug_input.specs.Flaws.{IsBroken, IsNoText, IsSound}
+use Rattle.basinmug_input.specs.Flaws.{HasBrokenEscape, IsNoUtf8, IsReadableField}
 use Rattle.basinmug_input.specs.Places.{IsOpenQuote, IsReadAs, field_at, line_at, read_before}
 use Rattle.basinmug_input.specs.Reading.{SoFar, field_in, nothing, read_on, with_byte}
 use Rattle.basinmug_input.specs.declared.fault.InputFault.{InputFault}
@@ -133,10 +133,10 @@ pub one-of : {A : Type 0} (P : A → Type 0) (before : List A) (x : A) (behind :
 one-of P [] x behind all = all.0
 one-of P (y ∷ before) x behind all = one-of P before x behind all.1
 
-no-text-fails : (field : List ℕ) (byte : ℕ) → IsNoText field byte → IsSound field → ⊥
+no-text-fails : (field : List ℕ) (byte : ℕ) → IsNoUtf8 field byte → IsReadableField field → ⊥
 no-text-fails field byte flaw sound = flaw.0 sound.0
 
-broken-fails : (field : List ℕ) (byte : ℕ) → IsBroken field byte → IsSound field → ⊥
+broken-fails : (field : List ℕ) (byte : ℕ) → HasBrokenEscape field byte → IsReadableField field → ⊥
 broken-fails field byte flaw sound = IsWhole-IsFirstBroken field byte sound.1 flaw.1
 
 -- two first flaws are of one field
@@ -145,19 +145,19 @@ record AreOfOne (row field row2 field2 : ℕ) (here here2 : List ℕ) : Type 0 w
   field_same : field ≡ field2
   here_same : here ≡ here2
 
-same-field : (F G : List ℕ → ℕ → Type 0) → ((field : List ℕ) (byte : ℕ) → F field byte → IsSound field → ⊥) → ((field : List ℕ) (byte : ℕ) → G field byte → IsSound field → ⊥)
+same-field : (F G : List ℕ → ℕ → Type 0) → ((field : List ℕ) (byte : ℕ) → F field byte → IsReadableField field → ⊥) → ((field : List ℕ) (byte : ℕ) → G field byte → IsReadableField field → ⊥)
     → (cfg : Config) (text : List ℕ) (line field line2 field2 : ℕ) (one : HasFirstFlaw F cfg text line field) (two : HasFirstFlaw G cfg text line2 field2)
     → AreOfOne (length one.before) (length one.fields) (length two.before) (length two.fields) one.here two.here
 same-field F G fails fails2 cfg text line field line2 field2 one two =
-    let rows = first-same (AllByRecursion IsSound) one.before (one.fields ++ one.here ∷ one.behind) one.after two.before (two.fields ++ two.here ∷ two.behind) two.after
-    (sym one.of_text ∙ two.of_text) one.sound_records (λ all. fails one.here one.byte one.flaw (one-of IsSound one.fields one.here one.behind all))
-    two.sound_records (λ all. fails2 two.here two.byte two.flaw (one-of IsSound two.fields two.here two.behind all)) in
-    let fields = first-same IsSound one.fields one.here one.behind two.fields two.here two.behind rows.1
+    let rows = first-same (AllByRecursion IsReadableField) one.before (one.fields ++ one.here ∷ one.behind) one.after two.before (two.fields ++ two.here ∷ two.behind) two.after
+    (sym one.of_text ∙ two.of_text) one.sound_records (λ all. fails one.here one.byte one.flaw (one-of IsReadableField one.fields one.here one.behind all))
+    two.sound_records (λ all. fails2 two.here two.byte two.flaw (one-of IsReadableField two.fields two.here two.behind all)) in
+    let fields = first-same IsReadableField one.fields one.here one.behind two.fields two.here two.behind rows.1
     one.sound_fields (fails one.here one.byte one.flaw) two.sound_fields (fails2 two.here two.byte two.flaw) in
     record { row_same = rows.0; field_same = fields.0; here_same = fields.1 }
 
 -- two first flaws of one kind have one place
-same-place : (F : List ℕ → ℕ → Type 0) → ((field : List ℕ) (byte : ℕ) → F field byte → IsSound field → ⊥) → ((field : List ℕ) (byte byte2 : ℕ) → F field byte → F field byte2 → byte ≡ byte2)
+same-place : (F : List ℕ → ℕ → Type 0) → ((field : List ℕ) (byte : ℕ) → F field byte → IsReadableField field → ⊥) → ((field : List ℕ) (byte byte2 : ℕ) → F field byte → F field byte2 → byte ≡ byte2)
     → (cfg : Config) (text : List ℕ) (line field line2 field2 : ℕ) → HasFirstFlaw F cfg text line field → HasFirstFlaw F cfg text line2 field2 → (line ≡ line2) × (field ≡ field2)
 same-place F fails unique cfg text line field line2 field2 one two =
     let same = same-field F F fails fails cfg text line field line2 field2 one two in
@@ -169,16 +169,16 @@ same-place F fails unique cfg text line field line2 field2 one two =
 valid-once : (bytes : List ℕ) (n m : ℕ) → IsValidUpTo bytes n → IsValidUpTo bytes m → n ≡ m
 valid-once bytes n m one two = sym (utf8_valid_len-IsValidUpTo bytes n one) ∙ utf8_valid_len-IsValidUpTo bytes m two
 
-no-text-once : (field : List ℕ) (byte byte2 : ℕ) → IsNoText field byte → IsNoText field byte2 → byte ≡ byte2
+no-text-once : (field : List ℕ) (byte byte2 : ℕ) → IsNoUtf8 field byte → IsNoUtf8 field byte2 → byte ≡ byte2
 no-text-once field byte byte2 one two = valid-once field byte byte2 one.1 two.1
 
-broken-once : (field : List ℕ) (byte byte2 : ℕ) → IsBroken field byte → IsBroken field byte2 → byte ≡ byte2
+broken-once : (field : List ℕ) (byte byte2 : ℕ) → HasBrokenEscape field byte → HasBrokenEscape field byte2 → byte ≡ byte2
 broken-once field byte byte2 one two = IsFirstBroken-same field byte byte2 one.1 two.1
 
 -- a field isn't text and no text
-one-kind : (cfg : Config) (text : List ℕ) (line field line2 field2 : ℕ) → HasFirstFlaw IsNoText cfg text line field → HasFirstFlaw IsBroken cfg text line2 field2 → ⊥
+one-kind : (cfg : Config) (text : List ℕ) (line field line2 field2 : ℕ) → HasFirstFlaw IsNoUtf8 cfg text line field → HasFirstFlaw HasBrokenEscape cfg text line2 field2 → ⊥
 one-kind cfg text line field line2 field2 one two =
-    let same = same-field IsNoText IsBroken no-text-fails broken-fails cfg text line field line2 field2 one two in
+    let same = same-field IsNoUtf8 HasBrokenEscape no-text-fails broken-fails cfg text line field line2 field2 one two in
     one.flaw.0 (subst IsUtf8 (sym same.here_same) two.flaw.0)
 
 open-once : (cfg : Config) (text : List ℕ) (at at2 : ℕ) → IsOpenQuote cfg text at → IsOpenQuote cfg text at2 → at ≡ at2
@@ -204,7 +204,7 @@ one-fault cfg text (NotText line field) (NotText line2 field2) (inl bytes) (inl 
 one-fault cfg text (NotText line field) (NotText line2 field2) (inl bytes) (inr flaw) told told2 = absurd (bytes.no_text flaw.is_text.0)
 one-fault cfg text (NotText line field) (NotText line2 field2) (inr flaw) (inl bytes) told told2 = absurd (bytes.no_text flaw.is_text.0)
 one-fault cfg text (NotText line field) (NotText line2 field2) (inr flaw) (inr flaw2) told told2 =
-    let (line_same, field_same) = same-place IsNoText no-text-fails no-text-once cfg text line field line2 field2 flaw flaw2 in
+    let (line_same, field_same) = same-place IsNoUtf8 no-text-fails no-text-once cfg text line field line2 field2 flaw flaw2 in
     cc (line_same, field_same)
 one-fault cfg text (NotText line field) (Quote line2) (inl bytes) quote told told2 = absurd (bytes.no_text quote.is_text)
 one-fault cfg text (NotText line field) (Quote line2) (inr flaw) quote told told2 = absurd (flaw.is_text.1 quote.quote.ends)
@@ -220,5 +220,5 @@ one-fault cfg text (Escape line field) (NotText line2 field2) flaw (inl bytes) t
 one-fault cfg text (Escape line field) (NotText line2 field2) flaw (inr flaw2) told told2 = absurd (one-kind cfg text line2 field2 line field flaw2 flaw)
 one-fault cfg text (Escape line field) (Quote line2) flaw quote told told2 = absurd (flaw.is_text.1 quote.quote.ends)
 one-fault cfg text (Escape line field) (Escape line2 field2) flaw flaw2 told told2 =
-    let (line_same, field_same) = same-place IsBroken broken-fails broken-once cfg text line field line2 field2 flaw flaw2 in
+    let (line_same, field_same) = same-place HasBrokenEscape broken-fails broken-once cfg text line field line2 field2 flaw flaw2 in
     cc (line_same, field_same)

@@ -14,7 +14,7 @@ use Rattle.basinmug_input.specs.Faults.{HasFirstFlaw}
 use Rattle.basinmug_input.specs.Places.{IsReadAs, field_at as field_of_byte, line_at}
 use Rattle.basinmug_input.specs.Reading.{HasByte}
 use Rattle.basinmug_input.specs.Cleaning.{cleaned}
-use Rattle.basinmug_input.specs.Flaws.{IsSound}
+use Rattle.basinmug_input.specs.Flaws.{IsReadableField}
 use Rattle.basinmug_input.specs.Rows.{IsFirstFlawed, IsRowOf}
 use Rattle.basinmug_input.specs.declared.records.Flawed.{Flawed}
 
@@ -37,9 +37,9 @@ all-push P (y ∷ xs) x all here = (all.0, all-push P xs x all.1 here)
 
 -- one field more
 pub row-push : {Z : Type 0} (fields : List (List ℕ)) (here : List ℕ) (old new : Vec Field Z) (cell : Field) → IsRowOf fields old
-    → vec_items new ≡ vec_items old ++ cell ∷ [] → IsSound here → field_text cell ≡ cleaned here → IsRowOf (fields ++ here ∷ []) new
+    → vec_items new ≡ vec_items old ++ cell ∷ [] → IsReadableField here → field_text cell ≡ cleaned here → IsRowOf (fields ++ here ∷ []) new
 row-push fields here old new cell row grown sound shown = record {
-  sound = all-push IsSound fields here row.sound sound;
+  sound = all-push IsReadableField fields here row.sound sound;
   texts = ap (map field_text) grown
       ∙ map_push field_text (vec_items old) cell
       ∙ ap (λ (texts : List (List ℕ)). texts ++ field_text cell ∷ []) row.texts

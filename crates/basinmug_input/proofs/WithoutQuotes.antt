@@ -21,7 +21,7 @@ use Rattle.basinmug_cells.specs.Fields.{field_rows, field_text}
 use Rattle.basinmug_cells.specs.declared.field.Field.{Field}
 use Rattle.basinmug_input.specs.Reading.{settings}
 use Rattle.basinmug_input.specs.Cleaning.{cleaned}
-use Rattle.basinmug_input.specs.Flaws.{IsSound}
+use Rattle.basinmug_input.specs.Flaws.{IsReadableField}
 use Rattle.basinmug_input.specs.Rows.{IsRowOf}
 use Rattle.basinmug_input.specs.Unquoted.{AreRowsOf, is_line_end, is_of_field, parts, quote}
 use Rattle.basinmug_input.proofs.Cleans.{both, neither}
@@ -336,7 +336,7 @@ none-left d = refl
 pub rows-push : {Z : Type 0} (raw : List (List (List ℕ))) (here : List (List ℕ)) (old new : List (Vec Field Z)) (row : Vec Field Z) → AreRowsOf raw old
     → new ≡ old ++ row ∷ [] → IsRowOf here row → AreRowsOf (raw ++ here ∷ []) new
 rows-push raw here old new row rows grown has = record {
-  sound = all-push (AllByRecursion IsSound) raw here rows.sound has.sound;
+  sound = all-push (AllByRecursion IsReadableField) raw here rows.sound has.sound;
   texts = ap field_rows grown
       ∙ map_push (λ row. map field_text (vec_items row)) old row
       ∙ ap (λ (rows : List (List (List ℕ))). rows ++ map field_text (vec_items row) ∷ []) rows.texts

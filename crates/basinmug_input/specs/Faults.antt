@@ -4,7 +4,7 @@ use Rattle.std.specs.List.{AllByRecursion}
 use Rattle.std.specs.Str.{IsValidUpTo}
 use Rattle.csv.specs.Reading.{records}
 use Rattle.csv.specs.declared.parser.Config.{Config}
-use Rattle.basinmug_input.specs.Flaws.{IsBroken, IsNoText, IsSound}
+use Rattle.basinmug_input.specs.Flaws.{HasBrokenEscape, IsNoUtf8, IsReadableField}
 use Rattle.basinmug_input.specs.Places.{EndsInQuotes, IsOpenQuote, IsReadAs, field_at, line_at}
 use Rattle.basinmug_input.specs.declared.fault.InputFault.{InputFault}
 use Rattle.basinmug_input.specs.declared.fault.InputFault.TheVariants.{NotText, Quote, Escape, Memory}
@@ -23,7 +23,7 @@ IsText cfg text = IsUtf8 text × ¬ (EndsInQuotes cfg text)
 -- the text is readable: nothing is wrong with any of its fields. It may have no records
 pub record IsReadable (cfg : Config) (text : List ℕ) : Type 0 where
   pub is_text : IsText cfg text
-  pub sound : AllByRecursion (AllByRecursion IsSound) (records cfg text)
+  pub sound : AllByRecursion (AllByRecursion IsReadableField) (records cfg text)
 
 -- the bytes are no text: `at` bytes, and no more, are the longest text at their front. What follows stands at this place
 pub record IsNotUtf8 (cfg : Config) (text : List ℕ) (line field : ℕ) : Type 0 where
@@ -49,8 +49,8 @@ pub record HasFirstFlaw (Flaw : List ℕ → ℕ → Type 0) (cfg : Config) (tex
   pub behind : List (List ℕ)
   pub after : List (List (List ℕ))
   pub of_text : records cfg text ≡ before ++ (fields ++ here ∷ behind) ∷ after
-  pub sound_records : AllByRecursion (AllByRecursion IsSound) before
-  pub sound_fields : AllByRecursion IsSound fields
+  pub sound_records : AllByRecursion (AllByRecursion IsReadableField) before
+  pub sound_fields : AllByRecursion IsReadableField fields
   pub byte : ℕ
   pub flaw : Flaw here byte
   pub at : ℕ
@@ -60,7 +60,7 @@ pub record HasFirstFlaw (Flaw : List ℕ → ℕ → Type 0) (cfg : Config) (tex
 
 -- why a text is not readable. A delimiter past ASCII may part a character, so that a field of a text is none
 abbrev pub IsFaultOf : Config → List ℕ → InputFault → Type 0
-IsFaultOf cfg text (NotText line field) = IsNotUtf8 cfg text line field ⊎ HasFirstFlaw IsNoText cfg text line field
+IsFaultOf cfg text (NotText line field) = IsNotUtf8 cfg text line field ⊎ HasFirstFlaw IsNoUtf8 cfg text line field
 IsFaultOf cfg text (Quote line) = HasOpenQuote cfg text line
-IsFaultOf cfg text (Escape line field) = HasFirstFlaw IsBroken cfg text line field
+IsFaultOf cfg text (Escape line field) = HasFirstFlaw HasBrokenEscape cfg text line field
 IsFaultOf cfg text Memory = ⊤

@@ -7,7 +7,7 @@ use Rattle.basinmug_cells.specs.Fields.{field_text}
 use Rattle.basinmug_cells.specs.declared.field.Field.{Field}
 use Rattle.basinmug_input.specs.Cleaning.{cleaned}
 use Rattle.basinmug_input.specs.Faults.{IsText}
-use Rattle.basinmug_input.specs.Flaws.{HasFlaw, IsSound}
+use Rattle.basinmug_input.specs.Flaws.{HasFlaw, IsReadableField}
 use Rattle.basinmug_input.specs.Reading.{settings}
 use Rattle.basinmug_input.specs.declared.records.Flawed.{Flawed}
 
@@ -21,7 +21,7 @@ rows_in delimiter bytes = map (map cleaned) (records (settings delimiter) (text_
 
 -- these fields are sound, and the row has them as a table shows them
 pub record IsRowOf {Z : Type 0} (fields : List (List ℕ)) (row : Vec Field Z) : Type 0 where
-  pub sound : AllByRecursion IsSound fields
+  pub sound : AllByRecursion IsReadableField fields
   pub texts : map field_text (vec_items row) ≡ map cleaned fields
 
 -- the first of these fields that isn't sound has this flaw
@@ -30,7 +30,7 @@ pub record HasFlawed (fields : List (List ℕ)) (flawed : Flawed) : Type 0 where
   pub here : List ℕ
   pub behind : List (List ℕ)
   pub of_fields : fields ≡ before ++ here ∷ behind
-  pub sound : AllByRecursion IsSound before
+  pub sound : AllByRecursion IsReadableField before
   pub place : flawed.field ≡ length before
   pub flaw : HasFlaw here flawed.flaw
 
@@ -41,6 +41,6 @@ pub record IsFirstFlawed (cfg : Config) (text : List ℕ) (row : ℕ) (flawed : 
   pub here : List (List ℕ)
   pub after : List (List (List ℕ))
   pub of_text : records cfg text ≡ before ++ here ∷ after
-  pub sound : AllByRecursion (AllByRecursion IsSound) before
+  pub sound : AllByRecursion (AllByRecursion IsReadableField) before
   pub place : row ≡ length before
   pub flaw : HasFlawed here flawed

@@ -9,7 +9,7 @@ use Rattle.csv.specs.declared.parser.State.TheVariants as st
 use Rattle.basinmug_cells.specs.Fields.{field_rows}
 use Rattle.basinmug_cells.specs.declared.field.Field.{Field}
 use Rattle.basinmug_input.specs.Cleaning.{cleaned}
-use Rattle.basinmug_input.specs.Flaws.{IsSound}
+use Rattle.basinmug_input.specs.Flaws.{IsReadableField}
 use Rattle.basinmug_input.specs.Reading.{settings}
 use Rattle.basinmug_input.specs.Rows.{IsRowOf}
 
@@ -54,5 +54,5 @@ pub record IsRecordAt {Z : Type 0} (delimiter : ℕ) (text : List ℕ) (at end :
 
 -- these records are sound, and the rows have them as a table shows them
 pub record AreRowsOf {Z : Type 0} (raw : List (List (List ℕ))) (rows : List (Vec Field Z)) : Type 0 where
-  pub sound : AllByRecursion (AllByRecursion IsSound) raw
+  pub sound : AllByRecursion (AllByRecursion IsReadableField) raw
   pub texts : field_rows rows ≡ map (map cleaned) raw

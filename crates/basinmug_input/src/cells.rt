@@ -4,7 +4,7 @@ ghost use Rattle.std.specs.List.{list_all};
 ghost use Rattle.csv.specs.Machine.{carriage_return, line_feed};
 ghost use Rattle.basinmug_cells.specs.Fields.{field_text};
 ghost use Rattle.basinmug_input.specs.Cleaning.{cleaned, cleaned_text, cleaned_char, is_control, stays};
-ghost use Rattle.basinmug_input.specs.Flaws.{HasFlaw, IsSound};
+ghost use Rattle.basinmug_input.specs.Flaws.{HasFlaw, IsReadableField};
 
 use crate::visible::push_visible;
 use ansi_scan::{Kind, first_broken, scan};
@@ -30,7 +30,7 @@ pub(crate) fn cell_of<'a>(
     alloc: Global,
     field: &[u8],
 ) -> Result<Result<Field<'a>, Flaw>, AllocError>
-    ensures { IfOk result (λ read. MatchResult read (λ cell. IsSound field.now × (field_text cell ≡ cleaned field.now)) (HasFlaw field.now)) }
+    ensures { IfOk result (λ read. MatchResult read (λ cell. IsReadableField field.now × (field_text cell ≡ cleaned field.now)) (HasFlaw field.now)) }
 {
     match compat::from_utf8(field) {
         Ok(text) => own_cell(alloc, text),
@@ -45,7 +45,7 @@ pub(crate) fn text_cell<'a>(
     alloc: Global,
     text: &'a str,
 ) -> Result<Result<Field<'a>, Flaw>, AllocError>
-    ensures { IfOk result (λ read. MatchResult read (λ cell. IsSound text.now × (field_text cell ≡ cleaned text.now)) (HasFlaw text.now)) }
+    ensures { IfOk result (λ read. MatchResult read (λ cell. IsReadableField text.now × (field_text cell ≡ cleaned text.now)) (HasFlaw text.now)) }
 {
     match Field::printable(text) {
         Some(cell) => Ok(Ok(cell)),
@@ -55,7 +55,7 @@ pub(crate) fn text_cell<'a>(
 
 // The same, with a text of its own. Printable ASCII is copied as it is.
 fn own_cell<'a>(alloc: Global, text: &str) -> Result<Result<Field<'a>, Flaw>, AllocError>
-    ensures { IfOk result (λ read. MatchResult read (λ cell. IsSound text.now × (field_text cell ≡ cleaned text.now)) (HasFlaw text.now)) }
+    ensures { IfOk result (λ read. MatchResult read (λ cell. IsReadableField text.now × (field_text cell ≡ cleaned text.now)) (HasFlaw text.now)) }
 {
     if is_printable(text) {
         return Ok(Ok(Field::own(alloc, String::from_str(alloc, text)?)?));

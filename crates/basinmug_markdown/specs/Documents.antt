@@ -18,18 +18,18 @@ with_header has_header (row ∷ rows) = if has_header then row ∷ rows else [] 
 abbrev pub hyphens : ℕ → List ℕ
 hyphens count = replicate (max 1 count) 0x2d
 
--- the delimiter of a column that is so wide: `:---` at the left, `:---:` in the middle, `---:` at the right
-abbrev pub delimiter : AlignmentHorizontal → ℕ → List ℕ
-delimiter Left width = codes ":" ++ hyphens (width - 1)
-delimiter Center width = codes ":" ++ hyphens (width - 2) ++ codes ":"
-delimiter Right width = hyphens (width - 1) ++ codes ":"
+-- the mark of a column that is so wide: `:---` at the left, `:---:` in the middle, `---:` at the right
+abbrev pub column_mark : AlignmentHorizontal → ℕ → List ℕ
+column_mark Left width = codes ":" ++ hyphens (width - 1)
+column_mark Center width = codes ":" ++ hyphens (width - 2) ++ codes ":"
+column_mark Right width = hyphens (width - 1) ++ codes ":"
 
--- the delimiter of a column, and the bar behind it; a column that no alignment is given for stands at the left
-abbrev pub delimiter_of : List AlignmentHorizontal → List ℕ → ℕ → List ℕ
-delimiter_of alignments widths column = delimiter (slice_index_or alignments column Left) (slice_index_or widths column 0) ++ codes "|"
+-- the mark of a column, and the bar behind it; a column that no alignment is given for stands at the left
+abbrev pub column_mark_of : List AlignmentHorizontal → List ℕ → ℕ → List ℕ
+column_mark_of alignments widths column = column_mark (slice_index_or alignments column Left) (slice_index_or widths column 0) ++ codes "|"
 
 -- the delimiters of columns of these widths between bars, and a line feed; no columns have none
 abbrev pub delimiter_row : List AlignmentHorizontal → List ℕ → List ℕ
 delimiter_row alignments [] = []
 delimiter_row alignments (width ∷ widths) =
-    codes "|" ++ flat_map (delimiter_of alignments (width ∷ widths)) (range_with_len 0 (length (width ∷ widths))) ++ codes "\n"
+    codes "|" ++ flat_map (column_mark_of alignments (width ∷ widths)) (range_with_len 0 (length (width ∷ widths))) ++ codes "\n"

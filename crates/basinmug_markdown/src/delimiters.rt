@@ -1,6 +1,6 @@
 //! The delimiter row, which tells where the texts of each column stand.
 ghost use Rattle.std.specs.Prelude.{◌≡◌, ◌++◌, IfOk, OnOk, codes, string_bytes};
-ghost use Rattle.basinmug_markdown.specs.Documents.{delimiter, delimiter_of, delimiter_row, hyphens};
+ghost use Rattle.basinmug_markdown.specs.Documents.{column_mark, column_mark_of, delimiter_row, hyphens};
 
 use grid_config_values::AlignmentHorizontal;
 use std::alloc::{AllocError, Global};
@@ -28,14 +28,14 @@ pub fn delimiter_row(
     Ok(row)
 }
 
-// Appends the delimiter of a column, and the bar behind it.
+// Appends the mark of a column, and the bar behind it.
 fn push_delimiter_of(
     row: &mut String,
     alignments: &[AlignmentHorizontal],
     widths: &[usize],
     column: usize,
 ) -> Result<(), AllocError>
-    ensures { OnOk result (string_bytes row.new ≡ string_bytes row.old ++ delimiter_of alignments.now widths.now column) }
+    ensures { OnOk result (string_bytes row.new ≡ string_bytes row.old ++ column_mark_of alignments.now widths.now column) }
 {
     let alignment = alignments.get(column).copied();
     let width = widths.get(column).copied();
@@ -47,13 +47,13 @@ fn push_delimiter_of(
     row.push('|')
 }
 
-// Appends the delimiter of a column that is so wide.
+// Appends the mark of a column that is so wide.
 fn push_delimiter(
     row: &mut String,
     alignment: AlignmentHorizontal,
     width: usize,
 ) -> Result<(), AllocError>
-    ensures { OnOk result (string_bytes row.new ≡ string_bytes row.old ++ delimiter alignment width) }
+    ensures { OnOk result (string_bytes row.new ≡ string_bytes row.old ++ column_mark alignment width) }
 {
     match alignment {
         AlignmentHorizontal::Left => {

@@ -10,7 +10,7 @@ use Rattle.tabled_compact.specs.declared.fault.BuildFault.{BuildFault}
 use Rattle.tabled_compact.specs.declared.fault.BuildFault.TheVariants.{Table as OfTable, Write, WriteZero}
 use Rattle.tabled_steps.specs.States.{State}
 use Rattle.basinmug_picture.specs.Faults.{of_build, of_table}
-use Rattle.basinmug_picture.specs.Printed.{FitsBefore, HasNothing, IsTableFault}
+use Rattle.basinmug_picture.specs.Printed.{FitsBefore, IsWithoutText, IsTableFault}
 use Rattle.basinmug_picture.specs.declared.fault.PrintFault.TheVariants.{Table, Memory}
 
 module _ (Makes : State → Type 0) (NotMade : Fault → Type 0) where
@@ -34,7 +34,7 @@ module _ (Makes : State → Type 0) (NotMade : Fault → Type 0) where
   refusal-by s WriteZero made out = (inr (s, made, out), λ is. let it : WriteZero ≡ OfTable OutOfMemory = is in cc it)
 
 -- a table of which a front is written fits, but where memory ran out
-pub fits-before : (s : State) (fault : BuildFault) → ¬ (HasNothing (of_build fault)) → BuildRefusal (IsFit s (Ok tt)) (IsFit s) fault → FitsBefore (of_build fault) s
+pub fits-before : (s : State) (fault : BuildFault) → ¬ (IsWithoutText (of_build fault)) → BuildRefusal (IsFit s (Ok tt)) (IsFit s) fault → FitsBefore (of_build fault) s
 fits-before s (OfTable OutOfMemory) some out = tt
 fits-before s (OfTable Range) some out = absurd (some tt)
 fits-before s (OfTable Spans) some out = absurd (some tt)
@@ -59,7 +59,7 @@ write_zero-named Write is = absurd (let it : Table Write ≡ Table WriteZero = i
 write_zero-named WriteZero is = refl
 
 -- before which faults nothing is written
-pub nothing-written : (fault : BuildFault) → HasNothing (of_build fault) → HasNoText fault
+pub nothing-written : (fault : BuildFault) → IsWithoutText (of_build fault) → HasNoText fault
 nothing-written (OfTable OutOfMemory) out = out
 nothing-written (OfTable Range) out = out
 nothing-written (OfTable Spans) out = out
@@ -67,7 +67,7 @@ nothing-written (OfTable (Room row column)) out = out
 nothing-written Write out = out
 nothing-written WriteZero out = out
 
-pub something-written : (fault : BuildFault) → ¬ (HasNothing (of_build fault)) → ¬ (HasNoText fault)
+pub something-written : (fault : BuildFault) → ¬ (IsWithoutText (of_build fault)) → ¬ (HasNoText fault)
 something-written (OfTable OutOfMemory) out is = is
 something-written (OfTable Range) out is = out is
 something-written (OfTable Spans) out is = out is

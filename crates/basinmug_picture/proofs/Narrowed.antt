@@ -12,7 +12,7 @@ use Rattle.tabled_size_priority.specs.declared.choice.Choice.{Choice}
 use Rattle.tabled_steps.specs.States.{State}
 use Rattle.basinmug_columns.specs.Rooms.{AreRooms}
 use Rattle.basinmug_picture.specs.Fitting.{trims, with_fitted_texts}
-use Rattle.basinmug_picture.specs.Narrowing.{AreAsked, IsNotNarrowed, IsRefusedIn, Narrows}
+use Rattle.basinmug_picture.specs.Narrowing.{AreAsked, IsNotNarrowed, IsRefusedIn, FitsTexts}
 
 -- what holds anyway holds where a call is accepted
 pub on-ok : {T E : Type 0} (r : Result T E) (P : Type 0) → P → OnOk r P
@@ -44,7 +44,7 @@ module _ (truncate : Bool) (priority : Choice) (numeric : List Bool) (asked tota
   of-widths P widths are p = subst P are p
 
   pub narrows-by : asked < total → (rooms : List ℕ) → AreAsked truncate priority numeric asked old rooms → (new : State)
-      → Runs (trims truncate (drawn_widths old) rooms) (with_fitted_texts truncate (drawn_widths old) rooms old) new → Narrows truncate priority numeric asked old new
+      → Runs (trims truncate (drawn_widths old) rooms) (with_fitted_texts truncate (drawn_widths old) rooms old) new → FitsTexts truncate priority numeric asked old new
   narrows-by more rooms are new ran =
       let wide : nat_le (drawn_width old) asked ≡ false = wider (drawn_width old) asked (subst (λ (n : ℕ). asked < n) is_total more) in
       subst

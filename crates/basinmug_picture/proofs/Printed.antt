@@ -14,7 +14,7 @@ use Rattle.basinmug_options.specs.declared.options.Options.{Options}
 use Rattle.basinmug_picture.specs.Lines.{below, picture_text}
 use Rattle.basinmug_picture.specs.Names.{IsFirstMissing}
 use Rattle.basinmug_picture.specs.Pictures.{HasNoTable, IsMade, IsNotMade, IsTable, asked_settings, missing_of, numeric_of}
-use Rattle.basinmug_picture.specs.Printed.{HasNothing, IsPictureFault, IsTableFault, Prints, PrintsTable, StopsIn, StopsInTable, shown_len, shown_rows, text_of}
+use Rattle.basinmug_picture.specs.Printed.{IsWithoutText, IsPictureFault, IsTableFault, Prints, PrintsTable, StopsIn, StopsInTable, shown_len, shown_rows, text_of}
 use Rattle.basinmug_picture.specs.Rows.{cells_of, shown_count}
 use Rattle.basinmug_picture.specs.declared.fault.PrintFault.{PrintFault}
 use Rattle.basinmug_picture.specs.declared.fault.PrintFault.TheVariants.{NoColumn, Table, Memory}
@@ -60,7 +60,7 @@ module _ (options : Options) (rows : List (List (List ℕ))) where
   begins-named fault old new named (inr front) = inr (named, front)
 
   pub stops-named : (r : Result Printed PrintFault) (old new : Option (List ℕ)) → missing_of options (shown_rows options rows) ≡ []
-      → IfErr r (λ fault. ¬ (HasNothing fault) → StopsInTable (IsTable options (shown_rows options rows)) (text_of options rows) fault old new) → IfErr r (λ fault. ¬ (HasNothing fault) → StopsIn options rows fault old new)
+      → IfErr r (λ fault. ¬ (IsWithoutText fault) → StopsInTable (IsTable options (shown_rows options rows)) (text_of options rows) fault old new) → IfErr r (λ fault. ¬ (IsWithoutText fault) → StopsIn options rows fault old new)
   stops-named (Ok it) old new named stops = tt
   stops-named (Err fault) old new named stops = λ some. begins-named fault old new named (stops some)
 

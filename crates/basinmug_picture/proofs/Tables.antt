@@ -11,7 +11,7 @@ use Rattle.tabled_text.specs.Rows.{longest}
 use Rattle.basinmug_numbers.specs.Columns.{is_numeric}
 use Rattle.basinmug_options.specs.declared.options.Options.{Options}
 use Rattle.basinmug_picture.specs.Settings.{settings_of}
-use Rattle.basinmug_picture.specs.Narrowing.{IsNotNarrowed, Narrows}
+use Rattle.basinmug_picture.specs.Narrowing.{IsNotNarrowed, FitsTexts}
 use Rattle.basinmug_picture.specs.Pictures.{IsMade, IsNotMade, asked_settings, narrowed_to, numeric_of}
 use Rattle.basinmug_picture.specs.Rows.{header_of, records_of}
 
@@ -29,12 +29,12 @@ settings-are options rows header numeric settings are head is =
 module _ (options : Options) (settings list : List Setting) (numeric numbers : List Bool) (old after : State) where
   -- a table is made by its settings, and then by its width
   pub made-by : list ≡ settings → numbers ≡ numeric → Runs list old after → (new : State) (r : Result Bool Fault)
-      → OnOk r (MatchOption (narrowed_to options) (new ≡ after) (λ width. Narrows options.truncate options.priority numbers width after new)) → OnOk r (IsMade options settings numeric old new)
+      → OnOk r (MatchOption (narrowed_to options) (new ≡ after) (λ width. FitsTexts options.truncate options.priority numbers width after new)) → OnOk r (IsMade options settings numeric old new)
   made-by listed numbered run new (Err fault) narrowed = tt
   made-by listed numbered run new (Ok wider) narrowed = (
     after,
     subst (λ (it : List Setting). Runs it old after) listed run,
-    subst (λ (it : List Bool). MatchOption (narrowed_to options) (new ≡ after) (λ width. Narrows options.truncate options.priority it width after new)) numbered narrowed,
+    subst (λ (it : List Bool). MatchOption (narrowed_to options) (new ≡ after) (λ width. FitsTexts options.truncate options.priority it width after new)) numbered narrowed,
   )
 
   not-made : list ≡ settings → numbers ≡ numeric → Runs list old after → (fault : Fault)

@@ -1,4 +1,4 @@
--- A table in a document (GitHub Flavored Markdown, "Tables"): its header, the rule below it, and its records.
+-- A table in a document (GitHub Flavored Markdown, "Tables"): its header, the delimiter row below it, and its records.
 use Rattle.std.specs.Prelude.{ℕ, ◌==◌, nat_lt, Bool, false, List, ◌++◌, map}
 use Rattle.std.specs.List.{range_with_len}
 use Rattle.grid_config_values.specs.declared.alignment.AlignmentHorizontal.{AlignmentHorizontal}
@@ -9,11 +9,11 @@ use Rattle.tabled.specs.Printing.{drawn_widths}
 use Rattle.tabled.specs.Writing.{wanted_lines}
 use Rattle.tabled_steps.specs.States.{State, column_count}
 use Rattle.basinmug_markdown.specs.Documents.{delimiter_row}
-use Rattle.basinmug_picture.specs.declared.documents.Part.{Part}
-use Rattle.basinmug_picture.specs.declared.documents.Part.TheVariants.{Header, Records}
+use Rattle.basinmug_picture.specs.declared.documents.DocumentPart.{DocumentPart}
+use Rattle.basinmug_picture.specs.declared.documents.DocumentPart.TheVariants.{Header, Records}
 
 -- whether a line is one of this part: the first row is the header, and the others are the records
-abbrev pub is_of : Part → Place → Bool
+abbrev pub is_of : DocumentPart → Place → Bool
 is_of part (Boundary boundary) = false
 is_of Header (Row row) = row == 0
 is_of Records (Row row) = nat_lt 0 row
@@ -23,13 +23,13 @@ is_of part Outside = false
 abbrev pub header_alignments : State → List AlignmentHorizontal
 header_alignments s = map (λ column. s.look.alignment_horizontal (at 0 column)) (range_with_len 0 (column_count s.rows))
 
--- the rule below the header: where the texts of each column stand, as wide as the columns are drawn
-abbrev pub rule : State → List ℕ
-rule s = delimiter_row (header_alignments s) (drawn_widths s)
+-- the delimiter row below the header: where the texts of each column stand, as wide as the columns are drawn
+abbrev pub header_delimiters : State → List ℕ
+header_delimiters s = delimiter_row (header_alignments s) (drawn_widths s)
 
--- the rule, the lines of the records, and then a text
+-- the delimiter row, the lines of the records, and then a text
 abbrev pub below_header : List ℕ → State → List ℕ
-below_header more s = rule s ++ (wanted_lines (is_of Records) s ++ more)
+below_header more s = header_delimiters s ++ (wanted_lines (is_of Records) s ++ more)
 
 -- the lines of the header, and what stands below it
 abbrev pub document_text : List ℕ → State → List ℕ

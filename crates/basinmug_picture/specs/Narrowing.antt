@@ -23,8 +23,8 @@ module _ (truncate : Bool) (priority : Choice) (numeric : List Bool) (asked : �
 
   -- a table that is no wider than asked stays as it is; the columns of a wider one get such rooms, their texts are fitted, and
   -- the lines of those that were broken are trimmed
-  abbrev pub Narrows : State → Type 0
-  Narrows new =
+  abbrev pub FitsTexts : State → Type 0
+  FitsTexts new =
       MatchBool (nat_le (drawn_width old) asked) (new ≡ old)
       ((rooms : List ℕ) × AreAsked rooms × Runs (trims truncate (drawn_widths old) rooms) (with_fitted_texts truncate (drawn_widths old) rooms old) new)
 

@@ -12,7 +12,7 @@ use Rattle.basinmug_numbers.specs.Columns.{is_numeric}
 use Rattle.basinmug_options.specs.declared.options.Options.{Options}
 use Rattle.basinmug_picture.specs.Settings.{settings_of}
 use Rattle.basinmug_picture.specs.Names.{missing_names}
-use Rattle.basinmug_picture.specs.Narrowing.{IsNotNarrowed, IsRefusedIn, Narrows}
+use Rattle.basinmug_picture.specs.Narrowing.{IsNotNarrowed, IsRefusedIn, FitsTexts}
 use Rattle.basinmug_picture.specs.Rows.{cells_of, header_of, is_markdown, records_of}
 
 -- which of the columns are of numbers
@@ -26,7 +26,7 @@ narrowed_to options = if is_markdown options.line_style then None else options.w
 -- a table after these settings, made narrower where a width is asked; of its columns these are of numbers
 abbrev pub IsMade : Options → List Setting → List Bool → State → State → Type 0
 IsMade options settings numeric old new =
-    (after : State) × Runs settings old after × MatchOption (narrowed_to options) (new ≡ after) (λ width. Narrows options.truncate options.priority numeric width after new)
+    (after : State) × Runs settings old after × MatchOption (narrowed_to options) (new ≡ after) (λ width. FitsTexts options.truncate options.priority numeric width after new)
 
 -- its settings are refused, or it is not made narrower
 abbrev pub IsNotMade : Options → List Setting → List Bool → State → Fault → Type 0

@@ -19,10 +19,10 @@ use Rattle.basinmug_picture.specs.declared.fault.PrintFault.{PrintFault}
 use Rattle.basinmug_picture.specs.declared.fault.PrintFault.TheVariants.{NoColumn, Table, Memory}
 
 -- nothing of a picture is written before such a fault
-abbrev pub HasNothing : PrintFault → Type 0
-HasNothing (NoColumn name) = ⊤
-HasNothing (Table fault) = HasNoText fault
-HasNothing Memory = ⊥
+abbrev pub IsWithoutText : PrintFault → Type 0
+IsWithoutText (NoColumn name) = ⊤
+IsWithoutText (Table fault) = HasNoText fault
+IsWithoutText Memory = ⊥
 
 -- a fault that may come when a part of a table that fits is written
 abbrev pub IsLate : BuildFault → Type 0

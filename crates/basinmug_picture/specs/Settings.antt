@@ -21,7 +21,7 @@ use Rattle.basinmug_options.specs.declared.options.LineStyle.TheVariants.{Ascii,
 abbrev pub rounded : Glyphs ℕ
 rounded = record modern { top_left = Some 0x256d; top_right = Some 0x256e; bottom_left = Some 0x2570; bottom_right = Some 0x256f }
 
--- the bars of a table of Markdown, whose rule below the header is none of these lines
+-- the bars of a table of Markdown, whose delimiter row below the header is none of these lines
 abbrev pub markdown : Glyphs ℕ
 markdown = record no_borders {
   vertical = Some 0x7c;

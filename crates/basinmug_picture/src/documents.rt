@@ -1,4 +1,4 @@
-//! A table in a document: its header, the rule below it, and its records.
+//! A table in a document: its header, the delimiter row below it, and its records.
 ghost use Rattle.std.specs.Io.KnownBytes.{Appends};
 ghost use Rattle.std.specs.Prelude.{◌≡◌, IfErr, IfOk, IsErrOf, Ok, OnOk, string_bytes};
 ghost use Rattle.grid_config_values.specs.declared.fault.Fault.TheVariants.{Memory};
@@ -9,7 +9,7 @@ ghost use Rattle.tabled_compact.specs.Building.{BuildRefusal};
 ghost use Rattle.tabled_output.specs.Counts.{FailsIff, OnlyWrites, TakesNothingIff, inner_of};
 ghost use Rattle.tabled_output.specs.Streams.{AppendsFront};
 ghost use Rattle.basinmug_cells.specs.Fields.{field_text};
-ghost use Rattle.basinmug_picture.specs.Documents.{below_header, document_text, header_alignments, rule};
+ghost use Rattle.basinmug_picture.specs.Documents.{below_header, document_text, header_alignments, header_delimiters};
 ghost use Rattle.basinmug_picture.specs.Printed.{IsLate};
 
 use crate::printing::write_lines;
@@ -23,28 +23,28 @@ use tabled_output::write_piece;
 
 /// A part of a table in a document.
 #[derive(Clone, Copy)]
-pub(crate) enum Part {
+pub(crate) enum DocumentPart {
     /// The first row.
     Header,
     /// The rows below it.
     Records,
 }
 
-impl Wanted for Part {
+impl Wanted for DocumentPart {
     ghost use Rattle.basinmug_picture.specs.Documents.{is_of};
 
     ghost wants = { is_of };
 
     fn is_wanted(&self, place: Place) -> bool {
         match (self, place) {
-            (Part::Header, Place::Row(row)) => row == 0,
-            (Part::Records, Place::Row(row)) => row > 0,
+            (DocumentPart::Header, Place::Row(row)) => row == 0,
+            (DocumentPart::Records, Place::Row(row)) => row > 0,
             (_, Place::Boundary(_) | Place::Outside) => false,
         }
     }
 }
 
-/// Writes a table as a document has it, and then a text: the lines of its header, the rule below it, the lines of its
+/// Writes a table as a document has it, and then a text: the lines of its header, the delimiter row below it, the lines of its
 /// records. It gives up as `build_lines` does.
 pub(crate) fn write_document<W: Write>(
     alloc: Global,
@@ -62,11 +62,11 @@ pub(crate) fn write_document<W: Write>(
     ensures write_zero { TakesNothingIff (IsErrOf result BuildFault.WriteZero) writer.old writer.new }
     ensures only_writes { OnlyWrites writer.old writer.new }
 {
-    table.build_lines(writer, &Part::Header)?;
+    table.build_lines(writer, &DocumentPart::Header)?;
     write_below_header(alloc, table, more, writer)
 }
 
-// Writes the rule of a table that fits, the lines of its records, and then a text.
+// Writes the delimiter row of a table that fits, the lines of its records, and then a text.
 fn write_below_header<W: Write>(
     alloc: Global,
     table: &Table<Field<'_>>,
@@ -81,15 +81,15 @@ fn write_below_header<W: Write>(
     ensures write_zero { TakesNothingIff (IsErrOf result BuildFault.WriteZero) writer.old writer.new }
     ensures only_writes { OnlyWrites writer.old writer.new }
 {
-    let rule = rule_of(alloc, table)?;
-    write_piece(writer, rule.as_bytes())?;
-    write_lines(table, &Part::Records, more, writer)
+    let row = header_delimiters_of(alloc, table)?;
+    write_piece(writer, row.as_bytes())?;
+    write_lines(table, &DocumentPart::Records, more, writer)
 }
 
-// The rule below the header of a table that fits. Fails only where allocation fails.
-fn rule_of(alloc: Global, table: &Table<Field<'_>>) -> Result<String, Fault>
+// The delimiter row below the header of a table that fits. Fails only where allocation fails.
+fn header_delimiters_of(alloc: Global, table: &Table<Field<'_>>) -> Result<String, Fault>
     requires fits { IsFit (state_of field_text table.now) (Ok tt) }
-    ensures rule { IfOk result (λ text. string_bytes text ≡ rule (state_of field_text table.now)) }
+    ensures header_delimiters { IfOk result (λ text. string_bytes text ≡ header_delimiters (state_of field_text table.now)) }
     ensures refused { IfErr result (λ fault. fault ≡ Memory) }
 {
     let widths = table.widths()?;

@@ -31,7 +31,7 @@ fn rounded() -> Borders<char>
     borders
 }
 
-// Bars; the rule below the header is none of these lines.
+// Bars; the delimiter row below the header is none of these lines.
 fn markdown() -> Borders<char>
     ensures { result ≡ markdown }
 {

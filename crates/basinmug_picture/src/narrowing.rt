@@ -6,7 +6,7 @@ ghost use Rattle.tabled.specs.Totals.{drawn_width};
 ghost use Rattle.tabled_list.specs.Lists.{Runs};
 ghost use Rattle.basinmug_cells.specs.Fields.{field_text};
 ghost use Rattle.basinmug_picture.specs.Fitting.{trimmed_if, trims, with_fitted_texts};
-ghost use Rattle.basinmug_picture.specs.Narrowing.{IsNotNarrowed, IsRefusedIn, Narrows};
+ghost use Rattle.basinmug_picture.specs.Narrowing.{IsNotNarrowed, IsRefusedIn, FitsTexts};
 ghost use Rattle.basinmug_picture.specs.Pictures.{is_wider, narrowed_to};
 
 use crate::fitting::{Fitting, fit_texts, size_at};
@@ -25,7 +25,7 @@ pub(crate) fn narrow_if_asked(
     options: &Options,
 ) -> Result<bool, Fault>
     ensures narrowed { OnOk result (MatchOption (narrowed_to options.now) (state_of field_text table.new ≡ state_of field_text table.old)
-        (λ width. Narrows options.now.truncate options.now.priority numeric.now width (state_of field_text table.old)
+        (λ width. FitsTexts options.now.truncate options.now.priority numeric.now width (state_of field_text table.old)
         (state_of field_text table.new))) }
     ensures wider { IfOk result (λ wider. wider ≡ is_wider options.now.width (state_of field_text table.new)) }
     ensures refused { IfErr result (λ fault. (fault ≡ Memory)
@@ -73,7 +73,7 @@ fn narrow(
     numeric: &[bool],
     asked: Narrowing,
 ) -> Result<bool, Fault>
-    ensures narrowed { OnOk result (Narrows asked.truncate asked.priority numeric.now asked.width (state_of field_text table.old) (state_of field_text table.new)) }
+    ensures narrowed { OnOk result (FitsTexts asked.truncate asked.priority numeric.now asked.width (state_of field_text table.old) (state_of field_text table.new)) }
     ensures wider { IfOk result (λ wider. wider ≡ nat_lt asked.width (drawn_width (state_of field_text table.new))) }
     ensures refused { IfErr result (λ fault. (fault ≡ Memory) ⊎ IsNotNarrowed asked.truncate asked.priority numeric.now asked.width (state_of field_text table.old) fault) }
 {

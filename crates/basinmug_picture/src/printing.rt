@@ -11,7 +11,7 @@ ghost use Rattle.tabled_output.specs.Streams.{AppendsFront};
 ghost use Rattle.basinmug_cells.specs.Fields.{field_rows, field_text};
 ghost use Rattle.basinmug_picture.specs.Lines.{picture_text};
 ghost use Rattle.basinmug_picture.specs.Pictures.{IsMade, IsNotMade, is_wider};
-ghost use Rattle.basinmug_picture.specs.Printed.{HasNothing, IsPictureFault, IsTableFault, Prints, PrintsTable, StopsIn, StopsInTable};
+ghost use Rattle.basinmug_picture.specs.Printed.{IsWithoutText, IsPictureFault, IsTableFault, Prints, PrintsTable, StopsIn, StopsInTable};
 ghost use Rattle.basinmug_picture.specs.Rows.{shown_count};
 
 use crate::appearance::{Appearance, appearance_of};
@@ -37,7 +37,7 @@ pub struct Printed {
 
 /// Prints rows as a table, of which the first is the header where the options say so: at most so many records, in the
 /// settings of `specs/Pictures.antt`, the lines between rows that are asked, and below them how many rows are left out. A
-/// document always has a header, which is empty where the rows have none, and the rule below it; it is never broken, so
+/// document always has a header, which is empty where the rows have none, and the delimiter row below it; it is never broken, so
 /// that it is as wide as its text whatever is asked. It gives up with `NoColumn` where a name is in no column of the
 /// header, and as a table that is written does; nothing is written before its table is made. Nothing is flushed.
 pub fn print<W: Write>(
@@ -47,8 +47,8 @@ pub fn print<W: Write>(
     writer: &mut Counted<W>,
 ) -> Result<Printed, PrintFault>
     ensures printed { IfOk result (λ printed. Prints options.now (field_rows rows.entry.items) printed.wider (W.contents (inner_of writer.old)) (W.contents (inner_of writer.new))) }
-    ensures front { IfErr result (λ fault. ¬ (HasNothing fault) → StopsIn options.now (field_rows rows.entry.items) fault (W.contents (inner_of writer.old)) (W.contents (inner_of writer.new))) }
-    ensures untouched { IfErr result (λ fault. HasNothing fault → writer.new ≡ writer.old) }
+    ensures front { IfErr result (λ fault. ¬ (IsWithoutText fault) → StopsIn options.now (field_rows rows.entry.items) fault (W.contents (inner_of writer.old)) (W.contents (inner_of writer.new))) }
+    ensures untouched { IfErr result (λ fault. IsWithoutText fault → writer.new ≡ writer.old) }
     ensures refused { IfErr result (IsPictureFault options.now (field_rows rows.entry.items)) }
     ensures write { FailsIff (IsErrOf result (PrintFault.Table BuildFault.Write)) writer.old writer.new }
     ensures write_zero { TakesNothingIff (IsErrOf result (PrintFault.Table BuildFault.WriteZero)) writer.old writer.new }
@@ -111,11 +111,11 @@ fn print_table<W: Write>(
         (IsMade options.now appearance.now.settings.items appearance.now.numeric.items (state_of field_text table.old))
         (picture_text options.now.line_style lines.now.rules lines.now.header lines.now.rows more.now) options.now.width
         printed.wider (W.contents (inner_of writer.old)) (W.contents (inner_of writer.new))) }
-    ensures front { IfErr result (λ fault. ¬ (HasNothing fault) → StopsInTable
+    ensures front { IfErr result (λ fault. ¬ (IsWithoutText fault) → StopsInTable
         (IsMade options.now appearance.now.settings.items appearance.now.numeric.items (state_of field_text table.old))
         (picture_text options.now.line_style lines.now.rules lines.now.header lines.now.rows more.now)
         fault (W.contents (inner_of writer.old)) (W.contents (inner_of writer.new))) }
-    ensures untouched { IfErr result (λ fault. HasNothing fault → writer.new ≡ writer.old) }
+    ensures untouched { IfErr result (λ fault. IsWithoutText fault → writer.new ≡ writer.old) }
     ensures refused { IfErr result (IsTableFault
         (IsMade options.now appearance.now.settings.items appearance.now.numeric.items (state_of field_text table.old))
         (IsNotMade options.now appearance.now.settings.items appearance.now.numeric.items (state_of field_text table.old))) }

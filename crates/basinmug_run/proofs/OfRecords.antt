@@ -11,7 +11,7 @@ use Rattle.tabled_compact.specs.Building.{writing_fault}
 use Rattle.basinmug_expanded.specs.Records.{record_table}
 use Rattle.basinmug_options.specs.declared.options.Options.{Options}
 use Rattle.basinmug_picture.specs.Faults.{of_build, of_table}
-use Rattle.basinmug_picture.specs.Printed.{HasNothing}
+use Rattle.basinmug_picture.specs.Printed.{IsWithoutText}
 use Rattle.basinmug_run.specs.Runs.{HaveText, IsOfWriter, IsRecordsFault}
 
 -- a fault of writing is the writer's
@@ -20,7 +20,7 @@ of-writer WriteFailed = tt
 of-writer WriterTookNothing = tt
 
 -- before it something may be written
-pub no-nothing : (fault : BuildFault) → IsOfWriter fault → ¬ (HasNothing (of_build fault))
+pub no-nothing : (fault : BuildFault) → IsOfWriter fault → ¬ (IsWithoutText (of_build fault))
 no-nothing (OfTable fault) is out = is
 no-nothing Write is out = out
 no-nothing WriteZero is out = out

@@ -11,12 +11,12 @@ use Rattle.basinmug_input.specs.Rows.{rows_in, text_in}
 use Rattle.basinmug_input.specs.declared.fault.InputFault.{InputFault}
 use Rattle.basinmug_input.specs.declared.fault.InputFault.TheVariants.{NotText, Quote, Escape, Memory as NoMemoryToRead}
 use Rattle.basinmug_options.specs.declared.options.Options.{Options}
-use Rattle.basinmug_picture.specs.Printed.{HasNothing as HasNothingPrinted}
+use Rattle.basinmug_picture.specs.Printed.{IsWithoutText}
 use Rattle.basinmug_picture.specs.declared.fault.PrintFault.{PrintFault}
 use Rattle.basinmug_picture.specs.declared.fault.PrintFault.TheVariants.{NoColumn, Table, Memory as NoMemoryToPrint}
 use Rattle.basinmug_picture.proofs.Written.{fails-alike, same-fails, same-takes, takes-alike}
 use Rattle.basinmug_run.specs.Faults.{of_input, of_print}
-use Rattle.basinmug_run.specs.Runs.{HasNothing, IsRunFault, IsRowsFault, StopsInRows, StopsInText}
+use Rattle.basinmug_run.specs.Runs.{IsRunWithoutText, IsRunFault, IsRowsFault, StopsInRows, StopsInText}
 use Rattle.basinmug_run.specs.declared.fault.RunFault.{RunFault}
 use Rattle.basinmug_run.specs.declared.fault.RunFault.TheVariants.{Input, Print, Memory}
 
@@ -35,7 +35,7 @@ module _ (delimiter : ℕ) (bytes : List ℕ) (options : Options) where
   not-printed NoMemoryToPrint read is = tt
 
   -- where nothing is read, nothing is written
-  pub stops-unread : (fault : InputFault) (old : Option (List ℕ)) → ¬ (HasNothing (of_input fault)) → StopsInText delimiter bytes options (of_input fault) old old
+  pub stops-unread : (fault : InputFault) (old : Option (List ℕ)) → ¬ (IsRunWithoutText (of_input fault)) → StopsInText delimiter bytes options (of_input fault) old old
   stops-unread (NotText line field) old some = absurd (some tt)
   stops-unread (Quote line) old some = absurd (some tt)
   stops-unread (Escape line field) old some = absurd (some tt)
@@ -49,12 +49,12 @@ module _ (delimiter : ℕ) (bytes : List ℕ) (options : Options) where
   stops-printed NoMemoryToPrint old new read stops = inr (read, stops)
 
 -- before which faults nothing is written
-pub nothing-printed : (fault : PrintFault) → HasNothing (of_print fault) → HasNothingPrinted fault
+pub nothing-printed : (fault : PrintFault) → IsRunWithoutText (of_print fault) → IsWithoutText fault
 nothing-printed (NoColumn name) none = none
 nothing-printed (Table fault) none = none
 nothing-printed NoMemoryToPrint none = none
 
-pub something-printed : (fault : PrintFault) → ¬ (HasNothing (of_print fault)) → ¬ (HasNothingPrinted fault)
+pub something-printed : (fault : PrintFault) → ¬ (IsRunWithoutText (of_print fault)) → ¬ (IsWithoutText fault)
 something-printed (NoColumn name) some none = some none
 something-printed (Table fault) some none = some none
 something-printed NoMemoryToPrint some none = none

@@ -12,7 +12,7 @@ use Rattle.basinmug_input.specs.Reading.{settings}
 use Rattle.basinmug_input.specs.Rows.{rows_in, text_in}
 use Rattle.basinmug_input.specs.declared.fault.InputFault.TheVariants.{Memory as NoMemoryToRead}
 use Rattle.basinmug_options.specs.declared.options.Options.{Options}
-use Rattle.basinmug_picture.specs.Printed.{HasNothing as HasNothingPrinted, IsPictureFault, Prints, StopsIn}
+use Rattle.basinmug_picture.specs.Printed.{IsWithoutText, IsPictureFault, Prints, StopsIn}
 use Rattle.basinmug_picture.specs.declared.fault.PrintFault.{PrintFault}
 use Rattle.basinmug_picture.specs.declared.fault.PrintFault.TheVariants.{NoColumn, Table, Memory as NoMemoryToPrint}
 use Rattle.basinmug_run.specs.declared.fault.RunFault.{RunFault}
@@ -63,10 +63,10 @@ module _ (options : Options) (rows : List (List (List ℕ))) where
 -- ---- a text
 
 -- nothing is written before such a fault
-abbrev pub HasNothing : RunFault → Type 0
-HasNothing (Input fault) = ⊤
-HasNothing (Print fault) = HasNothingPrinted fault
-HasNothing Memory = ⊥
+abbrev pub IsRunWithoutText : RunFault → Type 0
+IsRunWithoutText (Input fault) = ⊤
+IsRunWithoutText (Print fault) = IsWithoutText fault
+IsRunWithoutText Memory = ⊥
 
 -- why a text in which this byte parts fields is not printed: it is not readable, and of its faults the first is told; or it
 -- is, and its rows are not printed; want of memory may always be, by its own name

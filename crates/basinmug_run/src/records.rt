@@ -7,7 +7,7 @@ ghost use Rattle.tabled_output.specs.Counts.{FailsIff, OnlyWrites, TakesNothingI
 ghost use Rattle.tabled_output.specs.Streams.{AppendsFront};
 ghost use Rattle.basinmug_expanded.specs.Records.{IsRecordsText, record_table};
 ghost use Rattle.basinmug_cells.specs.Fields.{field_rows};
-ghost use Rattle.basinmug_picture.specs.Printed.{HasNothing};
+ghost use Rattle.basinmug_picture.specs.Printed.{IsWithoutText};
 ghost use Rattle.basinmug_run.specs.Runs.{IsOfWriter, IsRecordsFault, PrintsRecords, StopsInRecords};
 
 use basinmug_cells::{Field, texts_of};
@@ -30,8 +30,8 @@ pub(crate) fn print_records<W: Write>(
     writer: &mut Counted<W>,
 ) -> Result<Printed, PrintFault>
     ensures printed { IfOk result (λ printed. PrintsRecords options.now (field_rows rows.entry.items) printed.wider (W.contents (inner_of writer.old)) (W.contents (inner_of writer.new))) }
-    ensures front { IfErr result (λ fault. ¬ (HasNothing fault) → StopsInRecords options.now (field_rows rows.entry.items) (W.contents (inner_of writer.old)) (W.contents (inner_of writer.new))) }
-    ensures untouched { IfErr result (λ fault. HasNothing fault → writer.new ≡ writer.old) }
+    ensures front { IfErr result (λ fault. ¬ (IsWithoutText fault) → StopsInRecords options.now (field_rows rows.entry.items) (W.contents (inner_of writer.old)) (W.contents (inner_of writer.new))) }
+    ensures untouched { IfErr result (λ fault. IsWithoutText fault → writer.new ≡ writer.old) }
     ensures refused { IfErr result (IsRecordsFault options.now (field_rows rows.entry.items)) }
     ensures write { FailsIff (IsErrOf result (PrintFault.Table BuildFault.Write)) writer.old writer.new }
     ensures write_zero { TakesNothingIff (IsErrOf result (PrintFault.Table BuildFault.WriteZero)) writer.old writer.new }

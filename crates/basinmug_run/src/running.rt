@@ -5,8 +5,8 @@ ghost use Rattle.basinmug_cells.specs.Fields.{field_rows};
 ghost use Rattle.basinmug_input.specs.Faults.{IsReadable};
 ghost use Rattle.basinmug_input.specs.Reading.{settings};
 ghost use Rattle.basinmug_input.specs.Rows.{rows_in, text_in};
-ghost use Rattle.basinmug_picture.specs.Printed.{HasNothing as HasNothingPrinted};
-ghost use Rattle.basinmug_run.specs.Runs.{HasNothing, IsRunFault, IsRowsFault, PrintsRows, StopsInRows, StopsInText};
+ghost use Rattle.basinmug_picture.specs.Printed.{IsWithoutText};
+ghost use Rattle.basinmug_run.specs.Runs.{IsRunWithoutText, IsRunFault, IsRowsFault, PrintsRows, StopsInRows, StopsInText};
 
 use crate::fault::RunFault;
 use crate::records::print_records;
@@ -32,9 +32,9 @@ pub fn run<W: Write>(
 ) -> Result<Printed, RunFault>
     ensures readable { OnOk result (IsReadable (settings delimiter) (text_in bytes.now)) }
     ensures printed { IfOk result (λ printed. PrintsRows options.now (rows_in delimiter bytes.now) printed.wider (W.contents (inner_of writer.old)) (W.contents (inner_of writer.new))) }
-    ensures front { IfErr result (λ fault. ¬ (HasNothing fault) →
+    ensures front { IfErr result (λ fault. ¬ (IsRunWithoutText fault) →
         StopsInText delimiter bytes.now options.now fault (W.contents (inner_of writer.old)) (W.contents (inner_of writer.new))) }
-    ensures untouched { IfErr result (λ fault. HasNothing fault → writer.new ≡ writer.old) }
+    ensures untouched { IfErr result (λ fault. IsRunWithoutText fault → writer.new ≡ writer.old) }
     ensures refused { IfErr result (IsRunFault delimiter bytes.now options.now) }
     ensures write { FailsIff (IsErrOf result (RunFault.Print (PrintFault.Table BuildFault.Write))) writer.old writer.new }
     ensures write_zero { TakesNothingIff (IsErrOf result (RunFault.Print (PrintFault.Table BuildFault.WriteZero))) writer.old writer.new }
@@ -53,9 +53,9 @@ fn print_rows<W: Write>(
     writer: &mut Counted<W>,
 ) -> Result<Printed, PrintFault>
     ensures printed { IfOk result (λ printed. PrintsRows options.now (field_rows rows.entry.items) printed.wider (W.contents (inner_of writer.old)) (W.contents (inner_of writer.new))) }
-    ensures front { IfErr result (λ fault. ¬ (HasNothingPrinted fault) →
+    ensures front { IfErr result (λ fault. ¬ (IsWithoutText fault) →
         StopsInRows options.now (field_rows rows.entry.items) fault (W.contents (inner_of writer.old)) (W.contents (inner_of writer.new))) }
-    ensures untouched { IfErr result (λ fault. HasNothingPrinted fault → writer.new ≡ writer.old) }
+    ensures untouched { IfErr result (λ fault. IsWithoutText fault → writer.new ≡ writer.old) }
     ensures refused { IfErr result (IsRowsFault options.now (field_rows rows.entry.items)) }
     ensures write { FailsIff (IsErrOf result (PrintFault.Table BuildFault.Write)) writer.old writer.new }
     ensures write_zero { TakesNothingIff (IsErrOf result (PrintFault.Table BuildFault.WriteZero)) writer.old writer.new }

@@ -9,7 +9,7 @@ use Rattle.columns_bounded.specs.declared.request.Request.{Request}
 use Rattle.columns_bounded.specs.declared.request.RequestFault.{RequestFault}
 use Rattle.columns_bounded.specs.declared.request.RequestFault.TheVariants.{Version, Style, Priority, Truncate, KeepWords, Reserved}
 use Rattle.columns_run.specs.Layout.{output_of}
-use Rattle.columns_run.specs.Run.{HasTable, MayRefuse}
+use Rattle.columns_run.specs.Run.{HasTable, MayEndBy}
 use Rattle.columns_run.specs.Wanted.{Wanted}
 use Rattle.columns_run.specs.declared.fault.RunFault.{RunFault}
 use Rattle.columns_run.specs.declared.fault.RunFault.TheVariants.{Read, ReadTooLong, NotUtf8, Escape, Range, LineTooWide, Write, WriteZero, Memory}
@@ -35,7 +35,7 @@ IsOutcome request list text old new (Err (OfRequest fault)) = IsRefusedAs reques
 IsOutcome request list text old new (Err OfColors) = IsAccepted request × (colors_in list ≡ None) × (new ≡ old)
 IsOutcome request list text old new (Err (OfText Memory)) = IsAccepted request × (new ≡ old)
 IsOutcome request list text old new (Err (OfText fault)) =
-    OfWanted request list (λ wanted. MayRefuse wanted text fault × ¬ (IsOfWriting fault) × (new ≡ old))
+    OfWanted request list (λ wanted. MayEndBy wanted text fault × ¬ (IsOfWriting fault) × (new ≡ old))
 
 -- ---- its numbers
 

@@ -15,7 +15,7 @@ use Rattle.columns_table.proofs.First.{none-in_row-more, none-more}
 use Rattle.columns_table.proofs.Narrowed.{columns-are, frame-is, kept-is, room-natural, some-rows, some-sizes}
 use Rattle.columns_table.proofs.RowsCut.{width-each}
 use Rattle.columns_run.specs.Layout.{wide_cell}
-use Rattle.columns_run.specs.Run.{MayRefuse}
+use Rattle.columns_run.specs.Run.{MayEndBy}
 use Rattle.columns_run.specs.Wanted.{Wanted}
 use Rattle.columns_run.specs.declared.fault.RunFault.TheVariants.{LineTooWide}
 use Rattle.columns_run.proofs.Cells.{whole_cells, whole_text}
@@ -240,7 +240,7 @@ never-wide wanted input utf8 whole =
     let good = whole_text input utf8 whole in
     sym (wide-same wanted input good) ∙ never-too_wide wanted.style wanted.asked _ (whole_cells input good)
 
-pub never-refused : (wanted : Wanted) (input : List ℕ) (row column : ℕ) → ¬ (MayRefuse wanted input (LineTooWide row column))
+pub never-refused : (wanted : Wanted) (input : List ℕ) (row column : ℕ) → ¬ (MayEndBy wanted input (LineTooWide row column))
 never-refused wanted input row column may =
     let both : None ≡ Some (record { row = row; col = column }) = sym (never-wide wanted input may.0 may.1) ∙ may.3 in
     absurd (cc both)

@@ -5,7 +5,7 @@ ghost use Rattle.columns_asked.specs.declared.asked.Asked.{Asked};
 ghost use Rattle.columns_asked.specs.Layout.{too_wide};
 ghost use Rattle.tabled_size_cells.specs.Resizing.{Break, Cut, resized_text};
 ghost use Rattle.columns_run.specs.Layout.{wide_cell};
-ghost use Rattle.columns_run.specs.Run.{MayRefuse};
+ghost use Rattle.columns_run.specs.Run.{MayEndBy};
 ghost use Rattle.columns_run.specs.Wanted.{Wanted};
 ghost use Rattle.columns_run.specs.declared.fault.RunFault.TheVariants.{LineTooWide};
 ghost use Rattle.grid_config.specs.Compact.{Compact};
@@ -20,5 +20,5 @@ pub fn no_line_is_too_wide()
     ensures cut { (width : ℕ) (text : List ℕ) → IsWholeText text → text_width (resized_text (Cut width) text) ≤ width }
     ensures tables { (style : Compact) (asked : Asked) (texts : List (List (List ℕ))) → AreWholeTexts texts → too_wide style asked texts ≡ None }
     ensures runs { (wanted : Wanted) (input : List ℕ) → IsUtf8 input → IsWhole input → wide_cell wanted input ≡ None }
-    ensures never { (wanted : Wanted) (input : List ℕ) (row column : ℕ) → ¬ (MayRefuse wanted input (LineTooWide row column)) }
+    ensures never { (wanted : Wanted) (input : List ℕ) (row column : ℕ) → ¬ (MayEndBy wanted input (LineTooWide row column)) }
 {}

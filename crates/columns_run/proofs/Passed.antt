@@ -24,7 +24,7 @@ use Rattle.ansi_str_text.specs.StyledText.{has_escape, strip}
 use Rattle.grid_records_measure.specs.Measures.{are_printable, measure}
 use Rattle.grid_records_measure.proofs.PrintableWidth.{measure-printable}
 use Rattle.papergrid_picture.proofs.Stripped.{Leaves, Leaves-append}
-use Rattle.columns_run.specs.Ends.{is_cell_text, Passes}
+use Rattle.columns_run.specs.Ends.{is_cell_text, EndsPass}
 use Rattle.columns_run.specs.Rows.{stripped}
 use Rattle.columns_run.specs.Styled.{part_between}
 use Rattle.columns_run.proofs.Ends.{run-fits}
@@ -32,7 +32,7 @@ use Rattle.columns_run.proofs.Places.{IsWhole-without_escape, stripped-without_e
 use Rattle.columns_run.proofs.Whole.{pieces-whole, plain_bytes}
 
 -- over bytes of a cell
-pub Passes-run : (text left : List ℕ) (k : ℕ) (printable : Bool) → k ≡ prefix_len is_cell_text text → left ≡ drop k text → printable ≡ are_printable (take k text) → Passes text left k printable
+pub Passes-run : (text left : List ℕ) (k : ℕ) (printable : Bool) → k ≡ prefix_len is_cell_text text → left ≡ drop k text → printable ≡ are_printable (take k text) → EndsPass text left k printable
 Passes-run text left k printable is_run is_left tested =
     let run = take k text in
     let plain : has_escape run ≡ false =
@@ -47,7 +47,7 @@ Passes-run text left k printable is_run is_left tested =
     }
 
 -- over a sequence
-pub Passes-sequence : (text behind : List ℕ) (first : Piece) → pieces text ≡ first ∷ pieces behind → is_text_kind first.kind ≡ false → first.kind ≢ Broken → Passes text behind 0 true
+pub Passes-sequence : (text behind : List ℕ) (first : Piece) → pieces text ≡ first ∷ pieces behind → is_text_kind first.kind ≡ false → first.kind ≢ Broken → EndsPass text behind 0 true
 Passes-sequence text behind first read is_sequence good =
     let stands : EachStands (first ∷ pieces behind) = subst EachStands read (ArePiecesOf-pieces text).stand in
     let one : pieces (joined (first ∷ [])) ≡ first ∷ [] = pieces-joined (first ∷ []) (Stands-before first.kind first.bytes (pieces behind) [] stands.0 good (λ _. tt), tt) in
@@ -66,7 +66,7 @@ both : (p q : Bool) → IsTrue (p && q) → IsTrue p × IsTrue q
 both p q is = and_parts p q is
 
 -- over both, one behind the other
-pub Passes-then : (text middle end : List ℕ) (m n : ℕ) (p q : Bool) → Passes text middle m p → Passes middle end n q → Passes text end (m + n) (p && q)
+pub Passes-then : (text middle end : List ℕ) (m n : ℕ) (p q : Bool) → EndsPass text middle m p → EndsPass middle end n q → EndsPass text end (m + n) (p && q)
 Passes-then text middle end m n p q first second =
     let a = first.slice in
     let b = second.slice in
@@ -84,13 +84,13 @@ Passes-then text middle end m n p q first second =
     }
 
 -- over a sequence first
-pub Passes-behind : (text behind end : List ℕ) (n : ℕ) (q : Bool) → Passes text behind 0 true → Passes behind end n q → Passes text end n q
+pub Passes-behind : (text behind end : List ℕ) (n : ℕ) (q : Bool) → EndsPass text behind 0 true → EndsPass behind end n q → EndsPass text end n q
 Passes-behind text behind end n q first second =
     let same : 0 + n ≡ n = omega arith in
-    subst (λ size. Passes text end size q) same (Passes-then text behind end 0 n true q first second)
+    subst (λ size. EndsPass text end size q) same (Passes-then text behind end 0 n true q first second)
 
 -- a part that shows printable characters takes a column for each
-pub measure-passed : (rest end : List ℕ) (style end_style : Attributes) (size : ℕ) (printable : Bool) → IsRendition style → Passes rest end size printable → IsTrue printable
+pub measure-passed : (rest end : List ℕ) (style end_style : Attributes) (size : ℕ) (printable : Bool) → IsRendition style → EndsPass rest end size printable → IsTrue printable
     → measure (chars (stripped (part_between rest style end end_style))) ≡ size
 measure-passed rest end style end_style size printable rendition passes is =
     let slice = passes.slice in

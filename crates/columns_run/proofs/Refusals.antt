@@ -7,7 +7,7 @@ use Rattle.ansi_scan.proofs.FirstBroken.{IsFirstBroken-same, IsWhole-IsFirstBrok
 use Rattle.grid_config_values.specs.declared.position.Position.{Position}
 use Rattle.columns_run.specs.Fault.{TellsOfInput}
 use Rattle.columns_run.specs.Layout.{TableFits, wide_cell}
-use Rattle.columns_run.specs.Run.{HasTable, MayRefuse}
+use Rattle.columns_run.specs.Run.{HasTable, MayEndBy}
 use Rattle.columns_run.specs.Wanted.{Wanted}
 use Rattle.columns_run.specs.declared.fault.RunFault.{RunFault}
 use Rattle.columns_run.specs.declared.fault.RunFault.TheVariants.{Escape, LineTooWide, Memory, NotUtf8, Range, Read, ReadTooLong, Write, WriteZero}
@@ -44,7 +44,7 @@ module _ (wanted : Wanted) (input : List ℕ) (fault : RunFault) where
   abbrev Reason : Type 0
   Reason = HasNoText ⊎ (Breaks ⊎ (Passes ⊎ HasWideCell))
 
-reason : (wanted : Wanted) (input : List ℕ) (fault : RunFault) → TellsOfInput fault → MayRefuse wanted input fault → Reason wanted input fault
+reason : (wanted : Wanted) (input : List ℕ) (fault : RunFault) → TellsOfInput fault → MayEndBy wanted input fault → Reason wanted input fault
 reason wanted input (NotUtf8 at) tells may = inl (record { at = at; is = refl; none = may.0; place = may.1 })
 reason wanted input (Escape at) tells may = inr (inl (record { at = at; is = refl; text = may.0; first = may.1 }))
 reason wanted input Range tells may = inr (inr (inl (record { is = refl; text = may.0; whole = may.1; high = may.2 })))
@@ -89,8 +89,8 @@ module _ (wanted : Wanted) (input : List ℕ) where
   none fault (inr (inr (inl x))) table = x.high table.2
   none fault (inr (inr (inr x))) table = let clash : Some (record { row = x.row; col = x.column }) ≡ None = sym x.wide ∙ table.3 in cc clash
 
-pub one-refusal : (wanted : Wanted) (input : List ℕ) (fault other : RunFault) → TellsOfInput fault → TellsOfInput other → MayRefuse wanted input fault → MayRefuse wanted input other → fault ≡ other
+pub one-refusal : (wanted : Wanted) (input : List ℕ) (fault other : RunFault) → TellsOfInput fault → TellsOfInput other → MayEndBy wanted input fault → MayEndBy wanted input other → fault ≡ other
 one-refusal wanted input fault other tells tells' may may' = one wanted input fault other (reason wanted input fault tells may) (reason wanted input other tells' may')
 
-pub no-table : (wanted : Wanted) (input : List ℕ) (fault : RunFault) → TellsOfInput fault → MayRefuse wanted input fault → ¬ (HasTable wanted input)
+pub no-table : (wanted : Wanted) (input : List ℕ) (fault : RunFault) → TellsOfInput fault → MayEndBy wanted input fault → ¬ (HasTable wanted input)
 no-table wanted input fault tells may = none wanted input fault (reason wanted input fault tells may)

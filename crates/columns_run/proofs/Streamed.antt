@@ -12,7 +12,7 @@ use Rattle.tabled_size_priority.specs.declared.choice.Choice.{Choice}
 use Rattle.tabled_size_priority.specs.declared.choice.Choice.TheVariants.{None as InTurns}
 use Rattle.columns_run.specs.Layout.{TableFits, output_of, picture, picture_without_colors, texts_of, wide_cell}
 use Rattle.columns_run.specs.Rows.{cell_parts, rows_of, stripped}
-use Rattle.columns_run.specs.Run.{HasTable, MayAnswer, MayRefuse, Serves, Writes}
+use Rattle.columns_run.specs.Run.{HasTable, MayAnswer, MayEndBy, Serves, Writes}
 use Rattle.columns_run.specs.TableShown.{ShowsTableOf}
 use Rattle.columns_run.specs.Wanted.{Wanted, without_width}
 use Rattle.columns_run.specs.declared.fault.RunFault.{RunFault}
@@ -103,7 +103,7 @@ module _ (first second : Wanted) (alike : AreAlike first second) (input : List �
   has : HasTable first input → HasTable second input
   has table = (table.0, table.1, alike.fits input table.2, sym (alike.wide input) ∙ table.3)
 
-  refuse : (fault : RunFault) → MayRefuse first input fault → MayRefuse second input fault
+  refuse : (fault : RunFault) → MayEndBy first input fault → MayEndBy second input fault
   refuse Read may = tt
   refuse ReadTooLong may = may
   refuse (NotUtf8 at) may = may
@@ -148,7 +148,7 @@ module _ (wanted : Wanted) (input : List ℕ) (none : wanted.asked.width ≡ Non
   pub accepted-streamed : HasTable (without_width wanted.style) input ↔ HasTable wanted input
   accepted-streamed = (has (without_width wanted.style) wanted alike input, has wanted (without_width wanted.style) back input)
 
-pub refuses-streamed : (wanted : Wanted) (input : List ℕ) (fault : RunFault) → wanted.asked.width ≡ None → wanted.colors ≡ [] → (MayRefuse (without_width wanted.style) input fault ↔ MayRefuse wanted input fault)
+pub refuses-streamed : (wanted : Wanted) (input : List ℕ) (fault : RunFault) → wanted.asked.width ≡ None → wanted.colors ≡ [] → (MayEndBy (without_width wanted.style) input fault ↔ MayEndBy wanted input fault)
 refuses-streamed wanted input fault none uncolored = (
   refuse (without_width wanted.style) wanted (alike wanted input none uncolored) input fault,
   refuse wanted (without_width wanted.style) (back wanted input none uncolored) input fault,

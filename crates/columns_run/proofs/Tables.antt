@@ -11,7 +11,7 @@ use Rattle.columns_asked.specs.declared.asked.Asked.{Asked}
 use Rattle.columns_colors.specs.ColoredTables.{colored_text}
 use Rattle.columns_colors.specs.ColumnColors.{cell_color}
 use Rattle.columns_table.proofs.Cuts.{cut-map}
-use Rattle.columns_table.specs.Answers.{HasTable as TextsHaveTable, MayRefuse}
+use Rattle.columns_table.specs.Answers.{HasTable as TextsHaveTable, MayBeRefused}
 use Rattle.columns_table.specs.Rows.{cut, row_texts_of}
 use Rattle.columns_table.specs.declared.cells.LineCell.{LineCell}
 use Rattle.columns_table.specs.declared.rows.Rows.{Rows}
@@ -99,20 +99,20 @@ module _ (wanted : Wanted) (text : List ℕ) (utf8 : IsUtf8 text) (whole : IsWho
   has-table good = (utf8, whole, subst (λ (T : Type 0). T) fits good.fits, sym wide ∙ good.room)
 
   -- a text has no table for the reason that its texts have none
-  refused : {T : Type 0} (given : Fault) (result : Result T RunFault) → result ≡ Err (run_fault given) → MayRefuse style asked texts given → MayAnswer wanted text result
+  refused : {T : Type 0} (given : Fault) (result : Result T RunFault) → result ≡ Err (run_fault given) → MayBeRefused style asked texts given → MayAnswer wanted text result
   refused Range result is told = subst (MayAnswer wanted text) (sym is) (utf8, whole, λ good. told (subst (λ (T : Type 0). T) (sym fits) good))
   refused (Room row column) result is told = subst (MayAnswer wanted text) (sym is) (utf8, whole, subst (λ (T : Type 0). T) fits told.0, sym wide ∙ told.1)
   refused Memory result is told = subst (MayAnswer wanted text) (sym is) tt
   refused Spans result is told = absurd told
 
   -- what a run answers of them is what it may answer of the text
-  answers : (given : Result (Result (Unit {0}) WriteFault) Fault) → OnOk given (TextsHaveTable style asked texts) → IfErr given (MayRefuse style asked texts) → MayAnswer wanted text (run_answer given)
+  answers : (given : Result (Result (Unit {0}) WriteFault) Fault) → OnOk given (TextsHaveTable style asked texts) → IfErr given (MayBeRefused style asked texts) → MayAnswer wanted text (run_answer given)
   answers (Ok (Ok done)) fits refuses = has-table fits
   answers (Ok (Err Failed)) fits refuses = has-table fits
   answers (Ok (Err TookNothing)) fits refuses = has-table fits
   answers (Err fault) fits refuses = refused {T = Unit {0}} fault (Err (run_fault fault)) refl refuses
 
-  pub answered : (given : Result (Result (Unit {0}) WriteFault) Fault) (result : Result (Unit {0}) RunFault) → result ≡ run_answer given → OnOk given (TextsHaveTable style asked texts) → IfErr given (MayRefuse style asked texts)
+  pub answered : (given : Result (Result (Unit {0}) WriteFault) Fault) (result : Result (Unit {0}) RunFault) → result ≡ run_answer given → OnOk given (TextsHaveTable style asked texts) → IfErr given (MayBeRefused style asked texts)
       → MayAnswer wanted text result
   answered given result is fits refuses = subst (MayAnswer wanted text) (sym is) (answers given fits refuses)
 

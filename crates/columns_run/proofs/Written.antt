@@ -11,7 +11,7 @@ use Rattle.tabled_output.specs.declared.writing.WriteFault.{WriteFault}
 use Rattle.tabled_output.specs.declared.writing.WriteFault.TheVariants.{Write as Failed, WriteZero as TookNothing}
 use Rattle.tabled_output.proofs.WrittenPieces.{front-taken}
 use Rattle.columns_asked.specs.declared.asked.Asked.{Asked}
-use Rattle.columns_table.specs.Answers.{HasTable as TextsHaveTable, MayRefuse as MayRefuseTexts}
+use Rattle.columns_table.specs.Answers.{HasTable as TextsHaveTable, MayBeRefused as MayRefuseTexts}
 use Rattle.grid_config.specs.Compact.{Compact}
 use Rattle.columns_run.specs.Fault.{IsOfInput, IsOfTable, run_answer}
 use Rattle.columns_run.specs.Written.{IsWritten}

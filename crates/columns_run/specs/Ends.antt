@@ -30,7 +30,7 @@ pub record EndsCell (text : List ℕ) (style : Attributes) (end : List ℕ) (end
   pub shows_text : begins_with_escape end ≡ false
 
 -- from this text to `end` no sequence is broken, and so many bytes are shown, each of which is printable where it is said
-pub record Passes (text end : List ℕ) (size : ℕ) (printable : Bool) : Type 0 where
+pub record EndsPass (text end : List ℕ) (size : ℕ) (printable : Bool) : Type 0 where
   pub slice : List ℕ
   pub parted : text ≡ slice ++ end
   pub none_broken : NoneBroken (pieces slice)

@@ -24,22 +24,22 @@ HasTable wanted input = IsUtf8 input × IsWhole input × TableFits wanted input 
 
 -- a run of an input may give up so. The cases exclude one another, but for the faults of reading and writing, which the
 -- counts of the reader and the writer tell, and that of memory, which may come at any step
-abbrev pub MayRefuse : Wanted → List ℕ → RunFault → Type 0
-MayRefuse wanted input Read = ⊤
-MayRefuse wanted input ReadTooLong = read_limit ≤ length input
-MayRefuse wanted input (NotUtf8 at) = ¬ (IsUtf8 input) × (at ≡ utf8_valid_len input)
-MayRefuse wanted input (Escape at) = IsUtf8 input × IsFirstBroken input at
-MayRefuse wanted input Range = IsUtf8 input × IsWhole input × ¬ (TableFits wanted input)
-MayRefuse wanted input (LineTooWide row column) =
+abbrev pub MayEndBy : Wanted → List ℕ → RunFault → Type 0
+MayEndBy wanted input Read = ⊤
+MayEndBy wanted input ReadTooLong = read_limit ≤ length input
+MayEndBy wanted input (NotUtf8 at) = ¬ (IsUtf8 input) × (at ≡ utf8_valid_len input)
+MayEndBy wanted input (Escape at) = IsUtf8 input × IsFirstBroken input at
+MayEndBy wanted input Range = IsUtf8 input × IsWhole input × ¬ (TableFits wanted input)
+MayEndBy wanted input (LineTooWide row column) =
     IsUtf8 input × IsWhole input × TableFits wanted input × (wide_cell wanted input ≡ Some (record { row = row; col = column }))
-MayRefuse wanted input Write = HasTable wanted input
-MayRefuse wanted input WriteZero = HasTable wanted input
-MayRefuse wanted input Memory = ⊤
+MayEndBy wanted input Write = HasTable wanted input
+MayEndBy wanted input WriteZero = HasTable wanted input
+MayEndBy wanted input Memory = ⊤
 
 -- an input may be answered so
 abbrev pub MayAnswer : {T : Type 0} → Wanted → List ℕ → Result T RunFault → Type 0
 MayAnswer wanted input (Ok _) = HasTable wanted input
-MayAnswer wanted input (Err fault) = MayRefuse wanted input fault
+MayAnswer wanted input (Err fault) = MayEndBy wanted input fault
 
 -- what is written of the text with an answer: all of it, or a front of it where writing was cut
 -- short, or nothing

@@ -29,7 +29,7 @@ ghost use Rattle.columns_run.specs.Layout.{TableFits, characters_of, colored_lin
 ghost use Rattle.columns_run.specs.Layout.{picture_without_colors, piece_bytes, piece_columns, resize_of, table_characters, wide_cell};
 ghost use Rattle.columns_run.specs.Plain.{IsPlain};
 ghost use Rattle.columns_run.specs.TableShown.{ShowsTableOf};
-ghost use Rattle.columns_run.specs.Run.{HasTable, MayRefuse, Serves};
+ghost use Rattle.columns_run.specs.Run.{HasTable, MayEndBy, Serves};
 ghost use Rattle.columns_run.specs.Wanted.{Wanted, without_colors, without_width};
 ghost use Rattle.columns_run.specs.Widths.{least_columns, natural_columns, taken_columns};
 ghost use Rattle.columns_run.specs.Fault.{TellsOfInput, fault_text, run_fault, write_fault};
@@ -241,8 +241,8 @@ pub fn each_line_of_a_cell_is_seen()
 /// a table is never refused by such a name.
 pub fn one_refusal()
     ensures one { (wanted : Wanted) (input : List ℕ) (fault other : RunFault) → TellsOfInput fault → TellsOfInput other →
-        MayRefuse wanted input fault → MayRefuse wanted input other → fault ≡ other }
-    ensures no_table { (wanted : Wanted) (input : List ℕ) (fault : RunFault) → TellsOfInput fault → MayRefuse wanted input fault → ¬ (HasTable wanted input) }
+        MayEndBy wanted input fault → MayEndBy wanted input other → fault ≡ other }
+    ensures no_table { (wanted : Wanted) (input : List ℕ) (fault : RunFault) → TellsOfInput fault → MayEndBy wanted input fault → ¬ (HasTable wanted input) }
 {}
 
 /// Without a width no line takes more columns than its column has.
@@ -262,7 +262,7 @@ pub fn streamed_tables_are_tables()
     ensures bytes { (wanted : Wanted) (input : List ℕ) → wanted.asked.width ≡ None → wanted.colors ≡ [] → output_of (without_width wanted.style) input ≡ output_of wanted input }
     ensures accepted { (wanted : Wanted) (input : List ℕ) → wanted.asked.width ≡ None → wanted.colors ≡ [] → (HasTable (without_width wanted.style) input ↔ HasTable wanted input) }
     ensures refuses { (wanted : Wanted) (input : List ℕ) (fault : RunFault) → wanted.asked.width ≡ None → wanted.colors ≡ [] →
-        (MayRefuse (without_width wanted.style) input fault ↔ MayRefuse wanted input fault) }
+        (MayEndBy (without_width wanted.style) input fault ↔ MayEndBy wanted input fault) }
     ensures serves { (wanted : Wanted) (input : List ℕ) (result : Result ⊤ RunFault) (old new : Option (List ℕ)) → wanted.asked.width ≡ None → wanted.colors ≡ [] →
         (Serves (without_width wanted.style) input result old new ↔ Serves wanted input result old new) }
 {}

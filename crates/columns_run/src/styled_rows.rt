@@ -7,7 +7,7 @@ ghost use Rattle.ansi_scan.specs.Pieces.{pieces};
 ghost use Rattle.ansi_str_search.specs.Walking.{AreFirstAndRest, begins_with_escape};
 ghost use Rattle.columns_run.specs.Rows.{line_feed, stripped};
 ghost use Rattle.columns_run.specs.Cells.{line_rows};
-ghost use Rattle.columns_run.specs.Ends.{is_cell_text, EndsCell, Passes};
+ghost use Rattle.columns_run.specs.Ends.{is_cell_text, EndsCell, EndsPass};
 ghost use Rattle.columns_run.specs.Styled.{AddsCell, styled_cell_lines, part_between};
 ghost use Rattle.columns_table.specs.Ends.{AreCellEnds};
 ghost use Rattle.columns_table.specs.Rows.{cut};
@@ -119,7 +119,7 @@ fn part_width(part: &str, end: &CellStop<'_>) -> usize
 // the sequences is broken.
 fn cell_end<'a>(place: &Place<'a>) -> Option<CellStop<'a>>
     ensures cell { IfSome result (λ end. EndsCell place.now.rest.now place.now.style end.place.rest.now end.place.style) }
-    ensures passes { IfSome result (λ end. Passes place.now.rest.now end.place.rest.now end.size end.printable) }
+    ensures passes { IfSome result (λ end. EndsPass place.now.rest.now end.place.rest.now end.size end.printable) }
     ensures whole { IfSome result (λ end. IsWhole end.place.rest.now → IsWhole place.now.rest.now) }
     ensures broken { IsNone result → ¬ IsWhole place.now.rest.now }
 {
@@ -168,7 +168,7 @@ fn cell_run(text: &str) -> (usize, bool)
 fn past_sequence<'a>(place: &Place<'a>) -> Option<Place<'a>>
     requires { begins_with_escape place.now.rest.now ≡ true }
     ensures first { IfSome result (λ behind. AreFirstAndRest place.now.style (pieces place.now.rest.now) behind.style (pieces behind.rest.now)) }
-    ensures passes { IfSome result (λ behind. Passes place.now.rest.now behind.rest.now 0 true) }
+    ensures passes { IfSome result (λ behind. EndsPass place.now.rest.now behind.rest.now 0 true) }
     ensures shorter { IfSome result (λ behind. length behind.rest.now < length place.now.rest.now) }
     ensures whole { IfSome result (λ behind. IsWhole place.now.rest.now ↔ IsWhole behind.rest.now) }
     ensures broken { IsNone result → ¬ IsWhole place.now.rest.now }

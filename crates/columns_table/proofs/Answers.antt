@@ -9,28 +9,28 @@ use Rattle.grid_records_estimate.specs.Sizes.{IsRefusal}
 use Rattle.papergrid_picture.specs.Fitting.{FitsAnswer, InRange, first_too_wide, table_width}
 use Rattle.columns_asked.specs.Layout.{AskedFits, asked_frame, frame_under, kept_texts, narrow, narrowed, too_wide, widths_of}
 use Rattle.columns_asked.specs.declared.asked.Asked.{Asked}
-use Rattle.columns_table.specs.Answers.{HasTable, MayRefuse}
+use Rattle.columns_table.specs.Answers.{HasTable, MayBeRefused}
 use Rattle.columns_table.proofs.Narrowed.{fits-natural, room-natural}
 
 module _ (style : Compact) (asked : Asked) (texts : List (List (List ℕ))) where
   -- that there is a table, or why there is none
   pub record Known {A : Type 0} (table : Result A Fault) : Type 0 where
     pub fits : OnOk table (HasTable style asked texts)
-    pub refused : IfErr table (MayRefuse style asked texts)
+    pub refused : IfErr table (MayBeRefused style asked texts)
 
   -- the sizes that were found tell the widths
   pub narrow-is : (widths : List ℕ) (total : ℕ) → widths ≡ widths_of style texts → total ≡ table_width (frame_under style texts) → narrow style asked widths total asked.width ≡ narrowed style asked texts
   narrow-is widths total wide same = ap (λ (found : List ℕ). narrow style asked found total asked.width) wide ∙ ap (λ (n : ℕ). narrow style asked (widths_of style texts) n asked.width) same
 
-  may-refuse : InRange (frame_under style texts) → (fault : Fault) → FitsAnswer (asked_frame style asked texts) (kept_texts style asked texts) (Unit {0}) (Err fault) → MayRefuse style asked texts fault
+  may-refuse : InRange (frame_under style texts) → (fault : Fault) → FitsAnswer (asked_frame style asked texts) (kept_texts style asked texts) (Unit {0}) (Err fault) → MayBeRefused style asked texts fault
   unfolding AskedFits too_wide
   may-refuse range Memory is = tt
   may-refuse range Range is = λ fits. is.1 fits.1
   may-refuse range Spans is = absurd (is tt)
   may-refuse range (Room row column) is = ((range, is.1), is.2)
 
-  refuses : InRange (frame_under style texts) → (fault : Fault) → (fault ≡ Memory) ⊎ FitsAnswer (asked_frame style asked texts) (kept_texts style asked texts) (Unit {0}) (Err fault) → MayRefuse style asked texts fault
-  refuses range fault (inl memory) = subst (MayRefuse style asked texts) (sym memory) tt
+  refuses : InRange (frame_under style texts) → (fault : Fault) → (fault ≡ Memory) ⊎ FitsAnswer (asked_frame style asked texts) (kept_texts style asked texts) (Unit {0}) (Err fault) → MayBeRefused style asked texts fault
+  refuses range fault (inl memory) = subst (MayBeRefused style asked texts) (sym memory) tt
   refuses range fault (inr is) = may-refuse range fault is
 
   out-of-range : ¬ (InRange (frame_under style texts)) → ¬ (AskedFits style asked texts)
@@ -38,9 +38,9 @@ module _ (style : Compact) (asked : Asked) (texts : List (List (List ℕ))) wher
   out-of-range out fits = out fits.0
 
   -- sizes that are refused
-  pub sizes-refused : (fault : Fault) → IsRefusal fault (¬ (InRange (frame_under style texts))) → MayRefuse style asked texts fault
-  sizes-refused fault (inl memory) = subst (MayRefuse style asked texts) (sym memory) tt
-  sizes-refused fault (inr range) = subst (MayRefuse style asked texts) (sym range.0) (out-of-range range.1)
+  pub sizes-refused : (fault : Fault) → IsRefusal fault (¬ (InRange (frame_under style texts))) → MayBeRefused style asked texts fault
+  sizes-refused fault (inl memory) = subst (MayBeRefused style asked texts) (sym memory) tt
+  sizes-refused fault (inr range) = subst (MayBeRefused style asked texts) (sym range.0) (out-of-range range.1)
 
   has-table : InRange (frame_under style texts) → InRange (asked_frame style asked texts) → too_wide style asked texts ≡ None → HasTable style asked texts
   unfolding AskedFits

@@ -24,8 +24,8 @@ module _ (style : Compact) (asked : Asked) (texts : List (List (List ℕ))) wher
     pub room : too_wide style asked texts ≡ None
 
   -- why it may be refused; the cases exclude one another, but for `Memory`. A table of texts has no spans
-  abbrev pub MayRefuse : Fault → Type 0
-  MayRefuse Range = ¬ (AskedFits style asked texts)
-  MayRefuse (Room row column) = AskedFits style asked texts × (too_wide style asked texts ≡ Some (at row column))
-  MayRefuse Memory = ⊤
-  MayRefuse Spans = ⊥
+  abbrev pub MayBeRefused : Fault → Type 0
+  MayBeRefused Range = ¬ (AskedFits style asked texts)
+  MayBeRefused (Room row column) = AskedFits style asked texts × (too_wide style asked texts ≡ Some (at row column))
+  MayBeRefused Memory = ⊤
+  MayBeRefused Spans = ⊥

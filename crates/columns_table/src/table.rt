@@ -14,7 +14,7 @@ ghost use Rattle.papergrid_fits.specs.Tables.{CanBeDrawn, IsFitsAnswer};
 ghost use Rattle.columns_asked.specs.Layout.{asked_frame, frame_under, heights_of, kept_texts, narrow, narrowed, paddings, too_wide, widths_of};
 ghost use Rattle.columns_colors.specs.ColoredTables.{colored_text};
 ghost use Rattle.columns_colors.specs.ColumnColors.{cell_color};
-ghost use Rattle.columns_table.specs.Answers.{HasTable, MayRefuse, natural_text};
+ghost use Rattle.columns_table.specs.Answers.{HasTable, MayBeRefused, natural_text};
 ghost use Rattle.columns_table.specs.Listed.{AreSizesOf};
 ghost use Rattle.columns_table.specs.Records.{KeepsWidth};
 ghost use Rattle.columns_table.specs.Rows.{row_texts_of};
@@ -58,7 +58,7 @@ pub fn write_rows<W: Write>(
     ensures table { Passes W.contents (colored_text (compact_of style.now) asked.now (cell_color colors.now) (row_texts_of rows.entry)) result [] writer.old writer.new }
     ensures alone { ¬ (HasTable (compact_of style.now) asked.now (row_texts_of rows.entry)) → writer.new ≡ writer.old }
     ensures fits { OnOk result (HasTable (compact_of style.now) asked.now (row_texts_of rows.entry)) }
-    ensures refused { IfErr result (MayRefuse (compact_of style.now) asked.now (row_texts_of rows.entry)) }
+    ensures refused { IfErr result (MayBeRefused (compact_of style.now) asked.now (row_texts_of rows.entry)) }
 {
     let sizes = sizes_of(alloc, &rows, style)?;
     match narrower(alloc, style, asked, &sizes)? {

@@ -34,5 +34,5 @@ abbrev pub BeginWith : {T : Type 0} → List T → List T → Type 0
 BeginWith {T} first all = (more : List T) × (all ≡ first ++ more)
 
 -- a place of this width and height is large enough for the box
-abbrev pub HasRoom : Box → ℕ → ℕ → Type 0
-HasRoom box width height = (box.width ≤ width) × (box.height ≤ height)
+abbrev pub IsInCanvas : Box → ℕ → ℕ → Type 0
+IsInCanvas box width height = (box.width ≤ width) × (box.height ≤ height)

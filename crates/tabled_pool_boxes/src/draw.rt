@@ -5,7 +5,7 @@ ghost use Rattle.grid_config.specs.Looks.{look_of};
 ghost use Rattle.tabled_pool_boxes.specs.Boxes.{box_of, from_line, gap, has_level, level_before, text_box, upright_before};
 ghost use Rattle.papergrid_picture.specs.Frame.{thickness};
 ghost use Rattle.papergrid_picture.specs.Picture.{at};
-ghost use Rattle.tabled_pool_boxes.specs.Canvas.{Adds, BeginWith, HasRoom};
+ghost use Rattle.tabled_pool_boxes.specs.Canvas.{Adds, BeginWith, IsInCanvas};
 ghost use Rattle.tabled_pool_boxes.specs.Sizes.{line_sizes, sizes_of, sizes_of_all};
 ghost use Rattle.tabled_pool_boxes.specs.Values.{Beside, Stacked, layout_of, layouts_of};
 
@@ -32,7 +32,7 @@ pub(crate) fn draw<'s>(
     lines: &mut [Vec<Part>],
 ) -> Result<&'s [Size], AllocError>
     requires sizes { BeginWith (sizes_of (look_of pen.now.cfg.now) (layout_of value.now)) sizes.now }
-    requires room { HasRoom (box_of (look_of pen.now.cfg.now) (layout_of value.now)) width height }
+    requires room { IsInCanvas (box_of (look_of pen.now.cfg.now) (layout_of value.now)) width height }
     requires inside { top + height ≤ length lines.old }
     ensures rest { IfOk result (λ rest. sizes.now ≡ sizes_of (look_of pen.now.cfg.now) (layout_of value.now) ++ rest.now) }
     ensures lines { OnOk result (Adds lines.old lines.new (from_line top ((box_of (look_of pen.now.cfg.now) (layout_of value.now)).line pen.now.takers width height))) }
@@ -64,7 +64,7 @@ fn draw_row<'s>(
 ) -> Result<&'s [Size], AllocError>
     requires sizes { BeginWith (sizes_of_all (look_of pen.now.cfg.now) (layouts_of members.now.items)) sizes.now }
     requires own { own ≡ (box_of (look_of pen.now.cfg.now) (Beside (layouts_of members.now.items))).width }
-    requires room { HasRoom (box_of (look_of pen.now.cfg.now) (Beside (layouts_of members.now.items))) width height }
+    requires room { IsInCanvas (box_of (look_of pen.now.cfg.now) (Beside (layouts_of members.now.items))) width height }
     requires inside { top + height ≤ length lines.old }
     ensures rest { IfOk result (λ rest. sizes.now ≡ sizes_of_all (look_of pen.now.cfg.now) (layouts_of members.now.items) ++ rest.now) }
     ensures lines { OnOk result (Adds lines.old lines.new (from_line top ((box_of (look_of pen.now.cfg.now) (Beside (layouts_of members.now.items))).line pen.now.takers width height))) }
@@ -99,7 +99,7 @@ fn draw_column<'s>(
 ) -> Result<&'s [Size], AllocError>
     requires sizes { BeginWith (sizes_of_all (look_of pen.now.cfg.now) (layouts_of members.now.items)) sizes.now }
     requires own { own ≡ (box_of (look_of pen.now.cfg.now) (Stacked (layouts_of members.now.items))).height }
-    requires room { HasRoom (box_of (look_of pen.now.cfg.now) (Stacked (layouts_of members.now.items))) width height }
+    requires room { IsInCanvas (box_of (look_of pen.now.cfg.now) (Stacked (layouts_of members.now.items))) width height }
     requires inside { top + height ≤ length lines.old }
     ensures rest { IfOk result (λ rest. sizes.now ≡ sizes_of_all (look_of pen.now.cfg.now) (layouts_of members.now.items) ++ rest.now) }
     ensures lines { OnOk result (Adds lines.old lines.new (from_line top ((box_of (look_of pen.now.cfg.now) (Stacked (layouts_of members.now.items))).line pen.now.takers width height))) }
@@ -135,7 +135,7 @@ fn draw_cell<'s>(
 ) -> Result<&'s [Size], AllocError>
     requires own { own ≡ (text_box (look_of pen.now.cfg.now) text.now).height }
     requires sizes { BeginWith (line_sizes text.now) sizes.now }
-    requires room { HasRoom (text_box (look_of pen.now.cfg.now) text.now) width height }
+    requires room { IsInCanvas (text_box (look_of pen.now.cfg.now) text.now) width height }
     requires inside { top + height ≤ length lines.old }
     ensures rest { IfOk result (λ rest. sizes.now ≡ line_sizes text.now ++ rest.now) }
     ensures lines { OnOk result (Adds lines.old lines.new (from_line top ((text_box (look_of pen.now.cfg.now) text.now).line pen.now.takers width height))) }

@@ -8,7 +8,7 @@ ghost use Rattle.papergrid_picture.specs.Blocks.{free_above, text_line};
 ghost use Rattle.papergrid_picture.specs.CellLines.{cell_lines};
 ghost use Rattle.papergrid_picture.specs.Picture.{at};
 ghost use Rattle.tabled_pool_boxes.specs.Boxes.{Shown, alone, cell_bytes, cell_height, first_lines, from_line, indent, text_box};
-ghost use Rattle.tabled_pool_boxes.specs.Canvas.{Adds, HasRoom};
+ghost use Rattle.tabled_pool_boxes.specs.Canvas.{Adds, IsInCanvas};
 ghost use Rattle.tabled_pool_boxes.specs.Open.{line_of, measures_of, texts_of};
 ghost use Rattle.tabled_pool_boxes.specs.Sizes.{line_sizes};
 
@@ -34,7 +34,7 @@ pub(crate) fn draw_no_text(
     height: usize,
     lines: &mut [Vec<Part>],
 ) -> Result<(), AllocError>
-    requires room { HasRoom (text_box (look_of pen.now.cfg.now) []) width height }
+    requires room { IsInCanvas (text_box (look_of pen.now.cfg.now) []) width height }
     requires inside { top + height ≤ length lines.old }
     ensures { OnOk result (Adds lines.old lines.new (from_line top ((text_box (look_of pen.now.cfg.now) []).line pen.now.takers width height))) }
 {
@@ -57,7 +57,7 @@ pub(crate) fn draw_text(
     lines: &mut [Vec<Part>],
 ) -> Result<(), AllocError>
     requires measured { measured.now ≡ line_sizes text.now }
-    requires room { HasRoom (text_box (look_of pen.now.cfg.now) text.now) width height }
+    requires room { IsInCanvas (text_box (look_of pen.now.cfg.now) text.now) width height }
     requires inside { top + height ≤ length lines.old }
     ensures { OnOk result (Adds lines.old lines.new (from_line top ((text_box (look_of pen.now.cfg.now) text.now).line pen.now.takers width height))) }
 {

@@ -1,16 +1,16 @@
 -- The byte of the flaw is one of the field's, and its place is that of the flaw.
 use Rattle.std.proofs.Common.{◌≡◌, List, ℕ, subst}
-use Rattle.basinmug_input.specs.Flaws.{HasFlaw, IsBroken, IsNoText}
+use Rattle.basinmug_input.specs.Flaws.{HasFlaw, HasBrokenEscape, IsNoUtf8}
 use Rattle.basinmug_input.specs.Reading.{settings}
 use Rattle.basinmug_input.specs.declared.cells.Flaw.{Flaw}
 use Rattle.basinmug_input.specs.declared.cells.Flaw.TheVariants.{NotText, Escape}
 use Rattle.basinmug_input.proofs.Rows.{broken-below, has-byte}
 use Rattle.basinmug_input.proofs.records.fault_of.Goals as goal
 
-no_text : (field : List ℕ) (flaw : Flaw) (byte : ℕ) → flaw ≡ NotText byte → HasFlaw field flaw → IsNoText field byte
+no_text : (field : List ℕ) (flaw : Flaw) (byte : ℕ) → flaw ≡ NotText byte → HasFlaw field flaw → IsNoUtf8 field byte
 no_text field flaw byte is has = subst (HasFlaw field) is has
 
-broken : (field : List ℕ) (flaw : Flaw) (byte : ℕ) → flaw ≡ Escape byte → HasFlaw field flaw → IsBroken field byte
+broken : (field : List ℕ) (flaw : Flaw) (byte : ℕ) → flaw ≡ Escape byte → HasFlaw field flaw → HasBrokenEscape field byte
 broken field flaw byte is has = subst (HasFlaw field) is has
 
 pub place_of-at-requires : goal.place_of-at-requires

@@ -14,7 +14,7 @@ use Rattle.csv.specs.declared.parser.Config.{Config}
 use Rattle.csv.specs.declared.parser.State.TheVariants as st
 use Rattle.csv.proofs.ReadFacts.{rows-end, rows-more}
 use Rattle.basinmug_input.specs.Cleaning.{cleaned}
-use Rattle.basinmug_input.specs.Flaws.{IsSound}
+use Rattle.basinmug_input.specs.Flaws.{IsReadableField}
 use Rattle.basinmug_input.specs.Reading.{settings}
 use Rattle.basinmug_input.specs.Rows.{IsFirstFlawed}
 use Rattle.basinmug_input.proofs.ReadRecords.{records-go_on, records-only}
@@ -56,7 +56,7 @@ returns-then-not-found-clause-readable c =
     let ends = rows-end (λ (s : Bor (List ℕ)). Some s.now) c.loop.reader c.read_byte_record.new.self (fields_of c.read_byte_record.new.row) cfg known.left known.config known.source read in
     record {
       is_text = c.requires;
-      sound = subst (AllByRecursion (AllByRecursion IsSound)) (sym (records-only cfg text known.raw (c.loop.reader.state, known.left, known.reached, ends))) known.sound;
+      sound = subst (AllByRecursion (AllByRecursion IsReadableField)) (sym (records-only cfg text known.raw (c.loop.reader.state, known.left, known.reached, ends))) known.sound;
     }
 
 pub fault_of-requires : goal.fault_of-requires
@@ -103,7 +103,7 @@ loop-preserved c =
           ∙ ap (λ (rows : List (List (List ℕ))). rows ++ map field_text (vec_items c.in-Ok-2.row) ∷ []) known.texts
           ∙ ap (λ (texts : List (List ℕ)). map (map cleaned) known.raw ++ texts ∷ []) row.texts
           ∙ sym (map_push (map cleaned) known.raw here);
-      sound = all-push (AllByRecursion IsSound) known.raw here known.sound row.sound;
+      sound = all-push (AllByRecursion IsReadableField) known.raw here known.sound row.sound;
     }
 
 -- records may differ in length, and bytes are read, so that the reader has no other fault

@@ -6,7 +6,7 @@ use Rattle.csv.specs.declared.parser.State.TheVariants as st
 use Rattle.csv.specs.declared.reader.Trim.TheVariants as trim
 use Rattle.basinmug_cells.specs.Fields.{field_rows}
 use Rattle.basinmug_input.specs.Cleaning.{cleaned}
-use Rattle.basinmug_input.specs.Flaws.{IsSound}
+use Rattle.basinmug_input.specs.Flaws.{IsReadableField}
 use Rattle.basinmug_input.specs.Reading.{settings}
 use Rattle.basinmug_input.proofs.records.read_rows.Given as goal
 
@@ -21,5 +21,5 @@ invariant-loop l = record {
   source : source_of (λ s. Some s.now) l.reader ≡ Some left;
   reached : Reached (settings l.delimiter) st.StartRecord (strip_bom l.bytes) raw (reader_state l.reader) left;
   texts : field_rows l.rows.items ≡ map (map cleaned) raw;
-  sound : AllByRecursion (AllByRecursion IsSound) raw;
+  sound : AllByRecursion (AllByRecursion IsReadableField) raw;
 }

@@ -5,7 +5,7 @@ use Rattle.std.specs.List.{AllByRecursion}
 use Rattle.csv.specs.Records.{field_at, fields_of}
 use Rattle.basinmug_cells.specs.Fields.{field_text}
 use Rattle.basinmug_input.specs.Cleaning.{cleaned}
-use Rattle.basinmug_input.specs.Flaws.{HasFlaw, IsSound}
+use Rattle.basinmug_input.specs.Flaws.{HasFlaw, IsReadableField}
 use Rattle.basinmug_input.specs.Rows.{IsRowOf}
 use Rattle.basinmug_input.proofs.Rows.{all-push, field_at-none, field_at-some}
 use Rattle.basinmug_input.proofs.records.row_of.Goals as goal
@@ -44,7 +44,7 @@ loop-field-preserved c =
     record {
       few = omega (arith, below, more);
       row = subst (λ k. IsRowOf (take k fields) new) (sym more) (record {
-        sound = subst (AllByRecursion IsSound) (sym first) (all-push IsSound (take n fields) f known.sound read.0);
+        sound = subst (AllByRecursion IsReadableField) (sym first) (all-push IsReadableField (take n fields) f known.sound read.0);
         texts = ap (map field_text) c.in_ok-push-in-Ok.ensures.items
             ∙ map_push field_text old.items c.in-Ok.cell
             ∙ ap (λ (texts : List (List ℕ)). texts ++ field_text c.in-Ok.cell ∷ []) known.texts

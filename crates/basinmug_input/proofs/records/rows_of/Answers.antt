@@ -2,7 +2,7 @@
 use Rattle.std.proofs.Common.{◌≡◌, ◌∙◌, ℕ, List, IsUtf8, subst}
 use Rattle.std.specs.List.{AllByRecursion}
 use Rattle.csv.specs.Reading.{records}
-use Rattle.basinmug_input.specs.Flaws.{IsSound}
+use Rattle.basinmug_input.specs.Flaws.{IsReadableField}
 use Rattle.basinmug_input.specs.Reading.{settings}
 use Rattle.basinmug_input.specs.Rows.{text_in}
 use Rattle.basinmug_input.specs.Unquoted.{IsUnquoted}
@@ -19,5 +19,5 @@ returns-in-Some-clause-readable c =
     let rows = rw c.in-Some.is at c.in_ok-rows.ensures in
     record {
       is_text = (subst IsUtf8 bytes c.as_bytes.ensures.utf8, never-quoted d text unquoted.no_quotes);
-      sound = subst (λ (of : List ℕ). AllByRecursion (AllByRecursion IsSound) (records (settings d) of)) read rows.sound;
+      sound = subst (λ (of : List ℕ). AllByRecursion (AllByRecursion IsReadableField) (records (settings d) of)) read rows.sound;
     }

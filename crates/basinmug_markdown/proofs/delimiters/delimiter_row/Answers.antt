@@ -1,10 +1,10 @@
--- One delimiter more, and the bars and the line feed around them.
+-- One mark more, and the bars and the line feed around them.
 use Rattle.std.proofs.Common.{◌≡◌, ◌∙◌, ap, sym, ℕ, zero, suc, ◌+◌, ◌<◌, List, [], ◌∷◌, ◌++◌, length, string_bytes, add-one, add-zero, arith}
 use Rattle.std.specs.Prelude.{codes}
 use Rattle.std.specs.List.{flat_map, range_with_len}
 use Rattle.std.proofs.lemmas.List.{flat_map_more}
 use Rattle.grid_config_values.specs.declared.alignment.AlignmentHorizontal.{AlignmentHorizontal}
-use Rattle.basinmug_markdown.specs.Documents.{delimiter_of, delimiter_row}
+use Rattle.basinmug_markdown.specs.Documents.{column_mark_of, delimiter_row}
 use Rattle.basinmug_markdown.proofs.delimiters.delimiter_row.Goals as goal
 
 one_more : (from count : ℕ) → range_with_len from (suc count) ≡ range_with_len from count ++ (from + count) ∷ []
@@ -20,15 +20,15 @@ next f n start old new before grown =
 
 -- a row of some columns
 of_some : (alignments : List AlignmentHorizontal) (widths row : List ℕ) (columns : ℕ) → columns ≡ length widths → 0 < length widths
-    → row ≡ codes "|" ++ flat_map (delimiter_of alignments widths) (range_with_len 0 columns) → row ++ codes "\n" ≡ delimiter_row alignments widths
+    → row ≡ codes "|" ++ flat_map (column_mark_of alignments widths) (range_with_len 0 columns) → row ++ codes "\n" ≡ delimiter_row alignments widths
 of_some alignments [] row columns all some is = absurd (omega (arith, some))
 of_some alignments (width ∷ widths) row columns all some is =
-    let all_of : List ℕ → List ℕ = flat_map (delimiter_of alignments (width ∷ widths)) in
+    let all_of : List ℕ → List ℕ = flat_map (column_mark_of alignments (width ∷ widths)) in
     ap (λ (bytes : List ℕ). bytes ++ codes "\n") (is ∙ ap (λ (n : ℕ). codes "|" ++ all_of (range_with_len 0 n)) all)
 
 pub loop-column-preserved : goal.loop-column-preserved
 loop-column-preserved c =
-    next (delimiter_of c.args.alignments.now c.args.widths.now) c.loop-column.column (codes "|") _ _ c.loop-column.invariant c.in_ok-push_delimiter_of.ensures
+    next (column_mark_of c.args.alignments.now c.args.widths.now) c.loop-column.column (codes "|") _ _ c.loop-column.invariant c.in_ok-push_delimiter_of.ensures
 
 pub returns : goal.returns
 unfolding lib.Utf8.encode

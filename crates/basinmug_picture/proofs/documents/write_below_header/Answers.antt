@@ -6,27 +6,27 @@ use Rattle.tabled_compact.specs.Building.{writing_fault}
 use Rattle.tabled_compact.specs.declared.fault.BuildFault.TheVariants.{Table as OfTable}
 use Rattle.tabled_output.specs.Counts.{inner_of}
 use Rattle.basinmug_cells.specs.Fields.{field_text}
-use Rattle.basinmug_picture.specs.Documents.{is_of, rule}
+use Rattle.basinmug_picture.specs.Documents.{is_of, header_delimiters}
 use Rattle.basinmug_picture.specs.Printed.{IsLate}
-use Rattle.basinmug_picture.specs.declared.documents.Part.TheVariants.{Records}
+use Rattle.basinmug_picture.specs.declared.documents.DocumentPart.TheVariants.{Records}
 use Rattle.basinmug_picture.proofs.Behind.{all-behind, front-late, front-of-more, no-front, passed-whole, stopped-before}
 use Rattle.basinmug_picture.proofs.Fitted.{late-told, late-writing}
 use Rattle.basinmug_picture.proofs.Narrowed.{err-told}
 use Rattle.basinmug_picture.proofs.documents.write_below_header.Goals as goal
 
-pub returns-in_err-rule-clause-front : goal.returns-in_err-rule-clause-front
-returns-in_err-rule-clause-front g c = no-front (g.W.Write.contents (inner_of c.args.writer.now)) _
+pub returns-in_err-row-clause-front : goal.returns-in_err-row-clause-front
+returns-in_err-row-clause-front g c = no-front (g.W.Write.contents (inner_of c.args.writer.now)) _
 
-pub returns-in_err-rule-clause-late : goal.returns-in_err-rule-clause-late
-returns-in_err-rule-clause-late g c = err-told c.from_residual.result (OfTable c.in_err-rule.field-0.0) IsLate c.from_residual.ensures.1 c.in_err-rule.ensures.refused
+pub returns-in_err-row-clause-late : goal.returns-in_err-row-clause-late
+returns-in_err-row-clause-late g c = err-told c.from_residual.result (OfTable c.in_err-row.field-0.0) IsLate c.from_residual.ensures.1 c.in_err-row.ensures.refused
 
 pub returns-in_err-write_piece-clause-front : goal.returns-in_err-write_piece-clause-front
 returns-in_err-write_piece-clause-front g c =
     let s = state_of field_text c.args.table.now in
     let stopped = c.in_err-write_piece.ensures.stopped in
-    front-of-more (g.W.Write.contents (inner_of c.args.writer.now)) (g.W.Write.contents (inner_of c.write_piece.new.writer)) (rule s) (wanted_lines (is_of Records) s ++ c.args.more.now)
-    (stopped-before g.W.Write.contents (rule s) c.args.writer.now c.write_piece.new.writer stopped.bytes.0 stopped.bytes.1 stopped.bytes.2
-    (stopped.bytes.3 ∙ c.as_bytes.ensures.value ∙ c.in_ok-rule.ensures.rule))
+    front-of-more (g.W.Write.contents (inner_of c.args.writer.now)) (g.W.Write.contents (inner_of c.write_piece.new.writer)) (header_delimiters s) (wanted_lines (is_of Records) s ++ c.args.more.now)
+    (stopped-before g.W.Write.contents (header_delimiters s) c.args.writer.now c.write_piece.new.writer stopped.bytes.0 stopped.bytes.1 stopped.bytes.2
+    (stopped.bytes.3 ∙ c.as_bytes.ensures.value ∙ c.in_ok-row.ensures.header_delimiters))
 
 pub returns-in_err-write_piece-clause-late : goal.returns-in_err-write_piece-clause-late
 returns-in_err-write_piece-clause-late g c =
@@ -37,16 +37,16 @@ returns-clause-whole g c =
     let s = state_of field_text c.args.table.now in
     let passed = c.in_ok-write_piece.ensures.passed.bytes in
     all-behind c.write_lines.result (g.W.Write.contents (inner_of c.args.writer.now)) (g.W.Write.contents (inner_of c.write_piece.new.writer)) (g.W.Write.contents (inner_of c.write_lines.new.writer))
-    (rule s) (wanted_lines (is_of Records) s ++ c.args.more.now)
-    (passed-whole _ _ _ passed.0 passed.1 (passed.2 ∙ c.as_bytes.ensures.value ∙ c.in_ok-rule.ensures.rule)) c.write_lines.ensures.whole
+    (header_delimiters s) (wanted_lines (is_of Records) s ++ c.args.more.now)
+    (passed-whole _ _ _ passed.0 passed.1 (passed.2 ∙ c.as_bytes.ensures.value ∙ c.in_ok-row.ensures.header_delimiters)) c.write_lines.ensures.whole
 
 pub returns-clause-front : goal.returns-clause-front
 returns-clause-front g c =
     let s = state_of field_text c.args.table.now in
     let passed = c.in_ok-write_piece.ensures.passed.bytes in
     front-late c.write_lines.result (g.W.Write.contents (inner_of c.args.writer.now)) (g.W.Write.contents (inner_of c.write_piece.new.writer)) (g.W.Write.contents (inner_of c.write_lines.new.writer))
-    (rule s) (wanted_lines (is_of Records) s ++ c.args.more.now)
-    (passed-whole _ _ _ passed.0 passed.1 (passed.2 ∙ c.as_bytes.ensures.value ∙ c.in_ok-rule.ensures.rule)) c.write_lines.ensures.whole c.write_lines.ensures.front
+    (header_delimiters s) (wanted_lines (is_of Records) s ++ c.args.more.now)
+    (passed-whole _ _ _ passed.0 passed.1 (passed.2 ∙ c.as_bytes.ensures.value ∙ c.in_ok-row.ensures.header_delimiters)) c.write_lines.ensures.whole c.write_lines.ensures.front
     (late-told s c.write_lines.result c.requires.fits c.write_lines.ensures.table)
 
 pub returns-clause-late : goal.returns-clause-late

@@ -5,7 +5,7 @@ use Rattle.tabled.specs.Writing.{wanted_lines}
 use Rattle.tabled_output.specs.Counts.{inner_of}
 use Rattle.basinmug_cells.specs.Fields.{field_text}
 use Rattle.basinmug_picture.specs.Documents.{below_header, is_of}
-use Rattle.basinmug_picture.specs.declared.documents.Part.TheVariants.{Header}
+use Rattle.basinmug_picture.specs.declared.documents.DocumentPart.TheVariants.{Header}
 use Rattle.basinmug_picture.proofs.Behind.{all-behind, err-any, front-behind-whole, front-of-more}
 use Rattle.basinmug_picture.proofs.Fitted.{never-nothing, refused-late}
 use Rattle.basinmug_picture.proofs.Narrowed.{err-told, on-ok}

@@ -8,7 +8,7 @@ use Rattle.basinmug_cells.specs.Fields.{field_rows, field_text}
 use Rattle.basinmug_picture.specs.Lines.{below}
 use Rattle.basinmug_picture.specs.Names.{IsFirstMissing}
 use Rattle.basinmug_picture.specs.Pictures.{asked_settings, missing_of, numeric_of}
-use Rattle.basinmug_picture.specs.Printed.{HasNothing, IsTableFault, PrintsTable, StopsInTable}
+use Rattle.basinmug_picture.specs.Printed.{IsWithoutText, IsTableFault, PrintsTable, StopsInTable}
 use Rattle.basinmug_picture.specs.Rows.{cells_of}
 use Rattle.basinmug_picture.proofs.Narrowed.{err-told}
 use Rattle.basinmug_picture.proofs.Printed.{length-shown, no-column, printed-by, refused-named, stops-named, with-names}
@@ -69,7 +69,7 @@ returns-clause-front g c =
     let after = g.W.Write.contents (inner_of c.print_table-outcome.new.writer) in
     stops-named options rows c.print_table-outcome.result before after (subst (λ (it : List (List (List ℕ))). missing_of options it ≡ []) are c.in_ok-appearance.ensures.named)
     (printed-by options rows made.settings.items made.numeric.items (state_of field_text c.in_ok-table.table) c.len.result c.as_str-ending.result.now
-    (λ Makes NotMade text. IfErr c.print_table-outcome.result (λ fault. ¬ (HasNothing fault) → StopsInTable Makes text fault before after))
+    (λ Makes NotMade text. IfErr c.print_table-outcome.result (λ fault. ¬ (IsWithoutText fault) → StopsInTable Makes text fault before after))
     (c.in_ok-appearance.ensures.settings ∙ ap (asked_settings options) are)
     (c.in_ok-appearance.ensures.numeric ∙ ap (numeric_of options.header) are)
     (c.in_ok-table.ensures.table ∙ ap (λ (it : List (List (List ℕ))). new_state (filled it)) (c.in_ok-cells.ensures ∙ ap (cells_of options.line_style options.header) shown))

@@ -14,7 +14,7 @@ use Rattle.columns_table.specs.Rows.{cut}
 use Rattle.columns_table.specs.declared.ends.CellEnd.{CellEnd}
 use Rattle.columns_table.proofs.Cuts.{cut-map}
 use Rattle.columns_run.specs.Cells.{part_line}
-use Rattle.columns_run.specs.Ends.{cell_size, EndsCell, Passes}
+use Rattle.columns_run.specs.Ends.{cell_size, EndsCell, EndsPass}
 use Rattle.columns_run.specs.Rows.{line_feed, stripped, cell_parts}
 use Rattle.columns_run.specs.Styled.{AddsCell, part_between}
 use Rattle.columns_run.specs.declared.styled_rows.StyledCells.{StyledCells}
@@ -65,7 +65,7 @@ module _ (text rest : List ℕ) (style : Attributes) (end : List ℕ) (end_style
   begins-part = (joined (through_place (cell_size rest) (pieces rest)), cell-slice rest style end end_style so_far.walked.ends)
 
   -- what is shown takes a column a byte, where it is printable
-  takes-columns : (size : ℕ) (printable : Bool) → Passes rest end size printable → IsTrue printable → measure (chars (stripped (part_between rest style end end_style))) ≡ size
+  takes-columns : (size : ℕ) (printable : Bool) → EndsPass rest end size printable → IsTrue printable → measure (chars (stripped (part_between rest style end end_style))) ≡ size
   takes-columns size printable passes =
       let known = so_far.walked.known in
       measure-passed rest end style end_style size printable

@@ -1,6 +1,6 @@
 use Rattle.std.proofs.Common.{◌≡◌, ◌+◌, length, string_bytes, sum}
 use Rattle.ansi_scan.specs.Sequences.{IsWhole}
-use Rattle.columns_run.specs.Ends.{Passes}
+use Rattle.columns_run.specs.Ends.{EndsPass}
 use Rattle.columns_run.proofs.Gathers.{Gathered, parts_in}
 use Rattle.columns_run.proofs.Walks.{Walked}
 use Rattle.columns_run.proofs.styled_rows.styled_cells.Given as goal
@@ -11,7 +11,7 @@ invariant-loop-alloc l = record {
   gathered : Gathered (string_bytes l.found.text) l.found.rows.ends;
   row : sum l.found.rows.counts + l.found.rows.begun ≡ length l.found.rows.ends;
   whole : IsWhole l.place.rest.now → IsWhole l.text;
-  passes : Passes l.place.rest.now l.end.place.rest.now l.end.size l.end.printable;
+  passes : EndsPass l.place.rest.now l.end.place.rest.now l.end.size l.end.printable;
   closes : IsWhole l.end.place.rest.now → IsWhole l.place.rest.now;
 }
 

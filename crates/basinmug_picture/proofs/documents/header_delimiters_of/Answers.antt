@@ -5,7 +5,7 @@ use Rattle.tabled.specs.Tables.{state_of}
 use Rattle.basinmug_cells.specs.Fields.{field_text}
 use Rattle.basinmug_picture.proofs.Narrowed.{err-told}
 use Rattle.basinmug_picture.proofs.Widths.{only-memory}
-use Rattle.basinmug_picture.proofs.documents.rule_of.Goals as goal
+use Rattle.basinmug_picture.proofs.documents.header_delimiters_of.Goals as goal
 
 pub returns-in_err-widths-clause-refused : goal.returns-in_err-widths-clause-refused
 returns-in_err-widths-clause-refused c =
