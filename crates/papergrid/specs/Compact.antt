@@ -11,8 +11,8 @@ use Rattle.papergrid_picture.specs.Tables.{sizes_of}
 use Rattle.papergrid_fits.specs.Grids.{grid_text}
 
 -- compact settings without padding above and below texts
-abbrev pub flat : Compact → Compact
-flat compact = record compact {
+abbrev pub without_high_padding : Compact → Compact
+without_high_padding compact = record compact {
   padding = record compact.padding {
     top = record compact.padding.top { size = 0 };
     bottom = record compact.padding.bottom { size = 0 };
@@ -25,7 +25,7 @@ one_line row = 1
 
 -- a table of `columns` such columns and `rows` such rows: of a cell of several lines the first is seen
 abbrev pub lined : Compact → (ℕ → ℕ) → ℕ → ℕ → Frame
-lined compact width columns rows = frame_of (compact_look (flat compact)) (sizes_of width columns) (sizes_of one_line rows)
+lined compact width columns rows = frame_of (compact_look (without_high_padding compact)) (sizes_of width columns) (sizes_of one_line rows)
 
 module _ (compact : Compact) (width : ℕ → ℕ) (columns : ℕ) (rows : List (List (List ℕ))) where
   abbrev pub compact_frame : Frame
@@ -33,7 +33,7 @@ module _ (compact : Compact) (width : ℕ → ℕ) (columns : ℕ) (rows : List 
 
   -- its text
   abbrev pub compact_text : (Position → Option Color) → List ℕ
-  compact_text colors = grid_text (compact_look (flat compact)) width one_line colors columns rows
+  compact_text colors = grid_text (compact_look (without_high_padding compact)) width one_line colors columns rows
 
   -- whether it fits: range and room, in this order. It has no spans, which are good, so `Spans` is no answer
   abbrev pub IsCompactAnswer : Result (Unit {0}) Fault → Type 0

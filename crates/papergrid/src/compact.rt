@@ -6,7 +6,7 @@ ghost use Rattle.grid_config.specs.Looks.{compact_look};
 ghost use Rattle.grid_config.specs.Settings.{StartsWith, compact_start};
 ghost use Rattle.papergrid_picture.specs.Fitting.{FitsAnswer};
 ghost use Rattle.papergrid_picture.specs.Tables.{sizes_of, table_text};
-ghost use Rattle.papergrid.specs.Compact.{flat, lined, one_line};
+ghost use Rattle.papergrid.specs.Compact.{without_high_padding, lined, one_line};
 
 use crate::printing::print_fitting;
 use crate::read::read;
@@ -127,13 +127,13 @@ fn print_lines<R: PeekableRecords, D: Dimension, C: Colors>(
     out: &mut String,
 ) -> Result<(), Fault>
     ensures text { OnOk result (string_bytes out.new ≡ string_bytes out.old
-        ++ table_text (compact_look (flat (compact_of cfg.now))) (R.rows records.now) (C.color colors.now) (sizes_of (D.width dims.now) columns) (sizes_of one_line rows)) }
+        ++ table_text (compact_look (without_high_padding (compact_of cfg.now))) (R.rows records.now) (C.color colors.now) (sizes_of (D.width dims.now) columns) (sizes_of one_line rows)) }
     ensures fits { IfOk result (λ done. FitsAnswer (lined (compact_of cfg.now) (D.width dims.now) columns rows) (R.rows records.now) (Unit {0}) (Ok done)) }
     ensures refused { OnErr result (string_bytes out.new ≡ string_bytes out.old) }
     ensures fault { IfErr result (λ fault. (fault ≡ Memory)
         ⊎ FitsAnswer (lined (compact_of cfg.now) (D.width dims.now) columns rows) (R.rows records.now) (Unit {0}) (Err fault)) }
 {
-    let settings = flat_settings(alloc, cfg)?;
+    let settings = settings_without_high_padding(alloc, cfg)?;
     let sizes = OneLine(dims);
     let outcome = print_fitting(
         alloc, records, &settings, &sizes, colors, rows, columns, out,
@@ -143,17 +143,20 @@ fn print_lines<R: PeekableRecords, D: Dimension, C: Colors>(
 }
 
 // The settings without padding above and below texts.
-fn flat_settings(alloc: Global, cfg: &CompactConfig) -> Result<SpannedConfig, AllocError>
-    ensures { IfOk result (StartsWith (compact_start (flat (compact_of cfg.now)))) }
+fn settings_without_high_padding(
+    alloc: Global,
+    cfg: &CompactConfig,
+) -> Result<SpannedConfig, AllocError>
+    ensures { IfOk result (StartsWith (compact_start (without_high_padding (compact_of cfg.now)))) }
 {
     let padding = *cfg.get_padding();
-    let flat = Sides::new(
+    let padding = Sides::new(
         padding.left,
         padding.right,
         Indent::new(0, padding.top.fill),
         Indent::new(0, padding.bottom.fill),
     );
-    SpannedConfig::from_compact_config(alloc, cfg.set_padding(flat))
+    SpannedConfig::from_compact_config(alloc, cfg.set_padding(padding))
 }
 
 // Sizes with one line in each row.

@@ -3,7 +3,7 @@ ghost use Rattle.std.specs.Prelude.{◌≡◌, ◌↔◌, [], ◌∷◌, Some, c
 ghost use Rattle.grid_config.specs.Compact.{Compact, compact_of};
 ghost use Rattle.grid_config.specs.Looks.{compact_look};
 ghost use Rattle.grid_config.specs.declared.compact.CompactConfig.{CompactConfig as CompactSettings};
-ghost use Rattle.papergrid.specs.Compact.{flat};
+ghost use Rattle.papergrid.specs.Compact.{without_high_padding};
 ghost use Rattle.tabled_options.specs.Options.{margin_sides, padding_sides};
 ghost use Rattle.tabled_options.specs.Styles.{style_borders};
 ghost use Rattle.tabled_options.specs.declared.margin.Margin.{Margin as OneMargin};
@@ -50,7 +50,7 @@ pub fn worked_rows()
 /// What a table prints of its settings is seen by its options: it has their look, without padding above
 /// and below texts.
 pub fn options_see_what_is_printed()
-    ensures { (compact : Compact) → compact_look (flat compact) ≡ flat_look (compact_look compact) }
+    ensures { (compact : Compact) → compact_look (without_high_padding compact) ≡ flat_look (compact_look compact) }
 {}
 
 /// Each option of settings that are the same for all cells is the step that sets its own setting, and

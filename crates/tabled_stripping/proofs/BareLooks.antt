@@ -37,7 +37,7 @@ use Rattle.tabled_width.specs.Lists.{with_width_list}
 use Rattle.tabled_width_tables.specs.Rooms.{column_widths, least_widths}
 use Rattle.tabled_width_tables.specs.Steps.{Measured, Then}
 use Rattle.tabled_width_tables.specs.Tables.{Grown, Narrows, NarrowsTable, Shrunk, Where, Widens, WidensTable, drawn, has_cells, keeping, narrowed_state}
-use Rattle.tabled_stripping.specs.Stripping.{AreClear, AreShown, IsClear, colored_by, colors_after}
+use Rattle.tabled_stripping.specs.Stripping.{AreClear, AreShown, PutsInNoEscape, colored_by, colors_after}
 
 -- the look is bare, and cells have these colours
 abbrev pub BareWith : (Position → Option Color) → Outcome → Type 0
@@ -264,7 +264,7 @@ colored-bare : (s : State) → IsBare s.look → (at : Entity) (color : Color) (
 colored-bare s bare at color outcome is =
     subst (BareWith (covering at (Some color) s.colors)) is.2 (subst (λ (changed : Outcome). BareWith (covering at (Some color) s.colors) (settled (Some EveryCell) changed)) is.1 (bare, refl))
 
-pub step-bare : (setting : Setting) → IsClear setting → (s : State) → IsBare s.look → (outcome : Outcome) → setting_step setting s outcome → BareWith (colored_by s.colors setting) outcome
+pub step-bare : (setting : Setting) → PutsInNoEscape setting → (s : State) → IsBare s.look → (outcome : Outcome) → setting_step setting s outcome → BareWith (colored_by s.colors setting) outcome
 step-bare (Wrap width keep_words priority) clear s bare =
     settles-bare s (Some (OneRow 0)) (NarrowsBy (IsShrunkByChoice priority) (breaking keep_words) (width_of width)) (narrows-bare s bare (IsShrunkByChoice priority) (breaking keep_words) (measured_so (width_of width)))
 step-bare (CellWrap at width keep_words) clear s bare = texts-bare s bare at width (wrapping_wider keep_words)
@@ -323,7 +323,7 @@ runs-bare (setting ∷ settings) clear s last bare is =
 -- ---- colours
 
 -- a setting that puts in sequences alone leaves colours that are such
-setting-silent : (setting : Setting) → IsClear setting → (colors : Position → Option Color) → ShowNothing colors → ShowNothing (colored_by colors setting)
+setting-silent : (setting : Setting) → PutsInNoEscape setting → (colors : Position → Option Color) → ShowNothing colors → ShowNothing (colored_by colors setting)
 setting-silent (Wrap width keep_words priority) clear colors silent = silent
 setting-silent (CellWrap at width keep_words) clear colors silent = silent
 setting-silent (Truncate width suffix limit multiline try_color priority) clear colors silent = silent

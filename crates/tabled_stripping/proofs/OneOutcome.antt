@@ -35,7 +35,7 @@ use Rattle.tabled_width.specs.Breaking.{breaking, justifying, wrapping_wider}
 use Rattle.tabled_width.specs.Cutting.{truncating}
 use Rattle.tabled_width.specs.Filling.{filling}
 use Rattle.tabled_width.specs.Lists.{with_width_list}
-use Rattle.tabled_stripping.specs.Stripping.{IsNamed}
+use Rattle.tabled_stripping.specs.Stripping.{IsOfTable}
 use Rattle.tabled_width_tables.specs.Rooms.{column_widths, least_widths}
 use Rattle.tabled_width_tables.specs.Steps.{Measured, Then}
 use Rattle.tabled_width_tables.specs.Tables.{Drawn, Grown, Narrows, NarrowsTable, Shrunk, Where, Widens, WidensTable, drawn, has_cells, keeping, narrowed_state}
@@ -238,14 +238,14 @@ one-run (setting ∷ settings) s a b is bs =
 
 -- ---- refusals, memory aside
 
-named : (step : Outcome → Type 0) (fault : Fault) → IsNamed fault → MayRefuse fault step → step (Err fault)
+named : (step : Outcome → Type 0) (fault : Fault) → IsOfTable fault → MayRefuse fault step → step (Err fault)
 named step Memory not_memory is = absurd not_memory
 named step Range not_memory is = is
 named step Spans not_memory is = is
 named step (Room row column) not_memory is = is
 
 -- a list that runs to its end is refused nowhere
-pub no-refusal : (settings : List Setting) (s last new : State) (index : ℕ) (fault : Fault) → IsNamed fault → Runs settings s last → Runs (take index settings) s new → index < length settings
+pub no-refusal : (settings : List Setting) (s last new : State) (index : ℕ) (fault : Fault) → IsOfTable fault → Runs settings s last → Runs (take index settings) s new → index < length settings
     → IfSome (slice_get settings index) (λ setting. MayRefuse fault (setting_step setting new)) → ⊥
 no-refusal [] s last new index fault not_memory runs before inside is = omega (arith, inside)
 no-refusal (setting ∷ settings) s last new zero fault not_memory runs before inside is =
@@ -257,13 +257,13 @@ no-refusal (setting ∷ settings) s last new (suc index) fault not_memory runs b
     no-refusal settings runs.0 last new index fault not_memory runs.2 (subst (λ (s : State). Runs (take index settings) s new) next before.2) (omega (arith, inside)) is
 
 -- two refusals of one list are of one setting, and of one name
-module _ (a b : State) (fault other : Fault) (named_fault : IsNamed fault) (named_other : IsNamed other) where
+module _ (a b : State) (fault other : Fault) (named_fault : IsOfTable fault) (named_other : IsOfTable other) where
   same_fault : (setting : Setting) (s : State) → MayRefuse fault (setting_step setting s) → MayRefuse other (setting_step setting s) → fault ≡ other
   same_fault setting s x y =
       let e = one-outcome setting s (Err fault) (Err other) (named (setting_step setting s) fault named_fault x) (named (setting_step setting s) other named_other y) in
       cc e
 
-  not_both : (setting : Setting) (s next : State) (fault : Fault) → IsNamed fault → setting_step setting s (Ok next) → MayRefuse fault (setting_step setting s) → ⊥
+  not_both : (setting : Setting) (s next : State) (fault : Fault) → IsOfTable fault → setting_step setting s (Ok next) → MayRefuse fault (setting_step setting s) → ⊥
   not_both setting s next fault is_named step is = let no = one-outcome setting s (Ok next) (Err fault) step (named (setting_step setting s) fault is_named is) in cc no
 
   walk : (settings : List Setting) (s : State) (i j : ℕ) → i < length settings → j < length settings → Runs (take i settings) s a → Runs (take j settings) s b

@@ -19,7 +19,7 @@ use Rattle.tabled_width.specs.Breaking.{breaking, justifying, wrapping_wider}
 use Rattle.tabled_width.specs.Cutting.{truncating}
 use Rattle.tabled_width.specs.Filling.{filling}
 use Rattle.tabled_stripping.proofs.TextsByPlace.{row_by, rows_from, state_by, stripped_but}
-use Rattle.tabled_stripping.specs.Stripping.{AreClear, IsClear, stripped_state}
+use Rattle.tabled_stripping.specs.Stripping.{AreClear, PutsInNoEscape, stripped_state}
 use Rattle.tabled_stripping.proofs.MappedRows.{text-same}
 use Rattle.tabled_stripping.proofs.OneOutcome.{one-run}
 use Rattle.tabled_stripping.proofs.PassingSettings.{AllPass, TextsPass, refused-pass, runs-pass}
@@ -29,7 +29,7 @@ module _ (keep : Position → Bool) where
   abbrev f : Position → List ℕ → List ℕ
   f = stripped_but keep
 
-  clear-passes : (setting : Setting) → IsClear setting → TextsPass f (blind-stripped keep) setting
+  clear-passes : (setting : Setting) → PutsInNoEscape setting → TextsPass f (blind-stripped keep) setting
   clear-passes (Wrap width keep_words priority) clear = λ n. commutes-stripped keep (λ p. breaking keep_words n) (λ p. breaking-passes keep_words n)
   clear-passes (CellWrap at width keep_words) clear = λ n. commutes-stripped keep (λ p. wrapping_wider keep_words n) (λ p. wrapping-passes keep_words n)
   clear-passes (Truncate width suffix limit multiline try_color priority) clear =

@@ -55,19 +55,19 @@ AreShown b =
     × (IfSome b.left IsShown × IfSome b.vertical IsShown × IfSome b.right IsShown)
 
 -- the setting puts in no character that begins a sequence, or a colour that is sequences alone
-abbrev pub IsClear : Setting → Type 0
-IsClear (Truncate width suffix limit multiline try_color priority) = IsPlainText (string_bytes suffix) × LimitIsShown limit
-IsClear (CellTruncate at width suffix limit multiline try_color) = IsPlainText (string_bytes suffix) × LimitIsShown limit
-IsClear (CellMinWidth at width fill) = IsShown fill
-IsClear (Justification at fill) = IsShown fill
-IsClear (Padding at value) = OnEachSide (λ indent. IsShown indent.fill) value
-IsClear (Margin value) = OnEachSide (λ indent. IsShown indent.fill) value
-IsClear (Borders value) = AreShown value
-IsClear (Colored at color) = ShowsNothing color
-IsClear _ = Unit {0}
+abbrev pub PutsInNoEscape : Setting → Type 0
+PutsInNoEscape (Truncate width suffix limit multiline try_color priority) = IsPlainText (string_bytes suffix) × LimitIsShown limit
+PutsInNoEscape (CellTruncate at width suffix limit multiline try_color) = IsPlainText (string_bytes suffix) × LimitIsShown limit
+PutsInNoEscape (CellMinWidth at width fill) = IsShown fill
+PutsInNoEscape (Justification at fill) = IsShown fill
+PutsInNoEscape (Padding at value) = OnEachSide (λ indent. IsShown indent.fill) value
+PutsInNoEscape (Margin value) = OnEachSide (λ indent. IsShown indent.fill) value
+PutsInNoEscape (Borders value) = AreShown value
+PutsInNoEscape (Colored at color) = ShowsNothing color
+PutsInNoEscape _ = Unit {0}
 
 abbrev pub AreClear : List Setting → Type 0
-AreClear settings = AllByRecursion IsClear settings
+AreClear settings = AllByRecursion PutsInNoEscape settings
 
 -- the colours of cells behind a setting that is accepted
 abbrev pub colored_by : (Position → Option Color) → Setting → Position → Option Color
@@ -81,8 +81,8 @@ colors_after settings colors = fold colored_by colors settings
 -- ---- refusals
 
 -- a refusal that is no want of memory
-abbrev pub IsNamed : Fault → Type 0
-IsNamed Memory = ⊥
-IsNamed Range = Unit {0}
-IsNamed Spans = Unit {0}
-IsNamed (Room row column) = Unit {0}
+abbrev pub IsOfTable : Fault → Type 0
+IsOfTable Memory = ⊥
+IsOfTable Range = Unit {0}
+IsOfTable Spans = Unit {0}
+IsOfTable (Room row column) = Unit {0}

@@ -13,7 +13,7 @@ ghost use Rattle.tabled_list.specs.Settings.{setting_step};
 ghost use Rattle.tabled_list.specs.declared.setting.Setting.{Setting};
 ghost use Rattle.tabled_steps.specs.States.{Outcome, State};
 ghost use Rattle.tabled_stripping.specs.Printing.{IsFit, drawn_heights, drawn_widths, printed};
-ghost use Rattle.tabled_stripping.specs.Stripping.{AreClear, IsNamed, cell_line_bytes, colors_after, drawn_grid, stripped_state, uncolored_state};
+ghost use Rattle.tabled_stripping.specs.Stripping.{AreClear, IsOfTable, cell_line_bytes, colors_after, drawn_grid, stripped_state, uncolored_state};
 ghost use Rattle.tabled_stripping.specs.Totals.{drawn_height, drawn_width};
 
 /// A setting makes one thing of a table, and so does a list of settings: it leads to one table, or is refused
@@ -21,9 +21,9 @@ ghost use Rattle.tabled_stripping.specs.Totals.{drawn_height, drawn_width};
 pub fn lists_lead_to_one_table()
     ensures step { (setting : Setting) (s : State) (a b : Outcome) → setting_step setting s a → setting_step setting s b → a ≡ b }
     ensures run { (settings : List Setting) (s a b : State) → Runs settings s a → Runs settings s b → a ≡ b }
-    ensures refused { (settings : List Setting) (s a b : State) (i j : ℕ) (fault other : Refusal) → IsNamed fault → IsNamed other →
+    ensures refused { (settings : List Setting) (s a b : State) (i j : ℕ) (fault other : Refusal) → IsOfTable fault → IsOfTable other →
         RefusedAt settings s a i fault → RefusedAt settings s b j other → (i ≡ j) × (fault ≡ other) }
-    ensures not_both { (settings : List Setting) (s a b : State) (i : ℕ) (fault : Refusal) → IsNamed fault →
+    ensures not_both { (settings : List Setting) (s a b : State) (i : ℕ) (fault : Refusal) → IsOfTable fault →
         Runs settings s a → ¬ (RefusedAt settings s b i fault) }
 {}
 
