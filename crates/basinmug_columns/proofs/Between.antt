@@ -12,7 +12,7 @@ use Rattle.tabled_size_priority.specs.Laws.Runs.{floors-room}
 use Rattle.tabled_size_priority.specs.Shrinking.{IsOfForm, StaysBetween, cut_to_level, floor_of, floors as least_widths, given_in_order, given_in_turns, shrunk_in_order, shrunk_in_turns, shrunk_sum, shrunk_to_level}
 use Rattle.tabled_size_priority.specs.declared.choice.Choice.{Choice}
 use Rattle.tabled_size_priority.specs.declared.choice.Choice.TheVariants.{None, MinLeft, MinRight, MaxLeft, MaxRight, Left, Right}
-use Rattle.basinmug_columns.specs.Rooms.{AreRooms, first_floor, first_floors, floors, least_room}
+use Rattle.basinmug_columns.specs.Rooms.{AreShrunkWidths, first_floor, first_floors, floors, least_room}
 use Rattle.basinmug_columns.proofs.Sums.{first_floors-length, floors-length, shrunk-sum}
 
 -- ---- one column
@@ -89,7 +89,7 @@ first-floor-at numeric widths i inside =
 
 -- ---- the two steps
 
-module _ (priority : Choice) (numeric : List Bool) (by : ℕ) (widths rooms : List ℕ) (are : AreRooms priority numeric by widths rooms) where
+module _ (priority : Choice) (numeric : List Bool) (by : ℕ) (widths rooms : List ℕ) (are : AreShrunkWidths priority numeric by widths rooms) where
   step-one : Between (first_floors numeric widths) widths are.first
   step-one = choice-all priority (first_floors numeric widths) by widths are.first are.numbers_stay
 

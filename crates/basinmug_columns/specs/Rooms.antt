@@ -22,7 +22,7 @@ first_floors numeric widths = map (λ (placed : ℕ × ℕ). first_floor numeric
 
 -- widths that are to be so many columns less together: first the columns give that aren't of numbers, as the priority
 -- says, and where that is not enough all of them
-pub record AreRooms (priority : Choice) (numeric : List Bool) (by : ℕ) (widths rooms : List ℕ) : Type 0 where
+pub record AreShrunkWidths (priority : Choice) (numeric : List Bool) (by : ℕ) (widths rooms : List ℕ) : Type 0 where
   pub first : List ℕ
   pub numbers_stay : IsShrunkByChoice priority (first_floors numeric widths) by widths first
   pub all_give : IsShrunkByChoice priority (floors widths) (by - (sum widths - sum first)) first rooms

@@ -2,43 +2,43 @@
 ghost use Rattle.std.specs.Prelude.{◌≡◌, ◌≤◌, ◌+◌, ◌-◌, ℕ, Bool, List, EachIndex, [], ◌∷◌, false, true, length, max, min, slice_index, slice_index_or, sum};
 ghost use Rattle.tabled_size_priority.specs.declared.choice.Choice.{Choice as OneChoice};
 ghost use Rattle.tabled_size_priority.specs.declared.choice.Choice.TheVariants.{None as InTurns, MaxRight, MinLeft, Left};
-ghost use Rattle.basinmug_columns.specs.Rooms.{AreRooms, first_floors, floors, least_room};
+ghost use Rattle.basinmug_columns.specs.Rooms.{AreShrunkWidths, first_floors, floors, least_room};
 
 /// Rooms that were worked out by hand: the widest first, of equal ones the right one; a column of numbers gives
 /// nothing where another can; it gives what is lacking where that one has given all that it can; all give down to
 /// two columns of text with their paddings, and a narrower one keeps its width; the narrowest gives all first; nothing
 /// is asked; no columns.
 pub fn rooms_by_hand()
-    ensures widest { AreRooms MaxRight [] 6 (12 ∷ 9 ∷ 2 ∷ []) (8 ∷ 7 ∷ 2 ∷ []) }
-    ensures numbers_stay { AreRooms MaxRight (false ∷ true ∷ []) 3 (9 ∷ 12 ∷ []) (6 ∷ 12 ∷ []) }
-    ensures numbers_give { AreRooms Left (true ∷ []) 5 (10 ∷ 8 ∷ 3 ∷ []) (9 ∷ 4 ∷ 3 ∷ []) }
-    ensures too_much { AreRooms InTurns (true ∷ []) 100 (9 ∷ 3 ∷ []) (4 ∷ 3 ∷ []) }
-    ensures narrowest { AreRooms MinLeft [] 4 (9 ∷ 7 ∷ []) (8 ∷ 4 ∷ []) }
-    ensures nothing_asked { AreRooms MaxRight (true ∷ []) 0 (9 ∷ 2 ∷ []) (9 ∷ 2 ∷ []) }
-    ensures no_columns { AreRooms MaxRight [] 7 [] [] }
+    ensures widest { AreShrunkWidths MaxRight [] 6 (12 ∷ 9 ∷ 2 ∷ []) (8 ∷ 7 ∷ 2 ∷ []) }
+    ensures numbers_stay { AreShrunkWidths MaxRight (false ∷ true ∷ []) 3 (9 ∷ 12 ∷ []) (6 ∷ 12 ∷ []) }
+    ensures numbers_give { AreShrunkWidths Left (true ∷ []) 5 (10 ∷ 8 ∷ 3 ∷ []) (9 ∷ 4 ∷ 3 ∷ []) }
+    ensures too_much { AreShrunkWidths InTurns (true ∷ []) 100 (9 ∷ 3 ∷ []) (4 ∷ 3 ∷ []) }
+    ensures narrowest { AreShrunkWidths MinLeft [] 4 (9 ∷ 7 ∷ []) (8 ∷ 4 ∷ []) }
+    ensures nothing_asked { AreShrunkWidths MaxRight (true ∷ []) 0 (9 ∷ 2 ∷ []) (9 ∷ 2 ∷ []) }
+    ensures no_columns { AreShrunkWidths MaxRight [] 7 [] [] }
 {}
 
 /// Each column has a room. It is no more than the width of the column, and no less than two columns of text with a
 /// padding at each side, or than the width where that is less.
 pub fn rooms_stay_between()
     ensures each { (priority : OneChoice) (numeric : List Bool) (by : ℕ) (widths rooms : List ℕ) →
-        AreRooms priority numeric by widths rooms → length rooms ≡ length widths }
+        AreShrunkWidths priority numeric by widths rooms → length rooms ≡ length widths }
     ensures least { (priority : OneChoice) (numeric : List Bool) (by : ℕ) (widths rooms : List ℕ) →
-        AreRooms priority numeric by widths rooms → EachIndex widths (λ column. min (slice_index widths column) least_room ≤ slice_index rooms column) }
+        AreShrunkWidths priority numeric by widths rooms → EachIndex widths (λ column. min (slice_index widths column) least_room ≤ slice_index rooms column) }
     ensures most { (priority : OneChoice) (numeric : List Bool) (by : ℕ) (widths rooms : List ℕ) →
-        AreRooms priority numeric by widths rooms → EachIndex widths (λ column. slice_index rooms column ≤ slice_index widths column) }
+        AreShrunkWidths priority numeric by widths rooms → EachIndex widths (λ column. slice_index rooms column ≤ slice_index widths column) }
 {}
 
 /// The rooms are together what was asked less than the widths, or the sum of what the columns keep in any case,
 /// where that is more.
 pub fn rooms_give_what_is_asked()
     ensures { (priority : OneChoice) (numeric : List Bool) (by : ℕ) (widths rooms : List ℕ) →
-        AreRooms priority numeric by widths rooms → sum rooms ≡ max (sum widths - by) (sum (floors widths)) }
+        AreShrunkWidths priority numeric by widths rooms → sum rooms ≡ max (sum widths - by) (sum (floors widths)) }
 {}
 
 /// Where the other columns can give what is asked, each column of numbers keeps its width.
 pub fn numbers_stay_whole()
     ensures { (priority : OneChoice) (numeric : List Bool) (by : ℕ) (widths rooms : List ℕ) →
-        AreRooms priority numeric by widths rooms → by + sum (first_floors numeric widths) ≤ sum widths →
+        AreShrunkWidths priority numeric by widths rooms → by + sum (first_floors numeric widths) ≤ sum widths →
         EachIndex widths (λ column. slice_index_or numeric column false ≡ true → slice_index rooms column ≡ slice_index widths column) }
 {}

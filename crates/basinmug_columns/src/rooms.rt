@@ -1,6 +1,6 @@
 //! The rooms of columns whose table is to be narrower.
 ghost use Rattle.std.specs.Prelude.{◌≡◌, ◌<◌, ◌^◌, IfOk, OnErr, OnOk, false, slice_index_or, sum};
-ghost use Rattle.basinmug_columns.specs.Rooms.{AreRooms, first_floor, first_floors, floors};
+ghost use Rattle.basinmug_columns.specs.Rooms.{AreShrunkWidths, first_floor, first_floors, floors};
 
 use std::alloc::{AllocError, Global};
 use tabled_size_priority::Choice;
@@ -19,7 +19,7 @@ pub fn shrink_columns(
     priority: Choice,
 ) -> Result<(), AllocError>
     requires { sum widths.old < 2 ^ 64 }
-    ensures rooms { OnOk result (AreRooms priority numeric.now by widths.old widths.new) }
+    ensures rooms { OnOk result (AreShrunkWidths priority numeric.now by widths.old widths.new) }
     ensures kept { OnErr result (widths.new ≡ widths.old) }
 {
     let first_floors = first_floors(alloc, widths, numeric)?;

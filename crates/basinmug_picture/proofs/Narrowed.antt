@@ -10,7 +10,7 @@ use Rattle.tabled.specs.Totals.{drawn_width}
 use Rattle.tabled_list.specs.Lists.{Runs}
 use Rattle.tabled_size_priority.specs.declared.choice.Choice.{Choice}
 use Rattle.tabled_steps.specs.States.{State}
-use Rattle.basinmug_columns.specs.Rooms.{AreRooms}
+use Rattle.basinmug_columns.specs.Rooms.{AreShrunkWidths}
 use Rattle.basinmug_picture.specs.Fitting.{trims, with_fitted_texts}
 use Rattle.basinmug_picture.specs.Narrowing.{AreAsked, IsNotNarrowed, IsRefusedIn, FitsTexts}
 
@@ -34,10 +34,10 @@ wider total asked more = grind (arith, nat_tests)
 
 module _ (truncate : Bool) (priority : Choice) (numeric : List Bool) (asked total : ℕ) (old : State) (is_total : total ≡ drawn_width old) where
   -- rooms as they are asked, by what was lent of the list of widths and written back
-  pub are-asked : (lent shrunk rooms : List ℕ) → lent ≡ drawn_widths old → AreRooms priority numeric (total - asked) lent shrunk → rooms ≡ shrunk → AreAsked truncate priority numeric asked old rooms
+  pub are-asked : (lent shrunk rooms : List ℕ) → lent ≡ drawn_widths old → AreShrunkWidths priority numeric (total - asked) lent shrunk → rooms ≡ shrunk → AreAsked truncate priority numeric asked old rooms
   are-asked lent shrunk rooms are_lent are_shrunk same =
-      subst (λ (n : ℕ). AreRooms priority numeric (n - asked) (drawn_widths old) rooms) is_total
-      (subst (λ (xs : List ℕ). AreRooms priority numeric (total - asked) xs rooms) are_lent (subst (λ (xs : List ℕ). AreRooms priority numeric (total - asked) lent xs) (sym same) are_shrunk))
+      subst (λ (n : ℕ). AreShrunkWidths priority numeric (n - asked) (drawn_widths old) rooms) is_total
+      (subst (λ (xs : List ℕ). AreShrunkWidths priority numeric (total - asked) xs rooms) are_lent (subst (λ (xs : List ℕ). AreShrunkWidths priority numeric (total - asked) lent xs) (sym same) are_shrunk))
 
   -- what holds of a table whose texts were fitted to widths and rooms
   pub of-widths : (P : List ℕ → Type 0) (widths : List ℕ) → widths ≡ drawn_widths old → P widths → P (drawn_widths old)

@@ -9,7 +9,7 @@ use Rattle.tabled_size_priority.specs.declared.choice.Choice.{Choice}
 use Rattle.tabled_steps.specs.States.{State}
 use Rattle.tabled.specs.Printing.{drawn_widths}
 use Rattle.tabled.specs.Totals.{drawn_width}
-use Rattle.basinmug_columns.specs.Rooms.{AreRooms}
+use Rattle.basinmug_columns.specs.Rooms.{AreShrunkWidths}
 use Rattle.basinmug_picture.specs.Fitting.{trims, with_fitted_texts}
 
 -- settings are refused at one of them
@@ -19,7 +19,7 @@ IsRefusedIn settings old fault = (at : State) × (index : ℕ) × RefusedAt sett
 module _ (truncate : Bool) (priority : Choice) (numeric : List Bool) (asked : ℕ) (old : State) where
   -- rooms for the columns of a table that is wider than asked
   abbrev pub AreAsked : List ℕ → Type 0
-  AreAsked = AreRooms priority numeric (drawn_width old - asked) (drawn_widths old)
+  AreAsked = AreShrunkWidths priority numeric (drawn_width old - asked) (drawn_widths old)
 
   -- a table that is no wider than asked stays as it is; the columns of a wider one get such rooms, their texts are fitted, and
   -- the lines of those that were broken are trimmed

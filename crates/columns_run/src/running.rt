@@ -37,7 +37,7 @@ pub fn run<R: Read, W: Write>(
     ensures { IsRun R.remaining W.contents (wanted_of options.now) result reader.old reader.new writer.old writer.new }
 {
     let bytes = read_all(alloc, reader, READ_LIMIT)?;
-    write_table(alloc, options, &bytes, writer)
+    write_input(alloc, options, &bytes, writer)
 }
 
 /// What `run` does with options of this style that have no width and no colours.
@@ -50,11 +50,11 @@ pub fn run_streamed<R: Read, W: Write>(
     requires { IsPlain (compact_of style.now) }
     ensures { IsRun R.remaining W.contents (without_width (compact_of style.now)) result reader.old reader.new writer.old writer.new }
 {
-    run(alloc, &without_width(alloc, style), reader, writer)
+    run(alloc, &streamed_options(alloc, style), reader, writer)
 }
 
 // The options of a table in this style that is as wide as its text. Does not allocate.
-fn without_width(alloc: Global, style: &CompactConfig) -> Options
+fn streamed_options(alloc: Global, style: &CompactConfig) -> Options
     ensures wanted { wanted_of result ≡ without_width (compact_of style.now) }
     ensures close { AllClose result.colors.items }
 {
@@ -69,7 +69,7 @@ fn without_width(alloc: Global, style: &CompactConfig) -> Options
 }
 
 // Writes the table of an input, or answers why it has none.
-fn write_table<W: Write>(
+fn write_input<W: Write>(
     alloc: Global,
     options: &Options,
     bytes: &[u8],

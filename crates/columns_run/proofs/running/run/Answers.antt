@@ -32,20 +32,20 @@ pub returns : goal.returns
 returns g c =
     let wanted = wanted_of c.args.options.now in
     let old = g.W.Write.contents (inner_of c.args.writer.now) in
-    let new = g.W.Write.contents (inner_of c.write_table.new.writer) in
-    let result = c.write_table.result in
+    let new = g.W.Write.contents (inner_of c.write_input.new.writer) in
+    let result = c.write_input.result in
     let bytes = c.in_ok-bytes.bytes.items in
     let before = g.R.Read.remaining (inner_of c.args.reader.now) in
     let after = g.R.Read.remaining (inner_of c.read_all.new.reader) in
-    let Answered : List ℕ → Type 0 = λ input. MayAnswer wanted input result × Writes (output_of wanted input) result old new × LeavesAlone wanted input c.args.writer.now c.write_table.new.writer in
+    let Answered : List ℕ → Type 0 = λ input. MayAnswer wanted input result × Writes (output_of wanted input) result old new × LeavesAlone wanted input c.args.writer.now c.write_input.new.writer in
     let answered : Answered bytes = subst Answered c.deref.ensures.value
-    (c.write_table.ensures.answers, c.write_table.ensures.written.writes, c.write_table.ensures.alone) in
-    let never_read = no-read result c.write_table.ensures.faults in
-    let never_long = no-long-read result c.write_table.ensures.faults in
+    (c.write_input.ensures.answers, c.write_input.ensures.written.writes, c.write_input.ensures.alone) in
+    let never_read = no-read result c.write_input.ensures.faults in
+    let never_long = no-long-read result c.write_input.ensures.faults in
     record {
-      known_input = known wanted c.requires.plain c.requires.close result old new c.args.writer.now c.write_table.new.writer before
+      known_input = known wanted c.requires.plain c.requires.close result old new c.args.writer.now c.write_input.new.writer before
           (all-read before after bytes Answered c.in_ok-bytes.ensures.bytes c.in_ok-bytes.ensures.end answered);
-      some_input = some wanted c.requires.plain c.requires.close result old new c.args.writer.now c.write_table.new.writer before after
+      some_input = some wanted c.requires.plain c.requires.close result old new c.args.writer.now c.write_input.new.writer before after
           (bytes, c.in_ok-bytes.ensures.bytes, answered);
       at_end = search rules;
       told_end = search rules;
