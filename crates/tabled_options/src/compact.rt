@@ -1,11 +1,10 @@
 //! Options of tables whose cells are all alike.
-ghost use Rattle.std.specs.Prelude.{◌≡◌, IsOk, None, Some};
+ghost use Rattle.std.specs.Prelude.{◌≡◌, IsOk, Some};
 ghost use Rattle.grid_config_values.specs.declared.entity.Entity.TheVariants.{Global as EveryCell};
 ghost use Rattle.tabled_options.specs.Options.{margin_sides, padding_sides};
 ghost use Rattle.tabled_options.specs.Styles.{style_borders};
 ghost use Rattle.tabled_steps.specs.Looks.{with_borders, with_margin, with_padding};
-ghost use Rattle.tabled_steps.specs.States.{Steps, looking, state_with};
-ghost use Rattle.grid_config.specs.Looks.{compact_look};
+ghost use Rattle.tabled_steps.specs.States.{StepsTo, compact_state, looking};
 ghost use Rattle.grid_config.specs.Compact.{compact_of};
 
 use crate::margin::Margin;
@@ -30,9 +29,8 @@ impl<R: RecordTexts, D: KeptSizes> TableOption<R, CompactConfig, D> for Margin {
         dims: &mut D,
     ) -> Result<(), Fault>
         ensures answers { IsOk result }
-        ensures step { Steps (λ state outcome. looking (with_margin (margin_sides self)) state ≡ outcome) result
-            (state_with (R.rows records.old) (compact_look (compact_of cfg.old)) (λ _. None) (D.sizes dims.old))
-            (state_with (R.rows records.new) (compact_look (compact_of cfg.new)) (λ _. None) (D.sizes dims.new)) }
+        ensures step { StepsTo (looking (with_margin (margin_sides self))) result
+            (compact_state (R.rows records.old) (compact_of cfg.old) (D.sizes dims.old)) (compact_state (R.rows records.new) (compact_of cfg.new) (D.sizes dims.new)) }
     {
         *cfg = cfg.set_margin(Sides::from(self));
         Ok(())
@@ -57,9 +55,8 @@ impl<R: RecordTexts, D: KeptSizes> TableOption<R, CompactConfig, D> for Padding 
         dims: &mut D,
     ) -> Result<(), Fault>
         ensures answers { IsOk result }
-        ensures step { Steps (λ state outcome. looking (with_padding EveryCell (padding_sides self)) state ≡ outcome) result
-            (state_with (R.rows records.old) (compact_look (compact_of cfg.old)) (λ _. None) (D.sizes dims.old))
-            (state_with (R.rows records.new) (compact_look (compact_of cfg.new)) (λ _. None) (D.sizes dims.new)) }
+        ensures step { StepsTo (looking (with_padding EveryCell (padding_sides self))) result
+            (compact_state (R.rows records.old) (compact_of cfg.old) (D.sizes dims.old)) (compact_state (R.rows records.new) (compact_of cfg.new) (D.sizes dims.new)) }
     {
         *cfg = cfg.set_padding(Sides::from(self));
         Ok(())
@@ -84,9 +81,8 @@ impl<R: RecordTexts, D: KeptSizes> TableOption<R, CompactConfig, D> for Style {
         dims: &mut D,
     ) -> Result<(), Fault>
         ensures answers { IsOk result }
-        ensures step { Steps (λ state outcome. looking (with_borders (style_borders self)) state ≡ outcome) result
-            (state_with (R.rows records.old) (compact_look (compact_of cfg.old)) (λ _. None) (D.sizes dims.old))
-            (state_with (R.rows records.new) (compact_look (compact_of cfg.new)) (λ _. None) (D.sizes dims.new)) }
+        ensures step { StepsTo (looking (with_borders (style_borders self))) result
+            (compact_state (R.rows records.old) (compact_of cfg.old) (D.sizes dims.old)) (compact_state (R.rows records.new) (compact_of cfg.new) (D.sizes dims.new)) }
     {
         *cfg = cfg.set_borders(self.get_borders());
         Ok(())

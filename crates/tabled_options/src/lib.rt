@@ -9,6 +9,7 @@ pub mod laws;
 mod margin;
 pub mod object;
 mod padding;
+mod sides;
 mod span;
 mod style;
 

@@ -5,9 +5,7 @@ ghost use Rattle.grid_config_values.specs.Glyphs.{no_borders};
 ghost use Rattle.tabled_glyphs.specs.Glyphs.{ascii, extended, modern};
 ghost use Rattle.tabled_options.specs.Styles.{style_borders};
 ghost use Rattle.tabled_steps.specs.Looks.{with_borders};
-ghost use Rattle.tabled_steps.specs.States.{Steps, looking, state_with};
-ghost use Rattle.grid_config.specs.Looks.{look_of};
-ghost use Rattle.grid_config_values.specs.Settings.{value_at};
+ghost use Rattle.tabled_steps.specs.States.{StepsTo, colored_state, looking};
 
 use grid_config::{Borders, ColoredConfig, Entity, Fault};
 use grid_records_traits::records::RecordTexts;
@@ -85,9 +83,8 @@ impl<R: RecordTexts, D: KeptSizes> TableOption<R, ColoredConfig, D> for Style {
         dims: &mut D,
     ) -> Result<(), Fault>
         ensures answers { IsOk result }
-        ensures step { Steps (λ state outcome. looking (with_borders (style_borders self)) state ≡ outcome) result
-            (state_with (R.rows records.old) (look_of cfg.old.settings) (value_at cfg.old.colors) (D.sizes dims.old))
-            (state_with (R.rows records.new) (look_of cfg.new.settings) (value_at cfg.new.colors) (D.sizes dims.new)) }
+        ensures step { StepsTo (looking (with_borders (style_borders self))) result
+            (colored_state (R.rows records.old) cfg.old (D.sizes dims.old)) (colored_state (R.rows records.new) cfg.new (D.sizes dims.new)) }
     {
         cfg.spanned_mut().set_borders(self.borders);
         Ok(())
