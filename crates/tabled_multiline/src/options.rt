@@ -3,17 +3,14 @@ ghost use Rattle.std.specs.Prelude.{◌≡◌, IsOk, None, Ok, Some};
 ghost use Rattle.grid_config_values.specs.declared.entity.Entity.TheVariants.{Global as EveryCell};
 ghost use Rattle.tabled_multiline.specs.Multiline.{multiline_look, multiline_of, multiline_state};
 ghost use Rattle.tabled_multiline.specs.Takers.{takers_seen};
-ghost use Rattle.tabled_options.specs.Options.{margin_sides, padding_sides};
-ghost use Rattle.tabled_options.specs.Styles.{style_borders};
-ghost use Rattle.tabled_steps.specs.Looks.{with_borders, with_margin, with_padding};
 ghost use Rattle.tabled_steps.specs.States.{StepsTo, looking};
 
 use crate::config::CompactMultilineConfig;
-use grid_config::{Entity, Fault, Sides};
+use grid_config::{Borders, Entity, Fault, Indent, Sides};
 use grid_records_rows::EmptyRecords;
 use grid_records_traits::records::RecordTexts;
 use std::alloc::Global;
-use tabled_options::{Margin, Padding, Style};
+use tabled_options::FrameSettings;
 use tabled_size_dimension::PoolTableDimension;
 use tabled_steps::{Configuration, KeptSizes, TableOption};
 
@@ -35,81 +32,18 @@ impl KeptSizes for PoolSizes {
     ghost sizes = { λ sizes. takers_seen sizes.dimension };
 }
 
-/// Sets the margin. Does not allocate.
-impl<D: KeptSizes> TableOption<EmptyRecords, CompactMultilineConfig, D> for Margin {
-    ghost step = { λ option state outcome. looking (with_margin (margin_sides option)) state ≡ outcome };
+impl FrameSettings for CompactMultilineConfig {
+    fn put_margin(&mut self, margin: Sides<Indent>) {
+        self.set_margin(margin);
+    }
 
-    ghost hint = { λ _. Some EveryCell };
-
-    fn change(
-        self,
-        _alloc: Global,
-        records: &mut EmptyRecords,
-        cfg: &mut CompactMultilineConfig,
-        dims: &mut D,
-    ) -> Result<(), Fault>
-        ensures answers { IsOk result }
-        ensures step { StepsTo (looking (with_margin (margin_sides self))) result
-            (multiline_state (⟦<EmptyRecords as RecordTexts>⟧.rows records.old) (multiline_of cfg.old) (D.sizes dims.old)) (multiline_state (⟦<EmptyRecords as RecordTexts>⟧.rows records.new) (multiline_of cfg.new) (D.sizes dims.new)) }
-    {
-        cfg.set_margin(Sides::from(self));
+    fn put_padding(&mut self, padding: Sides<Indent>) -> Result<(), Fault> {
+        self.set_padding(padding);
         Ok(())
     }
 
-    fn hint_change(&self) -> Option<Entity> {
-        Some(Entity::Global)
-    }
-}
-
-/// Sets the padding of all cells. Does not allocate.
-impl<D: KeptSizes> TableOption<EmptyRecords, CompactMultilineConfig, D> for Padding {
-    ghost step = { λ option state outcome. looking (with_padding EveryCell (padding_sides option)) state ≡ outcome };
-
-    ghost hint = { λ _. Some EveryCell };
-
-    fn change(
-        self,
-        _alloc: Global,
-        records: &mut EmptyRecords,
-        cfg: &mut CompactMultilineConfig,
-        dims: &mut D,
-    ) -> Result<(), Fault>
-        ensures answers { IsOk result }
-        ensures step { StepsTo (looking (with_padding EveryCell (padding_sides self))) result
-            (multiline_state (⟦<EmptyRecords as RecordTexts>⟧.rows records.old) (multiline_of cfg.old) (D.sizes dims.old)) (multiline_state (⟦<EmptyRecords as RecordTexts>⟧.rows records.new) (multiline_of cfg.new) (D.sizes dims.new)) }
-    {
-        cfg.set_padding(Sides::from(self));
-        Ok(())
-    }
-
-    fn hint_change(&self) -> Option<Entity> {
-        Some(Entity::Global)
-    }
-}
-
-/// Sets the glyphs of the boundaries. Does not allocate.
-impl<D: KeptSizes> TableOption<EmptyRecords, CompactMultilineConfig, D> for Style {
-    ghost step = { λ option state outcome. looking (with_borders (style_borders option)) state ≡ outcome };
-
-    ghost hint = { λ _. Some EveryCell };
-
-    fn change(
-        self,
-        _alloc: Global,
-        records: &mut EmptyRecords,
-        cfg: &mut CompactMultilineConfig,
-        dims: &mut D,
-    ) -> Result<(), Fault>
-        ensures answers { IsOk result }
-        ensures step { StepsTo (looking (with_borders (style_borders self))) result
-            (multiline_state (⟦<EmptyRecords as RecordTexts>⟧.rows records.old) (multiline_of cfg.old) (D.sizes dims.old)) (multiline_state (⟦<EmptyRecords as RecordTexts>⟧.rows records.new) (multiline_of cfg.new) (D.sizes dims.new)) }
-    {
-        cfg.set_borders(self.get_borders());
-        Ok(())
-    }
-
-    fn hint_change(&self) -> Option<Entity> {
-        Some(Entity::Global)
+    fn put_borders(&mut self, borders: Borders<char>) {
+        self.set_borders(borders);
     }
 }
 

@@ -3,8 +3,8 @@
 #![tactic(auto)]
 
 mod alignment;
-mod compact;
 pub mod formatting;
+mod frame;
 pub mod laws;
 mod margin;
 pub mod object;
@@ -15,6 +15,7 @@ mod style;
 
 pub use alignment::Alignment;
 pub use formatting::{AlignmentStrategy, TrimStrategy};
+pub use frame::FrameSettings;
 pub use margin::Margin;
 pub use padding::{Padding, PaddingExpand};
 pub use span::Span;

@@ -3,10 +3,11 @@ ghost use Rattle.std.specs.Prelude.{◌≡◌, IsOk, Some};
 ghost use Rattle.grid_config_values.specs.declared.entity.Entity.TheVariants.{Global as EveryCell};
 ghost use Rattle.tabled_options.specs.Options.{filled_sides, margin_sides, spaced_sides};
 ghost use Rattle.tabled_steps.specs.Looks.{with_margin};
-ghost use Rattle.tabled_steps.specs.States.{StepsTo, colored_state, looking};
+ghost use Rattle.tabled_steps.specs.States.{StepsTo, looking, state_with};
 
+use crate::frame::FrameSettings;
 use crate::sides;
-use grid_config::{ColoredConfig, Entity, Fault, Indent, Sides};
+use grid_config::{Entity, Fault, Indent, Sides};
 use grid_records_traits::records::RecordTexts;
 use std::alloc::Global;
 use tabled_steps::{KeptSizes, TableOption};
@@ -56,23 +57,17 @@ impl From<Sides<Indent>> for Margin {
 }
 
 /// Sets the margin. Does not allocate.
-impl<R: RecordTexts, D: KeptSizes> TableOption<R, ColoredConfig, D> for Margin {
+impl<R: RecordTexts, C: FrameSettings, D: KeptSizes> TableOption<R, C, D> for Margin {
     ghost step = { λ margin state outcome. looking (with_margin (margin_sides margin)) state ≡ outcome };
 
     ghost hint = { λ _. Some EveryCell };
 
-    fn change(
-        self,
-        _alloc: Global,
-        records: &mut R,
-        cfg: &mut ColoredConfig,
-        dims: &mut D,
-    ) -> Result<(), Fault>
+    fn change(self, _alloc: Global, records: &mut R, cfg: &mut C, dims: &mut D) -> Result<(), Fault>
         ensures answers { IsOk result }
         ensures step { StepsTo (looking (with_margin (margin_sides self))) result
-            (colored_state (R.rows records.old) cfg.old (D.sizes dims.old)) (colored_state (R.rows records.new) cfg.new (D.sizes dims.new)) }
+            (state_with (R.rows records.old) (C.look cfg.old) (C.colors cfg.old) (D.sizes dims.old)) (state_with (R.rows records.new) (C.look cfg.new) (C.colors cfg.new) (D.sizes dims.new)) }
     {
-        cfg.spanned_mut().set_margin(self.indent);
+        cfg.put_margin(self.indent);
         Ok(())
     }
 

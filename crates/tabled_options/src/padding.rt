@@ -4,9 +4,10 @@ ghost use Rattle.grid_config_values.specs.declared.entity.Entity.TheVariants.{Gl
 ghost use Rattle.tabled_options.specs.Options.{filled_sides, padding_sides, spaced_sides};
 ghost use Rattle.tabled_options.specs.declared.padding.PaddingExpand.TheVariants.{Horizontal, Vertical};
 ghost use Rattle.tabled_steps.specs.Looks.{with_padding};
-ghost use Rattle.tabled_steps.specs.States.{StepsTo, colored_state, looking};
+ghost use Rattle.tabled_steps.specs.States.{StepsTo, colored_state, looking, state_with};
 ghost use Rattle.tabled_steps.specs.Stored.{Stored};
 
+use crate::frame::FrameSettings;
 use crate::sides;
 use grid_config::{ColoredConfig, Entity, Fault, Indent, Sides};
 use grid_records_traits::records::RecordTexts;
@@ -110,23 +111,17 @@ impl<R: RecordTexts> CellOption<R, ColoredConfig> for Padding {
 }
 
 /// Sets the padding of all cells. Does not allocate.
-impl<R: RecordTexts, D: KeptSizes> TableOption<R, ColoredConfig, D> for Padding {
+impl<R: RecordTexts, C: FrameSettings, D: KeptSizes> TableOption<R, C, D> for Padding {
     ghost step = { λ padding state outcome. looking (with_padding EveryCell (padding_sides padding)) state ≡ outcome };
 
     ghost hint = { λ _. Some EveryCell };
 
-    fn change(
-        self,
-        _alloc: Global,
-        records: &mut R,
-        cfg: &mut ColoredConfig,
-        dims: &mut D,
-    ) -> Result<(), Fault>
+    fn change(self, _alloc: Global, records: &mut R, cfg: &mut C, dims: &mut D) -> Result<(), Fault>
         ensures answers { IsOk result }
         ensures step { StepsTo (looking (with_padding EveryCell (padding_sides self))) result
-            (colored_state (R.rows records.old) cfg.old (D.sizes dims.old)) (colored_state (R.rows records.new) cfg.new (D.sizes dims.new)) }
+            (state_with (R.rows records.old) (C.look cfg.old) (C.colors cfg.old) (D.sizes dims.old)) (state_with (R.rows records.new) (C.look cfg.new) (C.colors cfg.new) (D.sizes dims.new)) }
     {
-        cfg.spanned_mut().set_padding(Entity::Global, self.indent)
+        cfg.put_padding(self.indent)
     }
 
     fn hint_change(&self) -> Option<Entity> {
