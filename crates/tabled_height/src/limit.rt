@@ -1,11 +1,9 @@
 //! Heights of at most a given number of lines.
 ghost use Rattle.std.specs.Prelude.{◌≡◌, IsOk, None, Some, length};
-ghost use Rattle.grid_config.specs.Looks.{look_of};
-ghost use Rattle.grid_config_values.specs.Settings.{value_at};
 ghost use Rattle.grid_config_values.specs.declared.entity.Entity.TheVariants.{Global as EveryCell};
 ghost use Rattle.tabled_height.specs.Options.{limit_height, table_limit};
 ghost use Rattle.tabled_height.specs.Steps.{LimitsCells, LimitsTable};
-ghost use Rattle.tabled_steps.specs.States.{Steps, state_with};
+ghost use Rattle.tabled_steps.specs.States.{Steps, colored_state};
 
 use crate::height::Height;
 use crate::lines::{Limiting, LimitingRows};
@@ -146,8 +144,7 @@ impl<T: FromText, W: Measurement<Height> + Drop, P: Peaker + Drop> TableOption<
         ensures no_rows { length (⟦<VecRecords<T> as RecordTexts>⟧.rows records.old) ≡ 0 → IsOk result }
         ensures no_columns { ⟦<VecRecords<T> as RecordColumns>⟧.columns records.old ≡ 0 → IsOk result }
         ensures step { Steps (LimitsTable (W.measures (table_limit self).0) P.shrinks (table_limit self).1) result
-            (state_with (⟦<VecRecords<T> as RecordTexts>⟧.rows records.old) (look_of cfg.old.settings) (value_at cfg.old.colors) dims.old)
-            (state_with (⟦<VecRecords<T> as RecordTexts>⟧.rows records.new) (look_of cfg.new.settings) (value_at cfg.new.colors) dims.new) }
+            (colored_state (⟦<VecRecords<T> as RecordTexts>⟧.rows records.old) cfg.old dims.old) (colored_state (⟦<VecRecords<T> as RecordTexts>⟧.rows records.new) cfg.new dims.new) }
     {
         if records.count_rows() == 0 || records.count_columns() == 0 {
             return Ok(());

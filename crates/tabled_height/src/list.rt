@@ -2,7 +2,7 @@
 ghost use Rattle.std.specs.Prelude.{◌≡◌, IfOk, IsOk, List, None, ℕ};
 ghost use Rattle.std.specs.Iterator.{Drains, IsFinite};
 ghost use Rattle.tabled_height.specs.Steps.{listing_heights};
-ghost use Rattle.tabled_steps.specs.States.{Steps, state_with};
+ghost use Rattle.tabled_steps.specs.States.{StepsTo, state_with};
 
 use grid_config::{Entity, Fault};
 use grid_records_traits::records::ExactRecords;
@@ -72,7 +72,7 @@ impl<R: ExactRecords, C: Configuration> TableOption<R, C, CompleteDimension> for
         dims: &mut CompleteDimension,
     ) -> Result<(), Fault>
         ensures answers { IsOk result }
-        ensures step { Steps (λ state outcome. listing_heights self state ≡ outcome) result
+        ensures step { StepsTo (listing_heights self) result
             (state_with (R.rows records.old) (C.look cfg.old) (C.colors cfg.old) dims.old) (state_with (R.rows records.new) (C.look cfg.new) (C.colors cfg.new) dims.new) }
     {
         if self.heights.len() >= records.count_rows() {

@@ -2,9 +2,7 @@
 ghost use Rattle.std.specs.Prelude.{◌≡◌, IsOk, Some};
 ghost use Rattle.grid_config_values.specs.declared.entity.Entity.TheVariants.{Global as EveryCell};
 ghost use Rattle.tabled_list.specs.Looks.{with_cell_setting};
-ghost use Rattle.tabled_steps.specs.States.{Steps, looking, state_with};
-ghost use Rattle.grid_config.specs.Looks.{look_of};
-ghost use Rattle.grid_config_values.specs.Settings.{value_at};
+ghost use Rattle.tabled_steps.specs.States.{StepsTo, colored_state, looking};
 ghost use Rattle.tabled_size_dimension.specs.Stored.{Stored};
 
 use grid_config::{AlignmentHorizontal, AlignmentVertical, ColoredConfig, Entity, Fault};
@@ -37,8 +35,8 @@ impl<R: RecordTexts> CellOption<R, ColoredConfig> for CellSetting {
         entity: Entity,
     ) -> Result<(), Fault>
         ensures all_cells { entity ≡ EveryCell → IsOk result }
-        ensures step { (sizes : Stored) → Steps (λ state outcome. looking (with_cell_setting self.now entity) state ≡ outcome) result
-            (state_with (R.rows records.old) (look_of cfg.old.settings) (value_at cfg.old.colors) sizes) (state_with (R.rows records.new) (look_of cfg.new.settings) (value_at cfg.new.colors) sizes) }
+        ensures step { (sizes : Stored) → StepsTo (looking (with_cell_setting self.now entity)) result
+            (colored_state (R.rows records.old) cfg.old sizes) (colored_state (R.rows records.new) cfg.new sizes) }
     {
         let config = cfg.spanned_mut();
         match *self {

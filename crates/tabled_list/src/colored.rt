@@ -1,10 +1,8 @@
 //! The colour of cells, which has no option of its own.
 ghost use Rattle.std.specs.Prelude.{◌≡◌, IsOk, Some};
-ghost use Rattle.grid_config.specs.Looks.{look_of};
-ghost use Rattle.grid_config_values.specs.Settings.{value_at};
 ghost use Rattle.grid_config_values.specs.declared.entity.Entity.TheVariants.{Global as EveryCell};
 ghost use Rattle.tabled_list.specs.Settings.{coloring};
-ghost use Rattle.tabled_steps.specs.States.{Steps, state_with};
+ghost use Rattle.tabled_steps.specs.States.{StepsTo, colored_state};
 
 use grid_config::{ANSIBuf, ColoredConfig, Entity, Fault};
 use grid_records_traits::records::RecordTexts;
@@ -32,9 +30,8 @@ impl<R: RecordTexts, D: KeptSizes> TableOption<R, ColoredConfig, D> for Colored 
         dims: &mut D,
     ) -> Result<(), Fault>
         ensures all_cells { self.at ≡ EveryCell → IsOk result }
-        ensures step { Steps (λ state outcome. coloring self.at self.color state ≡ outcome) result
-            (state_with (R.rows records.old) (look_of cfg.old.settings) (value_at cfg.old.colors) (D.sizes dims.old))
-            (state_with (R.rows records.new) (look_of cfg.new.settings) (value_at cfg.new.colors) (D.sizes dims.new)) }
+        ensures step { StepsTo (coloring self.at self.color) result
+            (colored_state (R.rows records.old) cfg.old (D.sizes dims.old)) (colored_state (R.rows records.new) cfg.new (D.sizes dims.new)) }
     {
         cfg.set_color(self.at, self.color)
     }

@@ -10,7 +10,7 @@ mod colored;
 pub mod laws;
 mod list;
 mod setting;
-mod whole;
+mod span_at;
 
 pub use adjustable::Adjustable;
 pub use amount::Amount;

@@ -9,7 +9,7 @@ use crate::amount::Amount;
 use crate::by_choice::{TextCutting, by_choice, cutting};
 use crate::cells::CellSetting;
 use crate::colored::Colored;
-use crate::whole::{Bordered, ColumnsAt, RowsAt};
+use crate::span_at::{SpanAt, Tracks};
 use grid_config::{
     ANSIBuf, AlignmentHorizontal, AlignmentVertical, Borders, Entity, Fault, Indent, Position,
     Sides,
@@ -19,7 +19,7 @@ use std::alloc::Global;
 use tabled_height::{
     CellHeightIncrease, CellHeightLimit, HeightList, TableHeightIncrease, TableHeightLimit,
 };
-use tabled_options::{Margin, Padding};
+use tabled_options::{Margin, Padding, Style};
 use tabled_size_dimension::SuffixLimit;
 use tabled_size_priority::Choice;
 use tabled_width::{Justify, MinWidth, WidthList, Wrap};
@@ -195,13 +195,15 @@ impl Setting {
             Setting::CellHeightLimit { at, height } => {
                 table.adjust_cells(*at, &CellHeightLimit::new(*height))
             }
-            Setting::ColumnSpan(pos, n) => table.adjust(ColumnsAt {
+            Setting::ColumnSpan(pos, n) => table.adjust(SpanAt {
                 pos: *pos,
                 size: *n,
+                of: Tracks::Columns,
             }),
-            Setting::RowSpan(pos, n) => table.adjust(RowsAt {
+            Setting::RowSpan(pos, n) => table.adjust(SpanAt {
                 pos: *pos,
                 size: *n,
+                of: Tracks::Rows,
             }),
             Setting::AlignHorizontal(at, value) => {
                 table.adjust_cells(*at, &CellSetting::AlignHorizontal(*value))
@@ -223,7 +225,7 @@ impl Setting {
             }
             Setting::Padding(at, sides) => table.adjust_cells(*at, &Padding::from(*sides)),
             Setting::Margin(sides) => table.adjust(Margin::from(*sides)),
-            Setting::Borders(borders) => table.adjust(Bordered { borders: *borders }),
+            Setting::Borders(borders) => table.adjust(Style::from(*borders)),
             Setting::Color(at, color) => table.adjust(Colored {
                 at: *at,
                 color: color.clone(alloc)?,

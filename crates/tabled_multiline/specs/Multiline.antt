@@ -1,10 +1,12 @@
 -- The settings of a table of boxes whose cells are all alike.
-use Rattle.std.specs.Prelude.{false}
+use Rattle.std.specs.Prelude.{ℕ, List, None, false}
 use Rattle.grid_config_values.specs.declared.alignment.AlignmentVertical.{AlignmentVertical}
 use Rattle.grid_config_values.specs.declared.alignment.AlignmentVertical.TheVariants.{Top}
 use Rattle.grid_config_values.specs.declared.formatting.Formatting.{Formatting}
 use Rattle.grid_config.specs.Compact.{Compact, compact_of}
 use Rattle.grid_config.specs.Looks.{Look, compact_look}
+use Rattle.tabled_size_dimension.specs.Stored.{Stored}
+use Rattle.tabled_steps.specs.States.{State, state_with}
 use Rattle.tabled_multiline.specs.declared.config.CompactMultilineConfig.{CompactMultilineConfig}
 
 -- the settings of a compact table, where texts stand between top and bottom, and how their lines are laid out
@@ -41,3 +43,7 @@ multiline_look settings = record (compact_look settings.compact) {
   trim_horizontal = λ _. settings.formatting.horizontal_trim;
   trim_vertical = λ _. settings.formatting.vertical_trim;
 }
+
+-- a table of boxes by its settings: no cell has a colour
+abbrev pub multiline_state : List (List (List ℕ)) → Multiline → Stored → State
+multiline_state rows settings sizes = state_with rows (multiline_look settings) (λ _. None) sizes

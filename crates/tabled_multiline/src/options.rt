@@ -1,19 +1,16 @@
 //! Options of tables of boxes whose cells are all alike.
 ghost use Rattle.std.specs.Prelude.{◌≡◌, IsOk, None, Ok, Some};
 ghost use Rattle.grid_config_values.specs.declared.entity.Entity.TheVariants.{Global as EveryCell};
-ghost use Rattle.tabled_multiline.specs.Multiline.{multiline_look, multiline_of};
+ghost use Rattle.tabled_multiline.specs.Multiline.{multiline_look, multiline_of, multiline_state};
 ghost use Rattle.tabled_multiline.specs.Takers.{takers_seen};
-ghost use Rattle.tabled_options.specs.Options.{margin_sides, padding_sides};
-ghost use Rattle.tabled_options.specs.Styles.{style_borders};
-ghost use Rattle.tabled_steps.specs.Looks.{with_borders, with_margin, with_padding};
-ghost use Rattle.tabled_steps.specs.States.{Steps, looking, state_with};
+ghost use Rattle.tabled_steps.specs.States.{StepsTo, looking};
 
 use crate::config::CompactMultilineConfig;
-use grid_config::{Entity, Fault, Sides};
+use grid_config::{Borders, Entity, Fault, Indent, Sides};
 use grid_records_rows::EmptyRecords;
 use grid_records_traits::records::RecordTexts;
 use std::alloc::Global;
-use tabled_options::{Margin, Padding, Style};
+use tabled_options::FrameSettings;
 use tabled_size_dimension::PoolTableDimension;
 use tabled_steps::{Configuration, KeptSizes, TableOption};
 
@@ -35,87 +32,18 @@ impl KeptSizes for PoolSizes {
     ghost sizes = { λ sizes. takers_seen sizes.dimension };
 }
 
-/// Sets the margin. Does not allocate.
-impl<D: KeptSizes> TableOption<EmptyRecords, CompactMultilineConfig, D> for Margin {
-    ghost step = { λ option state outcome. looking (with_margin (margin_sides option)) state ≡ outcome };
+impl FrameSettings for CompactMultilineConfig {
+    fn put_margin(&mut self, margin: Sides<Indent>) {
+        self.set_margin(margin);
+    }
 
-    ghost hint = { λ _. Some EveryCell };
-
-    fn change(
-        self,
-        _alloc: Global,
-        records: &mut EmptyRecords,
-        cfg: &mut CompactMultilineConfig,
-        dims: &mut D,
-    ) -> Result<(), Fault>
-        ensures answers { IsOk result }
-        ensures step { Steps (λ state outcome. looking (with_margin (margin_sides self)) state ≡ outcome) result
-            (state_with (⟦<EmptyRecords as RecordTexts>⟧.rows records.old) (multiline_look (multiline_of cfg.old)) (λ _. None)
-            (D.sizes dims.old)) (state_with (⟦<EmptyRecords as RecordTexts>⟧.rows records.new) (multiline_look (multiline_of cfg.new))
-            (λ _. None) (D.sizes dims.new)) }
-    {
-        cfg.set_margin(Sides::from(self));
+    fn put_padding(&mut self, padding: Sides<Indent>) -> Result<(), Fault> {
+        self.set_padding(padding);
         Ok(())
     }
 
-    fn hint_change(&self) -> Option<Entity> {
-        Some(Entity::Global)
-    }
-}
-
-/// Sets the padding of all cells. Does not allocate.
-impl<D: KeptSizes> TableOption<EmptyRecords, CompactMultilineConfig, D> for Padding {
-    ghost step = { λ option state outcome. looking (with_padding EveryCell (padding_sides option)) state ≡ outcome };
-
-    ghost hint = { λ _. Some EveryCell };
-
-    fn change(
-        self,
-        _alloc: Global,
-        records: &mut EmptyRecords,
-        cfg: &mut CompactMultilineConfig,
-        dims: &mut D,
-    ) -> Result<(), Fault>
-        ensures answers { IsOk result }
-        ensures step { Steps (λ state outcome. looking (with_padding EveryCell (padding_sides self)) state ≡ outcome) result
-            (state_with (⟦<EmptyRecords as RecordTexts>⟧.rows records.old) (multiline_look (multiline_of cfg.old)) (λ _. None)
-            (D.sizes dims.old)) (state_with (⟦<EmptyRecords as RecordTexts>⟧.rows records.new) (multiline_look (multiline_of cfg.new))
-            (λ _. None) (D.sizes dims.new)) }
-    {
-        cfg.set_padding(Sides::from(self));
-        Ok(())
-    }
-
-    fn hint_change(&self) -> Option<Entity> {
-        Some(Entity::Global)
-    }
-}
-
-/// Sets the glyphs of the boundaries. Does not allocate.
-impl<D: KeptSizes> TableOption<EmptyRecords, CompactMultilineConfig, D> for Style {
-    ghost step = { λ option state outcome. looking (with_borders (style_borders option)) state ≡ outcome };
-
-    ghost hint = { λ _. Some EveryCell };
-
-    fn change(
-        self,
-        _alloc: Global,
-        records: &mut EmptyRecords,
-        cfg: &mut CompactMultilineConfig,
-        dims: &mut D,
-    ) -> Result<(), Fault>
-        ensures answers { IsOk result }
-        ensures step { Steps (λ state outcome. looking (with_borders (style_borders self)) state ≡ outcome) result
-            (state_with (⟦<EmptyRecords as RecordTexts>⟧.rows records.old) (multiline_look (multiline_of cfg.old)) (λ _. None)
-            (D.sizes dims.old)) (state_with (⟦<EmptyRecords as RecordTexts>⟧.rows records.new) (multiline_look (multiline_of cfg.new))
-            (λ _. None) (D.sizes dims.new)) }
-    {
-        cfg.set_borders(self.get_borders());
-        Ok(())
-    }
-
-    fn hint_change(&self) -> Option<Entity> {
-        Some(Entity::Global)
+    fn put_borders(&mut self, borders: Borders<char>) {
+        self.set_borders(borders);
     }
 }
 
@@ -133,10 +61,8 @@ impl<D: KeptSizes> TableOption<EmptyRecords, CompactMultilineConfig, D> for Comp
         dims: &mut D,
     ) -> Result<(), Fault>
         ensures answers { IsOk result }
-        ensures step { Steps (λ state outcome. looking (λ _. multiline_look (multiline_of self)) state ≡ outcome) result
-            (state_with (⟦<EmptyRecords as RecordTexts>⟧.rows records.old) (multiline_look (multiline_of cfg.old)) (λ _. None)
-            (D.sizes dims.old)) (state_with (⟦<EmptyRecords as RecordTexts>⟧.rows records.new) (multiline_look (multiline_of cfg.new))
-            (λ _. None) (D.sizes dims.new)) }
+        ensures step { StepsTo (looking (λ _. multiline_look (multiline_of self))) result
+            (multiline_state (⟦<EmptyRecords as RecordTexts>⟧.rows records.old) (multiline_of cfg.old) (D.sizes dims.old)) (multiline_state (⟦<EmptyRecords as RecordTexts>⟧.rows records.new) (multiline_of cfg.new) (D.sizes dims.new)) }
     {
         *cfg = self;
         Ok(())
@@ -161,11 +87,8 @@ impl TableOption<EmptyRecords, CompactMultilineConfig, PoolSizes> for PoolTableD
         dims: &mut PoolSizes,
     ) -> Result<(), Fault>
         ensures answers { IsOk result }
-        ensures step { Steps (λ state outcome. Ok (record state { sizes = takers_seen self }) ≡ outcome) result
-            (state_with (⟦<EmptyRecords as RecordTexts>⟧.rows records.old) (multiline_look (multiline_of cfg.old)) (λ _. None)
-            (takers_seen dims.old.dimension))
-            (state_with (⟦<EmptyRecords as RecordTexts>⟧.rows records.new) (multiline_look (multiline_of cfg.new)) (λ _. None)
-            (takers_seen dims.new.dimension)) }
+        ensures step { StepsTo (λ state. Ok (record state { sizes = takers_seen self })) result
+            (multiline_state (⟦<EmptyRecords as RecordTexts>⟧.rows records.old) (multiline_of cfg.old) (takers_seen dims.old.dimension)) (multiline_state (⟦<EmptyRecords as RecordTexts>⟧.rows records.new) (multiline_of cfg.new) (takers_seen dims.new.dimension)) }
     {
         dims.dimension = self;
         Ok(())

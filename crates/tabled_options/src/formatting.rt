@@ -2,9 +2,7 @@
 ghost use Rattle.std.specs.Prelude.{◌≡◌, IsOk, Some};
 ghost use Rattle.grid_config_values.specs.declared.entity.Entity.TheVariants.{Global as EveryCell};
 ghost use Rattle.tabled_options.specs.Formatting.{with_strategy, with_trim};
-ghost use Rattle.tabled_steps.specs.States.{Steps, looking, state_with};
-ghost use Rattle.grid_config.specs.Looks.{look_of};
-ghost use Rattle.grid_config_values.specs.Settings.{value_at};
+ghost use Rattle.tabled_steps.specs.States.{StepsTo, colored_state, looking};
 ghost use Rattle.tabled_steps.specs.Stored.{Stored};
 
 use grid_config::{ColoredConfig, Entity, Fault};
@@ -45,8 +43,8 @@ impl<R: RecordTexts> CellOption<R, ColoredConfig> for AlignmentStrategy {
         entity: Entity,
     ) -> Result<(), Fault>
         ensures all_cells { entity ≡ EveryCell → IsOk result }
-        ensures step { (sizes : Stored) → Steps (λ state outcome. looking (with_strategy self.now entity) state ≡ outcome) result
-            (state_with (R.rows records.old) (look_of cfg.old.settings) (value_at cfg.old.colors) sizes) (state_with (R.rows records.new) (look_of cfg.new.settings) (value_at cfg.new.colors) sizes) }
+        ensures step { (sizes : Stored) → StepsTo (looking (with_strategy self.now entity)) result
+            (colored_state (R.rows records.old) cfg.old sizes) (colored_state (R.rows records.new) cfg.new sizes) }
     {
         match self {
             AlignmentStrategy::PerCell => cfg.spanned_mut().set_line_alignment(entity, false),
@@ -73,9 +71,8 @@ impl<R: RecordTexts, D: KeptSizes> TableOption<R, ColoredConfig, D> for Alignmen
         dims: &mut D,
     ) -> Result<(), Fault>
         ensures answers { IsOk result }
-        ensures step { Steps (λ state outcome. looking (with_strategy self EveryCell) state ≡ outcome) result
-            (state_with (R.rows records.old) (look_of cfg.old.settings) (value_at cfg.old.colors) (D.sizes dims.old))
-            (state_with (R.rows records.new) (look_of cfg.new.settings) (value_at cfg.new.colors) (D.sizes dims.new)) }
+        ensures step { StepsTo (looking (with_strategy self EveryCell)) result
+            (colored_state (R.rows records.old) cfg.old (D.sizes dims.old)) (colored_state (R.rows records.new) cfg.new (D.sizes dims.new)) }
     {
         CellOption::<R, ColoredConfig>::change(&self, alloc, records, cfg, Entity::Global)
     }
@@ -99,8 +96,8 @@ impl<R: RecordTexts> CellOption<R, ColoredConfig> for TrimStrategy {
         entity: Entity,
     ) -> Result<(), Fault>
         ensures all_cells { entity ≡ EveryCell → IsOk result }
-        ensures step { (sizes : Stored) → Steps (λ state outcome. looking (with_trim self.now entity) state ≡ outcome) result
-            (state_with (R.rows records.old) (look_of cfg.old.settings) (value_at cfg.old.colors) sizes) (state_with (R.rows records.new) (look_of cfg.new.settings) (value_at cfg.new.colors) sizes) }
+        ensures step { (sizes : Stored) → StepsTo (looking (with_trim self.now entity)) result
+            (colored_state (R.rows records.old) cfg.old sizes) (colored_state (R.rows records.new) cfg.new sizes) }
     {
         match self {
             TrimStrategy::Horizontal => cfg.spanned_mut().set_trim_horizontal(entity, true),
@@ -127,9 +124,8 @@ impl<R: RecordTexts, D: KeptSizes> TableOption<R, ColoredConfig, D> for TrimStra
         dims: &mut D,
     ) -> Result<(), Fault>
         ensures answers { IsOk result }
-        ensures step { Steps (λ state outcome. looking (with_trim self EveryCell) state ≡ outcome) result
-            (state_with (R.rows records.old) (look_of cfg.old.settings) (value_at cfg.old.colors) (D.sizes dims.old))
-            (state_with (R.rows records.new) (look_of cfg.new.settings) (value_at cfg.new.colors) (D.sizes dims.new)) }
+        ensures step { StepsTo (looking (with_trim self EveryCell)) result
+            (colored_state (R.rows records.old) cfg.old (D.sizes dims.old)) (colored_state (R.rows records.new) cfg.new (D.sizes dims.new)) }
     {
         CellOption::<R, ColoredConfig>::change(&self, alloc, records, cfg, Entity::Global)
     }

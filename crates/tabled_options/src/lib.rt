@@ -3,17 +3,19 @@
 #![tactic(auto)]
 
 mod alignment;
-mod compact;
 pub mod formatting;
+mod frame;
 pub mod laws;
 mod margin;
 pub mod object;
 mod padding;
+mod sides;
 mod span;
 mod style;
 
 pub use alignment::Alignment;
 pub use formatting::{AlignmentStrategy, TrimStrategy};
+pub use frame::FrameSettings;
 pub use margin::Margin;
 pub use padding::{Padding, PaddingExpand};
 pub use span::Span;

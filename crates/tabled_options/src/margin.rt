@@ -3,11 +3,11 @@ ghost use Rattle.std.specs.Prelude.{◌≡◌, IsOk, Some};
 ghost use Rattle.grid_config_values.specs.declared.entity.Entity.TheVariants.{Global as EveryCell};
 ghost use Rattle.tabled_options.specs.Options.{filled_sides, margin_sides, spaced_sides};
 ghost use Rattle.tabled_steps.specs.Looks.{with_margin};
-ghost use Rattle.tabled_steps.specs.States.{Steps, looking, state_with};
-ghost use Rattle.grid_config.specs.Looks.{look_of};
-ghost use Rattle.grid_config_values.specs.Settings.{value_at};
+ghost use Rattle.tabled_steps.specs.States.{StepsTo, looking, state_with};
 
-use grid_config::{ColoredConfig, Entity, Fault, Indent, Sides};
+use crate::frame::FrameSettings;
+use crate::sides;
+use grid_config::{Entity, Fault, Indent, Sides};
 use grid_records_traits::records::RecordTexts;
 use std::alloc::Global;
 use tabled_steps::{KeptSizes, TableOption};
@@ -24,12 +24,7 @@ impl Margin {
         ensures { margin_sides result ≡ spaced_sides left right top bottom }
     {
         Margin {
-            indent: Sides::new(
-                Indent::spaced(left),
-                Indent::spaced(right),
-                Indent::spaced(top),
-                Indent::spaced(bottom),
-            ),
+            indent: sides::spaced(left, right, top, bottom),
         }
     }
 
@@ -37,14 +32,8 @@ impl Margin {
     pub const fn fill(self, left: char, right: char, top: char, bottom: char) -> Margin
         ensures { margin_sides result ≡ filled_sides left right top bottom (margin_sides self) }
     {
-        let indent = self.indent;
         Margin {
-            indent: Sides::new(
-                Indent::new(indent.left.size, left),
-                Indent::new(indent.right.size, right),
-                Indent::new(indent.top.size, top),
-                Indent::new(indent.bottom.size, bottom),
-            ),
+            indent: sides::filled(self.indent, left, right, top, bottom),
         }
     }
 }
@@ -68,24 +57,17 @@ impl From<Sides<Indent>> for Margin {
 }
 
 /// Sets the margin. Does not allocate.
-impl<R: RecordTexts, D: KeptSizes> TableOption<R, ColoredConfig, D> for Margin {
+impl<R: RecordTexts, C: FrameSettings, D: KeptSizes> TableOption<R, C, D> for Margin {
     ghost step = { λ margin state outcome. looking (with_margin (margin_sides margin)) state ≡ outcome };
 
     ghost hint = { λ _. Some EveryCell };
 
-    fn change(
-        self,
-        _alloc: Global,
-        records: &mut R,
-        cfg: &mut ColoredConfig,
-        dims: &mut D,
-    ) -> Result<(), Fault>
+    fn change(self, _alloc: Global, records: &mut R, cfg: &mut C, dims: &mut D) -> Result<(), Fault>
         ensures answers { IsOk result }
-        ensures step { Steps (λ state outcome. looking (with_margin (margin_sides self)) state ≡ outcome) result
-            (state_with (R.rows records.old) (look_of cfg.old.settings) (value_at cfg.old.colors) (D.sizes dims.old))
-            (state_with (R.rows records.new) (look_of cfg.new.settings) (value_at cfg.new.colors) (D.sizes dims.new)) }
+        ensures step { StepsTo (looking (with_margin (margin_sides self))) result
+            (state_with (R.rows records.old) (C.look cfg.old) (C.colors cfg.old) (D.sizes dims.old)) (state_with (R.rows records.new) (C.look cfg.new) (C.colors cfg.new) (D.sizes dims.new)) }
     {
-        cfg.spanned_mut().set_margin(self.indent);
+        cfg.put_margin(self.indent);
         Ok(())
     }
 

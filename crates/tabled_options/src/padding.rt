@@ -4,11 +4,11 @@ ghost use Rattle.grid_config_values.specs.declared.entity.Entity.TheVariants.{Gl
 ghost use Rattle.tabled_options.specs.Options.{filled_sides, padding_sides, spaced_sides};
 ghost use Rattle.tabled_options.specs.declared.padding.PaddingExpand.TheVariants.{Horizontal, Vertical};
 ghost use Rattle.tabled_steps.specs.Looks.{with_padding};
-ghost use Rattle.tabled_steps.specs.States.{Steps, looking, state_with};
-ghost use Rattle.grid_config.specs.Looks.{look_of};
-ghost use Rattle.grid_config_values.specs.Settings.{value_at};
+ghost use Rattle.tabled_steps.specs.States.{StepsTo, colored_state, looking, state_with};
 ghost use Rattle.tabled_steps.specs.Stored.{Stored};
 
+use crate::frame::FrameSettings;
+use crate::sides;
 use grid_config::{ColoredConfig, Entity, Fault, Indent, Sides};
 use grid_records_traits::records::RecordTexts;
 use std::alloc::Global;
@@ -26,12 +26,7 @@ impl Padding {
         ensures { padding_sides result ≡ spaced_sides left right top bottom }
     {
         Padding {
-            indent: Sides::new(
-                Indent::spaced(left),
-                Indent::spaced(right),
-                Indent::spaced(top),
-                Indent::spaced(bottom),
-            ),
+            indent: sides::spaced(left, right, top, bottom),
         }
     }
 
@@ -46,14 +41,8 @@ impl Padding {
     pub const fn fill(self, left: char, right: char, top: char, bottom: char) -> Padding
         ensures { padding_sides result ≡ filled_sides left right top bottom (padding_sides self) }
     {
-        let indent = self.indent;
         Padding {
-            indent: Sides::new(
-                Indent::new(indent.left.size, left),
-                Indent::new(indent.right.size, right),
-                Indent::new(indent.top.size, top),
-                Indent::new(indent.bottom.size, bottom),
-            ),
+            indent: sides::filled(self.indent, left, right, top, bottom),
         }
     }
 
@@ -110,8 +99,8 @@ impl<R: RecordTexts> CellOption<R, ColoredConfig> for Padding {
         entity: Entity,
     ) -> Result<(), Fault>
         ensures all_cells { entity ≡ EveryCell → IsOk result }
-        ensures step { (sizes : Stored) → Steps (λ state outcome. looking (with_padding entity (padding_sides self.now)) state ≡ outcome) result
-            (state_with (R.rows records.old) (look_of cfg.old.settings) (value_at cfg.old.colors) sizes) (state_with (R.rows records.new) (look_of cfg.new.settings) (value_at cfg.new.colors) sizes) }
+        ensures step { (sizes : Stored) → StepsTo (looking (with_padding entity (padding_sides self.now))) result
+            (colored_state (R.rows records.old) cfg.old sizes) (colored_state (R.rows records.new) cfg.new sizes) }
     {
         cfg.spanned_mut().set_padding(entity, self.indent)
     }
@@ -122,24 +111,17 @@ impl<R: RecordTexts> CellOption<R, ColoredConfig> for Padding {
 }
 
 /// Sets the padding of all cells. Does not allocate.
-impl<R: RecordTexts, D: KeptSizes> TableOption<R, ColoredConfig, D> for Padding {
+impl<R: RecordTexts, C: FrameSettings, D: KeptSizes> TableOption<R, C, D> for Padding {
     ghost step = { λ padding state outcome. looking (with_padding EveryCell (padding_sides padding)) state ≡ outcome };
 
     ghost hint = { λ _. Some EveryCell };
 
-    fn change(
-        self,
-        _alloc: Global,
-        records: &mut R,
-        cfg: &mut ColoredConfig,
-        dims: &mut D,
-    ) -> Result<(), Fault>
+    fn change(self, _alloc: Global, records: &mut R, cfg: &mut C, dims: &mut D) -> Result<(), Fault>
         ensures answers { IsOk result }
-        ensures step { Steps (λ state outcome. looking (with_padding EveryCell (padding_sides self)) state ≡ outcome) result
-            (state_with (R.rows records.old) (look_of cfg.old.settings) (value_at cfg.old.colors) (D.sizes dims.old))
-            (state_with (R.rows records.new) (look_of cfg.new.settings) (value_at cfg.new.colors) (D.sizes dims.new)) }
+        ensures step { StepsTo (looking (with_padding EveryCell (padding_sides self))) result
+            (state_with (R.rows records.old) (C.look cfg.old) (C.colors cfg.old) (D.sizes dims.old)) (state_with (R.rows records.new) (C.look cfg.new) (C.colors cfg.new) (D.sizes dims.new)) }
     {
-        cfg.spanned_mut().set_padding(Entity::Global, self.indent)
+        cfg.put_padding(self.indent)
     }
 
     fn hint_change(&self) -> Option<Entity> {

@@ -6,8 +6,7 @@ ghost use Rattle.grid_config.specs.Looks.{look_of};
 ghost use Rattle.grid_config.specs.Spans.{IsAnchor};
 ghost use Rattle.tabled_options.specs.Spanning.{span_extent, span_size, spanned_at, spanning};
 ghost use Rattle.tabled_steps.specs.Looks.{with_columns, with_extents, with_rows};
-ghost use Rattle.tabled_steps.specs.States.{Steps, state_with};
-ghost use Rattle.grid_config_values.specs.Settings.{value_at};
+ghost use Rattle.tabled_steps.specs.States.{StepsTo, colored_state};
 ghost use Rattle.tabled_steps.specs.Stored.{Stored};
 
 use grid_config::{ColoredConfig, Entity, EntityIterator, Fault, Position, SpannedConfig};
@@ -154,9 +153,8 @@ impl<T: FromText> CellOption<VecRecords<T>, ColoredConfig> for Span {
         ensures outside { (row col : ℕ) → entity ≡ OneCell row col → span_size self.now ≢ 0 →
             (length (⟦<VecRecords<T> as RecordTexts>⟧.rows records.old) ≤ row)
             ⊎ (⟦<VecRecords<T> as RecordColumns>⟧.columns records.old ≤ col) → IsOk result }
-        ensures step { (sizes : Stored) → Steps (λ state outcome. spanning self.now entity state ≡ outcome) result
-            (state_with (⟦<VecRecords<T> as RecordTexts>⟧.rows records.old) (look_of cfg.old.settings) (value_at cfg.old.colors) sizes)
-            (state_with (⟦<VecRecords<T> as RecordTexts>⟧.rows records.new) (look_of cfg.new.settings) (value_at cfg.new.colors) sizes) }
+        ensures step { (sizes : Stored) → StepsTo (spanning self.now entity) result
+            (colored_state (⟦<VecRecords<T> as RecordTexts>⟧.rows records.old) cfg.old sizes) (colored_state (⟦<VecRecords<T> as RecordTexts>⟧.rows records.new) cfg.new sizes) }
     {
         if self.size == 0 {
             return Err(Fault::Spans);

@@ -5,11 +5,10 @@ ghost use Rattle.grid_config_values.specs.Glyphs.{no_borders};
 ghost use Rattle.tabled_glyphs.specs.Glyphs.{ascii, extended, modern};
 ghost use Rattle.tabled_options.specs.Styles.{style_borders};
 ghost use Rattle.tabled_steps.specs.Looks.{with_borders};
-ghost use Rattle.tabled_steps.specs.States.{Steps, looking, state_with};
-ghost use Rattle.grid_config.specs.Looks.{look_of};
-ghost use Rattle.grid_config_values.specs.Settings.{value_at};
+ghost use Rattle.tabled_steps.specs.States.{StepsTo, looking, state_with};
 
-use grid_config::{Borders, ColoredConfig, Entity, Fault};
+use crate::frame::FrameSettings;
+use grid_config::{Borders, Entity, Fault};
 use grid_records_traits::records::RecordTexts;
 use std::alloc::Global;
 use tabled_glyphs::{ascii, extended, modern};
@@ -72,24 +71,17 @@ impl From<Borders<char>> for Style {
 }
 
 /// Sets the glyphs of the boundaries. Does not allocate.
-impl<R: RecordTexts, D: KeptSizes> TableOption<R, ColoredConfig, D> for Style {
+impl<R: RecordTexts, C: FrameSettings, D: KeptSizes> TableOption<R, C, D> for Style {
     ghost step = { λ style state outcome. looking (with_borders (style_borders style)) state ≡ outcome };
 
     ghost hint = { λ _. Some EveryCell };
 
-    fn change(
-        self,
-        _alloc: Global,
-        records: &mut R,
-        cfg: &mut ColoredConfig,
-        dims: &mut D,
-    ) -> Result<(), Fault>
+    fn change(self, _alloc: Global, records: &mut R, cfg: &mut C, dims: &mut D) -> Result<(), Fault>
         ensures answers { IsOk result }
-        ensures step { Steps (λ state outcome. looking (with_borders (style_borders self)) state ≡ outcome) result
-            (state_with (R.rows records.old) (look_of cfg.old.settings) (value_at cfg.old.colors) (D.sizes dims.old))
-            (state_with (R.rows records.new) (look_of cfg.new.settings) (value_at cfg.new.colors) (D.sizes dims.new)) }
+        ensures step { StepsTo (looking (with_borders (style_borders self))) result
+            (state_with (R.rows records.old) (C.look cfg.old) (C.colors cfg.old) (D.sizes dims.old)) (state_with (R.rows records.new) (C.look cfg.new) (C.colors cfg.new) (D.sizes dims.new)) }
     {
-        cfg.spanned_mut().set_borders(self.borders);
+        cfg.put_borders(self.borders);
         Ok(())
     }
 

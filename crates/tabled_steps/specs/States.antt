@@ -1,11 +1,14 @@
 -- What a table is, and what a step makes of it.
-use Rattle.std.specs.Prelude.{◌≡◌, ℕ, ◌==◌, if◌then◌else◌, List, [], ◌∷◌, MatchResult, Option, Result, Ok, Err, length}
+use Rattle.std.specs.Prelude.{◌≡◌, ℕ, ◌==◌, if◌then◌else◌, List, [], ◌∷◌, MatchResult, None, Option, Result, Ok, Err, length}
 use Rattle.grid_config_values.specs.declared.entity.Entity.{Entity}
 use Rattle.grid_config_values.specs.declared.fault.Fault.{Fault}
 use Rattle.grid_config_values.specs.declared.fault.Fault.TheVariants.{Spans}
 use Rattle.grid_config_values.specs.declared.position.Position.{Position}
+use Rattle.grid_config_values.specs.Settings.{value_at}
+use Rattle.grid_config.specs.Coloring.{Coloring}
 use Rattle.grid_config.specs.Colors.{Color}
-use Rattle.grid_config.specs.Looks.{Look}
+use Rattle.grid_config.specs.Compact.{Compact}
+use Rattle.grid_config.specs.Looks.{Look, compact_look, look_of}
 use Rattle.tabled_steps.specs.Outcomes.{MayRefuse, ◌≫=◌}
 use Rattle.tabled_size_dimension.specs.Stored.{Stored, kept_after}
 
@@ -18,6 +21,14 @@ pub record State : Type 0 where
 
 abbrev pub state_with : List (List (List ℕ)) → Look → (Position → Option Color) → Stored → State
 state_with rows look colors sizes = record { rows = rows; look = look; colors = colors; sizes = sizes }
+
+-- a table by its settings and the colours of its cells
+abbrev pub colored_state : List (List (List ℕ)) → Coloring → Stored → State
+colored_state rows settings sizes = state_with rows (look_of settings.settings) (value_at settings.colors) sizes
+
+-- a table whose cells all have the same settings, and none a colour
+abbrev pub compact_state : List (List (List ℕ)) → Compact → Stored → State
+compact_state rows settings sizes = state_with rows (compact_look settings) (λ _. None) sizes
 
 -- how many columns rows have: as many as the first one has texts
 abbrev pub column_count : List (List (List ℕ)) → ℕ

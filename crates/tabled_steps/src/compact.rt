@@ -4,7 +4,7 @@ ghost use Rattle.grid_config.specs.Compact.{compact_of};
 ghost use Rattle.grid_config.specs.Looks.{compact_look};
 ghost use Rattle.grid_config_values.specs.declared.entity.Entity.TheVariants.{Global as EveryCell};
 ghost use Rattle.tabled_size_dimension.specs.Stored.{none_stored};
-ghost use Rattle.tabled_steps.specs.States.{Steps, looking, state_with};
+ghost use Rattle.tabled_steps.specs.States.{StepsTo, compact_state, looking};
 
 use crate::configuration::{Configuration, KeptSizes};
 use crate::option::TableOption;
@@ -39,9 +39,8 @@ impl<R: RecordTexts, D: KeptSizes> TableOption<R, CompactConfig, D> for CompactC
         dims: &mut D,
     ) -> Result<(), Fault>
         ensures answers { IsOk result }
-        ensures step { Steps (λ state outcome. looking (λ _. compact_look (compact_of self)) state ≡ outcome) result
-            (state_with (R.rows records.old) (compact_look (compact_of cfg.old)) (λ _. None) (D.sizes dims.old))
-            (state_with (R.rows records.new) (compact_look (compact_of cfg.new)) (λ _. None) (D.sizes dims.new)) }
+        ensures step { StepsTo (looking (λ _. compact_look (compact_of self))) result
+            (compact_state (R.rows records.old) (compact_of cfg.old) (D.sizes dims.old)) (compact_state (R.rows records.new) (compact_of cfg.new) (D.sizes dims.new)) }
     {
         *cfg = self;
         Ok(())

@@ -5,7 +5,7 @@ ghost use Rattle.grid_config_values.specs.Settings.{value_at};
 ghost use Rattle.grid_config.specs.Compact.{compact_of};
 ghost use Rattle.grid_config.specs.Looks.{compact_look, look_of};
 ghost use Rattle.grid_config.specs.Settings.{IsUncolored};
-ghost use Rattle.tabled_steps.specs.States.{Steps, looking, state_with};
+ghost use Rattle.tabled_steps.specs.States.{StepsTo, colored_state, looking};
 
 use crate::configuration::KeptSizes;
 use crate::option::TableOption;
@@ -32,9 +32,8 @@ impl<R: RecordTexts, D: KeptSizes> TableOption<R, ColoredConfig, D> for CompactC
         dims: &mut D,
     ) -> Result<(), Fault>
         ensures answers { IsUncolored (compact_of self) → IsOk result }
-        ensures step { Steps (λ state outcome. looking (λ _. compact_look (compact_of self)) state ≡ outcome) result
-            (state_with (R.rows records.old) (look_of cfg.old.settings) (value_at cfg.old.colors) (D.sizes dims.old))
-            (state_with (R.rows records.new) (look_of cfg.new.settings) (value_at cfg.new.colors) (D.sizes dims.new)) }
+        ensures step { StepsTo (looking (λ _. compact_look (compact_of self))) result
+            (colored_state (R.rows records.old) cfg.old (D.sizes dims.old)) (colored_state (R.rows records.new) cfg.new (D.sizes dims.new)) }
     {
         let config = SpannedConfig::from_compact_config(alloc, self)?;
         let_go(mem::replace(cfg.spanned_mut(), config));
@@ -60,9 +59,8 @@ impl<R: RecordTexts, D: KeptSizes> TableOption<R, ColoredConfig, D> for SpannedC
         dims: &mut D,
     ) -> Result<(), Fault>
         ensures answers { IsOk result }
-        ensures step { Steps (λ state outcome. looking (λ _. look_of self) state ≡ outcome) result
-            (state_with (R.rows records.old) (look_of cfg.old.settings) (value_at cfg.old.colors) (D.sizes dims.old))
-            (state_with (R.rows records.new) (look_of cfg.new.settings) (value_at cfg.new.colors) (D.sizes dims.new)) }
+        ensures step { StepsTo (looking (λ _. look_of self)) result
+            (colored_state (R.rows records.old) cfg.old (D.sizes dims.old)) (colored_state (R.rows records.new) cfg.new (D.sizes dims.new)) }
     {
         let_go(mem::replace(cfg.spanned_mut(), self));
         Ok(())
@@ -110,9 +108,8 @@ impl<R: RecordTexts, D: KeptSizes> TableOption<R, ColoredConfig, D> for ColoredC
         dims: &mut D,
     ) -> Result<(), Fault>
         ensures answers { IsOk result }
-        ensures step { Steps (λ state outcome. Ok (record state { look = look_of self.settings; colors = value_at self.colors }) ≡ outcome) result
-            (state_with (R.rows records.old) (look_of cfg.old.settings) (value_at cfg.old.colors) (D.sizes dims.old))
-            (state_with (R.rows records.new) (look_of cfg.new.settings) (value_at cfg.new.colors) (D.sizes dims.new)) }
+        ensures step { StepsTo (λ state. Ok (record state { look = look_of self.settings; colors = value_at self.colors })) result
+            (colored_state (R.rows records.old) cfg.old (D.sizes dims.old)) (colored_state (R.rows records.new) cfg.new (D.sizes dims.new)) }
     {
         let_go(mem::replace(cfg, self));
         Ok(())

@@ -2,9 +2,7 @@
 ghost use Rattle.std.specs.Prelude.{◌≡◌, ℕ, IfOk, IsOk, List, None};
 ghost use Rattle.std.specs.Iterator.{Drains, IsFinite};
 ghost use Rattle.tabled_width.specs.Lists.{with_width_list};
-ghost use Rattle.tabled_steps.specs.States.{Steps, state_with};
-ghost use Rattle.grid_config.specs.Looks.{look_of};
-ghost use Rattle.grid_config_values.specs.Settings.{value_at};
+ghost use Rattle.tabled_steps.specs.States.{StepsTo, colored_state};
 
 use grid_config::{ColoredConfig, Entity, Fault};
 use grid_records_rows::{FromText, VecRecords};
@@ -76,9 +74,8 @@ impl<T: FromText> TableOption<VecRecords<T>, ColoredConfig, CompleteDimension> f
         dims: &mut CompleteDimension,
     ) -> Result<(), Fault>
         ensures answers { IsOk result }
-        ensures step { Steps (λ state outcome. with_width_list self state ≡ outcome) result
-            (state_with (⟦<VecRecords<T> as RecordTexts>⟧.rows records.old) (look_of cfg.old.settings) (value_at cfg.old.colors) dims.old)
-            (state_with (⟦<VecRecords<T> as RecordTexts>⟧.rows records.new) (look_of cfg.new.settings) (value_at cfg.new.colors) dims.new) }
+        ensures step { StepsTo (with_width_list self) result
+            (colored_state (⟦<VecRecords<T> as RecordTexts>⟧.rows records.old) cfg.old dims.old) (colored_state (⟦<VecRecords<T> as RecordTexts>⟧.rows records.new) cfg.new dims.new) }
     {
         if self.widths.len() >= records.count_columns() {
             dims.set_widths(self.widths);

@@ -2,13 +2,11 @@
 ghost use Rattle.std.specs.Prelude.{◌≡◌, [], IfOk, IsOk, None, Some, false, length};
 ghost use Rattle.std.specs.Cow.{IsOwnedStr, cow_str_bytes};
 ghost use Rattle.grid_records_measure.specs.Cutting.{IsPlainCut};
-ghost use Rattle.grid_config.specs.Looks.{look_of};
-ghost use Rattle.grid_config_values.specs.Settings.{value_at};
 ghost use Rattle.grid_config_values.specs.declared.entity.Entity.TheVariants.{Global as EveryCell};
 ghost use Rattle.tabled_size_dimension.specs.declared.suffix.SuffixLimit.TheVariants.{Cut as CutSuffix};
 ghost use Rattle.tabled_size_wrap.specs.Bytes.{cut_at};
 ghost use Rattle.tabled_steps.specs.Changes.{changing};
-ghost use Rattle.tabled_steps.specs.States.{Steps, state_with};
+ghost use Rattle.tabled_steps.specs.States.{Steps, colored_state};
 ghost use Rattle.tabled_width_texts.specs.Cutting.{truncating};
 ghost use Rattle.tabled_width.specs.Options.{truncation};
 ghost use Rattle.tabled_width_tables.specs.Steps.{Measured};
@@ -211,8 +209,7 @@ impl<'a, T: FromText, W: Measurement<Width> + Drop, P: Peaker + Drop> TableOptio
         ensures no_rows { length (⟦<VecRecords<T> as RecordTexts>⟧.rows records.old) ≡ 0 → IsOk result }
         ensures no_columns { ⟦<VecRecords<T> as RecordColumns>⟧.columns records.old ≡ 0 → IsOk result }
         ensures step { Steps (NarrowsTable P.shrinks (truncation self.entry).priority (truncating (truncation self.entry).cutting) (W.measures (truncation self.entry).width)) result
-            (state_with (⟦<VecRecords<T> as RecordTexts>⟧.rows records.old) (look_of cfg.old.settings) (value_at cfg.old.colors) dims.old)
-            (state_with (⟦<VecRecords<T> as RecordTexts>⟧.rows records.new) (look_of cfg.new.settings) (value_at cfg.new.colors) dims.new) }
+            (colored_state (⟦<VecRecords<T> as RecordTexts>⟧.rows records.old) cfg.old dims.old) (colored_state (⟦<VecRecords<T> as RecordTexts>⟧.rows records.new) cfg.new dims.new) }
     {
         let cut = self.cut();
         let width = self.width;

@@ -1,11 +1,9 @@
 //! Texts that are broken at a width.
 ghost use Rattle.std.specs.Prelude.{◌≡◌, IfOk, IsOk, Some, false, length, string_bytes};
-ghost use Rattle.grid_config.specs.Looks.{look_of};
-ghost use Rattle.grid_config_values.specs.Settings.{value_at};
 ghost use Rattle.grid_config_values.specs.declared.entity.Entity.TheVariants.{Global as EveryCell, Row as OneRow};
 ghost use Rattle.tabled_size_wrap.specs.Bytes.{wrapped_text};
 ghost use Rattle.tabled_steps.specs.Changes.{changing};
-ghost use Rattle.tabled_steps.specs.States.{Steps, state_with};
+ghost use Rattle.tabled_steps.specs.States.{Steps, colored_state};
 ghost use Rattle.tabled_width_texts.specs.Breaking.{breaking, wrapping_wider};
 ghost use Rattle.tabled_width.specs.Options.{wrapping};
 ghost use Rattle.tabled_width_tables.specs.Steps.{Measured};
@@ -138,8 +136,7 @@ impl<T: FromText, W: Measurement<Width> + Drop, P: Peaker + Drop> TableOption<
         ensures no_rows { length (⟦<VecRecords<T> as RecordTexts>⟧.rows records.old) ≡ 0 → IsOk result }
         ensures no_columns { ⟦<VecRecords<T> as RecordColumns>⟧.columns records.old ≡ 0 → IsOk result }
         ensures step { Steps (NarrowsTable P.shrinks (wrapping self).priority (breaking (wrapping self).keep_words) (W.measures (wrapping self).width)) result
-            (state_with (⟦<VecRecords<T> as RecordTexts>⟧.rows records.old) (look_of cfg.old.settings) (value_at cfg.old.colors) dims.old)
-            (state_with (⟦<VecRecords<T> as RecordTexts>⟧.rows records.new) (look_of cfg.new.settings) (value_at cfg.new.colors) dims.new) }
+            (colored_state (⟦<VecRecords<T> as RecordTexts>⟧.rows records.old) cfg.old dims.old) (colored_state (⟦<VecRecords<T> as RecordTexts>⟧.rows records.new) cfg.new dims.new) }
     {
         let change = Breaking {
             keep_words: self.keep_words,
