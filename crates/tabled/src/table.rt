@@ -10,7 +10,7 @@ ghost use Rattle.grid_records_traits.specs.Rows.{text_at};
 ghost use Rattle.grid_records_traits.specs.Sources.{texts_of_rows};
 ghost use Rattle.tabled.specs.Lending.{LendsConfig, LendsDimension, LendsRecords};
 ghost use Rattle.tabled.specs.Tables.{new_look, new_state, state_of};
-ghost use Rattle.tabled_steps.specs.Outcomes.{MayRefuse};
+ghost use Rattle.tabled_steps.specs.Outcomes.{MayRefuseStep};
 ghost use Rattle.tabled_text.specs.Rows.{filled};
 ghost use Rattle.tabled_steps.specs.States.{Settles, Steps, column_count};
 
@@ -130,7 +130,7 @@ impl<T: FromText> Table<T> {
     ) -> Result<&mut Self, Fault>
         ensures lends { IfOk result (λ table. table.ghost_name ≡ self.entry.ghost_name) }
         ensures step { IfOk result (λ table. Settles (O.hint option) (O.step option) (state_of T.text self.old) (Ok (state_of T.text table.now))) }
-        ensures refused { IfErr result (λ fault. MayRefuse fault (Settles (O.hint option) (O.step option) (state_of T.text self.old))) }
+        ensures refused { IfErr result (λ fault. MayRefuseStep fault (Settles (O.hint option) (O.step option) (state_of T.text self.old))) }
     {
         self.set(option)?;
         Ok(self)
@@ -145,7 +145,7 @@ impl<T: FromText> Table<T> {
     ) -> Result<&mut Self, Fault>
         ensures lends { IfOk result (λ table. table.ghost_name ≡ self.entry.ghost_name) }
         ensures step { IfOk result (λ table. Settles (O.hint option.now) (O.step option.now target) (state_of T.text self.old) (Ok (state_of T.text table.now))) }
-        ensures refused { IfErr result (λ fault. MayRefuse fault (Settles (O.hint option.now) (O.step option.now target) (state_of T.text self.old))) }
+        ensures refused { IfErr result (λ fault. MayRefuseStep fault (Settles (O.hint option.now) (O.step option.now target) (state_of T.text self.old))) }
     {
         self.set_cells(target, option)?;
         Ok(self)

@@ -6,7 +6,7 @@ ghost use Rattle.grid_config.specs.Compact.{compact_of};
 ghost use Rattle.grid_config_values.specs.declared.fault.Fault.TheVariants.{Memory};
 ghost use Rattle.grid_records_traits.specs.Rows.{fitted};
 ghost use Rattle.papergrid.specs.Compact.{FitsCompact, IsCompactAnswer, compact_text};
-ghost use Rattle.tabled_steps.specs.Outcomes.{MayRefuse};
+ghost use Rattle.tabled_steps.specs.Outcomes.{MayRefuseStep};
 ghost use Rattle.tabled_steps.specs.States.{Steps};
 ghost use Rattle.tabled_size_dimension.specs.Sizes.{given_size};
 ghost use Rattle.tabled_size_dimension.specs.Values.{const_sizes};
@@ -200,7 +200,7 @@ impl<I: RecordTexts, D: Dimension> CompactTable<I, D> {
         ensures lends { IfOk result (λ table. table.ghost_name ≡ self.entry.ghost_name) }
         ensures step { IfOk result (λ table. O.step option (seen (compacted I.rows D.width self.old)) (Ok (seen (compacted I.rows D.width table.now)))) }
         ensures others { IfOk result (λ table. KeepsShape (compacted I.rows D.width self.old) (compacted I.rows D.width table.now)) }
-        ensures refused { IfErr result (λ fault. MayRefuse fault (O.step option (seen (compacted I.rows D.width self.old)))) }
+        ensures refused { IfErr result (λ fault. MayRefuseStep fault (O.step option (seen (compacted I.rows D.width self.old)))) }
     {
         self.set(alloc, option)?;
         Ok(self)

@@ -16,7 +16,7 @@ use Rattle.grid_records_estimate.specs.Totals.{total}
 use Rattle.grid_records_traits.proofs.FittedRows.{fitted-twice}
 use Rattle.grid_records_traits.specs.Rows.{fitted}
 use Rattle.tabled_steps.proofs.Estimating.{heights_by_look}
-use Rattle.tabled_steps.specs.Outcomes.{◌≫=◌, Gives, MayRefuse, sized}
+use Rattle.tabled_steps.specs.Outcomes.{◌≫=◌, GivesState, MayRefuseStep, sized}
 use Rattle.tabled_steps.specs.Sizes.{natural_heights, row_axis}
 use Rattle.tabled_height.proofs.Giving.{gives_follow, may_follow, memory_may, range_may, sized_held, sized_passed}
 use Rattle.tabled_height.specs.Heights.{Estimate, counted, estimate_with, estimated, height_total, hundredths, percent_of_height}
@@ -30,7 +30,7 @@ counted_passed look heights high =
     ap (λ (lines : Result ℕ Fault). lines ≫= λ lines. Ok (estimate_with heights lines)) (sized_passed (height_total look heights) high)
 
 module _ (settings : Settings) (columns : ℕ) (rows : List (List (List ℕ))) where
-  pub estimate_refused : (fault : Fault) → IsRefusal fault (PassesMax (table_heights (sizing_of settings) columns rows)) → MayRefuse fault (λ outcome. estimated (look_of settings) columns rows ≡ outcome)
+  pub estimate_refused : (fault : Fault) → IsRefusal fault (PassesMax (table_heights (sizing_of settings) columns rows)) → MayRefuseStep fault (λ outcome. estimated (look_of settings) columns rows ≡ outcome)
   estimate_refused fault (inl memory) = memory_may fault (λ outcome. estimated (look_of settings) columns rows ≡ outcome) memory
   estimate_refused fault (inr passes) =
       let look : Look = look_of settings in
@@ -40,7 +40,7 @@ module _ (settings : Settings) (columns : ℕ) (rows : List (List (List ℕ))) w
       (total-passes (natural_heights look columns rows) (boundary_count (has_row_boundary look.borders) (length (natural_heights look columns rows))) look.margin.top.size look.margin.bottom.size natural))
 
   module _ (heights : List ℕ) (is : heights ≡ table_heights (sizing_of settings) columns rows) where
-    pub total_refused : (fault : Fault) → fault ≡ Range → 2 ^ 64 ≤ height_total (look_of settings) heights → MayRefuse fault (λ outcome. estimated (look_of settings) columns rows ≡ outcome)
+    pub total_refused : (fault : Fault) → fault ≡ Range → 2 ^ 64 ≤ height_total (look_of settings) heights → MayRefuseStep fault (λ outcome. estimated (look_of settings) columns rows ≡ outcome)
     total_refused fault range high =
         let same : heights ≡ natural_heights (look_of settings) columns rows = is ∙ heights_by_look settings columns rows in
         range_may fault (λ outcome. estimated (look_of settings) columns rows ≡ outcome) range (ap (counted (look_of settings)) (sym same) ∙ counted_passed (look_of settings) heights high)
@@ -72,13 +72,13 @@ estimated_fitted look columns peeked_columns rows peeked counts fits =
 -- ---- hundredths
 
 module _ (percent columns : ℕ) (rows : List (List (List ℕ))) (look : Look) where
-  pub percent_refused : (fault : Fault) → MayRefuse fault (λ outcome. estimated look columns rows ≡ outcome) → MayRefuse fault (λ outcome. percent_of_height percent columns rows look ≡ outcome)
+  pub percent_refused : (fault : Fault) → MayRefuseStep fault (λ outcome. estimated look columns rows ≡ outcome) → MayRefuseStep fault (λ outcome. percent_of_height percent columns rows look ≡ outcome)
   percent_refused fault may =
       may_follow fault (λ outcome. estimated look columns rows ≡ outcome) (λ outcome. percent_of_height percent columns rows look ≡ outcome)
       (λ f is. ap (λ (estimate : Result Estimate Fault). estimate ≫= λ estimate. hundredths percent estimate.lines) is) may
 
-  pub percent_held : (heights : List ℕ) (lines : ℕ) (result : Result ℕ Fault) → estimated look columns rows ≡ Ok (estimate_with heights lines) → Gives (λ n. n) result (λ outcome. hundredths percent lines ≡ outcome) →
-      Gives (λ n. n) result (λ outcome. percent_of_height percent columns rows look ≡ outcome)
+  pub percent_held : (heights : List ℕ) (lines : ℕ) (result : Result ℕ Fault) → estimated look columns rows ≡ Ok (estimate_with heights lines) → GivesState (λ n. n) result (λ outcome. hundredths percent lines ≡ outcome) →
+      GivesState (λ n. n) result (λ outcome. percent_of_height percent columns rows look ≡ outcome)
   percent_held heights lines result is given =
       gives_follow (λ n. n) result (λ outcome. hundredths percent lines ≡ outcome) (λ outcome. percent_of_height percent columns rows look ≡ outcome)
       (λ outcome found. ap (λ (estimate : Result Estimate Fault). estimate ≫= λ estimate. hundredths percent estimate.lines) is ∙ found) given

@@ -3,7 +3,7 @@ use Rattle.std.proofs.Common.{◌≡◌, ◌^◌, ◌<◌, ◌≤◌, ℕ, false
 use Rattle.std.proofs.lemmas.Bool.Decides.{nat_tests}
 use Rattle.grid_config_values.specs.declared.fault.Fault.{Fault}
 use Rattle.grid_config_values.specs.declared.fault.Fault.TheVariants.{Memory, Range, Spans, Room}
-use Rattle.tabled_steps.specs.Outcomes.{Gives, MayRefuse, passes, sized}
+use Rattle.tabled_steps.specs.Outcomes.{GivesState, MayRefuseStep, passes, sized}
 use Rattle.tabled_steps.specs.States.{Outcome, State, column_count}
 use Rattle.tabled_height.specs.Steps.{Measured, Measuring}
 
@@ -21,25 +21,25 @@ sized_passed n high = rw (passed n high) refl
 
 -- ---- refusals
 
-pub memory_may : {Y : Type 0} (fault : Fault) (gives : Result Y Fault → Type 0) → fault ≡ Memory → MayRefuse fault gives
-memory_may fault gives is = subst (λ (fault : Fault). MayRefuse fault gives) (sym is) tt
+pub memory_may : {Y : Type 0} (fault : Fault) (gives : Result Y Fault → Type 0) → fault ≡ Memory → MayRefuseStep fault gives
+memory_may fault gives is = subst (λ (fault : Fault). MayRefuseStep fault gives) (sym is) tt
 
-pub range_may : {Y : Type 0} (fault : Fault) (gives : Result Y Fault → Type 0) → fault ≡ Range → gives (Err Range) → MayRefuse fault gives
-range_may fault gives is given = subst (λ (fault : Fault). MayRefuse fault gives) (sym is) given
+pub range_may : {Y : Type 0} (fault : Fault) (gives : Result Y Fault → Type 0) → fault ≡ Range → gives (Err Range) → MayRefuseStep fault gives
+range_may fault gives is given = subst (λ (fault : Fault). MayRefuseStep fault gives) (sym is) given
 
 -- what is refused as one is refused as another that follows from it
-pub may_follow : {Y Z : Type 0} (fault : Fault) (gives : Result Y Fault → Type 0) (others : Result Z Fault → Type 0) → ((f : Fault) → gives (Err f) → others (Err f)) → MayRefuse fault gives → MayRefuse fault others
+pub may_follow : {Y Z : Type 0} (fault : Fault) (gives : Result Y Fault → Type 0) (others : Result Z Fault → Type 0) → ((f : Fault) → gives (Err f) → others (Err f)) → MayRefuseStep fault gives → MayRefuseStep fault others
 may_follow Memory gives others follows may = tt
 may_follow Range gives others follows may = follows Range may
 may_follow Spans gives others follows may = follows Spans may
 may_follow (Room row column) gives others follows may = follows (Room row column) may
 
-pub gives_follow : {X Y : Type 0} (view : X → Y) (result : Result X Fault) (gives others : Result Y Fault → Type 0) → ((outcome : Result Y Fault) → gives outcome → others outcome) → Gives view result gives → Gives view result others
+pub gives_follow : {X Y : Type 0} (view : X → Y) (result : Result X Fault) (gives others : Result Y Fault → Type 0) → ((outcome : Result Y Fault) → gives outcome → others outcome) → GivesState view result gives → GivesState view result others
 gives_follow view (Ok x) gives others follows given = follows (Ok (view x)) given
 gives_follow view (Err fault) gives others follows given = may_follow fault gives others (λ f. follows (Err f)) given
 
 -- what is exactly worked out is given
-pub gives_exactly : (result outcome : Result ℕ Fault) → result ≡ outcome → Gives (λ n. n) result (λ other. outcome ≡ other)
+pub gives_exactly : (result outcome : Result ℕ Fault) → result ≡ outcome → GivesState (λ n. n) result (λ other. outcome ≡ other)
 gives_exactly (Ok n) outcome is = sym is
 gives_exactly (Err Memory) outcome is = tt
 gives_exactly (Err Range) outcome is = sym is
@@ -52,9 +52,9 @@ module _ (measures : Measuring) (step : ℕ → State → Outcome → Type 0) (s
   pub measured : (n : ℕ) (outcome : Outcome) → measures (column_count s.rows) s.rows s.look (Ok n) → step n s outcome → Measured measures step s outcome
   measured n outcome measure done = (Ok n, measure, done)
 
-  pub measure_refused : (fault : Fault) → MayRefuse fault (measures (column_count s.rows) s.rows s.look) → MayRefuse fault (Measured measures step s)
+  pub measure_refused : (fault : Fault) → MayRefuseStep fault (measures (column_count s.rows) s.rows s.look) → MayRefuseStep fault (Measured measures step s)
   measure_refused fault may = may_follow fault (measures (column_count s.rows) s.rows s.look) (Measured measures step s) (λ f measure. (Err f, measure, refl)) may
 
   -- what the step by a height is refused as, so is the whole
-  pub step_refused : (n : ℕ) (fault : Fault) → measures (column_count s.rows) s.rows s.look (Ok n) → MayRefuse fault (step n s) → MayRefuse fault (Measured measures step s)
+  pub step_refused : (n : ℕ) (fault : Fault) → measures (column_count s.rows) s.rows s.look (Ok n) → MayRefuseStep fault (step n s) → MayRefuseStep fault (Measured measures step s)
   step_refused n fault measure may = may_follow fault (step n s) (Measured measures step s) (λ f done. (Ok n, measure, done)) may

@@ -9,7 +9,7 @@ use Rattle.grid_config.specs.Looks.{look_of}
 use Rattle.grid_config.specs.Settings.{Settings}
 use Rattle.grid_config_values.specs.declared.position.Position.{Position}
 use Rattle.tabled_size_dimension.specs.Stored.{Stored}
-use Rattle.tabled_steps.specs.Outcomes.{MayRefuse}
+use Rattle.tabled_steps.specs.Outcomes.{MayRefuseStep}
 use Rattle.tabled_steps.specs.States.{Outcome, State, column_count, state_with}
 use Rattle.tabled_height.proofs.Giving.{may_follow}
 use Rattle.tabled_height.specs.Heights.{Estimate, estimate_with, estimated}
@@ -46,7 +46,7 @@ module _ (measures : Measuring) (finds : ℕ → Estimate → Option (List ℕ) 
   resized : (outcome : Outcome) → Resizes (finds n) change s outcome → Step s outcome
   resized outcome done = record { without_cells = λ none. absurd (conflict (has_no_cells s) none cells); with_cells = λ _. (Ok n, measure, done) }
 
-  pub resize_refused : (fault : Fault) → MayRefuse fault (λ outcome. estimated s.look (column_count s.rows) s.rows ≡ outcome) → MayRefuse fault (Step s)
+  pub resize_refused : (fault : Fault) → MayRefuseStep fault (λ outcome. estimated s.look (column_count s.rows) s.rows ≡ outcome) → MayRefuseStep fault (Step s)
   resize_refused fault may =
       may_follow fault (λ outcome. estimated s.look (column_count s.rows) s.rows ≡ outcome) (Step s) (λ f is. resized (Err f) (rw is refl)) may
 
@@ -71,9 +71,9 @@ module _ (measures : Measuring) (finds : ℕ → Estimate → Option (List ℕ) 
   same_estimate : estimated (look_of again) columns rows ≡ estimated (look_of settings) (column_count rows) rows
   same_estimate = estimated_here rows columns (column_count rows) again settings counted is_again
 
-  pub rows_refused : (fault : Fault) → MayRefuse fault (λ outcome. estimated (look_of again) columns rows ≡ outcome) → MayRefuse fault (WhereCells (Measured measures (λ height. Resizes (finds height) change)) here)
+  pub rows_refused : (fault : Fault) → MayRefuseStep fault (λ outcome. estimated (look_of again) columns rows ≡ outcome) → MayRefuseStep fault (WhereCells (Measured measures (λ height. Resizes (finds height) change)) here)
   rows_refused fault may =
-      resize_refused measures finds change here cells n measured fault (subst (λ (estimate : Result Estimate Fault). MayRefuse fault (λ outcome. estimate ≡ outcome)) same_estimate may)
+      resize_refused measures finds change here cells n measured fault (subst (λ (estimate : Result Estimate Fault). MayRefuseStep fault (λ outcome. estimate ≡ outcome)) same_estimate may)
 
   pub rows_done : (heights : List ℕ) (lines : ℕ) (found : Option (List ℕ)) (new : State) → estimated (look_of again) columns rows ≡ Ok (estimate_with heights lines) →
       finds n (estimate_with heights lines) found → change found here ≡ new → WhereCells (Measured measures (λ height. Resizes (finds height) change)) here (Ok new)

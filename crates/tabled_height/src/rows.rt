@@ -2,7 +2,7 @@
 ghost use Rattle.std.specs.Prelude.{◌≡◌, ◌≤◌, IfOk, replicate, sum};
 ghost use Rattle.std.specs.Option.{option_map};
 ghost use Rattle.grid_config.specs.Looks.{look_of};
-ghost use Rattle.tabled_steps.specs.Outcomes.{Answers};
+ghost use Rattle.tabled_steps.specs.Outcomes.{AnswersStep};
 ghost use Rattle.tabled_height.specs.Heights.{estimate_with, estimated};
 ghost use Rattle.tabled_height.specs.Steps.{GrownRows, ShrunkRows};
 
@@ -28,7 +28,7 @@ impl RowHeights {
         records: R,
         cfg: &SpannedConfig,
     ) -> Result<RowHeights, Fault>
-        ensures { Answers (λ rows. estimate_with rows.heights.items rows.lines) result (estimated (look_of cfg.now) (R.columns records) (R.rows records)) }
+        ensures { AnswersStep (λ rows. estimate_with rows.heights.items rows.lines) result (estimated (look_of cfg.now) (R.columns records) (R.rows records)) }
     {
         let heights = IterGridDimension::height(alloc, records, cfg)?;
         let boundaries = cfg.count_horizontal(heights.len());

@@ -23,7 +23,7 @@ use Rattle.tabled_size_dimension.specs.Sizes.{GivenSizes, given_size}
 use Rattle.tabled_compact.specs.Columns.{column_width}
 use Rattle.tabled_iter.specs.Content.{heights_or, row_height, widths_or}
 use Rattle.tabled_iter.specs.Drawing.{IsDrawn}
-use Rattle.tabled_iter.specs.Padded.{AreGreater, Passes, listed}
+use Rattle.tabled_iter.specs.Padded.{AreGreater, PassesRange, listed}
 use Rattle.tabled_iter.specs.Tables.{IsFit, Streamed, column_count, content_heights, content_widths, frame, height_at, printed, shown_rows, sniffed, width_at}
 use Rattle.tabled_iter.proofs.Shapes.{high_passes, kept-map, one_passes, wide_passes}
 
@@ -153,8 +153,8 @@ rows-counted table =
     ∙ length-map (kept_of table.kept table.rows) (truncated_row (given_size (content_widths table)) 0)
 
 pub refused_unfit : (table : Streamed) (fault : Fault) → 0 < column_count table → 0 < length (kept_of table.kept table.rows) →
-    (fault ≡ Memory) ⊎ ((fault ≡ PassesMax) × (Passes (table.settings.padding.left.size + table.settings.padding.right.size) (content_widths table)
-    ⊎ Passes (table.settings.padding.top.size + table.settings.padding.bottom.size) (content_heights table))) → (fault ≡ Memory) ⊎ IsFit table (Err fault)
+    (fault ≡ Memory) ⊎ ((fault ≡ PassesMax) × (PassesRange (table.settings.padding.left.size + table.settings.padding.right.size) (content_widths table)
+    ⊎ PassesRange (table.settings.padding.top.size + table.settings.padding.bottom.size) (content_heights table))) → (fault ≡ Memory) ⊎ IsFit table (Err fault)
 refused_unfit table fault some_columns some_kept (inl memory) = inl memory
 refused_unfit table fault some_columns some_kept (inr range) =
     let columns : ℕ = column_count table in
@@ -223,7 +223,7 @@ module _ (table : Streamed) (padding : Sides Indent) (columns : ℕ) (texts : Li
       ∙ ap (λ (texts : List (List (List ℕ))). heights_or table.height table.width (column_count table) (kept_of table.kept texts)) same_texts
 
   abbrev Told : Fault → Sides Indent → GivenSizes → GivenSizes → Type 0
-  Told fault padding widths heights = (fault ≡ Memory) ⊎ ((fault ≡ PassesMax) × (Passes (padding.left.size + padding.right.size) widths ⊎ Passes (padding.top.size + padding.bottom.size) heights))
+  Told fault padding widths heights = (fault ≡ Memory) ⊎ ((fault ≡ PassesMax) × (PassesRange (padding.left.size + padding.right.size) widths ⊎ PassesRange (padding.top.size + padding.bottom.size) heights))
 
   pub refused_here : (fault : Fault) → 0 < columns → 0 < length (kept_of table.kept table.rows) →
       Told fault padding (widths_or table.width columns texts) (heights_or table.height table.width columns (kept_of table.kept texts)) → (fault ≡ Memory) ⊎ IsFit table (Err fault)

@@ -13,5 +13,5 @@ listed (Listed sizes) = length sizes
 listed (ListedBefore sizes size) = length sizes
 
 -- one of the list, or that of all others, passes the greatest `usize`
-abbrev pub Passes : ℕ → GivenSizes → Type 0
-Passes more sizes = (k : ℕ) × (k ≤ listed sizes) × (2 ^ 64 ≤ given_size sizes k + more)
+abbrev pub PassesRange : ℕ → GivenSizes → Type 0
+PassesRange more sizes = (k : ℕ) × (k ≤ listed sizes) × (2 ^ 64 ≤ given_size sizes k + more)

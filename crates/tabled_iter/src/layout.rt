@@ -4,7 +4,7 @@ ghost use Rattle.grid_config_values.specs.declared.fault.Fault.TheVariants.{Memo
 ghost use Rattle.grid_records_traits.specs.Sources.{texts_of_rows};
 ghost use Rattle.tabled_compact.specs.Tables.{kept_of};
 ghost use Rattle.tabled_iter.specs.Content.{heights_or, widths_or};
-ghost use Rattle.tabled_iter.specs.Padded.{AreGreater, Passes};
+ghost use Rattle.tabled_iter.specs.Padded.{AreGreater, PassesRange};
 
 use crate::content::{first, heights_or, widths_or};
 use crate::padded::padded;
@@ -46,8 +46,8 @@ pub(crate) fn layout_of<C: Cell>(
         (λ layout. AreGreater (padding.top.size + padding.bottom.size)
         (heights_or shape.height shape.width columns (kept_of shape.kept texts)) layout.sizes.1) }
     ensures refused { let texts = texts_of_rows C.text sniffed.now in IfErr result (λ fault. (fault ≡ Memory)
-        ⊎ ((fault ≡ PassesMax) × (Passes (padding.left.size + padding.right.size) (widths_or shape.width columns texts)
-        ⊎ Passes (padding.top.size + padding.bottom.size) (heights_or shape.height shape.width columns (kept_of shape.kept texts))))) }
+        ⊎ ((fault ≡ PassesMax) × (PassesRange (padding.left.size + padding.right.size) (widths_or shape.width columns texts)
+        ⊎ PassesRange (padding.top.size + padding.bottom.size) (heights_or shape.height shape.width columns (kept_of shape.kept texts))))) }
 {
     let widths = widths_or(alloc, shape.width, columns, sniffed)?;
     let kept = first_kept(sniffed, shape.kept);

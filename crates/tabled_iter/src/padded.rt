@@ -1,7 +1,7 @@
 //! Sizes with paddings.
 ghost use Rattle.std.specs.Prelude.{◌≡◌, ◌≤◌, ◌<◌, ◌+◌, ◌++◌, ◌∷◌, [], ◌^◌, ◌⊎◌, ℕ, IfErr, IfOk, OnOk, length, map, slice_index};
 ghost use Rattle.grid_config_values.specs.declared.fault.Fault.TheVariants.{Memory, Range as PassesMax};
-ghost use Rattle.tabled_iter.specs.Padded.{AreGreater, Passes};
+ghost use Rattle.tabled_iter.specs.Padded.{AreGreater, PassesRange};
 ghost use Rattle.tabled_size_dimension.specs.Values.{value_sizes};
 
 use grid_config::Fault;
@@ -17,7 +17,7 @@ pub(crate) fn padded(
     behind: usize,
 ) -> Result<DimensionValue, Fault>
     ensures sums { IfOk result (λ sums. AreGreater (before + behind) (value_sizes sizes.now) (value_sizes sums)) }
-    ensures refused { IfErr result (λ fault. (fault ≡ Memory) ⊎ ((fault ≡ PassesMax) × Passes (before + behind) (value_sizes sizes.now))) }
+    ensures refused { IfErr result (λ fault. (fault ≡ Memory) ⊎ ((fault ≡ PassesMax) × PassesRange (before + behind) (value_sizes sizes.now))) }
 {
     match sizes {
         DimensionValue::Exact(size) => Ok(DimensionValue::Exact(sum(*size, before, behind)?)),

@@ -6,7 +6,7 @@ ghost use Rattle.tabled_compact.specs.Building.{BuildRefusal, NoTable};
 ghost use Rattle.tabled_iter.specs.Tables.{IsFit, KeepsShape, begun, printed, seen, streamed};
 ghost use Rattle.tabled_output.specs.Counts.{FailsIff, OnlyWrites, TakesNothingIff, inner_of};
 ghost use Rattle.tabled_output.specs.Streams.{AppendsFront};
-ghost use Rattle.tabled_steps.specs.Outcomes.{MayRefuse};
+ghost use Rattle.tabled_steps.specs.Outcomes.{MayRefuseStep};
 ghost use Rattle.tabled_steps.specs.States.{Steps};
 
 use crate::content::{columns_or, first};
@@ -125,7 +125,7 @@ impl<I: RecordTexts> IterTable<I> {
         ensures lends { IfOk result (λ table. table.ghost_name ≡ self.entry.ghost_name) }
         ensures step { IfOk result (λ table. O.step option (seen (streamed I.rows self.old)) (Ok (seen (streamed I.rows table.now)))) }
         ensures others { IfOk result (λ table. KeepsShape (streamed I.rows self.old) (streamed I.rows table.now)) }
-        ensures refused { IfErr result (λ fault. MayRefuse fault (O.step option (seen (streamed I.rows self.old)))) }
+        ensures refused { IfErr result (λ fault. MayRefuseStep fault (O.step option (seen (streamed I.rows self.old)))) }
     {
         self.set(alloc, option)?;
         Ok(self)

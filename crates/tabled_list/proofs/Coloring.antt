@@ -11,7 +11,7 @@ use Rattle.grid_config_values.specs.declared.fault.Fault.TheVariants.{Memory}
 use Rattle.grid_config_values.specs.declared.position.Position.{Position}
 use Rattle.tabled_list.specs.Settings.{coloring}
 use Rattle.tabled_size_dimension.specs.Stored.{Stored}
-use Rattle.tabled_steps.specs.Outcomes.{MayRefuse}
+use Rattle.tabled_steps.specs.Outcomes.{MayRefuseStep}
 use Rattle.tabled_steps.specs.States.{StepsTo, state_with}
 
 abbrev Colors : Type 0
@@ -24,5 +24,5 @@ module _ {X : Type 0} (rows : List (List (List ℕ))) (sizes : Stored) (look sam
       sym (ap (λ (look : Look). Ok (state_with rows look (value_at new) sizes)) is ∙ ap (λ (colors : Colors). Ok (state_with rows look colors sizes)) (fun_ext set))
   color_steps (Err refusal) set kept fault = (
     ap (λ (look : Look). state_with rows look (value_at new) sizes) is ∙ ap (λ (colors : Colors). state_with rows look colors sizes) (fun_ext kept),
-    subst (λ (fault : Fault). MayRefuse fault (λ outcome. coloring at color (state_with rows look (value_at old) sizes) ≡ outcome)) (sym fault) tt,
+    subst (λ (fault : Fault). MayRefuseStep fault (λ outcome. coloring at color (state_with rows look (value_at old) sizes) ≡ outcome)) (sym fault) tt,
   )

@@ -7,7 +7,7 @@ use Rattle.grid_config.specs.Looks.{Look}
 use Rattle.tabled_height.specs.Heights.{Estimate, estimated}
 use Rattle.tabled_height.specs.Steps.{GrownRows, LimitsTable, Measuring, RaisesTable, Resizes, ShrunkRows, WhereCells, keeping_heights, limiting_rows}
 use Rattle.tabled_height.specs.Steps.{Measured as Heightened}
-use Rattle.tabled_steps.specs.Outcomes.{MayRefuse, all_sized}
+use Rattle.tabled_steps.specs.Outcomes.{MayRefuseStep, all_sized}
 use Rattle.tabled_steps.specs.States.{Outcome, Settles, State, Steps, column_count}
 use Rattle.tabled_width.specs.Steps.{Measured, Then}
 use Rattle.tabled_width.specs.Rooms.{column_widths, least_widths}
@@ -19,7 +19,7 @@ module _ (from into : State → Outcome → Type 0) (state : State) (leads : (ou
   pub settles_by : (hint : Option Entity) (outcome : Outcome) → Settles hint from state outcome → Settles hint into state outcome
   settles_by hint outcome it = (it.0, leads it.0 it.1, it.2)
 
-  may_lead : (fault : Fault) → MayRefuse fault (from state) → MayRefuse fault (into state)
+  may_lead : (fault : Fault) → MayRefuseStep fault (from state) → MayRefuseStep fault (into state)
   may_lead Memory may = tt
   may_lead Range may = leads (Err Range) may
   may_lead Spans may = leads (Err Spans) may

@@ -1,7 +1,7 @@
 -- What a list of settings makes of a table.
 use Rattle.std.specs.Prelude.{◌≡◌, ◌<◌, ℕ, List, [], ◌∷◌, IfSome, Ok, length, slice_get, take}
 use Rattle.grid_config_values.specs.declared.fault.Fault.{Fault}
-use Rattle.tabled_steps.specs.Outcomes.{MayRefuse}
+use Rattle.tabled_steps.specs.Outcomes.{MayRefuseStep}
 use Rattle.tabled_steps.specs.States.{State}
 use Rattle.tabled_list.specs.Settings.{setting_step}
 use Rattle.tabled_list.specs.declared.setting.Setting.{Setting}
@@ -15,4 +15,4 @@ Runs (setting ∷ settings) state last = (next : State) × setting_step setting 
 pub record RefusedAt (settings : List Setting) (old new : State) (index : ℕ) (fault : Fault) : Type 0 where
   pub inside : index < length settings
   pub before : Runs (take index settings) old new
-  pub refused : IfSome (slice_get settings index) (λ setting. MayRefuse fault (setting_step setting new))
+  pub refused : IfSome (slice_get settings index) (λ setting. MayRefuseStep fault (setting_step setting new))

@@ -2,7 +2,7 @@
 ghost use Rattle.std.specs.Prelude.{◌≡◌, IsOk, false};
 ghost use Rattle.grid_config.specs.Looks.{look_of};
 ghost use Rattle.tabled_list.specs.Amounts.{allocates, height_of, width_of};
-ghost use Rattle.tabled_steps.specs.Outcomes.{Gives};
+ghost use Rattle.tabled_steps.specs.Outcomes.{GivesState};
 
 use grid_config::{Fault, SpannedConfig};
 use grid_records_traits::records::{ExactRecords, PeekableRecords};
@@ -34,7 +34,7 @@ impl Measurement<Width> for Amount {
         records: &R,
         cfg: &SpannedConfig,
     ) -> Result<usize, Fault>
-        ensures gives { Gives (λ n. n) result (λ outcome. width_of self.now (R.columns records.now) (R.ExactRecords.rows records.now) (look_of cfg.now) ≡ outcome) }
+        ensures gives { GivesState (λ n. n) result (λ outcome. width_of self.now (R.columns records.now) (R.ExactRecords.rows records.now) (look_of cfg.now) ≡ outcome) }
         ensures answers { allocates self.now ≡ false → IsOk result }
     {
         match *self {
@@ -56,7 +56,7 @@ impl Measurement<Height> for Amount {
         records: &R,
         cfg: &SpannedConfig,
     ) -> Result<usize, Fault>
-        ensures gives { Gives (λ n. n) result (λ outcome. height_of self.now (R.columns records.now) (R.ExactRecords.rows records.now) (look_of cfg.now) ≡ outcome) }
+        ensures gives { GivesState (λ n. n) result (λ outcome. height_of self.now (R.columns records.now) (R.ExactRecords.rows records.now) (look_of cfg.now) ≡ outcome) }
         ensures answers { allocates self.now ≡ false → IsOk result }
     {
         match *self {

@@ -15,12 +15,12 @@ use Rattle.grid_config_values.specs.Settings.{IsUnchanged, SetsCovered, value_at
 use Rattle.grid_config.specs.Looks.{Look, look_of}
 use Rattle.grid_config.specs.Settings.{KeepsOthers, Settings, Padding, HorizontalAlignment, VerticalAlignment, LineAlignment, TrimHorizontal, TrimVertical, Justification}
 use Rattle.tabled_steps.specs.Looks.{covering, with_alignment_horizontal, with_alignment_vertical, with_justification, with_line_alignment, with_padding, with_trim_horizontal, with_trim_vertical}
-use Rattle.tabled_steps.specs.Outcomes.{MayRefuse}
+use Rattle.tabled_steps.specs.Outcomes.{MayRefuseStep}
 use Rattle.tabled_steps.specs.States.{StepsTo, looking, state_with}
 use Rattle.tabled_size_dimension.specs.Stored.{Stored}
 
-memory_may_come : {Y : Type 0} (fault : Fault) (gives : Result Y Fault → Type 0) → fault ≡ Memory → MayRefuse fault gives
-memory_may_come fault gives is = subst (λ (fault : Fault). MayRefuse fault gives) (sym is) tt
+memory_may_come : {Y : Type 0} (fault : Fault) (gives : Result Y Fault → Type 0) → fault ≡ Memory → MayRefuseStep fault gives
+memory_may_come fault gives is = subst (λ (fault : Fault). MayRefuseStep fault gives) (sym is) tt
 
 -- a call that changes the look, or leaves it and is refused for memory
 pub look_steps : {X : Type 0} (change : Look → Look) (old new : Look) (result : Result X Fault) → OnOk result (new ≡ change old) → OnErr result (new ≡ old) → IfErr result (λ fault. fault ≡ Memory) →

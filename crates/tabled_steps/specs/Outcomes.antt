@@ -11,19 +11,19 @@ abbrev pub ◌≫=◌ : {A B : Type 0} → Result A Fault → (A → Result B Fa
 (Err fault) ≫= f = Err fault
 
 -- a call may be refused by this fault: by `Memory`, or where what it works out may be refused so
-abbrev pub MayRefuse : {Y : Type 0} → Fault → (Result Y Fault → Type 0) → Type 0
-MayRefuse Memory gives = Unit {0}
-MayRefuse Range gives = gives (Err Range)
-MayRefuse Spans gives = gives (Err Spans)
-MayRefuse (Room row column) gives = gives (Err (Room row column))
+abbrev pub MayRefuseStep : {Y : Type 0} → Fault → (Result Y Fault → Type 0) → Type 0
+MayRefuseStep Memory gives = Unit {0}
+MayRefuseStep Range gives = gives (Err Range)
+MayRefuseStep Spans gives = gives (Err Spans)
+MayRefuseStep (Room row column) gives = gives (Err (Room row column))
 
 -- a call returns what may be worked out, memory aside
-abbrev pub Gives : {X Y : Type 0} → (X → Y) → Result X Fault → (Result Y Fault → Type 0) → Type 0
-Gives view result gives = MatchResult result (λ x. gives (Ok (view x))) (λ fault. MayRefuse fault gives)
+abbrev pub GivesState : {X Y : Type 0} → (X → Y) → Result X Fault → (Result Y Fault → Type 0) → Type 0
+GivesState view result gives = MatchResult result (λ x. gives (Ok (view x))) (λ fault. MayRefuseStep fault gives)
 
 -- the same, where one outcome alone may be worked out
-abbrev pub Answers : {X Y : Type 0} → (X → Y) → Result X Fault → Result Y Fault → Type 0
-Answers view result worked = Gives view result (λ outcome. worked ≡ outcome)
+abbrev pub AnswersStep : {X Y : Type 0} → (X → Y) → Result X Fault → Result Y Fault → Type 0
+AnswersStep view result worked = GivesState view result (λ outcome. worked ≡ outcome)
 
 -- a number that no `usize` holds
 abbrev pub passes : ℕ → Bool

@@ -9,7 +9,7 @@ use Rattle.grid_config.specs.Coloring.{Coloring}
 use Rattle.grid_config.specs.Colors.{Color}
 use Rattle.grid_config.specs.Compact.{Compact}
 use Rattle.grid_config.specs.Looks.{Look, compact_look, look_of}
-use Rattle.tabled_steps.specs.Outcomes.{MayRefuse, ◌≫=◌}
+use Rattle.tabled_steps.specs.Outcomes.{MayRefuseStep, ◌≫=◌}
 use Rattle.tabled_size_dimension.specs.Stored.{Stored, kept_after}
 
 -- its texts by rows, its settings as each cell has them, the colours of its cells, and the sizes that it keeps
@@ -44,7 +44,7 @@ Outcome = Result State Fault
 -- a call is a step. Accepted, it leaves a state that the step may lead to; refused, as `Memory` or as the step may be,
 -- it leaves the state as it was
 abbrev pub Steps : {T : Type 0} → (State → Outcome → Type 0) → Result T Fault → State → State → Type 0
-Steps step result old new = MatchResult result (λ _. step old (Ok new)) (λ fault. (new ≡ old) × MayRefuse fault (step old))
+Steps step result old new = MatchResult result (λ _. step old (Ok new)) (λ fault. (new ≡ old) × MayRefuseStep fault (step old))
 
 -- the same of a step that leads to one outcome
 abbrev pub StepsTo : {T : Type 0} → (State → Outcome) → Result T Fault → State → State → Type 0

@@ -2,7 +2,7 @@
 ghost use Rattle.std.specs.Prelude.{◌≡◌, List, Ok, Result, ℕ};
 ghost use Rattle.grid_config_values.specs.declared.fault.Fault.{Fault as Refusal};
 ghost use Rattle.grid_config.specs.Looks.{Look, look_of};
-ghost use Rattle.tabled_steps.specs.Outcomes.{Gives};
+ghost use Rattle.tabled_steps.specs.Outcomes.{GivesState};
 
 use grid_config::{Fault, SpannedConfig};
 use grid_records_traits::records::{ExactRecords, PeekableRecords};
@@ -33,7 +33,7 @@ pub trait Measurement<A> {
         records: &R,
         cfg: &SpannedConfig,
     ) -> Result<usize, Fault>
-        ensures { Gives (λ n. n) result (measures self.now (R.columns records.now) (R.ExactRecords.rows records.now) (look_of cfg.now)) };
+        ensures { GivesState (λ n. n) result (measures self.now (R.columns records.now) (R.ExactRecords.rows records.now) (look_of cfg.now)) };
 }
 
 /// The number itself.

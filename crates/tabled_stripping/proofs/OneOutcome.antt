@@ -29,7 +29,7 @@ use Rattle.tabled_size_priority.specs.Laws.Turns.{grown_turns_one, turns_one}
 use Rattle.tabled_size_priority.specs.Shrinking.{shrunk_sum}
 use Rattle.tabled_steps.specs.Changes.{changing}
 use Rattle.tabled_steps.specs.Looks.{with_alignment_horizontal, with_alignment_vertical, with_borders, with_column_span, with_justification, with_line_alignment, with_margin, with_padding, with_row_span, with_trim_horizontal, with_trim_vertical}
-use Rattle.tabled_steps.specs.Outcomes.{MayRefuse, all_sized}
+use Rattle.tabled_steps.specs.Outcomes.{MayRefuseStep, all_sized}
 use Rattle.tabled_steps.specs.States.{Outcome, Settles, State, column_count, looking, positive, settled}
 use Rattle.tabled_width.specs.Breaking.{breaking, justifying, wrapping_wider}
 use Rattle.tabled_width.specs.Cutting.{truncating}
@@ -238,7 +238,7 @@ one-run (setting ∷ settings) s a b is bs =
 
 -- ---- refusals, memory aside
 
-named : (step : Outcome → Type 0) (fault : Fault) → IsOfTable fault → MayRefuse fault step → step (Err fault)
+named : (step : Outcome → Type 0) (fault : Fault) → IsOfTable fault → MayRefuseStep fault step → step (Err fault)
 named step Memory not_memory is = absurd not_memory
 named step Range not_memory is = is
 named step Spans not_memory is = is
@@ -246,10 +246,10 @@ named step (Room row column) not_memory is = is
 
 -- a list that runs to its end is refused nowhere
 pub no-refusal : (settings : List Setting) (s last new : State) (index : ℕ) (fault : Fault) → IsOfTable fault → Runs settings s last → Runs (take index settings) s new → index < length settings
-    → IfSome (slice_get settings index) (λ setting. MayRefuse fault (setting_step setting new)) → ⊥
+    → IfSome (slice_get settings index) (λ setting. MayRefuseStep fault (setting_step setting new)) → ⊥
 no-refusal [] s last new index fault not_memory runs before inside is = omega (arith, inside)
 no-refusal (setting ∷ settings) s last new zero fault not_memory runs before inside is =
-    let refused = named (setting_step setting s) fault not_memory (subst (λ (s : State). MayRefuse fault (setting_step setting s)) (sym before) is) in
+    let refused = named (setting_step setting s) fault not_memory (subst (λ (s : State). MayRefuseStep fault (setting_step setting s)) (sym before) is) in
     let no : Ok runs.0 ≡ Err fault = one-outcome setting s (Ok runs.0) (Err fault) runs.1 refused in
     cc no
 no-refusal (setting ∷ settings) s last new (suc index) fault not_memory runs before inside is =
@@ -258,23 +258,23 @@ no-refusal (setting ∷ settings) s last new (suc index) fault not_memory runs b
 
 -- two refusals of one list are of one setting, and of one name
 module _ (a b : State) (fault other : Fault) (named_fault : IsOfTable fault) (named_other : IsOfTable other) where
-  same_fault : (setting : Setting) (s : State) → MayRefuse fault (setting_step setting s) → MayRefuse other (setting_step setting s) → fault ≡ other
+  same_fault : (setting : Setting) (s : State) → MayRefuseStep fault (setting_step setting s) → MayRefuseStep other (setting_step setting s) → fault ≡ other
   same_fault setting s x y =
       let e = one-outcome setting s (Err fault) (Err other) (named (setting_step setting s) fault named_fault x) (named (setting_step setting s) other named_other y) in
       cc e
 
-  not_both : (setting : Setting) (s next : State) (fault : Fault) → IsOfTable fault → setting_step setting s (Ok next) → MayRefuse fault (setting_step setting s) → ⊥
+  not_both : (setting : Setting) (s next : State) (fault : Fault) → IsOfTable fault → setting_step setting s (Ok next) → MayRefuseStep fault (setting_step setting s) → ⊥
   not_both setting s next fault is_named step is = let no = one-outcome setting s (Ok next) (Err fault) step (named (setting_step setting s) fault is_named is) in cc no
 
   walk : (settings : List Setting) (s : State) (i j : ℕ) → i < length settings → j < length settings → Runs (take i settings) s a → Runs (take j settings) s b
-      → IfSome (slice_get settings i) (λ setting. MayRefuse fault (setting_step setting a)) → IfSome (slice_get settings j) (λ setting. MayRefuse other (setting_step setting b)) → (i ≡ j) × (fault ≡ other)
+      → IfSome (slice_get settings i) (λ setting. MayRefuseStep fault (setting_step setting a)) → IfSome (slice_get settings j) (λ setting. MayRefuseStep other (setting_step setting b)) → (i ≡ j) × (fault ≡ other)
   walk [] s i j i_in j_in is bs x y = absurd (omega (arith, i_in))
   walk (setting ∷ settings) s zero zero i_in j_in is bs x y =
-      (refl, same_fault setting s (subst (λ (s : State). MayRefuse fault (setting_step setting s)) (sym is) x) (subst (λ (s : State). MayRefuse other (setting_step setting s)) (sym bs) y))
+      (refl, same_fault setting s (subst (λ (s : State). MayRefuseStep fault (setting_step setting s)) (sym is) x) (subst (λ (s : State). MayRefuseStep other (setting_step setting s)) (sym bs) y))
   walk (setting ∷ settings) s zero (suc j) i_in j_in is bs x y =
-      absurd (not_both setting s bs.0 fault named_fault bs.1 (subst (λ (s : State). MayRefuse fault (setting_step setting s)) (sym is) x))
+      absurd (not_both setting s bs.0 fault named_fault bs.1 (subst (λ (s : State). MayRefuseStep fault (setting_step setting s)) (sym is) x))
   walk (setting ∷ settings) s (suc i) zero i_in j_in is bs x y =
-      absurd (not_both setting s is.0 other named_other is.1 (subst (λ (s : State). MayRefuse other (setting_step setting s)) (sym bs) y))
+      absurd (not_both setting s is.0 other named_other is.1 (subst (λ (s : State). MayRefuseStep other (setting_step setting s)) (sym bs) y))
   walk (setting ∷ settings) s (suc i) (suc j) i_in j_in is bs x y =
       let next : is.0 ≡ bs.0 = ok-same is.0 bs.0 (one-outcome setting s (Ok is.0) (Ok bs.0) is.1 bs.1) in
       let others = walk settings bs.0 i j (omega (arith, i_in)) (omega (arith, j_in)) (subst (λ (s : State). Runs (take i settings) s a) next is.2) bs.2 x y in

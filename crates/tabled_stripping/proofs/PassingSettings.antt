@@ -21,7 +21,7 @@ use Rattle.tabled_list.specs.declared.setting.Setting.TheVariants.{Wrap, CellWra
 use Rattle.tabled_size_priority.specs.Choices.{IsGrownByChoice, IsShrunkByChoice}
 use Rattle.tabled_steps.specs.Changes.{changing}
 use Rattle.tabled_steps.specs.Looks.{with_alignment_horizontal, with_alignment_vertical, with_borders, with_column_span, with_justification, with_line_alignment, with_margin, with_padding, with_row_span, with_trim_horizontal, with_trim_vertical}
-use Rattle.tabled_steps.specs.Outcomes.{MayRefuse}
+use Rattle.tabled_steps.specs.Outcomes.{MayRefuseStep}
 use Rattle.tabled_steps.specs.States.{State, looking, positive}
 use Rattle.tabled_width.specs.Breaking.{breaking, justifying, wrapping_wider}
 use Rattle.tabled_width.specs.Cutting.{truncating}
@@ -115,14 +115,14 @@ module _ (f : Position → List ℕ → List ℕ) (blind : IsBlind f) where
       let others = runs-pass settings all.1 is.0 last one.1 is.2 in
       ((state_by f is.0, one.0, others.0), others.1)
 
-  refuse-pass : (setting : Setting) → TextsPass setting → (fault : Fault) (s : State) → AreWholeTexts s.rows → MayRefuse fault (setting_step setting s) → MayRefuse fault (setting_step setting (state_by f s))
+  refuse-pass : (setting : Setting) → TextsPass setting → (fault : Fault) (s : State) → AreWholeTexts s.rows → MayRefuseStep fault (setting_step setting s) → MayRefuseStep fault (setting_step setting (state_by f s))
   refuse-pass setting pass Memory s whole is = tt
   refuse-pass setting pass Range s whole is = (passes setting pass s (Err Range) whole is).0
   refuse-pass setting pass Spans s whole is = (passes setting pass s (Err Spans) whole is).0
   refuse-pass setting pass (Room row column) s whole is = (passes setting pass s (Err (Room row column)) whole is).0
 
   refused-here : (settings : List Setting) → AllPass settings → (index : ℕ) (fault : Fault) (s : State) → AreWholeTexts s.rows
-      → IfSome (slice_get settings index) (λ setting. MayRefuse fault (setting_step setting s)) → IfSome (slice_get settings index) (λ setting. MayRefuse fault (setting_step setting (state_by f s)))
+      → IfSome (slice_get settings index) (λ setting. MayRefuseStep fault (setting_step setting s)) → IfSome (slice_get settings index) (λ setting. MayRefuseStep fault (setting_step setting (state_by f s)))
   refused-here [] all index fault s whole is = is
   refused-here (setting ∷ settings) all zero fault s whole is = refuse-pass setting all.0 fault s whole is
   refused-here (setting ∷ settings) all (suc index) fault s whole is = refused-here settings all.1 index fault s whole is

@@ -11,7 +11,7 @@ use Rattle.grid_records_estimate.specs.Sizing.{sizing_of}
 use Rattle.grid_records_traits.proofs.FittedRows.{fitted-twice}
 use Rattle.grid_records_traits.specs.Rows.{fitted}
 use Rattle.tabled_steps.proofs.Estimating.{widths_by_look}
-use Rattle.tabled_steps.specs.Outcomes.{◌≫=◌, MayRefuse, all_sized, sized}
+use Rattle.tabled_steps.specs.Outcomes.{◌≫=◌, MayRefuseStep, all_sized, sized}
 use Rattle.tabled_steps.specs.Sizes.{column_axis, natural_widths}
 use Rattle.tabled_width_tables.proofs.Totalling.{refused_sizes}
 use Rattle.tabled_width_tables.specs.Widths.{table_width}
@@ -19,13 +19,13 @@ use Rattle.tabled_width.specs.Measures.{percent_of_width}
 
 -- ---- what is worked out one after the other
 
-pub may_err : {Y : Type 0} (worked : Result Y Fault) (fault : Fault) → worked ≡ Err fault → MayRefuse fault (λ outcome. worked ≡ outcome)
+pub may_err : {Y : Type 0} (worked : Result Y Fault) (fault : Fault) → worked ≡ Err fault → MayRefuseStep fault (λ outcome. worked ≡ outcome)
 may_err worked Memory is = tt
 may_err worked Range is = is
 may_err worked Spans is = is
 may_err worked (Room row column) is = is
 
-pub bind_refused : {A B : Type 0} (worked : Result A Fault) (next : A → Result B Fault) (fault : Fault) → MayRefuse fault (λ outcome. worked ≡ outcome) → MayRefuse fault (λ outcome. (worked ≫= next) ≡ outcome)
+pub bind_refused : {A B : Type 0} (worked : Result A Fault) (next : A → Result B Fault) (fault : Fault) → MayRefuseStep fault (λ outcome. worked ≡ outcome) → MayRefuseStep fault (λ outcome. (worked ≫= next) ≡ outcome)
 bind_refused worked next Memory may = tt
 bind_refused worked next Range may = ap (λ x. x ≫= next) may
 bind_refused worked next Spans may = ap (λ x. x ≫= next) may
@@ -44,7 +44,7 @@ natural-peeked settings columns n rows seen same counted =
 -- ---- hundredths of a width
 
 module _ (percent columns : ℕ) (rows : List (List (List ℕ))) (look : Look) where
-  pub percent-no_widths : (widths : List ℕ) → widths ≡ natural_widths look columns rows → (fault : Fault) → IsRefusal fault (PassesMax widths) → MayRefuse fault (λ outcome. percent_of_width percent columns rows look ≡ outcome)
+  pub percent-no_widths : (widths : List ℕ) → widths ≡ natural_widths look columns rows → (fault : Fault) → IsRefusal fault (PassesMax widths) → MayRefuseStep fault (λ outcome. percent_of_width percent columns rows look ≡ outcome)
   percent-no_widths widths are fault refused =
       bind_refused (all_sized (natural_widths look columns rows)) (λ widths. sized (table_width look widths) ≫= λ whole. sized (whole * percent) ≫= λ product. Ok (product / 100)) fault
       (refused_sizes (natural_widths look columns rows) fault (subst (λ (sizes : List ℕ). IsRefusal fault (PassesMax sizes)) are refused))
@@ -55,7 +55,7 @@ module _ (percent columns : ℕ) (rows : List (List (List ℕ))) (look : Look) w
         ap (λ found. found ≫= λ widths. sized (table_width look widths) ≫= λ whole. sized (whole * percent) ≫= λ product. Ok (product / 100))
         (ap all_sized (sym are) ∙ fit)
 
-    pub percent-no_whole : (fault : Fault) → Err fault ≡ sized (table_width look widths) → MayRefuse fault (λ outcome. percent_of_width percent columns rows look ≡ outcome)
+    pub percent-no_whole : (fault : Fault) → Err fault ≡ sized (table_width look widths) → MayRefuseStep fault (λ outcome. percent_of_width percent columns rows look ≡ outcome)
     percent-no_whole fault is =
         may_err (percent_of_width percent columns rows look) fault (with-widths ∙ ap (λ found. found ≫= λ whole. sized (whole * percent) ≫= λ product. Ok (product / 100)) (sym is))
 
@@ -63,7 +63,7 @@ module _ (percent columns : ℕ) (rows : List (List (List ℕ))) (look : Look) w
       with-whole : percent_of_width percent columns rows look ≡ (sized (whole * percent) ≫= λ product. Ok (product / 100))
       with-whole = with-widths ∙ ap (λ found. found ≫= λ whole. sized (whole * percent) ≫= λ product. Ok (product / 100)) (sym is)
 
-      pub percent-no_product : (fault : Fault) → Err fault ≡ sized (whole * percent) → MayRefuse fault (λ outcome. percent_of_width percent columns rows look ≡ outcome)
+      pub percent-no_product : (fault : Fault) → Err fault ≡ sized (whole * percent) → MayRefuseStep fault (λ outcome. percent_of_width percent columns rows look ≡ outcome)
       percent-no_product fault none =
           may_err (percent_of_width percent columns rows look) fault (with-whole ∙ ap (λ found. found ≫= λ product. Ok (product / 100)) (sym none))
 

@@ -3,11 +3,11 @@ use Rattle.std.proofs.Common.{◌≡◌, ℕ, List, Result, Ok, Err, refl, subst
 use Rattle.grid_config_values.specs.declared.fault.Fault.{Fault}
 use Rattle.grid_config_values.specs.declared.fault.Fault.TheVariants.{Memory, Range, Spans, Room}
 use Rattle.grid_config.specs.Looks.{Look}
-use Rattle.tabled_steps.specs.Outcomes.{MayRefuse}
+use Rattle.tabled_steps.specs.Outcomes.{MayRefuseStep}
 use Rattle.tabled_steps.specs.States.{Outcome, State, Steps, column_count}
 use Rattle.tabled_width_tables.specs.Steps.{Measured}
 
-pub may_be : {Y : Type 0} (fault : Fault) (P Q : Result Y Fault → Type 0) → ((answer : Result Y Fault) → P answer → Q answer) → MayRefuse fault P → MayRefuse fault Q
+pub may_be : {Y : Type 0} (fault : Fault) (P Q : Result Y Fault → Type 0) → ((answer : Result Y Fault) → P answer → Q answer) → MayRefuseStep fault P → MayRefuseStep fault Q
 may_be Memory P Q leads may = tt
 may_be Range P Q leads may = leads (Err Range) may
 may_be Spans P Q leads may = leads (Err Spans) may
@@ -26,7 +26,7 @@ module _ (measures : ℕ → List (List (List ℕ)) → Look → Result ℕ Faul
       (stepped.0, may_be fault (step n old) (Measured measures step old) (λ answer is. (Ok n, measured_here (Ok n) given, is)) stepped.1)
 
   -- a size that is refused refuses the step
-  pub measured_refused : (fault : Fault) → MayRefuse fault (measures columns old.rows look) → MayRefuse fault (Measured measures step old)
+  pub measured_refused : (fault : Fault) → MayRefuseStep fault (measures columns old.rows look) → MayRefuseStep fault (Measured measures step old)
   measured_refused Memory may = tt
   measured_refused Range may = (Err Range, measured_here (Err Range) may, refl)
   measured_refused Spans may = (Err Spans, measured_here (Err Spans) may, refl)

@@ -12,7 +12,7 @@ use Rattle.grid_records_estimate.specs.Collecting.{PassesMax}
 use Rattle.grid_records_estimate.specs.Sizes.{IsRefusal, table_heights, table_widths}
 use Rattle.grid_records_estimate.specs.Sizing.{sizing_of}
 use Rattle.tabled_steps.proofs.Estimating.{heights_by_look, widths_by_look}
-use Rattle.tabled_steps.specs.Outcomes.{◌≫=◌, MayRefuse, all_sized, passes}
+use Rattle.tabled_steps.specs.Outcomes.{◌≫=◌, MayRefuseStep, all_sized, passes}
 use Rattle.tabled_steps.specs.Sizes.{natural_heights, natural_widths}
 use Rattle.tabled_size_levels.specs.Lists.{sum-le}
 use Rattle.tabled_size_priority.specs.Shrinking.{StaysBetween}
@@ -54,18 +54,18 @@ second_refused first second next is true = refl
 second_refused first second next is false = ap (λ r. r ≫= next first) is
 
 module _ (settings : Settings) (columns : ℕ) (rows : List (List (List ℕ))) where
-  pub widths_refused : (fault : Fault) → IsRefusal fault (PassesMax (table_widths (sizing_of settings) columns rows)) → MayRefuse fault (λ outcome. all_sized (natural_widths (look_of settings) columns rows) ≡ outcome)
+  pub widths_refused : (fault : Fault) → IsRefusal fault (PassesMax (table_widths (sizing_of settings) columns rows)) → MayRefuseStep fault (λ outcome. all_sized (natural_widths (look_of settings) columns rows) ≡ outcome)
   widths_refused fault refused =
       refused_sizes (natural_widths (look_of settings) columns rows) fault (subst (λ (sizes : List ℕ). IsRefusal fault (PassesMax sizes)) (widths_by_look settings columns rows) refused)
 
-  pub heights_refused : (fault : Fault) → IsRefusal fault (PassesMax (table_heights (sizing_of settings) columns rows)) → MayRefuse fault (λ outcome. all_sized (natural_heights (look_of settings) columns rows) ≡ outcome)
+  pub heights_refused : (fault : Fault) → IsRefusal fault (PassesMax (table_heights (sizing_of settings) columns rows)) → MayRefuseStep fault (λ outcome. all_sized (natural_heights (look_of settings) columns rows) ≡ outcome)
   heights_refused fault refused =
       refused_sizes (natural_heights (look_of settings) columns rows) fault (subst (λ (sizes : List ℕ). IsRefusal fault (PassesMax sizes)) (heights_by_look settings columns rows) refused)
 
   pub both_refused : {A : Type 0} (fault : Fault) → IsRefusal fault (PassesMax (table_widths (sizing_of settings) columns rows) ⊎ PassesMax (table_heights (sizing_of settings) columns rows)) → (next : List ℕ → List ℕ → Result A Fault) →
-      MayRefuse fault (λ outcome. (all_sized (natural_widths (look_of settings) columns rows) ≫= λ widths. all_sized (natural_heights (look_of settings) columns rows) ≫= next widths) ≡ outcome)
+      MayRefuseStep fault (λ outcome. (all_sized (natural_widths (look_of settings) columns rows) ≫= λ widths. all_sized (natural_heights (look_of settings) columns rows) ≫= next widths) ≡ outcome)
   both_refused {A} fault refused next =
-      let wanted : Fault → Type 0 = λ fault. MayRefuse fault (λ outcome. (all_sized (natural_widths (look_of settings) columns rows) ≫= λ widths. all_sized (natural_heights (look_of settings) columns rows) ≫= next widths) ≡ outcome) in
+      let wanted : Fault → Type 0 = λ fault. MayRefuseStep fault (λ outcome. (all_sized (natural_widths (look_of settings) columns rows) ≫= λ widths. all_sized (natural_heights (look_of settings) columns rows) ≫= next widths) ≡ outcome) in
       elim refused as (λ _. wanted fault) [
         | inl memory ↦ subst wanted (sym memory) tt
         | inr range ↦ subst wanted (sym range.0) (elim range.1 as (λ _. wanted Range) [
@@ -87,5 +87,5 @@ module _ (settings : Settings) (columns : ℕ) (rows : List (List (List ℕ))) w
 
 -- ---- one after the other
 
-pub after_ok : {A B : Type 0} (worked : Result A Fault) (next : A → Result B Fault) (a : A) (fault : Fault) → worked ≡ Ok a → MayRefuse fault (λ outcome. next a ≡ outcome) → MayRefuse fault (λ outcome. (worked ≫= next) ≡ outcome)
-after_ok worked next a fault is may = subst (λ r. MayRefuse fault (λ outcome. (r ≫= next) ≡ outcome)) (sym is) may
+pub after_ok : {A B : Type 0} (worked : Result A Fault) (next : A → Result B Fault) (a : A) (fault : Fault) → worked ≡ Ok a → MayRefuseStep fault (λ outcome. next a ≡ outcome) → MayRefuseStep fault (λ outcome. (worked ≫= next) ≡ outcome)
+after_ok worked next a fault is may = subst (λ r. MayRefuseStep fault (λ outcome. (r ≫= next) ≡ outcome)) (sym is) may

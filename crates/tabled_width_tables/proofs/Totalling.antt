@@ -7,7 +7,7 @@ use Rattle.grid_config_values.specs.declared.fault.Fault.{Fault}
 use Rattle.grid_config_values.specs.declared.fault.Fault.TheVariants.{Range}
 use Rattle.grid_records_estimate.specs.Collecting.{PassesMax}
 use Rattle.grid_records_estimate.specs.Sizes.{IsRefusal}
-use Rattle.tabled_steps.specs.Outcomes.{MayRefuse, all_sized, passes}
+use Rattle.tabled_steps.specs.Outcomes.{MayRefuseStep, all_sized, passes}
 
 held : (n : ℕ) → n < 2 ^ 64 → passes n ≡ false
 held n fits = grind (arith, nat_tests)
@@ -33,10 +33,10 @@ pub held_sizes : (xs : List ℕ) → ((k : ℕ) → get_or xs k 0 < 2 ^ 64) → 
 held_sizes xs fits = ap (λ b. if b then Err Range else Ok xs) (none_pass xs fits)
 
 -- an estimate of which a size passes is refused
-pub refused_sizes : (xs : List ℕ) (fault : Fault) → IsRefusal fault (PassesMax xs) → MayRefuse fault (λ outcome. all_sized xs ≡ outcome)
-refused_sizes xs fault refused = elim refused as (λ _. MayRefuse fault (λ outcome. all_sized xs ≡ outcome)) [
-  | inl memory ↦ subst (λ (fault : Fault). MayRefuse fault (λ outcome. all_sized xs ≡ outcome)) (sym memory) tt
+pub refused_sizes : (xs : List ℕ) (fault : Fault) → IsRefusal fault (PassesMax xs) → MayRefuseStep fault (λ outcome. all_sized xs ≡ outcome)
+refused_sizes xs fault refused = elim refused as (λ _. MayRefuseStep fault (λ outcome. all_sized xs ≡ outcome)) [
+  | inl memory ↦ subst (λ (fault : Fault). MayRefuseStep fault (λ outcome. all_sized xs ≡ outcome)) (sym memory) tt
   | inr range ↦
-      subst (λ (fault : Fault). MayRefuse fault (λ outcome. all_sized xs ≡ outcome)) (sym range.0)
+      subst (λ (fault : Fault). MayRefuseStep fault (λ outcome. all_sized xs ≡ outcome)) (sym range.0)
       (ap (λ b. if b then Err Range else Ok xs) (some_passes xs range.1.0 range.1.1))
 ]

@@ -2,7 +2,7 @@
 ghost use Rattle.std.specs.Prelude.{◌≡◌, ◌<◌, ◌≤◌, ◌+◌, ◌^◌, ℕ, IfErr, IfOk, List, Ok, Result, length, slice_index, sum};
 ghost use Rattle.grid_config.specs.Looks.{look_of};
 ghost use Rattle.grid_config_values.specs.declared.fault.Fault.{Fault as Refusal};
-ghost use Rattle.tabled_steps.specs.Outcomes.{◌≫=◌, Answers, MayRefuse, all_sized};
+ghost use Rattle.tabled_steps.specs.Outcomes.{◌≫=◌, AnswersStep, MayRefuseStep, all_sized};
 ghost use Rattle.tabled_steps.specs.Sizes.{heights_or, natural_heights, natural_widths, widths_or};
 ghost use Rattle.tabled_width_tables.specs.Rooms.{column_widths as widths_of_columns, least_widths as least_of};
 ghost use Rattle.tabled_width_tables.specs.Tables.{Drawn as DrawnSizes, drawn as drawn_sizes, drawn_with};
@@ -36,7 +36,7 @@ impl Drawn {
         cfg: &SpannedConfig,
         sizes: &CompleteDimension,
     ) -> Result<Drawn, Fault>
-        ensures drawn { Answers (λ it. drawn_with it.widths.items it.heights.items it.whole) result
+        ensures drawn { AnswersStep (λ it. drawn_with it.widths.items it.heights.items it.whole) result
             (drawn_sizes (look_of cfg.now) (⟦<VecRecords<T> as RecordColumns>⟧.columns records.now) (⟦<VecRecords<T> as RecordTexts>⟧.rows records.now) sizes.now) }
         ensures columns { IfOk result (λ it. it.columns.items ≡ widths_of_columns (⟦<VecRecords<T> as RecordColumns>⟧.columns records.now) it.widths.items) }
         ensures whole { IfOk result (λ it. it.whole ≡ width_of (look_of cfg.now) it.columns.items) }
@@ -62,7 +62,7 @@ pub(crate) fn least_widths(
     rows: usize,
 ) -> Result<Vec<usize>, Fault>
     requires { 0 < rows }
-    ensures least { Answers (λ list. list.items) result (all_sized (least_of (look_of cfg.now) columns rows)) }
+    ensures least { AnswersStep (λ list. list.items) result (all_sized (least_of (look_of cfg.now) columns rows)) }
     ensures count { IfOk result (λ list. length list.items ≡ columns) }
 {
     let least = IterGridDimension::width(alloc, EmptyRecords::new(rows, columns), cfg)?;
@@ -114,7 +114,7 @@ fn sizes_or_least<T: FromText>(
         (⟦<VecRecords<T> as RecordColumns>⟧.columns records.now) (⟦<VecRecords<T> as RecordTexts>⟧.rows records.now) ≡ Ok lists.1.items) }
     ensures refused { let columns = ⟦<VecRecords<T> as RecordColumns>⟧.columns records.now in let rows = ⟦<VecRecords<T> as RecordTexts>⟧.rows records.now in
         IfErr result (λ fault. (next : List ℕ → List ℕ → Result DrawnSizes Refusal) →
-        MayRefuse fault (λ outcome. (widths_or sizes.now.widths (look_of cfg.now) columns rows ≫= λ widths. heights_or sizes.now.heights (look_of cfg.now) columns rows ≫= next widths) ≡ outcome)) }
+        MayRefuseStep fault (λ outcome. (widths_or sizes.now.widths (look_of cfg.now) columns rows ≫= λ widths. heights_or sizes.now.heights (look_of cfg.now) columns rows ≫= next widths) ≡ outcome)) }
 {
     if sizes.is_empty() {
         return least_sizes(alloc, records, cfg);
@@ -138,7 +138,7 @@ fn least_sizes<T: FromText>(
         (⟦<VecRecords<T> as RecordTexts>⟧.rows records.now)) ≡ Ok lists.1.items) }
     ensures refused { let columns = ⟦<VecRecords<T> as RecordColumns>⟧.columns records.now in let rows = ⟦<VecRecords<T> as RecordTexts>⟧.rows records.now in
         IfErr result (λ fault. (next : List ℕ → List ℕ → Result DrawnSizes Refusal) →
-        MayRefuse fault (λ outcome. (all_sized (natural_widths (look_of cfg.now) columns rows) ≫= λ widths. all_sized (natural_heights (look_of cfg.now) columns rows) ≫= next widths) ≡ outcome)) }
+        MayRefuseStep fault (λ outcome. (all_sized (natural_widths (look_of cfg.now) columns rows) ≫= λ widths. all_sized (natural_heights (look_of cfg.now) columns rows) ≫= next widths) ≡ outcome)) }
 {
     let (widths, heights) = IterGridDimension::dimension(alloc, records, cfg)?;
     are_held(&widths);
@@ -153,7 +153,7 @@ fn widths_or_least<T: FromText>(
     cfg: &SpannedConfig,
     sizes: &CompleteDimension,
 ) -> Result<Vec<usize>, Fault>
-    ensures { Answers (λ list. list.items) result
+    ensures { AnswersStep (λ list. list.items) result
         (widths_or sizes.now.widths (look_of cfg.now) (⟦<VecRecords<T> as RecordColumns>⟧.columns records.now) (⟦<VecRecords<T> as RecordTexts>⟧.rows records.now)) }
 {
     if let Some(widths) = sizes.get_widths() {
@@ -171,7 +171,7 @@ fn heights_or_least<T: FromText>(
     cfg: &SpannedConfig,
     sizes: &CompleteDimension,
 ) -> Result<Vec<usize>, Fault>
-    ensures { Answers (λ list. list.items) result
+    ensures { AnswersStep (λ list. list.items) result
         (heights_or sizes.now.heights (look_of cfg.now) (⟦<VecRecords<T> as RecordColumns>⟧.columns records.now) (⟦<VecRecords<T> as RecordTexts>⟧.rows records.now)) }
 {
     if let Some(heights) = sizes.get_heights() {

@@ -5,7 +5,7 @@ use Rattle.grid_config_values.specs.declared.fault.Fault.TheVariants.{Memory, Ra
 use Rattle.grid_records_traits.specs.Sources.{texts_of_rows}
 use Rattle.tabled_compact.specs.Tables.{kept_of}
 use Rattle.tabled_iter.specs.Content.{heights_or, widths_or}
-use Rattle.tabled_iter.specs.Padded.{Passes}
+use Rattle.tabled_iter.specs.Padded.{PassesRange}
 use Rattle.tabled_size_dimension.specs.Sizes.{GivenSizes, given_size}
 use Rattle.tabled_iter.proofs.Shapes.{kept-map}
 use Rattle.tabled_iter.proofs.layout.layout_of.Goals as goal
@@ -16,15 +16,15 @@ kept_heights : (height width : Option ℕ) (columns : ℕ) (kept : Option ℕ) (
 kept_heights height width columns kept all few heights is same = is ∙ ap (heights_or height width columns) same
 
 -- a refusal by sizes that have other names
-wide_refused : (fault : Fault) (more other : ℕ) (found widths heights : GivenSizes) → found ≡ widths → (fault ≡ Memory) ⊎ ((fault ≡ PassesMax) × Passes more found) →
-    (fault ≡ Memory) ⊎ ((fault ≡ PassesMax) × (Passes more widths ⊎ Passes other heights))
+wide_refused : (fault : Fault) (more other : ℕ) (found widths heights : GivenSizes) → found ≡ widths → (fault ≡ Memory) ⊎ ((fault ≡ PassesMax) × PassesRange more found) →
+    (fault ≡ Memory) ⊎ ((fault ≡ PassesMax) × (PassesRange more widths ⊎ PassesRange other heights))
 wide_refused fault more other found widths heights same (inl memory) = inl memory
-wide_refused fault more other found widths heights same (inr range) = inr (range.0, inl (subst (Passes more) same range.1))
+wide_refused fault more other found widths heights same (inr range) = inr (range.0, inl (subst (PassesRange more) same range.1))
 
-high_refused : (fault : Fault) (more other : ℕ) (found widths heights : GivenSizes) → found ≡ heights → (fault ≡ Memory) ⊎ ((fault ≡ PassesMax) × Passes other found) →
-    (fault ≡ Memory) ⊎ ((fault ≡ PassesMax) × (Passes more widths ⊎ Passes other heights))
+high_refused : (fault : Fault) (more other : ℕ) (found widths heights : GivenSizes) → found ≡ heights → (fault ≡ Memory) ⊎ ((fault ≡ PassesMax) × PassesRange other found) →
+    (fault ≡ Memory) ⊎ ((fault ≡ PassesMax) × (PassesRange more widths ⊎ PassesRange other heights))
 high_refused fault more other found widths heights same (inl memory) = inl memory
-high_refused fault more other found widths heights same (inr range) = inr (range.0, inr (subst (Passes other) same range.1))
+high_refused fault more other found widths heights same (inr range) = inr (range.0, inr (subst (PassesRange other) same range.1))
 
 pub returns-in_err-wide-clause-refused : goal.returns-in_err-wide-clause-refused
 returns-in_err-wide-clause-refused g c =

@@ -2,7 +2,7 @@ use Rattle.std.proofs.Common.{◌≡◌, ◌∙◌, ℕ, Result, subst, sym}
 use Rattle.std.proofs.lemmas.Result.{err_from_is_err_and}
 use Rattle.grid_config_values.specs.declared.fault.Fault.{Fault}
 use Rattle.grid_config.specs.Looks.{look_of}
-use Rattle.tabled_steps.specs.Outcomes.{Gives, MayRefuse}
+use Rattle.tabled_steps.specs.Outcomes.{GivesState, MayRefuseStep}
 use Rattle.tabled_height.specs.Heights.{Estimate, hundredths}
 use Rattle.tabled_height.proofs.Giving.{gives_exactly}
 use Rattle.tabled_height.proofs.Estimating.{estimated_fitted, percent_held, percent_refused}
@@ -17,7 +17,7 @@ returns-in_err-heights g c =
     let same = estimated_fitted look columns _ rows _ c.new.ensures.columns c.new.ensures.rows in
     rw (p.1, p.2)
     (percent_refused c.args.self.now.0 columns rows look c.in_err-heights.field-0.0
-    (subst (λ (estimate : Result Estimate Fault). MayRefuse c.in_err-heights.field-0.0 (λ outcome. estimate ≡ outcome)) same c.in_err-heights.ensures))
+    (subst (λ (estimate : Result Estimate Fault). MayRefuseStep c.in_err-heights.field-0.0 (λ outcome. estimate ≡ outcome)) same c.in_err-heights.ensures))
 
 pub returns : goal.returns
 returns g c =
@@ -27,4 +27,4 @@ returns g c =
     let same = estimated_fitted look columns _ rows _ c.new.ensures.columns c.new.ensures.rows in
     let heights = c.in_ok-heights.heights in
     percent_held c.args.self.now.0 columns rows look heights.heights.items heights.lines c.hundredths.result (sym same ∙ c.in_ok-heights.ensures)
-    (subst (λ (lines : ℕ). Gives (λ n. n) c.hundredths.result (λ outcome. hundredths c.args.self.now.0 lines ≡ outcome)) c.lines.ensures (gives_exactly c.hundredths.result (hundredths c.args.self.now.0 c.lines.result) c.hundredths.ensures))
+    (subst (λ (lines : ℕ). GivesState (λ n. n) c.hundredths.result (λ outcome. hundredths c.args.self.now.0 lines ≡ outcome)) c.lines.ensures (gives_exactly c.hundredths.result (hundredths c.args.self.now.0 c.lines.result) c.hundredths.ensures))
