@@ -53,6 +53,10 @@ impl<'a> Colors for ColumnColors<'a> {
             None => last_color(self.given, pos.col),
         }
     }
+
+    fn column_color(&self, column: usize) -> Option<Option<ANSIStr<'_>>> {
+        Some(self.get_color(Position::new(0, column)))
+    }
 }
 
 // Keeps the colour of a column, where that is one of the first.

@@ -11,16 +11,20 @@ use Rattle.std.proofs.lemmas.Str.{IsCharBoundary-at_seam, IsUtf8-append, IsUtf8-
 use Rattle.grid_config.specs.Colors.{Color, color_of}
 use Rattle.grid_config_values.specs.declared.alignment.AlignmentHorizontal.{AlignmentHorizontal}
 use Rattle.grid_config_values.specs.declared.alignment.AlignmentHorizontal.TheVariants.{Left, Center, Right}
+use Rattle.grid_config_values.specs.declared.position.Position.{Position}
 use Rattle.papergrid_picture.specs.Blocks.{free_left}
+use Rattle.papergrid_picture.specs.Picture.{at}
 use Rattle.papergrid_picture.specs.Tables.{in_color}
-use Rattle.papergrid_cells.specs.Flat.{Joints, empty_from, joint_behind, joints_of, placed, room_in, rooms_from, spaced_text, standing_of}
+use Rattle.papergrid_cells.specs.Flat.{AreInks, IsInk, Joints, empty_from, joint_behind, joints_of, kept_bytes, led_bytes, placed, room_in, rooms_from, spaced_text, standing_of}
 use Rattle.papergrid_cells.specs.Painting.{colored, fill_bytes, prefix_of, suffix_of}
 use Rattle.papergrid_cells.specs.Spaces.{HasSpaces}
+use Rattle.papergrid_cells.specs.declared.empty_row.Ink.{Ink}
+use Rattle.papergrid_cells.specs.declared.empty_row.Ink.TheVariants.{Asked, Led, Plain}
 use Rattle.papergrid_cells.specs.declared.empty_row.Room.{Room}
 use Rattle.papergrid_cells.specs.declared.flat.FlatRows.{FlatRows}
 use Rattle.papergrid_cells.specs.declared.spaced.Spaced.{Spaced}
 use Rattle.papergrid_cells.proofs.PrintedGlyphs.{spaces-filled}
-use Rattle.papergrid_cells.proofs.WrittenTexts.{spaces, spaces-begin, spaces-end, spaces-inside, spaces-over, utf8-spaces}
+use Rattle.papergrid_cells.proofs.WrittenTexts.{first-spaces, resized, spaces, spaces-begin, spaces-end, spaces-inside, spaces-over, utf8-spaces}
 
 abbrev fill : ℕ → List ℕ
 fill n = fill_bytes 0x20 n
@@ -36,38 +40,42 @@ utf8-spaced spaced = IsUtf8-drop (string_bytes spaced.text) spaced.spaces (IsUtf
 
 -- ---- its rooms
 
-module _ (joints : Joints) (shades : List ℕ) (columns : ℕ) where
+module _ (joints : Joints) (inks : List Ink) (columns : ℕ) where
+  abbrev ink_at : ℕ → Ink
+  ink_at j = get_or inks j Plain
+
   abbrev room_of : List ℕ → ℕ → ℕ
   room_of widths j = room_in joints (get_or widths j 0)
 
   pub empty-more : (j : ℕ) (widths : List ℕ) → j < length widths
-      → empty_from joints shades columns j (drop j widths)
-      ≡ fill (get_or shades j 0) ++ (fill (room_of widths j) ++ (joint_behind joints j columns ++ empty_from joints shades columns (j + 1) (drop (j + 1) widths)))
-  empty-more j widths inside = at_drop_more (empty_from joints shades columns j) widths j 0 inside
+      → empty_from joints inks columns j (drop j widths)
+      ≡ led_bytes (ink_at j) ++ (fill (kept_bytes (ink_at j)) ++ (fill (room_of widths j) ++ (joint_behind joints j columns ++ empty_from joints inks columns (j + 1) (drop (j + 1) widths))))
+  empty-more j widths inside = at_drop_more (empty_from joints inks columns j) widths j 0 inside
 
   pub length-more : (j : ℕ) (widths : List ℕ) → j < length widths
-      → length (empty_from joints shades columns j (drop j widths))
-      ≡ get_or shades j 0 + (room_of widths j + (length (joint_behind joints j columns) + length (empty_from joints shades columns (j + 1) (drop (j + 1) widths))))
+      → length (empty_from joints inks columns j (drop j widths))
+      ≡ length (led_bytes (ink_at j)) + (kept_bytes (ink_at j) + (room_of widths j + (length (joint_behind joints j columns) + length (empty_from joints inks columns (j + 1) (drop (j + 1) widths)))))
   length-more j widths inside =
-      let shade = get_or shades j 0 in
+      let lead = led_bytes (ink_at j) in
+      let kept = kept_bytes (ink_at j) in
       let room = room_of widths j in
       let joint = joint_behind joints j columns in
-      let tail = empty_from joints shades columns (j + 1) (drop (j + 1) widths) in
-      let all : length (empty_from joints shades columns j (drop j widths)) ≡ length (fill shade ++ (fill room ++ (joint ++ tail))) = ap (λ l. length l) (empty-more j widths inside) in
-      omega (arith, all, length-append (fill shade) (fill room ++ (joint ++ tail)), length-append (fill room) (joint ++ tail), length-append joint tail, length-fill shade, length-fill room)
+      let tail = empty_from joints inks columns (j + 1) (drop (j + 1) widths) in
+      let all : length (empty_from joints inks columns j (drop j widths)) ≡ length (lead ++ (fill kept ++ (fill room ++ (joint ++ tail)))) = ap (λ l. length l) (empty-more j widths inside) in
+      omega (arith, all, length-append lead (fill kept ++ (fill room ++ (joint ++ tail))), length-append (fill kept) (fill room ++ (joint ++ tail)), length-append (fill room) (joint ++ tail), length-append joint tail, length-fill kept, length-fill room)
 
   -- the room in column j, where these widths are left from column k on
   abbrev room_at : ℕ → ℕ → List ℕ → List ℕ → Room
-  room_at j k widths left = record { width = room_of widths k; shade = get_or shades j 0; rest = length (empty_from joints shades columns j left) }
+  room_at j k widths left = record { width = room_of widths k; ink = ink_at j; rest = length (empty_from joints inks columns j left) - length (led_bytes (ink_at j)) }
 
   pub rooms-more : (j : ℕ) (widths : List ℕ) → j < length widths
-      → rooms_from joints shades columns j (drop j widths) ≡ room_at j j widths (drop j widths) ∷ rooms_from joints shades columns (j + 1) (drop (j + 1) widths)
+      → rooms_from joints inks columns j (drop j widths) ≡ room_at j j widths (drop j widths) ∷ rooms_from joints inks columns (j + 1) (drop (j + 1) widths)
   rooms-more j widths inside =
-      at_drop_more (rooms_from joints shades columns j) widths j 0 inside
-      ∙ ap (λ n. record { width = room_of widths j; shade = get_or shades j 0; rest = n } ∷ rooms_from joints shades columns (j + 1) (drop (j + 1) widths)) (ap (λ l. length l) (sym (empty-more j widths inside)))
+      at_drop_more (rooms_from joints inks columns j) widths j 0 inside
+      ∙ ap (λ n. record { width = room_of widths j; ink = ink_at j; rest = n - length (led_bytes (ink_at j)) } ∷ rooms_from joints inks columns (j + 1) (drop (j + 1) widths)) (ap (λ l. length l) (sym (empty-more j widths inside)))
 
   pub room-at : (j k : ℕ) (widths : List ℕ) (default : Room) → k < length widths
-      → get_or (rooms_from joints shades columns j widths) k default ≡ room_at (j + k) k widths (drop k widths)
+      → get_or (rooms_from joints inks columns j widths) k default ≡ room_at (j + k) k widths (drop k widths)
   room-at j k [] default inside = absurd (omega (arith, inside))
   room-at j zero (width ∷ widths) default inside =
       let same : j ≡ j + 0 = omega arith in
@@ -78,26 +86,55 @@ module _ (joints : Joints) (shades : List ℕ) (columns : ℕ) where
       ∙ ap (λ n. room_at n k widths (drop k widths)) same
 
   pub room-of : (k : ℕ) (widths : List ℕ) (default : Room) → k < length widths
-      → get_or (rooms_from joints shades columns 0 widths) k default ≡ room_at k k widths (drop k widths)
+      → get_or (rooms_from joints inks columns 0 widths) k default ≡ room_at k k widths (drop k widths)
   room-of k widths default inside =
       let same : 0 + k ≡ k = omega arith in
       room-at 0 k widths default inside
       ∙ ap (λ n. room_at n k widths (drop k widths)) same
 
-  pub length-rooms : (j : ℕ) (widths : List ℕ) → length (rooms_from joints shades columns j widths) ≡ length widths
+  pub length-rooms : (j : ℕ) (widths : List ℕ) → length (rooms_from joints inks columns j widths) ≡ length widths
   length-rooms j [] = refl
   length-rooms j (width ∷ widths) = ap suc (length-rooms (j + 1) widths)
 
-  module _ (between : IsUtf8 joints.between) (back : IsUtf8 joints.back) where
+  module _ (leads : (j : ℕ) → IsUtf8 (led_bytes (ink_at j))) (between : IsUtf8 joints.between) (back : IsUtf8 joints.back) where
     pub utf8-behind : (j : ℕ) → IsUtf8 (joint_behind joints j columns)
     utf8-behind j = elim (j + 1 == columns) as (λ b. IsUtf8 (cond b joints.back joints.between)) [ true ↦ back | false ↦ between ]
 
-    pub utf8-empty : (j : ℕ) (widths : List ℕ) → IsUtf8 (empty_from joints shades columns j widths)
+    pub utf8-empty : (j : ℕ) (widths : List ℕ) → IsUtf8 (empty_from joints inks columns j widths)
     utf8-empty j [] = IsUtf8-nil
     utf8-empty j (width ∷ widths) =
-        IsUtf8-append (fill (get_or shades j 0)) _ (utf8-fill (get_or shades j 0))
+        IsUtf8-append (led_bytes (ink_at j)) _ (leads j)
+        (IsUtf8-append (fill (kept_bytes (ink_at j))) _ (utf8-fill (kept_bytes (ink_at j)))
         (IsUtf8-append (fill (room_in joints width)) _ (utf8-fill (room_in joints width))
-        (IsUtf8-append (joint_behind joints j columns) _ (utf8-behind j) (utf8-empty (j + 1) widths)))
+        (IsUtf8-append (joint_behind joints j columns) _ (utf8-behind j) (utf8-empty (j + 1) widths))))
+
+-- ---- its inks
+
+-- what holds for a list's items, by their places, holds with one more
+pub each-more : {A : Type 0} (Holds : ℕ → A → Type 0) (default : A) (items : List A) (item : A)
+    → ((k : ℕ) → k < length items → Holds k (get_or items k default)) → Holds (length items) item
+    → (k : ℕ) → k < length (items ++ (item ∷ [])) → Holds k (get_or (items ++ (item ∷ [])) k default)
+each-more Holds default [] item each one zero inside = one
+each-more Holds default [] item each one (suc k) inside = absurd (omega (arith, inside))
+each-more Holds default (first ∷ items) item each one zero inside = each 0 (omega arith)
+each-more Holds default (first ∷ items) item each one (suc k) inside =
+    each-more (λ n. Holds (suc n)) default items item (λ n below. each (suc n) (omega (arith, below))) one k (omega (arith, inside))
+
+-- what stands before a room is a text
+utf8-led : (alignment : Option AlignmentHorizontal) (colors : ℕ → Option Color) (ink : Ink) → IsInk alignment colors ink → IsUtf8 (led_bytes ink)
+utf8-led alignment colors Plain is = IsUtf8-nil
+utf8-led alignment colors (Led prefix suffix) is = is.1.1
+utf8-led alignment colors (Asked shade) is = IsUtf8-nil
+
+utf8-some : (inks : List Ink) → ((j : ℕ) → j < length inks → IsUtf8 (led_bytes (get_or inks j Plain))) → (j : ℕ) → IsUtf8 (led_bytes (get_or inks j Plain))
+utf8-some [] some j = IsUtf8-nil
+utf8-some (ink ∷ inks) some zero = some 0 (omega arith)
+utf8-some (ink ∷ inks) some (suc j) = utf8-some inks (λ n below. some (suc n) (omega (arith, below))) j
+
+pub utf8-leads : (alignment : Option AlignmentHorizontal) (colors : Position → Option Color) (columns : ℕ) (inks : List Ink) → AreInks alignment colors columns inks
+    → (j : ℕ) → IsUtf8 (led_bytes (get_or inks j Plain))
+utf8-leads alignment colors columns inks are =
+    utf8-some inks (λ j below. utf8-led alignment (λ row. colors (at row j)) (get_or inks j Plain) (are.each j (omega (arith, below, are.count))))
 
 -- ---- a text over some of the spaces of a room
 
@@ -171,68 +208,91 @@ module _ (line : List ℕ) (start shade room : ℕ) (has : HasSpaces line start 
       regroup : (a b c d e : List ℕ) → (a ++ b) ++ (c ++ (d ++ e)) ≡ a ++ ((b ++ (c ++ d)) ++ e)
       regroup a b c d e = simp append_assoc
 
+-- the spaces of a room that a text and the end of its colour take
+abbrev pub ended-spaces : (room : Room) (start : ℕ) (bytes : List ℕ) → HasSpaces bytes start (kept_bytes room.ink + room.width) → (text suffix : List ℕ)
+    → length text ≤ room.width → kept_bytes room.ink ≡ length suffix → HasSpaces bytes start (length (text ++ suffix))
+ended-spaces room start bytes has text suffix fits kept =
+    let rest = room.width - length text in
+    first-spaces bytes start (length (text ++ suffix)) rest
+    (resized bytes start (omega (arith, fits, kept, length-append text suffix)) has)
+
 -- ---- the room of a column
 
-module _ (rows : FlatRows) (widths shades before : List ℕ) (j : ℕ) (inside : j < length widths) {all : List ℕ}
-    (are : all ≡ before ++ empty_from (joints_of rows) shades (length widths) j (drop j widths))
-    (rooms : List Room) (kept : rooms ≡ rooms_from (joints_of rows) shades (length widths) 0 widths) (room : Room) (found : room ≡ get_or rooms j room)
+module _ (rows : FlatRows) (widths : List ℕ) (inks : List Ink) (leads : (j : ℕ) → IsUtf8 (led_bytes (get_or inks j Plain))) (before : List ℕ) (j : ℕ) (inside : j < length widths) {all : List ℕ}
+    (are : all ≡ before ++ empty_from (joints_of rows) inks (length widths) j (drop j widths))
+    (rooms : List Room) (kept : rooms ≡ rooms_from (joints_of rows) inks (length widths) 0 widths) (room : Room) (found : room ≡ get_or rooms j room)
     (len : ℕ) (counted : len ≡ length all) where
   abbrev tail_from : ℕ → List ℕ
-  tail_from k = empty_from (joints_of rows) shades (length widths) k (drop k widths)
+  tail_from k = empty_from (joints_of rows) inks (length widths) k (drop k widths)
 
-  room-is : room ≡ record { width = room_in (joints_of rows) (get_or widths j 0); shade = get_or shades j 0; rest = length (tail_from j) }
-  room-is = found ∙ (ap (λ rooms. get_or rooms j room) kept ∙ room-of (joints_of rows) shades (length widths) j widths room inside)
+  abbrev own_ink : Ink
+  own_ink = get_or inks j Plain
+
+  room-is : room ≡ record { width = room_in (joints_of rows) (get_or widths j 0); ink = own_ink; rest = length (tail_from j) - length (led_bytes own_ink) }
+  room-is = found ∙ (ap (λ rooms. get_or rooms j room) kept ∙ room-of (joints_of rows) inks (length widths) j widths room inside)
 
   pub room-wide : room.width ≡ room_in (joints_of rows) (get_or widths j 0)
   room-wide = ap (λ (r : Room). r.width) room-is
 
-  shaded : room.shade ≡ get_or shades j 0
-  shaded = ap (λ (r : Room). r.shade) room-is
+  pub inked : room.ink ≡ own_ink
+  inked = ap (λ (r : Room). r.ink) room-is
 
-  left : room.rest ≡ length (tail_from j)
+  left : room.rest ≡ length (tail_from j) - length (led_bytes own_ink)
   left = ap (λ (r : Room). r.rest) room-is
 
   abbrev after_room : List ℕ
   after_room = joint_behind (joints_of rows) j (length widths) ++ tail_from (j + 1)
 
-  all-long : len ≡ length before + room.rest
-  all-long = omega (arith, counted, ap (λ l. length l) are, length-append before (tail_from j), left)
+  abbrev lead : List ℕ
+  lead = led_bytes room.ink
+
+  all-long : len ≡ length before + (length lead + room.rest)
+  all-long = omega (arith, counted, ap (λ l. length l) are, length-append before (tail_from j), left, length-more (joints_of rows) inks (length widths) j widths inside, ap (λ ink. length (led_bytes ink)) inked)
 
   pub rest-inside : room.rest ≤ len
   rest-inside = omega (arith, all-long)
 
-  pub begin-is : len - room.rest ≡ length before
-  begin-is = omega (arith, all-long)
+  pub lead-inside : length lead ≤ len - room.rest
+  lead-inside = omega (arith, all-long)
+
+  front-is : len - room.rest - length lead ≡ length before
+  front-is = omega (arith, all-long)
+
+  pub begin-is : len - room.rest ≡ length (before ++ lead)
+  begin-is = omega (arith, all-long, length-append before lead)
 
   utf8-from : (k : ℕ) → IsUtf8 (tail_from k)
-  utf8-from k = utf8-empty (joints_of rows) shades (length widths) (utf8-spaced rows.between) (utf8-spaced rows.back) k (drop k widths)
+  utf8-from k = utf8-empty (joints_of rows) inks (length widths) leads (utf8-spaced rows.between) (utf8-spaced rows.back) k (drop k widths)
 
   pub utf8-after : IsUtf8 after_room
   utf8-after =
       IsUtf8-append (joint_behind (joints_of rows) j (length widths)) (tail_from (j + 1))
-      (utf8-behind (joints_of rows) shades (length widths) (utf8-spaced rows.between) (utf8-spaced rows.back) j) (utf8-from (j + 1))
+      (utf8-behind (joints_of rows) inks (length widths) leads (utf8-spaced rows.between) (utf8-spaced rows.back) j) (utf8-from (j + 1))
 
-  pub split-begin : IsSplitPoint all (len - room.rest)
-  split-begin =
-      let boundary : IsCharBoundary all (len - room.rest) = subst (IsCharBoundary all) (sym begin-is) (IsCharBoundary-at_seam all before (tail_from j) are (utf8-from j)) in
+  pub split-front : IsSplitPoint all (len - room.rest - length lead)
+  split-front =
+      let boundary : IsCharBoundary all (len - room.rest - length lead) = subst (IsCharBoundary all) (sym front-is) (IsCharBoundary-at_seam all before (tail_from j) are (utf8-from j)) in
       (boundary.0, λ some. boundary.1)
 
-  pub taken : take (len - room.rest) all ≡ before
-  taken = ap (λ n. take n all) begin-is ∙ (ap (take (length before)) are ∙ take-append_seam before (tail_from j))
+  pub taken : take (len - room.rest - length lead) all ≡ before
+  taken = ap (λ n. take n all) front-is ∙ (ap (take (length before)) are ∙ take-append_seam before (tail_from j))
 
-  pub parts : all ≡ before ++ (spaces (room.shade + room.width) ++ after_room)
+  pub parts : all ≡ (before ++ lead) ++ (spaces (kept_bytes room.ink + room.width) ++ after_room)
   parts =
       are
-      ∙ (ap (λ l. before ++ l) (empty-more (joints_of rows) shades (length widths) j widths inside)
-      ∙ (ap (λ n. before ++ (fill (get_or shades j 0) ++ (fill n ++ after_room))) (sym room-wide)
-      ∙ (ap (λ n. before ++ (fill n ++ (fill room.width ++ after_room))) (sym shaded)
-      ∙ (ap (λ l. before ++ l) (sym (append_assoc (fill room.shade) (fill room.width) after_room))
-      ∙ ap (λ l. before ++ (l ++ after_room)) (joined room.shade room.width)))))
+      ∙ (ap (λ l. before ++ l) (empty-more (joints_of rows) inks (length widths) j widths inside)
+      ∙ (ap (λ n. before ++ (led_bytes own_ink ++ (fill (kept_bytes own_ink) ++ (fill n ++ after_room)))) (sym room-wide)
+      ∙ (ap (λ ink. before ++ (led_bytes ink ++ (fill (kept_bytes ink) ++ (fill room.width ++ after_room)))) (sym inked)
+      ∙ (regroup before lead (fill (kept_bytes room.ink)) (fill room.width) after_room
+      ∙ ap (λ l. (before ++ lead) ++ (l ++ after_room)) (joined (kept_bytes room.ink) room.width)))))
+    where
+      regroup : (a b c d e : List ℕ) → a ++ (b ++ (c ++ (d ++ e))) ≡ (a ++ b) ++ ((c ++ d) ++ e)
+      regroup a b c d e = simp append_assoc
 
   -- the spaces of the room
-  abbrev pub room-spaces : HasSpaces all (len - room.rest) (room.shade + room.width)
+  abbrev pub room-spaces : HasSpaces all (len - room.rest) (kept_bytes room.ink + room.width)
   room-spaces = record {
-    before = before;
+    before = before ++ lead;
     after = after_room;
     parts = parts;
     place = begin-is;

@@ -86,6 +86,30 @@ spaces-behind bytes start rest text {new} has written = record {
   text = has.text;
 }
 
+-- ---- a text and the end of its colour, which are written in turn
+
+module _ (bytes : List ℕ) (start : ℕ) (text suffix : List ℕ) (has : HasSpaces bytes start (length (text ++ suffix))) where
+  abbrev both : HasSpaces bytes start (length text + length suffix)
+  both = resized bytes start (length-append text suffix) has
+
+  abbrev pub for-first : HasSpaces bytes start (length text)
+  for-first = first-spaces bytes start (length text) (length suffix) both
+
+  module _ {one : List ℕ} (first : one ≡ replace_range bytes start (start + length text) text) where
+    abbrev pub for-end : HasSpaces one (start + length text) (length suffix)
+    for-end = spaces-behind bytes start (length suffix) text both first
+
+    pub two-written : {two : List ℕ} → two ≡ replace_range one (start + length text) (start + length text + length suffix) suffix
+        → two ≡ replace_range bytes start (start + length (text ++ suffix)) (text ++ suffix)
+    two-written second =
+        second
+        ∙ (spaces-over one (start + length text) (length suffix) for-end suffix
+        ∙ (regroup has.before text suffix has.after
+        ∙ sym (spaces-over bytes start (length (text ++ suffix)) has (text ++ suffix))))
+      where
+        regroup : (a b c d : List ℕ) → (a ++ b) ++ (c ++ d) ≡ a ++ ((b ++ c) ++ d)
+        regroup a b c d = simp append_assoc
+
 -- ---- a text in a colour, whose three parts are written in turn
 
 pub in-parts : (color : Color) (text : List ℕ) {prefix suffix : List ℕ} → prefix ≡ color.prefix → suffix ≡ color.suffix → in_color color text ≡ prefix ++ (text ++ suffix)

@@ -1,8 +1,10 @@
 -- Rows, where the cells of a table have the same settings but for their alignment: what stands between their texts is the
 -- same in each.
-use Rattle.std.specs.Prelude.{◌≡◌, ⊤, ℕ, ◌+◌, ◌-◌, ◌==◌, Bool, false, List, [], ◌∷◌, ◌++◌, Option, MatchOption, None, drop, length, slice_index, string_bytes, if◌then◌else◌}
+use Rattle.std.specs.Prelude.{◌≡◌, ⊤, ℕ, ◌+◌, ◌-◌, ◌<◌, ◌==◌, Bool, false, List, [], ◌∷◌, ◌++◌, Option, MatchOption, None, Some, drop, length, slice_index, slice_index_or, string_bytes, if◌then◌else◌}
 use Rattle.std.specs.Option.{option_map}
+use Rattle.std.specs.Str.{IsUtf8}
 use Rattle.grid_config_values.specs.declared.alignment.AlignmentHorizontal.{AlignmentHorizontal}
+use Rattle.grid_config_values.specs.declared.alignment.AlignmentHorizontal.TheVariants.{Left}
 use Rattle.grid_config_values.specs.declared.position.Position.{Position}
 use Rattle.grid_config_values.specs.Settings.{value_at}
 use Rattle.grid_config.specs.Colors.{Color, color_of}
@@ -11,8 +13,10 @@ use Rattle.grid_config.specs.Settings.{AreUniformButAlignment, Settings}
 use Rattle.papergrid_picture.specs.Blocks.{free_left}
 use Rattle.papergrid_picture.specs.Picture.{at}
 use Rattle.papergrid_cells.specs.Boundaries.{upright_bytes}
-use Rattle.papergrid_cells.specs.Painting.{colored, fill_bytes}
+use Rattle.papergrid_cells.specs.Painting.{colored, fill_bytes, prefix_of, suffix_of}
 use Rattle.papergrid_cells.specs.declared.empty_row.EmptyRow.{EmptyRow}
+use Rattle.papergrid_cells.specs.declared.empty_row.Ink.{Ink}
+use Rattle.papergrid_cells.specs.declared.empty_row.Ink.TheVariants.{Asked, Led, Plain}
 use Rattle.papergrid_cells.specs.declared.empty_row.Room.{Room}
 use Rattle.papergrid_cells.specs.declared.flat.FlatRows.{FlatRows}
 use Rattle.papergrid_cells.specs.declared.spaced.Spaced.{Spaced}
@@ -114,6 +118,17 @@ head_bytes rows j = if j == 0 then string_bytes rows.first_head else string_byte
 
 -- ---- the line of a row of empty cells
 
+-- what of a column's colour stands in it, and for how many other bytes of a colour it has spaces
+abbrev pub led_bytes : Ink → List ℕ
+led_bytes Plain = []
+led_bytes (Led prefix suffix) = prefix.now
+led_bytes (Asked shade) = []
+
+abbrev pub kept_bytes : Ink → ℕ
+kept_bytes Plain = 0
+kept_bytes (Led prefix suffix) = length suffix.now
+kept_bytes (Asked shade) = shade
+
 -- the paddings beside texts, and what stands between two of these and after the last
 pub record Joints : Type 0 where
   pub left : ℕ
@@ -133,35 +148,51 @@ module _ (joints : Joints) where
   abbrev pub joint_behind : ℕ → ℕ → List ℕ
   joint_behind j columns = if j + 1 == columns then joints.back else joints.between
 
-  module _ (shades : List ℕ) where
-    -- the line from the room in column j of `columns` on, where these widths are left: spaces for the bytes of a colour and for
-    -- the text in it, and what stands after them
+  module _ (inks : List Ink) where
+    -- the line from column j of `columns` on, where these widths are left: the begin of a colour, spaces for the other bytes of a
+    -- colour and for a text, and what stands after them
     abbrev pub empty_from : ℕ → ℕ → List ℕ → List ℕ
     empty_from columns j [] = []
     empty_from columns j (width ∷ widths) =
-        fill_bytes 0x20 (slice_index shades j) ++ (fill_bytes 0x20 (room_in width) ++ (joint_behind j columns ++ empty_from columns (j + 1) widths))
+        let ink = slice_index_or inks j Plain in
+        led_bytes ink ++ (fill_bytes 0x20 (kept_bytes ink) ++ (fill_bytes 0x20 (room_in width) ++ (joint_behind j columns ++ empty_from columns (j + 1) widths)))
 
-    -- the rooms in it
+    -- the rooms in it, each behind the begin of its colour
     abbrev pub rooms_from : ℕ → ℕ → List ℕ → List Room
     rooms_from columns j [] = []
     rooms_from columns j (width ∷ widths) =
-        record { width = room_in width; shade = slice_index shades j; rest = length (empty_from columns j (width ∷ widths)) } ∷ rooms_from columns (j + 1) widths
+        let ink = slice_index_or inks j Plain in
+        record { width = room_in width; ink = ink; rest = length (empty_from columns j (width ∷ widths)) - length (led_bytes ink) } ∷ rooms_from columns (j + 1) widths
 
--- the line of a row of empty cells in columns of these widths, whose texts stand in colours of so many bytes, where spaces in no
--- colour fill what texts leave free
-pub record IsEmptyRow (rows : FlatRows) (widths shades : List ℕ) (empty : EmptyRow) : Type 0 where
+-- the line of a row of empty cells in columns of these widths and inks, where spaces in no colour fill what texts leave free
+pub record IsEmptyRow (rows : FlatRows) (widths : List ℕ) (inks : List Ink) (empty : EmptyRow) : Type 0 where
   pub fill : rows.fill ≡ 0x20
   pub color : rows.fill_color ≡ None
-  pub line : string_bytes empty.line ≡ string_bytes rows.front ++ empty_from (joints_of rows) shades (length widths) 0 widths
-  pub rooms : empty.rooms.items ≡ rooms_from (joints_of rows) shades (length widths) 0 widths
+  pub line : string_bytes empty.line ≡ string_bytes rows.front ++ empty_from (joints_of rows) inks (length widths) 0 widths
+  pub rooms : empty.rooms.items ≡ rooms_from (joints_of rows) inks (length widths) 0 widths
 
--- the same in some colours
-abbrev pub IsSomeEmptyRow : FlatRows → List ℕ → EmptyRow → Type 0
-IsSomeEmptyRow rows widths empty = (shades : List ℕ) × IsEmptyRow rows widths shades empty
+-- the colours of a column's cells, by their rows, are as this ink tells, in rows whose alignment is told or not: none has one; or
+-- each has that of these texts, and all texts stand at the left; or so many bytes are those of the colour in the second row
+abbrev pub IsInk : Option AlignmentHorizontal → (ℕ → Option Color) → Ink → Type 0
+IsInk alignment colors Plain = (row : ℕ) → colors row ≡ None
+IsInk alignment colors (Led prefix suffix) =
+    ((row : ℕ) → colors row ≡ Some (record { prefix = prefix.now; suffix = suffix.now })) × ((alignment ≡ Some Left) × IsUtf8 prefix.now)
+IsInk alignment colors (Asked shade) = shade ≡ length (prefix_of (colors 1)) + length (suffix_of (colors 1))
 
-abbrev pub HasEmptyRow : List ℕ → FlatRows → Type 0
-HasEmptyRow widths rows = MatchOption rows.empty ⊤ (IsSomeEmptyRow rows widths)
+-- the inks of the first columns
+pub record AreInks (alignment : Option AlignmentHorizontal) (colors : Position → Option Color) (columns : ℕ) (inks : List Ink) : Type 0 where
+  pub count : length inks ≡ columns
+  pub each : (j : ℕ) → j < columns → IsInk alignment (λ row. colors (at row j)) (slice_index_or inks j Plain)
 
--- rows of one line that were made for a table with these settings and columns of these widths, where its settings allow it
-abbrev pub AreMadeFor : Settings → List ℕ → Option FlatRows → Type 0
-AreMadeFor settings widths made = MatchOption made ⊤ (λ rows. AreFlat settings × AreFlatRows (look_of settings) (length widths) rows × HasEmptyRow widths rows)
+-- the line of a row of empty cells in a table of these colours
+abbrev pub IsSomeEmptyRow : FlatRows → (Position → Option Color) → List ℕ → EmptyRow → Type 0
+IsSomeEmptyRow rows colors widths empty = (inks : List Ink) × (IsEmptyRow rows widths inks empty × AreInks rows.alignment colors (length widths) inks)
+
+abbrev pub HasEmptyRow : (Position → Option Color) → List ℕ → FlatRows → Type 0
+HasEmptyRow colors widths rows = MatchOption rows.empty ⊤ (IsSomeEmptyRow rows colors widths)
+
+-- rows of one line that were made for a table with these settings, cells of these colours and columns of these widths, where its
+-- settings allow it
+abbrev pub AreMadeFor : Settings → (Position → Option Color) → List ℕ → Option FlatRows → Type 0
+AreMadeFor settings colors widths made =
+    MatchOption made ⊤ (λ rows. AreFlat settings × AreFlatRows (look_of settings) (length widths) rows × HasEmptyRow colors widths rows)

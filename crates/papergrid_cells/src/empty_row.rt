@@ -1,5 +1,5 @@
 //! The line of a row of empty cells, over which the texts of a row are written.
-ghost use Rattle.std.specs.Prelude.{◌≡◌, ◌+◌, ◌<◌, ◌^◌, OnOk, Some, length, string_bytes};
+ghost use Rattle.std.specs.Prelude.{◌≡◌, ◌+◌, ◌++◌, ◌<◌, ◌^◌, OnOk, Some, length, string_bytes};
 ghost use Rattle.std.specs.List.{replace_range};
 ghost use Rattle.std.specs.Option.{option_map};
 ghost use Rattle.std.specs.String.Boundary.{IsSplitPoint};
@@ -10,20 +10,59 @@ ghost use Rattle.papergrid_cells.specs.Spaces.{HasSpaces};
 use grid_config::ANSIStr;
 use std::alloc::AllocError;
 
-/// Where the text of a column may stand in the line of a row of empty cells: in `width` columns and the `shade`
-/// bytes of its colour, which begin `rest` bytes before the end of the line.
+/// What is known of the colours of a column's cells, and what stands for them in the line of a row of empty cells.
 #[derive(Clone, Copy)]
-pub struct Room {
+pub enum Ink<'a> {
+    /// No cell has one.
+    Plain,
+    /// Each cell has that of these texts, and its text stands at the left: the prefix stands before the room of
+    /// the column, and in that are spaces for the suffix.
+    Led { prefix: &'a str, suffix: &'a str },
+    /// Each cell is asked for its own: in the room are spaces for so many bytes of a colour.
+    Asked(usize),
+}
+
+impl<'a> Ink<'a> {
+    ghost use Rattle.std.specs.Prelude.{◌≡◌};
+    ghost use Rattle.papergrid_cells.specs.Flat.{kept_bytes, led_bytes};
+
+    /// What stands before the room of the column.
+    pub fn lead(&self) -> &'a str
+        ensures { result.now ≡ led_bytes self.now }
+    {
+        match *self {
+            Ink::Led { prefix, suffix: _ } => prefix,
+            Ink::Plain => "",
+            Ink::Asked(_) => "",
+        }
+    }
+
+    /// For how many bytes of a colour there are spaces in the room of the column.
+    pub fn kept(&self) -> usize
+        ensures { result ≡ kept_bytes self.now }
+    {
+        match *self {
+            Ink::Led { prefix: _, suffix } => suffix.len(),
+            Ink::Plain => 0,
+            Ink::Asked(shade) => shade,
+        }
+    }
+}
+
+/// Where the text of a column may stand in the line of a row of empty cells: in `width` columns and the bytes that
+/// its ink keeps for a colour, which begin `rest` bytes before the end of the line.
+#[derive(Clone, Copy)]
+pub struct Room<'a> {
     pub width: usize,
-    pub shade: usize,
+    pub ink: Ink<'a>,
     pub rest: usize,
 }
 
 /// The line of a row of empty cells, and the room of each column in it.
 #[derive(Drop)]
-pub struct EmptyRow {
+pub struct EmptyRow<'a> {
     pub line: String,
-    pub rooms: Vec<Room>,
+    pub rooms: Vec<Room<'a>>,
 }
 
 /// How many bytes a colour takes around a text that is not empty.
@@ -79,4 +118,21 @@ pub fn write_colored(
     write_over(out, start, prefix)?;
     write_over(out, start + prefix.len(), text)?;
     write_over(out, start + prefix.len() + text.len(), suffix)
+}
+
+/// Writes a text, and behind it the end of its colour, over as many spaces, from `start` on. Fails only where
+/// allocation fails.
+#[inline(always)]
+pub fn write_ended(
+    out: &mut String,
+    start: usize,
+    text: &str,
+    suffix: &str,
+) -> Result<(), AllocError>
+    requires spaces { HasSpaces (string_bytes out.old) start (length (text.now ++ suffix.now)) }
+    ensures { OnOk result (let shown = text.now ++ suffix.now in
+        string_bytes out.new ≡ replace_range (string_bytes out.old) start (start + length shown) shown) }
+{
+    write_over(out, start, text)?;
+    write_over(out, start + text.len(), suffix)
 }

@@ -1,6 +1,6 @@
 //! Rows, where all cells of a table have the same settings but for their alignment: what stands between their
 //! texts is made once.
-ghost use Rattle.std.specs.Prelude.{◌≡◌, ⊤, ◌<◌, ◌++◌, ℕ, IfOk, IfSome, IsSome, IsTrue, MatchOption, None, OnOk, length, slice_index, string_bytes};
+ghost use Rattle.std.specs.Prelude.{◌≡◌, ⊤, ◌<◌, ◌++◌, ℕ, IfOk, IfSome, IsSome, IsTrue, MatchOption, None, OnOk, Some, length, slice_index_or, string_bytes};
 ghost use Rattle.std.specs.Option.{option_map};
 ghost use Rattle.grid_config.specs.Looks.{Look, look_of};
 ghost use Rattle.grid_config.specs.Colors.{color_of};
@@ -11,9 +11,11 @@ ghost use Rattle.papergrid_cells.specs.Boundaries.{upright_bytes};
 ghost use Rattle.papergrid_cells.specs.Flat.{AreFlat, AreFlatRows, IsEmptyRow, behind_text, empty_from, head_bytes, joints_of, placed, room_in, rooms_from, spaced_text, standing_of};
 ghost use Rattle.papergrid_cells.specs.Painting.{colored, fill_bytes};
 ghost use Rattle.papergrid_cells.specs.declared.block.BlockLine.TheVariants.{Text};
+ghost use Rattle.papergrid_cells.specs.declared.empty_row.Ink.TheVariants.{Plain};
+ghost use Rattle.grid_config_values.specs.declared.alignment.AlignmentHorizontal.TheVariants.{Left};
 
 use crate::block::{OpenCell, borrowed, free_left, push_indent};
-use crate::empty_row::{EmptyRow, Room};
+use crate::empty_row::{EmptyRow, Ink, Room};
 use crate::glyphs::push_upright;
 use crate::painting::{push_fill, push_repeated, push_text};
 use crate::spaced::Spaced;
@@ -42,7 +44,7 @@ pub struct FlatRows<'a> {
     pub fill_color: Option<ANSIStr<'a>>,
     pub alignment: Option<AlignmentHorizontal>,
     pub line_alignment: bool,
-    pub empty: Option<EmptyRow>,
+    pub empty: Option<EmptyRow<'a>>,
 }
 
 /// Whether all cells are known to have the same settings but for how their texts stand from left to right,
@@ -99,21 +101,22 @@ impl<'a> FlatRows<'a> {
         })
     }
 
-    /// The same with the line of a row of empty cells, for columns of these widths, in which texts stand in
-    /// colours of so many bytes, where spaces in no colour fill what texts leave free. Fails only where
+    /// The same with the line of a row of empty cells, for columns of these widths and inks, where spaces in
+    /// no colour fill what texts leave free. Fails only where
     /// allocation fails.
     pub fn with_empty_row(
         self,
         alloc: Global,
         widths: &[usize],
-        shades: &[usize],
+        inks: &[Ink<'a>],
     ) -> Result<FlatRows<'a>, AllocError>
         ensures rows { IfOk result (λ rows. (look : Look) (columns : ℕ) → AreFlatRows look columns self.entry → AreFlatRows look columns rows) }
-        ensures empty { IfOk result (λ rows. MatchOption rows.empty ⊤ (IsEmptyRow rows widths.now shades.now)) }
+        ensures empty { IfOk result (λ rows. MatchOption rows.empty ⊤ (IsEmptyRow rows widths.now inks.now)) }
+        ensures alignment { IfOk result (λ rows. rows.alignment ≡ self.entry.alignment) }
         ensures made { IfOk result (λ rows. rows.fill ≡ 0x20 → rows.fill_color ≡ None → IsSome rows.empty) }
     {
         let mut rows = self;
-        rows.empty = rows.empty_row(alloc, widths, shades)?;
+        rows.empty = rows.empty_row(alloc, widths, inks)?;
         Ok(rows)
     }
 
@@ -122,17 +125,17 @@ impl<'a> FlatRows<'a> {
         &self,
         alloc: Global,
         widths: &[usize],
-        shades: &[usize],
-    ) -> Result<Option<EmptyRow>, AllocError>
-        ensures row { IfOk result (λ row. MatchOption row ⊤ (IsEmptyRow self.now widths.now shades.now)) }
+        inks: &[Ink<'a>],
+    ) -> Result<Option<EmptyRow<'a>>, AllocError>
+        ensures row { IfOk result (λ row. MatchOption row ⊤ (IsEmptyRow self.now widths.now inks.now)) }
         ensures made { IfOk result (λ row. self.now.fill ≡ 0x20 → self.now.fill_color ≡ None → IsSome row) }
     {
         if self.fill != ' ' || self.fill_color.is_some() {
             return Ok(None);
         }
-        let line = self.empty_line(alloc, widths, shades)?;
+        let line = self.empty_line(alloc, widths, inks)?;
         let rest = line.len() - self.front.len();
-        let rooms = self.rooms(alloc, widths, shades, rest)?;
+        let rooms = self.rooms(alloc, widths, inks, rest)?;
         Ok(Some(EmptyRow { line, rooms }))
     }
 
@@ -141,15 +144,16 @@ impl<'a> FlatRows<'a> {
         &self,
         alloc: Global,
         widths: &[usize],
-        shades: &[usize],
+        inks: &[Ink<'a>],
     ) -> Result<String, AllocError>
-        ensures { IfOk result (λ line. string_bytes line ≡ string_bytes self.now.front ++ empty_from (joints_of self.now) shades.now (length widths.now) 0 widths.now) }
+        ensures { IfOk result (λ line. string_bytes line ≡ string_bytes self.now.front ++ empty_from (joints_of self.now) inks.now (length widths.now) 0 widths.now) }
     {
         let mut line = String::new(alloc);
         line.push_str(&self.front)?;
         for j in 0..widths.len() {
-            let room = self.room(widths[j]);
-            push_repeated(&mut line, ' ', number_at(shades, j))?;
+            let (room, ink) = (self.room(widths[j]), ink_at(inks, j));
+            line.push_str(ink.lead())?;
+            push_repeated(&mut line, ' ', ink.kept())?;
             self.behind(j, widths.len()).push_behind(&mut line, room)?;
         }
         Ok(line)
@@ -160,17 +164,18 @@ impl<'a> FlatRows<'a> {
         &self,
         alloc: Global,
         widths: &[usize],
-        shades: &[usize],
+        inks: &[Ink<'a>],
         mut rest: usize,
-    ) -> Result<Vec<Room>, AllocError>
-        requires { rest ≡ length (empty_from (joints_of self.now) shades.now (length widths.now) 0 widths.now) }
-        ensures { IfOk result (λ rooms. rooms.items ≡ rooms_from (joints_of self.now) shades.now (length widths.now) 0 widths.now) }
+    ) -> Result<Vec<Room<'a>>, AllocError>
+        requires { rest ≡ length (empty_from (joints_of self.now) inks.now (length widths.now) 0 widths.now) }
+        ensures { IfOk result (λ rooms. rooms.items ≡ rooms_from (joints_of self.now) inks.now (length widths.now) 0 widths.now) }
     {
         let mut rooms = Vec::new(alloc);
         for j in 0..widths.len() {
-            let (width, shade) = (self.room(widths[j]), number_at(shades, j));
-            rooms.push(Room { width, shade, rest })?;
-            rest = rest - shade - width - self.behind(j, widths.len()).len();
+            let (width, ink) = (self.room(widths[j]), ink_at(inks, j));
+            rest -= ink.lead().len();
+            rooms.push(Room { width, ink, rest })?;
+            rest = rest - ink.kept() - width - self.behind(j, widths.len()).len();
         }
         Ok(rooms)
     }
@@ -185,10 +190,22 @@ impl<'a> FlatRows<'a> {
 
     /// The line of a row of empty cells, where it was made.
     #[inline(always)]
-    pub fn empty(&self) -> &Option<EmptyRow>
+    pub fn empty(&self) -> &Option<EmptyRow<'a>>
         ensures { result.now ≡ self.now.empty }
     {
         &self.empty
+    }
+
+    /// Whether the texts of all cells are known to stand at the left.
+    pub fn stand_left(&self) -> bool
+        ensures { IsTrue result → self.now.alignment ≡ Some Left }
+    {
+        match self.alignment {
+            Some(AlignmentHorizontal::Left) => true,
+            Some(AlignmentHorizontal::Center) => false,
+            Some(AlignmentHorizontal::Right) => false,
+            None => false,
+        }
     }
 
     /// How many of the columns that the text of this cell leaves free stand before it, in the table of these
@@ -307,13 +324,13 @@ impl<'a> FlatRows<'a> {
     }
 }
 
-// The number at this place, and 0 after the last.
-fn number_at(numbers: &[usize], index: usize) -> usize
-    ensures { result ≡ slice_index numbers.now index }
+// The ink of this column, and after the last one none.
+fn ink_at<'a>(inks: &[Ink<'a>], column: usize) -> Ink<'a>
+    ensures { result ≡ slice_index_or inks.now column Plain }
 {
-    match numbers.get(index) {
-        Some(number) => *number,
-        None => 0,
+    match inks.get(column) {
+        Some(ink) => *ink,
+        None => Ink::Plain,
     }
 }
 

@@ -12,7 +12,9 @@ mod spaced;
 
 pub use block::{BlockLine, OpenCell, block_line, push_blank, push_block_line, push_indent};
 pub use cell_lines::{CellLines, read_cell};
-pub use empty_row::{EmptyRow, Room, color_len, shade_of, write_colored, write_over};
+pub use empty_row::{
+    EmptyRow, Ink, Room, color_len, shade_of, write_colored, write_ended, write_over,
+};
 pub use flat::{FlatRows, are_flat};
 pub use glyphs::{push_along, push_behind, push_corner, push_upright};
 pub use painting::{GlyphRun, push_glyphs};

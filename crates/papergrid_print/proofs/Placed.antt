@@ -1,10 +1,12 @@
 -- Texts in their columns show what the picture shows, where all cells of a table have the same settings but for their
 -- alignment.
-use Rattle.std.proofs.Common.{◌≡◌, ℕ, ◌+◌, ◌-◌, ◌<◌, ◌≤◌, List, ◌++◌, Option, None, Some, drop, get_or, length, refl, ap, subst, sym, ◌∙◌, append_assoc}
+use Rattle.std.proofs.Common.{◌≡◌, ℕ, ◌+◌, ◌-◌, ◌<◌, ◌≤◌, List, [], ◌++◌, Option, None, Some, drop, get_or, length, refl, ap, subst, sym, ◌∙◌, append-nil, append_assoc, arith}
 use Rattle.std.specs.Prelude.{⊤, MatchOption, slice_index}
 use Rattle.std.specs.List.{replace_range}
+use Rattle.std.proofs.lemmas.List.{length-append}
 use Rattle.grid_config.specs.Colors.{Color}
 use Rattle.grid_config_values.specs.declared.alignment.AlignmentHorizontal.{AlignmentHorizontal}
+use Rattle.grid_config_values.specs.declared.alignment.AlignmentHorizontal.TheVariants.{Left}
 use Rattle.grid_config_values.specs.declared.position.Position.{Position}
 use Rattle.grid_config.specs.Looks.{look_of}
 use Rattle.grid_records_traits.specs.Cells.{HasLineCount, HasWidth, IsLineAt}
@@ -12,14 +14,15 @@ use Rattle.grid_records_traits.specs.PlainRows.{IsPlainText}
 use Rattle.grid_records_traits.specs.Rows.{text_at}
 use Rattle.papergrid_picture.specs.Blocks.{free_left, greatest}
 use Rattle.papergrid_picture.specs.Picture.{at}
-use Rattle.papergrid_cells.specs.Flat.{AreFlat, AreFlatRows, IsEmptyRow, IsSomeEmptyRow, Standing, empty_from, joint_behind, joints_of, placed, standing_of}
+use Rattle.papergrid_cells.specs.Flat.{AreFlat, AreFlatRows, AreInks, IsEmptyRow, IsSomeEmptyRow, Standing, empty_from, joint_behind, joints_of, kept_bytes, led_bytes, placed, standing_of}
 use Rattle.papergrid_cells.specs.Painting.{colored, fill_bytes}
 use Rattle.papergrid_cells.specs.declared.empty_row.EmptyRow.{EmptyRow}
+use Rattle.papergrid_cells.specs.declared.empty_row.Ink.{Ink}
 use Rattle.papergrid_cells.specs.declared.empty_row.Room.{Room}
 use Rattle.papergrid_cells.specs.declared.flat.FlatRows.{FlatRows}
 use Rattle.papergrid_print.specs.FlatSheets.{HasRoom, IsWritten, first_placed, row_front}
 use Rattle.papergrid_print.specs.Sheets.{Sheet, bytes_of, grid_of}
-use Rattle.papergrid_cells.proofs.EmptyRows.{placed-plain, text-over}
+use Rattle.papergrid_cells.proofs.EmptyRows.{placed-plain, some-shown, text-over}
 use Rattle.papergrid_print.proofs.Flat.{flat-more, line-is, measured, one-width, widest-is}
 
 -- ---- a text that is its own first line, in its column
@@ -55,30 +58,65 @@ module _ (sheet : Sheet) (flat : AreFlat sheet.settings) (rows : FlatRows) (pos 
       ∙ (sym (placed-plain rows alignment_own has.fill has.color (slice_index sheet.widths pos.col) width color text)
       ∙ plain-placed sheet flat pos (standing_of rows alignment_own) text width color own plain.0 plain.1 plain.2 shade))
 
-  -- what stands there once the text is written
+  -- what stands there once the text is written over a room before which nothing stands
   pub cell-written : (text : List ℕ) (width indent : ℕ) (color : Option Color) → text ≡ text_at sheet.rows pos → IsPlainText text width → color ≡ sheet.colors pos
-      → width ≤ room.width → indent ≡ free_left alignment_own (room.width - width) → length (colored color text) ≡ room.shade + width
+      → width ≤ room.width → indent ≡ free_left alignment_own (room.width - width) → led_bytes room.ink ≡ [] → length (colored color text) ≡ kept_bytes room.ink + width
       → {new : List ℕ} → new ≡ replace_range bytes (start + indent) (start + indent + length (colored color text)) (colored color text)
       → IsWritten sheet rows pos room start bytes new
-  cell-written text width indent color own plain shade fits is takes written = λ spaces.
+  cell-written text width indent color own plain shade fits is none takes written = λ spaces front before.
+      let shown = first_placed sheet (standing_of rows alignment_own) pos in
       written
-      ∙ (text-over bytes start room.shade room.width spaces alignment_own width fits indent is (length (colored color text)) takes (colored color text)
-      ∙ ap (λ l. spaces.before ++ (l ++ spaces.after)) (cell-shown text width indent color own plain shade is))
+      ∙ (text-over bytes start (kept_bytes room.ink) room.width spaces alignment_own width fits indent is (length (colored color text)) takes (colored color text)
+      ∙ (ap (λ l. spaces.before ++ (l ++ spaces.after)) (cell-shown text width indent color own plain shade is)
+      ∙ ap (λ l. l ++ (shown ++ spaces.after)) (before ∙ (ap (λ l. front ++ l) none ∙ append-nil front))))
+
+  -- what stands there once the text and the end of its colour are written behind the begin of that
+  pub led-written : (suffix text : List ℕ) → text ≡ text_at sheet.rows pos → IsPlainText text (length text) → 0 < length text
+      → sheet.colors pos ≡ Some (record { prefix = led_bytes room.ink; suffix = suffix }) → alignment_own ≡ Left
+      → length text ≤ room.width → kept_bytes room.ink ≡ length suffix
+      → {new : List ℕ} → new ≡ replace_range bytes start (start + length (text ++ suffix)) (text ++ suffix)
+      → IsWritten sheet rows pos room start bytes new
+  led-written suffix text own plain some shade left fits kept written = λ spaces front before.
+      let prefix = led_bytes room.ink in
+      let color : Color = record { prefix = prefix; suffix = suffix } in
+      let width = length text in
+      let behind = fill_bytes 0x20 (room.width - 0 - width) in
+      let all = text ++ suffix in
+      let none : 0 ≡ free_left alignment_own (room.width - width) = ap (λ a. free_left a (room.width - width)) (sym left) in
+      let same : start ≡ start + 0 = omega arith in
+      let takes : length all ≡ kept_bytes room.ink + width = omega (arith, kept, length-append text suffix) in
+      written
+      ∙ (ap (λ n. replace_range bytes n (n + length all) all) same
+      ∙ (text-over bytes start (kept_bytes room.ink) room.width spaces alignment_own width fits 0 none (length all) takes all
+      ∙ (ap (λ l. l ++ ((all ++ behind) ++ spaces.after)) before
+      ∙ (regroup front prefix text suffix behind spaces.after
+      ∙ (ap (λ l. front ++ ((l ++ behind) ++ spaces.after)) (sym (some-shown color text some))
+      ∙ ap (λ l. front ++ (l ++ spaces.after)) (cell-shown text width 0 (Some color) own plain (sym shade) none))))))
+    where
+      regroup : (a b c d e f : List ℕ) → (a ++ b) ++ (((c ++ d) ++ e) ++ f) ≡ a ++ (((b ++ (c ++ d)) ++ e) ++ f)
+      regroup a b c d e f = simp append_assoc
+
+-- where the alignment of all cells is told, each has it
+pub one-alignment : (sheet : Sheet) (rows : FlatRows) (alignment : AlignmentHorizontal) (pos : Position) → AreFlatRows (look_of sheet.settings) (length sheet.widths) rows
+    → rows.alignment ≡ Some alignment → (look_of sheet.settings).alignment_horizontal pos ≡ alignment
+one-alignment sheet rows alignment pos are is =
+    subst (λ (told : Option AlignmentHorizontal). MatchOption told ⊤ (λ one. (cell : Position) → (look_of sheet.settings).alignment_horizontal cell ≡ one)) is are.alignment pos
 
 -- ---- the line of a row of empty cells
 
--- that for some colours is one
-pub some-empty : (rows : FlatRows) (widths shades : List ℕ) (made : Option EmptyRow) → MatchOption made ⊤ (IsEmptyRow rows widths shades) → MatchOption made ⊤ (IsSomeEmptyRow rows widths)
-some-empty rows widths shades None is = is
-some-empty rows widths shades (Some empty) is = (shades, is)
+-- that for these inks is one
+pub some-empty : (rows : FlatRows) (colors : Position → Option Color) (widths : List ℕ) (inks : List Ink) (made : Option EmptyRow) → AreInks rows.alignment colors (length widths) inks
+    → MatchOption made ⊤ (IsEmptyRow rows widths inks) → MatchOption made ⊤ (IsSomeEmptyRow rows colors widths)
+some-empty rows colors widths inks None are is = is
+some-empty rows colors widths inks (Some empty) are is = (inks, (is, are))
 
 -- one column more: a text is written over its room
-module _ (sheet : Sheet) (flat : AreFlat sheet.settings) (rows : FlatRows) (are : AreFlatRows (look_of sheet.settings) (length sheet.widths) rows) (shades : List ℕ) (i j : ℕ) (begin : List ℕ) where
+module _ (sheet : Sheet) (flat : AreFlat sheet.settings) (rows : FlatRows) (are : AreFlatRows (look_of sheet.settings) (length sheet.widths) rows) (inks : List Ink) (i j : ℕ) (begin : List ℕ) where
   abbrev stands_own : Standing
   stands_own = standing_of rows ((look_of sheet.settings).alignment_horizontal (at i j))
 
   abbrev behind_front : ℕ → List ℕ
-  behind_front k = empty_from (joints_of rows) shades (length sheet.widths) k (drop k sheet.widths)
+  behind_front k = empty_from (joints_of rows) inks (length sheet.widths) k (drop k sheet.widths)
 
   pub written-more : {new : List ℕ} → i < length sheet.heights → j < length sheet.widths → get_or sheet.heights i 0 ≡ 1
       → new ≡ (begin ++ row_front sheet i j) ++ (first_placed sheet stands_own (at i j) ++ (joint_behind (joints_of rows) j (length sheet.widths) ++ behind_front (j + 1)))

@@ -1,15 +1,13 @@
 -- Rows of one line of a table that is printed, and the line between two rows.
-use Rattle.std.specs.Prelude.{◌≡◌, ◌<◌, ◌+◌, ℕ, List, ◌++◌, None, Option, flat_map, length, map, slice_index}
+use Rattle.std.specs.Prelude.{◌≡◌, ◌<◌, ◌+◌, ℕ, List, ◌++◌, None, flat_map, length, slice_index}
 use Rattle.std.specs.List.{range_with_len}
 use Rattle.grid_config_values.specs.declared.position.Position.{Position}
-use Rattle.grid_config.specs.Colors.{Color}
 use Rattle.grid_config.specs.Looks.{look_of}
 use Rattle.papergrid_picture.specs.Blocks.{greatest}
 use Rattle.papergrid_picture.specs.Frame.{Boundary, track_at}
 use Rattle.papergrid_picture.specs.Picture.{at, parts_of, row_part}
 use Rattle.papergrid_cells.specs.Boundaries.{upright_bytes}
-use Rattle.papergrid_cells.specs.Flat.{Standing, behind_boundary, joints_of, left_margin, placed, room_in, standing_of}
-use Rattle.papergrid_cells.specs.Painting.{prefix_of, suffix_of}
+use Rattle.papergrid_cells.specs.Flat.{IsInk, Standing, behind_boundary, joints_of, kept_bytes, led_bytes, left_margin, placed, room_in, standing_of}
 use Rattle.papergrid_cells.specs.Spaces.{HasSpaces}
 use Rattle.papergrid_cells.specs.declared.empty_row.Room.{Room}
 use Rattle.papergrid_cells.specs.declared.flat.FlatRows.{FlatRows}
@@ -32,19 +30,17 @@ row_front sheet i j =
 abbrev pub IsBetween : Sheet → List ℕ → Type 0
 IsBetween sheet bytes = (i y : ℕ) → 0 < i → i < length sheet.heights → bytes ≡ line_at sheet (Boundary i) y
 
--- how many bytes the colours of the first columns take in row i
-abbrev pub shades_in : (Position → Option Color) → ℕ → ℕ → List ℕ
-shades_in colors i columns = map (λ j. length (prefix_of (colors (at i j))) + length (suffix_of (colors (at i j)))) (range_with_len 0 columns)
-
--- at `start` in the bytes stands the room of the cell at this place, in rows of one line whose texts leave spaces free
+-- at `start` in the bytes stands the room of the cell at this place, whose column has the room's ink, in rows of one line whose
+-- texts leave spaces free
 pub record HasRoom (sheet : Sheet) (rows : FlatRows) (cell : Position) (room : Room) (start : ℕ) (bytes : List ℕ) : Type 0 where
   pub fill : rows.fill ≡ 0x20
   pub color : rows.fill_color ≡ None
   pub width : room.width ≡ room_in (joints_of rows) (slice_index sheet.widths cell.col)
-  pub spaces : HasSpaces bytes start (room.shade + room.width)
+  pub ink : IsInk rows.alignment (λ row. sheet.colors (at row cell.col)) room.ink
+  pub spaces : HasSpaces bytes start (kept_bytes room.ink + room.width)
 
--- the cell stands in place of the spaces of its room
+-- the cell stands in place of what stands before its room, and of the spaces of that
 abbrev pub IsWritten : Sheet → FlatRows → Position → Room → ℕ → List ℕ → List ℕ → Type 0
 IsWritten sheet rows cell room start bytes written =
-    (spaces : HasSpaces bytes start (room.shade + room.width)) →
-    written ≡ spaces.before ++ (first_placed sheet (standing_of rows ((look_of sheet.settings).alignment_horizontal cell)) cell ++ spaces.after)
+    (spaces : HasSpaces bytes start (kept_bytes room.ink + room.width)) (front : List ℕ) → spaces.before ≡ front ++ led_bytes room.ink →
+    written ≡ front ++ (first_placed sheet (standing_of rows ((look_of sheet.settings).alignment_horizontal cell)) cell ++ spaces.after)

@@ -8,7 +8,7 @@ mod writing;
 ghost use Rattle.std.specs.Prelude.{◌≡◌, ◌++◌, ◌<◌, ◌≤◌, ◌+◌, ◌-◌, ◌*◌, ◌^◌, ⊤, IfOk, IfSome, IsSome, List, MatchOption, None, OnOk, ℕ, [], false, map, length, slice_index, string_bytes};
 ghost use Rattle.grid_config_spans.specs.Spans.{AreGood, ArePositive, extent_at};
 ghost use Rattle.papergrid_picture.specs.Frame.{Boundary, Row, boundary_at, line_count, total_width, track_at};
-ghost use Rattle.papergrid_picture.specs.Picture.{boundary_part, parts_of, row_part};
+ghost use Rattle.papergrid_picture.specs.Picture.{at, boundary_part, parts_of, row_part};
 ghost use Rattle.papergrid_picture.specs.Blocks.{Part};
 ghost use Rattle.papergrid_picture.specs.Reading.{line_items};
 ghost use Rattle.grid_config.specs.Looks.{look_of};
@@ -17,8 +17,8 @@ ghost use Rattle.grid_records_traits.specs.PlainRows.{IsPlainText};
 ghost use Rattle.grid_records_traits.specs.Rows.{text_at};
 ghost use Rattle.papergrid_cells.specs.BlockLines.{alone_bytes};
 ghost use Rattle.papergrid_cells.specs.Boundaries.{upright_bytes};
-ghost use Rattle.papergrid_cells.specs.Flat.{AreFlat, AreFlatRows, AreMadeFor, HasEmptyRow, behind_text, standing_of};
-ghost use Rattle.papergrid_print.specs.FlatSheets.{IsBetween, first_placed, shades_in};
+ghost use Rattle.papergrid_cells.specs.Flat.{AreFlat, AreFlatRows, AreInks, AreMadeFor, HasEmptyRow, IsInk, behind_text, standing_of};
+ghost use Rattle.papergrid_print.specs.FlatSheets.{IsBetween, first_placed};
 ghost use Rattle.papergrid_cells.specs.Painting.{colored, fill_bytes, glyph_part};
 ghost use Rattle.papergrid_print.specs.Seen.{AreSeen, AreSeenAbove, AreSeenOn};
 ghost use Rattle.papergrid_print.specs.Sheets.{GoesOn, IsOpen, IsPrintable, ShowsCell, bytes_of, grid_of, feed_before, line_at, lines_of, place_line, plain_bytes, row_tracks, table_sheet};
@@ -32,7 +32,7 @@ use grid_config::{ANSIBuf, SpannedConfig};
 use grid_config_values::{Indent, Position};
 use grid_records_traits::{PeekableRecords, PlainCell};
 use papergrid_cells::{
-    BlockLine, FlatRows, GlyphRun, OpenCell, are_flat, block_line, color_len, push_along,
+    BlockLine, FlatRows, GlyphRun, Ink, OpenCell, are_flat, block_line, color_len, push_along,
     push_behind, push_blank, push_block_line, push_corner, push_glyphs, push_indent, push_upright,
     read_cell,
 };
@@ -63,7 +63,7 @@ impl<'a, R: PeekableRecords, C: Colors> Table<'a, R, C> {
         j: usize,
         line: BlockLine,
     ) -> Result<(), AllocError>
-        requires made { AreMadeFor self.now.cfg.now self.now.widths.now flat.now }
+        requires made { AreMadeFor self.now.cfg.now (C.color self.now.colors.now) self.now.widths.now flat.now }
         requires column { j < length self.now.widths.now }
         ensures { OnOk result (string_bytes out.new ≡ string_bytes out.old ++ (upright_bytes (look_of self.now.cfg.now) j (length self.now.widths.now) ++ alone_bytes (look_of self.now.cfg.now) cell.now line)) }
     {
@@ -88,7 +88,7 @@ impl<'a, R: PeekableRecords, C: Colors> Table<'a, R, C> {
         j: usize,
         y: usize,
     ) -> Result<(), AllocError>
-        requires made { AreMadeFor self.now.cfg.now self.now.widths.now flat.now }
+        requires made { AreMadeFor self.now.cfg.now (C.color self.now.colors.now) self.now.widths.now flat.now }
         requires seen { AreSeen self.now.cfg.now.spans (length self.now.widths.now) i owners.now }
         requires is_open { IsOpen (table_sheet R.rows C.color self.now) i cells.now }
         requires wide { length cells.now ≡ length self.now.widths.now }
@@ -117,7 +117,7 @@ impl<'a, R: PeekableRecords, C: Colors> Table<'a, R, C> {
         i: usize,
         y: usize,
     ) -> Result<(), AllocError>
-        requires made { AreMadeFor self.now.cfg.now self.now.widths.now flat.now }
+        requires made { AreMadeFor self.now.cfg.now (C.color self.now.colors.now) self.now.widths.now flat.now }
         requires seen { AreSeen self.now.cfg.now.spans (length self.now.widths.now) i owners.now }
         requires is_open { IsOpen (table_sheet R.rows C.color self.now) i cells.now }
         requires wide { length cells.now ≡ length self.now.widths.now }
@@ -236,7 +236,7 @@ impl<'a, R: PeekableRecords, C: Colors> Table<'a, R, C> {
         i: usize,
         y: usize,
     ) -> Result<usize, AllocError>
-        requires made { AreMadeFor self.now.cfg.now self.now.widths.now flat.now }
+        requires made { AreMadeFor self.now.cfg.now (C.color self.now.colors.now) self.now.widths.now flat.now }
         requires seen { AreSeen self.now.cfg.now.spans (length self.now.widths.now) i owners.now }
         requires is_open { IsOpen (table_sheet R.rows C.color self.now) i cells.now }
         requires wide { length cells.now ≡ length self.now.widths.now }
@@ -346,7 +346,7 @@ impl<'a, R: PeekableRecords, C: Colors> Table<'a, R, C> {
 
     // What rows of one line have in common, where all cells have the same settings but for their alignment.
     fn flat_rows(&self, alloc: Global) -> Result<Option<FlatRows<'a>>, AllocError>
-        ensures made { IfOk result (λ made. AreMadeFor self.now.cfg.now self.now.widths.now made) }
+        ensures made { IfOk result (λ made. AreMadeFor self.now.cfg.now (C.color self.now.colors.now) self.now.widths.now made) }
         ensures empty { IfOk result (λ made. MatchOption made ⊤ (λ rows. MANY_ROWS ≤ length self.now.heights.now → rows.fill ≡ 0x20 → rows.fill_color ≡ None → IsSome rows.empty)) }
     {
         if !are_flat(self.cfg) {
@@ -356,21 +356,39 @@ impl<'a, R: PeekableRecords, C: Colors> Table<'a, R, C> {
         if self.heights.len() < MANY_ROWS {
             return Ok(Some(rows));
         }
-        let shades = self.shades(alloc)?;
-        Ok(Some(rows.with_empty_row(alloc, self.widths, &shades)?))
+        let inks = self.inks(alloc, &rows)?;
+        Ok(Some(rows.with_empty_row(alloc, self.widths, &inks)?))
     }
 
-    // How many bytes the colour of each column takes, by its cell in the second row: the first is often a
-    // heading in a colour of its own.
-    fn shades(&self, alloc: Global) -> Result<Vec<usize>, AllocError>
-        ensures { IfOk result (λ shades. shades.items ≡ shades_in (C.color self.now.colors.now) 1 (length self.now.widths.now)) }
+    // The ink of each column.
+    fn inks(&self, alloc: Global, flat: &FlatRows<'a>) -> Result<Vec<Ink<'a>>, AllocError>
+        ensures { IfOk result (λ inks. AreInks flat.now.alignment (C.color self.now.colors.now) (length self.now.widths.now) inks.items) }
     {
-        let mut shades = Vec::new(alloc);
+        let mut inks = Vec::new(alloc);
         for j in 0..self.widths.len() {
-            let color = self.colors.get_color(Position::new(1, j));
-            shades.push(color_len(color))?;
+            inks.push(self.ink(flat, j))?;
         }
-        Ok(shades)
+        Ok(inks)
+    }
+
+    // What is known of the colours of this column. Where that is nothing, spaces are kept for the colour of its cell
+    // in the second row: the first is often a heading in a colour of its own.
+    fn ink(&self, flat: &FlatRows<'a>, column: usize) -> Ink<'a>
+        ensures { IsInk flat.now.alignment (λ row. C.color self.now.colors.now (at row column)) result }
+    {
+        if let Some(known) = self.colors.column_color(column) {
+            let Some(color) = known else {
+                return Ink::Plain;
+            };
+            if flat.stand_left() {
+                return Ink::Led {
+                    prefix: color.get_prefix(),
+                    suffix: color.get_suffix(),
+                };
+            }
+        }
+        let color = self.colors.get_color(Position::new(1, column));
+        Ink::Asked(color_len(color))
     }
 
     // Appends the first line of the cell at this place, and what stands after it.
@@ -415,7 +433,7 @@ impl<'a, R: PeekableRecords, C: Colors> Table<'a, R, C> {
     ) -> Result<(), AllocError>
         requires flat { AreFlat self.now.cfg.now }
         requires made { AreFlatRows (look_of self.now.cfg.now) (length self.now.widths.now) flat.now }
-        requires empty { HasEmptyRow self.now.widths.now flat.now }
+        requires empty { HasEmptyRow (C.color self.now.colors.now) self.now.widths.now flat.now }
         requires row { i < length self.now.heights.now }
         requires high { slice_index self.now.heights.now i ≡ 1 }
         requires columns { 0 < length self.now.widths.now }
@@ -467,7 +485,7 @@ impl<'a, R: PeekableRecords, C: Colors> Table<'a, R, C> {
     ) -> Result<usize, AllocError>
         requires seen { AreSeen self.now.cfg.now.spans (length self.now.widths.now) i owners.now }
         requires positive { ArePositive self.now.cfg.now.spans }
-        requires made { AreMadeFor self.now.cfg.now self.now.widths.now flat.now }
+        requires made { AreMadeFor self.now.cfg.now (C.color self.now.colors.now) self.now.widths.now flat.now }
         requires goes_on { GoesOn (table_sheet R.rows C.color self.now) i cells.old }
         requires wide { length cells.old ≡ length self.now.widths.now }
         requires row { i < length self.now.heights.now }
@@ -547,7 +565,7 @@ impl<'a, R: PeekableRecords, C: Colors> Table<'a, R, C> {
         requires good { AreGood self.now.cfg.now.spans (length self.now.heights.now) (length self.now.widths.now) }
         requires lines { track_at (row_tracks (table_sheet R.rows C.color self.now)) (length self.now.heights.now) < 2 ^ 64 }
         requires columns { boundary_at (grid_of (table_sheet R.rows C.color self.now)).frame.columns (length self.now.widths.now) < 2 ^ 64 }
-        requires made { AreMadeFor self.now.cfg.now self.now.widths.now flat.now }
+        requires made { AreMadeFor self.now.cfg.now (C.color self.now.colors.now) self.now.widths.now flat.now }
         requires between { MatchOption between.now ⊤ (λ text. IsBetween (table_sheet R.rows C.color self.now) (string_bytes text)) }
         requires wide { length cells.old ≡ length self.now.widths.now }
         requires above { string_bytes out.old ≡ lines_of (table_sheet R.rows C.color self.now) (boundary_at (row_tracks (table_sheet R.rows C.color self.now)) 0) }

@@ -88,7 +88,7 @@ impl<'a, R: PeekableRecords, C: Colors> Table<'a, R, C> {
         i: usize,
         y: usize,
     ) -> Result<usize, Stop>
-        requires made { AreMadeFor self.now.cfg.now self.now.widths.now flat.now }
+        requires made { AreMadeFor self.now.cfg.now (C.color self.now.colors.now) self.now.widths.now flat.now }
         requires seen { AreSeen self.now.cfg.now.spans (length self.now.widths.now) i owners.now }
         requires is_open { IsOpen (table_sheet R.rows C.color self.now) i cells.now }
         requires wide { length cells.now ≡ length self.now.widths.now }
@@ -127,7 +127,7 @@ impl<'a, R: PeekableRecords, C: Colors> Table<'a, R, C> {
     ) -> Result<usize, Stop>
         requires flat { AreFlat self.now.cfg.now }
         requires made { AreFlatRows (look_of self.now.cfg.now) (length self.now.widths.now) flat.now }
-        requires empty_row { HasEmptyRow self.now.widths.now flat.now }
+        requires empty_row { HasEmptyRow (C.color self.now.colors.now) self.now.widths.now flat.now }
         requires row { i < length self.now.heights.now }
         requires high { slice_index self.now.heights.now i ≡ 1 }
         requires columns { 0 < length self.now.widths.now }
@@ -163,7 +163,7 @@ impl<'a, R: PeekableRecords, C: Colors> Table<'a, R, C> {
     ) -> Result<usize, Stop>
         requires seen { AreSeen self.now.cfg.now.spans (length self.now.widths.now) i owners.now }
         requires positive { ArePositive self.now.cfg.now.spans }
-        requires made { AreMadeFor self.now.cfg.now self.now.widths.now flat.now }
+        requires made { AreMadeFor self.now.cfg.now (C.color self.now.colors.now) self.now.widths.now flat.now }
         requires goes_on { GoesOn (table_sheet R.rows C.color self.now) i cells.old }
         requires wide { length cells.old ≡ length self.now.widths.now }
         requires row { i < length self.now.heights.now }
@@ -239,7 +239,7 @@ impl<'a, R: PeekableRecords, C: Colors> Table<'a, R, C> {
         requires good { AreGood self.now.cfg.now.spans (length self.now.heights.now) (length self.now.widths.now) }
         requires lines { track_at (row_tracks (table_sheet R.rows C.color self.now)) (length self.now.heights.now) < 2 ^ 64 }
         requires columns { boundary_at (grid_of (table_sheet R.rows C.color self.now)).frame.columns (length self.now.widths.now) < 2 ^ 64 }
-        requires made { AreMadeFor self.now.cfg.now self.now.widths.now flat.now }
+        requires made { AreMadeFor self.now.cfg.now (C.color self.now.colors.now) self.now.widths.now flat.now }
         requires between { MatchOption between.now ⊤ (λ text. IsBetween (table_sheet R.rows C.color self.now) (string_bytes text)) }
         requires wide { length cells.old ≡ length self.now.widths.now }
         requires empty { string_bytes line.old ≡ [] }

@@ -66,7 +66,7 @@ impl<'a, R: PeekableRecords, C: Colors> Table<'a, R, C> {
         i: usize,
         y: usize,
     ) -> Result<Result<usize, WriteFault>, AllocError>
-        requires made { AreMadeFor self.now.cfg.now self.now.widths.now flat.now }
+        requires made { AreMadeFor self.now.cfg.now (C.color self.now.colors.now) self.now.widths.now flat.now }
         requires seen { AreSeen self.now.cfg.now.spans (length self.now.widths.now) i owners.now }
         requires is_open { IsOpen (table_sheet R.rows C.color self.now) i cells.now }
         requires wide { length cells.now ≡ length self.now.widths.now }
@@ -103,7 +103,7 @@ impl<'a, R: PeekableRecords, C: Colors> Table<'a, R, C> {
     ) -> Result<Result<usize, WriteFault>, AllocError>
         requires seen { AreSeen self.now.cfg.now.spans (length self.now.widths.now) i owners.now }
         requires positive { ArePositive self.now.cfg.now.spans }
-        requires made { AreMadeFor self.now.cfg.now self.now.widths.now flat.now }
+        requires made { AreMadeFor self.now.cfg.now (C.color self.now.colors.now) self.now.widths.now flat.now }
         requires goes_on { GoesOn (table_sheet R.rows C.color self.now) i cells.old }
         requires wide { length cells.old ≡ length self.now.widths.now }
         requires row { i < length self.now.heights.now }
@@ -178,7 +178,7 @@ impl<'a, R: PeekableRecords, C: Colors> Table<'a, R, C> {
         requires good { AreGood self.now.cfg.now.spans (length self.now.heights.now) (length self.now.widths.now) }
         requires lines { track_at (row_tracks (table_sheet R.rows C.color self.now)) (length self.now.heights.now) < 2 ^ 64 }
         requires columns { boundary_at (grid_of (table_sheet R.rows C.color self.now)).frame.columns (length self.now.widths.now) < 2 ^ 64 }
-        requires made { AreMadeFor self.now.cfg.now self.now.widths.now flat.now }
+        requires made { AreMadeFor self.now.cfg.now (C.color self.now.colors.now) self.now.widths.now flat.now }
         requires between { MatchOption between.now ⊤ (λ text. IsBetween (table_sheet R.rows C.color self.now) (string_bytes text)) }
         requires wide { length cells.old ≡ length self.now.widths.now }
         ensures lines { Continues W.contents

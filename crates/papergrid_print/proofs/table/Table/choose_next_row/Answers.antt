@@ -13,7 +13,7 @@ returns-in-Some-clause-goes_on g c =
     let S = table_sheet g.R.RecordTexts.rows g.C.Colors.color c.args.self.now in
     let wants = g.K.Wanted.wants c.args.wanted.now in
     let K = g.W.Write.contents in
-    let made : AreMadeFor c.args.self.now.cfg.now c.args.self.now.widths.now (Some c.in-Some.flat) = subst (λ (kept : Option FlatRows). AreMadeFor c.args.self.now.cfg.now c.args.self.now.widths.now kept) c.in-Some.is c.requires.made in
+    let made : AreMadeFor c.args.self.now.cfg.now (g.C.Colors.color c.args.self.now.colors.now) c.args.self.now.widths.now (Some c.in-Some.flat) = subst (λ (kept : Option FlatRows). AreMadeFor c.args.self.now.cfg.now (g.C.Colors.color c.args.self.now.colors.now) c.args.self.now.widths.now kept) c.in-Some.is c.requires.made in
     on-ok c.choose_flat_row.result (none-goes-on S made.0.single (c.args.i + 1) c.args.cells.now)
 
 pub returns-in_err-open_row-clause-lines : goal.returns-in_err-open_row-clause-lines

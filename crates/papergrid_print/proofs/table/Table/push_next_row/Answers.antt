@@ -30,5 +30,5 @@ returns-in-Some-clause-end g c =
 
 pub returns-in-Some-clause-goes_on : goal.returns-in-Some-clause-goes_on
 returns-in-Some-clause-goes_on g c =
-    let made : AreMadeFor c.args.self.now.cfg.now c.args.self.now.widths.now (Some c.in-Some.flat) = subst (λ (kept : Option FlatRows). AreMadeFor c.args.self.now.cfg.now c.args.self.now.widths.now kept) c.in-Some.is c.requires.made in
+    let made : AreMadeFor c.args.self.now.cfg.now (g.C.Colors.color c.args.self.now.colors.now) c.args.self.now.widths.now (Some c.in-Some.flat) = subst (λ (kept : Option FlatRows). AreMadeFor c.args.self.now.cfg.now (g.C.Colors.color c.args.self.now.colors.now) c.args.self.now.widths.now kept) c.in-Some.is c.requires.made in
     none-goes-on (table_sheet g.R.RecordTexts.rows g.C.Colors.color c.args.self.now) made.0.single (c.args.i + 1) c.args.cells.now
