@@ -3,8 +3,8 @@ use Rattle.std.specs.Prelude.{ℕ, ◌==◌, nat_lt, Bool, false, List, ◌++◌
 use Rattle.std.specs.List.{range_with_len}
 use Rattle.grid_config_values.specs.declared.alignment.AlignmentHorizontal.{AlignmentHorizontal}
 use Rattle.papergrid_picture.specs.Picture.{at}
-use Rattle.papergrid_print.specs.declared.wanted.Place.{Place}
-use Rattle.papergrid_print.specs.declared.wanted.Place.TheVariants.{Boundary, Row, Outside}
+use Rattle.papergrid_print.specs.declared.wanted.LineKind.{LineKind}
+use Rattle.papergrid_print.specs.declared.wanted.LineKind.TheVariants.{Boundary, Row, Outside}
 use Rattle.tabled.specs.Printing.{drawn_widths}
 use Rattle.tabled.specs.Writing.{wanted_lines}
 use Rattle.tabled_steps.specs.States.{State, column_count}
@@ -13,7 +13,7 @@ use Rattle.basinmug_picture.specs.declared.documents.DocumentPart.{DocumentPart}
 use Rattle.basinmug_picture.specs.declared.documents.DocumentPart.TheVariants.{Header, Records}
 
 -- whether a line is one of this part: the first row is the header, and the others are the records
-abbrev pub is_of : DocumentPart → Place → Bool
+abbrev pub is_of : DocumentPart → LineKind → Bool
 is_of part (Boundary boundary) = false
 is_of Header (Row row) = row == 0
 is_of Records (Row row) = nat_lt 0 row

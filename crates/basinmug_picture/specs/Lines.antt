@@ -1,7 +1,7 @@
 -- Which lines of a picture are printed, and what stands below them.
 use Rattle.std.specs.Prelude.{ℕ, ◌==◌, ◌&&◌, ◌||◌, nat_lt, Bool, true, false, List, [], ◌++◌, codes, decimal, if◌then◌else◌}
-use Rattle.papergrid_print.specs.declared.wanted.Place.{Place}
-use Rattle.papergrid_print.specs.declared.wanted.Place.TheVariants.{Boundary, Row, Outside}
+use Rattle.papergrid_print.specs.declared.wanted.LineKind.{LineKind}
+use Rattle.papergrid_print.specs.declared.wanted.LineKind.TheVariants.{Boundary, Row, Outside}
 use Rattle.tabled.specs.Writing.{wanted_lines}
 use Rattle.tabled_steps.specs.States.{State}
 use Rattle.basinmug_options.specs.declared.options.LineStyle.{LineStyle}
@@ -17,7 +17,7 @@ is_inner_wanted All header boundary = true
 is_inner_wanted None header boundary = false
 
 -- the rows, and the lines above the first and below the last of so many rows; of the lines between them those that are asked
-abbrev pub is_wanted : Rules → Bool → ℕ → Place → Bool
+abbrev pub is_wanted : Rules → Bool → ℕ → LineKind → Bool
 is_wanted rules header rows (Boundary boundary) = boundary == 0 || boundary == rows || is_inner_wanted rules header boundary
 is_wanted rules header rows (Row row) = true
 is_wanted rules header rows Outside = true

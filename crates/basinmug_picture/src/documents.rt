@@ -18,7 +18,7 @@ use basinmug_markdown::delimiter_row;
 use grid_config::AlignmentHorizontal;
 use std::alloc::{AllocError, Global};
 use std::io::Write;
-use tabled::{BuildFault, Counted, Fault, Place, Position, Table, Wanted};
+use tabled::{BuildFault, Counted, Fault, LineKind, Position, Table, Wanted};
 use tabled_output::write_piece;
 
 /// A part of a table in a document.
@@ -35,11 +35,11 @@ impl Wanted for DocumentPart {
 
     ghost wants = { is_of };
 
-    fn is_wanted(&self, place: Place) -> bool {
+    fn is_wanted(&self, place: LineKind) -> bool {
         match (self, place) {
-            (DocumentPart::Header, Place::Row(row)) => row == 0,
-            (DocumentPart::Records, Place::Row(row)) => row > 0,
-            (_, Place::Boundary(_) | Place::Outside) => false,
+            (DocumentPart::Header, LineKind::Row(row)) => row == 0,
+            (DocumentPart::Records, LineKind::Row(row)) => row > 0,
+            (_, LineKind::Boundary(_) | LineKind::Outside) => false,
         }
     }
 }

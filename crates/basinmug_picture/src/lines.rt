@@ -5,7 +5,7 @@ ghost use Rattle.basinmug_picture.specs.Lines.{below, blank_line, is_inner_wante
 use crate::rows::is_markdown;
 use basinmug_options::{LineStyle, Rules};
 use std::alloc::{AllocError, Global};
-use tabled::{Place, Wanted};
+use tabled::{LineKind, Wanted};
 
 /// The lines that rules want of a table of so many rows, with a header or without.
 #[derive(Clone, Copy)]
@@ -20,14 +20,14 @@ impl Wanted for RuledLines {
 
     ghost wants = { λ lines. is_wanted lines.rules lines.header lines.rows };
 
-    fn is_wanted(&self, place: Place) -> bool {
+    fn is_wanted(&self, place: LineKind) -> bool {
         match place {
-            Place::Boundary(boundary) => {
+            LineKind::Boundary(boundary) => {
                 boundary == 0
                     || boundary == self.rows
                     || is_inner_wanted(self.rules, self.header, boundary)
             }
-            Place::Row(_) | Place::Outside => true,
+            LineKind::Row(_) | LineKind::Outside => true,
         }
     }
 }

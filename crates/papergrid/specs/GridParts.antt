@@ -5,7 +5,7 @@ use Rattle.grid_config.specs.Colors.{Color}
 use Rattle.grid_config.specs.Looks.{Look}
 use Rattle.papergrid_picture.specs.Tables.{sizes_of, table_line}
 use Rattle.papergrid_print.specs.Chosen.{chosen_text}
-use Rattle.papergrid_print.specs.declared.wanted.Place.{Place}
+use Rattle.papergrid_print.specs.declared.wanted.LineKind.{LineKind}
 
 -- records, settings, sizes and colours
 pub record Parts (R G D C : Type 0) : Type 0 where
@@ -19,5 +19,5 @@ abbrev pub line_text : Look → (ℕ → ℕ) → (ℕ → ℕ) → (Position �
 line_text look width height colors columns rows y = table_line look rows colors (sizes_of width columns) (sizes_of height (length rows)) y
 
 -- the lines of that text that are wanted by what they show, each with a line feed behind it
-abbrev pub wanted_text : Look → (ℕ → ℕ) → (ℕ → ℕ) → (Position → Option Color) → ℕ → List (List (List ℕ)) → (Place → Bool) → List ℕ
+abbrev pub wanted_text : Look → (ℕ → ℕ) → (ℕ → ℕ) → (Position → Option Color) → ℕ → List (List (List ℕ)) → (LineKind → Bool) → List ℕ
 wanted_text look width height colors columns rows wants = chosen_text look rows colors (sizes_of width columns) (sizes_of height (length rows)) wants

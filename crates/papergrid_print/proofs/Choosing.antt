@@ -11,7 +11,7 @@ use Rattle.papergrid_print.specs.Chosen.{Chooses, chosen_line, chosen_lines, cho
 use Rattle.papergrid_print.specs.Sheets.{Sheet, grid_of, line_at, place_line, row_tracks}
 use Rattle.papergrid_print.specs.declared.stop.Stop.{Stop}
 use Rattle.papergrid_print.specs.declared.stop.Stop.TheVariants.{Memory, Writer}
-use Rattle.papergrid_print.specs.declared.wanted.Place.{Place}
+use Rattle.papergrid_print.specs.declared.wanted.LineKind.{LineKind}
 use Rattle.tabled_output.specs.Pieces.{HasBegun, HasPassed}
 use Rattle.tabled_output.specs.declared.counted.Counted.{Counted}
 use Rattle.tabled_output.proofs.WrittenPieces.{begun-front, passed-front, passed-none, passed-on, stopped-front, stopped-on}
@@ -77,7 +77,7 @@ ended bytes b is = ap (λ b. ended_where b bytes) is
 left-out : (bytes : List ℕ) (b : Bool) → b ≡ false → ended_where b bytes ≡ []
 left-out bytes b is = ap (λ b. ended_where b bytes) is
 
-module _ (sheet : Sheet) (wants : Place → Bool) where
+module _ (sheet : Sheet) (wants : LineKind → Bool) where
   -- what is written of a line, by what it shows
   pub line-wanted : (what : Drawn) (y : ℕ) (bytes : List ℕ) → place (row_tracks sheet) y ≡ what → wants (shown what) ≡ true → bytes ≡ line_at sheet what y → chosen_line sheet wants y ≡ bytes ++ line_feed ∷ []
   line-wanted what y bytes is wanted printed =

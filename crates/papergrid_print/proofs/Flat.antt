@@ -34,7 +34,7 @@ use Rattle.papergrid_cells.specs.Boundaries.{upright_bytes}
 use Rattle.papergrid_cells.specs.Flat.{AreFlat, AreFlatRows, behind_boundary, first_cell, left_margin, left_padding, placed, right_margin, right_padding, spaced_text, standing, standing_of}
 use Rattle.papergrid_print.specs.FlatSheets.{first_placed, row_front}
 use Rattle.papergrid_cells.specs.Painting.{colored, fill_bytes}
-use Rattle.papergrid_print.specs.Sheets.{GoesOn, Sheet, bytes_of, grid_of, line_at, plain_bytes, row_tracks}
+use Rattle.papergrid_print.specs.Sheets.{AreOpenFromAbove, Sheet, bytes_of, grid_of, line_at, plain_bytes, row_tracks}
 use Rattle.papergrid_cells.specs.declared.block.BlockLine.TheVariants.{Text, Below, Outside}
 use Rattle.papergrid_cells.specs.declared.block.OpenCell.{OpenCell}
 use Rattle.papergrid_cells.specs.declared.flat.FlatRows.{FlatRows}
@@ -113,7 +113,7 @@ module _ (sheet : Sheet) (single_cells : sheet.settings.spans ≡ []) where
   extent-single pos = ap (λ spans. extent_at spans pos) single_cells ∙ extent-none pos
 
   -- no cell goes on from the rows above
-  pub none-goes-on : (i : ℕ) (cells : List (Option OpenCell)) → GoesOn sheet i cells
+  pub none-goes-on : (i : ℕ) (cells : List (Option OpenCell)) → AreOpenFromAbove sheet i cells
   none-goes-on i cells = λ j inside above first. absurd (omega (arith, ap (λ (p : Position). p.row) (seen-own i j), above))
 
   block_width-one : (i j : ℕ) → j < length sheet.widths → block_width (grid_of sheet).frame (at i j) ≡ get_or sheet.widths j 0

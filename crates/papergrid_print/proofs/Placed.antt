@@ -20,7 +20,7 @@ use Rattle.papergrid_cells.specs.declared.empty_row.EmptyRow.{EmptyRow}
 use Rattle.papergrid_cells.specs.declared.empty_row.Ink.{Ink}
 use Rattle.papergrid_cells.specs.declared.empty_row.Room.{Room}
 use Rattle.papergrid_cells.specs.declared.flat.FlatRows.{FlatRows}
-use Rattle.papergrid_print.specs.FlatSheets.{HasRoom, IsWritten, first_placed, row_front}
+use Rattle.papergrid_print.specs.FlatSheets.{HasCellRoom, IsWrittenOver, first_placed, row_front}
 use Rattle.papergrid_print.specs.Sheets.{Sheet, bytes_of, grid_of}
 use Rattle.papergrid_cells.proofs.EmptyRows.{placed-plain, some-shown, text-over}
 use Rattle.papergrid_print.proofs.Flat.{flat-more, line-is, measured, one-width, widest-is}
@@ -45,7 +45,7 @@ module _ (sheet : Sheet) (flat : AreFlat sheet.settings) (pos : Position) (stand
 
 -- ---- such a text over its room
 
-module _ (sheet : Sheet) (flat : AreFlat sheet.settings) (rows : FlatRows) (pos : Position) (room : Room) (start : ℕ) (bytes : List ℕ) (has : HasRoom sheet rows pos room start bytes) where
+module _ (sheet : Sheet) (flat : AreFlat sheet.settings) (rows : FlatRows) (pos : Position) (room : Room) (start : ℕ) (bytes : List ℕ) (has : HasCellRoom sheet rows pos room start bytes) where
   abbrev alignment_own : AlignmentHorizontal
   alignment_own = (look_of sheet.settings).alignment_horizontal pos
 
@@ -62,7 +62,7 @@ module _ (sheet : Sheet) (flat : AreFlat sheet.settings) (rows : FlatRows) (pos 
   pub cell-written : (text : List ℕ) (width indent : ℕ) (color : Option Color) → text ≡ text_at sheet.rows pos → IsPlainText text width → color ≡ sheet.colors pos
       → width ≤ room.width → indent ≡ free_left alignment_own (room.width - width) → led_bytes room.ink ≡ [] → length (colored color text) ≡ kept_bytes room.ink + width
       → {new : List ℕ} → new ≡ replace_range bytes (start + indent) (start + indent + length (colored color text)) (colored color text)
-      → IsWritten sheet rows pos room start bytes new
+      → IsWrittenOver sheet rows pos room start bytes new
   cell-written text width indent color own plain shade fits is none takes written = λ spaces front before.
       let shown = first_placed sheet (standing_of rows alignment_own) pos in
       written
@@ -75,7 +75,7 @@ module _ (sheet : Sheet) (flat : AreFlat sheet.settings) (rows : FlatRows) (pos 
       → sheet.colors pos ≡ Some (record { prefix = led_bytes room.ink; suffix = suffix }) → alignment_own ≡ Left
       → length text ≤ room.width → kept_bytes room.ink ≡ length suffix
       → {new : List ℕ} → new ≡ replace_range bytes start (start + length (text ++ suffix)) (text ++ suffix)
-      → IsWritten sheet rows pos room start bytes new
+      → IsWrittenOver sheet rows pos room start bytes new
   led-written suffix text own plain some shade left fits kept written = λ spaces front before.
       let prefix = led_bytes room.ink in
       let color : Color = record { prefix = prefix; suffix = suffix } in

@@ -10,13 +10,13 @@ use Rattle.papergrid_picture.specs.Tables.{table_line}
 use Rattle.papergrid_print.specs.Sheets.{Sheet, place_line, row_tracks}
 use Rattle.papergrid_print.specs.declared.stop.Stop.{Stop}
 use Rattle.papergrid_print.specs.declared.stop.Stop.TheVariants.{Memory, Writer}
-use Rattle.papergrid_print.specs.declared.wanted.Place.{Place}
-use Rattle.papergrid_print.specs.declared.wanted.Place.TheVariants.{Boundary as OneBoundary, Row as OneRow, Outside as Margin}
+use Rattle.papergrid_print.specs.declared.wanted.LineKind.{LineKind}
+use Rattle.papergrid_print.specs.declared.wanted.LineKind.TheVariants.{Boundary as OneBoundary, Row as OneRow, Outside as Margin}
 use Rattle.tabled_output.specs.Pieces.{HasBegun, HasPassed, HasStopped}
 use Rattle.tabled_output.specs.declared.counted.Counted.{Counted}
 
 -- what a line of a picture shows, by the names of programs
-abbrev pub shown : Drawn → Place
+abbrev pub shown : Drawn → LineKind
 shown (Boundary i) = OneBoundary i
 shown (Row i) = OneRow i
 shown Outside = Margin
@@ -26,12 +26,12 @@ abbrev pub ended_where : Bool → List ℕ → List ℕ
 ended_where wanted bytes = if wanted then bytes ++ line_feed ∷ [] else []
 
 -- the wanted lines of a table in turn, each with a line feed behind it
-abbrev pub chosen_text : Look → List (List (List ℕ)) → (Position → Option Color) → List ℕ → List ℕ → (Place → Bool) → List ℕ
+abbrev pub chosen_text : Look → List (List (List ℕ)) → (Position → Option Color) → List ℕ → List ℕ → (LineKind → Bool) → List ℕ
 chosen_text look rows colors widths heights wants =
     let frame = frame_of look widths heights in
     flat_map (λ y. ended_where (wants (shown (place frame.rows y))) (table_line look rows colors widths heights y)) (range_with_len 0 (line_count frame))
 
-module _ (sheet : Sheet) (wants : Place → Bool) where
+module _ (sheet : Sheet) (wants : LineKind → Bool) where
   -- what is written of line y
   abbrev pub chosen_line : ℕ → List ℕ
   chosen_line y = ended_where (wants (shown (place (row_tracks sheet) y))) (place_line sheet y)

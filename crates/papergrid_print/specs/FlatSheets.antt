@@ -32,7 +32,7 @@ IsBetween sheet bytes = (i y : ℕ) → 0 < i → i < length sheet.heights → b
 
 -- at `start` in the bytes stands the room of the cell at this place, whose column has the room's ink, in rows of one line whose
 -- texts leave spaces free
-pub record HasRoom (sheet : Sheet) (rows : FlatRows) (cell : Position) (room : Room) (start : ℕ) (bytes : List ℕ) : Type 0 where
+pub record HasCellRoom (sheet : Sheet) (rows : FlatRows) (cell : Position) (room : Room) (start : ℕ) (bytes : List ℕ) : Type 0 where
   pub fill : rows.fill ≡ 0x20
   pub color : rows.fill_color ≡ None
   pub width : room.width ≡ room_in (joints_of rows) (slice_index sheet.widths cell.col)
@@ -40,7 +40,7 @@ pub record HasRoom (sheet : Sheet) (rows : FlatRows) (cell : Position) (room : R
   pub spaces : HasSpaces bytes start (kept_bytes room.ink + room.width)
 
 -- the cell stands in place of what stands before its room, and of the spaces of that
-abbrev pub IsWritten : Sheet → FlatRows → Position → Room → ℕ → List ℕ → List ℕ → Type 0
-IsWritten sheet rows cell room start bytes written =
+abbrev pub IsWrittenOver : Sheet → FlatRows → Position → Room → ℕ → List ℕ → List ℕ → Type 0
+IsWrittenOver sheet rows cell room start bytes written =
     (spaces : HasSpaces bytes start (kept_bytes room.ink + room.width)) (front : List ℕ) → spaces.before ≡ front ++ led_bytes room.ink →
     written ≡ front ++ (first_placed sheet (standing_of rows ((look_of sheet.settings).alignment_horizontal cell)) cell ++ spaces.after)

@@ -81,8 +81,8 @@ module _ (sheet : Sheet) where
   IsOpen i open_cells = (j : ℕ) → j < length sheet.widths → (seen grid_of i j).col ≡ j → ShowsAt (seen grid_of i j) (slice_index_or open_cells j None)
 
   -- the same of those that go on from the rows above
-  abbrev pub GoesOn : ℕ → List (Option OpenCell) → Type 0
-  GoesOn i open_cells = (j : ℕ) → j < length sheet.widths → (seen grid_of i j).row < i → (seen grid_of i j).col ≡ j → ShowsAt (seen grid_of i j) (slice_index_or open_cells j None)
+  abbrev pub AreOpenFromAbove : ℕ → List (Option OpenCell) → Type 0
+  AreOpenFromAbove i open_cells = (j : ℕ) → j < length sheet.widths → (seen grid_of i j).row < i → (seen grid_of i j).col ≡ j → ShowsAt (seen grid_of i j) (slice_index_or open_cells j None)
 
   -- good spans, and totals in the range of `usize`
   pub record IsPrintable : Type 0 where

@@ -19,4 +19,4 @@ pub use colors::{Colors, NoColors};
 pub use lines::count_lines;
 pub use print::{print_table, write_table};
 pub use single::print_line;
-pub use wanted::{Place, Wanted};
+pub use wanted::{LineKind, Wanted};

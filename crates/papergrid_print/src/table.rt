@@ -21,7 +21,7 @@ ghost use Rattle.papergrid_cells.specs.Flat.{AreFlat, AreFlatRows, AreInks, AreM
 ghost use Rattle.papergrid_print.specs.FlatSheets.{IsBetween, first_placed};
 ghost use Rattle.papergrid_cells.specs.Painting.{colored, fill_bytes, glyph_part};
 ghost use Rattle.papergrid_print.specs.Seen.{AreSeen, AreSeenAbove, AreSeenOn};
-ghost use Rattle.papergrid_print.specs.Sheets.{GoesOn, IsOpen, IsPrintable, ShowsCell, bytes_of, grid_of, feed_before, line_at, lines_of, place_line, plain_bytes, row_tracks, table_sheet};
+ghost use Rattle.papergrid_print.specs.Sheets.{AreOpenFromAbove, IsOpen, IsPrintable, ShowsCell, bytes_of, grid_of, feed_before, line_at, lines_of, place_line, plain_bytes, row_tracks, table_sheet};
 
 use crate::colors::Colors;
 use crate::extents::{Axis, stretch, thickness};
@@ -147,7 +147,7 @@ impl<'a, R: PeekableRecords, C: Colors> Table<'a, R, C> {
         y: usize,
     ) -> Result<(), AllocError>
         requires seen { AreSeenOn self.now.cfg.now.spans (length self.now.widths.now) i owners.now }
-        requires goes_on { GoesOn (table_sheet R.rows C.color self.now) i cells.now }
+        requires goes_on { AreOpenFromAbove (table_sheet R.rows C.color self.now) i cells.now }
         requires wide { length cells.now ≡ length self.now.widths.now }
         requires column { j < length self.now.widths.now }
         ensures { OnOk result (let sheet = table_sheet R.rows C.color self.now in (rest : List Part) →
@@ -184,7 +184,7 @@ impl<'a, R: PeekableRecords, C: Colors> Table<'a, R, C> {
         y: usize,
     ) -> Result<(), AllocError>
         requires seen { AreSeenOn self.now.cfg.now.spans (length self.now.widths.now) i owners.now }
-        requires goes_on { GoesOn (table_sheet R.rows C.color self.now) i cells.now }
+        requires goes_on { AreOpenFromAbove (table_sheet R.rows C.color self.now) i cells.now }
         requires wide { length cells.now ≡ length self.now.widths.now }
         ensures { OnOk result (string_bytes out.new ≡ string_bytes out.old ++ line_at (table_sheet R.rows C.color self.now) (Boundary i) y) }
     {
@@ -214,7 +214,7 @@ impl<'a, R: PeekableRecords, C: Colors> Table<'a, R, C> {
     ) -> Result<(), AllocError>
         requires seen { AreSeenOn self.now.cfg.now.spans (length self.now.widths.now) i owners.now }
         requires between { MatchOption between.now ⊤ (λ text. IsBetween (table_sheet R.rows C.color self.now) (string_bytes text)) }
-        requires goes_on { GoesOn (table_sheet R.rows C.color self.now) i cells.now }
+        requires goes_on { AreOpenFromAbove (table_sheet R.rows C.color self.now) i cells.now }
         requires wide { length cells.now ≡ length self.now.widths.now }
         ensures { OnOk result (string_bytes out.new ≡ string_bytes out.old ++ line_at (table_sheet R.rows C.color self.now) (Boundary i) y) }
     {
@@ -269,7 +269,7 @@ impl<'a, R: PeekableRecords, C: Colors> Table<'a, R, C> {
     ) -> Result<usize, AllocError>
         requires seen { AreSeenOn self.now.cfg.now.spans (length self.now.widths.now) i owners.now }
         requires between { MatchOption between.now ⊤ (λ text. IsBetween (table_sheet R.rows C.color self.now) (string_bytes text)) }
-        requires goes_on { GoesOn (table_sheet R.rows C.color self.now) i cells.now }
+        requires goes_on { AreOpenFromAbove (table_sheet R.rows C.color self.now) i cells.now }
         requires wide { length cells.now ≡ length self.now.widths.now }
         requires boundary { i ≤ length self.now.heights.now }
         requires top { y ≡ boundary_at (row_tracks (table_sheet R.rows C.color self.now)) i }
@@ -324,7 +324,7 @@ impl<'a, R: PeekableRecords, C: Colors> Table<'a, R, C> {
     ) -> Result<(), AllocError>
         requires seen { AreSeen self.now.cfg.now.spans (length self.now.widths.now) i owners.now }
         requires positive { ArePositive self.now.cfg.now.spans }
-        requires goes_on { GoesOn (table_sheet R.rows C.color self.now) i cells.old }
+        requires goes_on { AreOpenFromAbove (table_sheet R.rows C.color self.now) i cells.old }
         requires wide { length cells.old ≡ length self.now.widths.now }
         requires row { i < length self.now.heights.now }
         requires good { AreGood self.now.cfg.now.spans (length self.now.heights.now) (length self.now.widths.now) }
@@ -332,7 +332,7 @@ impl<'a, R: PeekableRecords, C: Colors> Table<'a, R, C> {
         requires columns { boundary_at (grid_of (table_sheet R.rows C.color self.now)).frame.columns (length self.now.widths.now) < 2 ^ 64 }
         requires top { y ≡ track_at (row_tracks (table_sheet R.rows C.color self.now)) i }
         ensures is_open { OnOk result (IsOpen (table_sheet R.rows C.color self.now) i cells.new) }
-        ensures goes_on { OnOk result (GoesOn (table_sheet R.rows C.color self.now) (i + 1) cells.new) }
+        ensures goes_on { OnOk result (AreOpenFromAbove (table_sheet R.rows C.color self.now) (i + 1) cells.new) }
         ensures wide { length cells.new ≡ length cells.old }
     {
         for j in 0..self.widths.len() {
@@ -486,7 +486,7 @@ impl<'a, R: PeekableRecords, C: Colors> Table<'a, R, C> {
         requires seen { AreSeen self.now.cfg.now.spans (length self.now.widths.now) i owners.now }
         requires positive { ArePositive self.now.cfg.now.spans }
         requires made { AreMadeFor self.now.cfg.now (C.color self.now.colors.now) self.now.widths.now flat.now }
-        requires goes_on { GoesOn (table_sheet R.rows C.color self.now) i cells.old }
+        requires goes_on { AreOpenFromAbove (table_sheet R.rows C.color self.now) i cells.old }
         requires wide { length cells.old ≡ length self.now.widths.now }
         requires row { i < length self.now.heights.now }
         requires some { 0 < length self.now.widths.now }
@@ -497,7 +497,7 @@ impl<'a, R: PeekableRecords, C: Colors> Table<'a, R, C> {
         requires lines { string_bytes out.old ≡ lines_of (table_sheet R.rows C.color self.now) y }
         ensures lines { OnOk result (string_bytes out.new ≡ lines_of (table_sheet R.rows C.color self.now) (boundary_at (row_tracks (table_sheet R.rows C.color self.now)) (i + 1))) }
         ensures end { IfOk result (λ end. end ≡ boundary_at (row_tracks (table_sheet R.rows C.color self.now)) (i + 1)) }
-        ensures goes_on { OnOk result (GoesOn (table_sheet R.rows C.color self.now) (i + 1) cells.new) }
+        ensures goes_on { OnOk result (AreOpenFromAbove (table_sheet R.rows C.color self.now) (i + 1) cells.new) }
         ensures wide { length cells.new ≡ length cells.old }
     {
         if self.heights[i] == 1 {

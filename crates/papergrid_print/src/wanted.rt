@@ -1,10 +1,10 @@
 //! Which lines of a table are wanted.
 ghost use Rattle.std.specs.Prelude.{◌≡◌, Bool};
-ghost use Rattle.papergrid_print.specs.declared.wanted.Place.{Place as Shown};
+ghost use Rattle.papergrid_print.specs.declared.wanted.LineKind.{LineKind as Shown};
 
 /// What a line of a table shows.
 #[derive(Clone, Copy, Debug, PartialEq, Eq)]
-pub enum Place {
+pub enum LineKind {
     /// The row boundary of this number: that before the first row is 0, that behind the last is the number of rows.
     Boundary(usize),
     /// The row of this number, from 0.
@@ -19,6 +19,6 @@ pub trait Wanted {
     ghost wants: { Self → Shown → Bool };
 
     /// Whether the lines that show this are wanted.
-    fn is_wanted(&self, place: Place) -> bool
+    fn is_wanted(&self, place: LineKind) -> bool
         ensures { result ≡ wants self.now place };
 }

@@ -19,7 +19,7 @@ use Rattle.grid_records_estimate.specs.Sizes.{IsRefusal, table_heights, table_wi
 use Rattle.grid_records_estimate.specs.Sizing.{Sizing, sizing_of}
 use Rattle.papergrid.specs.Grids.{grid_text}
 use Rattle.papergrid.specs.GridParts.{wanted_text}
-use Rattle.papergrid.specs.Place.{Place}
+use Rattle.papergrid.specs.LineKind.{LineKind}
 use Rattle.papergrid_fits.proofs.Estimated.{none-too_wide}
 use Rattle.papergrid_fits.proofs.Ranges.{line_count-is, table_width-is}
 use Rattle.papergrid_fits.specs.Tables.{CanBeDrawn, IsFitsAnswer, column_tracks, row_tracks, sized}
@@ -232,10 +232,10 @@ module _ (settings : Settings) (rows : List (List (List ℕ))) (colors : Positio
     pub is_printed : text_in given sizes n ≡ printed state
     is_printed = ap (λ given. text_in given sizes n) same ∙ ap (λ sizes. text_in settings sizes n) is ∙ ap (λ n. text_in settings (drawn_sizes state) n) counted
 
-    abbrev wanted_in : Settings → Stored → ℕ → (Place → Bool) → List ℕ
+    abbrev wanted_in : Settings → Stored → ℕ → (LineKind → Bool) → List ℕ
     wanted_in given sizes n wants = wanted_text (look_of given) (given_size (stored_sizes sizes.widths)) (given_size (stored_sizes sizes.heights)) colors n rows wants
 
-    pub are_wanted : (wants : Place → Bool) → wanted_in given sizes n wants ≡ wanted_lines wants state
+    pub are_wanted : (wants : LineKind → Bool) → wanted_in given sizes n wants ≡ wanted_lines wants state
     are_wanted wants = ap (λ given. wanted_in given sizes n wants) same ∙ ap (λ sizes. wanted_in settings sizes n wants) is ∙ ap (λ n. wanted_in settings (drawn_sizes state) n wants) counted
 
   -- where the spans are good a refused estimate is a table that doesn't fit

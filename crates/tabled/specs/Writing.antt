@@ -6,7 +6,7 @@ use Rattle.grid_records_measure.specs.TextLines.{line_feed}
 use Rattle.tabled_output.specs.declared.writing.WriteFault.{WriteFault}
 use Rattle.tabled_steps.specs.States.{State}
 use Rattle.papergrid.specs.Chosen.{chosen_text}
-use Rattle.papergrid.specs.Place.{Place}
+use Rattle.papergrid.specs.LineKind.{LineKind}
 use Rattle.tabled.specs.Printing.{drawn_heights, drawn_widths, printed}
 use Rattle.tabled.specs.Totals.{drawn_height}
 use Rattle.tabled_compact.specs.Building.{writing_fault}
@@ -31,7 +31,7 @@ build_answer (Ok (Err fault)) = Err (writing_fault fault)
 build_answer (Err fault) = Err (Table fault)
 
 -- the lines of its text that are wanted, by what they show, in turn, each with a line feed behind it
-abbrev pub wanted_lines : (Place → Bool) → State → List ℕ
+abbrev pub wanted_lines : (LineKind → Bool) → State → List ℕ
 wanted_lines wants s = chosen_text s.look s.rows s.colors (drawn_widths s) (drawn_heights s) wants
 
 -- the text of a table, and a line feed behind its last line, where it has lines

@@ -10,13 +10,13 @@ ghost use Rattle.papergrid_cells.specs.Painting.{colored, fill_bytes};
 ghost use Rattle.papergrid_print.specs.Chosen.{Chooses, chosen_lines};
 ghost use Rattle.papergrid_print.specs.FlatSheets.{IsBetween};
 ghost use Rattle.papergrid_print.specs.Seen.{AreSeen, AreSeenAbove, AreSeenOn};
-ghost use Rattle.papergrid_print.specs.Sheets.{GoesOn, IsOpen, IsPrintable, grid_of, place_line, row_tracks, table_sheet};
+ghost use Rattle.papergrid_print.specs.Sheets.{AreOpenFromAbove, IsOpen, IsPrintable, grid_of, place_line, row_tracks, table_sheet};
 
 use super::{Table, closed_cells};
 use crate::colors::Colors;
 use crate::seen::SeenCell;
 use crate::stop::Stop;
-use crate::wanted::{Place, Wanted};
+use crate::wanted::{LineKind, Wanted};
 use grid_config::ANSIBuf;
 use grid_config_values::Indent;
 use grid_records_traits::PeekableRecords;
@@ -52,7 +52,7 @@ impl<'a, R: PeekableRecords, C: Colors> Table<'a, R, C> {
     ) -> Result<usize, Stop>
         requires seen { AreSeenOn self.now.cfg.now.spans (length self.now.widths.now) i owners.now }
         requires between { MatchOption between.now ⊤ (λ text. IsBetween (table_sheet R.rows C.color self.now) (string_bytes text)) }
-        requires goes_on { GoesOn (table_sheet R.rows C.color self.now) i cells.now }
+        requires goes_on { AreOpenFromAbove (table_sheet R.rows C.color self.now) i cells.now }
         requires wide { length cells.now ≡ length self.now.widths.now }
         requires boundary { i ≤ length self.now.heights.now }
         requires top { y ≡ boundary_at (row_tracks (table_sheet R.rows C.color self.now)) i }
@@ -67,7 +67,7 @@ impl<'a, R: PeekableRecords, C: Colors> Table<'a, R, C> {
         if !self.cfg.has_horizontal(i, self.heights.len()) {
             return Ok(y);
         }
-        if !wanted.is_wanted(Place::Boundary(i)) {
+        if !wanted.is_wanted(LineKind::Boundary(i)) {
             return Ok(y + 1);
         }
         self.push_boundary_again(line, runs, between, owners, cells, i, y)?;
@@ -103,7 +103,7 @@ impl<'a, R: PeekableRecords, C: Colors> Table<'a, R, C> {
         ensures empty { OnOk result (string_bytes line.new ≡ []) }
     {
         let end = y + self.heights[i];
-        if !wanted.is_wanted(Place::Row(i)) {
+        if !wanted.is_wanted(LineKind::Row(i)) {
             return Ok(end);
         }
         for k in y..end {
@@ -140,7 +140,7 @@ impl<'a, R: PeekableRecords, C: Colors> Table<'a, R, C> {
         ensures end { IfOk result (λ end. end ≡ boundary_at (row_tracks (table_sheet R.rows C.color self.now)) (i + 1)) }
         ensures empty { OnOk result (string_bytes line.new ≡ []) }
     {
-        if !wanted.is_wanted(Place::Row(i)) {
+        if !wanted.is_wanted(LineKind::Row(i)) {
             return Ok(y + 1);
         }
         self.push_flat_line(alloc, line, flat, i)?;
@@ -164,7 +164,7 @@ impl<'a, R: PeekableRecords, C: Colors> Table<'a, R, C> {
         requires seen { AreSeen self.now.cfg.now.spans (length self.now.widths.now) i owners.now }
         requires positive { ArePositive self.now.cfg.now.spans }
         requires made { AreMadeFor self.now.cfg.now (C.color self.now.colors.now) self.now.widths.now flat.now }
-        requires goes_on { GoesOn (table_sheet R.rows C.color self.now) i cells.old }
+        requires goes_on { AreOpenFromAbove (table_sheet R.rows C.color self.now) i cells.old }
         requires wide { length cells.old ≡ length self.now.widths.now }
         requires row { i < length self.now.heights.now }
         requires some { 0 < length self.now.widths.now }
@@ -177,7 +177,7 @@ impl<'a, R: PeekableRecords, C: Colors> Table<'a, R, C> {
             (chosen_lines (table_sheet R.rows C.color self.now) (K.wants wanted.now) y
             (boundary_at (row_tracks (table_sheet R.rows C.color self.now)) (i + 1))) result writer.old writer.new }
         ensures end { IfOk result (λ end. end ≡ boundary_at (row_tracks (table_sheet R.rows C.color self.now)) (i + 1)) }
-        ensures goes_on { OnOk result (GoesOn (table_sheet R.rows C.color self.now) (i + 1) cells.new) }
+        ensures goes_on { OnOk result (AreOpenFromAbove (table_sheet R.rows C.color self.now) (i + 1) cells.new) }
         ensures wide { length cells.new ≡ length cells.old }
         ensures empty { OnOk result (string_bytes line.new ≡ []) }
     {
@@ -209,7 +209,7 @@ impl<'a, R: PeekableRecords, C: Colors> Table<'a, R, C> {
         ensures lines { Chooses W.contents (chosen_lines (table_sheet R.rows C.color self.now) (K.wants wanted.now) y (y + margin.size)) result writer.old writer.new }
         ensures empty { OnOk result (string_bytes line.new ≡ []) }
     {
-        if !wanted.is_wanted(Place::Outside) {
+        if !wanted.is_wanted(LineKind::Outside) {
             return Ok(());
         }
         for k in y..y + margin.size {

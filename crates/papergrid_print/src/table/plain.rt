@@ -8,7 +8,7 @@ ghost use Rattle.grid_records_traits.specs.PlainTexts.{plain_texts};
 ghost use Rattle.grid_records_traits.specs.Rows.{row_at, text_at};
 ghost use Rattle.papergrid_picture.specs.Frame.{Row, track_at};
 ghost use Rattle.papergrid_cells.specs.Flat.{AreFlat, AreFlatRows, HasEmptyRow, IsSomeEmptyRow, kept_bytes, led_bytes};
-ghost use Rattle.papergrid_print.specs.FlatSheets.{HasRoom, IsWritten, row_front};
+ghost use Rattle.papergrid_print.specs.FlatSheets.{HasCellRoom, IsWrittenOver, row_front};
 ghost use Rattle.papergrid_print.specs.Sheets.{line_at, row_tracks, table_sheet};
 
 use super::Table;
@@ -134,8 +134,8 @@ impl<'a, R: PeekableRecords, C: Colors> Table<'a, R, C> {
         requires made { AreFlatRows (look_of self.now.cfg.now) (length self.now.widths.now) flat.now }
         requires text { IfSome cell (λ cell. cell.text.now ≡ text_at (R.rows self.now.records.now) pos) }
         requires plain { IfSome cell (λ cell. IsPlainText cell.text.now cell.width) }
-        requires room { HasRoom (table_sheet R.rows C.color self.now) flat.now pos room.now start (string_bytes out.old) }
-        ensures written { IfOk result (λ written. written ≡ true → IsWritten (table_sheet R.rows C.color self.now) flat.now pos room.now start (string_bytes out.old) (string_bytes out.new)) }
+        requires room { HasCellRoom (table_sheet R.rows C.color self.now) flat.now pos room.now start (string_bytes out.old) }
+        ensures written { IfOk result (λ written. written ≡ true → IsWrittenOver (table_sheet R.rows C.color self.now) flat.now pos room.now start (string_bytes out.old) (string_bytes out.new)) }
         ensures stays { IfOk result (λ written. written ≡ false → string_bytes out.new ≡ string_bytes out.old) }
     {
         let Some(cell) = cell else {
@@ -178,8 +178,8 @@ impl<'a, R: PeekableRecords, C: Colors> Table<'a, R, C> {
         requires color { C.color self.now.colors.now pos ≡ None }
         requires lead { led_bytes room.now.ink ≡ [] }
         requires kept { kept_bytes room.now.ink ≡ 0 }
-        requires room { HasRoom (table_sheet R.rows C.color self.now) flat.now pos room.now start (string_bytes out.old) }
-        ensures written { IfOk result (λ written. written ≡ true → IsWritten (table_sheet R.rows C.color self.now) flat.now pos room.now start (string_bytes out.old) (string_bytes out.new)) }
+        requires room { HasCellRoom (table_sheet R.rows C.color self.now) flat.now pos room.now start (string_bytes out.old) }
+        ensures written { IfOk result (λ written. written ≡ true → IsWrittenOver (table_sheet R.rows C.color self.now) flat.now pos room.now start (string_bytes out.old) (string_bytes out.new)) }
         ensures stays { IfOk result (λ written. written ≡ false → string_bytes out.new ≡ string_bytes out.old) }
     {
         let width = cell.text.len();
@@ -211,8 +211,8 @@ impl<'a, R: PeekableRecords, C: Colors> Table<'a, R, C> {
         requires color { C.color self.now.colors.now pos ≡ Some (record { prefix = led_bytes room.now.ink; suffix = suffix.now }) }
         requires kept { kept_bytes room.now.ink ≡ length suffix.now }
         requires left { flat.now.alignment ≡ Some Left }
-        requires room { HasRoom (table_sheet R.rows C.color self.now) flat.now pos room.now start (string_bytes out.old) }
-        ensures written { IfOk result (λ written. written ≡ true → IsWritten (table_sheet R.rows C.color self.now) flat.now pos room.now start (string_bytes out.old) (string_bytes out.new)) }
+        requires room { HasCellRoom (table_sheet R.rows C.color self.now) flat.now pos room.now start (string_bytes out.old) }
+        ensures written { IfOk result (λ written. written ≡ true → IsWrittenOver (table_sheet R.rows C.color self.now) flat.now pos room.now start (string_bytes out.old) (string_bytes out.new)) }
         ensures stays { IfOk result (λ written. written ≡ false → string_bytes out.new ≡ string_bytes out.old) }
     {
         let width = cell.text.len();
@@ -243,8 +243,8 @@ impl<'a, R: PeekableRecords, C: Colors> Table<'a, R, C> {
         requires color { Some (color_of color) ≡ C.color self.now.colors.now pos }
         requires lead { led_bytes room.now.ink ≡ [] }
         requires kept { kept_bytes room.now.ink ≡ shade }
-        requires room { HasRoom (table_sheet R.rows C.color self.now) flat.now pos room.now start (string_bytes out.old) }
-        ensures written { IfOk result (λ written. written ≡ true → IsWritten (table_sheet R.rows C.color self.now) flat.now pos room.now start (string_bytes out.old) (string_bytes out.new)) }
+        requires room { HasCellRoom (table_sheet R.rows C.color self.now) flat.now pos room.now start (string_bytes out.old) }
+        ensures written { IfOk result (λ written. written ≡ true → IsWrittenOver (table_sheet R.rows C.color self.now) flat.now pos room.now start (string_bytes out.old) (string_bytes out.new)) }
         ensures stays { IfOk result (λ written. written ≡ false → string_bytes out.new ≡ string_bytes out.old) }
     {
         let width = cell.text.len();

@@ -7,7 +7,7 @@ ghost use Rattle.papergrid_cells.specs.Flat.{AreMadeFor};
 ghost use Rattle.papergrid_cells.specs.Painting.{colored, fill_bytes};
 ghost use Rattle.papergrid_print.specs.FlatSheets.{IsBetween};
 ghost use Rattle.papergrid_print.specs.Seen.{AreSeen, AreSeenAbove, AreSeenOn};
-ghost use Rattle.papergrid_print.specs.Sheets.{GoesOn, IsOpen, IsPrintable, grid_of, lines_of, place_line, row_tracks, table_sheet};
+ghost use Rattle.papergrid_print.specs.Sheets.{AreOpenFromAbove, IsOpen, IsPrintable, grid_of, lines_of, place_line, row_tracks, table_sheet};
 ghost use Rattle.tabled_output.specs.Pieces.{Continues, Passes};
 
 use super::{Table, closed_cells, push_feed};
@@ -38,7 +38,7 @@ impl<'a, R: PeekableRecords, C: Colors> Table<'a, R, C> {
     ) -> Result<Result<usize, WriteFault>, AllocError>
         requires seen { AreSeenOn self.now.cfg.now.spans (length self.now.widths.now) i owners.now }
         requires between { MatchOption between.now ⊤ (λ text. IsBetween (table_sheet R.rows C.color self.now) (string_bytes text)) }
-        requires goes_on { GoesOn (table_sheet R.rows C.color self.now) i cells.now }
+        requires goes_on { AreOpenFromAbove (table_sheet R.rows C.color self.now) i cells.now }
         requires wide { length cells.now ≡ length self.now.widths.now }
         requires boundary { i ≤ length self.now.heights.now }
         requires top { y ≡ boundary_at (row_tracks (table_sheet R.rows C.color self.now)) i }
@@ -104,7 +104,7 @@ impl<'a, R: PeekableRecords, C: Colors> Table<'a, R, C> {
         requires seen { AreSeen self.now.cfg.now.spans (length self.now.widths.now) i owners.now }
         requires positive { ArePositive self.now.cfg.now.spans }
         requires made { AreMadeFor self.now.cfg.now (C.color self.now.colors.now) self.now.widths.now flat.now }
-        requires goes_on { GoesOn (table_sheet R.rows C.color self.now) i cells.old }
+        requires goes_on { AreOpenFromAbove (table_sheet R.rows C.color self.now) i cells.old }
         requires wide { length cells.old ≡ length self.now.widths.now }
         requires row { i < length self.now.heights.now }
         requires some { 0 < length self.now.widths.now }
@@ -116,7 +116,7 @@ impl<'a, R: PeekableRecords, C: Colors> Table<'a, R, C> {
             (lines_of (table_sheet R.rows C.color self.now) (boundary_at (row_tracks (table_sheet R.rows C.color self.now)) (i + 1))) result
             (string_bytes buffer.old) (string_bytes buffer.new) writer.old writer.new }
         ensures end { IfOk result (λ written. IfOk written (λ end. end ≡ boundary_at (row_tracks (table_sheet R.rows C.color self.now)) (i + 1))) }
-        ensures goes_on { IfOk result (λ written. IfOk written (λ _. GoesOn (table_sheet R.rows C.color self.now) (i + 1) cells.new)) }
+        ensures goes_on { IfOk result (λ written. IfOk written (λ _. AreOpenFromAbove (table_sheet R.rows C.color self.now) (i + 1) cells.new)) }
         ensures wide { length cells.new ≡ length cells.old }
     {
         if self.heights[i] == 1 {

@@ -2,7 +2,7 @@ use Rattle.std.proofs.Common.{◌≡◌, [], length, string_bytes}
 use Rattle.papergrid_picture.specs.Frame.{boundary_at}
 use Rattle.papergrid_print.specs.Chosen.{chosen_lines}
 use Rattle.papergrid_print.specs.Seen.{AreSeenAbove}
-use Rattle.papergrid_print.specs.Sheets.{GoesOn, row_tracks, table_sheet}
+use Rattle.papergrid_print.specs.Sheets.{AreOpenFromAbove, row_tracks, table_sheet}
 use Rattle.tabled_output.specs.Pieces.{HasPassed}
 use Rattle.papergrid_print.proofs.table.Table.choose_all_rows.Given as goal
 
@@ -15,5 +15,5 @@ invariant-loop-i g l =
       empty : string_bytes l.line ≡ [];
       wide : length l.cells ≡ length l.self.widths.now;
       above : AreSeenAbove l.self.cfg.now.spans (length l.self.widths.now) l.i l.owners;
-      goes_on : GoesOn sheet l.i l.cells;
+      goes_on : AreOpenFromAbove sheet l.i l.cells;
     }

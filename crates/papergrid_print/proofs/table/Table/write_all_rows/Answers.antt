@@ -1,7 +1,7 @@
 use Rattle.std.proofs.Common.{◌≡◌, ℕ, ◌+◌, ◌≤◌, ◌∙◌, Result, length, subst, sym, string_bytes, arith}
 use Rattle.std.specs.Prelude.{IfOk}
 use Rattle.papergrid_picture.specs.Frame.{boundary_at, track_at}
-use Rattle.papergrid_print.specs.Sheets.{GoesOn, lines_of, row_tracks, table_sheet}
+use Rattle.papergrid_print.specs.Sheets.{AreOpenFromAbove, lines_of, row_tracks, table_sheet}
 use Rattle.tabled_output.specs.Pieces.{HasPassed}
 use Rattle.tabled_output.specs.declared.writing.WriteFault.{WriteFault}
 use Rattle.papergrid_print.proofs.SeenInRows.{none-seen-below}
@@ -36,7 +36,7 @@ loop-i-preserved g c =
           then-ok K (lines_of S c.in-Ok.top) (lines_of S (boundary_at (row_tracks S) (c.loop-i.i + 1))) (string_bytes c.write_boundary.new.buffer) (string_bytes c.write_next_row.new.buffer) c.write_boundary.new.writer c.write_next_row.new.writer c.in_ok-end.field-0 c.in-Ok-2.end c.in-Ok-2.is c.in_ok-end.ensures.lines start q;
       wide = c.in_ok-end.ensures.wide ∙ c.loop-i.invariant.wide;
       above = c.see_row.ensures.above;
-      goes_on = subst (λ (r : Result ℕ WriteFault). IfOk r (λ _. GoesOn S (c.loop-i.i + 1) c.write_next_row.new.cells)) c.in-Ok-2.is c.in_ok-end.ensures.goes_on;
+      goes_on = subst (λ (r : Result ℕ WriteFault). IfOk r (λ _. AreOpenFromAbove S (c.loop-i.i + 1) c.write_next_row.new.cells)) c.in-Ok-2.is c.in_ok-end.ensures.goes_on;
     }
 
 pub returns-in_err-top-clause-lines : goal.returns-in_err-top-clause-lines
