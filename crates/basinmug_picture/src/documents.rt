@@ -35,8 +35,8 @@ impl Wanted for DocumentPart {
 
     ghost wants = { is_of };
 
-    fn is_wanted(&self, place: LineKind) -> bool {
-        match (self, place) {
+    fn is_wanted(&self, kind: LineKind) -> bool {
+        match (self, kind) {
             (DocumentPart::Header, LineKind::Row(row)) => row == 0,
             (DocumentPart::Records, LineKind::Row(row)) => row > 0,
             (_, LineKind::Boundary(_) | LineKind::Outside) => false,

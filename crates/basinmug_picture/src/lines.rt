@@ -20,8 +20,8 @@ impl Wanted for RuledLines {
 
     ghost wants = { λ lines. is_wanted lines.rules lines.header lines.rows };
 
-    fn is_wanted(&self, place: LineKind) -> bool {
-        match place {
+    fn is_wanted(&self, kind: LineKind) -> bool {
+        match kind {
             LineKind::Boundary(boundary) => {
                 boundary == 0
                     || boundary == self.rows

@@ -19,6 +19,6 @@ pub trait Wanted {
     ghost wants: { Self → Shown → Bool };
 
     /// Whether the lines that show this are wanted.
-    fn is_wanted(&self, place: LineKind) -> bool
-        ensures { result ≡ wants self.now place };
+    fn is_wanted(&self, kind: LineKind) -> bool
+        ensures { result ≡ wants self.now kind };
 }
