@@ -1,6 +1,5 @@
 //! The rows and cells of a text, which borrow it.
-ghost use Rattle.std.specs.Prelude.{◌≡◌, ◌≤◌, ◌<◌, ◌↔◌, ℕ, true, false, chars, length, map, slice_index, slice_range, IfOk, IfSome, IsSome, IsTrue};
-ghost use Rattle.std.specs.Str.{IsCharBoundary};
+ghost use Rattle.std.specs.Prelude.{◌≡◌, ◌≤◌, ◌<◌, ◌↔◌, ℕ, true, false, chars, length, map, slice_index, IfOk, IfSome, IsSome, IsTrue};
 ghost use Rattle.std.specs.Int.{is_in_range};
 ghost use Rattle.ansi_str_text.specs.StyledText.{has_escape};
 ghost use Rattle.columns_run.specs.Rows.{rows_of};
@@ -31,7 +30,7 @@ pub fn rows_of<'a>(alloc: Global, text: &'a str) -> Result<Option<Rows<'a>>, All
         match bytes[end] {
             byte if is_printable(byte) => end += 1,
             b'\t' | b'\n' => {
-                rows.push(cell_end(text, start, end, plain))?;
+                rows.push(cell_end(&text[start..end], end, plain))?;
                 if bytes[end] == b'\n' {
                     rows.end_row()?;
                 }
@@ -48,7 +47,7 @@ pub fn rows_of<'a>(alloc: Global, text: &'a str) -> Result<Option<Rows<'a>>, All
     }
     // A last row without characters is none.
     if rows.has_begun() || start < text.len() {
-        rows.push(cell_end(text, start, end, plain))?;
+        rows.push(cell_end(&text[start..], end, plain))?;
         rows.end_row()?;
     }
     Ok(Some(Rows::of(text, rows)))
@@ -74,20 +73,17 @@ fn is_printable(byte: u8) -> bool
     matches!(byte, b' '..=b'~')
 }
 
-// The cell between these places, measured. Where it is `plain`, it has printable ASCII alone, and a byte takes a
-// column: it is not looked at.
+// A cell with this text, measured, that ends here. Where it is `plain`, it has printable ASCII alone, and a byte
+// takes a column.
 #[inline(always)]
-fn cell_end(text: &str, start: usize, end: usize, plain: bool) -> CellEnd
-    requires order { start ≤ end }
-    requires start { IsCharBoundary text.now start }
-    requires end { IsCharBoundary text.now end }
-    requires plain { IsTrue plain → IsTrue (are_printable (slice_range text.now start end)) }
-    ensures { result ≡ record { end = end; width = measure (chars (slice_range text.now start end)) } }
+fn cell_end(text: &str, end: usize, plain: bool) -> CellEnd
+    requires { IsTrue plain → IsTrue (are_printable text.now) }
+    ensures { result ≡ record { end = end; width = measure (chars text.now) } }
 {
     let width = if plain {
-        end - start
+        text.len()
     } else {
-        get_string_width(&text[start..end])
+        get_string_width(text)
     };
     CellEnd { end, width }
 }

@@ -2,7 +2,6 @@ use Rattle.std.proofs.Common.{◌≡◌, ◌≢◌, ℕ, ◌+◌, ◌-◌, ◌<�
 use Rattle.std.specs.Prelude.{slice_range}
 use Rattle.std.specs.Int.{is_in_range}
 use Rattle.std.proofs.lemmas.Bool.Decides.{nat_tests}
-use Rattle.std.proofs.lemmas.List.{length-drop, take_all}
 use Rattle.ansi_scan.specs.Sequences.{escape}
 use Rattle.columns_table.specs.RowEnds.{EndedRows, row_ended, with_cell}
 use Rattle.columns_table.specs.Rows.{cut}
@@ -61,7 +60,7 @@ loop-end-preserved-then-this-lt11 c =
     let bytes : c.as_bytes-bytes.result.now ≡ text = c.as_bytes-bytes.ensures.value in
     let same : get_or text end 0 ≡ get_or c.as_bytes-bytes.result.now end 0 = ap (λ bytes. get_or bytes end 0) (sym bytes) in
     let below : end < length text = omega (arith, ap length bytes) in
-    let is : c.push.new.self ≡ with_cell rows cell = c.in_ok-push-in-9.ensures.more ∙ ap (with_cell rows) c.cell_end.ensures in
+    let is : c.push.new.self ≡ with_cell rows cell = c.in_ok-push-in-9.ensures.more ∙ ap (with_cell rows) (c.cell_end.ensures ∙ ap (cell_with end) c.range.ensures.value) in
     record {
       within = omega (arith, below);
       before = elim c.if-bytes-end-eq10.branch [
@@ -123,8 +122,6 @@ found c =
     let cell = cell_with end (drop start text) in
     let all : length text ≤ end = omega (arith, ap length c.as_bytes-bytes.ensures.value) in
     let at_end : length text ≡ end = omega (arith, all, known.within) in
-    let rest : slice_range text start end ≡ drop start text =
-    take_all (end - start) (drop start text) (subst (λ n. n ≤ end - start) (sym (length-drop start text)) (omega (arith, at_end))) in
     elim c.if-has_begun.branch [
       | then-has_begun+in_ok-push+in_ok-end_row w ↦
           let some : 0 < rows.begun + (length text - start) = elim w.then-has_begun.branch [
@@ -132,7 +129,7 @@ found c =
             | then-has_begun-via-else-has_begun+then-start-text w' ↦ omega arith
           ] in
           let is : w.push-then-has_begun.new.self ≡ with_cell rows cell =
-          w.in_ok-push.ensures.more ∙ ap (with_cell rows) (w.cell_end-then-has_begun.ensures ∙ ap (cell_with end) rest) in
+          w.in_ok-push.ensures.more ∙ ap (with_cell rows) (w.cell_end-then-has_begun.ensures ∙ ap (cell_with end) w.range_from.ensures.value) in
           subst (λ (found : EndedRows). AreEnded text found) (sym (w.rows-is ∙ w.in_ok-end_row.ensures.ended ∙ ap row_ended is)) (Before-last text end start plain rows known.before at_end some)
       | else-has_begun+else-start-text w ↦
           let none : rows.begun ≡ 0 = grind (arith, nat_tests) in
