@@ -202,6 +202,7 @@ impl<'a, R: PeekableRecords, C: Colors> Table<'a, R, C> {
     }
 
     // Appends line `y`, which shows row boundary `i`: between two rows the line that was made, where one was.
+    #[inline(always)]
     fn push_boundary_again(
         &self,
         out: &mut String,
@@ -257,6 +258,7 @@ impl<'a, R: PeekableRecords, C: Colors> Table<'a, R, C> {
 
     // Appends the line of row boundary `i`, line `y` of the table, where that boundary is there. Returns
     // the line after it.
+    #[inline(always)]
     fn push_boundary(
         &self,
         out: &mut String,
