@@ -8,4 +8,4 @@ pub mod Written
 mod Tables
 pub mod Narrowed
 mod ShownRows
-mod Printed
+mod TablePrinted

@@ -11,7 +11,7 @@ use Rattle.basinmug_picture.specs.Pictures.{asked_settings, missing_of, numeric_
 use Rattle.basinmug_picture.specs.Printed.{IsWithoutText, IsTableFault, PrintsTable, StopsInTable}
 use Rattle.basinmug_picture.specs.Rows.{cells_of}
 use Rattle.basinmug_picture.proofs.Narrowed.{err-told}
-use Rattle.basinmug_picture.proofs.Printed.{length-shown, no-column, printed-by, refused-named, stops-named, with-names}
+use Rattle.basinmug_picture.proofs.TablePrinted.{length-shown, no-column, printed-by, refused-named, stops-named, with-names}
 use Rattle.basinmug_picture.proofs.Written.{named-fails, named-takes, table-fails, table-takes}
 use Rattle.basinmug_picture.proofs.printing.print.Goals as goal
 
