@@ -9,6 +9,7 @@ mod grid;
 mod kept;
 mod line;
 mod made;
+mod moons;
 mod pager;
 mod pages;
 mod places;

@@ -1,5 +1,5 @@
 //! Tables, each made by a short program as a user of `tabled` would write it, and printed.
-use crate::{boxes, changed, kept, made, totals};
+use crate::{boxes, changed, kept, made, moons, totals};
 use grid_config::{AlignmentHorizontal, Fault};
 use std::io::Print;
 use tabled::Table;
@@ -9,6 +9,7 @@ pub(crate) fn print(rt: &HostRuntime) -> Result<(), Fault> {
     show(rt, made::fields(rt.alloc())?, Ok(()))?;
     show(rt, made::named(rt.alloc())?, Ok(()))?;
     show(rt, made::numbered(rt.alloc())?, Ok(()))?;
+    show(rt, moons::planets(rt.alloc())?, Ok(()))?;
     ragged(rt)?;
     aligned(rt)?;
     bordered(rt)?;
