@@ -37,6 +37,8 @@ says in the environment, where that is a number above 0; else it is as wide as
 its text. Colours and other escape sequences are kept. Columns of numbers stand
 at the right.";
 
+const USAGE: &str = "basinmug [OPTIONS] [FILE]";
+
 const AFTER_HELP: &str = "\
 Columns in lists:
   by number, from 0, or by their text in the header: 0=bold,price=red
@@ -70,6 +72,7 @@ pub fn command<'a>(alloc: Global) -> Result<Command<'a>, AllocError>
     Command::new(alloc, "basinmug")
         .version(VERSION)
         .about(ABOUT)
+        .override_usage(USAGE)
         .after_help(AFTER_HELP)
         .arg(file(alloc))?
         .arg(delimiter(alloc))?
