@@ -23,12 +23,12 @@ MAKEFLAGS += --no-builtin-rules
 .NOTPARALLEL:
 .PHONY: run show build built lib test check fmt bench soak attack install install-program install-library dist clean help
 
-# Where the program is not built, this is a run of a minute that is checked, and not proved.
+# Where the program is not built, this is a run of some minutes that is checked, and not proved.
 run:                ## print the table of INPUT (INPUT=/dev/stdin reads standard input) as WORDS ask
 	@tools/try $(WORDS) $(FROM)
 
 show:               ## print INPUT, a CSV or TSV file, by basinmug, as WORDS ask
-	@PROGRAM=basinmug tools/try $(if $(filter %.csv,$(INPUT)),--delimiter '$(COMMA)') $(WORDS) $(FROM)
+	@PROGRAM=basinmug tools/try $(if $(findstring --delimiter,$(WORDS)),,$(if $(filter %.csv %.CSV,$(INPUT)),--delimiter '$(COMMA)')) $(WORDS) $(FROM)
 
 build: $(PROGRAM) $(BASINMUG) ## prove and build both programs, which takes an hour at first
 

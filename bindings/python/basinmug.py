@@ -82,7 +82,10 @@ class _Answer(ctypes.Structure):
     _fields_ = [(name, ctypes.c_size_t) for name in ("size", "place", "row", "column")]
 
 
-_library = ctypes.CDLL(os.environ.get("BASINMUG_LIBRARY", "libbasinmug.so.0"))
+try:
+    _library = ctypes.CDLL(os.environ.get("BASINMUG_LIBRARY", "libbasinmug.so.0"))
+except OSError as fault:
+    raise ImportError("libbasinmug.so.0 is not found: `make lib` builds it; BASINMUG_LIBRARY=lib/libbasinmug.so.0 names it") from fault
 _table = _library.basinmug_table
 _table.restype = ctypes.c_uint32
 _table.argtypes = [
