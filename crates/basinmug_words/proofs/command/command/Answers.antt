@@ -10,7 +10,7 @@ with_version a = record a { top = record a.top { has_version = true } }
 pub returns : goal.returns
 returns c =
     let versioned : app_of c.after_help.result ≡ with_version (new_app (codes "basinmug")) =
-    ap app_of_fields c.after_help.ensures ∙ (ap app_of_fields c.about.ensures ∙ (ap app_of_fields c.version.ensures ∙ ap with_version c.new.ensures.app)) in
+    ap app_of_fields c.after_help.ensures ∙ (ap app_of_fields c.override_usage.ensures ∙ (ap app_of_fields c.about.ensures ∙ (ap app_of_fields c.version.ensures ∙ ap with_version c.new.ensures.app))) in
     let a1 = c.in_ok-arg.ensures.shape c.file.ensures.global ∙ ap₂ with_rule versioned c.file.ensures.rule in
     let a2 = c.in_ok-arg-2.ensures.shape c.delimiter.ensures.global ∙ ap₂ with_rule a1 c.delimiter.ensures.rule in
     let a3 = c.in_ok-arg-3.ensures.shape c.no_header.ensures.global ∙ ap₂ with_rule a2 c.no_header.ensures.rule in
