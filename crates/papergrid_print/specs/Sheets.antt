@@ -16,7 +16,7 @@ use Rattle.papergrid_picture.specs.Reading.{Reading, grid_lines, line_items, pai
 use Rattle.papergrid_picture.specs.Tables.{in_bytes, table_grid}
 use Rattle.papergrid_cells.specs.Shown.{measures_of, texts_of}
 use Rattle.papergrid_cells.specs.declared.block.OpenCell.{OpenCell}
-use Rattle.papergrid_print.specs.declared.table.Table.{Table}
+use Rattle.papergrid_print.specs.declared.printer.Printer.{Printer}
 
 -- a line feed stands before each line but the first
 abbrev pub feed_before : ℕ → List ℕ
@@ -34,7 +34,7 @@ abbrev pub sheet_of : Settings → List (List (List ℕ)) → (Position → Opti
 sheet_of settings rows colors widths heights = record { settings = settings; rows = rows; colors = colors; widths = widths; heights = heights }
 
 -- the sheet of a table, by the texts of its records and the colours that it keeps
-abbrev pub table_sheet : {R C : Type 0} → (R → List (List (List ℕ))) → (C → Position → Option Color) → Table R C → Sheet
+abbrev pub table_sheet : {R C : Type 0} → (R → List (List (List ℕ))) → (C → Position → Option Color) → Printer R C → Sheet
 table_sheet rows color table = sheet_of table.cfg.now (rows table.records.now) (color table.colors.now) table.widths.now table.heights.now
 
 module _ (sheet : Sheet) where

@@ -9,7 +9,7 @@ ghost use Rattle.tabled_output.specs.Pieces.{Passes};
 
 use crate::colors::Colors;
 use crate::stop::Stop;
-use crate::table::Table;
+use crate::printer::Printer;
 use crate::wanted::Wanted;
 use grid_config::SpannedConfig;
 use grid_records_traits::PeekableRecords;
@@ -36,7 +36,7 @@ pub fn write_chosen<R: PeekableRecords, C: Colors, W: Write, K: Wanted>(
     if heights.is_empty() || widths.is_empty() {
         return Ok(Ok(()));
     }
-    let table = Table {
+    let table = Printer {
         records,
         cfg,
         colors,

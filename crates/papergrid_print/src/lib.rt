@@ -7,11 +7,11 @@ mod extents;
 pub mod laws;
 mod lines;
 mod print;
+mod printer;
 mod row_cells;
 mod seen;
 mod single;
 mod stop;
-mod table;
 mod wanted;
 
 pub use choose::write_chosen;

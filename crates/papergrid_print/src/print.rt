@@ -8,7 +8,7 @@ ghost use Rattle.papergrid_picture.specs.Tables.{table_text};
 ghost use Rattle.tabled_output.specs.Pieces.{Passes};
 
 use crate::colors::Colors;
-use crate::table::Table;
+use crate::printer::Printer;
 use grid_config::SpannedConfig;
 use grid_records_traits::PeekableRecords;
 use std::alloc::{AllocError, Global};
@@ -38,7 +38,7 @@ pub fn print_table<R: PeekableRecords, C: Colors>(
     if widths.is_empty() || heights.is_empty() {
         return Ok(());
     }
-    let table = Table {
+    let table = Printer {
         records,
         cfg,
         colors,
@@ -56,7 +56,7 @@ pub fn print_table<R: PeekableRecords, C: Colors>(
 // The same to an empty text, in place.
 fn push_to_empty<'a, R: PeekableRecords, C: Colors>(
     alloc: Global,
-    table: &Table<'a, R, C>,
+    table: &Printer<'a, R, C>,
     out: &mut String,
 ) -> Result<(), AllocError>
     requires good { AreGood table.now.cfg.now.spans (length table.now.heights.now) (length table.now.widths.now) }
@@ -96,7 +96,7 @@ pub fn write_table<R: PeekableRecords, C: Colors, W: Write>(
     if heights.is_empty() || widths.is_empty() {
         return Ok(Ok(()));
     }
-    let table = Table {
+    let table = Printer {
         records,
         cfg,
         colors,

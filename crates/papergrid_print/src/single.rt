@@ -7,7 +7,7 @@ ghost use Rattle.papergrid_picture.specs.Frame.{frame_of, line_count};
 ghost use Rattle.papergrid_picture.specs.Tables.{table_line};
 
 use crate::colors::Colors;
-use crate::table::Table;
+use crate::printer::Printer;
 use grid_config::SpannedConfig;
 use grid_records_traits::PeekableRecords;
 use std::alloc::{AllocError, Global};
@@ -31,7 +31,7 @@ pub fn print_line<R: PeekableRecords, C: Colors>(
     ensures text { OnOk result (string_bytes out.new ≡ string_bytes out.old ++ table_line (look_of cfg.now) (R.rows records.now) (C.color colors.now) widths.now heights.now y) }
     ensures refused { OnErr result (string_bytes out.new ≡ string_bytes out.old) }
 {
-    let table = Table {
+    let table = Printer {
         records,
         cfg,
         colors,

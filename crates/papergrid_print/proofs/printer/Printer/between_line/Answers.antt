@@ -1,0 +1,21 @@
+use Rattle.std.proofs.Common.{◌<◌, ◌++◌, [], length, refl, ap, ◌∙◌, arith}
+use Rattle.papergrid_picture.specs.Frame.{Boundary}
+use Rattle.papergrid_print.specs.Sheets.{line_at, table_sheet}
+use Rattle.papergrid_print.proofs.Flat.{between-same, none-goes-on}
+use Rattle.papergrid_print.proofs.SeenInRows.{none-seen, seen-on}
+use Rattle.papergrid_print.proofs.printer.Printer.between_line.Goals as goal
+
+pub push_boundary_line-requires-clause-goes_on : goal.push_boundary_line-requires-clause-goes_on
+push_boundary_line-requires-clause-goes_on g c =
+    none-goes-on (table_sheet g.R.RecordTexts.rows g.C.Colors.color c.args.self.now) (c.if-not-has_no_spans.ensures.0 refl) 1 c.args.cells.now
+
+pub push_boundary_line-requires-clause-seen : goal.push_boundary_line-requires-clause-seen
+push_boundary_line-requires-clause-seen g c =
+    seen-on c.args.self.now.cfg.now.spans (length c.args.self.now.widths.now) 1 [] (none-seen c.args.self.now.cfg.now.spans (length c.args.self.now.widths.now) 1 (c.if-not-has_no_spans.ensures.0 refl))
+
+pub returns : goal.returns
+returns g c = λ i y some below.
+    let sheet = (table_sheet g.R.RecordTexts.rows g.C.Colors.color c.args.self.now) in
+    let several : 1 < length c.args.self.now.heights.now = omega (arith, c.if-self-lt2.false) in
+    c.in_ok-push_boundary_line.ensures ∙ ap (λ l. l ++ line_at sheet (Boundary 1) 0) c.new-text.ensures.bytes
+    ∙ between-same sheet (c.if-not-has_no_spans.ensures.0 refl) 1 i 0 y (omega arith) several some below

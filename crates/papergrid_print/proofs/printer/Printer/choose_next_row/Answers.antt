@@ -1,0 +1,30 @@
+use Rattle.std.proofs.Common.{◌+◌, ◌≤◌, Option, Some, subst, arith}
+use Rattle.papergrid_picture.specs.Frame.{boundary_at}
+use Rattle.papergrid_cells.specs.Flat.{AreMadeFor}
+use Rattle.papergrid_cells.specs.declared.flat.FlatRows.{FlatRows}
+use Rattle.papergrid_print.specs.Sheets.{row_tracks, table_sheet}
+use Rattle.papergrid_print.proofs.Choosing.{no-memory, none-yet, on-ok}
+use Rattle.papergrid_print.proofs.Flat.{none-goes-on}
+use Rattle.papergrid_print.proofs.Places.{row-end}
+use Rattle.papergrid_print.proofs.printer.Printer.choose_next_row.Goals as goal
+
+pub returns-in-Some-clause-goes_on : goal.returns-in-Some-clause-goes_on
+returns-in-Some-clause-goes_on g c =
+    let S = table_sheet g.R.RecordTexts.rows g.C.Colors.color c.args.self.now in
+    let wants = g.K.Wanted.wants c.args.wanted.now in
+    let K = g.W.Write.contents in
+    let made : AreMadeFor c.args.self.now.cfg.now (g.C.Colors.color c.args.self.now.colors.now) c.args.self.now.widths.now (Some c.in-Some.flat) = subst (λ (kept : Option FlatRows). AreMadeFor c.args.self.now.cfg.now (g.C.Colors.color c.args.self.now.colors.now) c.args.self.now.widths.now kept) c.in-Some.is c.requires.made in
+    on-ok c.choose_flat_row.result (none-goes-on S made.0.single (c.args.i + 1) c.args.cells.now)
+
+pub returns-in_err-open_row-clause-lines : goal.returns-in_err-open_row-clause-lines
+returns-in_err-open_row-clause-lines g c =
+    let S = table_sheet g.R.RecordTexts.rows g.C.Colors.color c.args.self.now in
+    let wants = g.K.Wanted.wants c.args.wanted.now in
+    let K = g.W.Write.contents in
+    let here : c.args.y ≤ c.args.y = omega arith in
+    let within : c.args.y ≤ boundary_at (row_tracks S) (c.args.i + 1) = omega (arith, row-end S c.args.i c.requires.row, c.requires.top) in
+    no-memory S wants K c.args.y c.args.y (boundary_at (row_tracks S) (c.args.i + 1)) c.from_residual.result c.args.writer.now c.args.writer.now here within c.from_residual.ensures.1
+    (none-yet S wants K c.args.y c.args.writer.now)
+
+pub returns-clause-goes_on : goal.returns-clause-goes_on
+returns-clause-goes_on g c = on-ok c.choose_row.result c.in_ok-open_row.ensures.goes_on

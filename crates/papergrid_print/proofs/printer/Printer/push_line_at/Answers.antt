@@ -1,0 +1,33 @@
+use Rattle.std.proofs.Common.{◌<◌, ◌≤◌, ◌+◌, List, Option, None, sym, subst, get_or, length, string_bytes, arith}
+use Rattle.std.proofs.lemmas.Result.{on_ok_weaker}
+use Rattle.papergrid_picture.specs.Frame.{Boundary, Row, track_at}
+use Rattle.papergrid_picture.specs.Picture.{seen}
+use Rattle.papergrid_picture.proofs.Frames.{boundary-next, place-row}
+use Rattle.papergrid_print.specs.Sheets.{ShowsAt, grid_of, row_tracks, table_sheet}
+use Rattle.papergrid_cells.specs.declared.block.OpenCell.{OpenCell}
+use Rattle.papergrid_print.proofs.OneLine.{boundary-shown, line-shown}
+use Rattle.papergrid_print.proofs.printer.Printer.push_line_at.Goals as goal
+
+pub returns-then-y-top_of : goal.returns-then-y-top_of
+returns-then-y-top_of g c =
+    let sheet = table_sheet g.R.RecordTexts.rows g.C.Colors.color c.args.self.now in
+    let inside : c.args.i ≤ length c.args.self.now.heights.now = omega (arith, c.requires.row) in
+    let shown = boundary-shown sheet c.args.i c.args.y inside (omega (arith, c.requires.start, c.requires.from)) (omega (arith, c.top_of.ensures, c.if-y-top_of.true)) in
+    on_ok_weaker c.push_boundary_at.result
+    (λ last. line-shown sheet (Boundary c.args.i) c.args.y (string_bytes c.args.out.now) (string_bytes c.push_boundary_at.new.out) shown.0 last)
+    c.push_boundary_at.ensures
+
+pub push_row_line-requires-clause-is_open : goal.push_row_line-requires-clause-is_open
+push_row_line-requires-clause-is_open g c = λ j inside first.
+    let sheet = table_sheet g.R.RecordTexts.rows g.C.Colors.color c.args.self.now in
+    let under : (seen (grid_of sheet) c.args.i j).row < c.args.i + 1 = omega (arith, c.in_ok-cells.ensures.above j inside) in
+    subst (λ (cells : List (Option OpenCell)). ShowsAt sheet (seen (grid_of sheet) c.args.i j) (get_or cells j None)) (sym c.deref-3.ensures.value) (c.in_ok-cells.ensures.open j inside under first)
+
+pub returns : goal.returns
+returns g c =
+    let sheet = table_sheet g.R.RecordTexts.rows g.C.Colors.color c.args.self.now in
+    let from : track_at (row_tracks sheet) c.args.i ≤ c.args.y = omega (arith, c.top_of.ensures, c.if-y-top_of.false) in
+    let before : c.args.y < track_at (row_tracks sheet) c.args.i + get_or c.args.self.now.heights.now c.args.i 0 = omega (arith, boundary-next (row_tracks sheet) c.args.i c.requires.row, c.requires.before) in
+    on_ok_weaker c.push_row_line.result
+    (λ last. line-shown sheet (Row c.args.i) c.args.y (string_bytes c.args.out.now) (string_bytes c.push_row_line.new.out) (place-row (row_tracks sheet) c.args.i c.args.y c.requires.row from before) last)
+    c.push_row_line.ensures

@@ -1,0 +1,92 @@
+use Rattle.std.proofs.Common.{◌≡◌, ℕ, ◌+◌, ◌≤◌, ◌∙◌, Result, length, subst, sym, string_bytes, arith}
+use Rattle.std.specs.Prelude.{IfOk}
+use Rattle.papergrid_picture.specs.Frame.{boundary_at, track_at}
+use Rattle.papergrid_print.specs.Sheets.{AreOpenFromAbove, lines_of, row_tracks, table_sheet}
+use Rattle.tabled_output.specs.Pieces.{HasPassed}
+use Rattle.tabled_output.specs.declared.writing.WriteFault.{WriteFault}
+use Rattle.papergrid_print.proofs.SeenInRows.{none-seen-below}
+use Rattle.papergrid_print.proofs.Tables.{row-within}
+use Rattle.papergrid_print.proofs.Writes.{begun-further, boundary-within, continues-after, continues-refused, stopped-further, then-err, then-ok}
+use Rattle.papergrid_print.proofs.printer.Printer.write_all_rows.Goals as goal
+
+pub write_boundary-requires-clause-range : goal.write_boundary-requires-clause-range
+write_boundary-requires-clause-range g c =
+    let S = table_sheet g.R.RecordTexts.rows g.C.Colors.color c.args.self.now in
+    omega (arith, row-within S c.loop-i.i c.loop-i-test.true, c.requires.line_range)
+
+pub write_boundary-requires-2-clause-seen : goal.write_boundary-requires-2-clause-seen
+write_boundary-requires-2-clause-seen g c =
+    none-seen-below c.args.self.now.cfg.now.spans (length c.args.self.now.heights.now) (length c.args.self.now.widths.now) c.requires.positive c.requires.good
+
+pub write_next_row-requires-clause-top : goal.write_next_row-requires-clause-top
+write_next_row-requires-clause-top g c =
+    let S = table_sheet g.R.RecordTexts.rows g.C.Colors.color c.args.self.now in
+    subst (λ (r : Result ℕ WriteFault). IfOk r (λ end. end ≡ track_at (row_tracks S) c.loop-i.i)) c.in-Ok.is c.in_ok-top.ensures.end
+
+pub loop-i-preserved : goal.loop-i-preserved
+loop-i-preserved g c =
+    let S = table_sheet g.R.RecordTexts.rows g.C.Colors.color c.args.self.now in
+    let K = g.W.Write.contents in
+    let shown = subst (λ (r : Result ℕ WriteFault). IfOk r (λ end. end ≡ track_at (row_tracks S) c.loop-i.i)) c.in-Ok.is c.in_ok-top.ensures.end in
+    record {
+      line = subst (λ (r : Result ℕ WriteFault). IfOk r (λ end. end ≡ boundary_at (row_tracks S) (c.loop-i.i + 1))) c.in-Ok-2.is c.in_ok-end.ensures.end;
+      passed = λ start before.
+          let p = subst (λ k. HasPassed K (lines_of S k) (string_bytes c.loop-i.buffer) start c.loop-i.writer) (sym c.loop-i.invariant.line) (c.loop-i.invariant.passed start before) in
+          let q = subst (λ k. HasPassed K (lines_of S k) (string_bytes c.write_boundary.new.buffer) start c.write_boundary.new.writer) (sym shown) (then-ok K (lines_of S c.loop-i.y) (lines_of S (track_at (row_tracks S) c.loop-i.i)) (string_bytes c.loop-i.buffer) (string_bytes c.write_boundary.new.buffer) c.loop-i.writer c.write_boundary.new.writer c.in_ok-top.field-0 c.in-Ok.top c.in-Ok.is c.in_ok-top.ensures.lines start p) in
+          then-ok K (lines_of S c.in-Ok.top) (lines_of S (boundary_at (row_tracks S) (c.loop-i.i + 1))) (string_bytes c.write_boundary.new.buffer) (string_bytes c.write_next_row.new.buffer) c.write_boundary.new.writer c.write_next_row.new.writer c.in_ok-end.field-0 c.in-Ok-2.end c.in-Ok-2.is c.in_ok-end.ensures.lines start q;
+      wide = c.in_ok-end.ensures.wide ∙ c.loop-i.invariant.wide;
+      above = c.see_row.ensures.above;
+      goes_on = subst (λ (r : Result ℕ WriteFault). IfOk r (λ _. AreOpenFromAbove S (c.loop-i.i + 1) c.write_next_row.new.cells)) c.in-Ok-2.is c.in_ok-end.ensures.goes_on;
+    }
+
+pub returns-in_err-top-clause-lines : goal.returns-in_err-top-clause-lines
+returns-in_err-top-clause-lines g c =
+    let S = table_sheet g.R.RecordTexts.rows g.C.Colors.color c.args.self.now in
+    let K = g.W.Write.contents in
+    let within : track_at (row_tracks S) c.loop-i.i ≤ track_at (row_tracks S) (length c.args.self.now.heights.now) = omega (arith, row-within S c.loop-i.i c.loop-i-test.true) in
+    continues-refused K (lines_of S (boundary_at (row_tracks S) 0)) (lines_of S (track_at (row_tracks S) (length c.args.self.now.heights.now))) (string_bytes c.args.buffer.now) (string_bytes c.write_boundary.new.buffer) c.args.writer.now c.write_boundary.new.writer c.from_residual.result c.from_residual.ensures.0
+    (λ start before.
+    let p = subst (λ k. HasPassed K (lines_of S k) (string_bytes c.loop-i.buffer) start c.loop-i.writer) (sym c.loop-i.invariant.line) (c.loop-i.invariant.passed start before) in
+    begun-further S K (track_at (row_tracks S) c.loop-i.i) (track_at (row_tracks S) (length c.args.self.now.heights.now)) start c.write_boundary.new.writer within (c.in_err-top.ensures.lines start p))
+
+pub returns-in-Err-clause-lines : goal.returns-in-Err-clause-lines
+returns-in-Err-clause-lines g c = λ start before.
+    let S = table_sheet g.R.RecordTexts.rows g.C.Colors.color c.args.self.now in
+    let K = g.W.Write.contents in
+    let within : track_at (row_tracks S) c.loop-i.i ≤ track_at (row_tracks S) (length c.args.self.now.heights.now) = omega (arith, row-within S c.loop-i.i c.loop-i-test.true) in
+    let p = subst (λ k. HasPassed K (lines_of S k) (string_bytes c.loop-i.buffer) start c.loop-i.writer) (sym c.loop-i.invariant.line) (c.loop-i.invariant.passed start before) in
+    stopped-further S K (track_at (row_tracks S) c.loop-i.i) (track_at (row_tracks S) (length c.args.self.now.heights.now)) c.in-Err.fault start c.write_boundary.new.writer within
+    (then-err K (lines_of S c.loop-i.y) (lines_of S (track_at (row_tracks S) c.loop-i.i)) (string_bytes c.loop-i.buffer) (string_bytes c.write_boundary.new.buffer) c.loop-i.writer c.write_boundary.new.writer c.in_ok-top.field-0 c.in-Err.fault c.in-Err.is c.in_ok-top.ensures.lines start p)
+
+pub returns-in_err-end-clause-lines : goal.returns-in_err-end-clause-lines
+returns-in_err-end-clause-lines g c =
+    let S = table_sheet g.R.RecordTexts.rows g.C.Colors.color c.args.self.now in
+    let K = g.W.Write.contents in
+    let inside : c.loop-i.i + 1 ≤ length c.args.self.now.heights.now = omega (arith, c.loop-i-test.true) in
+    let within = boundary-within S (c.loop-i.i + 1) inside in
+    let shown = subst (λ (r : Result ℕ WriteFault). IfOk r (λ end. end ≡ track_at (row_tracks S) c.loop-i.i)) c.in-Ok.is c.in_ok-top.ensures.end in
+    continues-refused K (lines_of S (boundary_at (row_tracks S) 0)) (lines_of S (track_at (row_tracks S) (length c.args.self.now.heights.now))) (string_bytes c.args.buffer.now) (string_bytes c.write_next_row.new.buffer) c.args.writer.now c.write_next_row.new.writer c.from_residual-in_err-end.result c.from_residual-in_err-end.ensures.0
+    (λ start before.
+    let p = subst (λ k. HasPassed K (lines_of S k) (string_bytes c.loop-i.buffer) start c.loop-i.writer) (sym c.loop-i.invariant.line) (c.loop-i.invariant.passed start before) in
+    let q = subst (λ k. HasPassed K (lines_of S k) (string_bytes c.write_boundary.new.buffer) start c.write_boundary.new.writer) (sym shown) (then-ok K (lines_of S c.loop-i.y) (lines_of S (track_at (row_tracks S) c.loop-i.i)) (string_bytes c.loop-i.buffer) (string_bytes c.write_boundary.new.buffer) c.loop-i.writer c.write_boundary.new.writer c.in_ok-top.field-0 c.in-Ok.top c.in-Ok.is c.in_ok-top.ensures.lines start p) in
+    begun-further S K (boundary_at (row_tracks S) (c.loop-i.i + 1)) (track_at (row_tracks S) (length c.args.self.now.heights.now)) start c.write_next_row.new.writer within (c.in_err-end.ensures.lines start q))
+
+pub returns-in-Err-2-clause-lines : goal.returns-in-Err-2-clause-lines
+returns-in-Err-2-clause-lines g c = λ start before.
+    let S = table_sheet g.R.RecordTexts.rows g.C.Colors.color c.args.self.now in
+    let K = g.W.Write.contents in
+    let inside : c.loop-i.i + 1 ≤ length c.args.self.now.heights.now = omega (arith, c.loop-i-test.true) in
+    let within = boundary-within S (c.loop-i.i + 1) inside in
+    let shown = subst (λ (r : Result ℕ WriteFault). IfOk r (λ end. end ≡ track_at (row_tracks S) c.loop-i.i)) c.in-Ok.is c.in_ok-top.ensures.end in
+    let p = subst (λ k. HasPassed K (lines_of S k) (string_bytes c.loop-i.buffer) start c.loop-i.writer) (sym c.loop-i.invariant.line) (c.loop-i.invariant.passed start before) in
+    let q = subst (λ k. HasPassed K (lines_of S k) (string_bytes c.write_boundary.new.buffer) start c.write_boundary.new.writer) (sym shown) (then-ok K (lines_of S c.loop-i.y) (lines_of S (track_at (row_tracks S) c.loop-i.i)) (string_bytes c.loop-i.buffer) (string_bytes c.write_boundary.new.buffer) c.loop-i.writer c.write_boundary.new.writer c.in_ok-top.field-0 c.in-Ok.top c.in-Ok.is c.in_ok-top.ensures.lines start p) in
+    stopped-further S K (boundary_at (row_tracks S) (c.loop-i.i + 1)) (track_at (row_tracks S) (length c.args.self.now.heights.now)) c.in-Err-2.fault start c.write_next_row.new.writer within
+    (then-err K (lines_of S c.in-Ok.top) (lines_of S (boundary_at (row_tracks S) (c.loop-i.i + 1))) (string_bytes c.write_boundary.new.buffer) (string_bytes c.write_next_row.new.buffer) c.write_boundary.new.writer c.write_next_row.new.writer c.in_ok-end.field-0 c.in-Err-2.fault c.in-Err-2.is c.in_ok-end.ensures.lines start q)
+
+pub returns-clause-lines : goal.returns-clause-lines
+returns-clause-lines g c =
+    let S = table_sheet g.R.RecordTexts.rows g.C.Colors.color c.args.self.now in
+    let K = g.W.Write.contents in
+    continues-after K (lines_of S (boundary_at (row_tracks S) 0)) (lines_of S c.loop-i.y) (lines_of S (track_at (row_tracks S) (length c.args.self.now.heights.now))) (string_bytes c.args.buffer.now) (string_bytes c.loop-i.buffer) (string_bytes c.write_boundary-2.new.buffer) c.args.writer.now c.loop-i.writer c.write_boundary-2.new.writer c.write_boundary-2.result
+    (λ start before. subst (λ k. HasPassed K (lines_of S k) (string_bytes c.loop-i.buffer) start c.loop-i.writer) (sym c.loop-i.invariant.line) (c.loop-i.invariant.passed start before))
+    c.write_boundary-2.ensures.lines

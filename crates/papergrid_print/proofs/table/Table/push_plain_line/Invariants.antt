@@ -1,7 +1,0 @@
-use Rattle.std.proofs.Common.{◌≡◌, ◌++◌, string_bytes}
-use Rattle.papergrid_print.specs.Sheets.{table_sheet}
-use Rattle.papergrid_print.proofs.Flat.{flat_start}
-use Rattle.papergrid_print.proofs.table.Table.push_plain_line.Given as goal
-
-abbrev pub invariant-loop-j : goal.invariant-loop-j
-invariant-loop-j g l = string_bytes l.out ≡ string_bytes l.fn.out ++ flat_start (table_sheet g.R.RecordTexts.rows g.C.Colors.color l.self) l.i l.j

@@ -1,0 +1,331 @@
+//! The wanted lines of a table, written one by one. Each stands in a buffer until it is whole, is then written at
+//! once, with the line feed behind it, and leaves the buffer empty.
+ghost use Rattle.std.specs.Prelude.{◌≡◌, ◌++◌, ◌<◌, ◌≤◌, ◌+◌, ◌^◌, ⊤, IfOk, MatchOption, OnOk, [], ◌∷◌, ℕ, length, slice_index, string_bytes};
+ghost use Rattle.grid_config_spans.specs.Spans.{AreGood, ArePositive};
+ghost use Rattle.grid_config.specs.Looks.{look_of};
+ghost use Rattle.grid_records_measure.specs.TextLines.{line_feed};
+ghost use Rattle.papergrid_picture.specs.Frame.{Outside, boundary_at, line_count, place, track_at};
+ghost use Rattle.papergrid_cells.specs.Flat.{AreFlat, AreFlatRows, AreMadeFor, HasEmptyRow};
+ghost use Rattle.papergrid_cells.specs.Painting.{colored, fill_bytes};
+ghost use Rattle.papergrid_print.specs.Chosen.{Chooses, chosen_lines};
+ghost use Rattle.papergrid_print.specs.FlatSheets.{IsBetween};
+ghost use Rattle.papergrid_print.specs.Seen.{AreSeen, AreSeenAbove, AreSeenOn};
+ghost use Rattle.papergrid_print.specs.Sheets.{AreOpenFromAbove, IsOpen, IsPrintable, grid_of, place_line, row_tracks, table_sheet};
+
+use super::{Printer, closed_cells};
+use crate::colors::Colors;
+use crate::seen::SeenCell;
+use crate::stop::Stop;
+use crate::wanted::{LineKind, Wanted};
+use grid_config::ANSIBuf;
+use grid_config_values::Indent;
+use grid_records_traits::PeekableRecords;
+use papergrid_cells::{FlatRows, GlyphRun, OpenCell, push_blank};
+use std::alloc::Global;
+use std::io::Write;
+use tabled_output::{Counted, pass_line};
+
+// Ends the line that stands in the buffer, and writes it.
+fn pass_ended<W: Write>(writer: &mut Counted<W>, line: &mut String) -> Result<(), Stop>
+    ensures lines { Chooses W.contents (string_bytes line.old ++ line_feed ∷ []) result writer.old writer.new }
+    ensures empty { OnOk result (string_bytes line.new ≡ []) }
+{
+    line.push('\n')?;
+    pass_line(writer, line)?;
+    Ok(())
+}
+
+impl<'a, R: PeekableRecords, C: Colors> Printer<'a, R, C> {
+    // Writes the line of row boundary `i`, line `y` of the table, where that boundary is there and wanted.
+    // Returns the line after it.
+    fn choose_boundary<W: Write, K: Wanted>(
+        &self,
+        writer: &mut Counted<W>,
+        line: &mut String,
+        wanted: &K,
+        runs: &mut Vec<GlyphRun<'a>>,
+        between: &Option<String>,
+        owners: &[SeenCell],
+        cells: &[Option<OpenCell<'a>>],
+        i: usize,
+        y: usize,
+    ) -> Result<usize, Stop>
+        requires seen { AreSeenOn self.now.cfg.now.spans (length self.now.widths.now) i owners.now }
+        requires between { MatchOption between.now ⊤ (λ text. IsBetween (table_sheet R.rows C.color self.now) (string_bytes text)) }
+        requires goes_on { AreOpenFromAbove (table_sheet R.rows C.color self.now) i cells.now }
+        requires wide { length cells.now ≡ length self.now.widths.now }
+        requires boundary { i ≤ length self.now.heights.now }
+        requires top { y ≡ boundary_at (row_tracks (table_sheet R.rows C.color self.now)) i }
+        requires range { track_at (row_tracks (table_sheet R.rows C.color self.now)) i < 2 ^ 64 }
+        requires empty { string_bytes line.old ≡ [] }
+        ensures lines { Chooses W.contents
+            (chosen_lines (table_sheet R.rows C.color self.now) (K.wants wanted.now) y
+            (track_at (row_tracks (table_sheet R.rows C.color self.now)) i)) result writer.old writer.new }
+        ensures end { IfOk result (λ end. end ≡ track_at (row_tracks (table_sheet R.rows C.color self.now)) i) }
+        ensures empty { OnOk result (string_bytes line.new ≡ []) }
+    {
+        if !self.cfg.has_horizontal(i, self.heights.len()) {
+            return Ok(y);
+        }
+        if !wanted.is_wanted(LineKind::Boundary(i)) {
+            return Ok(y + 1);
+        }
+        self.push_boundary_again(line, runs, between, owners, cells, i, y)?;
+        pass_ended(writer, line)?;
+        Ok(y + 1)
+    }
+
+    // Writes the lines of row `i`, from line `y` of the table on, where they are wanted. Returns the line after
+    // them.
+    fn choose_row<W: Write, K: Wanted>(
+        &self,
+        writer: &mut Counted<W>,
+        line: &mut String,
+        wanted: &K,
+        flat: &Option<FlatRows<'a>>,
+        owners: &[SeenCell],
+        cells: &[Option<OpenCell<'a>>],
+        i: usize,
+        y: usize,
+    ) -> Result<usize, Stop>
+        requires made { AreMadeFor self.now.cfg.now (C.color self.now.colors.now) self.now.widths.now flat.now }
+        requires seen { AreSeen self.now.cfg.now.spans (length self.now.widths.now) i owners.now }
+        requires is_open { IsOpen (table_sheet R.rows C.color self.now) i cells.now }
+        requires wide { length cells.now ≡ length self.now.widths.now }
+        requires row { i < length self.now.heights.now }
+        requires top { y ≡ track_at (row_tracks (table_sheet R.rows C.color self.now)) i }
+        requires range { boundary_at (row_tracks (table_sheet R.rows C.color self.now)) (length self.now.heights.now) < 2 ^ 64 }
+        requires empty { string_bytes line.old ≡ [] }
+        ensures lines { Chooses W.contents
+            (chosen_lines (table_sheet R.rows C.color self.now) (K.wants wanted.now) y
+            (boundary_at (row_tracks (table_sheet R.rows C.color self.now)) (i + 1))) result writer.old writer.new }
+        ensures end { IfOk result (λ end. end ≡ boundary_at (row_tracks (table_sheet R.rows C.color self.now)) (i + 1)) }
+        ensures empty { OnOk result (string_bytes line.new ≡ []) }
+    {
+        let end = y + self.heights[i];
+        if !wanted.is_wanted(LineKind::Row(i)) {
+            return Ok(end);
+        }
+        for k in y..end {
+            self.push_row_line(line, flat, owners, cells, i, k)?;
+            pass_ended(writer, line)?;
+        }
+        Ok(end)
+    }
+
+    // Writes the line of row `i`, which has but one, line `y` of the table, where it is wanted. Returns the line
+    // after it.
+    fn choose_flat_row<W: Write, K: Wanted>(
+        &self,
+        alloc: Global,
+        writer: &mut Counted<W>,
+        line: &mut String,
+        wanted: &K,
+        flat: &FlatRows<'a>,
+        i: usize,
+        y: usize,
+    ) -> Result<usize, Stop>
+        requires flat { AreFlat self.now.cfg.now }
+        requires flat_rows { AreFlatRows (look_of self.now.cfg.now) (length self.now.widths.now) flat.now }
+        requires empty_row { HasEmptyRow (C.color self.now.colors.now) self.now.widths.now flat.now }
+        requires row { i < length self.now.heights.now }
+        requires high { slice_index self.now.heights.now i ≡ 1 }
+        requires columns { 0 < length self.now.widths.now }
+        requires top { y ≡ track_at (row_tracks (table_sheet R.rows C.color self.now)) i }
+        requires range { boundary_at (row_tracks (table_sheet R.rows C.color self.now)) (length self.now.heights.now) < 2 ^ 64 }
+        requires empty { string_bytes line.old ≡ [] }
+        ensures lines { Chooses W.contents
+            (chosen_lines (table_sheet R.rows C.color self.now) (K.wants wanted.now) y
+            (boundary_at (row_tracks (table_sheet R.rows C.color self.now)) (i + 1))) result writer.old writer.new }
+        ensures end { IfOk result (λ end. end ≡ boundary_at (row_tracks (table_sheet R.rows C.color self.now)) (i + 1)) }
+        ensures empty { OnOk result (string_bytes line.new ≡ []) }
+    {
+        if !wanted.is_wanted(LineKind::Row(i)) {
+            return Ok(y + 1);
+        }
+        self.push_flat_line(alloc, line, flat, i)?;
+        pass_ended(writer, line)?;
+        Ok(y + 1)
+    }
+
+    // Writes the lines of row `i`, as `choose_row` does, and reads its cells before.
+    fn choose_next_row<W: Write, K: Wanted>(
+        &self,
+        alloc: Global,
+        writer: &mut Counted<W>,
+        line: &mut String,
+        wanted: &K,
+        flat: &Option<FlatRows<'a>>,
+        owners: &[SeenCell],
+        cells: &mut [Option<OpenCell<'a>>],
+        i: usize,
+        y: usize,
+    ) -> Result<usize, Stop>
+        requires seen { AreSeen self.now.cfg.now.spans (length self.now.widths.now) i owners.now }
+        requires positive { ArePositive self.now.cfg.now.spans }
+        requires made { AreMadeFor self.now.cfg.now (C.color self.now.colors.now) self.now.widths.now flat.now }
+        requires goes_on { AreOpenFromAbove (table_sheet R.rows C.color self.now) i cells.old }
+        requires wide { length cells.old ≡ length self.now.widths.now }
+        requires row { i < length self.now.heights.now }
+        requires some { 0 < length self.now.widths.now }
+        requires good { AreGood self.now.cfg.now.spans (length self.now.heights.now) (length self.now.widths.now) }
+        requires range { boundary_at (row_tracks (table_sheet R.rows C.color self.now)) (length self.now.heights.now) < 2 ^ 64 }
+        requires column_range { boundary_at (grid_of (table_sheet R.rows C.color self.now)).frame.columns (length self.now.widths.now) < 2 ^ 64 }
+        requires top { y ≡ track_at (row_tracks (table_sheet R.rows C.color self.now)) i }
+        requires empty { string_bytes line.old ≡ [] }
+        ensures lines { Chooses W.contents
+            (chosen_lines (table_sheet R.rows C.color self.now) (K.wants wanted.now) y
+            (boundary_at (row_tracks (table_sheet R.rows C.color self.now)) (i + 1))) result writer.old writer.new }
+        ensures end { IfOk result (λ end. end ≡ boundary_at (row_tracks (table_sheet R.rows C.color self.now)) (i + 1)) }
+        ensures goes_on { OnOk result (AreOpenFromAbove (table_sheet R.rows C.color self.now) (i + 1) cells.new) }
+        ensures wide { length cells.new ≡ length cells.old }
+        ensures empty { OnOk result (string_bytes line.new ≡ []) }
+    {
+        if self.heights[i] == 1 {
+            if let Some(flat) = flat {
+                return self.choose_flat_row(alloc, writer, line, wanted, flat, i, y);
+            }
+        }
+        self.open_row(alloc, owners, cells, i, y)?;
+        self.choose_row(writer, line, wanted, flat, owners, cells, i, y)
+    }
+
+    // Writes the lines of a margin, from line `y` of the table on, where they are wanted. Each takes `width`
+    // columns.
+    fn choose_margin<W: Write, K: Wanted>(
+        &self,
+        writer: &mut Counted<W>,
+        line: &mut String,
+        wanted: &K,
+        y: usize,
+        margin: Indent,
+        color: &Option<ANSIBuf>,
+        width: usize,
+    ) -> Result<(), Stop>
+        requires range { y + margin.size < 2 ^ 64 }
+        requires shown { (k : ℕ) → y ≤ k → k < y + margin.size → place_line (table_sheet R.rows C.color self.now) k ≡ colored color.now (fill_bytes margin.fill width) }
+        requires outside { (k : ℕ) → y ≤ k → k < y + margin.size → place (row_tracks (table_sheet R.rows C.color self.now)) k ≡ Outside }
+        requires empty { string_bytes line.old ≡ [] }
+        ensures lines { Chooses W.contents (chosen_lines (table_sheet R.rows C.color self.now) (K.wants wanted.now) y (y + margin.size)) result writer.old writer.new }
+        ensures empty { OnOk result (string_bytes line.new ≡ []) }
+    {
+        if !wanted.is_wanted(LineKind::Outside) {
+            return Ok(());
+        }
+        for k in y..y + margin.size {
+            push_blank(line, margin.fill, width, color)?;
+            pass_ended(writer, line)?;
+        }
+        Ok(())
+    }
+
+    // Writes the wanted lines between the margins, by what was made once for all of them. Returns the line after
+    // them.
+    fn choose_all_rows<W: Write, K: Wanted>(
+        &self,
+        alloc: Global,
+        writer: &mut Counted<W>,
+        line: &mut String,
+        wanted: &K,
+        flat: &Option<FlatRows<'a>>,
+        between: &Option<String>,
+        runs: &mut Vec<GlyphRun<'a>>,
+        owners: &mut [SeenCell],
+        cells: &mut [Option<OpenCell<'a>>],
+    ) -> Result<usize, Stop>
+        requires positive { ArePositive self.now.cfg.now.spans }
+        requires seen { AreSeenAbove self.now.cfg.now.spans (length self.now.widths.now) 0 owners.old }
+        requires some { 0 < length self.now.widths.now }
+        requires good { AreGood self.now.cfg.now.spans (length self.now.heights.now) (length self.now.widths.now) }
+        requires line_range { track_at (row_tracks (table_sheet R.rows C.color self.now)) (length self.now.heights.now) < 2 ^ 64 }
+        requires column_range { boundary_at (grid_of (table_sheet R.rows C.color self.now)).frame.columns (length self.now.widths.now) < 2 ^ 64 }
+        requires made { AreMadeFor self.now.cfg.now (C.color self.now.colors.now) self.now.widths.now flat.now }
+        requires between { MatchOption between.now ⊤ (λ text. IsBetween (table_sheet R.rows C.color self.now) (string_bytes text)) }
+        requires wide { length cells.old ≡ length self.now.widths.now }
+        requires empty { string_bytes line.old ≡ [] }
+        ensures lines { Chooses W.contents
+            (chosen_lines (table_sheet R.rows C.color self.now) (K.wants wanted.now)
+            (boundary_at (row_tracks (table_sheet R.rows C.color self.now)) 0)
+            (track_at (row_tracks (table_sheet R.rows C.color self.now)) (length self.now.heights.now))) result writer.old writer.new }
+        ensures end { IfOk result (λ end. end ≡ track_at (row_tracks (table_sheet R.rows C.color self.now)) (length self.now.heights.now)) }
+        ensures empty { OnOk result (string_bytes line.new ≡ []) }
+    {
+        let mut y = self.cfg.get_margin().top.size;
+        for i in 0..self.heights.len() {
+            self.see_row(owners, i);
+            y = self.choose_boundary(writer, line, wanted, runs, between, owners, cells, i, y)?;
+            y = self.choose_next_row(alloc, writer, line, wanted, flat, owners, cells, i, y)?;
+        }
+        let rows = self.heights.len();
+        self.choose_boundary(writer, line, wanted, runs, between, &[], cells, rows, y)
+    }
+
+    // The same, with what is made once.
+    fn choose_rows<W: Write, K: Wanted>(
+        &self,
+        alloc: Global,
+        writer: &mut Counted<W>,
+        line: &mut String,
+        wanted: &K,
+    ) -> Result<usize, Stop>
+        requires some { 0 < length self.now.widths.now }
+        requires good { AreGood self.now.cfg.now.spans (length self.now.heights.now) (length self.now.widths.now) }
+        requires line_range { track_at (row_tracks (table_sheet R.rows C.color self.now)) (length self.now.heights.now) < 2 ^ 64 }
+        requires column_range { boundary_at (grid_of (table_sheet R.rows C.color self.now)).frame.columns (length self.now.widths.now) < 2 ^ 64 }
+        requires empty { string_bytes line.old ≡ [] }
+        ensures lines { Chooses W.contents
+            (chosen_lines (table_sheet R.rows C.color self.now) (K.wants wanted.now)
+            (boundary_at (row_tracks (table_sheet R.rows C.color self.now)) 0)
+            (track_at (row_tracks (table_sheet R.rows C.color self.now)) (length self.now.heights.now))) result writer.old writer.new }
+        ensures end { IfOk result (λ end. end ≡ track_at (row_tracks (table_sheet R.rows C.color self.now)) (length self.now.heights.now)) }
+        ensures empty { OnOk result (string_bytes line.new ≡ []) }
+    {
+        let flat = self.flat_rows(alloc)?;
+        let mut runs = Vec::new(alloc);
+        let mut cells = closed_cells(alloc, self.widths.len())?;
+        let mut owners = self.none_seen(alloc)?;
+        let between = self.between_line(alloc, &mut runs, &cells)?;
+        self.choose_all_rows(
+            alloc,
+            writer,
+            line,
+            wanted,
+            &flat,
+            &between,
+            &mut runs,
+            &mut owners,
+            &mut cells,
+        )
+    }
+
+    /// Writes the wanted lines of a table with rows and columns, by a buffer that is empty at first.
+    pub(crate) fn choose_lines<W: Write, K: Wanted>(
+        &self,
+        alloc: Global,
+        writer: &mut Counted<W>,
+        line: &mut String,
+        wanted: &K,
+    ) -> Result<(), Stop>
+        requires printable { IsPrintable (table_sheet R.rows C.color self.now) }
+        requires rows { 0 < length self.now.heights.now }
+        requires columns { 0 < length self.now.widths.now }
+        requires empty { string_bytes line.old ≡ [] }
+        ensures { Chooses W.contents (chosen_lines (table_sheet R.rows C.color self.now) (K.wants wanted.now) 0
+            (line_count (grid_of (table_sheet R.rows C.color self.now)).frame)) result writer.old writer.new }
+    {
+        let margin = self.cfg.get_margin();
+        let colors = self.cfg.get_margin_color();
+        let width = self.total_width();
+        self.choose_margin(writer, line, wanted, 0, margin.top, &colors.top, width)?;
+        let y = self.choose_rows(alloc, writer, line, wanted)?;
+        self.choose_margin(
+            writer,
+            line,
+            wanted,
+            y,
+            margin.bottom,
+            &colors.bottom,
+            width,
+        )
+    }
+}

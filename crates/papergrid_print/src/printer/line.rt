@@ -1,0 +1,199 @@
+//! One line of a table, without those before it.
+ghost use Rattle.std.specs.Prelude.{◌≡◌, ◌++◌, ◌<◌, ◌≤◌, ◌+◌, ◌^◌, ℕ, IfOk, OnOk, length, string_bytes};
+ghost use Rattle.grid_config_spans.specs.Spans.{AreGood, ArePositive};
+ghost use Rattle.papergrid_picture.specs.Frame.{Boundary, boundary_at, track_at};
+ghost use Rattle.papergrid_picture.specs.Picture.{seen};
+ghost use Rattle.papergrid_print.specs.Seen.{AreSeen};
+ghost use Rattle.papergrid_print.specs.Sheets.{IsPrintable, ShowsAt, grid_of, line_at, place_line, row_tracks, table_sheet};
+ghost use Rattle.papergrid_print.specs.Single.{IsOpenAbove};
+
+use super::Printer;
+use crate::colors::Colors;
+use crate::extents::{Axis, stretch, thickness};
+use crate::seen::{SeenCell, kept_at};
+use grid_records_traits::PeekableRecords;
+use papergrid_cells::{OpenCell, push_blank};
+use std::alloc::{AllocError, Global};
+
+impl<'a, R: PeekableRecords, C: Colors> Printer<'a, R, C> {
+    // The line in which row `row` begins, which is row `i` or above it; row boundary `i` begins in line
+    // `start`.
+    fn top_of(&self, row: usize, i: usize, start: usize) -> usize
+        requires above { row ≤ i }
+        requires row { row < length self.now.heights.now }
+        requires boundary { i ≤ length self.now.heights.now }
+        requires start { start ≡ boundary_at (row_tracks (table_sheet R.rows C.color self.now)) i }
+        requires line_range { boundary_at (row_tracks (table_sheet R.rows C.color self.now)) (length self.now.heights.now) < 2 ^ 64 }
+        ensures { result ≡ track_at (row_tracks (table_sheet R.rows C.color self.now)) row }
+    {
+        if row == i {
+            return start + thickness(self.cfg, Axis::Rows, self.heights, i);
+        }
+        start - stretch(self.cfg, Axis::Rows, self.heights, row, i - row)
+    }
+
+    // The cell that is seen at row `i` and column `j`, where it begins in that column and above row
+    // `before`; row boundary `i` begins in line `start`.
+    fn cell_at(
+        &self,
+        alloc: Global,
+        owners: &[SeenCell],
+        i: usize,
+        j: usize,
+        start: usize,
+        before: usize,
+    ) -> Result<Option<OpenCell<'a>>, AllocError>
+        requires seen { AreSeen self.now.cfg.now.spans (length self.now.widths.now) i owners.now }
+        requires positive { 0 < length self.now.widths.now → ArePositive self.now.cfg.now.spans }
+        requires rows { before ≤ length self.now.heights.now }
+        requires boundary { i ≤ length self.now.heights.now }
+        requires column { j < length self.now.widths.now }
+        requires start { start ≡ boundary_at (row_tracks (table_sheet R.rows C.color self.now)) i }
+        requires good { AreGood self.now.cfg.now.spans (length self.now.heights.now) (length self.now.widths.now) }
+        requires line_range { boundary_at (row_tracks (table_sheet R.rows C.color self.now)) (length self.now.heights.now) < 2 ^ 64 }
+        requires column_range { boundary_at (grid_of (table_sheet R.rows C.color self.now)).frame.columns (length self.now.widths.now) < 2 ^ 64 }
+        ensures above { IfOk result (λ _. (seen (grid_of (table_sheet R.rows C.color self.now)) i j).row ≤ i) }
+        ensures open { IfOk result (λ kept. let sheet = table_sheet R.rows C.color self.now in
+            (seen (grid_of sheet) i j).row < before → (seen (grid_of sheet) i j).col ≡ j → ShowsAt sheet (seen (grid_of sheet) i j) kept) }
+    {
+        let pos = kept_at(owners, i, j);
+        if pos.row >= before {
+            return Ok(None);
+        }
+        if pos.col != j {
+            return Ok(None);
+        }
+        let top = self.top_of(pos.row, i, start);
+        Ok(Some(self.open_cell(alloc, pos, top)?))
+    }
+
+    // The cells that are seen in row `i` and begin above row `before`, each at its first column; row
+    // boundary `i` begins in line `start`.
+    fn cells_at(
+        &self,
+        alloc: Global,
+        owners: &[SeenCell],
+        i: usize,
+        start: usize,
+        before: usize,
+    ) -> Result<Vec<Option<OpenCell<'a>>>, AllocError>
+        requires seen { AreSeen self.now.cfg.now.spans (length self.now.widths.now) i owners.now }
+        requires positive { 0 < length self.now.widths.now → ArePositive self.now.cfg.now.spans }
+        requires rows { before ≤ length self.now.heights.now }
+        requires boundary { i ≤ length self.now.heights.now }
+        requires start { start ≡ boundary_at (row_tracks (table_sheet R.rows C.color self.now)) i }
+        requires good { AreGood self.now.cfg.now.spans (length self.now.heights.now) (length self.now.widths.now) }
+        requires line_range { boundary_at (row_tracks (table_sheet R.rows C.color self.now)) (length self.now.heights.now) < 2 ^ 64 }
+        requires column_range { boundary_at (grid_of (table_sheet R.rows C.color self.now)).frame.columns (length self.now.widths.now) < 2 ^ 64 }
+        ensures wide { IfOk result (λ cells. length cells.items ≡ length self.now.widths.now) }
+        ensures above { IfOk result (λ _. (j : ℕ) → j < length self.now.widths.now → (seen (grid_of (table_sheet R.rows C.color self.now)) i j).row ≤ i) }
+        ensures open { IfOk result (λ cells. IsOpenAbove (table_sheet R.rows C.color self.now) before i cells.items) }
+    {
+        let mut cells = Vec::new(alloc);
+        for j in 0..self.widths.len() {
+            cells.push(self.cell_at(alloc, owners, i, j, start, before)?)?;
+        }
+        Ok(cells)
+    }
+
+    // Appends line `y`, in which row boundary `i` begins and which shows it.
+    fn push_boundary_at(
+        &self,
+        alloc: Global,
+        out: &mut String,
+        i: usize,
+        y: usize,
+    ) -> Result<(), AllocError>
+        requires boundary { i ≤ length self.now.heights.now }
+        requires start { y ≡ boundary_at (row_tracks (table_sheet R.rows C.color self.now)) i }
+        requires good { AreGood self.now.cfg.now.spans (length self.now.heights.now) (length self.now.widths.now) }
+        requires line_range { boundary_at (row_tracks (table_sheet R.rows C.color self.now)) (length self.now.heights.now) < 2 ^ 64 }
+        requires column_range { boundary_at (grid_of (table_sheet R.rows C.color self.now)).frame.columns (length self.now.widths.now) < 2 ^ 64 }
+        ensures { OnOk result (string_bytes out.new ≡ string_bytes out.old ++ line_at (table_sheet R.rows C.color self.now) (Boundary i) y) }
+    {
+        let owners = self.seen_in_row(alloc, i)?;
+        let cells = self.cells_at(alloc, &owners, i, y, i)?;
+        let mut runs = Vec::new(alloc);
+        self.push_boundary_line(out, &mut runs, &owners, &cells, i, y)
+    }
+
+    // Appends line `y`, which shows row `i` or the boundary before it; that boundary begins in line
+    // `start`.
+    fn push_line_at(
+        &self,
+        alloc: Global,
+        out: &mut String,
+        i: usize,
+        start: usize,
+        y: usize,
+    ) -> Result<(), AllocError>
+        requires row { i < length self.now.heights.now }
+        requires start { start ≡ boundary_at (row_tracks (table_sheet R.rows C.color self.now)) i }
+        requires from { start ≤ y }
+        requires before { y < boundary_at (row_tracks (table_sheet R.rows C.color self.now)) (i + 1) }
+        requires good { AreGood self.now.cfg.now.spans (length self.now.heights.now) (length self.now.widths.now) }
+        requires line_range { boundary_at (row_tracks (table_sheet R.rows C.color self.now)) (length self.now.heights.now) < 2 ^ 64 }
+        requires column_range { boundary_at (grid_of (table_sheet R.rows C.color self.now)).frame.columns (length self.now.widths.now) < 2 ^ 64 }
+        ensures { OnOk result (string_bytes out.new ≡ string_bytes out.old ++ place_line (table_sheet R.rows C.color self.now) y) }
+    {
+        if y < self.top_of(i, i, start) {
+            return self.push_boundary_at(alloc, out, i, y);
+        }
+        let owners = self.seen_in_row(alloc, i)?;
+        let cells = self.cells_at(alloc, &owners, i, start, i + 1)?;
+        self.push_row_line(out, &None, &owners, &cells, i, y)
+    }
+
+    // Appends line `y`, which shows the last row boundary or the bottom margin; the rows end before line
+    // `start`.
+    fn push_line_behind(
+        &self,
+        alloc: Global,
+        out: &mut String,
+        start: usize,
+        y: usize,
+    ) -> Result<(), AllocError>
+        requires printable { IsPrintable (table_sheet R.rows C.color self.now) }
+        requires rows { 0 < length self.now.heights.now }
+        requires columns { 0 < length self.now.widths.now }
+        requires start { start ≡ boundary_at (row_tracks (table_sheet R.rows C.color self.now)) (length self.now.heights.now) }
+        requires from { start ≤ y }
+        ensures { OnOk result (string_bytes out.new ≡ string_bytes out.old ++ place_line (table_sheet R.rows C.color self.now) y) }
+    {
+        let rows = self.heights.len();
+        if y < start + thickness(self.cfg, Axis::Rows, self.heights, rows) {
+            return self.push_boundary_at(alloc, out, rows, y);
+        }
+        let margin = self.cfg.get_margin();
+        let colors = self.cfg.get_margin_color();
+        push_blank(out, margin.bottom.fill, self.total_width(), &colors.bottom)
+    }
+
+    /// Appends line `y` of a table with rows and columns. The rows above are passed by their heights alone.
+    pub(crate) fn push_line(
+        &self,
+        alloc: Global,
+        out: &mut String,
+        y: usize,
+    ) -> Result<(), AllocError>
+        requires printable { IsPrintable (table_sheet R.rows C.color self.now) }
+        requires rows { 0 < length self.now.heights.now }
+        requires columns { 0 < length self.now.widths.now }
+        ensures { OnOk result (string_bytes out.new ≡ string_bytes out.old ++ place_line (table_sheet R.rows C.color self.now) y) }
+    {
+        let margin = self.cfg.get_margin();
+        let colors = self.cfg.get_margin_color();
+        if y < margin.top.size {
+            return push_blank(out, margin.top.fill, self.total_width(), &colors.top);
+        }
+        let mut start = margin.top.size;
+        for i in 0..self.heights.len() {
+            let end = self.top_of(i, i, start) + self.heights[i];
+            if y < end {
+                return self.push_line_at(alloc, out, i, start, y);
+            }
+            start = end;
+        }
+        self.push_line_behind(alloc, out, start, y)
+    }
+}

@@ -1,0 +1,258 @@
+//! The line of a row whose cells are each one line, which is its whole text, or the first of them are.
+ghost use Rattle.std.specs.Prelude.{◌≡◌, [], ◌++◌, ◌<◌, ◌≤◌, IfOk, IfSome, None, OnOk, Some, false, length, slice_index, string_bytes, true};
+ghost use Rattle.grid_config.specs.Colors.{color_of};
+ghost use Rattle.grid_config.specs.Looks.{look_of};
+ghost use Rattle.grid_config_values.specs.declared.alignment.AlignmentHorizontal.TheVariants.{Left};
+ghost use Rattle.grid_records_traits.specs.PlainRows.{IsPlainText};
+ghost use Rattle.grid_records_traits.specs.PlainTexts.{plain_texts};
+ghost use Rattle.grid_records_traits.specs.Rows.{row_at, text_at};
+ghost use Rattle.papergrid_picture.specs.Frame.{Row, track_at};
+ghost use Rattle.papergrid_cells.specs.Flat.{AreFlat, AreFlatRows, HasEmptyRow, IsSomeEmptyRow, kept_bytes, led_bytes};
+ghost use Rattle.papergrid_print.specs.FlatSheets.{HasCellRoom, IsWrittenOver, row_front};
+ghost use Rattle.papergrid_print.specs.Sheets.{line_at, row_tracks, table_sheet};
+
+use super::Printer;
+use crate::colors::Colors;
+use crate::row_cells::RowCells;
+use grid_config::ANSIStr;
+use grid_config_values::Position;
+use grid_records_traits::{PeekableRecords, PlainCell, PlainRow};
+use papergrid_cells::{
+    EmptyRow, FlatRows, Ink, Room, shade_of, write_colored, write_ended, write_over,
+};
+use std::alloc::AllocError;
+
+impl<'a, R: PeekableRecords, C: Colors> Printer<'a, R, C> {
+    /// Appends the line of row `i`, which has but one, by these cells of it. Each is one line that is its
+    /// whole text: it has no ESC, or opens and ends its own styles.
+    pub(super) fn push_plain_line(
+        &self,
+        out: &mut String,
+        flat: &FlatRows<'a>,
+        cells: PlainRow<'_>,
+        i: usize,
+    ) -> Result<(), AllocError>
+        requires flat { AreFlat self.now.cfg.now }
+        requires flat_rows { AreFlatRows (look_of self.now.cfg.now) (length self.now.widths.now) flat.now }
+        requires empty_row { HasEmptyRow (C.color self.now.colors.now) self.now.widths.now flat.now }
+        requires row { i < length self.now.heights.now }
+        requires high { slice_index self.now.heights.now i ≡ 1 }
+        requires columns { 0 < length self.now.widths.now }
+        requires cells { plain_texts cells ≡ row_at (R.rows self.now.records.now) i }
+        ensures { OnOk result (string_bytes out.new ≡ string_bytes out.old ++ line_at (table_sheet R.rows C.color self.now) (Row i) (track_at (row_tracks (table_sheet R.rows C.color self.now)) i)) }
+    {
+        let columns = self.widths.len();
+        let first = self.push_front(out, flat, &cells, i)?;
+        for j in first..columns {
+            let (cell, pos) = (cells.cell(j), Position::new(i, j));
+            let (width, measure) = (self.widths[j], cell.width);
+            let color = self.colors.get_color(pos);
+            flat.push_line(
+                out, self.cfg, pos, columns, width, measure, measure, color, cell.text,
+            )?;
+        }
+        Ok(())
+    }
+
+    /// Appends what stands before the text in the column that is returned, or the line, where that is the
+    /// number of columns.
+    #[inline(always)]
+    pub(super) fn push_front<K: RowCells>(
+        &self,
+        out: &mut String,
+        flat: &FlatRows<'a>,
+        cells: &K,
+        i: usize,
+    ) -> Result<usize, AllocError>
+        requires flat { AreFlat self.now.cfg.now }
+        requires flat_rows { AreFlatRows (look_of self.now.cfg.now) (length self.now.widths.now) flat.now }
+        requires row { i < length self.now.heights.now }
+        requires high { slice_index self.now.heights.now i ≡ 1 }
+        requires columns { 0 < length self.now.widths.now }
+        requires cells { K.texts cells.now ≡ row_at (R.rows self.now.records.now) i }
+        requires empty_row { HasEmptyRow (C.color self.now.colors.now) self.now.widths.now flat.now }
+        ensures front { IfOk result (λ column. string_bytes out.new ≡ string_bytes out.old ++ row_front (table_sheet R.rows C.color self.now) i column) }
+        ensures inside { IfOk result (λ column. column ≤ length self.now.widths.now) }
+    {
+        match flat.empty() {
+            Some(empty) => self.push_over(out, flat, empty, cells, i),
+            None => {
+                out.push_str(flat.front())?;
+                Ok(0)
+            }
+        }
+    }
+
+    // The same by the line of a row of empty cells: each text is written over its room there, up to the first
+    // that is not known to be one line, takes other than its bytes, or has no room, or none for its colour
+    // alone.
+    #[inline(always)]
+    fn push_over<K: RowCells>(
+        &self,
+        out: &mut String,
+        flat: &FlatRows<'a>,
+        empty: &EmptyRow<'_>,
+        cells: &K,
+        i: usize,
+    ) -> Result<usize, AllocError>
+        requires flat { AreFlat self.now.cfg.now }
+        requires flat_rows { AreFlatRows (look_of self.now.cfg.now) (length self.now.widths.now) flat.now }
+        requires row { i < length self.now.heights.now }
+        requires high { slice_index self.now.heights.now i ≡ 1 }
+        requires columns { 0 < length self.now.widths.now }
+        requires cells { K.texts cells.now ≡ row_at (R.rows self.now.records.now) i }
+        requires empty_row { IsSomeEmptyRow flat.now (C.color self.now.colors.now) self.now.widths.now empty.now }
+        ensures front { IfOk result (λ column. string_bytes out.new ≡ string_bytes out.old ++ row_front (table_sheet R.rows C.color self.now) i column) }
+        ensures inside { IfOk result (λ column. column ≤ length self.now.widths.now) }
+    {
+        out.push_str(&empty.line)?;
+        let columns = self.widths.len();
+        for j in 0..columns {
+            let (cell, room) = (cells.cell(j), &empty.rooms[j]);
+            let start = out.len() - room.rest;
+            if !self.write_cell(out, flat, cell, room, start, Position::new(i, j))? {
+                out.truncate(start - room.ink.lead().len());
+                return Ok(j);
+            }
+        }
+        Ok(columns)
+    }
+
+    // Writes the text of this cell over its room, which begins at `start`, where the cell is known, takes its
+    // bytes, has room, and its colour takes as many bytes as are kept for one. Says whether it did.
+    #[inline(always)]
+    fn write_cell(
+        &self,
+        out: &mut String,
+        flat: &FlatRows<'a>,
+        cell: Option<PlainCell<'_>>,
+        room: &Room<'_>,
+        start: usize,
+        pos: Position,
+    ) -> Result<bool, AllocError>
+        requires flat { AreFlat self.now.cfg.now }
+        requires flat_rows { AreFlatRows (look_of self.now.cfg.now) (length self.now.widths.now) flat.now }
+        requires text { IfSome cell (λ cell. cell.text.now ≡ text_at (R.rows self.now.records.now) pos) }
+        requires plain { IfSome cell (λ cell. IsPlainText cell.text.now cell.width) }
+        requires room { HasCellRoom (table_sheet R.rows C.color self.now) flat.now pos room.now start (string_bytes out.old) }
+        ensures written { IfOk result (λ written. written ≡ true → IsWrittenOver (table_sheet R.rows C.color self.now) flat.now pos room.now start (string_bytes out.old) (string_bytes out.new)) }
+        ensures stays { IfOk result (λ written. written ≡ false → string_bytes out.new ≡ string_bytes out.old) }
+    {
+        let Some(cell) = cell else {
+            return Ok(false);
+        };
+        match room.ink {
+            Ink::Plain => self.write_bare_cell(out, flat, cell, room, start, pos),
+            Ink::Led { prefix: _, suffix } => {
+                self.write_led_cell(out, flat, cell, room, start, pos, suffix)
+            }
+            Ink::Asked(shade) => match self.colors.get_color(pos) {
+                Some(color) => {
+                    self.write_colored_cell(out, flat, cell, room, start, pos, shade, color)
+                }
+                None => {
+                    if shade != 0 {
+                        return Ok(false);
+                    }
+                    self.write_bare_cell(out, flat, cell, room, start, pos)
+                }
+            },
+        }
+    }
+
+    // The same where the cell has no colour, and nothing is kept for one.
+    #[inline(always)]
+    fn write_bare_cell(
+        &self,
+        out: &mut String,
+        flat: &FlatRows<'a>,
+        cell: PlainCell<'_>,
+        room: &Room<'_>,
+        start: usize,
+        pos: Position,
+    ) -> Result<bool, AllocError>
+        requires flat { AreFlat self.now.cfg.now }
+        requires flat_rows { AreFlatRows (look_of self.now.cfg.now) (length self.now.widths.now) flat.now }
+        requires text { cell.text.now ≡ text_at (R.rows self.now.records.now) pos }
+        requires plain { IsPlainText cell.text.now cell.width }
+        requires color { C.color self.now.colors.now pos ≡ None }
+        requires lead { led_bytes room.now.ink ≡ [] }
+        requires kept { kept_bytes room.now.ink ≡ 0 }
+        requires room { HasCellRoom (table_sheet R.rows C.color self.now) flat.now pos room.now start (string_bytes out.old) }
+        ensures written { IfOk result (λ written. written ≡ true → IsWrittenOver (table_sheet R.rows C.color self.now) flat.now pos room.now start (string_bytes out.old) (string_bytes out.new)) }
+        ensures stays { IfOk result (λ written. written ≡ false → string_bytes out.new ≡ string_bytes out.old) }
+    {
+        let width = cell.text.len();
+        if cell.width != width || room.width < width {
+            return Ok(false);
+        }
+        let indent = flat.indent(self.cfg, pos, room.width - width);
+        write_over(out, start + indent, cell.text)?;
+        Ok(true)
+    }
+
+    // The same where the cell has a colour that ends in `suffix`, whose begin stands before the room, and all texts
+    // stand at the left.
+    #[inline(always)]
+    fn write_led_cell(
+        &self,
+        out: &mut String,
+        flat: &FlatRows<'a>,
+        cell: PlainCell<'_>,
+        room: &Room<'_>,
+        start: usize,
+        pos: Position,
+        suffix: &str,
+    ) -> Result<bool, AllocError>
+        requires flat { AreFlat self.now.cfg.now }
+        requires flat_rows { AreFlatRows (look_of self.now.cfg.now) (length self.now.widths.now) flat.now }
+        requires text { cell.text.now ≡ text_at (R.rows self.now.records.now) pos }
+        requires plain { IsPlainText cell.text.now cell.width }
+        requires color { C.color self.now.colors.now pos ≡ Some (record { prefix = led_bytes room.now.ink; suffix = suffix.now }) }
+        requires kept { kept_bytes room.now.ink ≡ length suffix.now }
+        requires left { flat.now.alignment ≡ Some Left }
+        requires room { HasCellRoom (table_sheet R.rows C.color self.now) flat.now pos room.now start (string_bytes out.old) }
+        ensures written { IfOk result (λ written. written ≡ true → IsWrittenOver (table_sheet R.rows C.color self.now) flat.now pos room.now start (string_bytes out.old) (string_bytes out.new)) }
+        ensures stays { IfOk result (λ written. written ≡ false → string_bytes out.new ≡ string_bytes out.old) }
+    {
+        let width = cell.text.len();
+        if width == 0 || cell.width != width || room.width < width {
+            return Ok(false);
+        }
+        write_ended(out, start, cell.text, suffix)?;
+        Ok(true)
+    }
+
+    // The same where the cell has this colour, and spaces are kept for `shade` bytes of one.
+    #[inline(always)]
+    fn write_colored_cell(
+        &self,
+        out: &mut String,
+        flat: &FlatRows<'a>,
+        cell: PlainCell<'_>,
+        room: &Room<'_>,
+        start: usize,
+        pos: Position,
+        shade: usize,
+        color: ANSIStr<'_>,
+    ) -> Result<bool, AllocError>
+        requires flat { AreFlat self.now.cfg.now }
+        requires flat_rows { AreFlatRows (look_of self.now.cfg.now) (length self.now.widths.now) flat.now }
+        requires text { cell.text.now ≡ text_at (R.rows self.now.records.now) pos }
+        requires plain { IsPlainText cell.text.now cell.width }
+        requires color { Some (color_of color) ≡ C.color self.now.colors.now pos }
+        requires lead { led_bytes room.now.ink ≡ [] }
+        requires kept { kept_bytes room.now.ink ≡ shade }
+        requires room { HasCellRoom (table_sheet R.rows C.color self.now) flat.now pos room.now start (string_bytes out.old) }
+        ensures written { IfOk result (λ written. written ≡ true → IsWrittenOver (table_sheet R.rows C.color self.now) flat.now pos room.now start (string_bytes out.old) (string_bytes out.new)) }
+        ensures stays { IfOk result (λ written. written ≡ false → string_bytes out.new ≡ string_bytes out.old) }
+    {
+        let width = cell.text.len();
+        if shade != shade_of(color, cell.text) || cell.width != width || room.width < width {
+            return Ok(false);
+        }
+        let before = flat.indent(self.cfg, pos, room.width - width);
+        write_colored(out, start + before, cell.text, color)?;
+        Ok(true)
+    }
+}

@@ -1,0 +1,289 @@
+//! The lines of a table that are written one by one. Each stands in a buffer until it is whole, is then
+//! written at once, with the line feed before it, and leaves the buffer empty.
+ghost use Rattle.std.specs.Prelude.{◌≡◌, ◌<◌, ◌≤◌, ◌+◌, ◌^◌, ⊤, IfOk, MatchOption, [], ℕ, length, string_bytes};
+ghost use Rattle.grid_config_spans.specs.Spans.{AreGood, ArePositive};
+ghost use Rattle.papergrid_picture.specs.Frame.{boundary_at, line_count, track_at};
+ghost use Rattle.papergrid_cells.specs.Flat.{AreMadeFor};
+ghost use Rattle.papergrid_cells.specs.Painting.{colored, fill_bytes};
+ghost use Rattle.papergrid_print.specs.FlatSheets.{IsBetween};
+ghost use Rattle.papergrid_print.specs.Seen.{AreSeen, AreSeenAbove, AreSeenOn};
+ghost use Rattle.papergrid_print.specs.Sheets.{AreOpenFromAbove, IsOpen, IsPrintable, grid_of, lines_of, place_line, row_tracks, table_sheet};
+ghost use Rattle.tabled_output.specs.Pieces.{Continues, Passes};
+
+use super::{Printer, closed_cells, push_feed};
+use crate::colors::Colors;
+use crate::seen::SeenCell;
+use grid_config::ANSIBuf;
+use grid_config_values::Indent;
+use grid_records_traits::PeekableRecords;
+use papergrid_cells::{FlatRows, GlyphRun, OpenCell, push_blank};
+use std::alloc::{AllocError, Global};
+use std::io::Write;
+use tabled_output::{Counted, WriteFault, pass_line};
+
+impl<'a, R: PeekableRecords, C: Colors> Printer<'a, R, C> {
+    // Writes the line of row boundary `i`, line `y` of the table, where that boundary is there. Returns the
+    // line after it.
+    #[inline(always)]
+    fn write_boundary<W: Write>(
+        &self,
+        writer: &mut Counted<W>,
+        buffer: &mut String,
+        runs: &mut Vec<GlyphRun<'a>>,
+        between: &Option<String>,
+        owners: &[SeenCell],
+        cells: &[Option<OpenCell<'a>>],
+        i: usize,
+        y: usize,
+    ) -> Result<Result<usize, WriteFault>, AllocError>
+        requires seen { AreSeenOn self.now.cfg.now.spans (length self.now.widths.now) i owners.now }
+        requires between { MatchOption between.now ⊤ (λ text. IsBetween (table_sheet R.rows C.color self.now) (string_bytes text)) }
+        requires goes_on { AreOpenFromAbove (table_sheet R.rows C.color self.now) i cells.now }
+        requires wide { length cells.now ≡ length self.now.widths.now }
+        requires boundary { i ≤ length self.now.heights.now }
+        requires top { y ≡ boundary_at (row_tracks (table_sheet R.rows C.color self.now)) i }
+        requires range { track_at (row_tracks (table_sheet R.rows C.color self.now)) i < 2 ^ 64 }
+        ensures lines { Continues W.contents (lines_of (table_sheet R.rows C.color self.now) y)
+            (lines_of (table_sheet R.rows C.color self.now) (track_at (row_tracks (table_sheet R.rows C.color self.now)) i)) result
+            (string_bytes buffer.old) (string_bytes buffer.new) writer.old writer.new }
+        ensures end { IfOk result (λ written. IfOk written (λ end. end ≡ track_at (row_tracks (table_sheet R.rows C.color self.now)) i)) }
+    {
+        let end = self.push_boundary(buffer, runs, between, owners, cells, i, y)?;
+        if let Err(fault) = pass_line(writer, buffer) {
+            return Ok(Err(fault));
+        }
+        Ok(Ok(end))
+    }
+
+    // Writes the lines of row `i`, from line `y` of the table on. Returns the line after them.
+    fn write_row<W: Write>(
+        &self,
+        writer: &mut Counted<W>,
+        buffer: &mut String,
+        flat: &Option<FlatRows<'a>>,
+        owners: &[SeenCell],
+        cells: &[Option<OpenCell<'a>>],
+        i: usize,
+        y: usize,
+    ) -> Result<Result<usize, WriteFault>, AllocError>
+        requires made { AreMadeFor self.now.cfg.now (C.color self.now.colors.now) self.now.widths.now flat.now }
+        requires seen { AreSeen self.now.cfg.now.spans (length self.now.widths.now) i owners.now }
+        requires is_open { IsOpen (table_sheet R.rows C.color self.now) i cells.now }
+        requires wide { length cells.now ≡ length self.now.widths.now }
+        requires row { i < length self.now.heights.now }
+        requires top { y ≡ track_at (row_tracks (table_sheet R.rows C.color self.now)) i }
+        requires range { boundary_at (row_tracks (table_sheet R.rows C.color self.now)) (length self.now.heights.now) < 2 ^ 64 }
+        ensures lines { Continues W.contents (lines_of (table_sheet R.rows C.color self.now) y)
+            (lines_of (table_sheet R.rows C.color self.now) (boundary_at (row_tracks (table_sheet R.rows C.color self.now)) (i + 1))) result
+            (string_bytes buffer.old) (string_bytes buffer.new) writer.old writer.new }
+        ensures end { IfOk result (λ written. IfOk written (λ end. end ≡ boundary_at (row_tracks (table_sheet R.rows C.color self.now)) (i + 1))) }
+    {
+        let end = y + self.heights[i];
+        for line in y..end {
+            push_feed(buffer, line)?;
+            self.push_row_line(buffer, flat, owners, cells, i, line)?;
+            if let Err(fault) = pass_line(writer, buffer) {
+                return Ok(Err(fault));
+            }
+        }
+        Ok(Ok(end))
+    }
+
+    // Writes the lines of row `i`, as `write_row` does, and reads its cells before.
+    fn write_next_row<W: Write>(
+        &self,
+        alloc: Global,
+        writer: &mut Counted<W>,
+        buffer: &mut String,
+        flat: &Option<FlatRows<'a>>,
+        owners: &[SeenCell],
+        cells: &mut [Option<OpenCell<'a>>],
+        i: usize,
+        y: usize,
+    ) -> Result<Result<usize, WriteFault>, AllocError>
+        requires seen { AreSeen self.now.cfg.now.spans (length self.now.widths.now) i owners.now }
+        requires positive { ArePositive self.now.cfg.now.spans }
+        requires made { AreMadeFor self.now.cfg.now (C.color self.now.colors.now) self.now.widths.now flat.now }
+        requires goes_on { AreOpenFromAbove (table_sheet R.rows C.color self.now) i cells.old }
+        requires wide { length cells.old ≡ length self.now.widths.now }
+        requires row { i < length self.now.heights.now }
+        requires some { 0 < length self.now.widths.now }
+        requires good { AreGood self.now.cfg.now.spans (length self.now.heights.now) (length self.now.widths.now) }
+        requires range { boundary_at (row_tracks (table_sheet R.rows C.color self.now)) (length self.now.heights.now) < 2 ^ 64 }
+        requires column_range { boundary_at (grid_of (table_sheet R.rows C.color self.now)).frame.columns (length self.now.widths.now) < 2 ^ 64 }
+        requires top { y ≡ track_at (row_tracks (table_sheet R.rows C.color self.now)) i }
+        ensures lines { Continues W.contents (lines_of (table_sheet R.rows C.color self.now) y)
+            (lines_of (table_sheet R.rows C.color self.now) (boundary_at (row_tracks (table_sheet R.rows C.color self.now)) (i + 1))) result
+            (string_bytes buffer.old) (string_bytes buffer.new) writer.old writer.new }
+        ensures end { IfOk result (λ written. IfOk written (λ end. end ≡ boundary_at (row_tracks (table_sheet R.rows C.color self.now)) (i + 1))) }
+        ensures goes_on { IfOk result (λ written. IfOk written (λ _. AreOpenFromAbove (table_sheet R.rows C.color self.now) (i + 1) cells.new)) }
+        ensures wide { length cells.new ≡ length cells.old }
+    {
+        if self.heights[i] == 1 {
+            if let Some(flat) = flat {
+                push_feed(buffer, y)?;
+                self.push_flat_line(alloc, buffer, flat, i)?;
+                if let Err(fault) = pass_line(writer, buffer) {
+                    return Ok(Err(fault));
+                }
+                return Ok(Ok(y + 1));
+            }
+        }
+        self.open_row(alloc, owners, cells, i, y)?;
+        self.write_row(writer, buffer, flat, owners, cells, i, y)
+    }
+
+    // Writes the lines of a margin, from line `y` of the table on. Each takes `width` columns.
+    fn write_margin<W: Write>(
+        &self,
+        writer: &mut Counted<W>,
+        buffer: &mut String,
+        y: usize,
+        margin: Indent,
+        color: &Option<ANSIBuf>,
+        width: usize,
+    ) -> Result<Result<(), WriteFault>, AllocError>
+        requires range { y + margin.size < 2 ^ 64 }
+        requires shown { (k : ℕ) → y ≤ k → k < y + margin.size → place_line (table_sheet R.rows C.color self.now) k ≡ colored color.now (fill_bytes margin.fill width) }
+        ensures { Continues W.contents (lines_of (table_sheet R.rows C.color self.now) y)
+            (lines_of (table_sheet R.rows C.color self.now) (y + margin.size)) result (string_bytes buffer.old)
+            (string_bytes buffer.new) writer.old writer.new }
+    {
+        for line in y..y + margin.size {
+            push_feed(buffer, line)?;
+            push_blank(buffer, margin.fill, width, color)?;
+            if let Err(fault) = pass_line(writer, buffer) {
+                return Ok(Err(fault));
+            }
+        }
+        Ok(Ok(()))
+    }
+
+    // Writes all lines between the margins, by what was made once for all of them. Returns the line after
+    // them.
+    fn write_all_rows<W: Write>(
+        &self,
+        alloc: Global,
+        writer: &mut Counted<W>,
+        buffer: &mut String,
+        flat: &Option<FlatRows<'a>>,
+        between: &Option<String>,
+        runs: &mut Vec<GlyphRun<'a>>,
+        owners: &mut [SeenCell],
+        cells: &mut [Option<OpenCell<'a>>],
+    ) -> Result<Result<usize, WriteFault>, AllocError>
+        requires positive { ArePositive self.now.cfg.now.spans }
+        requires seen { AreSeenAbove self.now.cfg.now.spans (length self.now.widths.now) 0 owners.old }
+        requires some { 0 < length self.now.widths.now }
+        requires good { AreGood self.now.cfg.now.spans (length self.now.heights.now) (length self.now.widths.now) }
+        requires line_range { track_at (row_tracks (table_sheet R.rows C.color self.now)) (length self.now.heights.now) < 2 ^ 64 }
+        requires column_range { boundary_at (grid_of (table_sheet R.rows C.color self.now)).frame.columns (length self.now.widths.now) < 2 ^ 64 }
+        requires made { AreMadeFor self.now.cfg.now (C.color self.now.colors.now) self.now.widths.now flat.now }
+        requires between { MatchOption between.now ⊤ (λ text. IsBetween (table_sheet R.rows C.color self.now) (string_bytes text)) }
+        requires wide { length cells.old ≡ length self.now.widths.now }
+        ensures lines { Continues W.contents
+            (lines_of (table_sheet R.rows C.color self.now) (boundary_at (row_tracks (table_sheet R.rows C.color self.now)) 0))
+            (lines_of (table_sheet R.rows C.color self.now)
+            (track_at (row_tracks (table_sheet R.rows C.color self.now)) (length self.now.heights.now))) result (string_bytes buffer.old)
+            (string_bytes buffer.new) writer.old writer.new }
+        ensures end { IfOk result (λ written. IfOk written (λ end. end ≡ track_at (row_tracks (table_sheet R.rows C.color self.now)) (length self.now.heights.now))) }
+    {
+        let mut y = self.cfg.get_margin().top.size;
+        for i in 0..self.heights.len() {
+            self.see_row(owners, i);
+            match self.write_boundary(writer, buffer, runs, between, owners, cells, i, y)? {
+                Ok(top) => y = top,
+                Err(fault) => return Ok(Err(fault)),
+            }
+            match self.write_next_row(alloc, writer, buffer, flat, owners, cells, i, y)? {
+                Ok(end) => y = end,
+                Err(fault) => return Ok(Err(fault)),
+            }
+        }
+        self.write_boundary(
+            writer,
+            buffer,
+            runs,
+            between,
+            &[],
+            cells,
+            self.heights.len(),
+            y,
+        )
+    }
+
+    // The same, with what is made once.
+    fn write_rows<W: Write>(
+        &self,
+        alloc: Global,
+        writer: &mut Counted<W>,
+        buffer: &mut String,
+    ) -> Result<Result<usize, WriteFault>, AllocError>
+        requires some { 0 < length self.now.widths.now }
+        requires good { AreGood self.now.cfg.now.spans (length self.now.heights.now) (length self.now.widths.now) }
+        requires line_range { track_at (row_tracks (table_sheet R.rows C.color self.now)) (length self.now.heights.now) < 2 ^ 64 }
+        requires column_range { boundary_at (grid_of (table_sheet R.rows C.color self.now)).frame.columns (length self.now.widths.now) < 2 ^ 64 }
+        ensures lines { Continues W.contents
+            (lines_of (table_sheet R.rows C.color self.now) (boundary_at (row_tracks (table_sheet R.rows C.color self.now)) 0))
+            (lines_of (table_sheet R.rows C.color self.now)
+            (track_at (row_tracks (table_sheet R.rows C.color self.now)) (length self.now.heights.now))) result (string_bytes buffer.old)
+            (string_bytes buffer.new) writer.old writer.new }
+        ensures end { IfOk result (λ written. IfOk written (λ end. end ≡ track_at (row_tracks (table_sheet R.rows C.color self.now)) (length self.now.heights.now))) }
+    {
+        let flat = self.flat_rows(alloc)?;
+        let mut runs = Vec::new(alloc);
+        let mut cells = closed_cells(alloc, self.widths.len())?;
+        let mut owners = self.none_seen(alloc)?;
+        let between = self.between_line(alloc, &mut runs, &cells)?;
+        self.write_all_rows(
+            alloc,
+            writer,
+            buffer,
+            &flat,
+            &between,
+            &mut runs,
+            &mut owners,
+            &mut cells,
+        )
+    }
+
+    /// An empty text with room for a line: each of its columns takes a byte at least. A line that no memory
+    /// holds is refused here, before anything is written.
+    pub(crate) fn line_buffer(&self, alloc: Global) -> Result<String, AllocError>
+        requires printable { IsPrintable (table_sheet R.rows C.color self.now) }
+        requires rows { 0 < length self.now.heights.now }
+        requires columns { 0 < length self.now.widths.now }
+        ensures { IfOk result (λ line. string_bytes line ≡ []) }
+    {
+        let mut line = String::new(alloc);
+        line.reserve(self.total_width())?;
+        Ok(line)
+    }
+
+    /// Writes all lines of a table with rows and columns; what is left stands in the buffer, which is empty
+    /// at first.
+    pub(crate) fn write_lines<W: Write>(
+        &self,
+        alloc: Global,
+        writer: &mut Counted<W>,
+        buffer: &mut String,
+    ) -> Result<Result<(), WriteFault>, AllocError>
+        requires printable { IsPrintable (table_sheet R.rows C.color self.now) }
+        requires rows { 0 < length self.now.heights.now }
+        requires columns { 0 < length self.now.widths.now }
+        requires empty { string_bytes buffer.old ≡ [] }
+        ensures { Passes W.contents (lines_of (table_sheet R.rows C.color self.now)
+            (line_count (grid_of (table_sheet R.rows C.color self.now)).frame)) result (string_bytes buffer.new) writer.old writer.new }
+    {
+        let margin = self.cfg.get_margin();
+        let colors = self.cfg.get_margin_color();
+        let width = self.total_width();
+        if let Err(fault) = self.write_margin(writer, buffer, 0, margin.top, &colors.top, width)? {
+            return Ok(Err(fault));
+        }
+        match self.write_rows(alloc, writer, buffer)? {
+            Ok(y) => self.write_margin(writer, buffer, y, margin.bottom, &colors.bottom, width),
+            Err(fault) => Ok(Err(fault)),
+        }
+    }
+}
